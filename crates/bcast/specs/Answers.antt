@@ -1,0 +1,42 @@
+-- The answer to each reply, as a script's user sees it.
+use Rattle.std.specs.Prelude.{ℕ, List, Option, Some, None, Bool, true, false, Ok, Err, ◌++◌, codes}
+use Rattle.std.specs.Fmt.{decimal}
+use Rattle.bcast_model.specs.declared.error.TrySendError.TheVariants as send
+use Rattle.bcast_model.specs.declared.error.TryRecvError.TheVariants as receive
+use Rattle.bcast_model.specs.declared.error.HandleError.TheVariants as handle
+use Rattle.bcast_model.specs.declared.run.Reply.{Reply}
+use Rattle.bcast_model.specs.declared.run.Reply.TheVariants as reply
+
+-- how a flag is answered
+abbrev pub bool_text : Bool → List ℕ
+bool_text true = codes "true"
+bool_text false = codes "false"
+
+-- the line that answers a reply, its LF aside; none where the call found no memory
+abbrev pub answer_of : Reply ℕ → Option (List ℕ)
+answer_of (reply.TryBroadcast (Ok None)) = Some (codes "ok")
+answer_of (reply.TryBroadcast (Ok (Some oldest))) = Some (codes "ok dropped " ++ decimal oldest)
+answer_of (reply.TryBroadcast (Err (send.Full msg))) = Some (codes "full " ++ decimal msg)
+answer_of (reply.TryBroadcast (Err (send.Closed msg))) = Some (codes "closed " ++ decimal msg)
+answer_of (reply.TryBroadcast (Err (send.Inactive msg))) = Some (codes "inactive " ++ decimal msg)
+answer_of (reply.TryRecv (Ok (Ok msg))) = Some (codes "got " ++ decimal msg)
+answer_of (reply.TryRecv (Ok (Err (receive.Overflowed n)))) = Some (codes "overflowed " ++ decimal n)
+answer_of (reply.TryRecv (Ok (Err receive.Empty))) = Some (codes "empty")
+answer_of (reply.TryRecv (Ok (Err receive.Closed))) = Some (codes "closed")
+answer_of (reply.Close closed) = Some (bool_text closed)
+answer_of (reply.Len len) = Some (decimal len)
+answer_of (reply.SetCapacity (Ok done)) = Some (codes "ok")
+answer_of reply.SetOverflow = Some (codes "ok")
+answer_of reply.SetAwaitActive = Some (codes "ok")
+answer_of reply.DropSender = Some (codes "ok")
+answer_of reply.DropInactive = Some (codes "ok")
+answer_of reply.DropReceiver = Some (codes "ok")
+answer_of (reply.NewSender (Ok done)) = Some (codes "ok")
+answer_of (reply.NewSender (Err handle.TooMany)) = Some (codes "too many")
+answer_of (reply.Deactivate (Ok done)) = Some (codes "ok")
+answer_of (reply.Deactivate (Err handle.TooMany)) = Some (codes "too many")
+answer_of (reply.CloneReceiver (Ok key)) = Some (codes "ok")
+answer_of (reply.NewReceiver (Ok key)) = Some (codes "ok")
+answer_of (reply.Activate (Ok key)) = Some (codes "ok")
+answer_of (reply.Activate (Err handle.Gone)) = Some (codes "gone")
+answer_of r = None

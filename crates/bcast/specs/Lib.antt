@@ -1,0 +1,6 @@
+-- lines and the names in them
+pub mod Name
+pub mod Line
+-- what a line does to the channel, and its answer
+pub mod Calls
+pub mod Answers

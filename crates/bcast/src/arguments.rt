@@ -1,0 +1,8 @@
+//! What the program is asked to do.
+
+/// What the arguments ask for.
+#[derive(Clone, Copy, Debug, PartialEq, Eq)]
+pub enum Command {
+    /// Run the script that standard input holds.
+    Script,
+}

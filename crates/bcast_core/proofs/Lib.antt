@@ -1,0 +1,13 @@
+pub mod Settle
+pub mod Stores
+pub mod Views
+pub mod Offers
+pub mod Polls
+pub mod Receives
+pub mod Positions
+pub mod Does
+pub mod Making
+pub mod Respelt
+pub mod Accessors
+pub mod Runs
+pub mod Opened

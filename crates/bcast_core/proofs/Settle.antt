@@ -1,0 +1,77 @@
+-- What is seen of the state after an effect.
+use Rattle.std.proofs.Common.{◌≡◌, ℕ, ◌+◌, ◌-◌, ◌≤◌, true, cond, List, [], ◌∷◌, ◌++◌, length, max, drop, Some, refl, ap, ◌∙◌, arith, append-nil}
+use Rattle.std.proofs.lemmas.Grind.{common_steps}
+use Rattle.std.specs.Ordering.{nat_cmp, eq_by_cmp}
+use Rattle.std.specs.Cmp.{nat_cmp_total, unsigned_tied}
+use Rattle.std.specs.FinMap.{get, insert, len, values, entries, find, len-entries, get-entries, get-insert}
+use Rattle.bcast_model.specs.Control.{Control, Cursors, tell_receivers, close, close_if_deserted, accepting}
+use Rattle.bcast_model.specs.History.{least}
+use Rattle.bcast_model.specs.View.{View}
+use Rattle.bcast_model.specs.Laws.{IsValidView}
+use Rattle.bcast_model.specs.Seen.{Effect, sets, settle, settled_front}
+use Rattle.bcast_model.proofs.Cases.{close_is, deserted_is, accepting_is}
+use Rattle.bcast_model.proofs.Least.{least-le-cursor, least-greatest, find_head}
+
+-- ---- cursors
+pub itself : (key : ℕ) → eq_by_cmp nat_cmp key key ≡ true
+itself key = let t = unsigned_tied key key in grind (arith, common_steps, t)
+
+pub inserted : (cursors : Cursors) (key cursor : ℕ) → get (insert cursors key cursor) key ≡ Some cursor
+inserted cursors key cursor = get-insert nat_cmp_total cursors key cursor key ∙ ap (λ b. cond b (Some cursor) (get cursors key)) (itself key)
+
+-- with a cursor that is at most the front, the front stays
+pub low_inserted : (end front : ℕ) (cursors : Cursors) (key cursor : ℕ) → cursor ≤ front → least end (values (insert cursors key cursor)) ≤ front
+low_inserted end front cursors key cursor below = let own = least-le-cursor end (insert cursors key cursor) key cursor (inserted cursors key cursor) in omega (arith, own)
+
+-- somebody receives
+found_first : (es : List (ℕ × ℕ)) → 1 ≤ length es → (key : ℕ) × (cursor : ℕ) × (find nat_cmp key es ≡ Some cursor)
+found_first [] some = absurd (omega arith)
+found_first (e ∷ es) some = (e.0, e.1, find_head e es)
+
+pub somebody : (cursors : Cursors) → 1 ≤ len cursors → (key : ℕ) × (cursor : ℕ) × (get cursors key ≡ Some cursor)
+somebody cursors some =
+    let n = len-entries cursors in
+    let f = found_first (entries cursors) (omega (arith, n)) in
+    (f.0, f.1, get-entries cursors f.0 ∙ f.2)
+
+-- the least cursor is the same under a greater limit
+pub least_raised : (end : ℕ) (cursors : Cursors) → 1 ≤ len cursors → ((key cursor : ℕ) → get cursors key ≡ Some cursor → cursor ≤ end) → least (end + 1) (values cursors) ≤ least end (values cursors)
+least_raised end cursors some reach =
+    let s = somebody cursors some in
+    let r = reach s.0 s.1 s.2 in
+    let own = least-le-cursor (end + 1) cursors s.0 s.1 s.2 in
+    least-greatest (least (end + 1) (values cursors)) end cursors (omega (arith, r, own)) (λ key cursor e. least-le-cursor (end + 1) cursors key cursor e)
+
+-- ---- closing and accepting leave the cursors
+pub cursors-close : (c : Control) → (close c).cursors ≡ c.cursors
+cursors-close c = close_is (λ x. x.cursors ≡ c.cursors) c (λ _. refl) (λ _. refl)
+
+pub cursors-accepting : (c : Control) (end : ℕ) → (accepting c end).cursors ≡ c.cursors
+cursors-accepting c end = accepting_is (λ x. x.cursors ≡ c.cursors) c end (cursors-close (tell_receivers c)) (λ _. refl)
+
+module _ {T : Type 0} where
+  pub same_view : (a b : View T) → a.front ≡ b.front → a.queue ≡ b.queue → a.end ≡ b.end → a.control ≡ b.control → a ≡ b
+  same_view a b p q r s = λ i. record { front = p i; queue = q i; end = r i; control = s i }
+
+  -- an effect leads to the view with the front that its floor, the end and the cursors give
+  pub settle_to : (v : View T) (e : Effect T) (new : View T) → settled_front (max v.front e.floor) (v.end + length e.accepted) e.control.cursors ≡ new.front
+      → drop (new.front - v.front) (v.queue ++ e.accepted) ≡ new.queue → v.end + length e.accepted ≡ new.end → e.control ≡ new.control → settle v e ≡ new
+  settle_to v e new front queue end control = same_view (settle v e) new front (rw front queue) end control
+
+  -- the front stays where somebody is still to read from it
+  pub settle_stays : (v : View T) (c : Control) → least v.end (values c.cursors) ≤ v.front → settle v (sets c) ≡ record v { control = c }
+  settle_stays v c low =
+      let end : v.end + 0 ≡ v.end = omega arith in
+      let front : max (max v.front 0) (least (v.end + 0) (values c.cursors)) ≡ v.front = rw end (omega (arith, low)) in
+      let none : v.front - v.front ≡ 0 = omega arith in
+      settle_to v (sets c) (record v { control = c }) front (rw none (append-nil v.queue)) end refl
+
+  pub settle_idle : (v : View T) → IsValidView v → settle v (sets v.control) ≡ v
+  settle_idle v valid = settle_stays v v.control valid.low
+
+  -- closing leaves the front
+  pub low_close_if_deserted : (v : View T) (c : Control) → least v.end (values c.cursors) ≤ v.front → least v.end (values (close_if_deserted c).cursors) ≤ v.front
+  low_close_if_deserted v c low = deserted_is (λ x. least v.end (values x.cursors) ≤ v.front) c (rw (cursors-close c) low) (λ _. low)
+
+  pub low_close : (v : View T) → least v.end (values v.control.cursors) ≤ v.front → least v.end (values (close v.control).cursors) ≤ v.front
+  low_close v low = rw (cursors-close v.control) low

@@ -1,0 +1,21 @@
+-- What is seen of the state's parts.
+use Rattle.std.proofs.Common.{◌≡◌, ℕ, Bool, sym, ap, ◌∙◌}
+use Rattle.bcast_model.specs.Control.{Control, Cursors}
+use Rattle.bcast_model.specs.View.{View}
+use Rattle.bcast_model.specs.Seen.{sets, settle}
+use Rattle.bcast_store.specs.Stored.{Stored, with_cursors}
+use Rattle.bcast_waiting.specs.Lists.{Sends, Receives}
+use Rattle.bcast_core.specs.Parts.{control_of, seen_of}
+use Rattle.bcast_core.proofs.Stores.{settle-with_cursors}
+
+module _ {T : Type 0} where
+  -- other cursors lead to the view that their effect settles to
+  pub view-with_cursors : (s now : Stored T) (sends : Sends) (receives : Receives) (senders inactive : ℕ) (closed overflow await_active : Bool) (capacity : ℕ) (cursors : Cursors) (v : View T)
+      → now ≡ with_cursors s cursors
+      → seen_of s (control_of s sends receives senders inactive closed overflow await_active capacity) ≡ v
+      → seen_of now (control_of now sends receives senders inactive closed overflow await_active capacity) ≡ settle v (sets (record v.control { cursors = cursors }))
+  view-with_cursors s now sends receives senders inactive closed overflow await_active capacity cursors v is seen =
+      let was : Control = control_of s sends receives senders inactive closed overflow await_active capacity in
+      ap (λ x. seen_of x (control_of x sends receives senders inactive closed overflow await_active capacity)) is
+      ∙ sym (settle-with_cursors s (control_of s sends receives senders inactive closed overflow await_active capacity) (record (control_of s sends receives senders inactive closed overflow await_active capacity) { cursors = cursors }))
+      ∙ ap (λ (x : View T). settle x (sets (record x.control { cursors = cursors }))) seen

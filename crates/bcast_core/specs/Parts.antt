@@ -1,0 +1,33 @@
+-- How the state of a channel is put together. No public clause cites this module.
+use Rattle.std.specs.Prelude.{◌≡◌, ℕ, Bool}
+use Rattle.bcast_model.specs.Control.{Control}
+use Rattle.bcast_model.specs.declared.run.Call.{Call}
+use Rattle.bcast_model.specs.declared.run.Reply.{Reply}
+use Rattle.bcast_model.specs.View.{View}
+use Rattle.bcast_model.specs.Seen.{LegalSeen, effect, settle}
+use Rattle.bcast_store.specs.Stored.{Stored, end_of}
+use Rattle.bcast_waiting.specs.Lists.{Sends, Receives}
+
+-- what stands beside the messages
+abbrev pub control_of : {T : Type 0} → Stored T → Sends → Receives → ℕ → ℕ → Bool → Bool → Bool → ℕ → Control
+control_of store sends receives senders inactive closed overflow await_active capacity = record {
+  cursors = store.cursors;
+  senders = senders;
+  inactive = inactive;
+  closed = closed;
+  overflow = overflow;
+  await_active = await_active;
+  capacity = capacity;
+  room = store.room;
+  places = sends.places;
+  waiting_sends = sends.waiting;
+  waiting_receives = receives.waiting;
+}
+
+abbrev pub seen_of : {T : Type 0} → Stored T → Control → View T
+seen_of store control = record { front = store.front; queue = store.queue; end = end_of store; control = control }
+
+-- a call and its reply, but for telling a sender
+pub record Does {T : Type 0} (is_clone : T → T → Type 0) (old : View T) (c : Call T) (r : Reply T) (new : View T) : Type 0 where
+  pub legal : LegalSeen is_clone old c r
+  pub effect : new ≡ settle old (effect old c r)

@@ -1,0 +1,204 @@
+//! What the state of a channel consists of, and the steps that its calls are made of.
+ghost use Rattle.std.specs.Prelude.{◌≡◌, ◌==◌, not, ◌^◌, ◌+◌, ◌-◌, ◌<◌, ◌≤◌, ◌∷◌, false, true, length, IfOk, IfSome};
+ghost use Rattle.std.specs.FinMap.{get, len};
+ghost use Rattle.bcast_model.specs.History.{opening};
+
+use bcast_event::notice::Notice;
+use bcast_store::Store;
+use bcast_waiting::{ReceiveList, SendList};
+use std::alloc::{AllocError, Allocator, Global};
+use std::marker::Model;
+
+mod handles;
+mod leaving;
+mod listeners;
+mod making;
+mod receive;
+mod send;
+
+/// The state of a channel between the steps of a call: what is seen need not be a valid state.
+#[derive(Drop)]
+pub struct Parts<T, N: Notice, A: Allocator = Global> {
+    store: Store<T, A>,
+    sends: SendList<N, A>,
+    receives: ReceiveList<N, A>,
+    senders: usize,
+    inactive: usize,
+    closed: bool,
+    overflow: bool,
+    await_active: bool,
+    capacity: usize,
+}
+
+impl<T, N: Notice, A: Allocator> Model for Parts<T, N, A> {
+    ghost use Rattle.bcast_model.specs.View.{View, view_code};
+    ghost use Rattle.bcast_core.specs.Parts.{seen_of, control_of};
+
+    ghost Value = { View T };
+
+    ghost coded = { view_code T.code };
+
+    ghost view = { λ p. seen_of p.store (control_of p.store p.sends p.receives p.senders p.inactive p.closed p.overflow p.await_active p.capacity) };
+
+    ghost use Rattle.std.specs.Prelude.{◌*◌, ◌≤◌};
+    ghost use Rattle.std.specs.FinMap.{len};
+
+    // Each receiver has two positions among those that wait.
+    ghost invariant = { λ p. 2 * len p.store.cursors ≤ p.receives.room };
+}
+
+impl<T: Drop, N: Notice, A: Allocator + Copy> Parts<T, N, A> {
+    ghost use Rattle.bcast_model.specs.View.{view_of};
+    ghost use Rattle.bcast_model.specs.Control.{has_no_receiver, is_deserted, close, close_if_deserted, tell_a_sender};
+    ghost use Rattle.bcast_model.specs.Seen.{is_full_seen, is_ready_seen, cursor_seen, tell_if_ready_seen};
+
+    /// A new channel, and the key of its first receiver.
+    pub fn starting_at(alloc: A, cap: usize, first: u64) -> Result<(Self, usize), AllocError>
+        requires capacity { 0 < cap }
+        requires number { first + 1 < 2 ^ 64 }
+        ensures { IfOk result (λ made. made.0 ≡ view_of (opening cap first made.1)) }
+    {
+        let (store, key) = Store::new(alloc, first, cap)?;
+        let mut receives = ReceiveList::new(alloc);
+        receives.reserve_one_more(0)?;
+        let parts = Parts {
+            store,
+            sends: SendList::new(alloc),
+            receives,
+            senders: 1,
+            inactive: 0,
+            closed: false,
+            overflow: false,
+            await_active: true,
+            capacity: cap,
+        };
+        Ok((parts, key))
+    }
+
+    /// Whether the channel is closed.
+    pub fn is_closed(&self) -> bool
+        ensures { result ≡ self.now.control.closed }
+    {
+        self.closed
+    }
+
+    /// Whether a full channel drops its oldest message.
+    pub fn overflow(&self) -> bool
+        ensures { result ≡ self.now.control.overflow }
+    {
+        self.overflow
+    }
+
+    /// Whether sends await an active receiver.
+    pub fn await_active(&self) -> bool
+        ensures { result ≡ self.now.control.await_active }
+    {
+        self.await_active
+    }
+
+    pub fn capacity(&self) -> usize
+        ensures { result ≡ self.now.control.capacity }
+    {
+        self.capacity
+    }
+
+    pub fn senders(&self) -> usize
+        ensures { result ≡ self.now.control.senders }
+    {
+        self.senders
+    }
+
+    pub fn inactive(&self) -> usize
+        ensures { result ≡ self.now.control.inactive }
+    {
+        self.inactive
+    }
+
+    pub fn receivers(&self) -> usize
+        ensures { result ≡ len self.now.control.cursors }
+    {
+        self.store.receivers()
+    }
+
+    pub fn len(&self) -> usize
+        ensures { result ≡ length self.now.queue }
+    {
+        self.store.len()
+    }
+
+    pub fn front(&self) -> u64
+        ensures { result ≡ self.now.front }
+    {
+        self.store.front()
+    }
+
+    pub fn end(&self) -> u64
+        ensures { result ≡ self.now.end }
+    {
+        self.store.end()
+    }
+
+    pub fn cursor(&self, key: usize) -> Option<u64>
+        ensures { result ≡ cursor_seen self.now key }
+    {
+        self.store.cursor(key)
+    }
+
+    pub fn is_full(&self) -> bool
+        ensures { result ≡ is_full_seen self.now }
+    {
+        self.store.len() == self.capacity
+    }
+
+    pub fn has_no_receiver(&self) -> bool
+        ensures { result ≡ has_no_receiver self.now.control }
+    {
+        self.store.has_no_receiver()
+    }
+
+    /// Whether a send would be answered without waiting.
+    pub fn is_ready(&self) -> bool
+        ensures { result ≡ is_ready_seen self.now }
+    {
+        let nobody = self.has_no_receiver();
+        self.closed
+            || (!nobody && (self.overflow || !self.is_full()))
+            || (nobody && !self.await_active)
+    }
+
+    /// Tells the first waiting send, if this call is to and sends are ready.
+    pub fn tell_if_ready(&mut self, may: bool)
+        ensures { self.new ≡ tell_if_ready_seen may self.old }
+    {
+        if may && self.is_ready() {
+            self.sends.tell_one();
+        }
+    }
+
+    /// Closes an open channel: everyone that waits is told.
+    pub fn close(&mut self)
+        ensures { self.new ≡ record self.old { control = close self.old.control } }
+    {
+        if !self.closed {
+            self.closed = true;
+            self.sends.tell_all();
+            self.receives.tell_all();
+        }
+    }
+
+    /// Whether no sender is left, or nobody who receives or may receive again.
+    pub fn is_deserted(&self) -> bool
+        ensures { result ≡ is_deserted self.now.control }
+    {
+        self.senders == 0 || (self.has_no_receiver() && self.inactive == 0)
+    }
+
+    /// Closes a channel that one side has left.
+    pub fn close_if_deserted(&mut self)
+        ensures { self.new ≡ record self.old { control = close_if_deserted self.old.control } }
+    {
+        if self.is_deserted() {
+            self.close();
+        }
+    }
+}

@@ -1,0 +1,79 @@
+//! Receivers, and the counts of senders and inactive receivers.
+ghost use Rattle.std.specs.Prelude.{◌≡◌, ◌+◌, ◌-◌, ◌^◌, ◌<◌, ◌≤◌, true, false, None, IfOk, IfErr, OnErr, is_some};
+ghost use Rattle.std.specs.FinMap.{get, len, remove};
+
+use super::Parts;
+use bcast_event::notice::Notice;
+use bcast_model::error::HandleError;
+use bcast_model::listener::Kind;
+use std::alloc::Allocator;
+
+impl<T: Drop, N: Notice, A: Allocator + Copy> Parts<T, N, A> {
+    ghost use Rattle.bcast_model.specs.Laws.{IsValidView};
+    ghost use Rattle.bcast_model.specs.Control.{with_cursor};
+    ghost use Rattle.bcast_model.specs.Handles.{without_receiver};
+    ghost use Rattle.bcast_model.specs.Seen.{settle, sets, cursor_seen};
+
+    /// Adds a receiver that reads the message of this number next, under a key that none has.
+    pub fn add_receiver(&mut self, cursor: u64) -> Result<usize, HandleError>
+        requires valid { IsValidView self.old }
+        requires reach { cursor ≤ self.old.end }
+        ensures free { IfOk result (λ key. cursor_seen self.old key ≡ None) }
+        ensures ok { IfOk result (λ key. self.new ≡ settle self.old (sets (with_cursor self.old.control key cursor))) }
+        ensures fits { IfOk result (λ key. len (with_cursor self.old.control key cursor).cursors < 2 ^ 64) }
+        ensures memory { IfErr result (λ error. error ≡ HandleError.Memory) }
+        ensures err { OnErr result (self.new ≡ self.old) }
+    {
+        let Ok(()) = self.receives.reserve_one_more(self.store.receivers()) else {
+            return Err(HandleError::Memory);
+        };
+        let Ok(key) = self.store.add(cursor) else {
+            return Err(HandleError::Memory);
+        };
+        self.store.known();
+        Ok(key)
+    }
+
+    // Takes a receiver's cursor out, and drops the messages that nobody is to read any more.
+    fn remove_cursor(&mut self, key: usize)
+        requires { is_some (cursor_seen self.old key) ≡ true }
+        ensures { self.new ≡ settle self.old (sets (record self.old.control { cursors = remove self.old.control.cursors key })) }
+    {
+        self.store.remove(key);
+    }
+
+    /// Takes a receiver out: it abandons its stream, then its future, and then what it has to read.
+    pub fn remove_receiver(&mut self, key: usize)
+        requires valid { IsValidView self.old }
+        requires there { is_some (cursor_seen self.old key) ≡ true }
+        ensures { self.new ≡ settle self.old (sets (without_receiver self.old.control key)) }
+    {
+        self.pair_dropped(key, Kind::Stream);
+        self.pair_dropped(key, Kind::Future);
+        self.remove_cursor(key);
+    }
+
+    pub fn set_senders(&mut self, senders: usize)
+        ensures { self.new ≡ record self.old { control = record self.old.control { senders = senders } } }
+    {
+        self.senders = senders;
+    }
+
+    pub fn set_inactive(&mut self, inactive: usize)
+        ensures { self.new ≡ record self.old { control = record self.old.control { inactive = inactive } } }
+    {
+        self.inactive = inactive;
+    }
+
+    pub fn set_overflow(&mut self, on: bool)
+        ensures { self.new ≡ record self.old { control = record self.old.control { overflow = on } } }
+    {
+        self.overflow = on;
+    }
+
+    pub fn set_await_active(&mut self, on: bool)
+        ensures { self.new ≡ record self.old { control = record self.old.control { await_active = on } } }
+    {
+        self.await_active = on;
+    }
+}

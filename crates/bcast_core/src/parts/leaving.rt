@@ -1,0 +1,60 @@
+//! The calls by which a handle goes, but for telling a sender.
+ghost use Rattle.std.specs.Prelude.{◌≡◌};
+ghost use Rattle.bcast_model.specs.Legal.{NoClone};
+ghost use Rattle.bcast_model.specs.Laws.{IsValidView};
+ghost use Rattle.bcast_core.specs.Parts.{Does};
+ghost use Rattle.bcast_model.specs.declared.run.Call.TheVariants as call;
+ghost use Rattle.bcast_model.specs.declared.run.Reply.TheVariants as reply;
+
+use super::Parts;
+use bcast_event::notice::Notice;
+use bcast_model::error::HandleError;
+use std::alloc::Allocator;
+
+impl<T: Drop, N: Notice, A: Allocator + Copy> Parts<T, N, A> {
+    pub fn deactivate(&mut self, key: usize) -> Result<(), HandleError>
+        requires { IsValidView self.old }
+        ensures { Does NoClone self.old (call.Deactivate key) (reply.Deactivate result) self.new }
+    {
+        let Some(_) = self.cursor(key) else {
+            return Err(HandleError::Gone);
+        };
+        let inactive = self.inactive();
+        if inactive == usize::MAX {
+            return Err(HandleError::TooMany);
+        }
+        self.remove_receiver(key);
+        self.set_inactive(inactive + 1);
+        Ok(())
+    }
+
+    pub fn drop_sender(&mut self)
+        requires { IsValidView self.old }
+        ensures { Does NoClone self.old call.DropSender reply.DropSender self.new }
+    {
+        if self.senders() > 0 {
+            self.set_senders(self.senders() - 1);
+            self.close_if_deserted();
+        }
+    }
+
+    pub fn drop_inactive(&mut self)
+        requires { IsValidView self.old }
+        ensures { Does NoClone self.old call.DropInactive reply.DropInactive self.new }
+    {
+        if self.inactive() > 0 {
+            self.set_inactive(self.inactive() - 1);
+            self.close_if_deserted();
+        }
+    }
+
+    pub fn drop_receiver(&mut self, key: usize)
+        requires { IsValidView self.old }
+        ensures { Does NoClone self.old (call.DropReceiver key) reply.DropReceiver self.new }
+    {
+        if self.cursor(key).is_some() {
+            self.remove_receiver(key);
+            self.close_if_deserted();
+        }
+    }
+}

@@ -1,0 +1,84 @@
+//! Pending sends and receivers that wait.
+ghost use Rattle.std.specs.Prelude.{◌≡◌, ◌&&◌, ◌+◌, ◌*◌, ◌<◌, ◌⊎◌, true, false, length, IfOk, OnErr, is_some};
+ghost use Rattle.std.specs.FinMap.{get};
+
+use super::Parts;
+use bcast_event::notice::Notice;
+use bcast_model::listener::Kind;
+use std::alloc::{AllocError, Allocator};
+
+impl<T: Drop, N: Notice, A: Allocator + Copy> Parts<T, N, A> {
+    ghost use Rattle.bcast_model.specs.Listeners.{is_in};
+    ghost use Rattle.bcast_model.specs.Pair.{same_pair};
+    ghost use Rattle.bcast_model.specs.Laws.{IsValidView};
+    ghost use Rattle.bcast_model.specs.Seen.{is_ready_seen};
+    ghost use Rattle.bcast_model.specs.Control.{has_place, with_place, place_answered, place_dropped, place_waits, pair_waits, pair_answered, pair_dropped};
+
+    /// Whether a pending send has this place.
+    pub fn has_place(&self, place: usize) -> bool
+        ensures { result ≡ has_place self.now.control place }
+    {
+        self.sends.has(place)
+    }
+
+    /// Whether a poll of the pending send of this place would be answered.
+    pub fn answers_send(&self, place: usize) -> bool
+        ensures { result ≡ has_place self.now.control place && is_ready_seen self.now }
+    {
+        self.has_place(place) && self.is_ready()
+    }
+
+    /// Gives a place to a send that is to wait.
+    pub fn begin_send(&mut self) -> Result<usize, AllocError>
+        ensures free { IfOk result (λ place. has_place self.old.control place ≡ false) }
+        ensures ok { IfOk result (λ place. self.new ≡ record self.old { control = with_place self.old.control place }) }
+        ensures err { OnErr result (self.new ≡ self.old) }
+    {
+        self.sends.begin()
+    }
+
+    /// The send of this place waits, untold.
+    pub fn place_waits(&mut self, place: usize, notice: N)
+        requires { has_place self.old.control place ≡ true }
+        ensures { self.new ≡ record self.old { control = place_waits self.old.control place } }
+    {
+        self.sends.wait(place, notice);
+    }
+
+    /// The send of this place was answered.
+    pub fn place_answered(&mut self, place: usize)
+        ensures { self.new ≡ record self.old { control = place_answered self.old.control place } }
+    {
+        self.sends.answered(place);
+    }
+
+    /// The send of this place is dropped. What it was told is passed on.
+    pub fn place_dropped(&mut self, place: usize)
+        ensures { self.new ≡ record self.old { control = place_dropped self.old.control place } }
+    {
+        self.sends.give_up(place);
+    }
+
+    /// A receiver's listener waits, untold.
+    pub fn pair_waits(&mut self, key: usize, kind: Kind, notice: N)
+        requires valid { IsValidView self.old }
+        requires there { is_some (get self.old.control.cursors key) ≡ true }
+        ensures { self.new ≡ record self.old { control = pair_waits self.old.control (key, kind) } }
+    {
+        self.receives.wait(key, kind, notice);
+    }
+
+    /// A receiver's listener was answered.
+    pub fn pair_answered(&mut self, key: usize, kind: Kind)
+        ensures { self.new ≡ record self.old { control = pair_answered self.old.control (key, kind) } }
+    {
+        self.receives.answered(key, kind);
+    }
+
+    /// A receiver's listener is dropped. What it was told is passed on.
+    pub fn pair_dropped(&mut self, key: usize, kind: Kind)
+        ensures { self.new ≡ record self.old { control = pair_dropped self.old.control (key, kind) } }
+    {
+        self.receives.give_up(key, kind);
+    }
+}

@@ -1,0 +1,115 @@
+//! Receiving.
+ghost use Rattle.std.specs.Prelude.{◌≡◌, ◌⊎◌, ◌+◌, ◌<◌, max, Some, Ok, Err, IfOk, OnOk, OnErr, IsOk, IsSomeAnd, slice_get, alloc_error};
+
+use super::Parts;
+use bcast_event::notice::Notice;
+use bcast_model::error::TryRecvError;
+use bcast_model::listener::Kind;
+use std::alloc::{AllocError, Allocator};
+
+impl<T: Clone, N: Notice, A: Allocator + Copy> Parts<T, N, A> {
+    ghost use Rattle.bcast_model.specs.Laws.{IsValidView};
+    ghost use Rattle.bcast_model.specs.Legal.{IsReceived};
+    ghost use Rattle.bcast_model.specs.Receiving.{receive, poll_receive, skipped, skipped_to};
+    ghost use Rattle.bcast_model.specs.Seen.{settle, sets, cursor_seen, numbered_seen, try_recv_seen, IsOwedSeen};
+    ghost use Rattle.bcast_model.specs.Control.{with_cursor};
+    ghost use Rattle.bcast_model.specs.declared.run.Reply.TheVariants as reply;
+
+    // Lets a receiver that lags go on at the front.
+    fn skip(&mut self, key: usize)
+        requires valid { IsValidView self.old }
+        requires lags { IsSomeAnd (cursor_seen self.old key) (λ cursor. cursor < self.old.front) }
+        ensures { self.new ≡ settle self.old (sets (with_cursor self.old.control key self.old.front)) }
+    {
+        self.store.skip(key);
+    }
+
+    // Gives a receiver the message of this number, which is the greater of its cursor and the front.
+    fn read(&mut self, key: usize, number: u64) -> Result<T, AllocError>
+        requires at { IsSomeAnd (cursor_seen self.old key) (λ cursor. number ≡ max cursor self.old.front) }
+        requires below { number < self.old.end }
+        ensures given { IfOk result (λ given. (numbered_seen self.old number ≡ Some given) ⊎ (IsOwedSeen self.old key (Some number) × IsSomeAnd (numbered_seen self.old number) (λ msg. T.is_clone msg given))) }
+        ensures ok { OnOk result (self.new ≡ settle self.old (sets (with_cursor self.old.control key (number + 1)))) }
+        ensures owed { OnErr result (IsOwedSeen self.old key (Some number)) }
+        ensures err { OnErr result (self.new ≡ self.old) }
+        ensures sure { ((msg : T) → T.is_infallible msg) → IsOk result }
+    {
+        self.store.read(key, number)
+    }
+
+    /// Gives a receiver the message of this number, or says why there is none.
+    ///
+    /// `at` is the receiver's cursor, or the greater of it and the front where what it missed is skipped.
+    pub fn receive(
+        &mut self,
+        key: usize,
+        at: Option<u64>,
+    ) -> Result<Result<T, TryRecvError>, AllocError>
+        requires valid { IsValidView self.old }
+        requires at { (at ≡ cursor_seen self.old key) ⊎ (at ≡ skipped_to self.old.front (cursor_seen self.old key)) }
+        ensures reply { IsReceived T.is_clone (IsOwedSeen self.old key at) (λ answer. reply.TryRecv (Ok answer)) (reply.TryRecv (Err alloc_error)) (try_recv_seen self.old at) (reply.TryRecv result) }
+        ensures ok { OnOk result (self.new ≡ settle self.old (sets (receive self.old.front self.old.end self.old.control key at))) }
+        ensures err { OnErr result (self.new ≡ self.old) }
+        ensures sure { ((msg : T) → T.is_infallible msg) → IsOk result }
+    {
+        let Some(cursor) = at else {
+            return Ok(Err(TryRecvError::Closed));
+        };
+        let front = self.front();
+        if cursor < front {
+            self.skip(key);
+            return Ok(Err(TryRecvError::Overflowed(front - cursor)));
+        }
+        if cursor < self.end() {
+            return match self.read(key, cursor) {
+                Ok(msg) => Ok(Ok(msg)),
+                Err(refused) => Err(refused),
+            };
+        }
+        if self.is_closed() {
+            Ok(Err(TryRecvError::Closed))
+        } else {
+            Ok(Err(TryRecvError::Empty))
+        }
+    }
+
+    /// Where the receiver reads on that skips what it missed, and how many messages those are.
+    pub fn skipped_to(&self, key: usize) -> (Option<u64>, u64)
+        ensures at { result.0 ≡ skipped_to self.now.front (cursor_seen self.now key) }
+        ensures skips { result.1 ≡ skipped self.now.front (cursor_seen self.now key) }
+    {
+        let front = self.front();
+        match self.cursor(key) {
+            Some(cursor) => (Some(cursor.max(front)), front.saturating_sub(cursor)),
+            None => (None, 0),
+        }
+    }
+
+    /// The same for a listener that waits where there is nothing.
+    pub fn poll(
+        &mut self,
+        key: usize,
+        kind: Kind,
+        at: Option<u64>,
+        notice: N,
+    ) -> Result<Result<T, TryRecvError>, AllocError>
+        requires valid { IsValidView self.old }
+        requires at { (at ≡ cursor_seen self.old key) ⊎ (at ≡ skipped_to self.old.front (cursor_seen self.old key)) }
+        ensures reply { IsReceived T.is_clone (IsOwedSeen self.old key at) (λ answer. reply.TryRecv (Ok answer)) (reply.TryRecv (Err alloc_error)) (try_recv_seen self.old at) (reply.TryRecv result) }
+        ensures ok { OnOk result (self.new ≡ settle self.old (sets (poll_receive self.old.front self.old.end self.old.control (key, kind) at (try_recv_seen self.old at)))) }
+        ensures err { OnErr result (self.new ≡ self.old) }
+        ensures sure { ((msg : T) → T.is_infallible msg) → IsOk result }
+    {
+        match self.receive(key, at) {
+            Ok(Err(TryRecvError::Empty)) => {
+                self.pair_waits(key, kind, notice);
+                Ok(Err(TryRecvError::Empty))
+            }
+            Ok(answer) => {
+                self.pair_answered(key, kind);
+                Ok(answer)
+            }
+            Err(refused) => Err(refused),
+        }
+    }
+}

@@ -1,0 +1,126 @@
+//! Sending, and the settings that make room.
+ghost use Rattle.std.specs.Prelude.{◌≡◌, ◌^◌, ◌+◌, ◌<◌, ◌≤◌, ◌∷◌, length, if◌then◌else◌, OnOk, OnErr};
+ghost use Rattle.std.specs.FinMap.{len};
+
+use super::Parts;
+use bcast_event::notice::Notice;
+use bcast_model::error::{SendError, TrySendError};
+use bcast_model::run::SendPoll;
+use std::alloc::{AllocError, Allocator};
+
+impl<T: Drop, N: Notice, A: Allocator + Copy> Parts<T, N, A> {
+    ghost use Rattle.bcast_model.specs.Control.{has_place};
+    ghost use Rattle.bcast_model.specs.Laws.{IsValidView};
+    ghost use Rattle.bcast_model.specs.declared.run.SendPoll.TheVariants as send;
+    ghost use Rattle.bcast_model.specs.Seen.{settle, with_message_seen, try_broadcast_seen, offer_seen, attempt_send_seen, poll_send_seen, resize_seen};
+
+    // Takes the oldest message out, whoever is still to read it.
+    fn drop_oldest(&mut self) -> T
+        requires { 0 < length self.old.queue }
+        ensures oldest { self.old.queue ≡ result ∷ self.new.queue }
+        ensures rest { self.new ≡ record self.old { front = self.old.front + 1; queue = self.new.queue } }
+    {
+        let Some(oldest) = self.store.pop() else {
+            unreachable!()
+        };
+        oldest
+    }
+
+    // Puts a message last, for every receiver, all of whom are told. The last number closes the channel.
+    fn accept(&mut self, msg: T)
+        requires someone { 0 < len self.old.control.cursors }
+        requires room { length self.old.queue < self.old.control.room }
+        requires number { self.old.end + 1 < 2 ^ 64 }
+        ensures { self.new ≡ with_message_seen self.old msg }
+    {
+        let number = self.store.end();
+        self.store.push(msg);
+        self.receives.tell_all();
+        if number + 1 == u64::MAX {
+            self.close();
+        }
+    }
+
+    /// Accepts a message, or hands it back with the reason.
+    pub fn offer(&mut self, msg: T) -> Result<Option<T>, TrySendError<T>>
+        requires { IsValidView self.old }
+        ensures reply { result ≡ try_broadcast_seen self.old msg }
+        ensures effect { self.new ≡ settle self.old (offer_seen self.old msg) }
+    {
+        if self.is_closed() {
+            return Err(TrySendError::Closed(msg));
+        }
+        if self.has_no_receiver() {
+            return Err(TrySendError::Inactive(msg));
+        }
+        if !self.is_full() {
+            self.accept(msg);
+            return Ok(None);
+        }
+        if !self.overflow() {
+            return Err(TrySendError::Full(msg));
+        }
+        let oldest = self.drop_oldest();
+        self.accept(msg);
+        Ok(Some(oldest))
+    }
+
+    /// The same for a send that may wait.
+    pub fn attempt(&mut self, msg: T) -> SendPoll<T>
+        requires { IsValidView self.old }
+        ensures reply { result ≡ attempt_send_seen self.old msg }
+        ensures effect { self.new ≡ settle self.old (offer_seen self.old msg) }
+    {
+        let await_active = self.await_active();
+        match self.offer(msg) {
+            Ok(back) => SendPoll::Ready(Ok(back)),
+            Err(TrySendError::Closed(msg)) => SendPoll::Ready(Err(SendError(msg))),
+            Err(TrySendError::Full(msg)) => SendPoll::Wait(msg),
+            Err(TrySendError::Inactive(msg)) => {
+                if await_active {
+                    SendPoll::Wait(msg)
+                } else {
+                    SendPoll::Ready(Err(SendError(msg)))
+                }
+            }
+        }
+    }
+
+    /// A poll of a pending send.
+    pub fn poll_send(&mut self, place: usize, msg: T, notice: N) -> SendPoll<T>
+        requires { IsValidView self.old }
+        ensures reply { result ≡ (if has_place self.old.control place then attempt_send_seen self.old msg else send.Wait msg) }
+        ensures effect { self.new ≡ settle self.old (poll_send_seen self.old place msg) }
+    {
+        if !self.has_place(place) {
+            return SendPoll::Wait(msg);
+        }
+        match self.attempt(msg) {
+            SendPoll::Ready(answer) => {
+                self.place_answered(place);
+                SendPoll::Ready(answer)
+            }
+            SendPoll::Wait(msg) => {
+                self.place_waits(place, notice);
+                SendPoll::Wait(msg)
+            }
+        }
+    }
+
+    /// Sets the capacity. Where fewer messages fit than are kept, the oldest are dropped.
+    pub fn set_capacity(&mut self, n: usize) -> Result<(), AllocError>
+        requires valid { IsValidView self.old }
+        requires positive { 1 ≤ n }
+        ensures ok { OnOk result (self.new ≡ settle self.old (resize_seen self.old n)) }
+        ensures refused { OnErr result (self.old.control.room < n) }
+        ensures err { OnErr result (self.new ≡ self.old) }
+    {
+        if n > self.store.room() {
+            self.store.grow(n)?;
+        }
+        let excess = self.store.len().saturating_sub(n);
+        self.store.drop_first(excess);
+        self.capacity = n;
+        Ok(())
+    }
+}

@@ -1,0 +1,170 @@
+//! The state of a channel, which some valid history shows after every call.
+ghost use Rattle.std.specs.Prelude.{◌≡◌, ◌==◌, ◌&&◌, ◌^◌, ◌+◌, ◌<◌, length, IfOk};
+ghost use Rattle.std.specs.FinMap.{len};
+ghost use Rattle.bcast_model.specs.History.{opening};
+
+use crate::parts::Parts;
+use bcast_event::notice::Notice;
+use std::alloc::{AllocError, Allocator, Global};
+use std::marker::Model;
+
+mod handles;
+mod poll;
+mod receive;
+mod send;
+mod settings;
+
+/// The state of a broadcast channel: its messages, the receivers' cursors, the counts of senders and
+/// inactive receivers, the settings, and who waits.
+///
+/// One call on it is one atomic event; a lock round it makes a channel for many threads. A receiver
+/// is named by its key, and a pending send by its place: a key or place may be given again after
+/// its holder has left.
+#[derive(Drop)]
+pub struct Inner<T, N: Notice, A: Allocator = Global> {
+    parts: Parts<T, N, A>,
+}
+
+impl<T, N: Notice, A: Allocator> Model for Inner<T, N, A> {
+    ghost use Rattle.bcast_model.specs.View.{View, view_code, IsShown};
+
+    ghost Value = { View T };
+
+    ghost coded = { view_code T.code };
+
+    ghost view = { λ s. s.parts };
+
+    ghost invariant = { λ s. IsShown s.parts };
+}
+
+impl<T: Drop, N: Notice, A: Allocator + Copy> Inner<T, N, A> {
+    ghost use Rattle.bcast_model.specs.Valid.{IsValid};
+    ghost use Rattle.bcast_model.specs.View.{Represents, IsShown};
+    ghost use Rattle.bcast_model.specs.Seen.{is_full_seen};
+
+    /// A new channel of this capacity, and the key of its first receiver.
+    ///
+    /// It is open and empty, has one sender and no inactive receiver, overflow is off, and sends
+    /// await an active receiver. The first message gets the number 0.
+    ///
+    /// # Errors
+    ///
+    /// `AllocError`: there is no memory for `cap` messages, or for the receiver.
+    ///
+    /// Source: `broadcast` of async-broadcast.
+    pub fn new(alloc: A, cap: usize) -> Result<(Self, usize), AllocError>
+        requires { 0 < cap }
+        ensures opened { IfOk result (λ made. Represents made.0 (opening cap 0 made.1)) }
+        ensures valid { IfOk result (λ made. IsValid {T = T} (opening cap 0 made.1)) }
+    {
+        Self::starting_at(alloc, cap, 0)
+    }
+
+    /// The same, where the first message gets the number `first`.
+    ///
+    /// # Errors
+    ///
+    /// `AllocError`: there is no memory for `cap` messages, or for the receiver.
+    ///
+    /// Source: this crate's own.
+    pub fn starting_at(alloc: A, cap: usize, first: u64) -> Result<(Self, usize), AllocError>
+        requires capacity { 0 < cap }
+        requires number { first + 1 < 2 ^ 64 }
+        ensures opened { IfOk result (λ made. Represents made.0 (opening cap first made.1)) }
+        ensures valid { IfOk result (λ made. IsValid {T = T} (opening cap first made.1)) }
+    {
+        let (parts, key) = Parts::starting_at(alloc, cap, first)?;
+        Ok((Inner { parts }, key))
+    }
+
+    /// The capacity: how many messages the channel keeps at most.
+    pub fn capacity(&self) -> usize
+        ensures { result ≡ self.now.control.capacity }
+    {
+        self.parts.capacity()
+    }
+
+    /// Whether a full channel drops its oldest message for a new one.
+    pub fn overflow(&self) -> bool
+        ensures { result ≡ self.now.control.overflow }
+    {
+        self.parts.overflow()
+    }
+
+    /// Whether sends wait where there is no active receiver.
+    pub fn await_active(&self) -> bool
+        ensures { result ≡ self.now.control.await_active }
+    {
+        self.parts.await_active()
+    }
+
+    /// How many messages are kept.
+    pub fn len(&self) -> usize
+        ensures { result ≡ length self.now.queue }
+    {
+        self.parts.len()
+    }
+
+    /// Whether no message is kept.
+    pub fn is_empty(&self) -> bool
+        ensures { result ≡ (length self.now.queue == 0) }
+    {
+        self.parts.len() == 0
+    }
+
+    /// Whether as many messages are kept as the capacity allows.
+    pub fn is_full(&self) -> bool
+        ensures { result ≡ is_full_seen self.now }
+    {
+        self.parts.is_full()
+    }
+
+    /// Whether the channel is closed. Messages that are kept can still be received.
+    pub fn is_closed(&self) -> bool
+        ensures { result ≡ self.now.control.closed }
+    {
+        self.parts.is_closed()
+    }
+
+    /// Whether the channel is closed and no message is kept, for any receiver.
+    pub fn is_terminated(&self) -> bool
+        ensures { result ≡ self.now.control.closed && (length self.now.queue == 0) }
+    {
+        self.parts.is_closed() && self.parts.len() == 0
+    }
+
+    /// How many active receivers there are.
+    pub fn receiver_count(&self) -> usize
+        ensures { result ≡ len self.now.control.cursors }
+    {
+        self.parts.receivers()
+    }
+
+    /// How many inactive receivers there are.
+    pub fn inactive_receiver_count(&self) -> usize
+        ensures { result ≡ self.now.control.inactive }
+    {
+        self.parts.inactive()
+    }
+
+    /// How many senders there are.
+    pub fn sender_count(&self) -> usize
+        ensures { result ≡ self.now.control.senders }
+    {
+        self.parts.senders()
+    }
+
+    /// The number that the next accepted message gets.
+    pub fn end_number(&self) -> u64
+        ensures { result ≡ self.now.end }
+    {
+        self.parts.end()
+    }
+
+    /// Proves that some valid history shows the state. Does nothing.
+    pub fn known(&self)
+        ensures { IsShown self.now }
+    {
+        let _ = &self.parts;
+    }
+}

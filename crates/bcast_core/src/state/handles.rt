@@ -1,0 +1,172 @@
+//! Handles that are made, and handles that go.
+ghost use Rattle.std.specs.Prelude.{◌≡◌};
+ghost use Rattle.bcast_model.specs.Legal.{NoClone};
+ghost use Rattle.bcast_model.specs.View.{Answers};
+ghost use Rattle.bcast_model.specs.declared.run.Call.TheVariants as call;
+ghost use Rattle.bcast_model.specs.declared.run.Reply.TheVariants as reply;
+
+use super::Inner;
+use bcast_event::notice::Notice;
+use bcast_model::error::HandleError;
+use std::alloc::Allocator;
+
+impl<T: Drop, N: Notice, A: Allocator + Copy> Inner<T, N, A> {
+    /// Counts one sender more. A channel that is closed stays so.
+    ///
+    /// # Errors
+    ///
+    /// `TooMany`: the count is the greatest `usize`. Nothing changed.
+    ///
+    /// Source: `Sender::clone` and `new_sender` of async-broadcast; the refusal is this crate's own.
+    pub fn new_sender(&mut self) -> Result<(), HandleError>
+        ensures { Answers NoClone self.old call.NewSender (reply.NewSender result) self.new }
+    {
+        let may_tell = !self.parts.is_ready();
+        let made = self.parts.new_sender();
+        self.parts.tell_if_ready(may_tell);
+        made
+    }
+
+    /// Counts one inactive receiver more.
+    ///
+    /// # Errors
+    ///
+    /// Nothing changed.
+    /// - `Gone`: there is no inactive receiver.
+    /// - `TooMany`: the count is the greatest `usize`.
+    ///
+    /// Source: `InactiveReceiver::clone` of async-broadcast; the refusals are this crate's own.
+    pub fn clone_inactive(&mut self) -> Result<(), HandleError>
+        ensures { Answers NoClone self.old call.CloneInactive (reply.CloneInactive result) self.new }
+    {
+        let may_tell = !self.parts.is_ready();
+        let made = self.parts.clone_inactive();
+        self.parts.tell_if_ready(may_tell);
+        made
+    }
+
+    /// Makes the receiver of this key an inactive one, in one step: the channel stays open. What it
+    /// has to read goes, and so do the messages that nobody else is to read.
+    ///
+    /// # Errors
+    ///
+    /// Nothing changed.
+    /// - `Gone`: there is no such receiver.
+    /// - `TooMany`: the count of inactive receivers is the greatest `usize`.
+    ///
+    /// Source: `Receiver::deactivate` of async-broadcast; the refusals are this crate's own.
+    pub fn deactivate(&mut self, key: usize) -> Result<(), HandleError>
+        ensures { Answers NoClone self.old (call.Deactivate key) (reply.Deactivate result) self.new }
+    {
+        let may_tell = !self.parts.is_ready();
+        let made = self.parts.deactivate(key);
+        self.parts.tell_if_ready(may_tell);
+        made
+    }
+
+    /// Adds a receiver that reads the messages to come, and answers its key.
+    ///
+    /// # Errors
+    ///
+    /// `Memory`: there is no memory for it. Nothing changed.
+    ///
+    /// Source: `new_receiver` of async-broadcast.
+    pub fn new_receiver(&mut self) -> Result<usize, HandleError>
+        ensures { Answers NoClone self.old call.NewReceiver (reply.NewReceiver result) self.new }
+    {
+        let may_tell = !self.parts.is_ready();
+        let made = self.parts.new_receiver();
+        self.parts.tell_if_ready(may_tell);
+        made
+    }
+
+    /// Makes an inactive receiver an active one, which reads the messages to come.
+    ///
+    /// # Errors
+    ///
+    /// Nothing changed.
+    /// - `Gone`: there is no inactive receiver.
+    /// - `Memory`: there is no memory for the receiver.
+    ///
+    /// Source: `InactiveReceiver::activate` of async-broadcast.
+    pub fn activate(&mut self) -> Result<usize, HandleError>
+        ensures { Answers NoClone self.old call.Activate (reply.Activate result) self.new }
+    {
+        let may_tell = !self.parts.is_ready();
+        let made = self.parts.activate();
+        self.parts.tell_if_ready(may_tell);
+        made
+    }
+
+    /// Adds a receiver that reads the messages to come, beside an inactive one.
+    ///
+    /// # Errors
+    ///
+    /// Nothing changed.
+    /// - `Gone`: there is no inactive receiver.
+    /// - `Memory`: there is no memory for the receiver.
+    ///
+    /// Source: `InactiveReceiver::activate_cloned` of async-broadcast.
+    pub fn activate_cloned(&mut self) -> Result<usize, HandleError>
+        ensures { Answers NoClone self.old call.ActivateCloned (reply.ActivateCloned result) self.new }
+    {
+        let may_tell = !self.parts.is_ready();
+        let made = self.parts.activate_cloned();
+        self.parts.tell_if_ready(may_tell);
+        made
+    }
+
+    /// Adds a receiver that reads what the receiver of this key is to read.
+    ///
+    /// # Errors
+    ///
+    /// Nothing changed.
+    /// - `Gone`: there is no such receiver.
+    /// - `Memory`: there is no memory for the new one.
+    ///
+    /// Source: `Receiver::clone` of async-broadcast.
+    pub fn clone_receiver(&mut self, key: usize) -> Result<usize, HandleError>
+        ensures { Answers NoClone self.old (call.CloneReceiver key) (reply.CloneReceiver result) self.new }
+    {
+        let may_tell = !self.parts.is_ready();
+        let made = self.parts.clone_receiver(key);
+        self.parts.tell_if_ready(may_tell);
+        made
+    }
+
+    /// Counts one sender less. The last one closes the channel. With none left it changes nothing.
+    ///
+    /// Source: the drop of `Sender` of async-broadcast.
+    pub fn drop_sender(&mut self)
+        ensures { Answers NoClone self.old call.DropSender reply.DropSender self.new }
+    {
+        let may_tell = !self.parts.is_ready();
+        self.parts.drop_sender();
+        self.parts.tell_if_ready(may_tell);
+    }
+
+    /// Counts one inactive receiver less. Where neither an inactive nor an active one is left, the
+    /// channel is closed. With none left it changes nothing.
+    ///
+    /// Source: the drop of `InactiveReceiver` of async-broadcast.
+    pub fn drop_inactive(&mut self)
+        ensures { Answers NoClone self.old call.DropInactive reply.DropInactive self.new }
+    {
+        let may_tell = !self.parts.is_ready();
+        self.parts.drop_inactive();
+        self.parts.tell_if_ready(may_tell);
+    }
+
+    /// Takes the receiver of this key out: its stream and its future wait no more, and the messages
+    /// that nobody else is to read go. Where neither an active nor an inactive receiver is left, the
+    /// channel is closed. An unknown key changes nothing.
+    ///
+    /// Source: the drop of `Receiver` of async-broadcast.
+    pub fn drop_receiver(&mut self, key: usize)
+        ensures { Answers NoClone self.old (call.DropReceiver key) reply.DropReceiver self.new }
+    {
+        let may_tell = !self.parts.is_ready();
+        self.parts.drop_receiver(key);
+        self.parts.tell_if_ready(may_tell);
+    }
+}

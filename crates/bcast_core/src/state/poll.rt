@@ -1,0 +1,141 @@
+//! Receiving by a future or a stream, which wait where there is nothing.
+ghost use Rattle.std.specs.Prelude.{◌≡◌, Ok, Err, IfOk, IfErr, IsOk};
+ghost use Rattle.bcast_model.specs.Legal.{NoClone};
+ghost use Rattle.bcast_model.specs.View.{Answers};
+ghost use Rattle.bcast_model.specs.Receiving;
+ghost use Rattle.bcast_model.specs.declared.run.Call.TheVariants as call;
+ghost use Rattle.bcast_model.specs.declared.run.Reply.TheVariants as reply;
+
+use super::Inner;
+use bcast_event::notice::Notice;
+use bcast_model::error::{RecvError, TryRecvError};
+use bcast_model::listener::Kind;
+use futures::task::Poll;
+use std::alloc::{AllocError, Allocator};
+
+// What `try_recv` answered, as a future's answer.
+fn future_reply<T: Drop>(
+    received: Result<Result<T, TryRecvError>, AllocError>,
+) -> Result<Poll<Result<T, RecvError>>, AllocError>
+    ensures ok { IfOk received (λ answer. result ≡ Ok (Receiving.future_reply answer)) }
+    ensures err { IfErr received (λ error. result ≡ Err error) }
+{
+    match received? {
+        Ok(msg) => Ok(Poll::Ready(Ok(msg))),
+        Err(TryRecvError::Overflowed(n)) => Ok(Poll::Ready(Err(RecvError::Overflowed(n)))),
+        Err(TryRecvError::Closed) => Ok(Poll::Ready(Err(RecvError::Closed))),
+        Err(TryRecvError::Empty) => Ok(Poll::Pending),
+    }
+}
+
+// The same as the answer of `poll_recv`.
+fn stream_reply<T: Drop>(
+    received: Result<Result<T, TryRecvError>, AllocError>,
+) -> Result<Poll<Option<Result<T, RecvError>>>, AllocError>
+    ensures ok { IfOk received (λ answer. result ≡ Ok (Receiving.stream_reply answer)) }
+    ensures err { IfErr received (λ error. result ≡ Err error) }
+{
+    match received? {
+        Ok(msg) => Ok(Poll::Ready(Some(Ok(msg)))),
+        Err(TryRecvError::Overflowed(n)) => Ok(Poll::Ready(Some(Err(RecvError::Overflowed(n))))),
+        Err(TryRecvError::Closed) => Ok(Poll::Ready(None)),
+        Err(TryRecvError::Empty) => Ok(Poll::Pending),
+    }
+}
+
+// The same as the answer of `poll_next`, where so many messages were skipped.
+fn next_reply<T: Drop>(
+    skips: u64,
+    received: Result<Result<T, TryRecvError>, AllocError>,
+) -> Result<Poll<Option<(T, u64)>>, AllocError>
+    ensures ok { IfOk received (λ answer. result ≡ Ok (Receiving.next_reply skips answer)) }
+    ensures err { IfErr received (λ error. result ≡ Err error) }
+{
+    match received? {
+        Ok(msg) => Ok(Poll::Ready(Some((msg, skips)))),
+        Err(TryRecvError::Overflowed(_)) => Ok(Poll::Ready(None)),
+        Err(TryRecvError::Closed) => Ok(Poll::Ready(None)),
+        Err(TryRecvError::Empty) => Ok(Poll::Pending),
+    }
+}
+
+impl<T: Clone, N: Notice, A: Allocator + Copy> Inner<T, N, A> {
+    /// Receives as `try_recv` does, by a future. Where there is nothing it waits: `notice` is told
+    /// once it is to be polled again.
+    ///
+    /// # Errors
+    ///
+    /// `AllocError` as for `try_recv`; nothing changed.
+    ///
+    /// Source: the poll of `Recv` of async-broadcast.
+    pub fn poll_future(
+        &mut self,
+        key: usize,
+        notice: N,
+    ) -> Result<Poll<Result<T, RecvError>>, AllocError>
+        ensures answers { Answers T.is_clone self.old (call.PollFuture key) (reply.PollFuture result) self.new }
+        ensures sure { ((msg : T) → T.is_infallible msg) → IsOk result }
+    {
+        let may_tell = !self.parts.is_ready();
+        let at = self.parts.cursor(key);
+        let received = self.parts.poll(key, Kind::Future, at, notice);
+        self.parts.tell_if_ready(may_tell);
+        future_reply(received)
+    }
+
+    /// Receives as `try_recv` does, by the stream. `Ready(None)` says that everything was read and
+    /// the channel is closed. Where there is nothing it waits, as `poll_future` does.
+    ///
+    /// # Errors
+    ///
+    /// `AllocError` as for `try_recv`; nothing changed.
+    ///
+    /// Source: `Receiver::poll_recv` of async-broadcast.
+    pub fn poll_recv(
+        &mut self,
+        key: usize,
+        notice: N,
+    ) -> Result<Poll<Option<Result<T, RecvError>>>, AllocError>
+        ensures answers { Answers T.is_clone self.old (call.PollRecv key) (reply.PollRecv result) self.new }
+        ensures sure { ((msg : T) → T.is_infallible msg) → IsOk result }
+    {
+        let may_tell = !self.parts.is_ready();
+        let at = self.parts.cursor(key);
+        let received = self.parts.poll(key, Kind::Stream, at, notice);
+        self.parts.tell_if_ready(may_tell);
+        stream_reply(received)
+    }
+
+    /// The same, but what the receiver missed is skipped in this call: the number beside the message
+    /// says how many messages those were.
+    ///
+    /// # Errors
+    ///
+    /// `AllocError` as for `try_recv`; nothing changed, the skip among it.
+    ///
+    /// Source: the `Stream` of async-broadcast's `Receiver`; the number is this crate's own.
+    pub fn poll_next(&mut self, key: usize, notice: N) -> Result<Poll<Option<(T, u64)>>, AllocError>
+        ensures answers { Answers T.is_clone self.old (call.PollNext key) (reply.PollNext result) self.new }
+        ensures sure { ((msg : T) → T.is_infallible msg) → IsOk result }
+    {
+        let may_tell = !self.parts.is_ready();
+        let (at, skips) = self.parts.skipped_to(key);
+        let received = self.parts.poll(key, Kind::Stream, at, notice);
+        self.parts.tell_if_ready(may_tell);
+        next_reply(skips, received)
+    }
+}
+
+impl<T: Drop, N: Notice, A: Allocator + Copy> Inner<T, N, A> {
+    /// Gives up the future of the receiver of this key. If it was told, another listener is told in
+    /// its place. One that doesn't wait changes nothing.
+    ///
+    /// Source: the drop of `Recv` of async-broadcast.
+    pub fn end_future(&mut self, key: usize)
+        ensures { Answers NoClone self.old (call.EndFuture key) reply.EndFuture self.new }
+    {
+        let may_tell = !self.parts.is_ready();
+        self.parts.pair_dropped(key, Kind::Future);
+        self.parts.tell_if_ready(may_tell);
+    }
+}

@@ -1,0 +1,40 @@
+//! Receiving at once.
+ghost use Rattle.std.specs.Prelude.{◌≡◌, IsOk};
+ghost use Rattle.bcast_model.specs.Legal.{NoClone, ClonesEqual};
+ghost use Rattle.bcast_model.specs.View.{Answers};
+ghost use Rattle.bcast_model.specs.declared.run.Call.TheVariants as call;
+ghost use Rattle.bcast_model.specs.declared.run.Reply.TheVariants as reply;
+
+use super::Inner;
+use bcast_event::notice::Notice;
+use bcast_model::error::TryRecvError;
+use std::alloc::{AllocError, Allocator};
+
+impl<T: Clone, N: Notice, A: Allocator + Copy> Inner<T, N, A> {
+    /// Gives the receiver of this key its next message: the message itself, or a clone of it where
+    /// another receiver is still to read it.
+    ///
+    /// # Errors
+    ///
+    /// In the `Ok`:
+    /// - `Overflowed(n)`: the receiver missed `n` messages, which were dropped before it read them.
+    ///   It goes on after them.
+    /// - `Closed`: it has read everything and the channel is closed, or there is no such receiver.
+    /// - `Empty`: it has read everything, and the channel is open.
+    ///
+    /// `AllocError`: the message is also for another receiver, and its clone found no memory.
+    /// Nothing changed.
+    ///
+    /// Source: `Receiver::try_recv` of async-broadcast.
+    pub fn try_recv(&mut self, key: usize) -> Result<Result<T, TryRecvError>, AllocError>
+        ensures answers { Answers T.is_clone self.old (call.TryRecv key) (reply.TryRecv result) self.new }
+        // Where no clone fails, there is an answer.
+        ensures sure { ((msg : T) → T.is_infallible msg) → IsOk result }
+    {
+        let may_tell = !self.parts.is_ready();
+        let at = self.parts.cursor(key);
+        let received = self.parts.receive(key, at);
+        self.parts.tell_if_ready(may_tell);
+        received
+    }
+}

@@ -1,0 +1,98 @@
+//! Sending, at once or by a pending send.
+ghost use Rattle.std.specs.Prelude.{◌≡◌};
+ghost use Rattle.bcast_model.specs.Legal.{NoClone};
+ghost use Rattle.bcast_model.specs.View.{Answers};
+ghost use Rattle.bcast_model.specs.declared.run.Call.TheVariants as call;
+ghost use Rattle.bcast_model.specs.declared.run.Reply.TheVariants as reply;
+
+use super::Inner;
+use bcast_event::notice::Notice;
+use bcast_model::error::TrySendError;
+use bcast_model::run::SendPoll;
+use std::alloc::{AllocError, Allocator};
+
+impl<T: Drop, N: Notice, A: Allocator + Copy> Inner<T, N, A> {
+    /// Sends a message to every active receiver, and tells all that wait to receive.
+    ///
+    /// `Ok(Some(oldest))` hands back the oldest message, which a full channel dropped in overflow
+    /// mode, even if some receivers have read it. The message that brings the end to `u64::MAX`
+    /// closes the channel. Takes no memory.
+    ///
+    /// # Errors
+    ///
+    /// The message comes back and nothing changes, for the first reason that fits.
+    /// - `Closed`: the channel is closed.
+    /// - `Inactive`: there is no active receiver, in overflow mode too.
+    /// - `Full`: as many messages are kept as the capacity allows, and overflow is off.
+    ///
+    /// Source: `Sender::try_broadcast` of async-broadcast; the last number is this crate's own.
+    pub fn try_broadcast(&mut self, msg: T) -> Result<Option<T>, TrySendError<T>>
+        ensures { Answers NoClone self.old (call.TryBroadcast msg) (reply.TryBroadcast result) self.new }
+    {
+        let may_tell = !self.parts.is_ready();
+        let sent = self.parts.offer(msg);
+        self.parts.tell_if_ready(may_tell);
+        sent
+    }
+
+    /// The same for a send that may wait.
+    ///
+    /// `Ready(Ok(..))` is an acceptance. `Ready(Err(SendError(msg)))` says that the channel is
+    /// closed, or that there is no active receiver and `await_active` is off. `Wait(msg)` says that
+    /// the channel is full, or that there is no active receiver while `await_active` is on. Takes no
+    /// memory.
+    ///
+    /// Source: the poll of `Send` of async-broadcast, without its listener.
+    pub fn attempt_send(&mut self, msg: T) -> SendPoll<T>
+        ensures { Answers NoClone self.old (call.AttemptSend msg) (reply.AttemptSend result) self.new }
+    {
+        let may_tell = !self.parts.is_ready();
+        let sent = self.parts.attempt(msg);
+        self.parts.tell_if_ready(may_tell);
+        sent
+    }
+
+    /// A place for a send that may wait, and its position among those that wait.
+    ///
+    /// # Errors
+    ///
+    /// `AllocError`: there is no memory for it, and nothing changed.
+    ///
+    /// Source: this crate's own.
+    pub fn begin_send(&mut self) -> Result<usize, AllocError>
+        ensures { Answers NoClone self.old call.BeginSend (reply.BeginSend result) self.new }
+    {
+        let may_tell = !self.parts.is_ready();
+        let begun = self.parts.begin_send();
+        self.parts.tell_if_ready(may_tell);
+        begun
+    }
+
+    /// Tries the pending send of this place: it is answered as by `attempt_send`, and the place is
+    /// free from then on; or it waits, and `notice` is told once it is to be polled again.
+    ///
+    /// A place that is not in use changes nothing and is answered `Wait(msg)`. Where the send is
+    /// answered and sends are still ready, the next one that waits is told. Takes no memory.
+    ///
+    /// Source: the poll of `Send` of async-broadcast; who is told next is this crate's own.
+    pub fn poll_send(&mut self, place: usize, msg: T, notice: N) -> SendPoll<T>
+        ensures { Answers NoClone self.old (call.PollSend place msg) (reply.PollSend result) self.new }
+    {
+        let may_tell = self.parts.answers_send(place);
+        let sent = self.parts.poll_send(place, msg, notice);
+        self.parts.tell_if_ready(may_tell);
+        sent
+    }
+
+    /// Gives up the pending send of this place. If it was told, the next one that waits is told in
+    /// its place. A place that is not in use changes nothing.
+    ///
+    /// Source: the drop of `Send` of async-broadcast.
+    pub fn end_send(&mut self, place: usize)
+        ensures { Answers NoClone self.old (call.EndSend place) reply.EndSend self.new }
+    {
+        let may_tell = !self.parts.is_ready();
+        self.parts.place_dropped(place);
+        self.parts.tell_if_ready(may_tell);
+    }
+}

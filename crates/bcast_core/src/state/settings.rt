@@ -1,0 +1,68 @@
+//! Closing and the settings.
+ghost use Rattle.std.specs.Prelude.{◌≡◌, ◌<◌};
+ghost use Rattle.bcast_model.specs.Legal.{NoClone};
+ghost use Rattle.bcast_model.specs.View.{Answers};
+ghost use Rattle.bcast_model.specs.declared.run.Call.TheVariants as call;
+ghost use Rattle.bcast_model.specs.declared.run.Reply.TheVariants as reply;
+
+use super::Inner;
+use bcast_event::notice::Notice;
+use std::alloc::{AllocError, Allocator};
+
+impl<T: Drop, N: Notice, A: Allocator + Copy> Inner<T, N, A> {
+    /// Closes the channel, and answers whether it was open. All that wait are told.
+    ///
+    /// It never opens again. Messages that are kept can still be received. Takes no memory.
+    ///
+    /// Source: `Sender::close` and `Receiver::close` of async-broadcast.
+    pub fn close(&mut self) -> bool
+        ensures { Answers NoClone self.old call.Close (reply.Close result) self.new }
+    {
+        let may_tell = !self.parts.is_ready();
+        let was_open = !self.parts.is_closed();
+        self.parts.close();
+        self.parts.tell_if_ready(may_tell);
+        was_open
+    }
+
+    /// Sets the capacity. Where fewer messages fit than are kept, the oldest are dropped, without
+    /// overflow mode too.
+    ///
+    /// # Errors
+    ///
+    /// `AllocError`: `n` is above every capacity so far, and there is no memory for it. Nothing
+    /// changed.
+    ///
+    /// Source: `set_capacity` of async-broadcast.
+    pub fn set_capacity(&mut self, n: usize) -> Result<(), AllocError>
+        requires { 0 < n }
+        ensures { Answers NoClone self.old (call.SetCapacity n) (reply.SetCapacity result) self.new }
+    {
+        let may_tell = !self.parts.is_ready();
+        let set = self.parts.set_capacity(n);
+        self.parts.tell_if_ready(may_tell);
+        set
+    }
+
+    /// Sets whether a full channel drops its oldest message for a new one.
+    ///
+    /// Source: `set_overflow` of async-broadcast.
+    pub fn set_overflow(&mut self, on: bool)
+        ensures { Answers NoClone self.old (call.SetOverflow on) reply.SetOverflow self.new }
+    {
+        let may_tell = !self.parts.is_ready();
+        self.parts.set_overflow(on);
+        self.parts.tell_if_ready(may_tell);
+    }
+
+    /// Sets whether sends wait where there is no active receiver.
+    ///
+    /// Source: `set_await_active` of async-broadcast.
+    pub fn set_await_active(&mut self, on: bool)
+        ensures { Answers NoClone self.old (call.SetAwaitActive on) reply.SetAwaitActive self.new }
+    {
+        let may_tell = !self.parts.is_ready();
+        self.parts.set_await_active(on);
+        self.parts.tell_if_ready(may_tell);
+    }
+}

@@ -1,0 +1,149 @@
+//! Calls as data: one at a time, and a whole list.
+ghost use Rattle.std.specs.Prelude.{◌≡◌, ◌+◌, ◌^◌, ◌<◌, false, IfOk, IfErr};
+ghost use Rattle.std.specs.List.{All, AllByRecursion};
+ghost use Rattle.bcast_model.specs.Next.{HasPositiveCapacity};
+ghost use Rattle.bcast_model.specs.View.{Answers, IsPossible, Represents};
+ghost use Rattle.bcast_model.specs.History.{opening};
+ghost use Rattle.bcast_model.specs.Run.{IsRun, end_of_run};
+ghost use Rattle.bcast_model.specs.Valid.{IsValid};
+ghost use Rattle.bcast_model.specs.Legal.{NoClone, ClonesEqual};
+ghost use Rattle.bcast_model.specs.Tiling.{dropped_in};
+ghost use Rattle.std.specs.List.Sorted.{IsStrictlyIncreasing};
+ghost use Rattle.bcast_model.specs.Deliveries.{AtEachPoint, AreAllExact};
+ghost use Rattle.bcast_core.specs.Sure.{is_receive_refused};
+
+use crate::state::Inner;
+use bcast_event::notice::{Notice, Silent};
+use bcast_model::run::{Call, Reply};
+use std::alloc::Allocator;
+
+/// Makes the one state call that `call` names, and answers its reply.
+///
+/// `notice` is told once a poll that waits is to be made again; only the four polls use it. A new
+/// capacity must be positive.
+///
+/// Source: this crate's own.
+pub fn step<T: Clone, N: Notice, A: Allocator + Copy>(
+    inner: &mut Inner<T, N, A>,
+    call: Call<T>,
+    notice: N,
+) -> Reply<T>
+    requires { HasPositiveCapacity call }
+    ensures answers { Answers T.is_clone inner.old call result inner.new }
+    ensures possible { IsPossible T.is_clone call result }
+    // Where no clone fails, no receive is refused.
+    ensures sure { ((msg : T) → T.is_infallible msg) → is_receive_refused result ≡ false }
+{
+    inner.known();
+    match call {
+        Call::TryBroadcast(msg) => Reply::TryBroadcast(inner.try_broadcast(msg)),
+        Call::AttemptSend(msg) => Reply::AttemptSend(inner.attempt_send(msg)),
+        Call::BeginSend => Reply::BeginSend(inner.begin_send()),
+        Call::PollSend(place, msg) => Reply::PollSend(inner.poll_send(place, msg, notice)),
+        Call::EndSend(place) => {
+            inner.end_send(place);
+            Reply::EndSend
+        }
+        Call::TryRecv(key) => Reply::TryRecv(inner.try_recv(key)),
+        Call::PollFuture(key) => Reply::PollFuture(inner.poll_future(key, notice)),
+        Call::EndFuture(key) => {
+            inner.end_future(key);
+            Reply::EndFuture
+        }
+        Call::PollRecv(key) => Reply::PollRecv(inner.poll_recv(key, notice)),
+        Call::PollNext(key) => Reply::PollNext(inner.poll_next(key, notice)),
+        Call::Close => Reply::Close(inner.close()),
+        Call::SetCapacity(n) => Reply::SetCapacity(inner.set_capacity(n)),
+        Call::SetOverflow(on) => {
+            inner.set_overflow(on);
+            Reply::SetOverflow
+        }
+        Call::SetAwaitActive(on) => {
+            inner.set_await_active(on);
+            Reply::SetAwaitActive
+        }
+        Call::NewSender => Reply::NewSender(inner.new_sender()),
+        Call::CloneInactive => Reply::CloneInactive(inner.clone_inactive()),
+        Call::Deactivate(key) => Reply::Deactivate(inner.deactivate(key)),
+        Call::NewReceiver => Reply::NewReceiver(inner.new_receiver()),
+        Call::Activate => Reply::Activate(inner.activate()),
+        Call::ActivateCloned => Reply::ActivateCloned(inner.activate_cloned()),
+        Call::CloneReceiver(key) => Reply::CloneReceiver(inner.clone_receiver(key)),
+        Call::DropSender => {
+            inner.drop_sender();
+            Reply::DropSender
+        }
+        Call::DropInactive => {
+            inner.drop_inactive();
+            Reply::DropInactive
+        }
+        Call::DropReceiver(key) => {
+            inner.drop_receiver(key);
+            Reply::DropReceiver
+        }
+        Call::Overflow => Reply::Overflow(inner.overflow()),
+        Call::AwaitActive => Reply::AwaitActive(inner.await_active()),
+        Call::IsEmpty => Reply::IsEmpty(inner.is_empty()),
+        Call::IsFull => Reply::IsFull(inner.is_full()),
+        Call::IsClosed => Reply::IsClosed(inner.is_closed()),
+        Call::IsTerminated => Reply::IsTerminated(inner.is_terminated()),
+        Call::Capacity => Reply::Capacity(inner.capacity()),
+        Call::Len => Reply::Len(inner.len()),
+        Call::ReceiverCount => Reply::ReceiverCount(inner.receiver_count()),
+        Call::InactiveReceiverCount => Reply::InactiveReceiverCount(
+            inner.inactive_receiver_count(),
+        ),
+        Call::SenderCount => Reply::SenderCount(inner.sender_count()),
+        Call::EndNumber => Reply::EndNumber(inner.end_number()),
+    }
+}
+
+/// What `run` answers: the channel, the key of its first receiver, and the replies in order; or the
+/// calls, where it found no memory.
+pub type Ran<T, A> = Result<(Inner<T, Silent, A>, usize, Vec<Reply<T>, A>), Vec<Call<T>, A>>;
+
+/// Makes all calls in order, on a channel of its own: `starting_at(alloc, cap, first)`.
+///
+/// A call may name any key and place, also one that the channel never gave. New capacities must be
+/// positive. Nothing that a call inside meets ends the run.
+///
+/// # Errors
+///
+/// The calls come back, and none was made: there is no memory for the channel or for the replies.
+///
+/// Source: this crate's own.
+pub fn run<T: Clone, A: Allocator + Copy>(
+    alloc: A,
+    cap: usize,
+    first: u64,
+    calls: Vec<Call<T>, A>,
+) -> Ran<T, A>
+    requires capacity { 0 < cap }
+    requires number { first + 1 < 2 ^ 64 }
+    requires positive { AllByRecursion HasPositiveCapacity calls.items }
+    // The replies are those of a run of the machine, and what is returned shows its end.
+    ensures replies { IfOk result (λ made. IsRun T.is_clone (opening cap first made.1) calls.items made.2.items) }
+    ensures end { IfOk result (λ made. Represents made.0 (end_of_run (opening cap first made.1) calls.items made.2.items)) }
+    ensures valid { IfOk result (λ made. IsValid (end_of_run (opening cap first made.1) calls.items made.2.items)) }
+    // Every receiver was given the accepted messages from its start to its cursor, in order, and told how many it missed.
+    ensures deliveries { IfOk result (λ made. AtEachPoint (AreAllExact T.is_clone) (opening cap first made.1) calls.items made.2.items) }
+    // No message was dropped twice.
+    ensures dropped { IfOk result (λ made. IsStrictlyIncreasing (dropped_in (opening cap first made.1) calls.items made.2.items)) }
+    // Where a clone equals its original, the replies are the machine's to the letter.
+    ensures exact { ClonesEqual T.is_clone → IfOk result (λ made. IsRun NoClone (opening cap first made.1) calls.items made.2.items) }
+    // Where no clone fails, no receive is refused.
+    ensures sure { ((msg : T) → T.is_infallible msg) → IfOk result (λ made. All (λ r. is_receive_refused r ≡ false) made.2.items) }
+
+    ensures refused { IfErr result (λ back. back.items ≡ calls.items) }
+{
+    let Ok(mut replies) = Vec::with_capacity(alloc, calls.len()) else {
+        return Err(calls);
+    };
+    let Ok((mut inner, key)) = Inner::starting_at(alloc, cap, first) else {
+        return Err(calls);
+    };
+    for call in calls {
+        replies.push_reserved(step(&mut inner, call, Silent));
+    }
+    Ok((inner, key, replies))
+}

@@ -1,0 +1,7 @@
+pub mod AllKeys
+pub mod Counts
+pub mod Entries
+pub mod Keys
+pub mod Parts
+pub mod Sizes
+pub mod Slots

@@ -1,0 +1,26 @@
+-- The slot of the new place is filled.
+use Rattle.std.proofs.Common.{◌≡◌, ◌<◌, ◌^◌, is_some, sym, ap, subst, ◌∙◌}
+use Rattle.std.specs.FinSet as set
+use Rattle.bcast_cursors.specs.Places.{with_place, places_of}
+use Rattle.bcast_cursors.proofs.AllKeys.{contains-keys, len-keys}
+use Rattle.bcast_cursors.proofs.Slots.{places_of-added}
+use Rattle.bcast_cursors.proofs.places.Places.add.Goals as goal
+use Rattle.bcast_cursors.proofs.places.Places.add.Goals.{After-insert_reserved-place}
+
+-- making room changes nothing that is seen
+reserved : (g : _) (c : After-insert_reserved-place g) → places_of c.reserve.new.self ≡ c.args.self.now
+reserved g c = ap places_of c.reserve.ensures.rest_kept ∙ c.self.view_is
+
+pub returns-clause-fresh : goal.returns-clause-fresh
+returns-clause-fresh g c =
+    ap (λ m. set.contains m.used c.insert_reserved-place.result) (sym (reserved g (goal.at.returns-clause-fresh g c).After-insert_reserved-place))
+    ∙ contains-keys c.reserve.new.self c.insert_reserved-place.result
+    ∙ ap is_some c.insert_reserved-place.ensures.was_vacant
+
+pub returns-clause-ok : goal.returns-clause-ok
+returns-clause-ok g c =
+    places_of-added c.reserve.new.self c.insert_reserved-place.new.self c.insert_reserved-place.result c.insert_reserved-place.ensures.updates c.insert_reserved-place.ensures.was_vacant
+    ∙ ap (with_place c.insert_reserved-place.result) (reserved g (goal.at.returns-clause-ok g c).After-insert_reserved-place)
+
+pub returns-clause-fits : goal.returns-clause-fits
+returns-clause-fits g c = subst (λ n. n < 2 ^ 64) (c.len-len.ensures ∙ sym (len-keys c.insert_reserved-place.new.self)) c.len-len.type_inv

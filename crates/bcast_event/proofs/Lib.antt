@@ -1,0 +1,3 @@
+pub mod Listed
+pub mod Taken
+pub mod Listeners

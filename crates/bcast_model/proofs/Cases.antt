@@ -1,0 +1,34 @@
+-- The conditional parts of a call, each by its cases.
+use Rattle.std.proofs.Common.{◌≡◌, ℕ, ◌+◌, ◌<◌, ◌≤◌, ◌==◌, ◌&&◌, Bool, true, false, cond, Some, nat_lt, refl, arith}
+use Rattle.std.proofs.lemmas.Grind.{common_steps}
+use Rattle.bcast_model.specs.Control.{Control, last_end, tell_a_sender, tell_receivers, closing, close, is_deserted, close_if_deserted, accepting, with_cursor}
+use Rattle.bcast_model.specs.History.{History, sends_are_ready, with_control}
+use Rattle.bcast_model.specs.Next.{tell_if_ready}
+use Rattle.bcast_model.specs.Receiving.{receive}
+
+-- a value that is one of two, where the test was computed
+pub test_is : {A : Type 0} (P : A → Type 0) (b : Bool) (x y : A) → (b ≡ true → P x) → (b ≡ false → P y) → P (cond b x y)
+test_is P true x y holds fails = holds refl
+test_is P false x y holds fails = fails refl
+
+pub close_is : (P : Control → Type 0) (c : Control) → (c.closed ≡ true → P c) → (c.closed ≡ false → P (closing c)) → P (close c)
+close_is P c was now = test_is P c.closed c (closing c) was now
+
+pub deserted_is : (P : Control → Type 0) (c : Control) → P (close c) → (is_deserted c ≡ false → P c) → P (close_if_deserted c)
+deserted_is P c gone stays = test_is P (is_deserted c) (close c) c (λ _. gone) stays
+
+pub accepting_is : (P : Control → Type 0) (c : Control) (end : ℕ) → P (close (tell_receivers c)) → (((end + 1) == last_end) ≡ false → P (tell_receivers c)) → P (accepting c end)
+accepting_is P c end last more = test_is P ((end + 1) == last_end) (close (tell_receivers c)) (tell_receivers c) (λ _. last) more
+
+-- a receive leaves who lags at the front, goes past a message, or finds none
+pub receive_is : (P : Control → Type 0) (front end : ℕ) (c : Control) (key cursor : ℕ)
+    → (cursor < front → P (with_cursor c key front)) → (front ≤ cursor → cursor < end → P (with_cursor c key (cursor + 1))) → (front ≤ cursor → end ≤ cursor → P c)
+    → P (receive front end c key (Some cursor))
+receive_is P front end c key cursor lags takes none =
+    test_is P (nat_lt cursor front) (with_cursor c key front) (cond (nat_lt cursor end) (with_cursor c key (cursor + 1)) c)
+    (λ e. lags (grind (arith, common_steps, e)))
+    (λ e. test_is P (nat_lt cursor end) (with_cursor c key (cursor + 1)) c (λ f. takes (grind (arith, common_steps, e)) (grind (arith, common_steps, f))) (λ f. none (grind (arith, common_steps, e)) (grind (arith, common_steps, f))))
+
+module _ {T : Type 0} where
+  pub tell_is : (P : History T → Type 0) (may : Bool) (h : History T) → ((may && sends_are_ready h) ≡ true → P (with_control h (tell_a_sender h.control))) → ((may && sends_are_ready h) ≡ false → P h) → P (tell_if_ready may h)
+  tell_is P may h tells keeps = test_is P (may && sends_are_ready h) (with_control h (tell_a_sender h.control)) h tells keeps

@@ -1,0 +1,133 @@
+-- What an answer gives a receiver, and where it leaves the receiver.
+use Rattle.std.proofs.Common.{◌≡◌, ◌⊎◌, inl, inr, ℕ, ◌+◌, ◌-◌, ◌<◌, ◌≤◌, Bool, true, false, cond, List, [], ◌∷◌, ◌++◌, length, replicate, Option, Some, None, Ok, Err, Result, nat_lt, slice_get, refl, sym, ap, ◌∙◌, subst, arith, length-append}
+use Rattle.std.proofs.lemmas.Grind.{common_steps}
+use Rattle.std.proofs.lemmas.Option.{none-some, same_Some, slice_get_within}
+use Rattle.std.proofs.lemmas.List.{length-replicate}
+use Rattle.std.specs.Prelude.{IsSomeAnd}
+use Rattle.std.specs.FinMap.{get, insert}
+use Rattle.bcast_model.specs.declared.error.TryRecvError.{TryRecvError}
+use Rattle.bcast_model.specs.declared.error.TryRecvError.TheVariants as unread
+use Rattle.bcast_model.specs.Control.{Cursors, with_cursor}
+use Rattle.bcast_model.specs.History.{History, front_number, end_number, cursor_of, numbered}
+use Rattle.bcast_model.specs.Receiving.{receive, found, try_recv_reply}
+use Rattle.bcast_model.specs.Legal.{IsGiven}
+use Rattle.bcast_model.proofs.DeliveryMaps.{inserted}
+use Rattle.bcast_model.proofs.DeliveryLists.{within_missed, within_given, past_end}
+
+module _ {T : Type 0} where
+  -- what a call hands out to the receiver `key`, whose cursor is this: numbered messages from the front on, or Nones before it
+  pub record Gives (is_clone : T → T → Type 0) (h : History T) (key cursor : ℕ) (new : Cursors) (entries : List (Option T)) : Type 0 where
+    pub cursor_after : (get new key ≡ Some (cursor + length entries)) ⊎ ((get new key ≡ None) × (entries ≡ []))
+    pub each : (index : ℕ) (msg : T) → slice_get entries index ≡ Some (Some msg) → IsSomeAnd (numbered h (cursor + index)) (λ accepted. IsGiven is_clone accepted msg)
+    pub kept : (index : ℕ) (msg : T) → slice_get entries index ≡ Some (Some msg) → front_number h ≤ cursor + index
+    pub missed : (index : ℕ) → slice_get entries index ≡ Some None → cursor + index < front_number h
+
+  pub gives_nothing : {is_clone : T → T → Type 0} (h : History T) (key cursor : ℕ) (new : Cursors) → (get new key ≡ Some cursor) ⊎ (get new key ≡ None) → Gives is_clone h key cursor new []
+  gives_nothing h key cursor new after = record {
+    cursor_after = elim after [ inl e ↦ inl (e ∙ ap Some (omega arith)) | inr e ↦ inr (e, refl) ];
+    each = λ index msg e. absurd (none-some (Some msg) e);
+    kept = λ index msg e. absurd (none-some (Some msg) e);
+    missed = λ index e. absurd (none-some None e);
+  }
+
+  some_none : (msg : T) → Some msg ≡ None → ⊥
+  some_none msg e = cc
+
+  gives_overflowed : {is_clone : T → T → Type 0} (h : History T) (key cursor : ℕ) (m : Cursors) → cursor < front_number h → Gives is_clone h key cursor (insert m key (front_number h)) (replicate (front_number h - cursor) None)
+  gives_overflowed h key cursor m low =
+      let size = length-replicate {A = Option T} (front_number h - cursor) None in
+      record {
+        cursor_after = inl (inserted m key (front_number h) ∙ ap Some (omega (arith, size, low)));
+        each = λ index msg e. absurd (some_none msg (within_missed (front_number h - cursor) index (Some msg) e).0);
+        kept = λ index msg e. absurd (some_none msg (within_missed (front_number h - cursor) index (Some msg) e).0);
+        missed = λ index e. let within = (within_missed (front_number h - cursor) index None e).1 in omega (arith, within);
+      }
+
+  -- a message after so many that are skipped
+  gives_message : {is_clone : T → T → Type 0} (h : History T) (key cursor skips : ℕ) (m : Cursors) (msg given : T) → front_number h ≤ cursor + skips → (skips ≡ 0) ⊎ (cursor + skips ≡ front_number h)
+      → numbered h (cursor + skips) ≡ Some msg → IsGiven is_clone msg given → Gives is_clone h key cursor (insert m key (cursor + skips + 1)) (replicate skips None ++ Some given ∷ [])
+  gives_message {is_clone = is_clone} h key cursor skips m msg given low exact there is =
+      let size = length-append {A = Option T} (replicate skips None) (Some given ∷ []) in
+      let skipped_size = length-replicate {A = Option T} skips None in
+      record {
+        cursor_after = inl (inserted m key (cursor + skips + 1) ∙ ap Some (omega (arith, size, skipped_size)));
+        each = λ index x e. elim (within_given skips index given (Some x) e) [
+          | inl within ↦ absurd (some_none x within.0)
+          | inr within ↦ subst (λ n. IsSomeAnd (numbered h (cursor + n)) (λ accepted. IsGiven is_clone accepted x)) (sym within.1)
+              (subst (λ o. IsSomeAnd o (λ accepted. IsGiven is_clone accepted x)) (sym there) (subst (IsGiven is_clone msg) (sym (same_Some x given within.0)) is))
+        ];
+        kept = λ index x e. elim (within_given skips index given (Some x) e) [
+          | inl within ↦ absurd (some_none x within.0)
+          | inr within ↦ omega (arith, within.1, low)
+        ];
+        missed = λ index e. elim (within_given skips index given None e) [
+          | inl within ↦ elim exact [ inl none ↦ omega (arith, none, within.1) | inr at ↦ omega (arith, at, within.1) ]
+          | inr within ↦ absurd (some_none given (sym within.0))
+        ];
+      }
+
+  -- ---- the answers of a receive
+  abbrev pub entries_of : ℕ → Result T TryRecvError → List (Option T)
+  entries_of skips (Ok msg) = replicate skips None ++ Some msg ∷ []
+  entries_of skips (Err (unread.Overflowed n)) = replicate n None
+  entries_of skips (Err unread.Empty) = []
+  entries_of skips (Err unread.Closed) = []
+
+  -- the exact answer, or with a clone in place of the message
+  abbrev pub IsAnswer : (T → T → Type 0) → Result T TryRecvError → Result T TryRecvError → Type 0
+  IsAnswer is_clone exact answer = (answer ≡ exact) ⊎ ((msg : T) × (given : T) × (exact ≡ Ok msg) × is_clone msg given × (answer ≡ Ok given))
+
+  pub ok_err : {A : Type 0} (msg : T) (error : TryRecvError) → ◌≡◌ {A = Result T TryRecvError} (Err error) (Ok msg) → A
+  ok_err msg error e = cc
+
+  same_Ok : (x y : T) → ◌≡◌ {A = Result T TryRecvError} (Ok x) (Ok y) → x ≡ y
+  same_Ok x y e = cc
+
+  nothing_found : (skips : ℕ) (closed : Bool) → entries_of skips (found closed None) ≡ []
+  nothing_found skips true = refl
+  nothing_found skips false = refl
+
+  pub numbered_past : (h : History T) (n : ℕ) → h.first ≤ n → numbered h n ≡ None → nat_lt n (end_number h) ≡ false
+  numbered_past h n low e =
+      let under : nat_lt n h.first ≡ false = grind (arith, common_steps, low) in
+      let there : slice_get h.accepted (n - h.first) ≡ None = rw under at e in
+      let past = past_end h.accepted (n - h.first) there in
+      grind (arith, common_steps, past, low)
+
+  numbered_within : (h : History T) (n : ℕ) (msg : T) → h.first ≤ n → numbered h n ≡ Some msg → nat_lt n (end_number h) ≡ true
+  numbered_within h n msg low e =
+      let under : nat_lt n h.first ≡ false = grind (arith, common_steps, low) in
+      let there : slice_get h.accepted (n - h.first) ≡ Some msg = rw under at e in
+      let within = slice_get_within h.accepted (n - h.first) msg there in
+      grind (arith, common_steps, within, low)
+
+  gives_found : {is_clone : T → T → Type 0} (h : History T) (key cursor skips : ℕ) (answer : Result T TryRecvError) (o : Option T) → h.first ≤ cursor → cursor_of h key ≡ Some cursor
+      → front_number h ≤ cursor + skips → (skips ≡ 0) ⊎ (cursor + skips ≡ front_number h) → numbered h (cursor + skips) ≡ o → IsAnswer is_clone (found h.control.closed o) answer
+      → Gives is_clone h key cursor (cond (nat_lt (cursor + skips) (end_number h)) (with_cursor h.control key (cursor + skips + 1)) h.control).cursors (entries_of skips answer)
+  gives_found {is_clone = is_clone} h key cursor skips answer None low is from exact there (inl e) =
+      let past : nat_lt (cursor + skips) (end_number h) ≡ false = numbered_past h (cursor + skips) (omega arith) there in
+      rw (e, past) (subst (Gives is_clone h key cursor h.control.cursors) (sym (nothing_found skips h.control.closed)) (gives_nothing h key cursor h.control.cursors (inl is)))
+  gives_found h key cursor skips answer None low is from exact there (inr (msg, given, was, copy, e)) = ok_err msg _ was
+  gives_found h key cursor skips answer (Some msg) low is from exact there (inl e) =
+      let within : nat_lt (cursor + skips) (end_number h) ≡ true = numbered_within h (cursor + skips) msg (omega arith) there in
+      rw (e, within) (gives_message h key cursor skips h.control.cursors msg msg from exact there (inl refl))
+  gives_found {is_clone = is_clone} h key cursor skips answer (Some msg) low is from exact there (inr (original, given, same, copy, e)) =
+      let within : nat_lt (cursor + skips) (end_number h) ≡ true = numbered_within h (cursor + skips) msg (omega arith) there in
+      rw (e, within) (gives_message h key cursor skips h.control.cursors msg given from exact there (inr (subst (λ m. is_clone m given) (sym (same_Ok msg original same)) copy)))
+
+  pub gives_answer : {is_clone : T → T → Type 0} (h : History T) (key cursor skips : ℕ) (answer : Result T TryRecvError) → h.first ≤ cursor → cursor_of h key ≡ Some cursor
+      → (skips ≡ 0) ⊎ (cursor + skips ≡ front_number h) → IsAnswer is_clone (try_recv_reply h (Some (cursor + skips))) answer
+      → Gives is_clone h key cursor (receive (front_number h) (end_number h) h.control key (Some (cursor + skips))).cursors (entries_of skips answer)
+  gives_answer {is_clone = is_clone} h key cursor skips answer low is exact given =
+      elim (nat_lt (cursor + skips) (front_number h)) as (λ b. nat_lt (cursor + skips) (front_number h) ≡ b
+      → IsAnswer is_clone (cond b (Err (unread.Overflowed (front_number h - (cursor + skips)))) (found h.control.closed (numbered h (cursor + skips)))) answer
+      → Gives is_clone h key cursor (cond b (with_cursor h.control key (front_number h)) (cond (nat_lt (cursor + skips) (end_number h)) (with_cursor h.control key (cursor + skips + 1)) h.control)).cursors (entries_of skips answer)) [
+        | true ↦ λ t given.
+            let lags : cursor + skips < front_number h = grind (arith, common_steps, t) in
+            let none : skips ≡ 0 = elim exact [ inl e ↦ e | inr e ↦ absurd (omega (arith, e, lags)) ] in
+            elim given [
+              | inl e ↦ (let same : front_number h - (cursor + skips) ≡ front_number h - cursor = omega (arith, none) in rw (e, same) (gives_overflowed h key cursor h.control.cursors (omega (arith, lags))))
+              | inr (msg, x, was, copy, e) ↦ ok_err msg _ was
+            ]
+        | false ↦ λ t given. gives_found h key cursor skips answer (numbered h (cursor + skips)) low is (grind (arith, common_steps, t)) exact refl given
+      ] refl given

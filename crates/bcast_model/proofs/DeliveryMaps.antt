@@ -1,0 +1,111 @@
+-- Maps of cursors, and how one may differ after a call.
+use Rattle.std.proofs.Common.{◌≡◌, ◌≢◌, ◌⊎◌, inl, inr, ℕ, ◌+◌, ◌≤◌, ◌==◌, Bool, true, false, cond, Option, Some, None, refl, sym, ap, ◌∙◌, subst, arith}
+use Rattle.std.proofs.lemmas.Grind.{common_steps}
+use Rattle.std.proofs.lemmas.Option.{none-some, same_Some}
+use Rattle.std.specs.Cmp.{nat_cmp_total, unsigned_tied}
+use Rattle.std.specs.Ordering.{nat_cmp, eq_by_cmp}
+use Rattle.std.specs.FinMap.{get, insert, remove, get-insert, get-remove}
+use Rattle.bcast_model.specs.Pair.{Pair}
+use Rattle.bcast_model.specs.Control.{Control, Cursors, close, close_if_deserted, is_deserted, accepting, last_end, tell_receivers}
+use Rattle.bcast_model.specs.Receiving.{listens}
+use Rattle.bcast_model.specs.Handles.{begin_send}
+
+-- ---- a map of cursors, at one key
+pub got_insert : (m : Cursors) (key cursor other c : ℕ) → get (insert m key cursor) other ≡ Some c → ((other ≡ key) × (c ≡ cursor)) ⊎ (get m other ≡ Some c)
+got_insert m key cursor other c is =
+    let there = get-insert nat_cmp_total m key cursor other in
+    let tied = unsigned_tied other key in
+    elim (eq_by_cmp nat_cmp other key) as (λ b. eq_by_cmp nat_cmp other key ≡ b → get (insert m key cursor) other ≡ cond b (Some cursor) (get m other) → ((other ≡ key) × (c ≡ cursor)) ⊎ (get m other ≡ Some c)) [
+      | true ↦ λ t e. inl (grind (arith, common_steps, t, tied), same_Some c cursor (sym is ∙ e))
+      | false ↦ λ t e. inr (sym e ∙ is)
+    ] refl there
+
+pub inserted : (m : Cursors) (key cursor : ℕ) → get (insert m key cursor) key ≡ Some cursor
+inserted m key cursor = let tied = unsigned_tied key key in let e = get-insert nat_cmp_total m key cursor key in grind (arith, common_steps, tied, e)
+
+pub inserted_other : (m : Cursors) (key cursor other : ℕ) → other ≢ key → get (insert m key cursor) other ≡ get m other
+inserted_other m key cursor other differs = let tied = unsigned_tied other key in let e = get-insert nat_cmp_total m key cursor other in grind (arith, common_steps, tied, e, differs)
+
+pub got_remove : (m : Cursors) (key other : ℕ) → (get (remove m key) other ≡ get m other) ⊎ (get (remove m key) other ≡ None)
+got_remove m key other =
+    let there = get-remove nat_cmp_total m key other in
+    elim (eq_by_cmp nat_cmp other key) as (λ b. get (remove m key) other ≡ cond b None (get m other) → (get (remove m key) other ≡ get m other) ⊎ (get (remove m key) other ≡ None)) [
+      | true ↦ λ e. inr e
+      | false ↦ λ e. inl e
+    ] there
+
+-- ---- what leaves the cursors as they are
+pub cursors-close : (c : Control) → (close c).cursors ≡ c.cursors
+cursors-close c = elim c.closed as (λ b. (cond b c (close (record c { closed = false }))).cursors ≡ c.cursors) [ true ↦ refl | false ↦ refl ]
+
+pub cursors-close_if_deserted : (c : Control) → (close_if_deserted c).cursors ≡ c.cursors
+cursors-close_if_deserted c = elim (is_deserted c) as (λ b. (cond b (close c) c).cursors ≡ c.cursors) [ true ↦ cursors-close c | false ↦ refl ]
+
+pub cursors-accepting : (c : Control) (end : ℕ) → (accepting c end).cursors ≡ c.cursors
+cursors-accepting c end = elim ((end + 1) == last_end) as (λ b. (cond b (close (tell_receivers c)) (tell_receivers c)).cursors ≡ c.cursors) [ true ↦ cursors-close (tell_receivers c) | false ↦ refl ]
+
+pub cursors-listens : (c : Control) (pair : Pair) (waits : Bool) → (listens c pair waits).cursors ≡ c.cursors
+cursors-listens c pair true = refl
+cursors-listens c pair false = refl
+
+pub cursors-begin_send : (c : Control) (place : Option ℕ) → (begin_send c place).cursors ≡ c.cursors
+cursors-begin_send c None = refl
+cursors-begin_send c (Some place) = refl
+
+-- ---- how a call may change it
+-- of a channel with this front and this end: the cursors stay, one that the call receives for rises,
+-- one is made at the end or where another one stands, or one is gone
+pub data CursorsChange (front end : ℕ) (receives : ℕ → Bool) (old new : Cursors) : Type 0 where
+  stay : new ≡ old → CursorsChange front end receives old new
+  rise : (key from to : ℕ) → receives key ≡ true → get old key ≡ Some from → from ≤ to → (to ≤ front) ⊎ (to ≤ end) → new ≡ insert old key to → CursorsChange front end receives old new
+  make_at_end : (key : ℕ) → get old key ≡ None → new ≡ insert old key end → CursorsChange front end receives old new
+  make_where : (key other at : ℕ) → get old key ≡ None → get old other ≡ Some at → new ≡ insert old key at → CursorsChange front end receives old new
+  leave : (key : ℕ) → new ≡ remove old key → CursorsChange front end receives old new
+
+-- ---- what follows at one receiver
+true_or_false : {A : Type 0} (b : Bool) → b ≡ true → b ≡ false → A
+true_or_false b e f = cc
+
+-- one that the call doesn't receive for stays where it is, or leaves
+pub stands_or_left : (front end : ℕ) (receives : ℕ → Bool) (old new : Cursors) (key cursor : ℕ) → CursorsChange front end receives old new → receives key ≡ false → get old key ≡ Some cursor → (get new key ≡ Some cursor) ⊎ (get new key ≡ None)
+stands_or_left front end receives old new key cursor (stay same) reads is = inl (ap (λ m. get m key) same ∙ is)
+stands_or_left front end receives old new key cursor (rise other from to read found le high same) reads is =
+    inl (ap (λ m. get m key) same ∙ inserted_other old other to key (λ e. true_or_false (receives key) (ap receives e ∙ read) reads) ∙ is)
+stands_or_left front end receives old new key cursor (make_at_end other free same) reads is =
+    inl (ap (λ m. get m key) same ∙ inserted_other old other end key (λ e. none-some cursor (sym free ∙ ap (get old) (sym e) ∙ is)) ∙ is)
+stands_or_left front end receives old new key cursor (make_where made other at free found same) reads is =
+    inl (ap (λ m. get m key) same ∙ inserted_other old made at key (λ e. none-some cursor (sym free ∙ ap (get old) (sym e) ∙ is)) ∙ is)
+stands_or_left front end receives old new key cursor (leave other same) reads is =
+    elim (got_remove old other key) [ inl e ↦ inl (ap (λ m. get m key) same ∙ e ∙ is) | inr e ↦ inr (ap (λ m. get m key) same ∙ e) ]
+
+-- a receiver that stands after a call stands at the end, or one stood there or before it already
+pub record StoodBefore (front end : ℕ) (old : Cursors) (cursor : ℕ) : Type 0 where
+  pub key : ℕ
+  pub before : ℕ
+  pub found : get old key ≡ Some before
+  pub low : before ≤ cursor
+  pub high : (cursor ≤ before) ⊎ ((cursor ≤ front) ⊎ (cursor ≤ end))
+
+stood : (front end : ℕ) (old : Cursors) (key cursor : ℕ) → get old key ≡ Some cursor → StoodBefore front end old cursor
+stood front end old key cursor is = record { key = key; before = cursor; found = is; low = omega arith; high = inl (omega arith) }
+
+inserted_from : (front end : ℕ) (old : Cursors) (key cursor other c : ℕ) → get (insert old key cursor) other ≡ Some c → StoodBefore front end old cursor → StoodBefore front end old c
+inserted_from front end old key cursor other c is before =
+    elim (got_insert old key cursor other c is) [
+      | inl e ↦ subst (StoodBefore front end old) (sym e.1) before
+      | inr e ↦ stood front end old other c e
+    ]
+
+pub came_from : (front end : ℕ) (receives : ℕ → Bool) (old new : Cursors) (key cursor : ℕ) → CursorsChange front end receives old new → get new key ≡ Some cursor → (cursor ≡ end) ⊎ StoodBefore front end old cursor
+came_from front end receives old new key cursor (stay same) is = inr (stood front end old key cursor (ap (λ m. get m key) (sym same) ∙ is))
+came_from front end receives old new key cursor (rise other from to reads found le high same) is =
+    inr (inserted_from front end old other to key cursor (ap (λ m. get m key) (sym same) ∙ is) (record { key = other; before = from; found = found; low = le; high = inr high }))
+came_from front end receives old new key cursor (make_at_end other free same) is =
+    elim (got_insert old other end key cursor (ap (λ m. get m key) (sym same) ∙ is)) [ inl e ↦ inl e.1 | inr e ↦ inr (stood front end old key cursor e) ]
+came_from front end receives old new key cursor (make_where made other at free found same) is =
+    inr (inserted_from front end old made at key cursor (ap (λ m. get m key) (sym same) ∙ is) (stood front end old other at found))
+came_from front end receives old new key cursor (leave other same) is =
+    elim (got_remove old other key) [
+      | inl e ↦ inr (stood front end old key cursor (sym e ∙ ap (λ m. get m key) (sym same) ∙ is))
+      | inr e ↦ absurd (none-some cursor (sym e ∙ ap (λ m. get m key) (sym same) ∙ is))
+    ]

@@ -1,0 +1,46 @@
+-- the lists of who waits
+pub mod Lists
+pub mod Listeners
+pub mod Tests
+pub mod WaitingSends
+pub mod WaitingReceives
+-- what the parts of a call keep
+pub mod Least
+pub mod Cases
+pub mod Sound
+pub mod Views
+pub mod Lift
+pub mod Kept
+-- the calls
+pub mod Sends
+pub mod Receives
+pub mod Leaving
+pub mod Making
+pub mod Calls
+-- histories and what is seen of them
+pub mod Replies
+pub mod Changes
+pub mod Answers
+pub mod Witness
+pub mod Opening
+-- the laws
+pub mod Clones
+pub mod Given
+pub mod Polls
+pub mod ListLaws
+-- what a run gives its receivers
+pub mod DeliveryLists
+pub mod DeliveryMaps
+pub mod DeliveryCursors
+pub mod DeliveryAnswers
+pub mod DeliverySteps
+pub mod DeliveryMessages
+pub mod DeliveryLemmas
+pub mod TilingFront
+pub mod TilingSends
+pub mod TilingFloor
+pub mod TilingCapacity
+pub mod TilingNumbers
+pub mod TilingSteps
+pub mod TilingRuns
+pub mod TilingLemmas

@@ -1,0 +1,137 @@
+-- What a call does to what is seen, it does to each valid history that shows it, and this stays valid.
+use Rattle.std.proofs.Common.{◌≡◌, ◌⊎◌, inl, inr, ℕ, ◌+◌, ◌-◌, ◌<◌, ◌≤◌, Bool, true, false, cond, ◌&&◌, ◌++◌, length, max, drop, refl, sym, ap, ◌∙◌, subst, arith, length-append}
+use Rattle.std.proofs.lemmas.List.{drop-drop, drop-append-le}
+use Rattle.std.proofs.lemmas.Bool.{cases_lt}
+use Rattle.std.specs.FinMap.{len, values}
+use Rattle.std.specs.List.{AllByRecursion}
+use Rattle.bcast_model.specs.Listeners.{Listeners, untold_ids, tell}
+use Rattle.bcast_model.specs.Control.{Control, tell_a_sender}
+use Rattle.bcast_model.specs.History.{History, least, end_number, front_number, queue_of, sends_are_ready, with_control}
+use Rattle.bcast_model.specs.Next.{tell_if_ready}
+use Rattle.bcast_model.specs.Valid.{IsValid, IsValidControl, MaySleep}
+use Rattle.bcast_model.specs.View.{View, view_of}
+use Rattle.bcast_model.specs.Seen.{Effect, is_ready_seen, remember, settle, tell_if_ready_seen}
+use Rattle.bcast_model.specs.Laws.{IsValidView}
+use Rattle.bcast_model.proofs.Lists.{all_more}
+use Rattle.bcast_model.proofs.Least.{least-le-limit, least-le-cursor, least-greatest}
+use Rattle.bcast_model.proofs.Cases.{tell_is}
+use Rattle.bcast_model.proofs.WaitingSends.{OneIsTold, AreSends, sends_told}
+use Rattle.bcast_model.proofs.WaitingReceives.{Sleeps, AreReceives}
+use Rattle.bcast_model.proofs.Sound.{AreSizes, IsAttended, IsNoLower, IsSound}
+use Rattle.bcast_model.proofs.Views.{front_of-settled, valid_front, first_under, valid_view}
+
+-- an effect that keeps a history valid, where a sender is told at the end of the call as it says
+pub record KeepsValid {T : Type 0} (v : View T) (e : Effect T) (may : Bool) : Type 0 where
+  pub floor : (e.floor ≡ 0) ⊎ (e.floor < v.end + length e.accepted)
+  pub fits : length (settle v e).queue ≤ e.control.capacity
+  pub sound : IsSound v (v.end + length e.accepted) e.control
+  pub attended : IsAttended e.control.closed e.control.senders (len e.control.cursors) e.control.inactive (v.end + length e.accepted)
+  pub told : may ≡ false → is_ready_seen (settle v e) ≡ true → OneIsTold e.control.waiting_sends
+
+-- the parts make up all that is valid
+pub valid_control : (c : Control) (end : ℕ) → AreSizes c.capacity c.room (len c.cursors) c.senders c.inactive end → IsAttended c.closed c.senders (len c.cursors) c.inactive end
+    → AreSends c.places c.waiting_sends → AreReceives c.cursors c.closed end c.waiting_receives → IsValidControl c end
+valid_control c end sizes attended sends receives = record {
+  capacity = sizes.positive;
+  room = sizes.within;
+  room_fits = sizes.room_fits;
+  receivers_fit = sizes.receivers_fit;
+  senders_fit = sizes.senders_fit;
+  inactive_fit = sizes.inactive_fit;
+  sender = attended.sender;
+  receiver = attended.receiver;
+  end_fits = sizes.end_fits;
+  open_end = attended.open_end;
+  lists = record { sends = sends.in_order; receives = receives.in_order; places = sends.placed; keys = receives.keyed };
+}
+
+pub may_sleep : (c : Control) (end : ℕ) → AreReceives c.cursors c.closed end c.waiting_receives → AllByRecursion (MaySleep c end) (untold_ids c.waiting_receives)
+may_sleep c end receives = all_more (Sleeps c.cursors c.closed end) (MaySleep c end) (untold_ids c.waiting_receives) (λ pair s. record { at_end = s.0; is_open = s.1 }) receives.asleep
+
+not_may : (may ready : Bool) → (may && ready) ≡ false → ready ≡ true → may ≡ false
+not_may true ready untold e = cc
+not_may false ready untold e = refl
+
+module _ {T : Type 0} where
+  pub same_view : (v w : View T) → v.front ≡ w.front → v.queue ≡ w.queue → v.end ≡ w.end → v.control ≡ w.control → v ≡ w
+  same_view v w front queue end control = λ i. record { front = front i; queue = queue i; end = end i; control = control i }
+
+  -- no cursor falls under the least one
+  rises : (v : View T) (e : Effect T) (may : Bool) → IsValidView v → KeepsValid v e may → least v.end (values v.control.cursors) ≤ least (v.end + length e.accepted) (values e.control.cursors)
+  rises v e may valid keeps =
+      let limit = least-le-limit v.end (values v.control.cursors) in
+      let low = valid.low in
+      least-greatest (least v.end (values v.control.cursors)) (v.end + length e.accepted) e.control.cursors (omega arith) (λ key cursor f. elim (keeps.sound.cursors key cursor f).1 [
+        | inl a ↦ omega arith
+        | inr a ↦ (let m = least-le-cursor v.end v.control.cursors a.0 a.1 a.2 in omega (arith, m, a.3))
+      ])
+
+  -- a history without what is said of wake-ups
+  floor_raised : (h : History T) (e : Effect T) → IsValid h → (e.floor ≡ 0) ⊎ (e.floor < end_number h + length e.accepted) → (max h.floor e.floor ≡ h.first) ⊎ (max h.floor e.floor < end_number h + length e.accepted)
+  floor_raised h e valid s = elim s [
+    | inl p ↦ elim valid.floor_below [ inl m ↦ inl (omega arith) | inr m ↦ inr (omega arith) ]
+    | inr p ↦ elim valid.floor_below [ inl m ↦ elim (cases_lt h.first e.floor) [ inl a ↦ inr (omega arith) | inr a ↦ inl (omega arith) ] | inr m ↦ inr (omega arith) ]
+  ]
+
+  view_of-tell : (may : Bool) (h : History T) → view_of (tell_if_ready may h) ≡ tell_if_ready_seen may (view_of h)
+  view_of-tell may h = elim (may && sends_are_ready h) as (λ b. view_of (cond b (with_control h (tell_a_sender h.control)) h) ≡ cond b (record (view_of h) { control = tell_a_sender h.control }) (view_of h)) [ true ↦ refl | false ↦ refl ]
+
+  module _ (h : History T) (e : Effect T) (may : Bool) (valid : IsValid h) (keeps : KeepsValid (view_of h) e may) where
+    end-remember : end_number (remember h e) ≡ end_number h + length e.accepted
+    end-remember = omega (arith, length-append h.accepted e.accepted)
+
+    floor_high : max h.floor e.floor ≤ end_number h + length e.accepted
+    floor_high = elim keeps.floor [ inl a ↦ omega (arith, valid.floor_high) | inr a ↦ omega (arith, valid.floor_high) ]
+
+    front-remember : front_number (remember h e) ≡ (settle (view_of h) e).front
+    front-remember =
+        let settled = front_of-settled (max h.floor e.floor) (end_number h + length e.accepted) e.control.cursors floor_high (λ key cursor f. (keeps.sound.cursors key cursor f).0) in
+        let up = rises (view_of h) e may (valid_view h valid) keeps in
+        let was = valid_front h valid in
+        rw end-remember (omega (arith, settled, up, was))
+
+    pub view_of-remember : view_of (remember h e) ≡ settle (view_of h) e
+    view_of-remember =
+        let low = first_under h valid in
+        let view = valid_view h valid in
+        let high : front_number h - h.first ≤ length h.accepted = omega (arith, view.high) in
+        let new : ℕ = (settle (view_of h) e).front in
+        let up : (front_number h - h.first) + (new - front_number h) ≡ new - h.first = omega (arith, low) in
+        let queue : queue_of (remember h e) ≡ (settle (view_of h) e).queue =
+        ap (λ n. drop (n - h.first) (h.accepted ++ e.accepted)) front-remember
+        ∙ ap (λ n. drop n (h.accepted ++ e.accepted)) (sym up)
+        ∙ sym (drop-drop (new - front_number h) (front_number h - h.first) (h.accepted ++ e.accepted))
+        ∙ ap (drop (new - front_number h)) (drop-append-le (front_number h - h.first) h.accepted e.accepted high) in
+        same_view (view_of (remember h e)) (settle (view_of h) e) front-remember queue end-remember refl
+
+    above_first : (cursor : ℕ) → IsNoLower (view_of h) cursor → h.first ≤ cursor
+    above_first cursor s =
+        let low = first_under h valid in
+        elim s [ inl p ↦ omega arith | inr p ↦ (let k = (valid.cursors p.0 p.1 p.2).0 in omega (arith, k, p.3)) ]
+
+    -- it is valid with this list of waiting sends
+    valid_with : (l : Listeners ℕ) → AreSends e.control.places l → (sends_are_ready (remember h e) ≡ true → OneIsTold l) → IsValid (with_control (remember h e) (record e.control { waiting_sends = l }))
+    valid_with l sends one =
+        let c : Control = record e.control { waiting_sends = l } in
+        let below : (max h.floor e.floor ≡ h.first) ⊎ (max h.floor e.floor < end_number h + length e.accepted) = floor_raised h e valid keeps.floor in
+        record {
+          floor_low = omega (arith, valid.floor_low);
+          floor_high = rw end-remember floor_high;
+          floor_below = rw end-remember below;
+          cursors = λ key cursor f. (let s = keeps.sound.cursors key cursor f in (above_first cursor s.1, rw end-remember (s.0)));
+          fits = subst (λ n. n ≤ e.control.capacity) (sym (ap (λ (v : View T). length v.queue) view_of-remember)) keeps.fits;
+          control = subst (IsValidControl c) (sym end-remember) (valid_control c (end_number h + length e.accepted) keeps.sound.sizes keeps.attended sends keeps.sound.receives);
+          awake = record {
+            receives = subst (λ n. AllByRecursion (MaySleep c n) (untold_ids c.waiting_receives)) (sym end-remember) (may_sleep c (end_number h + length e.accepted) keeps.sound.receives);
+            sends = one;
+          };
+        }
+
+    -- so it is valid after a sender was told as the call says
+    pub valid_told : IsValid (tell_if_ready may (remember h e))
+    valid_told = tell_is IsValid may (remember h e)
+        (λ _. valid_with (tell 1 e.control.waiting_sends) (sends_told e.control.places 1 e.control.waiting_sends keeps.sound.sends) (λ ready some. omega arith))
+        (λ untold. valid_with e.control.waiting_sends keeps.sound.sends (λ ready. keeps.told (not_may may (sends_are_ready (remember h e)) untold ready) (sym (ap is_ready_seen view_of-remember) ∙ ready)))
+
+    pub view_of-told : view_of (tell_if_ready may (remember h e)) ≡ tell_if_ready_seen may (settle (view_of h) e)
+    view_of-told = view_of-tell may (remember h e) ∙ ap (tell_if_ready_seen may) view_of-remember

@@ -1,0 +1,144 @@
+-- Lists of listeners: they stay in order, who is not told, and that one is told.
+use Rattle.std.proofs.Common.{◌≡◌, ℕ, ◌+◌, ◌-◌, ◌<◌, ◌≤◌, Bool, true, false, cond, ◌||◌, List, [], ◌∷◌, ◌++◌, length, min, max, take, drop, refl, sym, ap, ◌∙◌, subst, arith, length-append}
+use Rattle.std.proofs.lemmas.List.{length-take, take-append-drop, drop_at, drop-append-le, drop_all}
+use Rattle.std.specs.List.{AllByRecursion}
+use Rattle.bcast_model.specs.Listeners.{Listeners, told_ids, untold_ids, is_in, without, tell, tell_all, join, consume, abandon, wait_again, IsDistinct, AreInOrder, IsTest}
+use Rattle.bcast_model.proofs.Lists.{all_more, all_fewer, all_append, all_later, all_without, all_absent, absent, some, without-append, in-append, distinct_left, distinct_without, length-without}
+
+module _ {A : Type 0} (same : A → A → Bool) (test : IsTest same) where
+  -- taking an id out of the told and the untold part
+  pub consume-is : (id : A) (l : Listeners A) → AreInOrder same l →
+      consume same id l ≡ record { ids = without same id (told_ids l) ++ without same id (untold_ids l); told = length (without same id (told_ids l)) }
+  consume-is id l o =
+      let split : take l.told l.ids ++ drop l.told l.ids ≡ l.ids = take-append-drop l.told l.ids in
+      let ids : without same id l.ids ≡ without same id (take l.told l.ids) ++ without same id (drop l.told l.ids) =
+      ap (without same id) (sym split) ∙ without-append same id (take l.told l.ids) (drop l.told l.ids) in
+      let d : IsDistinct same (take l.told l.ids) = distinct_left same (take l.told l.ids) (drop l.told l.ids) (subst (IsDistinct same) (sym split) o.distinct) in
+      let n : length (take l.told l.ids) ≡ l.told = omega (arith, length-take l.told l.ids, o.told) in
+      let shorter = length-without same test id (take l.told l.ids) d in
+      let t : length (without same id (take l.told l.ids)) ≡ cond (is_in same id (take l.told l.ids)) (l.told - 1) l.told = subst (λ k. length (without same id (take l.told l.ids)) ≡ cond (is_in same id (take l.told l.ids)) (k - 1) k) n shorter in
+      λ i. record { ids = ids i; told = sym t i }
+
+  pub untold-consume : (id : A) (l : Listeners A) → AreInOrder same l → untold_ids (consume same id l) ≡ without same id (untold_ids l)
+  untold-consume id l o = ap untold_ids (consume-is id l o) ∙ drop_at (without same id (told_ids l)) (without same id (untold_ids l)) (length (without same id (told_ids l))) refl
+
+  pub in_order_consume : (id : A) (l : Listeners A) → AreInOrder same l → AreInOrder same (consume same id l)
+  in_order_consume id l o = record {
+    distinct = distinct_without same id l.ids o.distinct;
+    told = subst (λ (u : Listeners A). u.told ≤ length u.ids) (sym (consume-is id l o)) (omega (arith, length-append (without same id (told_ids l)) (without same id (untold_ids l))));
+  }
+
+  pub flips : (id other : A) → same id other ≡ false → same other id ≡ false
+  flips id other h = elim (same other id) as (λ b. same other id ≡ b → b ≡ false) [
+    | true ↦ λ e. let s : other ≡ id = test.no other id e in let t : same id other ≡ true = subst (λ z. same id z ≡ true) (sym s) (test.yes id) in cc
+    | false ↦ λ e. refl
+  ] refl
+
+  distinct_join : (id : A) (ids : List A) → IsDistinct same ids → is_in same id ids ≡ false → IsDistinct same (ids ++ id ∷ [])
+  distinct_join id [] d h = (tt, tt)
+  distinct_join id (other ∷ ids) d h =
+      let a = all_absent same id (other ∷ ids) h in
+      (all_append (λ z. same other z ≡ false) ids (id ∷ []) d.0 (flips id other a.0, tt), distinct_join id ids d.1 (absent same id ids a.1))
+
+  pub absent_without : (id : A) (ids : List A) → is_in same id (without same id ids) ≡ false
+  absent_without id [] = refl
+  absent_without id (other ∷ ids) = elim (same id other) as (λ b. same id other ≡ b → is_in same id (cond b (without same id ids) (other ∷ without same id ids)) ≡ false) [
+    | true ↦ λ e. absent_without id ids
+    | false ↦ λ e. rw e (absent_without id ids)
+  ] refl
+
+  pub consume_listed : (id : A) (l : Listeners A) → AreInOrder same l → is_in same id l.ids ≡ true → length (consume same id l).ids + 1 ≡ length l.ids
+  consume_listed id l o i =
+      let s = some same id l.ids i in
+      let e : length (without same id l.ids) ≡ cond (is_in same id l.ids) (length l.ids - 1) (length l.ids) = length-without same test id l.ids o.distinct in
+      let f : length (without same id l.ids) ≡ length l.ids - 1 = rw i at e in
+      omega arith
+
+  -- an id that is told is listed, and is not among the untold
+  pub told_listed : (id : A) (l : Listeners A) → is_in same id (told_ids l) ≡ true → is_in same id l.ids ≡ true
+  told_listed id l h =
+      let e = in-append same id (take l.told l.ids) (drop l.told l.ids) in
+      let f : is_in same id (take l.told l.ids ++ drop l.told l.ids) ≡ true = e ∙ ap (λ b. b || is_in same id (drop l.told l.ids)) h in
+      subst (λ ids. is_in same id ids ≡ true) (take-append-drop l.told l.ids) f
+
+  pub told_some : (id : A) (l : Listeners A) → is_in same id (told_ids l) ≡ true → 1 ≤ l.told
+  told_some id l h = let s = some same id (take l.told l.ids) h in omega (arith, length-take l.told l.ids)
+
+  -- ---- who is untold
+  pub untold_tell : (P : A → Type 0) (n : ℕ) (l : Listeners A) → AllByRecursion P (untold_ids l) → AllByRecursion P (untold_ids (tell n l))
+  untold_tell P n l a = all_later P l.told (max l.told (min n (length l.ids))) l.ids (omega arith) a
+
+  pub untold_tell_all : (P : A → Type 0) (l : Listeners A) → AllByRecursion P (untold_ids (tell_all l))
+  untold_tell_all P l = subst (AllByRecursion P) (sym (drop_all (length l.ids) l.ids (omega arith))) tt
+
+  pub untold_consume : (P : A → Type 0) (id : A) (l : Listeners A) → AreInOrder same l → AllByRecursion P (untold_ids l) → AllByRecursion (λ other. P other × (same id other ≡ false)) (untold_ids (consume same id l))
+  untold_consume P id l o a = subst (AllByRecursion (λ other. P other × (same id other ≡ false))) (sym (untold-consume id l o)) (all_without same P id (untold_ids l) a)
+
+  pub untold_abandon : (P : A → Type 0) (id : A) (l : Listeners A) → AreInOrder same l → AllByRecursion P (untold_ids l) → AllByRecursion (λ other. P other × (same id other ≡ false)) (untold_ids (abandon same id l))
+  untold_abandon P id l o a =
+      let u = untold_consume P id l o a in
+      elim (is_in same id (told_ids l)) as (λ b. AllByRecursion (λ other. P other × (same id other ≡ false)) (untold_ids (cond b (tell 1 (consume same id l)) (consume same id l)))) [
+        | true ↦ untold_tell (λ other. P other × (same id other ≡ false)) 1 (consume same id l) u
+        | false ↦ u
+      ]
+
+  pub untold_waits : (P : A → Type 0) (id : A) (l : Listeners A) → AreInOrder same l → P id → AllByRecursion P (untold_ids l) → AllByRecursion P (untold_ids (wait_again same id l))
+  untold_waits P id l o p a =
+      let u = untold_consume P id l o a in
+      let s = in_order_consume id l o in
+      elim (is_in same id (untold_ids l)) as (λ b. AllByRecursion P (untold_ids (cond b l (join id (consume same id l))))) [
+        | true ↦ a
+        | false ↦ subst (AllByRecursion P) (sym (drop-append-le (consume same id l).told (consume same id l).ids (id ∷ []) s.told))
+            (all_append P (untold_ids (consume same id l)) (id ∷ []) (all_more (λ other. P other × (same id other ≡ false)) P (untold_ids (consume same id l)) (λ other q. q.0) u) (p, tt))
+      ]
+
+  -- ---- the lists stay in order
+  pub in_order_tell : (n : ℕ) (l : Listeners A) → AreInOrder same l → AreInOrder same (tell n l)
+  in_order_tell n l o = record { distinct = o.distinct; told = omega (arith, o.told) }
+
+  pub in_order_tell_all : (l : Listeners A) → AreInOrder same l → AreInOrder same (tell_all l)
+  in_order_tell_all l o = record { distinct = o.distinct; told = omega arith }
+
+  pub in_order_join : (id : A) (l : Listeners A) → is_in same id l.ids ≡ false → AreInOrder same l → AreInOrder same (join id l)
+  in_order_join id l h o = record { distinct = distinct_join id l.ids o.distinct h; told = omega (arith, o.told, length-append l.ids (id ∷ [])) }
+
+  pub in_order_abandon : (id : A) (l : Listeners A) → AreInOrder same l → AreInOrder same (abandon same id l)
+  in_order_abandon id l o = elim (is_in same id (told_ids l)) as (λ b. AreInOrder same (cond b (tell 1 (consume same id l)) (consume same id l))) [
+    | true ↦ in_order_tell 1 (consume same id l) (in_order_consume id l o)
+    | false ↦ in_order_consume id l o
+  ]
+
+  pub in_order_waits : (id : A) (l : Listeners A) → AreInOrder same l → AreInOrder same (wait_again same id l)
+  in_order_waits id l o = elim (is_in same id (untold_ids l)) as (λ b. AreInOrder same (cond b l (join id (consume same id l)))) [
+    | true ↦ o
+    | false ↦ in_order_join id (consume same id l) (absent_without id l.ids) (in_order_consume id l o)
+  ]
+
+  -- ---- one is told
+  pub one_tell : (l : Listeners A) → 0 < length (tell 1 l).ids → 1 ≤ (tell 1 l).told
+  one_tell l h = omega arith
+
+  pub fewer : (id : A) (l : Listeners A) → AreInOrder same l → length (consume same id l).ids ≤ length l.ids
+  fewer id l o = elim (is_in same id l.ids) as (λ b. length (without same id l.ids) ≡ cond b (length l.ids - 1) (length l.ids) → length (without same id l.ids) ≤ length l.ids) [
+    | true ↦ λ e. omega arith
+    | false ↦ λ e. omega arith
+  ] (length-without same test id l.ids o.distinct)
+
+  pub one_abandon : (id : A) (l : Listeners A) → AreInOrder same l → (0 < length l.ids → 1 ≤ l.told) → 0 < length (abandon same id l).ids → 1 ≤ (abandon same id l).told
+  one_abandon id l o one = elim (is_in same id (told_ids l)) as (λ b. is_in same id (told_ids l) ≡ b → 0 < length (cond b (tell 1 (consume same id l)) (consume same id l)).ids → 1 ≤ (cond b (tell 1 (consume same id l)) (consume same id l)).told) [
+    | true ↦ λ e h. omega arith
+    | false ↦ λ e h. let f = fewer id l o in let g : 1 ≤ l.told = one (omega arith) in rw e g
+  ] refl
+
+  -- ---- who is left
+  pub abandon_ids : (id : A) (l : Listeners A) → (abandon same id l).ids ≡ without same id l.ids
+  abandon_ids id l = elim (is_in same id (told_ids l)) as (λ b. (cond b (tell 1 (consume same id l)) (consume same id l)).ids ≡ without same id l.ids) [ true ↦ refl | false ↦ refl ]
+
+  pub all_abandon : (P : A → Type 0) (id : A) (l : Listeners A) → AllByRecursion P l.ids → AllByRecursion (λ other. P other × (same id other ≡ false)) (abandon same id l).ids
+  all_abandon P id l a = subst (AllByRecursion (λ other. P other × (same id other ≡ false))) (sym (abandon_ids id l)) (all_without same P id l.ids a)
+
+  pub all_waits : (P : A → Type 0) (id : A) (l : Listeners A) → P id → AllByRecursion P l.ids → AllByRecursion P (wait_again same id l).ids
+  all_waits P id l p a = elim (is_in same id (untold_ids l)) as (λ b. AllByRecursion P (cond b l (join id (consume same id l))).ids) [
+    | true ↦ a
+    | false ↦ all_append P (without same id l.ids) (id ∷ []) (all_fewer same P id l.ids a) (p, tt)
+  ]

@@ -1,0 +1,114 @@
+-- Lists of ids: what holds of each, and a list without an id.
+use Rattle.std.proofs.Common.{◌≡◌, ℕ, zero, suc, ◌+◌, ◌-◌, ◌<◌, ◌≤◌, Bool, true, false, cond, ◌||◌, List, [], ◌∷◌, ◌++◌, length, drop, refl, sym, ap, ◌∙◌, subst, arith}
+use Rattle.std.proofs.lemmas.List.{drop-drop}
+use Rattle.std.specs.List.{AllByRecursion}
+use Rattle.bcast_model.specs.Listeners.{is_in, without, IsDistinct, IsTest}
+
+module _ {A : Type 0} where
+  pub all_more : (P Q : A → Type 0) (ids : List A) → ((id : A) → P id → Q id) → AllByRecursion P ids → AllByRecursion Q ids
+  all_more P Q [] f a = a
+  all_more P Q (id ∷ ids) f a = (f id a.0, all_more P Q ids f a.1)
+
+  pub both_left : (P Q : A → Type 0) (ids : List A) → AllByRecursion (λ id. P id × Q id) ids → AllByRecursion P ids
+  both_left P Q ids a = all_more (λ id. P id × Q id) P ids (λ id p. p.0) a
+
+  pub all_append : (P : A → Type 0) (ids others : List A) → AllByRecursion P ids → AllByRecursion P others → AllByRecursion P (ids ++ others)
+  all_append P [] others a b = b
+  all_append P (id ∷ ids) others a b = (a.0, all_append P ids others a.1 b)
+
+  pub all_left : (P : A → Type 0) (ids others : List A) → AllByRecursion P (ids ++ others) → AllByRecursion P ids
+  all_left P [] others a = tt
+  all_left P (id ∷ ids) others a = (a.0, all_left P ids others a.1)
+
+  pub all_right : (P : A → Type 0) (ids others : List A) → AllByRecursion P (ids ++ others) → AllByRecursion P others
+  all_right P [] others a = a
+  all_right P (id ∷ ids) others a = all_right P ids others a.1
+
+  pub all_dropped : (P : A → Type 0) (n : ℕ) (ids : List A) → AllByRecursion P ids → AllByRecursion P (drop n ids)
+  all_dropped P zero ids a = a
+  all_dropped P (suc n) [] a = a
+  all_dropped P (suc n) (id ∷ ids) a = all_dropped P n ids a.1
+
+  -- what holds after fewer holds after more
+  pub all_later : (P : A → Type 0) (n m : ℕ) (ids : List A) → n ≤ m → AllByRecursion P (drop n ids) → AllByRecursion P (drop m ids)
+  all_later P n m ids h a =
+      let e : n + (m - n) ≡ m = omega arith in
+      subst (λ k. AllByRecursion P (drop k ids)) e (subst (AllByRecursion P) (drop-drop (m - n) n ids) (all_dropped P (m - n) (drop n ids) a))
+
+  module _ (same : A → A → Bool) where
+    pub without-append : (id : A) (ids others : List A) → without same id (ids ++ others) ≡ without same id ids ++ without same id others
+    without-append id [] others = refl
+    without-append id (other ∷ ids) others = elim (same id other) as (λ b. cond b (without same id (ids ++ others)) (other ∷ without same id (ids ++ others)) ≡ cond b (without same id ids) (other ∷ without same id ids) ++ without same id others) [
+      | true ↦ without-append id ids others
+      | false ↦ ap (λ rest. other ∷ rest) (without-append id ids others)
+    ]
+
+    pub in-append : (id : A) (ids others : List A) → is_in same id (ids ++ others) ≡ (is_in same id ids || is_in same id others)
+    in-append id [] others = refl
+    in-append id (other ∷ ids) others = elim (same id other) as (λ b. (b || is_in same id (ids ++ others)) ≡ ((b || is_in same id ids) || is_in same id others)) [
+      | true ↦ refl
+      | false ↦ in-append id ids others
+    ]
+
+    pub without_absent : (id : A) (ids : List A) → is_in same id ids ≡ false → without same id ids ≡ ids
+    without_absent id [] h = refl
+    without_absent id (other ∷ ids) h = elim (same id other) as (λ b. (b || is_in same id ids) ≡ false → cond b (without same id ids) (other ∷ without same id ids) ≡ other ∷ ids) [
+      | true ↦ λ h. cc
+      | false ↦ λ h. ap (λ rest. other ∷ rest) (without_absent id ids h)
+    ] h
+
+    pub all_without : (P : A → Type 0) (id : A) (ids : List A) → AllByRecursion P ids → AllByRecursion (λ other. P other × (same id other ≡ false)) (without same id ids)
+    all_without P id [] a = a
+    all_without P id (other ∷ ids) a = elim (same id other) as (λ b. same id other ≡ b → AllByRecursion (λ other. P other × (same id other ≡ false)) (cond b (without same id ids) (other ∷ without same id ids))) [
+      | true ↦ λ e. all_without P id ids a.1
+      | false ↦ λ e. ((a.0, e), all_without P id ids a.1)
+    ] refl
+
+    pub all_fewer : (P : A → Type 0) (id : A) (ids : List A) → AllByRecursion P ids → AllByRecursion P (without same id ids)
+    all_fewer P id ids a = both_left P (λ other. same id other ≡ false) (without same id ids) (all_without P id ids a)
+
+    -- what differs from each of a list is not in it
+    pub absent : (id : A) (ids : List A) → AllByRecursion (λ other. same id other ≡ false) ids → is_in same id ids ≡ false
+    absent id [] a = refl
+    absent id (other ∷ ids) a = rw a.0 (absent id ids a.1)
+
+    pub all_absent : (id : A) (ids : List A) → is_in same id ids ≡ false → AllByRecursion (λ other. same id other ≡ false) ids
+    all_absent id [] h = tt
+    all_absent id (other ∷ ids) h = elim (same id other) as (λ b. same id other ≡ b → (b || is_in same id ids) ≡ false → AllByRecursion (λ other. same id other ≡ false) (other ∷ ids)) [
+      | true ↦ λ e h. cc
+      | false ↦ λ e h. (e, all_absent id ids h)
+    ] refl h
+
+    pub some : (id : A) (ids : List A) → is_in same id ids ≡ true → 0 < length ids
+    some id [] h = cc
+    some id (other ∷ ids) h = omega arith
+
+    pub distinct_left : (ids others : List A) → IsDistinct same (ids ++ others) → IsDistinct same ids
+    distinct_left [] others d = tt
+    distinct_left (id ∷ ids) others d = (all_left (λ other. same id other ≡ false) ids others d.0, distinct_left ids others d.1)
+
+    pub distinct_right : (ids others : List A) → IsDistinct same (ids ++ others) → IsDistinct same others
+    distinct_right [] others d = d
+    distinct_right (id ∷ ids) others d = distinct_right ids others d.1
+
+    pub distinct_without : (id : A) (ids : List A) → IsDistinct same ids → IsDistinct same (without same id ids)
+    distinct_without id [] d = d
+    distinct_without id (other ∷ ids) d = elim (same id other) as (λ b. IsDistinct same (cond b (without same id ids) (other ∷ without same id ids))) [
+      | true ↦ distinct_without id ids d.1
+      | false ↦ (all_more (λ z. (same other z ≡ false) × (same id z ≡ false)) (λ z. same other z ≡ false) (without same id ids) (λ z p. p.0) (all_without (λ z. same other z ≡ false) id ids d.0), distinct_without id ids d.1)
+    ]
+
+    module _ (test : IsTest same) where
+      -- a list without doubles loses one element at most
+      pub length-without : (id : A) (ids : List A) → IsDistinct same ids → length (without same id ids) ≡ cond (is_in same id ids) (length ids - 1) (length ids)
+      length-without id [] d = refl
+      length-without id (other ∷ ids) d = elim (same id other) as (λ b. same id other ≡ b → length (cond b (without same id ids) (other ∷ without same id ids)) ≡ cond (b || is_in same id ids) (length (other ∷ ids) - 1) (length (other ∷ ids))) [
+        | true ↦ λ e.
+            let s : other ≡ id = sym (test.no id other e) in
+            let out : is_in same id ids ≡ false = subst (λ z. is_in same z ids ≡ false) s (absent other ids d.0) in
+            ap length (without_absent id ids out) ∙ omega arith
+        | false ↦ λ e. elim (is_in same id ids) as (λ b. is_in same id ids ≡ b → length (without same id ids) ≡ cond b (length ids - 1) (length ids) → suc (length (without same id ids)) ≡ cond b (length (other ∷ ids) - 1) (length (other ∷ ids))) [
+          | true ↦ λ i r. let more = some id ids i in omega arith
+          | false ↦ λ i r. ap suc r
+        ] refl (length-without id ids d.1)
+      ] refl

@@ -1,0 +1,118 @@
+-- A poll waits exactly where its try finds nothing to answer.
+use Rattle.std.proofs.Common.{◌≡◌, inl, inr, ℕ, ◌<◌, ◌≤◌, Bool, true, false, cond, not, ◌&&◌, ◌||◌, max, Option, Some, None, Result, Ok, Err, refl, sym, ap, ◌∙◌, arith}
+use Rattle.std.proofs.lemmas.Bool.{cases_lt}
+use Rattle.std.specs.Prelude.{alloc_error}
+use Rattle.std.specs.FinMap.{get}
+use Rattle.bcast_model.specs.declared.error.TrySendError.{TrySendError}
+use Rattle.bcast_model.specs.declared.error.TrySendError.TheVariants as unsent
+use Rattle.bcast_model.specs.declared.error.TryRecvError.{TryRecvError}
+use Rattle.bcast_model.specs.declared.error.TryRecvError.TheVariants as unread
+use Rattle.bcast_model.specs.declared.run.SendPoll.TheVariants as send
+use Rattle.bcast_model.specs.declared.run.Call.TheVariants as call
+use Rattle.bcast_model.specs.declared.run.Reply.{Reply}
+use Rattle.bcast_model.specs.declared.run.Reply.TheVariants as reply
+use Rattle.bcast_model.specs.Control.{has_place, has_no_receiver}
+use Rattle.bcast_model.specs.History.{History, front_number, is_full, sends_are_ready, cursor_of}
+use Rattle.bcast_model.specs.Sending.{refusal, sent, attempted, handed_back, attempt_send_reply, try_broadcast_reply}
+use Rattle.bcast_model.specs.Receiving.{is_empty_reply, skipped, skipped_to, future_reply, stream_reply, next_reply, try_recv_reply}
+use Rattle.bcast_model.specs.Legal.{Legal, IsReceived, IsOwed}
+use Rattle.bcast_model.specs.Next.{found_no_memory}
+use Rattle.bcast_model.specs.Valid.{IsValid}
+use Rattle.bcast_model.specs.View.{View, view_of}
+use Rattle.bcast_model.specs.Seen.{try_recv_seen}
+use Rattle.bcast_model.specs.Laws.{IsValidView, must_wait, is_wait_reply}
+use Rattle.bcast_model.proofs.Views.{lagging, valid_view}
+use Rattle.bcast_model.proofs.Receives.{empty_at}
+use Rattle.bcast_model.proofs.Replies.{try_recv-seen}
+
+module _ {T : Type 0} where
+  -- ---- sends
+  send_waits : (await_active : Bool) (back : Option T) (error : Option (TrySendError T)) → must_wait (reply.PollSend (attempted await_active back error)) ≡ is_wait_reply await_active (sent back error)
+  send_waits await_active back None = refl
+  send_waits await_active back (Some (unsent.Full msg)) = refl
+  send_waits await_active back (Some (unsent.Closed msg)) = refl
+  send_waits true back (Some (unsent.Inactive msg)) = refl
+  send_waits false back (Some (unsent.Inactive msg)) = refl
+
+  -- by: closed, no receiver, overflow, full, sends await a receiver
+  unready_waits : (closed none overflow full await_active : Bool) (back : Option T) (msg : T)
+      → must_wait (reply.PollSend (attempted await_active back (cond closed (Some (unsent.Closed msg)) (cond none (Some (unsent.Inactive msg)) (cond (full && not overflow) (Some (unsent.Full msg)) None)))))
+      ≡ not (closed || (not none && (overflow || not full)) || (none && not await_active))
+  unready_waits true none overflow full await_active back msg = refl
+  unready_waits false true overflow full true back msg = refl
+  unready_waits false true overflow full false back msg = refl
+  unready_waits false false true true await_active back msg = refl
+  unready_waits false false true false await_active back msg = refl
+  unready_waits false false false true await_active back msg = refl
+  unready_waits false false false false await_active back msg = refl
+
+  module _ (is_clone : T → T → Type 0) (h : History T) (place : ℕ) (msg : T) (r : Reply T) (known : has_place h.control place ≡ true) (legal : Legal is_clone h (call.PollSend place msg) r) where
+    polled : must_wait r ≡ must_wait (reply.PollSend (attempt_send_reply h msg))
+    polled = ap must_wait (legal ∙ ap (λ b. reply.PollSend (cond b (attempt_send_reply h msg) (send.Wait msg))) known)
+
+    pub send_waits_full : must_wait r ≡ is_wait_reply h.control.await_active (try_broadcast_reply h msg)
+    send_waits_full = polled ∙ send_waits h.control.await_active (handed_back h) (refusal h.control (is_full h) msg)
+
+    pub send_waits_unready : must_wait r ≡ not (sends_are_ready h)
+    send_waits_unready = polled ∙ unready_waits h.control.closed (has_no_receiver h.control) h.control.overflow (is_full h) h.control.await_active (handed_back h) msg
+
+  -- ---- receives
+  received_waits : (is_clone : T → T → Type 0) (owed : Type 0) (spelt : Result T TryRecvError → Reply T) (refused : Reply T) (exact : Result T TryRecvError) (r : Reply T)
+      → ((answer : Result T TryRecvError) → must_wait (spelt answer) ≡ is_empty_reply answer) → found_no_memory refused ≡ true → found_no_memory r ≡ false → IsReceived is_clone owed spelt refused exact r → must_wait r ≡ is_empty_reply exact
+  received_waits is_clone owed spelt refused exact r waits none memory legal = elim legal [
+    | inl e ↦ ap must_wait e ∙ waits exact
+    | inr s ↦ elim s.1 [
+      | inl clone ↦ ap must_wait clone.reply ∙ waits (Ok clone.given) ∙ sym (ap is_empty_reply clone.exactly)
+      | inr e ↦ (let f = sym memory ∙ ap found_no_memory e ∙ none in absurd (apart f))
+    ]
+  ]
+    where
+      apart : false ≡ true → ⊥
+      apart e = cc
+
+  future_waits : (answer : Result T TryRecvError) → must_wait (reply.PollFuture (Ok (future_reply answer))) ≡ is_empty_reply answer
+  future_waits (Ok msg) = refl
+  future_waits (Err (unread.Overflowed n)) = refl
+  future_waits (Err unread.Closed) = refl
+  future_waits (Err unread.Empty) = refl
+
+  stream_waits : (answer : Result T TryRecvError) → must_wait (reply.PollRecv (Ok (stream_reply answer))) ≡ is_empty_reply answer
+  stream_waits (Ok msg) = refl
+  stream_waits (Err (unread.Overflowed n)) = refl
+  stream_waits (Err unread.Closed) = refl
+  stream_waits (Err unread.Empty) = refl
+
+  next_waits : (skips : ℕ) (answer : Result T TryRecvError) → must_wait (reply.PollNext (Ok (next_reply skips answer))) ≡ is_empty_reply answer
+  next_waits skips (Ok msg) = refl
+  next_waits skips (Err (unread.Overflowed n)) = refl
+  next_waits skips (Err unread.Closed) = refl
+  next_waits skips (Err unread.Empty) = refl
+
+  -- who lags finds something, before a skip and after it
+  not_empty : (v : View T) (at : ℕ) → IsValidView v → at ≤ v.front → v.front < v.end → is_empty_reply (try_recv_seen v (Some at)) ≡ false
+  not_empty v at valid low some = elim (is_empty_reply (try_recv_seen v (Some at))) as (λ b. is_empty_reply (try_recv_seen v (Some at)) ≡ b → b ≡ false) [
+    | true ↦ λ e. (let f = empty_at v at e in absurd (omega (arith, f.kept, f.read, valid.end)))
+    | false ↦ λ _. refl
+  ] refl
+
+  skip_same : (v : View T) (key : ℕ) (cursor : Option ℕ) → IsValidView v → get v.control.cursors key ≡ cursor → is_empty_reply (try_recv_seen v (skipped_to v.front cursor)) ≡ is_empty_reply (try_recv_seen v cursor)
+  skip_same v key None valid e = refl
+  skip_same v key (Some cursor) valid e = elim (cases_lt cursor v.front) [
+    | inl lags ↦ (let some = lagging v valid key cursor e lags in not_empty v (max cursor v.front) valid (omega arith) some ∙ sym (not_empty v cursor valid (omega arith) some))
+    | inr here ↦ (let same : max cursor v.front ≡ cursor = omega arith in ap (λ at. is_empty_reply (try_recv_seen v (Some at))) same)
+  ]
+
+  module _ (is_clone : T → T → Type 0) (h : History T) (key : ℕ) (r : Reply T) (memory : found_no_memory r ≡ false) where
+    pub future_waits_empty : Legal is_clone h (call.PollFuture key) r → must_wait r ≡ is_empty_reply (try_recv_reply h (cursor_of h key))
+    future_waits_empty legal = received_waits is_clone (IsOwed h key (cursor_of h key)) (λ answer. reply.PollFuture (Ok (future_reply answer))) (reply.PollFuture (Err alloc_error)) (try_recv_reply h (cursor_of h key)) r future_waits refl memory legal
+
+    pub recv_waits_empty : Legal is_clone h (call.PollRecv key) r → must_wait r ≡ is_empty_reply (try_recv_reply h (cursor_of h key))
+    recv_waits_empty legal = received_waits is_clone (IsOwed h key (cursor_of h key)) (λ answer. reply.PollRecv (Ok (stream_reply answer))) (reply.PollRecv (Err alloc_error)) (try_recv_reply h (cursor_of h key)) r stream_waits refl memory legal
+
+    pub next_waits_empty : IsValid h → Legal is_clone h (call.PollNext key) r → must_wait r ≡ is_empty_reply (try_recv_reply h (cursor_of h key))
+    next_waits_empty valid legal =
+        let cursor : Option ℕ = skipped_to (front_number h) (cursor_of h key) in
+        received_waits is_clone (IsOwed h key cursor) (λ answer. reply.PollNext (Ok (next_reply (skipped (front_number h) (cursor_of h key)) answer))) (reply.PollNext (Err alloc_error)) (try_recv_reply h cursor) r (next_waits (skipped (front_number h) (cursor_of h key))) refl memory legal
+        ∙ ap is_empty_reply (try_recv-seen h valid cursor)
+        ∙ skip_same (view_of h) key (cursor_of h key) (valid_view h valid) refl
+        ∙ sym (ap is_empty_reply (try_recv-seen h valid (cursor_of h key)))

@@ -1,0 +1,109 @@
+-- What receives keep, and the polls of receivers.
+use Rattle.std.proofs.Common.{◌≡◌, inl, inr, ℕ, zero, suc, ◌+◌, ◌-◌, ◌<◌, ◌≤◌, Bool, true, false, cond, not, List, [], ◌∷◌, length, max, Option, Some, None, Err, nat_lt, slice_get, refl, sym, ap, ◌∙◌, arith}
+use Rattle.std.proofs.lemmas.Grind.{common_steps}
+use Rattle.std.proofs.lemmas.Bool.{cases_lt}
+use Rattle.std.proofs.lemmas.Option.{none-some, same_Some}
+use Rattle.std.specs.Cmp.{nat_cmp_total}
+use Rattle.std.specs.FinMap.{get, insert, len, len-insert}
+use Rattle.bcast_model.specs.declared.error.TryRecvError.TheVariants as unread
+use Rattle.bcast_model.specs.declared.run.Reply.{Reply}
+use Rattle.bcast_model.specs.Listeners.{consume, wait_again}
+use Rattle.bcast_model.specs.Pair.{Pair, same_pair}
+use Rattle.bcast_model.specs.Control.{Control, Cursors, with_cursor}
+use Rattle.bcast_model.specs.Receiving.{receive, listens, skipped_to, found, is_empty_reply, poll_receive}
+use Rattle.bcast_model.specs.Next.{found_no_memory}
+use Rattle.bcast_model.specs.View.{View}
+use Rattle.bcast_model.specs.Seen.{sets, is_ready_seen, try_recv_seen, set_unless_refused}
+use Rattle.bcast_model.specs.Laws.{IsValidView}
+use Rattle.bcast_model.proofs.Cases.{test_is, receive_is}
+use Rattle.bcast_model.proofs.WaitingReceives.{receives_consumed, receives_waiting}
+use Rattle.bcast_model.proofs.Sound.{IsNoLower, IsKept}
+use Rattle.bcast_model.proofs.Views.{lagging}
+use Rattle.bcast_model.proofs.Lift.{KeepsValid}
+use Rattle.bcast_model.proofs.Kept.{kept_idle, kept_receives, kept_cursor, keeps_sets}
+
+past_end : {A : Type 0} (items : List A) (n : ℕ) → slice_get items n ≡ None → length items ≤ n
+past_end [] n e = omega arith
+past_end (item ∷ items) zero e = absurd (none-some item (sym e))
+past_end (item ∷ items) (suc n) e = let r = past_end items n e in omega arith
+
+-- a receiver that moves is counted already
+same_count : (cursors : Cursors) (key cursor to : ℕ) → get cursors key ≡ Some cursor → len (insert cursors key to) ≡ len cursors
+same_count cursors key cursor to e = let n = len-insert nat_cmp_total cursors key to in grind (arith, common_steps, n, e)
+
+-- a receive that finds nothing, in an open channel whose messages were all read
+pub record IsEmptyAt {T : Type 0} (v : View T) (cursor : ℕ) : Type 0 where
+  pub kept : v.front ≤ cursor
+  pub read : length v.queue ≤ cursor - v.front
+  pub is_open : v.control.closed ≡ false
+
+module _ {T : Type 0} where
+  found_none : (closed : Bool) (o : Option T) → is_empty_reply (found closed o) ≡ true → (o ≡ None) × (closed ≡ false)
+  found_none closed (Some msg) e = cc
+  found_none true None e = cc
+  found_none false None e = (refl, refl)
+
+  pub empty_at : (v : View T) (cursor : ℕ) → is_empty_reply (try_recv_seen v (Some cursor)) ≡ true → IsEmptyAt v cursor
+  empty_at v cursor e = elim (nat_lt cursor v.front) as (λ b. nat_lt cursor v.front ≡ b → is_empty_reply (cond b (Err (unread.Overflowed (v.front - cursor))) (found v.control.closed (slice_get v.queue (cursor - v.front)))) ≡ true → IsEmptyAt v cursor) [
+    | true ↦ λ t e. cc
+    | false ↦ λ t e. (let f = found_none v.control.closed (slice_get v.queue (cursor - v.front)) e in record { kept = grind (arith, common_steps, t); read = past_end v.queue (cursor - v.front) f.0; is_open = f.1 })
+  ] refl e
+
+  module _ (v : View T) (valid : IsValidView v) where
+    kept_moved : (key cursor to : ℕ) → get v.control.cursors key ≡ Some cursor → cursor < v.end → to ≤ v.end → IsNoLower v to → IsKept v (with_cursor v.control key to)
+    kept_moved key cursor to e below high low =
+        let n = same_count v.control.cursors key cursor to e in
+        kept_cursor v v.control key to high low (λ f. let same = same_Some cursor v.end (sym e ∙ f) in omega arith) (omega (arith, valid.control.receivers_fit)) (kept_idle v valid)
+
+    -- the receiver stands at this cursor, and starts there or after it
+    kept_from : (key cursor start : ℕ) → get v.control.cursors key ≡ Some cursor → cursor ≤ start → IsKept v (receive v.front v.end v.control key (Some start))
+    kept_from key cursor start e after = receive_is (IsKept v) v.front v.end v.control key start
+        (λ lags. kept_moved key cursor v.front e (omega (arith, valid.high)) valid.high (inl (omega arith)))
+        (λ _ below. kept_moved key cursor (start + 1) e (omega arith) (omega arith) (inr (key, cursor, e, omega arith)))
+        (λ _ _. kept_idle v valid)
+
+    pub kept_receive : (key : ℕ) (cursor : Option ℕ) → get v.control.cursors key ≡ cursor → IsKept v (receive v.front v.end v.control key cursor)
+    kept_receive key None e = kept_idle v valid
+    kept_receive key (Some cursor) e = kept_from key cursor cursor e (omega arith)
+
+    -- who found nothing stays, and waits; anyone else waits no more
+    poll_from : (pair : Pair) (cursor start : ℕ) → get v.control.cursors pair.0 ≡ Some cursor → cursor ≤ start → (v.end ≤ start → cursor ≡ v.end)
+        → IsKept v (poll_receive v.front v.end v.control pair (Some start) (try_recv_seen v (Some start)))
+    poll_from pair cursor start e after all_read = elim (is_empty_reply (try_recv_seen v (Some start))) as (λ b. is_empty_reply (try_recv_seen v (Some start)) ≡ b → IsKept v (listens (receive v.front v.end v.control pair.0 (Some start)) pair b)) [
+      | true ↦ λ none.
+          let at = empty_at v start none in
+          let idle = kept_idle v valid in
+          let past : v.end ≤ start = omega (arith, valid.end, at.kept, at.read) in
+          receive_is (λ c. IsKept v (listens c pair true)) v.front v.end v.control pair.0 start
+          (λ lags. absurd (omega (arith, at.kept)))
+          (λ _ below. absurd (omega arith))
+          (λ _ _. kept_receives v v.control (wait_again same_pair pair v.control.waiting_receives)
+          (receives_waiting v.control.cursors v.control.closed v.end v.control.waiting_receives pair (e ∙ ap (λ n. Some n) (all_read past), at.is_open) idle.sound.receives) idle)
+      | false ↦ λ some.
+          let c : Control = receive v.front v.end v.control pair.0 (Some start) in
+          let moved : IsKept v c = kept_from pair.0 cursor start e after in
+          kept_receives v c (consume same_pair pair c.waiting_receives) (receives_consumed c.cursors c.closed v.end c.waiting_receives pair moved.sound.receives) moved
+    ] refl
+
+    poll_gone : (pair : Pair) → IsKept v (listens v.control pair false)
+    poll_gone pair =
+        let idle = kept_idle v valid in
+        kept_receives v v.control (consume same_pair pair v.control.waiting_receives) (receives_consumed v.control.cursors v.control.closed v.end v.control.waiting_receives pair idle.sound.receives) idle
+
+    pub kept_poll : (pair : Pair) (cursor : Option ℕ) → get v.control.cursors pair.0 ≡ cursor → IsKept v (poll_receive v.front v.end v.control pair cursor (try_recv_seen v cursor))
+    kept_poll pair None e = poll_gone pair
+    kept_poll pair (Some cursor) e = let r = valid.reach pair.0 cursor e in poll_from pair cursor cursor e (omega arith) (λ past. omega arith)
+
+    -- the stream skips what was dropped, and finds a message then
+    pub kept_poll_next : (pair : Pair) (cursor : Option ℕ) → get v.control.cursors pair.0 ≡ cursor
+        → IsKept v (poll_receive v.front v.end v.control pair (skipped_to v.front cursor) (try_recv_seen v (skipped_to v.front cursor)))
+    kept_poll_next pair None e = poll_gone pair
+    kept_poll_next pair (Some cursor) e =
+        let r = valid.reach pair.0 cursor e in
+        poll_from pair cursor (max cursor v.front) e (omega arith) (λ past. elim (cases_lt cursor v.front) [
+          | inl lags ↦ (let n : v.front < v.end = lagging v valid pair.0 cursor e lags in absurd (omega arith))
+          | inr here ↦ omega arith
+        ])
+
+    pub keeps_unless : (r : Reply T) (c : Control) → IsKept v c → KeepsValid v (set_unless_refused r v c) (not (is_ready_seen v))
+    keeps_unless r c idle = test_is (λ e. KeepsValid v e (not (is_ready_seen v))) (found_no_memory r) (sets v.control) (sets c) (λ _. keeps_sets v valid v.control (kept_idle v valid)) (λ _. keeps_sets v valid c idle)

@@ -1,0 +1,128 @@
+-- What sends keep.
+use Rattle.std.proofs.Common.{◌≡◌, ◌≢◌, ◌⊎◌, inl, inr, ℕ, ◌+◌, ◌-◌, ◌^◌, ◌<◌, ◌≤◌, ◌&&◌, Bool, true, false, cond, not, [], ◌∷◌, ◌++◌, length, max, drop, Option, Some, None, refl, arith, length-append, length-drop}
+use Rattle.std.proofs.lemmas.Grind.{common_steps}
+use Rattle.std.specs.FinMap.{len, values}
+use Rattle.std.specs.FinSet as set
+use Rattle.bcast_model.specs.declared.error.TrySendError.TheVariants as unsent
+use Rattle.bcast_model.specs.Listeners.{consume, abandon, wait_again}
+use Rattle.bcast_model.specs.Pair.{same_place}
+use Rattle.bcast_model.specs.Control.{Control, has_no_receiver, tell_receivers, close, accepting, has_place, place_dropped, place_waits}
+use Rattle.bcast_model.specs.Handles.{begin_send}
+use Rattle.bcast_model.specs.Sending.{refusal}
+use Rattle.bcast_model.specs.History.{least}
+use Rattle.bcast_model.specs.View.{View}
+use Rattle.bcast_model.specs.Seen.{sets, is_full_seen, is_ready_seen, refusal_seen, accept_seen, accept_unless_seen, offer_seen, answered, poll_send_seen}
+use Rattle.bcast_model.specs.Laws.{IsValidView}
+use Rattle.bcast_model.proofs.Cases.{test_is, close_is, accepting_is}
+use Rattle.bcast_model.proofs.Listeners.{one_abandon}
+use Rattle.bcast_model.proofs.Tests.{test_place}
+use Rattle.bcast_model.proofs.WaitingSends.{OneIsTold, sends_inserted, sends_consumed, sends_abandoned, sends_waiting}
+use Rattle.bcast_model.proofs.WaitingReceives.{receives_all_told}
+use Rattle.bcast_model.proofs.Sound.{IsAttended, attended_closed, IsSound, IsKept, sound_close, sound_sends}
+use Rattle.bcast_model.proofs.Lift.{KeepsValid}
+use Rattle.bcast_model.proofs.Kept.{not_not, kept_idle, kept_sends, keeps_sets, keeps_waits}
+
+-- ---- accepting
+-- a channel that was closed by the last number needs nobody
+attended_last : (c : Control) (end : ℕ) → IsAttended (close c).closed (close c).senders (len (close c).cursors) (close c).inactive end
+attended_last c end = close_is (λ now. IsAttended now.closed now.senders (len now.cursors) now.inactive end) c
+    (λ e. attended_closed c.closed c.senders (len c.cursors) c.inactive end e)
+    (λ _. attended_closed true c.senders (len c.cursors) c.inactive end refl)
+
+attended_accepting : (c : Control) (end : ℕ) → end + 1 < 2 ^ 64 → IsAttended c.closed c.senders (len c.cursors) c.inactive end
+    → IsAttended (accepting c end).closed (accepting c end).senders (len (accepting c end).cursors) (accepting c end).inactive (end + 1)
+attended_accepting c end below a = accepting_is (λ now. IsAttended now.closed now.senders (len now.cursors) now.inactive (end + 1)) c end
+    (attended_last (tell_receivers c) (end + 1))
+    (λ e. record { sender = a.sender; receiver = a.receiver; open_end = λ _. grind (arith, common_steps, e, below) })
+
+told_close : (c : Control) → OneIsTold c.waiting_sends → OneIsTold (close c).waiting_sends
+told_close c one = close_is (λ now. OneIsTold now.waiting_sends) c (λ _. one) (λ _ some. some)
+
+told_accepting : (c : Control) (end : ℕ) → OneIsTold c.waiting_sends → OneIsTold (accepting c end).waiting_sends
+told_accepting c end one = accepting_is (λ now. OneIsTold now.waiting_sends) c end (told_close (tell_receivers c) one) (λ _. one)
+
+capacity_close : (c : Control) → (close c).capacity ≡ c.capacity
+capacity_close c = close_is (λ now. now.capacity ≡ c.capacity) c (λ _. refl) (λ _. refl)
+
+capacity_accepting : (c : Control) (end : ℕ) → (accepting c end).capacity ≡ c.capacity
+capacity_accepting c end = accepting_is (λ now. now.capacity ≡ c.capacity) c end (capacity_close (tell_receivers c)) (λ _. refl)
+
+module _ {T : Type 0} where
+  -- who waits to receive is told, and may be under the new end
+  sound_accepting : (v : View T) (c : Control) (end : ℕ) → end + 1 < 2 ^ 64 → IsSound v end c → IsSound v (end + 1) (accepting c end)
+  sound_accepting v c end below s =
+      let sizes = s.sizes in
+      let told : IsSound v (end + 1) (tell_receivers c) = record {
+        cursors = λ key cursor e. (let r = s.cursors key cursor e in (omega (arith, r.0), r.1));
+        sizes = record { positive = sizes.positive; within = sizes.within; room_fits = sizes.room_fits; receivers_fit = sizes.receivers_fit; senders_fit = sizes.senders_fit; inactive_fit = sizes.inactive_fit; end_fits = below };
+        sends = s.sends;
+        receives = receives_all_told c.cursors c.closed c.closed end (end + 1) c.waiting_receives s.receives;
+      } in
+      accepting_is (IsSound v (end + 1)) c end (sound_close v (end + 1) (tell_receivers c) told) (λ _. told)
+
+  -- what is not refused finds an open channel
+  open_offer : (c : Control) (full : Bool) (msg : T) → refusal c full msg ≡ None → c.closed ≡ false
+  open_offer c full msg e = elim c.closed as (λ b. cond b (Some (unsent.Closed msg)) (cond (has_no_receiver c) (Some (unsent.Inactive msg)) (cond (full && not c.overflow) (Some (unsent.Full msg)) None)) ≡ None → b ≡ false) [
+    | true ↦ λ e. cc
+    | false ↦ λ e. refl
+  ] e
+
+  module _ (v : View T) (valid : IsValidView v) where
+    keeps_accept : (msg : T) → v.control.closed ≡ false → KeepsValid v (accept_seen v msg) (not (is_ready_seen v))
+    keeps_accept msg open_now =
+        let idle = kept_idle v valid in
+        let below : v.end + 1 < 2 ^ 64 = valid.control.open_end open_now in
+        let same = capacity_accepting v.control v.end in
+        record {
+          floor = test_is (λ n. (n ≡ 0) ⊎ (n < v.end + 1)) (is_full_seen v) (v.front + 1) 0
+              (λ e. let full : length v.queue ≡ v.control.capacity = grind (arith, common_steps, e) in inr (omega (arith, full, valid.control.capacity, valid.end)))
+              (λ _. inl refl);
+          fits = rw same (test_is (λ n. length (drop (max (max v.front n) (least (v.end + 1) (values (accepting v.control v.end).cursors)) - v.front) (v.queue ++ msg ∷ [])) ≤ v.control.capacity) (is_full_seen v) (v.front + 1) 0
+              (λ e. let full : length v.queue ≡ v.control.capacity = grind (arith, common_steps, e) in simp (length-drop, length-append) (omega arith))
+              (λ e. let other : length v.queue ≢ v.control.capacity = grind (arith, common_steps, e) in simp (length-drop, length-append) (omega (arith, valid.fits))));
+          sound = sound_accepting v v.control v.end below idle.sound;
+          attended = attended_accepting v.control v.end below idle.attended;
+          told = λ was _. told_accepting v.control v.end (valid.awake.sends (not_not (is_ready_seen v) was));
+        }
+
+    pub keeps_offer : (msg : T) → KeepsValid v (offer_seen v msg) (not (is_ready_seen v))
+    keeps_offer msg = elim (refusal_seen v msg) as (λ o. refusal_seen v msg ≡ o → KeepsValid v (accept_unless_seen v msg o) (not (is_ready_seen v))) [
+      | Some error ↦ λ _. keeps_sets v valid v.control (kept_idle v valid)
+      | None ↦ λ e. keeps_accept msg (open_offer v.control (is_full_seen v) msg e)
+    ] refl
+
+    -- ---- pending sends
+    pub kept_begin_send : (place : Option ℕ) → IsKept v (begin_send v.control place)
+    kept_begin_send None = kept_idle v valid
+    kept_begin_send (Some place) = let idle = kept_idle v valid in kept_sends v v.control v.control.waiting_sends (set.insert v.control.places place) (sends_inserted v.control.places place v.control.waiting_sends idle.sound.sends) (λ one. one) idle
+
+    pub kept_end_send : (place : ℕ) → IsKept v (place_dropped v.control place)
+    kept_end_send place =
+        let idle = kept_idle v valid in
+        let s = idle.sound.sends in
+        kept_sends v v.control (abandon same_place place v.control.waiting_sends) (set.remove v.control.places place) (sends_abandoned v.control.places place v.control.waiting_sends s)
+        (one_abandon same_place test_place place v.control.waiting_sends s.in_order) idle
+
+    -- a send that is answered waits no more
+    keeps_answered : (place : ℕ) (msg : T) → KeepsValid v (answered (offer_seen v msg) place) true
+    keeps_answered place msg =
+        let f = keeps_offer msg in
+        let e = offer_seen v msg in
+        record {
+          floor = f.floor;
+          fits = f.fits;
+          sound = sound_sends v (v.end + length e.accepted) e.control (consume same_place place e.control.waiting_sends) (set.remove e.control.places place) (sends_consumed e.control.places place e.control.waiting_sends f.sound.sends) f.sound;
+          attended = f.attended;
+          told = λ t. cc;
+        }
+
+    pub keeps_poll_send : (place : ℕ) (msg : T) → KeepsValid v (poll_send_seen v place msg) (has_place v.control place && is_ready_seen v)
+    keeps_poll_send place msg =
+        let s = (kept_idle v valid).sound.sends in
+        elim (has_place v.control place) as (λ b. has_place v.control place ≡ b → KeepsValid v (cond b (cond (is_ready_seen v) (answered (offer_seen v msg) place) (sets (place_waits v.control place))) (sets v.control)) (b && is_ready_seen v)) [
+          | true ↦ λ h. elim (is_ready_seen v) as (λ b. is_ready_seen v ≡ b → KeepsValid v (cond b (answered (offer_seen v msg) place) (sets (place_waits v.control place))) b) [
+            | true ↦ λ _. keeps_answered place msg
+            | false ↦ λ e. keeps_waits v valid (wait_again same_place place v.control.waiting_sends) false (sends_waiting v.control.places place v.control.waiting_sends h s) (λ ready. cc)
+          ] refl
+          | false ↦ λ _. keeps_waits v valid v.control.waiting_sends false s valid.awake.sends
+        ] refl

@@ -1,0 +1,94 @@
+-- What a call drops, and what it leaves bounded.
+use Rattle.std.proofs.Common.{◌≡◌, ◌⊎◌, inl, inr, ℕ, ◌+◌, ◌<◌, ◌≤◌, List, length, Some, sym, ap, ◌∙◌, arith, length-append}
+use Rattle.std.specs.List.{Contains, range_with_len}
+use Rattle.std.specs.FinMap.{get}
+use Rattle.bcast_model.specs.declared.run.Call.{Call}
+use Rattle.bcast_model.specs.declared.run.Reply.{Reply}
+use Rattle.bcast_model.specs.History.{History, front_number, end_number, cursor_of}
+use Rattle.bcast_model.specs.Legal.{Legal}
+use Rattle.bcast_model.specs.Next.{HasPositiveCapacity, changed, next}
+use Rattle.bcast_model.specs.Deliveries.{receives_for}
+use Rattle.bcast_model.specs.Tiling.{dropped_by}
+use Rattle.bcast_model.proofs.DeliveryMaps.{came_from}
+use Rattle.bcast_model.proofs.DeliveryCursors.{changes, cursors-next}
+use Rattle.bcast_model.proofs.DeliveryMessages.{Grows, grows_next}
+use Rattle.bcast_model.proofs.TilingFront.{IsBounded, floor-le-front, front-le-end}
+use Rattle.bcast_model.proofs.TilingSends.{FloorChange, stays, passes}
+use Rattle.bcast_model.proofs.TilingFloor.{floor-next}
+use Rattle.bcast_model.proofs.TilingCapacity.{capacity-next}
+use Rattle.bcast_model.proofs.TilingNumbers.{contains_range, IsRising, rising_range, rising_wider}
+
+module _ {T : Type 0} where
+  -- what a call drops: numbers from the front on, that rise up to the floor after it, and each that the floor passes
+  pub record Drops (h now : History T) (dropped : List ℕ) : Type 0 where
+    pub rises : h.floor ≤ now.floor
+    pub rising : IsRising h.floor now.floor dropped
+    pub each : (n : ℕ) → h.floor ≤ n → n < now.floor → front_number h ≤ n → Contains dropped n
+    pub receivers : (now.floor ≡ h.floor) ⊎ (now.control.cursors ≡ h.control.cursors)
+    pub within : now.floor ≤ end_number now
+
+  drops_change : (h now : History T) (dropped : List ℕ) → IsBounded h → Grows h now → FloorChange h now dropped → Drops h now dropped
+  drops_change h now dropped bounded grown (stays floor none) =
+      let size = length-append h.accepted grown.more in
+      let longer = ap length grown.accepted in
+      let first = grown.first in
+      let high = bounded.floor_high in
+      record {
+        rises = omega (arith, floor);
+        rising = rw none tt;
+        each = λ n low above from. absurd (omega (arith, floor, low, above));
+        receivers = inl floor;
+        within = omega (arith, floor, size, longer, first, high);
+      }
+  drops_change h now dropped bounded grown (passes count cursors floor within is) =
+      let low = floor-le-front h bounded in
+      record {
+        rises = omega (arith, floor, low);
+        rising = rw (is, floor) (rising_wider (front_number h) (front_number h + count) h.floor (front_number h + count) (range_with_len (front_number h) count) low (omega arith) (rising_range (front_number h) count (front_number h + count) (omega arith)));
+        each = λ n under above from. rw is (contains_range (front_number h) count n from (omega (arith, floor, above)));
+        receivers = inr cursors;
+        within = within;
+      }
+
+  pub drops_next : (is_clone : T → T → Type 0) (h : History T) (c : Call T) (r : Reply T) → IsBounded h → Legal is_clone h c r → Drops h (next h c r) (dropped_by h c r)
+  drops_next is_clone h c r bounded legal = drops_change h (next h c r) (dropped_by h c r) bounded (grows_next h c r) (floor-next is_clone h c r bounded legal)
+
+  -- where the receivers of the next state stood before
+  pub record Stood (h : History T) (cursor : ℕ) : Type 0 where
+    pub key : ℕ
+    pub before : ℕ
+    pub found : cursor_of h key ≡ Some before
+    pub low : before ≤ cursor
+
+  pub stood_before : (is_clone : T → T → Type 0) (h : History T) (c : Call T) (r : Reply T) (key cursor : ℕ) → IsBounded h → Legal is_clone h c r → cursor_of (next h c r) key ≡ Some cursor
+      → (cursor ≤ end_number h) × ((cursor ≡ end_number h) ⊎ Stood h cursor)
+  stood_before is_clone h c r key cursor bounded legal is =
+      elim (came_from (front_number h) (end_number h) (λ key. receives_for key c) h.control.cursors (changed h c r).control.cursors key cursor (changes is_clone h c r legal) (ap (λ m. get m key) (sym (cursors-next h c r)) ∙ is)) [
+        | inl e ↦ (omega (arith, e), inl e)
+        | inr stood ↦ (let before = (bounded.cursors stood.key stood.before stood.found).1 in
+            let front = front-le-end h bounded in
+            let high : cursor ≤ end_number h = elim stood.high [ inl e ↦ omega (arith, e, before) | inr e ↦ elim e [ inl f ↦ omega (arith, f, front) | inr f ↦ f ] ] in
+            (high, inr (record { key = stood.key; before = stood.before; found = stood.found; low = stood.low })))
+      ]
+
+  pub bounded-next : (is_clone : T → T → Type 0) (h : History T) (c : Call T) (r : Reply T) → HasPositiveCapacity c → IsBounded h → Legal is_clone h c r → IsBounded (next h c r)
+  bounded-next is_clone h c r allowed bounded legal =
+      let drops = drops_next is_clone h c r bounded legal in
+      let grown = grows_next h c r in
+      let size = length-append h.accepted grown.more in
+      let longer = ap length grown.accepted in
+      let first = grown.first in
+      let rises = drops.rises in
+      let low = bounded.floor_low in
+      record {
+        floor_low = omega (arith, first, rises, low);
+        floor_high = drops.within;
+        cursors = λ key cursor is.
+            let stood = stood_before is_clone h c r key cursor bounded legal is in
+            let high : cursor ≤ end_number (next h c r) = (let k = stood.0 in omega (arith, k, size, longer, first)) in
+            elim stood.1 [
+              | inl e ↦ (omega (arith, e, first), high)
+              | inr s ↦ (let before = (bounded.cursors s.key s.before s.found).0 in let above = s.low in (omega (arith, before, above, first), high))
+            ];
+        capacity = capacity-next h c r allowed bounded.capacity;
+      }

@@ -1,0 +1,6 @@
+-- Fewer clones: none at all.
+use Rattle.bcast_model.proofs.Clones.{legal_exact}
+use Rattle.bcast_model.proofs.laws.replies_are_exact.Goals as goal
+
+pub returns : goal.returns
+returns g _ = λ equal h c r legal. legal_exact g.T.Clone.is_clone h c r equal legal

@@ -1,0 +1,38 @@
+//! What follows from the definitions alone.
+ghost use Rattle.bcast_model.specs.Laws.{OpeningIsValid, NextIsValid, ViewsAreShown, RepliesAreExact, ReceivedIsGiven, PollsWaitWhereTriesFindNothing};
+ghost use Rattle.bcast_model.specs.ListLaws.{ListsStayInOrder};
+
+/// Law: a new channel is in a valid state.
+pub fn opening_is_valid<T>()
+    ensures { OpeningIsValid T }
+{}
+
+/// Law: a legal reply to a call leads from a valid state to a valid one. So no wake-up is lost.
+pub fn next_is_valid<T: Clone>()
+    ensures { NextIsValid T.is_clone }
+{}
+
+/// Law: what is seen of a channel is seen of some valid state exactly where its own parts fit together.
+pub fn views_are_shown<T>()
+    ensures { ViewsAreShown T }
+{}
+
+/// Law: where a clone equals its original, a receive gives the accepted message to the letter.
+pub fn replies_are_exact<T: Clone>()
+    ensures { RepliesAreExact T.is_clone }
+{}
+
+/// Law: what a receive hands out is one of the messages that are kept, or a clone of one.
+pub fn received_is_given<T: Clone>()
+    ensures { ReceivedIsGiven T.is_clone }
+{}
+
+/// Law: a poll waits exactly where the try of the same name finds nothing to answer.
+pub fn polls_wait_where_tries_find_nothing<T: Clone>()
+    ensures { PollsWaitWhereTriesFindNothing T.is_clone }
+{}
+
+/// Law: the lists of who waits. No id stands twice, no more are told than wait, and each keeps its position.
+pub fn lists_stay_in_order<A>()
+    ensures { ListsStayInOrder A }
+{}

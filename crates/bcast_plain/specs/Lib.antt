@@ -1,0 +1,2 @@
+-- which store the fields are, and what holds of them
+pub mod Plain

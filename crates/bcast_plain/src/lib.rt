@@ -1,0 +1,191 @@
+//! The kept messages and who is still to read them, the slow way: each call looks at every cursor.
+#![tactic(auto)]
+
+ghost use Rattle.std.specs.Prelude.{◌≡◌, ◌==◌, ◌+◌, ◌^◌, ◌<◌, ◌≤◌, [], ◌∷◌, ◌++◌, length, drop, slice_get};
+ghost use Rattle.std.specs.Prelude.{IfOk, OnOk, OnErr, IfNone, IfSome, OnSome};
+ghost use Rattle.std.specs.Option.{option_copied};
+ghost use Rattle.std.specs.FinMap.{empty, entries, get, insert, len};
+ghost use Rattle.bcast_store.specs.Stored.{IsSettled, end_of};
+
+use std::alloc::{AllocError, Allocator, Global};
+use std::marker::Model;
+
+mod messages;
+mod readers;
+mod receivers;
+#[cfg(test)]
+mod tests;
+
+/// The messages that a channel keeps, and the cursors of its receivers, as `bcast_store::Store`
+/// promises them, without counts.
+///
+/// A reference to compare with: each call takes time by the number of receivers and of messages, and
+/// each receiver gets a key that none ever had.
+///
+/// Source: this crate's own.
+#[derive(Drop)]
+pub struct Store<T, A: Allocator = Global> {
+    // The number of the first message, or of the next one where there is none.
+    front: u64,
+    messages: Vec<T, A>,
+    // The key and the cursor of each receiver, in the order of their making.
+    receivers: Vec<(usize, u64), A>,
+    // How many receivers were made, and the key of the next one.
+    made: usize,
+    room: usize,
+}
+
+impl<T, A: Allocator> Model for Store<T, A> {
+    ghost use Rattle.std.specs.Prelude.{vec_capacity};
+    ghost use Rattle.bcast_store.specs.Stored.{Stored, stored_code};
+
+    ghost Value = { Stored T };
+
+    ghost coded = { stored_code T.code };
+
+    ghost use Rattle.bcast_plain.specs.Plain.{store_of, IsSound};
+
+    ghost view = { λ s. store_of s.front s.messages.items s.receivers.items s.room };
+
+    ghost invariant = { λ s. IsSound s.front s.messages.items s.receivers.items s.made s.room (vec_capacity s.messages) };
+}
+
+impl<T: Drop, A: Allocator + Copy> Store<T, A> {
+    /// A store with no message and one receiver, and that receiver's key.
+    ///
+    /// `first` is the number of the first message, and `room` how many messages fit. Takes memory
+    /// for all of them.
+    ///
+    /// # Errors
+    ///
+    /// - `AllocError`: there is no memory for `room` messages or for the receiver.
+    ///
+    /// Source: this crate's own.
+    pub fn new(alloc: A, first: u64, room: usize) -> Result<(Self, usize), AllocError>
+        requires room { 0 < room }
+        requires number { first + 1 < 2 ^ 64 }
+        ensures { IfOk result (λ made. made.0 ≡ record {
+          front = first;
+          queue = [];
+          cursors = insert empty made.1 first;
+          room = room;
+        }) }
+    {
+        let messages = Vec::with_capacity(alloc, room)?;
+        let mut receivers = Vec::with_capacity(alloc, 1)?;
+        receivers.push_reserved((0, first));
+        let store = Store {
+            front: first,
+            messages,
+            receivers,
+            made: 1,
+            room,
+        };
+        Ok((store, 0))
+    }
+
+    /// Says what holds of every store, to a proof that needs it. Does nothing.
+    ///
+    /// Source: this crate's own.
+    pub fn known(&self)
+        ensures { IsSettled self.now }
+    {
+        let _ = &self.front;
+    }
+
+    /// The number of the first message, or of the next one where there is none.
+    ///
+    /// Source: this crate's own.
+    pub fn front(&self) -> u64
+        ensures { result ≡ self.now.front }
+    {
+        self.front
+    }
+
+    /// The number that the next message gets.
+    ///
+    /// Source: this crate's own.
+    pub fn end(&self) -> u64
+        ensures { result ≡ end_of self.now }
+    {
+        self.front + self.messages.len() as u64
+    }
+
+    /// How many messages there are.
+    ///
+    /// Source: this crate's own.
+    pub fn len(&self) -> usize
+        ensures { result ≡ length self.now.queue }
+    {
+        self.messages.len()
+    }
+
+    /// Whether there is no message.
+    ///
+    /// Source: this crate's own.
+    pub fn is_empty(&self) -> bool
+        ensures { result ≡ (length self.now.queue == 0) }
+    {
+        self.messages.len() == 0
+    }
+
+    /// How many messages fit.
+    ///
+    /// Source: this crate's own.
+    pub fn room(&self) -> usize
+        ensures { result ≡ self.now.room }
+    {
+        self.room
+    }
+
+    /// How many receivers there are.
+    ///
+    /// Source: this crate's own.
+    pub fn receivers(&self) -> usize
+        ensures { result ≡ len self.now.cursors }
+    {
+        self.receivers.len()
+    }
+
+    /// Whether there is no receiver.
+    ///
+    /// Source: this crate's own.
+    pub fn has_no_receiver(&self) -> bool
+        ensures { result ≡ (len self.now.cursors == 0) }
+    {
+        self.receivers() == 0
+    }
+
+    /// The cursor of the receiver `key`, or nothing where there is no such receiver.
+    ///
+    /// Source: this crate's own.
+    pub fn cursor(&self, key: usize) -> Option<u64>
+        ensures { result ≡ get self.now.cursors key }
+    {
+        receivers::cursor_of(self.receivers.as_slice(), key)
+    }
+
+    /// The message at `index`, or nothing where the queue ends before it. No receiver has read it
+    /// by this.
+    ///
+    /// Source: this crate's own.
+    pub fn get(&self, index: usize) -> Option<&T>
+        ensures { option_copied result ≡ slice_get self.now.queue index }
+    {
+        self.messages.get(index)
+    }
+
+    /// The receivers' keys by rising order, each with its cursor. Takes memory for the list.
+    ///
+    /// # Errors
+    ///
+    /// - `AllocError`: there is no memory for the list.
+    ///
+    /// Source: this crate's own.
+    pub fn cursors<B: Allocator>(&self, alloc: B) -> Result<Vec<(usize, u64), B>, AllocError>
+        ensures { IfOk result (λ cursors. cursors.items ≡ entries self.now.cursors) }
+    {
+        let cursors = Vec::from_slice(alloc, self.receivers.as_slice())?;
+        Ok(cursors)
+    }
+}

@@ -1,0 +1,67 @@
+-- The counts of a changed queue, index by index.
+use Rattle.std.proofs.Common.{◌≡◌, ℕ, zero, suc, ◌+◌, ◌-◌, ◌<◌, ◌≤◌, cond, eqb, nat_le, List, [], ◌∷◌, length, get_or, count_by, refl, ap, arith}
+use Rattle.std.proofs.lemmas.Grind.{common_steps}
+use Rattle.std.proofs.lemmas.List.{length-map, get_or-map}
+use Rattle.std.proofs.lemmas.List.Sums.{sum_by-cons}
+use Rattle.bcast_queue.specs.Queue.{raised, lowered}
+use Rattle.bcast_queue.proofs.Front.{nobody}
+
+pub length-raised : (i : ℕ) (ns : List ℕ) → length (raised i ns) ≡ length ns
+length-raised zero ns = length-map ns (λ n. n + 1)
+length-raised (suc i) [] = refl
+length-raised (suc i) (n ∷ ns) = ap suc (length-raised i ns)
+
+pub length-lowered : (i : ℕ) (ns : List ℕ) → length (lowered i ns) ≡ length ns
+length-lowered zero ns = length-map ns (λ n. n - 1)
+length-lowered (suc i) [] = refl
+length-lowered (suc i) (n ∷ ns) = ap suc (length-lowered i ns)
+
+pub get_or-raised : (i : ℕ) (ns : List ℕ) (j : ℕ) → j < length ns → get_or (raised i ns) j 0 ≡ get_or ns j 0 + cond (nat_le i j) 1 0
+get_or-raised zero ns j h =
+    let e = get_or-map (λ n. n + 1) ns j 0 0 h in
+    grind (arith, common_steps, e)
+get_or-raised (suc i) [] j h = absurd (omega arith)
+get_or-raised (suc i) (n ∷ ns) zero h = grind (arith, common_steps)
+get_or-raised (suc i) (n ∷ ns) (suc j) h =
+    let e = get_or-raised i ns j (omega arith) in
+    grind (arith, common_steps, e)
+
+pub get_or-lowered : (i : ℕ) (ns : List ℕ) (j : ℕ) → j < length ns → (i ≤ j → 1 ≤ get_or ns j 0) → get_or (lowered i ns) j 0 + cond (nat_le i j) 1 0 ≡ get_or ns j 0
+get_or-lowered zero ns j h some =
+    let e = get_or-map (λ n. n - 1) ns j 0 0 h in
+    let s = some (omega arith) in
+    grind (arith, common_steps, e, s)
+get_or-lowered (suc i) [] j h some = absurd (omega arith)
+get_or-lowered (suc i) (n ∷ ns) zero h some = grind (arith, common_steps)
+get_or-lowered (suc i) (n ∷ ns) (suc j) h some =
+    let e = get_or-lowered i ns j (omega arith) (λ l. some (omega arith)) in
+    grind (arith, common_steps, e)
+
+count_cons : (n : ℕ) (ns : List ℕ) → count_by nobody (n ∷ ns) ≡ cond (eqb n 0) 1 0 + count_by nobody ns
+count_cons n ns = sum_by-cons (λ m. cond (nobody m) 1 0) n ns
+
+-- where none is 0 from m on, at most m are
+few_gone : (m : ℕ) (ns : List ℕ) → ((i : ℕ) → m ≤ i → i < length ns → 1 ≤ get_or ns i 0) → count_by nobody ns ≤ m
+few_gone m [] some = omega arith
+few_gone zero (n ∷ ns) some =
+    let h : 1 ≤ n = some 0 (omega arith) (omega arith) in
+    let r = few_gone zero ns (λ i l b. some (suc i) (omega arith) (omega arith)) in
+    let e = count_cons n ns in
+    grind (arith, common_steps, h, r, e)
+few_gone (suc m) (n ∷ ns) some =
+    let r = few_gone m ns (λ i l b. some (suc i) (omega arith) (omega arith)) in
+    let e = count_cons n ns in
+    grind (arith, common_steps, r, e)
+
+-- and where as many are, it is those before m
+pub gone_before : (m : ℕ) (ns : List ℕ) → m ≤ count_by nobody ns → ((i : ℕ) → m ≤ i → i < length ns → 1 ≤ get_or ns i 0) → (i : ℕ) → i < m → get_or ns i 0 ≡ 0
+gone_before zero ns many some i h = absurd (omega arith)
+gone_before (suc m) [] many some i h = absurd (omega arith)
+gone_before (suc m) (n ∷ ns) many some zero h =
+    let r = few_gone m ns (λ i l b. some (suc i) (omega arith) (omega arith)) in
+    let e = count_cons n ns in
+    grind (arith, common_steps, r, e, many)
+gone_before (suc m) (n ∷ ns) many some (suc i) h =
+    let e = count_cons n ns in
+    let enough : m ≤ count_by nobody ns = grind (arith, common_steps, e, many) in
+    gone_before m ns enough (λ i l b. some (suc i) (omega arith) (omega arith)) i (omega arith)

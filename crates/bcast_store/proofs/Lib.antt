@@ -1,0 +1,12 @@
+-- numbers, and the cursors of a map
+pub mod Least
+pub mod Owing
+-- the counts of a store, and what follows from them
+pub mod Counted
+pub mod WithCursors
+-- what the calls do to the counts
+pub mod Messages
+pub mod Dropping
+pub mod Reading
+pub mod HandedOut
+pub mod Leaving

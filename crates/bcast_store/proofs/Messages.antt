@@ -1,0 +1,66 @@
+-- The counts go on with the messages: one comes, and the first one goes.
+use Rattle.std.proofs.Common.{◌≡◌, ℕ, ◌+◌, ◌-◌, ◌<◌, ◌≤◌, [], ◌∷◌, ◌++◌, length, sym, ap, ◌∙◌, subst, arith, length-drop, length-append}
+use Rattle.std.proofs.lemmas.Grind.{common_steps}
+use Rattle.std.proofs.lemmas.List.{get_or-drop}
+use Rattle.std.proofs.lemmas.Option.{none-some, slice_get_within, get_or_from_slice_get}
+use Rattle.std.specs.Prelude.{Result, Ok, Err, OnErr}
+use Rattle.std.specs.Option.{ForSome}
+use Rattle.std.specs.Ordering.{nat_cmp}
+use Rattle.std.specs.FinMap.{len, empty, insert, get-empty}
+use Rattle.bcast_model.specs.Control.{Cursors}
+use Rattle.bcast_queue.specs.Queue.{last_item, Queued, queued, without}
+use Rattle.bcast_store.specs.Sound.{IsSound, store_of, owing_at}
+use Rattle.bcast_store.proofs.Owing.{all_owe, few_owe, reached}
+
+module _ {T : Type 0} where
+  pub same_sound : (a b : Queued T) (m n : Cursors) → a ≡ b → m ≡ n → IsSound b n → IsSound a m
+  same_sound a b m n p r s = subst (λ x. IsSound x m) (sym p) (subst (λ y. IsSound b y) (sym r) s)
+
+  pub same_store : (a b : Queued T) (m n : Cursors) → a ≡ b → m ≡ n → store_of a m ≡ store_of b n
+  same_store a b m n p r = λ i. store_of (p i) (r i)
+
+  -- the last message is owed by no more receivers than there are
+  pub last_owed : (q : Queued T) (cursors : Cursors) → IsSound q cursors → length q.owed ≡ length q.messages → ForSome (last_item q.owed) (λ n. n ≤ len cursors)
+  last_owed q cursors s lengths n is =
+      let below = slice_get_within q.owed (length q.owed - 1) n is in
+      let at = get_or_from_slice_get q.owed (length q.owed - 1) n 0 is in
+      let a = s.owed_by (length q.owed - 1) (omega arith) in
+      let b = few_owe cursors (q.front + (length q.owed - 1)) in
+      omega (arith, at, a, b)
+
+  pub last_below : (q : Queued T) (cursors : Cursors) (top : ℕ) → IsSound q cursors → length q.owed ≡ length q.messages → len cursors < top → ForSome (last_item q.owed) (λ n. n < top)
+  last_below q cursors top s lengths few n is = let a = last_owed q cursors s lengths n is in omega arith
+
+  -- every receiver is still to read a message that comes
+  pub sound_push : (q : Queued T) (msg : T) (cursors : Cursors) → IsSound q cursors → length q.owed ≡ length q.messages → IsSound (record q { messages = q.messages ++ msg ∷ []; owed = q.owed ++ len cursors ∷ [] }) cursors
+  sound_push q msg cursors s lengths =
+      let all = all_owe cursors (q.front + length q.messages) s.reach in
+      let size = length-append q.messages (msg ∷ []) in
+      record {
+        owed_by = λ i h. grind (arith, common_steps, s.owed_by i, all, lengths, size, h);
+        reach = λ key cursor at. let l = s.reach key cursor at in omega (arith, size);
+      }
+
+  -- one receiver, and no message
+  pub sound_new : (first key room : ℕ) → IsSound {T = T} (queued first [] [] room) (insert empty key first)
+  sound_new first key room =
+      record {
+        owed_by = λ i h. absurd (omega arith);
+        reach = λ other cursor at. reached (first + 0) empty key first other cursor (λ r e f. absurd (none-some e (sym (get-empty nat_cmp r) ∙ f))) (omega arith) at;
+      }
+
+  -- ---- messages
+  pub sound_pop : (q : Queued T) (cursors : Cursors) → IsSound q cursors → 0 < length q.messages → IsSound (without 1 q) cursors
+  sound_pop q cursors s some =
+      let size = length-drop 1 q.messages in
+      record {
+        owed_by = λ i h.
+            let a = s.owed_by (1 + i) (omega (arith, size)) in
+            let e : q.front + (1 + i) ≡ (q.front + 1) + i = omega arith in
+            get_or-drop 1 q.owed i 0 ∙ a ∙ ap (owing_at cursors) e;
+        reach = λ key cursor at. let l = s.reach key cursor at in omega (arith, size);
+      }
+
+pub on_err : {A E : Type 0} (r : Result A E) (P : Type 0) → P → OnErr r P
+on_err (Ok x) P p = tt
+on_err (Err e) P p = p

@@ -1,0 +1,44 @@
+-- The store that other cursors leave, by its counts.
+use Rattle.std.proofs.Common.{◌≡◌, inl, inr, ℕ, ◌+◌, ◌-◌, ◌<◌, ◌≤◌, length, drop, max, sym, ap, ◌∙◌, subst, arith, length-drop}
+use Rattle.std.proofs.lemmas.Bool.{cases_lt}
+use Rattle.std.specs.FinMap.{values}
+use Rattle.bcast_model.specs.Control.{Cursors}
+use Rattle.bcast_model.specs.History.{least}
+use Rattle.bcast_queue.specs.Queue.{Queued}
+use Rattle.bcast_store.specs.Stored.{Stored, end_of, with_cursors}
+use Rattle.bcast_store.specs.Sound.{IsSound, store_of, owing_at}
+use Rattle.bcast_store.proofs.Least.{least-greatest}
+use Rattle.bcast_store.proofs.Owing.{owes_counts}
+use Rattle.bcast_store.proofs.Counted.{IsCounted, front_met}
+
+-- where nobody is still to read the message before `front`, every cursor is there or past it
+passed : (cursors : Cursors) (front end : ℕ) → front ≤ end → 0 < front → owing_at cursors (front - 1) ≡ 0 → front ≤ least end (values cursors)
+passed cursors front end within some none =
+    least-greatest front end cursors within (λ key cursor at. elim (cases_lt cursor front) [
+      | inl under ↦ (let o = owes_counts cursors (front - 1) key cursor at (omega arith) in absurd (omega (arith, o, none)))
+      | inr past ↦ past
+    ])
+
+module _ {T : Type 0} where
+  -- the front goes to this number, and so many messages go
+  pub with_cursors-front : (s : Stored T) (cursors : Cursors) (front n : ℕ) → max s.front (least (end_of s) (values cursors)) ≡ front → front - s.front ≡ n
+      → with_cursors s cursors ≡ record { front = front; queue = drop n s.queue; cursors = cursors; room = s.room }
+  with_cursors-front s cursors front n is goes =
+      let gone : max s.front (least (end_of s) (values cursors)) - s.front ≡ n = ap (λ x. x - s.front) is ∙ goes in
+      λ i. record { front = is i; queue = drop (gone i) s.queue; cursors = cursors; room = s.room }
+
+  -- a queue that lost its first n messages, the last of which nobody is still to read
+  pub with_cursors-queue : (q new : Queued T) (old cursors : Cursors) (n : ℕ) → new.front ≡ q.front + n → new.messages ≡ drop n q.messages → new.room ≡ q.room → n ≤ length q.messages
+      → IsSound new cursors → IsCounted new → (0 < n → owing_at cursors (q.front + (n - 1)) ≡ 0) → store_of new cursors ≡ with_cursors (store_of q old) cursors
+  with_cursors-queue q new old cursors n front messages room within s c none =
+      let size = ap length messages ∙ length-drop n q.messages in
+      let end : new.front + length new.messages ≡ q.front + length q.messages = omega (arith, size) in
+      let low : least (q.front + length q.messages) (values cursors) ≤ new.front = subst (λ x. least x (values cursors) ≤ new.front) end (front_met new cursors s c) in
+      let high : 0 < n → new.front ≤ least (q.front + length q.messages) (values cursors) = λ some.
+      passed cursors new.front (q.front + length q.messages) (omega (arith, front)) (omega (arith, front)) (ap (owing_at cursors) (let e : new.front - 1 ≡ q.front + (n - 1) = omega (arith, front) in e) ∙ none some) in
+      let is : max q.front (least (q.front + length q.messages) (values cursors)) ≡ new.front = elim (cases_lt 0 n) [
+        | inl some ↦ (let h = high some in omega (arith, low, h, front))
+        | inr stays ↦ omega (arith, low, stays, front)
+      ] in
+      (λ i. record { front = new.front; queue = messages i; cursors = cursors; room = room i })
+      ∙ sym (with_cursors-front (store_of q old) cursors new.front n is (omega (arith, front)))

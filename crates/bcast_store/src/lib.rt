@@ -1,0 +1,240 @@
+//! The kept messages, and who is still to read them.
+#![tactic(auto)]
+
+ghost use Rattle.std.specs.Prelude.{◌≡◌, ◌==◌, ◌+◌, ◌^◌, ◌<◌, ◌≤◌, [], ◌∷◌, ◌++◌, length, drop, slice_get};
+ghost use Rattle.std.specs.Prelude.{IfOk, OnOk, OnErr, IfNone, IfSome, OnSome};
+ghost use Rattle.std.specs.Option.{option_copied};
+ghost use Rattle.std.specs.FinMap.{empty, entries, get, insert, len};
+ghost use Rattle.bcast_store.specs.Stored.{IsSettled, end_of};
+
+use bcast_cursors::cursors::Cursors;
+use bcast_queue::Queue;
+use std::alloc::{AllocError, Allocator, Global};
+use std::marker::Model;
+
+mod readers;
+#[cfg(test)]
+mod tests;
+
+/// The messages that a channel keeps, and the cursors of its receivers.
+///
+/// A message number counts all messages that were ever accepted, and an index the kept ones from
+/// the front. A cursor is the number of the message that a receiver reads next. A message goes
+/// once every receiver has read it. `room` is how many messages fit.
+///
+/// Source: this crate's own, for `Inner::queue` and `Receiver::pos` of async-broadcast 0.7.2.
+#[derive(Drop)]
+pub struct Store<T, A: Allocator = Global> {
+    // Each message with the number of receivers that are still to read it.
+    queue: Queue<T, A>,
+    cursors: Cursors<A>,
+}
+
+impl<T, A: Allocator> Model for Store<T, A> {
+    ghost use Rattle.bcast_store.specs.Stored.{Stored, stored_code};
+
+    ghost Value = { Stored T };
+
+    ghost coded = { stored_code T.code };
+
+    ghost use Rattle.bcast_store.specs.Sound.{store_of, IsSound};
+
+    ghost view = { λ s. store_of s.queue s.cursors.numbers };
+
+    ghost invariant = { λ s. IsSound s.queue s.cursors.numbers };
+}
+
+impl<T: Drop, A: Allocator + Copy> Store<T, A> {
+    /// A store with no message and one receiver, and that receiver's key.
+    ///
+    /// `first` is the number of the first message, and `room` how many messages fit. Takes memory
+    /// for all of them.
+    ///
+    /// # Errors
+    ///
+    /// - `AllocError`: there is no memory for `room` messages or for the receiver.
+    ///
+    /// Source: this crate's own, for the parts that `broadcast` of async-broadcast makes.
+    pub fn new(alloc: A, first: u64, room: usize) -> Result<(Self, usize), AllocError>
+        requires room { 0 < room }
+        requires number { first + 1 < 2 ^ 64 }
+        ensures { IfOk result (λ made. made.0 ≡ record {
+          front = first;
+          queue = [];
+          cursors = insert empty made.1 first;
+          room = room;
+        }) }
+    {
+        let queue = Queue::new(alloc, first, room)?;
+        let mut cursors = Cursors::new(alloc);
+        let key = cursors.add(first)?;
+        Ok((Store { queue, cursors }, key))
+    }
+
+    /// Says what holds of every store, to a proof that needs it. Does nothing.
+    ///
+    /// Source: this crate's own.
+    pub fn known(&self)
+        ensures { IsSettled self.now }
+    {
+        self.queue.known();
+        self.cursors.len();
+    }
+
+    /// The number of the first message, or of the next one where there is none.
+    ///
+    /// Source: this crate's own, for `head_pos` of async-broadcast.
+    pub fn front(&self) -> u64
+        ensures { result ≡ self.now.front }
+    {
+        self.queue.front()
+    }
+
+    /// The number that the next message gets.
+    ///
+    /// Source: this crate's own, for `head_pos + queue.len()` of async-broadcast.
+    pub fn end(&self) -> u64
+        ensures { result ≡ end_of self.now }
+    {
+        self.queue.known();
+        self.queue.front() + self.queue.len() as u64
+    }
+
+    /// How many messages there are.
+    ///
+    /// Source: this crate's own, for `queue.len()` of async-broadcast.
+    pub fn len(&self) -> usize
+        ensures { result ≡ length self.now.queue }
+    {
+        self.queue.len()
+    }
+
+    /// Whether there is no message.
+    ///
+    /// Source: this crate's own, for `queue.is_empty()` of async-broadcast.
+    pub fn is_empty(&self) -> bool
+        ensures { result ≡ (length self.now.queue == 0) }
+    {
+        self.queue.len() == 0
+    }
+
+    /// How many messages fit.
+    ///
+    /// Source: this crate's own, for `queue.capacity()` of async-broadcast.
+    pub fn room(&self) -> usize
+        ensures { result ≡ self.now.room }
+    {
+        self.queue.room()
+    }
+
+    /// How many receivers there are.
+    ///
+    /// Source: `Inner::receiver_count` of async-broadcast.
+    pub fn receivers(&self) -> usize
+        ensures { result ≡ len self.now.cursors }
+    {
+        self.cursors.len()
+    }
+
+    /// Whether there is no receiver.
+    ///
+    /// Source: this crate's own, for `receiver_count == 0` of async-broadcast.
+    pub fn has_no_receiver(&self) -> bool
+        ensures { result ≡ (len self.now.cursors == 0) }
+    {
+        self.cursors.is_empty()
+    }
+
+    /// The cursor of the receiver `key`, or nothing where there is no such receiver.
+    ///
+    /// Source: `Receiver::pos` of async-broadcast.
+    pub fn cursor(&self, key: usize) -> Option<u64>
+        ensures { result ≡ get self.now.cursors key }
+    {
+        self.cursors.get(key)
+    }
+
+    /// The message at `index`, or nothing where the queue ends before it. No receiver has read it
+    /// by this.
+    ///
+    /// Source: this crate's own.
+    pub fn get(&self, index: usize) -> Option<&T>
+        ensures { option_copied result ≡ slice_get self.now.queue index }
+    {
+        self.queue.get(index)
+    }
+
+    /// The receivers' keys by rising order, each with its cursor. Takes memory for the list.
+    ///
+    /// # Errors
+    ///
+    /// - `AllocError`: there is no memory for the list.
+    ///
+    /// Source: this crate's own.
+    pub fn cursors<B: Allocator>(&self, alloc: B) -> Result<Vec<(usize, u64), B>, AllocError>
+        ensures { IfOk result (λ cursors. cursors.items ≡ entries self.now.cursors) }
+    {
+        self.cursors.entries(alloc)
+    }
+
+    /// Puts `msg` last, for every receiver. Takes no memory.
+    ///
+    /// Source: this crate's own, for `queue.push_back` in `try_broadcast` of async-broadcast.
+    pub fn push(&mut self, msg: T)
+        requires someone { 0 < len self.old.cursors }
+        requires room { length self.old.queue < self.old.room }
+        requires number { end_of self.old + 1 < 2 ^ 64 }
+        ensures { self.new ≡ record self.old { queue = self.old.queue ++ msg ∷ [] } }
+    {
+        self.queue.known();
+        self.queue.push(msg, self.cursors.len());
+    }
+
+    /// Takes the first message out, whoever is still to read it, or gives nothing where there is
+    /// none.
+    ///
+    /// Source: this crate's own, for `queue.pop_front` in `try_broadcast` of async-broadcast.
+    pub fn pop(&mut self) -> Option<T>
+        ensures oldest { IfSome result (λ msg. self.old.queue ≡ msg ∷ self.new.queue) }
+        ensures rest { OnSome result (self.new ≡ record self.old {
+          front = self.old.front + 1;
+          queue = self.new.queue;
+        }) }
+
+        ensures empty { IfNone result (self.old.queue ≡ []) }
+        ensures none { IfNone result (self.new ≡ self.old) }
+    {
+        self.queue.known();
+        self.queue.pop()
+    }
+
+    /// Takes the first `count` messages out, whoever is still to read them, and drops them.
+    ///
+    /// Source: this crate's own, for the loop in `set_capacity` of async-broadcast.
+    pub fn drop_first(&mut self, count: usize)
+        requires { count ≤ length self.old.queue }
+        ensures { self.new ≡ record self.old {
+          front = self.old.front + count;
+          queue = drop count self.old.queue;
+        } }
+    {
+        for _index in 0..count {
+            self.pop();
+        }
+    }
+
+    /// Makes room for `room` messages in all. Takes memory; the messages move to it.
+    ///
+    /// # Errors
+    ///
+    /// - `AllocError`: there is no memory for `room` messages. The store is unchanged.
+    ///
+    /// Source: this crate's own, for `queue.reserve` in `set_capacity` of async-broadcast.
+    pub fn grow(&mut self, room: usize) -> Result<(), AllocError>
+        requires { self.old.room ≤ room }
+        ensures ok { OnOk result (self.new ≡ record self.old { room = room }) }
+        ensures err { OnErr result (self.new ≡ self.old) }
+    {
+        self.queue.grow(room)
+    }
+}

@@ -1,0 +1,98 @@
+//! Receivers come, leave, and read.
+ghost use Rattle.std.specs.Prelude.{◌≡◌, ◌+◌, ◌<◌, ◌≤◌, None, Some, if◌then◌else◌};
+ghost use Rattle.std.specs.Prelude.{IfOk, IsOk, OnOk, OnErr, IsSomeAnd, max};
+ghost use Rattle.std.specs.FinMap as map;
+ghost use Rattle.bcast_store.specs.Stored.{IsHandedOut, IsOwed, end_of, with_cursors};
+
+use crate::Store;
+use std::alloc::{AllocError, Allocator};
+
+impl<T: Drop, A: Allocator + Copy> Store<T, A> {
+    /// Lets the receiver `key`, which lags, go on at the front. Takes no memory.
+    ///
+    /// Source: this crate's own, for `Inner::try_recv_at` of async-broadcast where it overflowed.
+    pub fn skip(&mut self, key: usize)
+        requires lags { IsSomeAnd (map.get self.old.cursors key) (λ c. c < self.old.front) }
+        ensures { self.new ≡ record self.old {
+          cursors = map.insert self.old.cursors key self.old.front;
+        } }
+    {
+        self.cursors.set(key, self.queue.front());
+    }
+
+    /// Adds a receiver with this cursor, and gives its key, which no other receiver has.
+    ///
+    /// # Errors
+    ///
+    /// - `AllocError`: there is no memory for one more receiver. The store is unchanged.
+    ///
+    /// Source: this crate's own, for `Receiver::clone` and `new_receiver` of async-broadcast.
+    pub fn add(&mut self, cursor: u64) -> Result<usize, AllocError>
+        requires { cursor ≤ end_of self.old }
+        ensures free { IfOk result (λ key. map.get self.old.cursors key ≡ None) }
+        ensures ok { IfOk result (λ key. self.new ≡ record self.old {
+          cursors = map.insert self.old.cursors key cursor;
+        }) }
+        ensures err { OnErr result (self.new ≡ self.old) }
+    {
+        self.queue.known();
+        let key = self.cursors.add(cursor)?;
+        let index = cursor.saturating_sub(self.queue.front()) as usize;
+        self.queue.share(index);
+        Ok(key)
+    }
+
+    /// Takes the receiver `key` out, drops the messages that nobody is to read any more, and says
+    /// whether there was such a receiver. Takes no memory.
+    ///
+    /// Source: this crate's own, for `drop` of a `Receiver` of async-broadcast.
+    pub fn remove(&mut self, key: usize) -> bool
+        ensures found { result ≡ map.contains_key self.old.cursors key }
+        ensures rest { self.new ≡ (if result
+            then with_cursors self.old (map.remove self.old.cursors key)
+            else self.old) }
+    {
+        self.queue.known();
+        let Some(cursor) = self.cursors.remove(key) else {
+            return false;
+        };
+        let index = cursor.saturating_sub(self.queue.front()) as usize;
+        self.queue.leave(index);
+        self.queue.known();
+        true
+    }
+}
+
+impl<T: Clone, A: Allocator + Copy> Store<T, A> {
+    /// Gives the receiver `key` the message numbered `number`, and lets it go on after it.
+    ///
+    /// `number` is the receiver's cursor, or the front where it lags. The message given is the message
+    /// itself, which goes, where this receiver is the last to read it, and else a clone. Takes what
+    /// memory the clone takes.
+    ///
+    /// # Errors
+    ///
+    /// - `AllocError`: another receiver is to read the message too, and there is no memory for a
+    ///   clone. The store is unchanged.
+    ///
+    /// Source: this crate's own, for `Inner::try_recv_at` of async-broadcast.
+    pub fn read(&mut self, key: usize, number: u64) -> Result<T, AllocError>
+        requires at { IsSomeAnd (map.get self.old.cursors key)
+            (λ cursor. number ≡ max cursor self.old.front) }
+        requires below { number < end_of self.old }
+        ensures given { IfOk result (λ given. IsHandedOut T.is_clone self.old key number given) }
+        ensures ok { OnOk result
+            (self.new ≡ with_cursors self.old (map.insert self.old.cursors key (number + 1))) }
+        ensures sure { ((msg : T) → T.is_infallible msg) → IsOk result }
+
+        ensures owed { OnErr result (IsOwed self.old key number) }
+        ensures err { OnErr result (self.new ≡ self.old) }
+    {
+        self.queue.known();
+        let index = (number - self.queue.front()) as usize;
+        let msg = self.queue.read(index)?;
+        self.cursors.set(key, number + 1);
+        self.queue.known();
+        Ok(msg)
+    }
+}

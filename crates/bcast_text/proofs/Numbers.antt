@@ -1,0 +1,27 @@
+-- What `parse` reads, against what `decimal` spells.
+use Rattle.std.proofs.Common.{rules, arith, ◌≡◌, ◌≢◌, ◌<◌, ◌^◌, ℕ, length, List, get_or, suc, zero}
+use Rattle.std.specs.Prelude.{Result, Ok, Err}
+use Rattle.std.specs.Fmt.{decimal}
+use Rattle.std.specs.Str.Parse.{ParsesUnsigned, AllDigits, digits_value}
+use Rattle.std.proofs.lemmas.Fmt.{decimal-digits_value, first_decimal, decimal_digit, decimal_is_IsNumeral}
+use Rattle.std.proofs.lemmas.Str.Parse.{IsNumeralModel, numerals_by_value, parse_plain, not_in_digits, tells_digits}
+
+-- how std's numerals are read here
+pub digits : IsNumeralModel (AllDigits 10) (digits_value 10)
+digits = numerals_by_value (AllDigits 10) tells_digits
+
+-- a text without a sign or a leading zero, which `parse` reads as n, is what is written of n
+pub parsed_is_spelt : {E : Type 0} (bs : List ℕ) (r : Result ℕ E) → ParsesUnsigned 64 10 bs r → get_or bs 0 0 ≢ 43 → (get_or bs 0 0 ≡ 48 → length bs ≡ 1) → (n : ℕ) → r ≡ Ok n → bs ≡ decimal n
+parsed_is_spelt {E} bs (Ok m) h plain lone n e =
+    let read = parse_plain digits {E = E} 64 bs (Ok m) h plain in
+    search (rules, decimal-digits_value digits bs read.0.0 read.0.1 lone read.0.2, read.1, e)
+parsed_is_spelt {E} bs (Err x) h plain lone n e = search rules
+
+-- no number is written with a plus
+pub no_plus : (bs : List ℕ) (n : ℕ) → n < 2 ^ 64 → bs ≡ decimal n → get_or bs 0 0 ≢ 43
+no_plus bs n small e = let d = decimal_is_IsNumeral n small in rw e (not_in_digits digits (decimal n) 43 d.0.1 (λ r. omega (arith, r)) 0 d.0.0)
+
+-- nor with a zero in front
+pub no_leading_zero : (bs : List ℕ) (n : ℕ) → n < 2 ^ 64 → bs ≡ decimal n → get_or bs 0 0 ≡ 48 → length bs ≡ 1
+no_leading_zero bs zero small e z = rw e (search (rules, decimal_digit 0 (omega arith)))
+no_leading_zero bs (suc n) small e z = let f = first_decimal (suc n) (omega arith) small in let same = e in grind (arith, f, same)

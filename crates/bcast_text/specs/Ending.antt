@@ -1,0 +1,21 @@
+-- How a run of a program ends, as its user sees it.
+use Rattle.std.specs.Prelude.{ℕ, List, [], ◌++◌, codes}
+use Rattle.std.specs.Fmt.{decimal}
+use Rattle.bcast_text.specs.declared.ending.Ending.{Ending}
+use Rattle.bcast_text.specs.declared.ending.Ending.TheVariants.{Done, NotACall, NoMemory, InputFailed, OutputFailed}
+
+-- the exit status
+abbrev pub status_of : Ending → ℕ
+status_of Done = 0
+status_of (NotACall line) = 2
+status_of NoMemory = 3
+status_of InputFailed = 4
+status_of OutputFailed = 4
+
+-- the line on standard error, its LF aside; none where every line was run
+abbrev pub text_of : Ending → List ℕ
+text_of Done = []
+text_of (NotACall line) = codes "line " ++ decimal line ++ codes ": not a call"
+text_of NoMemory = codes "out of memory"
+text_of InputFailed = codes "input failed"
+text_of OutputFailed = codes "output failed"

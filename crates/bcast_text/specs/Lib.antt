@@ -1,0 +1,2 @@
+-- how a run ends
+pub mod Ending

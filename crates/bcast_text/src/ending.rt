@@ -1,0 +1,65 @@
+//! How a run of a program ends: its text on standard error, and its exit status.
+ghost use Rattle.std.specs.Prelude.{◌≡◌};
+ghost use Rattle.bcast_text.specs.Ending.{status_of};
+
+use std::fmt;
+
+/// How a run ended.
+#[derive(Clone, Copy, Debug, PartialEq, Eq)]
+pub enum Ending {
+    /// Every line was run.
+    Done,
+    /// The line of this number, counted from 1, is no call. The lines before it were run.
+    NotACall(u64),
+    /// There was no memory.
+    NoMemory,
+    /// A read failed.
+    InputFailed,
+    /// A write failed.
+    OutputFailed,
+}
+
+impl Ending {
+    /// The exit status of a program that ended so.
+    ///
+    /// Source: this crate's own.
+    pub fn status(self) -> u8
+        ensures { result ≡ status_of self }
+    {
+        match self {
+            Ending::Done => 0,
+            Ending::NotACall(_) => 2,
+            Ending::NoMemory => 3,
+            Ending::InputFailed | Ending::OutputFailed => 4,
+        }
+    }
+}
+
+impl fmt::Display for Ending {
+    ghost use Rattle.std.specs.Prelude.{Some};
+    ghost use Rattle.bcast_text.specs.Ending.{text_of};
+
+    ghost output = { λ e. Some (text_of e) };
+
+    fn fmt<W: fmt::Write>(&self, f: &mut fmt::Formatter<W>) -> fmt::Result {
+        match self {
+            Ending::Done => Ok(()),
+            Ending::NotACall(line) => write!(f, "line {line}: not a call"),
+            Ending::NoMemory => f.write_str("out of memory"),
+            Ending::InputFailed => f.write_str("input failed"),
+            Ending::OutputFailed => f.write_str("output failed"),
+        }
+    }
+}
+
+/// Prints how the run ended on standard error, and answers the exit status.
+///
+/// Source: this crate's own.
+pub fn report(rt: &impl Eprint, ending: Ending) -> u8
+    ensures { result ≡ status_of ending }
+{
+    if ending != Ending::Done {
+        let _ = eprintln!(rt; "{ending}");
+    }
+    ending.status()
+}

@@ -1,0 +1,44 @@
+-- The test that a `ReceiveList` makes is `same_pair`, and what its calls give with it.
+use Rattle.std.proofs.Common.{◌≡◌, ◌<◌, ◌⊎◌, inl, inr, ◌==◌, ◌&&◌, Bool, true, false, length, refl, sym, ap, ◌∙◌, subst}
+use Rattle.std.proofs.lemmas.Bool.{true≢false}
+use Rattle.bcast_model.specs.declared.listener.Kind.{Kind}
+use Rattle.bcast_model.specs.declared.listener.Kind.TheVariants as kind
+use Rattle.bcast_model.specs.contracts.listener.KindPartialEq.TheImpl.{ghosts}
+use Rattle.bcast_model.specs.Listeners.{Listeners, is_in}
+use Rattle.bcast_model.specs.Pair.{Pair, same_kind, same_pair}
+use Rattle.bcast_event.specs.Event.{Event}
+use Rattle.bcast_waiting.specs.Lists.{Receives}
+
+-- the test that the list makes, of a number and a kind
+abbrev pub same : Pair → Pair → Bool
+same pair other = (pair.0 == other.0) && ghosts.eq pair.1 other.1
+
+by_kinds : (k j : Kind) → ghosts.eq k j ≡ same_kind k j
+by_kinds kind.Stream kind.Stream = refl
+by_kinds kind.Stream kind.Future = refl
+by_kinds kind.Future kind.Stream = refl
+by_kinds kind.Future kind.Future = refl
+
+same-is : same ≡ same_pair
+same-is = λ i pair other. (pair.0 == other.0) && by_kinds pair.1 other.1 i
+
+-- what a contract sees of the list
+abbrev pub receives_of : Event Pair → Receives
+receives_of e = record { waiting = e.listeners; room = e.room }
+
+-- a change of the list by the test is the change by `same_pair`
+pub changed : (change : (Pair → Pair → Bool) → Listeners Pair → Listeners Pair) (old new : Event Pair) (now : Receives) → new ≡ record old { listeners = change same old.listeners }
+    → receives_of old ≡ now → receives_of new ≡ record now { waiting = change same_pair now.waiting }
+changed change old new now is seen =
+    ap receives_of is
+    ∙ ap (λ (test : Pair → Pair → Bool). receives_of (record old { listeners = change test old.listeners })) same-is
+    ∙ ap (λ (r : Receives). record r { waiting = change same_pair r.waiting }) seen
+
+-- who is not listed has room
+pub has_room : (id : Pair) (old : Event Pair) (now : Receives) (is_listed : Bool) → is_in same id old.listeners.ids ≡ is_listed → receives_of old ≡ now
+    → (is_in same_pair id now.waiting.ids ≡ true) ⊎ (length now.waiting.ids < now.room) → is_listed ≡ false → length old.listeners.ids < old.room
+has_room id old now is_listed listed seen room absent =
+    elim room as (λ _. length old.listeners.ids < old.room) [
+      | inl h ↦ absurd (true≢false (sym h ∙ ap (λ (r : Receives). is_in same_pair id r.waiting.ids) (sym seen) ∙ ap (λ (test : Pair → Pair → Bool). is_in test id old.listeners.ids) (sym same-is) ∙ listed ∙ absent))
+      | inr h ↦ subst (λ (r : Receives). length r.waiting.ids < r.room) (sym seen) h
+    ]
