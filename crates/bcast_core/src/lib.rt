@@ -14,6 +14,3 @@ pub use bcast_model::listener::Kind;
 pub use bcast_model::run::{Call, Reply, SendPoll};
 pub use state::Inner;
 pub use steps::{Ran, run, step};
-
-#[cfg(test)]
-mod tests;
