@@ -1,0 +1,7 @@
+-- what a port may reply, and how handles are seen
+pub mod Kinds
+pub mod Ports
+-- the replies of a channel are such
+pub mod OfKind
+-- futures
+pub mod Futures

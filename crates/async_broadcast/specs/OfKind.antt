@@ -1,0 +1,90 @@
+-- A reply that a channel may give is of its call's kind.
+use Rattle.std.proofs.Common.{inl, inr, ℕ, Bool, true, false, if◌then◌else◌, Option, Some, None, Result, Ok, refl}
+use Rattle.bcast_model.specs.declared.error.TryRecvError.{TryRecvError}
+use Rattle.bcast_model.specs.declared.error.HandleError.{HandleError}
+use Rattle.bcast_model.specs.declared.error.TrySendError.TheVariants as unsent
+use Rattle.bcast_model.specs.declared.run.SendPoll.TheVariants as send
+use Rattle.bcast_model.specs.declared.run.Call.{Call}
+use Rattle.bcast_model.specs.declared.run.Call.TheVariants as call
+use Rattle.bcast_model.specs.declared.run.Reply.{Reply}
+use Rattle.bcast_model.specs.declared.run.Reply.TheVariants as reply
+use Rattle.bcast_model.specs.Control.{Cursors, has_no_receiver, has_place}
+use Rattle.bcast_model.specs.History.{History}
+use Rattle.bcast_model.specs.Sending.{attempted, attempt_send_reply}
+use Rattle.bcast_model.specs.Legal.{Legal, IsReceived, IsMade, IsMadeFrom}
+use Rattle.bcast_model.specs.View.{IsPossible}
+use Rattle.async_broadcast.specs.Kinds.{IsA, HandsBack, IsOfKind}
+
+module _ {T : Type 0} where
+  -- a send that must wait hands its message back, whatever the channel is
+  attempted-back : (closed deserted full await : Bool) (back : Option T) (msg : T)
+      → HandsBack msg (attempted await back (if closed then Some (unsent.Closed msg) else (if deserted then Some (unsent.Inactive msg) else (if full then Some (unsent.Full msg) else None))))
+  attempted-back true deserted full await back msg = tt
+  attempted-back false true full true back msg = refl
+  attempted-back false true full false back msg = tt
+  attempted-back false false true await back msg = refl
+  attempted-back false false false await back msg = tt
+
+  attempt_send-back : (h : History T) (msg : T) → HandsBack msg (attempt_send_reply h msg)
+  attempt_send-back h msg = attempted-back h.control.closed (has_no_receiver h.control) _ h.control.await_active _ msg
+
+  poll_send-back : (there : Bool) (h : History T) (msg : T) → HandsBack msg (if there then attempt_send_reply h msg else send.Wait msg)
+  poll_send-back true h msg = attempt_send-back h msg
+  poll_send-back false h msg = refl
+
+  received : {A : Type 0} (is_clone : T → T → Type 0) (owed : Type 0) (variant : A → Reply T) (spell : Result T TryRecvError → A) (refused : A) (exact : Result T TryRecvError) (r : Reply T)
+      → IsReceived is_clone owed (λ answer. variant (spell answer)) (variant refused) exact r → IsA variant r
+  received is_clone owed variant spell refused exact r (inl given) = (spell exact, given)
+  received is_clone owed variant spell refused exact r (inr (owes, inl clone)) = (spell (Ok clone.given), clone.reply)
+  received is_clone owed variant spell refused exact r (inr (owes, inr none)) = (refused, none)
+
+  made : (cursors : Cursors) (variant : Result ℕ HandleError → Reply T) (r : Reply T) → IsMade cursors variant r → IsA variant r
+  made cursors variant r (inl given) = (_, given.1)
+  made cursors variant r (inr none) = (_, none)
+
+  made_from : (there : Bool) (cursors : Cursors) (variant : Result ℕ HandleError → Reply T) (r : Reply T) → IsMadeFrom there cursors variant r → IsA variant r
+  made_from there cursors variant r (inl gone) = (_, gone.1)
+  made_from there cursors variant r (inr given) = made cursors variant r given.1
+
+  legal : (is_clone : T → T → Type 0) (h : History T) (c : Call T) (r : Reply T) → Legal is_clone h c r → IsOfKind c r
+  legal is_clone h (call.TryBroadcast msg) r l = (_, l)
+  legal is_clone h (call.AttemptSend msg) r l = (_, l, attempt_send-back h msg)
+  legal is_clone h call.BeginSend r (inl given) = (_, given.1)
+  legal is_clone h call.BeginSend r (inr none) = (_, none)
+  legal is_clone h (call.PollSend place msg) r l = (_, l, poll_send-back (has_place h.control place) h msg)
+  legal is_clone h (call.EndSend place) r l = l
+  legal is_clone h (call.TryRecv key) r l = received is_clone _ reply.TryRecv _ _ _ r l
+  legal is_clone h (call.PollFuture key) r l = received is_clone _ reply.PollFuture _ _ _ r l
+  legal is_clone h (call.EndFuture key) r l = l
+  legal is_clone h (call.PollRecv key) r l = received is_clone _ reply.PollRecv _ _ _ r l
+  legal is_clone h (call.PollNext key) r l = received is_clone _ reply.PollNext _ _ _ r l
+  legal is_clone h call.Close r l = (_, l)
+  legal is_clone h (call.SetCapacity n) r (inl given) = (_, given)
+  legal is_clone h (call.SetCapacity n) r (inr none) = (_, none.0)
+  legal is_clone h (call.SetOverflow on) r l = l
+  legal is_clone h (call.SetAwaitActive on) r l = l
+  legal is_clone h call.NewSender r l = (_, l)
+  legal is_clone h call.CloneInactive r l = (_, l)
+  legal is_clone h (call.Deactivate key) r l = (_, l)
+  legal is_clone h call.NewReceiver r l = made _ reply.NewReceiver r l
+  legal is_clone h call.Activate r l = made_from _ _ reply.Activate r l
+  legal is_clone h call.ActivateCloned r l = made_from _ _ reply.ActivateCloned r l
+  legal is_clone h (call.CloneReceiver key) r l = made_from _ _ reply.CloneReceiver r l
+  legal is_clone h call.DropSender r l = l
+  legal is_clone h call.DropInactive r l = l
+  legal is_clone h (call.DropReceiver key) r l = l
+  legal is_clone h call.Overflow r l = (_, l)
+  legal is_clone h call.AwaitActive r l = (_, l)
+  legal is_clone h call.IsEmpty r l = (_, l)
+  legal is_clone h call.IsFull r l = (_, l)
+  legal is_clone h call.IsClosed r l = (_, l)
+  legal is_clone h call.IsTerminated r l = (_, l)
+  legal is_clone h call.Capacity r l = (_, l)
+  legal is_clone h call.Len r l = (_, l)
+  legal is_clone h call.ReceiverCount r l = (_, l)
+  legal is_clone h call.InactiveReceiverCount r l = (_, l)
+  legal is_clone h call.SenderCount r l = (_, l)
+  legal is_clone h call.EndNumber r l = (_, l)
+
+  pub possible : (is_clone : T → T → Type 0) (c : Call T) (r : Reply T) → IsPossible is_clone c r → IsOfKind c r
+  possible is_clone c r may = legal is_clone may.0 c r may.2

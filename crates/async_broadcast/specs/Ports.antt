@@ -1,0 +1,20 @@
+-- What handles make of ports and replies.
+use Rattle.std.specs.Prelude.{◌↔◌, Result, Ok, Err}
+use Rattle.std.specs.declared.alloc.AllocError.{AllocError}
+use Rattle.bcast_model.specs.declared.error.RecvError.{RecvError}
+use Rattle.bcast_model.specs.declared.error.RecvError.TheVariants as unreceived
+use Rattle.bcast_model.specs.declared.error.TryRecvError.{TryRecvError}
+use Rattle.bcast_model.specs.declared.error.TryRecvError.TheVariants as unread
+use Rattle.bcast_model.specs.declared.run.Call.{Call}
+use Rattle.bcast_model.specs.declared.run.Reply.{Reply}
+
+-- `Sender::clone` and the like: this port may give just the replies that the other one may give
+abbrev pub IsSame : {T P : Type 0} → (P → Call T → Reply T → Type 0) → P → P → Type 0
+IsSame {T} {P} gave port other = (call : Call T) (reply : Reply T) → gave port call reply ↔ gave other call reply
+
+-- `recv_blocking`: its answer, as `try_recv` spells it
+abbrev pub as_try_recv : {T : Type 0} → Result (Result T RecvError) AllocError → Result (Result T TryRecvError) AllocError
+as_try_recv (Ok (Ok msg)) = Ok (Ok msg)
+as_try_recv (Ok (Err (unreceived.Overflowed n))) = Ok (Err (unread.Overflowed n))
+as_try_recv (Ok (Err unreceived.Closed)) = Ok (Err unread.Closed)
+as_try_recv (Err error) = Err error

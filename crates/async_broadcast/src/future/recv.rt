@@ -1,0 +1,122 @@
+//! Receiving in a task, a message at a time.
+ghost use Rattle.std.specs.Prelude.{◌≡◌, ⊤, Ok, Err, IfOk};
+ghost use Rattle.futures.specs.Task.{Covers, IsArmed, Keeps};
+ghost use Rattle.futures.specs.Poll.{IfReady, OnPending};
+ghost use Rattle.async_broadcast.specs.Futures.{GivesReceived};
+
+use crate::error::RecvError;
+use crate::port::Port;
+use crate::receiver::Receiver;
+use crate::wake::{Slot, Wake};
+use bcast_core::{Call, Reply};
+use futures::Future;
+use futures::task::{Context, Poll};
+use std::alloc::{AllocError, Allocator, Global};
+
+/// Receives the next message of its receiver.
+///
+/// Its output is that of `recv_blocking`. Polled again after its output it receives anew.
+///
+/// Source: `Recv` of async-broadcast 0.7.2.
+pub struct Recv<'a, T: Clone, P: Port<T, Slot<A>>, A: Allocator = Global> {
+    receiver: &'a mut Receiver<T, P, A>,
+}
+
+impl<T: Clone, P: Port<T, Slot<A>>, A: Allocator + Copy> Receiver<T, P, A> {
+    /// Receives the next message in a task, by a future in a box.
+    ///
+    /// # Errors
+    ///
+    /// - `AllocError`: no memory for the box. Nothing changed.
+    ///
+    /// Source: `Receiver::recv` of async-broadcast 0.7.2, which never refuses.
+    pub fn recv(&mut self) -> Result<Box<Recv<'_, T, P, A>, A>, AllocError>
+        ensures { IfOk result (λ recv. recv.value.receiver.now ≡ self.old) }
+    {
+        let alloc = self.bell.alloc();
+        Ok(Box::new(alloc, self.recv_direct())?)
+    }
+
+    /// Receives the next message in a task, by a future.
+    ///
+    /// Source: `Receiver::recv_direct` of async-broadcast 0.7.2.
+    pub fn recv_direct(&mut self) -> Recv<'_, T, P, A>
+        ensures { result.receiver.now ≡ self.old }
+    {
+        Recv { receiver: self }
+    }
+
+    /// Receives the next message, or leaves the task waiting for it. For streams that are made of
+    /// a receiver, and tell their callers of missed messages.
+    ///
+    /// `Ready(None)`: every message was read, and the channel is closed.
+    ///
+    /// # Errors
+    ///
+    /// - `AllocError`: no memory for a notice, or for a clone of a message that others have still
+    ///   to read. Nothing changed.
+    /// - `Overflowed(n)`: the next `n` messages were dropped. The receiver goes on after them.
+    ///
+    /// Source: `Receiver::poll_recv` of async-broadcast 0.7.2, which never refuses for memory.
+    pub fn poll_recv(
+        &mut self,
+        cx: &mut Context<'_>,
+    ) -> Result<Poll<Option<Result<T, RecvError>>>, AllocError>
+        ensures asked { IfOk result (λ poll. P.gave self.old.port (Call.PollRecv self.old.key)
+            (Reply.PollRecv (Ok poll))) }
+        ensures same { (self.new.port ≡ self.old.port) × (self.new.key ≡ self.old.key) }
+        ensures registered { IsArmed cx.new }
+        ensures kept { Keeps cx.old cx.new }
+    {
+        let Some(wake) = self.bell.listen(cx) else {
+            return Err(AllocError);
+        };
+        match self.port.ask(Call::PollRecv(self.key), wake) {
+            Reply::PollRecv(answer) => answer,
+            _ => unreachable!(),
+        }
+    }
+}
+
+impl<T: Clone, P: Port<T, Slot<A>>, A: Allocator> Drop for Recv<'_, T, P, A> {
+    fn drop(self) {
+        let receiver = &*self.receiver;
+        receiver
+            .port
+            .ask(Call::EndFuture(receiver.key), Wake::none());
+        let Recv { receiver: _ } = self;
+    }
+}
+
+impl<T: Clone, P: Port<T, Slot<A>>, A: Allocator + Copy> Future for Recv<'_, T, P, A> {
+    type Output = Result<Result<T, RecvError>, AllocError>;
+
+    ghost gives = { λ r out. GivesReceived P.gave r.receiver.now.port r.receiver.now.key out };
+
+    fn poll(&mut self, cx: &mut Context<'_>) -> Poll<Result<Result<T, RecvError>, AllocError>>
+        ensures value { IfReady result
+            (GivesReceived P.gave self.old.receiver.now.port self.old.receiver.now.key) }
+        ensures again { OnPending result ⊤ }
+        ensures same { OnPending result ((out : _)
+            → GivesReceived P.gave self.new.receiver.now.port self.new.receiver.now.key out
+            → GivesReceived P.gave self.old.receiver.now.port self.old.receiver.now.key out) }
+        ensures registered { OnPending result (Covers cx.new (λ _. ⊥)) }
+        ensures kept { Keeps cx.old cx.new }
+
+        ensures waits { OnPending result (P.gave self.old.receiver.now.port
+            (Call.PollFuture self.old.receiver.now.key) (Reply.PollFuture (Ok Poll.Pending))) }
+        ensures port { self.new.receiver.now.port ≡ self.old.receiver.now.port }
+        ensures key { self.new.receiver.now.key ≡ self.old.receiver.now.key }
+    {
+        let receiver = &mut *self.receiver;
+        let Some(wake) = receiver.bell.listen(cx) else {
+            return Poll::Ready(Err(AllocError));
+        };
+        match receiver.port.ask(Call::PollFuture(receiver.key), wake) {
+            Reply::PollFuture(Ok(Poll::Ready(answer))) => Poll::Ready(Ok(answer)),
+            Reply::PollFuture(Ok(Poll::Pending)) => Poll::Pending,
+            Reply::PollFuture(Err(error)) => Poll::Ready(Err(error)),
+            _ => unreachable!(),
+        }
+    }
+}

@@ -1,0 +1,174 @@
+//! Sends that wait in a task.
+ghost use Rattle.std.specs.Prelude.{◌≡◌, ⊤, Some, None, Ok, Err, IfOk, IfErr, IsSome, alloc_error};
+ghost use Rattle.futures.specs.Task.{Covers, Keeps};
+ghost use Rattle.futures.specs.Poll.{IfReady, OnPending};
+ghost use Rattle.async_broadcast.specs.Futures.{BeganSend, GivesSent, MustWait};
+
+use crate::error::{NoMemory, SendError};
+use crate::port::{Port, ask};
+use crate::sender::Sender;
+use crate::wake::{Bell, Slot, Wake};
+use bcast_core::{Call, Reply, SendPoll};
+use futures::Future;
+use futures::task::{Context, Poll};
+use std::alloc::{Allocator, Global};
+
+/// A message that waits until the channel accepts it.
+///
+/// Its output is that of `broadcast_blocking`, or `NoMemory` with the message where there was no
+/// memory for a notice. Polled again after its output it is pending, and asks nothing. Dropped
+/// before, it sends nothing.
+///
+/// Source: `Send` of async-broadcast 0.7.2, which panics when polled again.
+pub struct Send<'a, T: Clone, P: Port<T, Slot<A>>, A: Allocator = Global> {
+    sender: &'a Sender<T, P, A>,
+    // Where the channel lists this send while it waits.
+    place: Option<usize>,
+    // Until the output.
+    msg: Option<T>,
+    bell: Bell<A>,
+}
+
+impl<T: Clone, P: Port<T, Slot<A>>, A: Allocator + Copy> Sender<T, P, A> {
+    /// Makes a send of this message, in a box. It sends nothing before it is polled.
+    ///
+    /// # Errors
+    ///
+    /// - `NoMemory(msg)`: no memory for its place in the channel, or for the box. The message
+    ///   comes back.
+    ///
+    /// Source: `Sender::broadcast` of async-broadcast 0.7.2, which never refuses.
+    pub fn broadcast(&self, msg: T) -> Result<Box<Send<'_, T, P, A>, A>, NoMemory<T>>
+        ensures port { IfOk result (λ send. send.value.sender.now.port ≡ self.now.port) }
+        ensures made { IfOk result (λ send. (send.value.msg ≡ Some msg)
+            × BeganSend P.gave self.now.port send.value.place) }
+        ensures back { IfErr result (λ error. error.0 ≡ msg) }
+    {
+        match self.broadcast_direct(msg) {
+            Ok(send) => match Box::new(self.alloc, send) {
+                Ok(boxed) => Ok(boxed),
+                Err(refused) => Err(NoMemory(refused.value.cancel())),
+            },
+            Err(error) => Err(error),
+        }
+    }
+
+    /// Makes a send of this message. It sends nothing before it is polled.
+    ///
+    /// # Errors
+    ///
+    /// - `NoMemory(msg)`: no memory for its place in the channel. The message comes back.
+    ///
+    /// Source: `Sender::broadcast_direct` of async-broadcast 0.7.2, which never refuses.
+    pub fn broadcast_direct(&self, msg: T) -> Result<Send<'_, T, P, A>, NoMemory<T>>
+        ensures port { IfOk result (λ send. send.sender.now.port ≡ self.now.port) }
+        ensures made { IfOk result (λ send. (send.msg ≡ Some msg)
+            × BeganSend P.gave self.now.port send.place) }
+        ensures refused { IfErr result (λ error. (error.0 ≡ msg)
+            × P.gave self.now.port Call.BeginSend (Reply.BeginSend (Err alloc_error))) }
+    {
+        match ask!(self.port, BeginSend) {
+            Ok(place) => Ok(Send {
+                sender: self,
+                place: Some(place),
+                msg: Some(msg),
+                bell: Bell::new(self.alloc),
+            }),
+            Err(_) => Err(NoMemory(msg)),
+        }
+    }
+}
+
+impl<T: Clone, P: Port<T, Slot<A>>, A: Allocator> Send<'_, T, P, A> {
+    // Gives up a send that was never polled.
+    fn cancel(self) -> T
+        requires { IsSome self.msg }
+        ensures { Some result ≡ self.entry.msg }
+    {
+        let Send {
+            sender,
+            place,
+            msg,
+            bell: _,
+        } = self;
+        sender.end_send(place);
+        match msg {
+            Some(msg) => msg,
+            None => unreachable!(),
+        }
+    }
+}
+
+impl<T: Clone, P: Port<T, Slot<A>>, A: Allocator> Sender<T, P, A> {
+    // A send that has its place still gives it up.
+    fn end_send(&self, place: Option<usize>) {
+        if let Some(place) = place {
+            self.port.ask(Call::EndSend(place), Wake::none());
+        }
+    }
+}
+
+impl<T: Clone, P: Port<T, Slot<A>>, A: Allocator> Drop for Send<'_, T, P, A> {
+    fn drop(self) {
+        let Send {
+            sender,
+            place,
+            msg: _,
+            bell: _,
+        } = self;
+        sender.end_send(place);
+    }
+}
+
+impl<T: Clone, P: Port<T, Slot<A>>, A: Allocator + Copy> Future for Send<'_, T, P, A> {
+    type Output = Result<Result<Option<T>, SendError<T>>, NoMemory<T>>;
+
+    ghost gives = { λ s out. GivesSent P.gave s.sender.now.port s.place s.msg out };
+
+    fn poll(
+        &mut self,
+        cx: &mut Context<'_>,
+    ) -> Poll<Result<Result<Option<T>, SendError<T>>, NoMemory<T>>>
+        ensures value { IfReady result
+            (GivesSent P.gave self.old.sender.now.port self.old.place self.old.msg) }
+        ensures again { OnPending result ⊤ }
+        ensures same { OnPending result ((out : _)
+            → GivesSent P.gave self.new.sender.now.port self.new.place self.new.msg out
+            → GivesSent P.gave self.old.sender.now.port self.old.place self.old.msg out) }
+        ensures registered { OnPending result (Covers cx.new (λ _. ⊥)) }
+        ensures kept { Keeps cx.old cx.new }
+
+        ensures answered { IfReady result (λ out. IfOk out
+            (λ _. (self.new.place ≡ None) × (self.new.msg ≡ None))) }
+        ensures refused { IfReady result (λ out. IfErr out
+            (λ _. (self.new.place ≡ self.old.place) × (self.new.msg ≡ None))) }
+        ensures waits { OnPending result
+            (MustWait P.gave self.old.sender.now.port self.old.place self.old.msg) }
+        ensures unchanged { OnPending result
+            ((self.new.place ≡ self.old.place) × (self.new.msg ≡ self.old.msg)) }
+        ensures port { self.new.sender.now.port ≡ self.old.sender.now.port }
+    {
+        let wake = self.bell.listen(cx);
+        let Some(place) = self.place else {
+            return Poll::Pending;
+        };
+        let Some(msg) = self.msg.take() else {
+            return Poll::Pending;
+        };
+        let Some(wake) = wake else {
+            return Poll::Ready(Err(NoMemory(msg)));
+        };
+        let sender = self.sender;
+        match sender.port.ask(Call::PollSend(place, msg), wake) {
+            Reply::PollSend(SendPoll::Ready(answer)) => {
+                self.place = None;
+                Poll::Ready(Ok(answer))
+            }
+            Reply::PollSend(SendPoll::Wait(msg)) => {
+                self.msg = Some(msg);
+                Poll::Pending
+            }
+            _ => unreachable!(),
+        }
+    }
+}

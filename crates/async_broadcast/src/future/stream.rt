@@ -1,0 +1,57 @@
+//! A receiver as a stream of its messages.
+ghost use Rattle.std.specs.Prelude.{◌≡◌, ⊤, None, Ok, IfSome, OnSome, []};
+ghost use Rattle.futures.specs.Task.{Covers, Keeps};
+ghost use Rattle.futures.specs.Poll.{IfReady, OnPending};
+ghost use Rattle.futures.specs.Runs.{After, Within};
+ghost use Rattle.async_broadcast.specs.Futures.{YieldsItems};
+
+use crate::port::Port;
+use crate::receiver::Receiver;
+use crate::wake::Slot;
+use bcast_core::{Call, Reply};
+use futures::Stream;
+use futures::task::{Context, Poll};
+use std::alloc::{AllocError, Allocator};
+
+// Messages that were dropped are skipped. An item `Err` found no memory for a notice or a clone,
+// and changed nothing. The stream ends when every message was read and the channel is closed.
+impl<T: Clone, P: Port<T, Slot<A>>, A: Allocator + Copy> Stream for Receiver<T, P, A> {
+    type Item = Result<T, AllocError>;
+
+    ghost yields = { λ r items last. YieldsItems P.gave r.port r.key items last };
+
+    fn poll_next(&mut self, cx: &mut Context<'_>) -> Poll<Option<Result<T, AllocError>>>
+        ensures value { IfReady result (YieldsItems P.gave self.old.port self.old.key []) }
+        ensures rest { IfReady result (λ next. IfSome next (λ item.
+            After (YieldsItems P.gave self.old.port self.old.key) item
+            (YieldsItems P.gave self.new.port self.new.key))) }
+        ensures goes { IfReady result (λ next. OnSome next ⊤) }
+        ensures again { OnPending result ⊤ }
+        ensures same { OnPending result (Within (YieldsItems P.gave self.old.port self.old.key)
+            (YieldsItems P.gave self.new.port self.new.key)) }
+        ensures registered { OnPending result (Covers cx.new (λ _. ⊥)) }
+        ensures kept { Keeps cx.old cx.new }
+
+        ensures waits { OnPending result (P.gave self.old.port (Call.PollNext self.old.key)
+            (Reply.PollNext (Ok Poll.Pending))) }
+        ensures port { self.new.port ≡ self.old.port }
+        ensures key { self.new.key ≡ self.old.key }
+    {
+        let Some(wake) = self.bell.listen(cx) else {
+            return Poll::Ready(Some(Err(AllocError)));
+        };
+        let Reply::PollNext(answer) = self.port.ask(Call::PollNext(self.key), wake) else {
+            unreachable!()
+        };
+        let Ok(answer) = answer else {
+            return Poll::Ready(Some(Err(AllocError)));
+        };
+        let Poll::Ready(next) = answer else {
+            return Poll::Pending;
+        };
+        let Some(next) = next else {
+            return Poll::Ready(None);
+        };
+        Poll::Ready(Some(Ok(next.0)))
+    }
+}

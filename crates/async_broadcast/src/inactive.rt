@@ -1,0 +1,137 @@
+//! Receivers that receive nothing, and keep the channel open.
+ghost use Rattle.std.specs.Prelude.{◌≡◌, Ok, Err, IfOk, IfErr, ◌⊎◌};
+ghost use Rattle.async_broadcast.specs.Ports.{IsSame};
+
+use crate::error::HandleError;
+use crate::port::{Port, ask};
+use crate::receiver::Receiver;
+use crate::wake::{Slot, Wake};
+use bcast_core::{Call, Reply};
+use std::alloc::{Allocator, Global};
+use std::marker::PhantomData;
+
+mod settings;
+
+/// Receives nothing, and can become an active receiver.
+///
+/// While it is there, the channel isn't closed for want of receivers. Contracts name its `port`.
+///
+/// Source: `InactiveReceiver` of async-broadcast 0.7.2.
+pub struct InactiveReceiver<T: Clone, P: Port<T, Slot<A>>, A: Allocator = Global> {
+    port: P,
+    // For handles made here.
+    alloc: A,
+    messages: PhantomData<T>,
+}
+
+impl<T: Clone, P: Port<T, Slot<A>>, A: Allocator + Copy> InactiveReceiver<T, P, A> {
+    /// An inactive receiver over this port, whose channel has counted it: its drop asks
+    /// `DropInactive`.
+    ///
+    /// Handles that are made by it take their memory from `alloc`.
+    ///
+    /// Source: this crate's own.
+    pub fn over(port: P, alloc: A) -> Self
+        ensures { result.port ≡ port }
+    {
+        InactiveReceiver {
+            port,
+            alloc,
+            messages: PhantomData,
+        }
+    }
+
+    /// Turns the inactive receiver into an active one, whose first message is the next one that
+    /// is accepted.
+    ///
+    /// # Errors
+    ///
+    /// Each hands the inactive receiver back as it was.
+    ///
+    /// - `Memory`: no memory for its cursor.
+    ///
+    /// Source: `InactiveReceiver::activate` of async-broadcast 0.7.2, which never refuses.
+    pub fn activate(self) -> Result<Receiver<T, P, A>, (Self, HandleError)>
+        ensures made { IfOk result (λ made. (made.port ≡ self.port)
+            × P.gave self.port Call.Activate (Reply.Activate (Ok made.key))) }
+        ensures refused { IfErr result (λ back. (back.0 ≡ self)
+            × P.gave self.port Call.Activate (Reply.Activate (Err back.1))) }
+    {
+        match ask!(self.port, Activate) {
+            Ok(key) => {
+                let InactiveReceiver {
+                    port,
+                    alloc,
+                    messages: _,
+                } = self;
+                Ok(Receiver::over(port, key, alloc))
+            }
+            Err(error) => Err((self, error)),
+        }
+    }
+
+    /// Makes an active receiver, whose first message is the next one that is accepted. The
+    /// inactive one stays.
+    ///
+    /// # Errors
+    ///
+    /// - `Memory`: no memory for the handle.
+    ///
+    /// Source: `InactiveReceiver::activate_cloned` of async-broadcast 0.7.2, which never refuses.
+    pub fn activate_cloned(&self) -> Result<Receiver<T, P, A>, HandleError>
+        ensures channel { IfOk result (λ made. IsSame P.gave made.port self.now.port) }
+        ensures made { IfOk result (λ made. P.gave self.now.port Call.ActivateCloned
+            (Reply.ActivateCloned (Ok made.key))) }
+        ensures refused { IfErr result (λ error. (error ≡ HandleError.Memory)
+            ⊎ P.gave self.now.port Call.ActivateCloned (Reply.ActivateCloned (Err error))) }
+    {
+        let port = self.port.same().ok_or(HandleError::Memory)?;
+        match ask!(self.port, ActivateCloned) {
+            Ok(key) => Ok(Receiver::over(port, key, self.alloc)),
+            Err(error) => Err(error),
+        }
+    }
+
+    /// Makes another inactive receiver of the channel.
+    ///
+    /// # Errors
+    ///
+    /// - `Memory`: no memory for the handle, and the channel wasn't asked.
+    /// - `TooMany`: the channel can't count one more.
+    ///
+    /// ```rust
+    /// let (sender, receiver) = broadcast::<u64, _, _>(&rt, rt.alloc(), 1)?;
+    /// let one = receiver.deactivate().map_err(|_| "no handle")?;
+    /// let two = one.clone().map_err(|_| "no handle")?;
+    /// drop(one);
+    /// assert!(rt; !sender.is_closed());
+    /// drop(two);
+    /// assert!(rt; sender.is_closed());
+    /// ```
+    ///
+    /// Source: `InactiveReceiver::clone` of async-broadcast 0.7.2, which never refuses.
+    pub fn clone(&self) -> Result<Self, HandleError>
+        ensures channel { IfOk result (λ made. IsSame P.gave made.port self.now.port) }
+        ensures made { IfOk result
+            (λ _. P.gave self.now.port Call.CloneInactive (Reply.CloneInactive (Ok tt))) }
+        ensures refused { IfErr result (λ error. (error ≡ HandleError.Memory)
+            ⊎ P.gave self.now.port Call.CloneInactive (Reply.CloneInactive (Err error))) }
+    {
+        let port = self.port.same().ok_or(HandleError::Memory)?;
+        match ask!(self.port, CloneInactive) {
+            Ok(()) => Ok(InactiveReceiver::over(port, self.alloc)),
+            Err(error) => Err(error),
+        }
+    }
+}
+
+impl<T: Clone, P: Port<T, Slot<A>>, A: Allocator> Drop for InactiveReceiver<T, P, A> {
+    fn drop(self) {
+        self.port.ask(Call::DropInactive, Wake::none());
+        let InactiveReceiver {
+            port: _,
+            alloc: _,
+            messages: _,
+        } = self;
+    }
+}

@@ -1,0 +1,196 @@
+//! The channel of several handles, behind one lock.
+ghost use Rattle.std.specs.Prelude.{◌≡◌, ◌<◌, true, not};
+ghost use Rattle.bcast_model.specs.Next.{HasPositiveCapacity};
+ghost use Rattle.bcast_model.specs.View.{IsPossible};
+ghost use Rattle.async_broadcast.specs.Kinds.{may_wait, is_answer};
+
+use crate::error::TryRecvError;
+use crate::port::Port;
+use crate::receiver::Receiver;
+use crate::sender::Sender;
+use crate::wake::{Slot, Wake};
+use bcast_core::{Call, Inner, Reply, SendPoll};
+use state::{State, Woken};
+use std::alloc::{AllocError, Allocator, Global};
+use std::sync::{Arc, Condvar, Mutex, Wait};
+
+mod state;
+
+/// The port of a channel that `broadcast` made. All ports of the channel share one lock, and each
+/// call waits for it.
+///
+/// A reply is one that the channel gives in some valid history. Of the channel as its other
+/// handles left it, a contract knows nothing more.
+///
+/// Source: this crate's own.
+pub struct Lock<T: Clone, R: Wait + Clone, A: Allocator = Global> {
+    channel: Arc<Channel<T, A>, A>,
+    rt: R,
+}
+
+#[derive(Drop)]
+struct Channel<T: Clone, A: Allocator> {
+    state: Mutex<State<T, A>>,
+    // For threads that wait to send.
+    ready: Condvar,
+    // For threads that wait for a message.
+    news: Condvar,
+}
+
+impl<T: Clone, A: Allocator> Channel<T, A> {
+    // Once the lock is free.
+    fn wake(&self, woken: Woken) {
+        if woken.sender {
+            self.ready.notify_one();
+        }
+        if woken.receivers {
+            self.news.notify_all();
+        }
+    }
+}
+
+/// Makes a channel that keeps at most `cap` messages at once, with its first sender and receiver.
+///
+/// It is open and empty. Overflow mode is off: a full channel accepts no message before every
+/// active receiver has read the oldest one. `await_active` is on.
+///
+/// # Errors
+///
+/// - `AllocError`: no memory for the channel.
+///
+/// ```rust
+/// let (sender, mut one) = broadcast(&rt, rt.alloc(), 2)?;
+/// let mut two = one.clone().map_err(|_| "no handle")?;
+/// assert!(rt; sender.try_broadcast(7).is_ok());
+/// assert!(rt; sender.try_broadcast(8).is_ok());
+/// assert!(rt; matches!(sender.try_broadcast(9), Err(TrySendError::Full(9))));
+///
+/// assert!(rt; matches!(one.try_recv()?, Ok(7)));
+/// assert!(rt; matches!(block_on(&rt, one.next())?, Some(Ok(8))));
+/// assert!(rt; matches!(two.recv_blocking()?, Ok(7)));
+/// assert!(rt; matches!(block_on(&rt, two.recv_direct())?, Ok(Ok(8))));
+/// assert!(rt; matches!(one.try_recv()?, Err(TryRecvError::Empty)));
+///
+/// drop(sender);
+/// assert!(rt; matches!(two.try_recv()?, Err(TryRecvError::Closed)));
+/// ```
+///
+/// Source: `broadcast` of async-broadcast 0.7.2, which takes the capacity alone and never refuses.
+pub fn broadcast<T: Clone, R: Wait + Clone, A: Allocator + Copy>(
+    rt: R,
+    alloc: A,
+    cap: usize,
+) -> Result<Ends<T, R, A>, AllocError>
+    requires { 0 < cap }
+{
+    let (inner, key) = Inner::new(alloc, cap)?;
+    let channel = Channel {
+        state: Mutex::new(State::new(inner)),
+        ready: Condvar::new(),
+        news: Condvar::new(),
+    };
+    let channel = Arc::new(alloc, channel)?;
+    let port = Lock { channel, rt };
+    let other = port.same().ok_or(AllocError)?;
+    Ok((Sender::over(port, alloc), Receiver::over(other, key, alloc)))
+}
+
+/// The first sender and receiver of a channel.
+pub type Ends<T, R, A = Global> = (Sender<T, Lock<T, R, A>, A>, Receiver<T, Lock<T, R, A>, A>);
+
+impl<T: Clone, R: Wait + Clone, A: Allocator + Copy> Lock<T, R, A> {
+    fn send_waiting(&self, msg: T) -> Reply<T>
+        ensures reply { IsPossible T.is_clone (Call.AttemptSend msg) result }
+        ensures answered { is_answer result ≡ true }
+    {
+        let channel = &*self.channel;
+        let mut left = msg;
+        let mut state = channel.state.lock(&self.rt);
+        for _ in self.rt.forever() {
+            let (reply, woken) = state.step(Call::AttemptSend(left), Wake::none());
+            match reply {
+                Reply::AttemptSend(SendPoll::Ready(answer)) => {
+                    drop(state);
+                    channel.wake(woken);
+                    return Reply::AttemptSend(SendPoll::Ready(answer));
+                }
+                Reply::AttemptSend(SendPoll::Wait(back)) => left = back,
+                _ => unreachable!(),
+            }
+            state.begin_to_send();
+            state = channel.ready.wait(&self.rt, state);
+            state.try_to_send();
+        }
+        unreachable!()
+    }
+
+    fn receive_waiting(&self, key: usize) -> Reply<T>
+        ensures reply { IsPossible T.is_clone (Call.TryRecv key) result }
+        ensures answered { is_answer result ≡ true }
+    {
+        let channel = &*self.channel;
+        let mut state = channel.state.lock(&self.rt);
+        for _ in self.rt.forever() {
+            let (reply, woken) = state.step(Call::TryRecv(key), Wake::none());
+            let Reply::TryRecv(answer) = reply else {
+                unreachable!()
+            };
+            if !is_empty(&answer) {
+                drop(state);
+                channel.wake(woken);
+                return Reply::TryRecv(answer);
+            }
+            state.await_message();
+            state = channel.news.wait(&self.rt, state);
+        }
+        unreachable!()
+    }
+}
+
+fn is_empty<T>(answer: &Result<Result<T, TryRecvError>, AllocError>) -> bool
+    ensures { is_answer (Reply.TryRecv answer.now) ≡ not result }
+{
+    matches!(answer, Ok(Err(TryRecvError::Empty)))
+}
+
+impl<T: Clone, R: Wait + Clone, A: Allocator + Copy> Port<T, Slot<A>> for Lock<T, R, A> {
+    ghost use Rattle.async_broadcast.specs.OfKind.{possible};
+
+    ghost gave = { λ _ call reply. IsPossible T.is_clone call reply };
+
+    ghost of_kind = { λ _ call reply may. possible T.is_clone call reply may };
+
+    fn ask(&self, call: Call<T>, wake: Wake<Slot<A>>) -> Reply<T>
+        requires { HasPositiveCapacity call }
+        ensures { IsPossible T.is_clone call result }
+    {
+        let channel = &*self.channel;
+        let (reply, woken) = channel.state.lock(&self.rt).step(call, wake);
+        channel.wake(woken);
+        reply
+    }
+
+    fn ask_waiting(&self, call: Call<T>) -> Reply<T>
+        requires { may_wait call ≡ true }
+        ensures reply { IsPossible T.is_clone call result }
+        ensures answered { is_answer result ≡ true }
+    {
+        match call {
+            Call::AttemptSend(msg) => self.send_waiting(msg),
+            Call::TryRecv(key) => self.receive_waiting(key),
+            _ => unreachable!(),
+        }
+    }
+
+    fn same(&self) -> Option<Self> {
+        let channel = Arc::try_clone(&self.channel).ok()?;
+        let rt = self.rt.clone().ok()?;
+        Some(Lock { channel, rt })
+    }
+}
+
+impl<T: Clone, R: Wait + Clone, A: Allocator> Drop for Lock<T, R, A> {
+    fn drop(self) {
+        let Lock { channel: _, rt: _ } = self;
+    }
+}

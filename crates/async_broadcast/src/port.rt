@@ -1,0 +1,63 @@
+//! What a handle asks of its channel.
+ghost use Rattle.std.specs.Prelude.{◌≡◌, true, IfSome};
+ghost use Rattle.bcast_model.specs.Next.{HasPositiveCapacity};
+ghost use Rattle.async_broadcast.specs.Kinds.{IsOfKind, may_wait, is_answer};
+ghost use Rattle.async_broadcast.specs.Ports.{IsSame};
+
+use crate::wake::Wake;
+use bcast_core::{Call, Reply};
+
+/// The way from a handle to its channel: a call goes in, and its reply comes back.
+///
+/// What handles and futures promise, they promise over every port: an answer is the reply that
+/// the port gave to the call that the handle's method names. `Lock` is the port of a channel that
+/// `broadcast` made. `S` is where its wakes keep a task's waker: `Slot`, unless memory comes from
+/// another allocator than `Global`.
+///
+/// Source: this crate's own.
+pub trait Port<T: Clone, S>: Sized + Drop {
+    ghost use Rattle.bcast_model.specs.declared.run.Call.{Call};
+    ghost use Rattle.bcast_model.specs.declared.run.Reply.{Reply};
+    ghost use Rattle.async_broadcast.specs.Kinds.{IsOfKind};
+
+    // Holds of a call and a reply that the port may give to it.
+    ghost gave: { Self → Call T → Reply T → Type 0 };
+
+    /// Makes one call on the channel. One of the four polls that must wait leaves `wake` there.
+    fn ask(&self, call: Call<T>, wake: Wake<S>) -> Reply<T>
+        requires { HasPositiveCapacity call }
+        ensures { gave self.now call result };
+
+    /// Makes an `AttemptSend` or a `TryRecv` again and again, and waits between, until it is
+    /// answered by something other than `Wait` or `Empty`.
+    fn ask_waiting(&self, call: Call<T>) -> Reply<T>
+        requires { may_wait call ≡ true }
+        ensures reply { gave self.now call result }
+        ensures answered { is_answer result ≡ true };
+
+    /// Another port of the same channel. None: there was no memory for it.
+    fn same(&self) -> Option<Self>
+        ensures { IfSome result (λ port. IsSame gave port self.now) };
+
+    // A reply is of its call's kind.
+    ghost of_kind: { (port : Self) (call : Call T) (reply : Reply T)
+        → gave port call reply → IsOfKind call reply };
+}
+
+/// Asks a call that never waits, and reads the answer from the reply of its name.
+macro_rules! ask {
+    ($port:expr, $call:ident) => {
+        match $port.ask(Call::$call, Wake::none()) {
+            Reply::$call(answer) => answer,
+            _ => unreachable!(),
+        }
+    };
+    ($port:expr, $call:ident($argument:expr)) => {
+        match $port.ask(Call::$call($argument), Wake::none()) {
+            Reply::$call(answer) => answer,
+            _ => unreachable!(),
+        }
+    };
+}
+
+pub(crate) use ask;

@@ -1,0 +1,235 @@
+//! The receiving side.
+ghost use Rattle.std.specs.Prelude.{◌≡◌, Ok, Err, IfOk, IfErr, ◌⊎◌};
+ghost use Rattle.async_broadcast.specs.Ports.{IsSame, as_try_recv};
+
+use crate::error::{HandleError, RecvError, TryRecvError};
+use crate::inactive::InactiveReceiver;
+use crate::port::{Port, ask};
+use crate::sender::Sender;
+use crate::wake::{Bell, Slot, Wake};
+use bcast_core::{Call, Reply};
+use std::alloc::{AllocError, Allocator, Global};
+use std::marker::PhantomData;
+
+mod settings;
+
+/// Receives each message that a channel accepts, from the receiver's start on.
+///
+/// `clone` makes another one with the same messages still to read, `new_receiver` one that starts
+/// with the next message. A receiver is also a stream. The channel closes when its last receiver
+/// is dropped, unless an inactive one is left. Contracts name its `port`, and the `key` under
+/// which the channel has its cursor.
+///
+/// Source: `Receiver` of async-broadcast 0.7.2.
+pub struct Receiver<T: Clone, P: Port<T, Slot<A>>, A: Allocator = Global> {
+    pub(crate) port: P,
+    pub(crate) key: usize,
+    // Of the task that polls this receiver, as a stream or by a `Recv`.
+    pub(crate) bell: Bell<A>,
+    messages: PhantomData<T>,
+}
+
+impl<T: Clone, P: Port<T, Slot<A>>, A: Allocator + Copy> Receiver<T, P, A> {
+    /// A receiver over this port, whose channel has its cursor under this key: its drop asks
+    /// `DropReceiver`.
+    ///
+    /// Futures and handles that are made by it take their memory from `alloc`.
+    ///
+    /// Source: this crate's own.
+    pub fn over(port: P, key: usize, alloc: A) -> Self
+        ensures { (result.port ≡ port) × (result.key ≡ key) }
+    {
+        Receiver {
+            port,
+            key,
+            bell: Bell::new(alloc),
+            messages: PhantomData,
+        }
+    }
+
+    /// Receives the next message, if there is one.
+    ///
+    /// Never waits.
+    ///
+    /// # Errors
+    ///
+    /// - `AllocError`: no memory for a clone of a message that others have still to read. Nothing
+    ///   changed.
+    /// - `Overflowed(n)`: the next `n` messages were dropped. The receiver goes on after them.
+    /// - `Empty`: every message was read, and the channel is open.
+    /// - `Closed`: every message was read, and the channel is closed.
+    ///
+    /// Source: `Receiver::try_recv` of async-broadcast 0.7.2, which never refuses for memory.
+    pub fn try_recv(&mut self) -> Result<Result<T, TryRecvError>, AllocError>
+        ensures asked { P.gave self.old.port (Call.TryRecv self.old.key) (Reply.TryRecv result) }
+        ensures same { self.new ≡ self.old }
+    {
+        ask!(self.port, TryRecv(self.key))
+    }
+
+    /// Receives the next message, and blocks the thread while there is none and the channel is
+    /// open.
+    ///
+    /// # Errors
+    ///
+    /// - `AllocError`: no memory for a clone of a message that others have still to read. Nothing
+    ///   changed.
+    /// - `Overflowed(n)`: the next `n` messages were dropped. The receiver goes on after them.
+    /// - `Closed`: every message was read, and the channel is closed.
+    ///
+    /// ```rust
+    /// let (sender, mut receiver) = broadcast(&rt, rt.alloc(), 1)?;
+    /// assert!(rt; sender.try_broadcast(1).is_ok());
+    /// drop(sender);
+    /// assert!(rt; matches!(receiver.recv_blocking()?, Ok(1)));
+    /// assert!(rt; matches!(receiver.recv_blocking()?, Err(RecvError::Closed)));
+    /// ```
+    ///
+    /// Source: `Receiver::recv_blocking` of async-broadcast 0.7.2, which never refuses for memory.
+    pub fn recv_blocking(&mut self) -> Result<Result<T, RecvError>, AllocError>
+        ensures asked { P.gave self.old.port (Call.TryRecv self.old.key)
+            (Reply.TryRecv (as_try_recv result)) }
+        ensures same { self.new ≡ self.old }
+    {
+        match self.port.ask_waiting(Call::TryRecv(self.key)) {
+            Reply::TryRecv(Ok(Ok(msg))) => Ok(Ok(msg)),
+            Reply::TryRecv(Ok(Err(TryRecvError::Overflowed(n)))) => {
+                Ok(Err(RecvError::Overflowed(n)))
+            }
+            Reply::TryRecv(Ok(Err(TryRecvError::Closed))) => Ok(Err(RecvError::Closed)),
+            Reply::TryRecv(Err(error)) => Err(error),
+            _ => unreachable!(),
+        }
+    }
+
+    /// Whether the channel is closed and keeps no message.
+    ///
+    /// A receiver that has read everything is done as soon as the channel is closed, also where
+    /// this is false since another receiver has still to read.
+    ///
+    /// Source: `Receiver::is_terminated` of async-broadcast 0.7.2.
+    pub fn is_terminated(&self) -> bool
+        ensures { P.gave self.now.port Call.IsTerminated (Reply.IsTerminated result) }
+    {
+        ask!(self.port, IsTerminated)
+    }
+
+    /// Makes another active receiver, which has the same messages still to read.
+    ///
+    /// # Errors
+    ///
+    /// - `Memory`: no memory for the handle.
+    ///
+    /// Source: `Receiver::clone` of async-broadcast 0.7.2, which never refuses.
+    pub fn clone(&self) -> Result<Self, HandleError>
+        ensures channel { IfOk result (λ made. IsSame P.gave made.port self.now.port) }
+        ensures made { IfOk result (λ made. P.gave self.now.port (Call.CloneReceiver self.now.key)
+            (Reply.CloneReceiver (Ok made.key))) }
+        ensures refused { IfErr result (λ error. (error ≡ HandleError.Memory)
+            ⊎ P.gave self.now.port (Call.CloneReceiver self.now.key)
+            (Reply.CloneReceiver (Err error))) }
+    {
+        let port = self.port.same().ok_or(HandleError::Memory)?;
+        match ask!(self.port, CloneReceiver(self.key)) {
+            Ok(key) => Ok(Receiver::over(port, key, self.bell.alloc())),
+            Err(error) => Err(error),
+        }
+    }
+
+    /// Makes an active receiver, whose first message is the next one that is accepted.
+    ///
+    /// On a closed channel it receives nothing, and doesn't open it.
+    ///
+    /// # Errors
+    ///
+    /// - `Memory`: no memory for the handle.
+    ///
+    /// Source: `Receiver::new_receiver` of async-broadcast 0.7.2, which never refuses.
+    pub fn new_receiver(&self) -> Result<Self, HandleError>
+        ensures channel { IfOk result (λ made. IsSame P.gave made.port self.now.port) }
+        ensures made { IfOk result
+            (λ made. P.gave self.now.port Call.NewReceiver (Reply.NewReceiver (Ok made.key))) }
+        ensures refused { IfErr result (λ error. (error ≡ HandleError.Memory)
+            ⊎ P.gave self.now.port Call.NewReceiver (Reply.NewReceiver (Err error))) }
+    {
+        let port = self.port.same().ok_or(HandleError::Memory)?;
+        match ask!(self.port, NewReceiver) {
+            Ok(key) => Ok(Receiver::over(port, key, self.bell.alloc())),
+            Err(error) => Err(error),
+        }
+    }
+
+    /// Makes a sender of the channel. It doesn't open a closed one.
+    ///
+    /// # Errors
+    ///
+    /// - `Memory`: no memory for the handle, and the channel wasn't asked.
+    /// - `TooMany`: the channel can't count one more.
+    ///
+    /// Source: `Receiver::new_sender` of async-broadcast 0.7.2, which never refuses.
+    pub fn new_sender(&self) -> Result<Sender<T, P, A>, HandleError>
+        ensures channel { IfOk result (λ made. IsSame P.gave made.port self.now.port) }
+        ensures made { IfOk result
+            (λ _. P.gave self.now.port Call.NewSender (Reply.NewSender (Ok tt))) }
+        ensures refused { IfErr result (λ error. (error ≡ HandleError.Memory)
+            ⊎ P.gave self.now.port Call.NewSender (Reply.NewSender (Err error))) }
+    {
+        let port = self.port.same().ok_or(HandleError::Memory)?;
+        match ask!(self.port, NewSender) {
+            Ok(()) => Ok(Sender::over(port, self.bell.alloc())),
+            Err(error) => Err(error),
+        }
+    }
+
+    /// Turns the receiver into an inactive one, which receives nothing and keeps the channel open.
+    ///
+    /// What it had still to read is dropped where nobody else has to read it.
+    ///
+    /// # Errors
+    ///
+    /// Each hands the receiver back as it was.
+    ///
+    /// - `TooMany`: the channel can't count one more inactive receiver.
+    ///
+    /// ```rust
+    /// let (sender, receiver) = broadcast(&rt, rt.alloc(), 1)?;
+    /// let inactive = receiver.deactivate().map_err(|_| "no handle")?;
+    /// assert!(rt; matches!(sender.try_broadcast(1), Err(TrySendError::Inactive(1))));
+    /// let mut receiver = inactive.activate().map_err(|_| "no handle")?;
+    /// assert!(rt; sender.try_broadcast(2).is_ok());
+    /// assert!(rt; matches!(receiver.try_recv()?, Ok(2)));
+    /// ```
+    ///
+    /// Source: `Receiver::deactivate` of async-broadcast 0.7.2, which never refuses.
+    pub fn deactivate(self) -> Result<InactiveReceiver<T, P, A>, (Self, HandleError)>
+        ensures made { IfOk result (λ made. (made.port ≡ self.port)
+            × P.gave self.port (Call.Deactivate self.key) (Reply.Deactivate (Ok tt))) }
+        ensures refused { IfErr result (λ back. (back.0 ≡ self)
+            × P.gave self.port (Call.Deactivate self.key) (Reply.Deactivate (Err back.1))) }
+    {
+        match ask!(self.port, Deactivate(self.key)) {
+            Ok(()) => {
+                let Receiver {
+                    port,
+                    key: _,
+                    bell,
+                    messages: _,
+                } = self;
+                Ok(InactiveReceiver::over(port, bell.alloc()))
+            }
+            Err(error) => Err((self, error)),
+        }
+    }
+}
+
+impl<T: Clone, P: Port<T, Slot<A>>, A: Allocator> Drop for Receiver<T, P, A> {
+    fn drop(self) {
+        self.port.ask(Call::DropReceiver(self.key), Wake::none());
+        let Receiver {
+            port: _,
+            key: _,
+            bell: _,
+            messages: _,
+        } = self;
+    }
+}

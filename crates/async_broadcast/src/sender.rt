@@ -1,0 +1,151 @@
+//! The sending side.
+ghost use Rattle.std.specs.Prelude.{◌≡◌, Ok, Err, IfOk, IfErr, ◌⊎◌};
+ghost use Rattle.async_broadcast.specs.Ports.{IsSame};
+
+use crate::error::{HandleError, SendError, TrySendError};
+use crate::port::{Port, ask};
+use crate::receiver::Receiver;
+use crate::wake::{Slot, Wake};
+use bcast_core::{Call, Reply, SendPoll};
+use std::alloc::{Allocator, Global};
+use std::marker::PhantomData;
+
+mod settings;
+
+/// Sends messages to all active receivers of a channel.
+///
+/// `clone` makes another one. When the last one is dropped the channel closes: no more messages
+/// are accepted, and those that are there can still be received. Contracts name its `port`.
+///
+/// Source: `Sender` of async-broadcast 0.7.2.
+pub struct Sender<T: Clone, P: Port<T, Slot<A>>, A: Allocator = Global> {
+    pub(crate) port: P,
+    // For futures, and for handles made here.
+    pub(crate) alloc: A,
+    messages: PhantomData<T>,
+}
+
+impl<T: Clone, P: Port<T, Slot<A>>, A: Allocator + Copy> Sender<T, P, A> {
+    /// A sender over this port, whose channel has counted it: its drop asks `DropSender`.
+    ///
+    /// Futures and handles that are made by it take their memory from `alloc`.
+    ///
+    /// Source: this crate's own.
+    pub fn over(port: P, alloc: A) -> Self
+        ensures { result.port ≡ port }
+    {
+        Sender {
+            port,
+            alloc,
+            messages: PhantomData,
+        }
+    }
+
+    /// Sends a message, unless the channel has no room for it or nobody to receive it.
+    ///
+    /// Never waits. `Ok(Some(oldest))` hands back the message that a full channel dropped for
+    /// this one, in overflow mode.
+    ///
+    /// # Errors
+    ///
+    /// Each hands the message back, and the first that fits comes.
+    ///
+    /// - `Closed`: the channel is closed.
+    /// - `Inactive`: there is no active receiver.
+    /// - `Full`: the channel is full, and overflow mode is off.
+    ///
+    /// Source: `Sender::try_broadcast` of async-broadcast 0.7.2.
+    pub fn try_broadcast(&self, msg: T) -> Result<Option<T>, TrySendError<T>>
+        ensures { P.gave self.now.port (Call.TryBroadcast msg) (Reply.TryBroadcast result) }
+    {
+        ask!(self.port, TryBroadcast(msg))
+    }
+
+    /// Sends a message, and blocks the thread while the channel has no room for it, or, with
+    /// `await_active`, no active receiver.
+    ///
+    /// `Ok(Some(oldest))` hands back the message that a full channel dropped for this one, in
+    /// overflow mode.
+    ///
+    /// # Errors
+    ///
+    /// - `SendError(msg)`: the channel is closed, or it has no active receiver and `await_active`
+    ///   is off. The message comes back.
+    ///
+    /// ```rust
+    /// let (sender, mut receiver) = broadcast(&rt, rt.alloc(), 1)?;
+    /// assert!(rt; sender.broadcast_blocking(7).is_ok());
+    /// assert!(rt; matches!(receiver.try_recv()?, Ok(7)));
+    /// assert!(rt; sender.broadcast_blocking(8).is_ok());
+    /// assert!(rt; matches!(receiver.recv_blocking()?, Ok(8)));
+    /// drop(receiver);
+    /// assert!(rt; matches!(sender.broadcast_blocking(9), Err(SendError(9))));
+    /// ```
+    ///
+    /// Source: `Sender::broadcast_blocking` of async-broadcast 0.7.2.
+    pub fn broadcast_blocking(&self, msg: T) -> Result<Option<T>, SendError<T>>
+        ensures { P.gave self.now.port (Call.AttemptSend msg)
+            (Reply.AttemptSend (SendPoll.Ready result)) }
+    {
+        match self.port.ask_waiting(Call::AttemptSend(msg)) {
+            Reply::AttemptSend(SendPoll::Ready(answer)) => answer,
+            _ => unreachable!(),
+        }
+    }
+
+    /// Makes another sender of the channel.
+    ///
+    /// # Errors
+    ///
+    /// - `Memory`: no memory for the handle, and the channel wasn't asked.
+    /// - `TooMany`: the channel can't count one more.
+    ///
+    /// Source: `Sender::clone` of async-broadcast 0.7.2, which never refuses.
+    pub fn clone(&self) -> Result<Self, HandleError>
+        ensures channel { IfOk result (λ made. IsSame P.gave made.port self.now.port) }
+        ensures made { IfOk result
+            (λ _. P.gave self.now.port Call.NewSender (Reply.NewSender (Ok tt))) }
+        ensures refused { IfErr result (λ error. (error ≡ HandleError.Memory)
+            ⊎ P.gave self.now.port Call.NewSender (Reply.NewSender (Err error))) }
+    {
+        let port = self.port.same().ok_or(HandleError::Memory)?;
+        match ask!(self.port, NewSender) {
+            Ok(()) => Ok(Sender::over(port, self.alloc)),
+            Err(error) => Err(error),
+        }
+    }
+
+    /// Makes an active receiver, whose first message is the next one that is accepted.
+    ///
+    /// On a closed channel it receives nothing, and doesn't open it.
+    ///
+    /// # Errors
+    ///
+    /// - `Memory`: no memory for the handle.
+    ///
+    /// Source: `Sender::new_receiver` of async-broadcast 0.7.2, which never refuses.
+    pub fn new_receiver(&self) -> Result<Receiver<T, P, A>, HandleError>
+        ensures channel { IfOk result (λ made. IsSame P.gave made.port self.now.port) }
+        ensures made { IfOk result
+            (λ made. P.gave self.now.port Call.NewReceiver (Reply.NewReceiver (Ok made.key))) }
+        ensures refused { IfErr result (λ error. (error ≡ HandleError.Memory)
+            ⊎ P.gave self.now.port Call.NewReceiver (Reply.NewReceiver (Err error))) }
+    {
+        let port = self.port.same().ok_or(HandleError::Memory)?;
+        match ask!(self.port, NewReceiver) {
+            Ok(key) => Ok(Receiver::over(port, key, self.alloc)),
+            Err(error) => Err(error),
+        }
+    }
+}
+
+impl<T: Clone, P: Port<T, Slot<A>>, A: Allocator> Drop for Sender<T, P, A> {
+    fn drop(self) {
+        self.port.ask(Call::DropSender, Wake::none());
+        let Sender {
+            port: _,
+            alloc: _,
+            messages: _,
+        } = self;
+    }
+}

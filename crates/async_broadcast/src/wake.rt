@@ -1,0 +1,99 @@
+//! What wakes the task that a poll left waiting.
+ghost use Rattle.futures.specs.Task.{IsArmed, Keeps};
+
+use bcast_core::Notice;
+use futures::spin::lock;
+use futures::task::{Context, Poll, Source, Waker};
+use std::alloc::{Allocator, Global};
+use std::sync::{Arc, Mutex};
+
+/// Where a task's waker is kept between the polls of a future or a receiver.
+pub type Slot<A = Global> = Arc<Mutex<Option<Waker>>, A>;
+
+/// The notice of a poll: wakes the poll's task when it is told, or nobody.
+///
+/// Source: this crate's own.
+#[derive(Drop)]
+pub struct Wake<S = Slot> {
+    slot: Option<S>,
+}
+
+impl<S> Wake<S> {
+    /// A notice that wakes nobody, for a call that never waits.
+    ///
+    /// Source: this crate's own.
+    pub fn none() -> Self {
+        Wake { slot: None }
+    }
+}
+
+impl<A: Allocator> Notice for Wake<Slot<A>> {
+    fn tell(&self) {
+        if let Some(slot) = &self.slot {
+            if let Some(mut waker) = lock(&**slot) {
+                // A waker that is dropped wakes its task.
+                *waker = None;
+            }
+        }
+    }
+}
+
+/// Keeps a task's waker between polls. All notices made here share it, so that a newer notice
+/// doesn't wake the task by the drop of an older one.
+#[derive(Drop)]
+pub(crate) struct Bell<A: Allocator> {
+    source: Source,
+    alloc: A,
+    slot: Option<Slot<A>>,
+}
+
+impl<A: Allocator + Copy> Bell<A> {
+    pub(crate) fn new(alloc: A) -> Self {
+        Bell {
+            source: Source::new(),
+            alloc,
+            slot: None,
+        }
+    }
+
+    pub(crate) fn alloc(&self) -> A {
+        self.alloc
+    }
+
+    /// Registers the poll's task, and makes a notice for it. None: there was no memory for one.
+    pub(crate) fn listen(&mut self, cx: &mut Context<'_>) -> Option<Wake<Slot<A>>>
+        ensures registered { IsArmed cx.new }
+        ensures kept { Keeps cx.old cx.new }
+    {
+        if self.slot.is_none() {
+            self.slot = Arc::new(self.alloc, Mutex::new(None)).ok();
+        }
+        let Some(slot) = &self.slot else {
+            let _: Poll<()> = cx.yield_now();
+            return None;
+        };
+        register(slot, &self.source, cx)
+    }
+}
+
+// A context that finds no memory for a waker leaves none, and has its task polled again.
+fn register<A: Allocator + Copy>(
+    slot: &Slot<A>,
+    source: &Source,
+    cx: &mut Context<'_>,
+) -> Option<Wake<Slot<A>>>
+    ensures registered { IsArmed cx.new }
+    ensures kept { Keeps cx.old cx.new }
+{
+    let Some(mut waker) = lock(&**slot) else {
+        let _: Poll<()> = cx.yield_now();
+        return None;
+    };
+    let _: Poll<()> = cx.register(source, &mut *waker);
+    let has_waker = waker.is_some();
+    if !has_waker {
+        return None;
+    }
+    let slot = Arc::try_clone(slot).ok()?;
+    Some(Wake { slot: Some(slot) })
+}
