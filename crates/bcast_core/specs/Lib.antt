@@ -1,2 +1,6 @@
+-- how the state of a channel is put together
 pub mod Parts
+-- which replies are those of a receive that found no memory
 pub mod Sure
+-- what a snapshot of a channel says
+pub mod Snapshot

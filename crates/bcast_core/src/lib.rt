@@ -1,10 +1,12 @@
 //! The state of a broadcast channel, its calls, and runs of calls.
 //!
-//! A user names this crate alone: it has the state (`Inner`), calls as data (`step`, `run`), the
-//! notices, and again the errors and the calls and replies of `bcast_model`.
+//! A user names this crate alone: it has the state (`Inner`), what is seen of it as a value
+//! (`Snapshot`), calls as data (`step`, `run`), the notices, and again the errors and the calls and
+//! replies of `bcast_model`.
 #![tactic(auto)]
 
 mod parts;
+mod snapshot;
 mod state;
 mod steps;
 
@@ -12,5 +14,6 @@ pub use bcast_event::notice::{Notice, Silent};
 pub use bcast_model::error::{HandleError, RecvError, SendError, TryRecvError, TrySendError};
 pub use bcast_model::listener::Kind;
 pub use bcast_model::run::{Call, Reply, SendPoll};
+pub use snapshot::{Snapshot, Waiting};
 pub use state::Inner;
 pub use steps::{Ran, run, step};

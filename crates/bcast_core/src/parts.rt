@@ -15,6 +15,7 @@ mod listeners;
 mod making;
 mod receive;
 mod send;
+mod snapshot;
 
 /// The state of a channel between the steps of a call: what is seen need not be a valid state.
 #[derive(Drop)]

@@ -13,6 +13,7 @@ mod poll;
 mod receive;
 mod send;
 mod settings;
+mod snapshot;
 
 /// The state of a broadcast channel: its messages, the receivers' cursors, the counts of senders and
 /// inactive receivers, the settings, and who waits.

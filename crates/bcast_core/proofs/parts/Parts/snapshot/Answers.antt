@@ -1,0 +1,26 @@
+-- Each part of the snapshot is what its call ensures.
+use Rattle.std.proofs.Common.{ap, subst, ◌∙◌}
+use Rattle.std.specs.List.{AllZip}
+use Rattle.std.specs.FinMap.{entries}
+use Rattle.bcast_core.proofs.parts.Parts.snapshot.Goals as goal
+
+pub returns : goal.returns
+returns g c =
+    let is = c.self.view_is in
+    record {
+      front = c.front.ensures ∙ ap (λ v. v.front) is;
+      queue = subst (λ v. AllZip g.T.Clone.is_clone v.queue c.in_ok-clones_of.field-0.items) is c.in_ok-clones_of.ensures;
+      end = c.end.ensures ∙ ap (λ v. v.end) is;
+      cursors = c.in_ok-cursors.ensures ∙ ap (λ v. entries v.control.cursors) is;
+      senders = ap (λ v. v.control.senders) is;
+      inactive = ap (λ v. v.control.inactive) is;
+      closed = ap (λ v. v.control.closed) is;
+      overflow = ap (λ v. v.control.overflow) is;
+      await_active = ap (λ v. v.control.await_active) is;
+      capacity = ap (λ v. v.control.capacity) is;
+      room = c.room.ensures ∙ ap (λ v. v.control.room) is;
+      places = c.rising.ensures.same ∙ (c.in_ok-places.ensures ∙ ap (λ v. v.control.places) is);
+      rising = c.rising.ensures.rising;
+      waiting_sends = c.in_ok-waiting_sends.ensures;
+      waiting_receives = c.in_ok-waiting_receives.ensures;
+    }

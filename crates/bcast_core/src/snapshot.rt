@@ -1,0 +1,45 @@
+//! What is seen of a channel, as a value.
+use bcast_model::listener::Kind;
+use std::alloc::{Allocator, Global};
+
+/// What is seen of a channel between two calls, with a clone of each message that it keeps.
+#[derive(Drop)]
+pub struct Snapshot<T, A: Allocator = Global> {
+    /// The number of the first kept message, or of the next one where none is kept.
+    pub front: u64,
+    /// A clone of each kept message, from the front.
+    pub queue: Vec<T, A>,
+    /// The number that the next accepted message gets.
+    pub end: u64,
+    /// The receivers' keys by rising order, each with the number of the message that it reads next.
+    pub cursors: Vec<(usize, u64), A>,
+    /// How many senders there are.
+    pub senders: usize,
+    /// How many inactive receivers there are.
+    pub inactive: usize,
+    /// Whether the channel is closed.
+    pub closed: bool,
+    /// Whether a full channel drops its oldest message for a new one.
+    pub overflow: bool,
+    /// Whether sends wait where there is no active receiver.
+    pub await_active: bool,
+    /// How many messages the channel keeps at most.
+    pub capacity: usize,
+    /// The greatest capacity so far.
+    pub room: usize,
+    /// The places of the pending sends, by rising order.
+    pub places: Vec<usize, A>,
+    /// The pending sends that wait, each by its place.
+    pub waiting_sends: Waiting<usize, A>,
+    /// The receivers' listeners that wait, each by its receiver's key and its kind.
+    pub waiting_receives: Waiting<(usize, Kind), A>,
+}
+
+/// Who waits, in the order of registering.
+#[derive(Drop)]
+pub struct Waiting<I, A: Allocator = Global> {
+    /// Who each of them is, from the front.
+    pub ids: Vec<I, A>,
+    /// How many of them, from the front, are told.
+    pub told: usize,
+}
