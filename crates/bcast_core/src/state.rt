@@ -41,7 +41,6 @@ impl<T, N: Notice, A: Allocator> Model for Inner<T, N, A> {
 impl<T: Drop, N: Notice, A: Allocator + Copy> Inner<T, N, A> {
     ghost use Rattle.bcast_model.specs.Valid.{IsValid};
     ghost use Rattle.bcast_model.specs.View.{Represents, IsShown};
-    ghost use Rattle.bcast_model.specs.Seen.{is_full_seen};
 
     /// A new channel of this capacity, and the key of its first receiver.
     ///
@@ -115,7 +114,7 @@ impl<T: Drop, N: Notice, A: Allocator + Copy> Inner<T, N, A> {
 
     /// Whether as many messages are kept as the capacity allows.
     pub fn is_full(&self) -> bool
-        ensures { result ≡ is_full_seen self.now }
+        ensures { result ≡ (length self.now.queue == self.now.control.capacity) }
     {
         self.parts.is_full()
     }

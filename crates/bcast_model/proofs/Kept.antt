@@ -5,7 +5,7 @@ use Rattle.std.specs.FinMap.{get, insert, len}
 use Rattle.bcast_model.specs.Listeners.{Listeners, untold_ids}
 use Rattle.bcast_model.specs.Pair.{Pair}
 use Rattle.bcast_model.specs.Control.{Control, Places, is_ready, close, close_if_deserted, with_cursor}
-use Rattle.bcast_model.specs.Valid.{MaySleep}
+use Rattle.bcast_model.specs.Valid.{WouldWait}
 use Rattle.bcast_model.specs.View.{View}
 use Rattle.bcast_model.specs.Seen.{sets, settle, is_ready_seen}
 use Rattle.bcast_model.specs.Laws.{IsValidView}
@@ -75,7 +75,7 @@ module _ {T : Type 0} (v : View T) (valid : IsValidView v) where
       receives = record {
         in_order = l.lists.receives;
         keyed = l.lists.keys;
-        asleep = all_more (MaySleep v.control v.end) (Sleeps v.control.cursors v.control.closed v.end) (untold_ids v.control.waiting_receives) (λ pair s. (s.at_end, s.is_open)) valid.awake.receives;
+        asleep = all_more (WouldWait v.control v.end) (Sleeps v.control.cursors v.control.closed v.end) (untold_ids v.control.waiting_receives) (λ pair s. (s.at_end, s.is_open)) valid.wake_ups.receives;
       };
     };
     attended = record { sender = l.sender; receiver = l.receiver; open_end = l.open_end };
@@ -105,7 +105,7 @@ module _ {T : Type 0} (v : View T) (valid : IsValidView v) where
 
   -- a sender is told where sends are ready only afterwards
   pub keeps_sets : (c : Control) → IsKept v c → KeepsValid v (sets c) (not (is_ready_seen v))
-  keeps_sets c kept = keeps_control c (not (is_ready_seen v)) kept.sound kept.attended kept.fits (λ was _. kept.told (valid.awake.sends (not_not (is_ready_seen v) was)))
+  keeps_sets c kept = keeps_control c (not (is_ready_seen v)) kept.sound kept.attended kept.fits (λ was _. kept.told (valid.wake_ups.sends (not_not (is_ready_seen v) was)))
 
   -- a poll of a send that waits, or has no place
   pub keeps_waits : (l : Listeners ℕ) (may : Bool) → AreSends v.control.places l → (is_ready_seen v ≡ true → OneIsTold l) → KeepsValid v (sets (record v.control { waiting_sends = l })) may

@@ -8,7 +8,7 @@ use Rattle.bcast_model.specs.Listeners.{Listeners, untold_ids, tell}
 use Rattle.bcast_model.specs.Control.{Control, tell_a_sender}
 use Rattle.bcast_model.specs.History.{History, least, end_number, front_number, queue_of, sends_are_ready, with_control}
 use Rattle.bcast_model.specs.Next.{tell_if_ready}
-use Rattle.bcast_model.specs.Valid.{IsValid, IsValidControl, MaySleep}
+use Rattle.bcast_model.specs.Valid.{IsValid, IsValidControl, WouldWait}
 use Rattle.bcast_model.specs.View.{View, view_of}
 use Rattle.bcast_model.specs.Seen.{Effect, is_ready_seen, remember, settle, tell_if_ready_seen}
 use Rattle.bcast_model.specs.Laws.{IsValidView}
@@ -45,8 +45,8 @@ valid_control c end sizes attended sends receives = record {
   lists = record { sends = sends.in_order; receives = receives.in_order; places = sends.placed; keys = receives.keyed };
 }
 
-pub may_sleep : (c : Control) (end : ℕ) → AreReceives c.cursors c.closed end c.waiting_receives → AllByRecursion (MaySleep c end) (untold_ids c.waiting_receives)
-may_sleep c end receives = all_more (Sleeps c.cursors c.closed end) (MaySleep c end) (untold_ids c.waiting_receives) (λ pair s. record { at_end = s.0; is_open = s.1 }) receives.asleep
+pub would_wait : (c : Control) (end : ℕ) → AreReceives c.cursors c.closed end c.waiting_receives → AllByRecursion (WouldWait c end) (untold_ids c.waiting_receives)
+would_wait c end receives = all_more (Sleeps c.cursors c.closed end) (WouldWait c end) (untold_ids c.waiting_receives) (λ pair s. record { at_end = s.0; is_open = s.1 }) receives.asleep
 
 not_may : (may ready : Bool) → (may && ready) ≡ false → ready ≡ true → may ≡ false
 not_may true ready untold e = cc
@@ -121,8 +121,8 @@ module _ {T : Type 0} where
           cursors = λ key cursor f. (let s = keeps.sound.cursors key cursor f in (above_first cursor s.1, rw end-remember (s.0)));
           fits = subst (λ n. n ≤ e.control.capacity) (sym (ap (λ (v : View T). length v.queue) view_of-remember)) keeps.fits;
           control = subst (IsValidControl c) (sym end-remember) (valid_control c (end_number h + length e.accepted) keeps.sound.sizes keeps.attended sends keeps.sound.receives);
-          awake = record {
-            receives = subst (λ n. AllByRecursion (MaySleep c n) (untold_ids c.waiting_receives)) (sym end-remember) (may_sleep c (end_number h + length e.accepted) keeps.sound.receives);
+          wake_ups = record {
+            receives = subst (λ n. AllByRecursion (WouldWait c n) (untold_ids c.waiting_receives)) (sym end-remember) (would_wait c (end_number h + length e.accepted) keeps.sound.receives);
             sends = one;
           };
         }

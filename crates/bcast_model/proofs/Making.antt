@@ -89,5 +89,5 @@ module _ {T : Type 0} where
           sound = rw e (sound_counts v v.end c n (max c.room n) c.senders c.inactive c.overflow c.await_active
               (record { positive = some; within = omega arith; room_fits = omega (arith, sizes.room_fits); receivers_fit = sizes.receivers_fit; senders_fit = sizes.senders_fit; inactive_fit = sizes.inactive_fit; end_fits = sizes.end_fits }) idle.sound);
           attended = rw e idle.attended;
-          told = λ was _. valid.awake.sends (not_not (is_ready_seen v) was);
+          told = λ was _. valid.wake_ups.sends (not_not (is_ready_seen v) was);
         }

@@ -45,7 +45,7 @@ module _ {T : Type 0} where
           open_end = λ _. omega arith;
           lists = record { sends = record { distinct = tt; told = omega arith }; receives = record { distinct = tt; told = omega arith }; places = tt; keys = tt };
         };
-        awake = record { receives = tt; sends = λ ready some. absurd (omega arith) };
+        wake_ups = record { receives = tt; sends = λ ready some. absurd (omega arith) };
       }
 
   -- what is seen of it: no message, and the first number as front and as end

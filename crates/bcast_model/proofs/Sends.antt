@@ -82,7 +82,7 @@ module _ {T : Type 0} where
               (λ e. let other : length v.queue ≢ v.control.capacity = grind (arith, common_steps, e) in simp (length-drop, length-append) (omega (arith, valid.fits))));
           sound = sound_accepting v v.control v.end below idle.sound;
           attended = attended_accepting v.control v.end below idle.attended;
-          told = λ was _. told_accepting v.control v.end (valid.awake.sends (not_not (is_ready_seen v) was));
+          told = λ was _. told_accepting v.control v.end (valid.wake_ups.sends (not_not (is_ready_seen v) was));
         }
 
     pub keeps_offer : (msg : T) → KeepsValid v (offer_seen v msg) (not (is_ready_seen v))
@@ -124,5 +124,5 @@ module _ {T : Type 0} where
             | true ↦ λ _. keeps_answered place msg
             | false ↦ λ e. keeps_waits v valid (wait_again same_place place v.control.waiting_sends) false (sends_waiting v.control.places place v.control.waiting_sends h s) (λ ready. cc)
           ] refl
-          | false ↦ λ _. keeps_waits v valid v.control.waiting_sends false s valid.awake.sends
+          | false ↦ λ _. keeps_waits v valid v.control.waiting_sends false s valid.wake_ups.sends
         ] refl

@@ -67,7 +67,7 @@ module _ {T : Type 0} where
             elim valid.floor_below [ inl f ↦ omega (arith, size, n, m, r.0, r.1, f, valid.floor_low, valid.floor_high) | inr f ↦ omega (arith, size, n, m, r.0, r.1, f, valid.floor_low) ];
         fits = valid.fits;
         control = valid.control;
-        awake = valid.awake;
+        wake_ups = valid.wake_ups;
       }
 
   -- a receiver that lags finds a message

@@ -18,7 +18,7 @@ HasKey cursors pair = is_some (get cursors pair.0) ≡ true
 abbrev pub Sleeps : Cursors → Bool → ℕ → Pair → Type 0
 Sleeps cursors closed end pair = (get cursors pair.0 ≡ Some end) × (closed ≡ false)
 
--- they are in order, each is a receiver's, and who is not told may sleep
+-- they are in order, each is a receiver's, and who is not told would find nothing
 pub record AreReceives (cursors : Cursors) (closed : Bool) (end : ℕ) (l : Listeners Pair) : Type 0 where
   pub in_order : AreInOrder same_pair l
   pub keyed : AllByRecursion (HasKey cursors) l.ids

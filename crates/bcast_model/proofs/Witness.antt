@@ -29,7 +29,7 @@ module _ {T : Type 0} where
           cursors = λ key cursor e. let a = valid.caught_up key cursor refl e in let b = valid.reach key cursor e in (omega (arith, n), omega (arith, n));
           fits = rw f (rw none valid.fits);
           control = subst (IsValidControl control) (sym n) valid.control;
-          awake = subst (λ (v : View T). NoLostWakeUp v.control (length v.queue == v.control.capacity) v.end) is valid.awake;
+          wake_ups = subst (λ (v : View T). NoLostWakeUp v.control (length v.queue == v.control.capacity) v.end) is valid.wake_ups;
         },
         is,
       )
@@ -50,7 +50,7 @@ module _ {T : Type 0} where
           cursors = λ key cursor e. let b = valid.reach key cursor e in (omega arith, omega (arith, n));
           fits = rw (f, z, d) valid.fits;
           control = subst (IsValidControl control) (sym n) valid.control;
-          awake = subst (λ (v : View T). NoLostWakeUp v.control (length v.queue == v.control.capacity) v.end) is valid.awake;
+          wake_ups = subst (λ (v : View T). NoLostWakeUp v.control (length v.queue == v.control.capacity) v.end) is valid.wake_ups;
         },
         is,
       )

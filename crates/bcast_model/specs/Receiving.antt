@@ -27,12 +27,14 @@ abbrev pub skipped_to : ℕ → Option ℕ → Option ℕ
 skipped_to front None = None
 skipped_to front (Some cursor) = Some (max cursor front)
 
+-- how many it skips so
 abbrev pub skipped : ℕ → Option ℕ → ℕ
 skipped front None = 0
 skipped front (Some cursor) = front - cursor
 
 -- the message of this cursor is also for another receiver, who has not read it yet
-pub record IsOwedElsewhere (front end : ℕ) (cursors : Cursors) (key : ℕ) (cursor : Option ℕ) : Type 0 where
+pub record IsOwedElsewhere
+    (front end : ℕ) (cursors : Cursors) (key : ℕ) (cursor : Option ℕ) : Type 0 where
   pub number : ℕ
   pub at : cursor ≡ Some number
   pub kept : (front ≤ number) × (number < end)
@@ -51,7 +53,8 @@ module _ {T : Type 0} where
   abbrev pub received : Bool → ℕ → (ℕ → Option T) → Option ℕ → Result T TryRecvError
   received closed front message None = Err unread.Closed
   received closed front message (Some cursor) =
-      if nat_lt cursor front then Err (unread.Overflowed (front - cursor)) else found closed (message cursor)
+      if nat_lt cursor front then Err (unread.Overflowed (front - cursor))
+      else found closed (message cursor)
 
   -- `try_recv` at this cursor, if there is one
   abbrev pub try_recv_reply : History T → Option ℕ → Result T TryRecvError
@@ -78,7 +81,8 @@ module _ {T : Type 0} where
   stream_reply (Err unread.Closed) = poll.Ready None
   stream_reply (Err unread.Empty) = poll.Pending
 
-  -- `poll_next`: a message and how many were skipped before it
+  -- `poll_next`: a message and how many were skipped before it. `Overflowed` can't come after the
+  -- skip, which leaves no cursor below the front
   abbrev pub next_reply : ℕ → Result T TryRecvError → Poll (Option (T × ℕ))
   next_reply skips (Ok msg) = poll.Ready (Some (msg, skips))
   next_reply skips (Err (unread.Overflowed n)) = poll.Ready None
@@ -87,4 +91,5 @@ module _ {T : Type 0} where
 
   -- a receive poll by this listener, whose receiver reads at this cursor
   abbrev pub poll_receive : ℕ → ℕ → Control → Pair → Option ℕ → Result T TryRecvError → Control
-  poll_receive front end c pair cursor reply = listens (receive front end c pair.0 cursor) pair (is_empty_reply reply)
+  poll_receive front end c pair cursor reply =
+      listens (receive front end c pair.0 cursor) pair (is_empty_reply reply)

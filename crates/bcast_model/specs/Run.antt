@@ -10,7 +10,8 @@ module _ {T : Type 0} where
   -- as many replies as calls, and each is legal in the state that the calls before it have led to
   abbrev pub IsRun : (T → T → Type 0) → History T → List (Call T) → List (Reply T) → Type 0
   IsRun is_clone h [] [] = Unit {0}
-  IsRun is_clone h (c ∷ calls) (r ∷ replies) = Legal is_clone h c r × IsRun is_clone (next h c r) calls replies
+  IsRun is_clone h (c ∷ calls) (r ∷ replies) =
+      Legal is_clone h c r × IsRun is_clone (next h c r) calls replies
   IsRun is_clone h [] (r ∷ replies) = ⊥
   IsRun is_clone h (c ∷ calls) [] = ⊥
 

@@ -24,20 +24,25 @@ module _ {T : Type 0} where
   abbrev pub attempted : Bool → Option T → Option (TrySendError T) → SendPoll T
   attempted await_active back None = send.Ready (Ok back)
   attempted await_active back (Some (unsent.Closed msg)) = send.Ready (Err (record { 0 = msg }))
-  attempted await_active back (Some (unsent.Inactive msg)) = if await_active then send.Wait msg else send.Ready (Err (record { 0 = msg }))
+  attempted await_active back (Some (unsent.Inactive msg)) =
+      if await_active then send.Wait msg else send.Ready (Err (record { 0 = msg }))
   attempted await_active back (Some (unsent.Full msg)) = send.Wait msg
 
   -- what an acceptance hands back: the oldest message of a full channel
   abbrev pub handed_back : History T → Option T
   handed_back h = if is_full h then numbered h (front_number h) else None
 
+  -- the reply of `try_broadcast`
   abbrev pub try_broadcast_reply : History T → T → Result (Option T) (TrySendError T)
   try_broadcast_reply h msg = sent (handed_back h) (refusal h.control (is_full h) msg)
 
+  -- the reply to one attempt of `Send`
   abbrev pub attempt_send_reply : History T → T → SendPoll T
-  attempt_send_reply h msg = attempted h.control.await_active (handed_back h) (refusal h.control (is_full h) msg)
+  attempt_send_reply h msg =
+      attempted h.control.await_active (handed_back h) (refusal h.control (is_full h) msg)
 
-  -- a message that is accepted comes last. Where the channel is full the floor passes the oldest one
+  -- a message that is accepted comes last. Where the channel is full the floor passes the oldest
+  -- one
   abbrev pub accept : History T → T → History T
   accept h msg = record {
     first = h.first;
@@ -59,5 +64,7 @@ module _ {T : Type 0} where
   abbrev pub poll_send : History T → ℕ → T → History T
   poll_send h place msg =
       if has_place h.control place
-      then (if sends_are_ready h then with_control (offer h msg) (place_answered (offer h msg).control place) else with_control h (place_waits h.control place))
+      then (if sends_are_ready h
+      then with_control (offer h msg) (place_answered (offer h msg).control place)
+      else with_control h (place_waits h.control place))
       else h

@@ -14,7 +14,8 @@ pub record AreListed (c : Control) : Type 0 where
   pub places : AllByRecursion (λ place. has_place c place ≡ true) c.waiting_sends.ids
   pub keys : AllByRecursion (λ pair. is_some (get c.cursors pair.0) ≡ true) c.waiting_receives.ids
 
--- counts and settings fit, an open channel has somebody on each side, and a number is left for the next message
+-- counts and settings fit, an open channel has somebody on each side, and a number is left for the
+-- next message
 pub record IsValidControl (c : Control) (end : ℕ) : Type 0 where
   pub capacity : 1 ≤ c.capacity
   pub room : c.capacity ≤ c.room
@@ -29,14 +30,14 @@ pub record IsValidControl (c : Control) (end : ℕ) : Type 0 where
   pub lists : AreListed c
 
 -- a receiver that has read everything, of an open channel: a poll would find nothing
-pub record MaySleep (c : Control) (end : ℕ) (pair : Pair) : Type 0 where
+pub record WouldWait (c : Control) (end : ℕ) (pair : Pair) : Type 0 where
   pub at_end : get c.cursors pair.0 ≡ Some end
   pub is_open : c.closed ≡ false
 
--- no wake-up is lost: who waits to receive and is not told may sleep,
+-- no wake-up is lost: who waits to receive and is not told would find nothing,
 -- and where a send would be answered and one waits, one is told
 pub record NoLostWakeUp (c : Control) (full : Bool) (end : ℕ) : Type 0 where
-  pub receives : AllByRecursion (MaySleep c end) (untold_ids c.waiting_receives)
+  pub receives : AllByRecursion (WouldWait c end) (untold_ids c.waiting_receives)
   pub sends : is_ready c full ≡ true → 1 ≤ length c.waiting_sends.ids → 1 ≤ c.waiting_sends.told
 
 -- a state that a channel can be in
@@ -45,7 +46,8 @@ pub record IsValid {T : Type 0} (h : History T) : Type 0 where
   pub floor_high : h.floor ≤ end_number h
   -- the newest message is not under the floor
   pub floor_below : (h.floor ≡ h.first) ⊎ (h.floor < end_number h)
-  pub cursors : (key cursor : ℕ) → get h.control.cursors key ≡ Some cursor → (h.first ≤ cursor) × (cursor ≤ end_number h)
+  pub cursors : (key cursor : ℕ) → get h.control.cursors key ≡ Some cursor
+      → (h.first ≤ cursor) × (cursor ≤ end_number h)
   pub fits : length (queue_of h) ≤ h.control.capacity
   pub control : IsValidControl h.control (end_number h)
-  pub awake : NoLostWakeUp h.control (is_full h) (end_number h)
+  pub wake_ups : NoLostWakeUp h.control (is_full h) (end_number h)

@@ -1,7 +1,14 @@
 //! What a call on the channel may refuse with.
+ghost use Rattle.std.specs.Prelude.{◌≡◌, ◌↔◌, IsTrue};
+ghost use Rattle.bcast_model.specs.Errors.{unsent_message, IsOverflowed};
 
-/// Why `try_broadcast` did not accept a message. Each variant hands the message back.
-#[derive(Drop)]
+mod text;
+
+/// Why `try_broadcast` did not accept a message. Each variant hands the message back, and prints
+/// without asking anything of it.
+///
+/// Source: `TrySendError` of async-broadcast 0.7.2.
+#[derive(Clone, Copy, Drop, PartialEq, Eq)]
 pub enum TrySendError<T> {
     /// The channel is full, and overflow is off.
     Full(T),
@@ -13,11 +20,17 @@ pub enum TrySendError<T> {
 
 /// Why a send that may wait did not accept a message, which it hands back: the channel is closed,
 /// or there is no active receiver and sends do not await one.
-#[derive(Drop)]
+///
+/// It prints the same text in both cases, without asking anything of the message.
+///
+/// Source: `SendError` of async-broadcast 0.7.2.
+#[derive(Clone, Copy, Drop, PartialEq, Eq)]
 pub struct SendError<T>(pub T);
 
 /// Why `try_recv` gave no message.
-#[derive(Clone, Copy)]
+///
+/// Source: `TryRecvError` of async-broadcast 0.7.2.
+#[derive(Clone, Copy, Debug, PartialEq, Eq)]
 pub enum TryRecvError {
     /// So many messages were dropped before the receiver read them. It goes on after them.
     Overflowed(u64),
@@ -28,7 +41,9 @@ pub enum TryRecvError {
 }
 
 /// Why a receive that may wait gave no message.
-#[derive(Clone, Copy)]
+///
+/// Source: `RecvError` of async-broadcast 0.7.2.
+#[derive(Clone, Copy, Debug, PartialEq, Eq)]
 pub enum RecvError {
     /// So many messages were dropped before the receiver read them. It goes on after them.
     Overflowed(u64),
@@ -37,7 +52,9 @@ pub enum RecvError {
 }
 
 /// Why a handle was not made. Nothing changed.
-#[derive(Clone, Copy)]
+///
+/// Source: this crate's own.
+#[derive(Clone, Copy, Debug, PartialEq, Eq)]
 pub enum HandleError {
     /// There was no memory for it.
     Memory,
@@ -45,4 +62,87 @@ pub enum HandleError {
     TooMany,
     /// The handle that it was to be made from is not there.
     Gone,
+}
+
+impl<T> TrySendError<T> {
+    /// The message that was not sent.
+    ///
+    /// Source: `TrySendError::into_inner` of async-broadcast 0.7.2.
+    pub fn into_inner(self) -> T
+        ensures { result ≡ unsent_message self }
+    {
+        match self {
+            TrySendError::Full(msg) => msg,
+            TrySendError::Closed(msg) => msg,
+            TrySendError::Inactive(msg) => msg,
+        }
+    }
+
+    /// Whether the channel was full: it was open, and had an active receiver.
+    ///
+    /// Source: `TrySendError::is_full` of async-broadcast 0.7.2.
+    pub fn is_full(&self) -> bool
+        ensures { IsTrue result ↔ (self.now ≡ TrySendError.Full (unsent_message self.now)) }
+    {
+        matches!(self, TrySendError::Full(_))
+    }
+
+    /// Whether the channel was closed.
+    ///
+    /// Source: `TrySendError::is_closed` of async-broadcast 0.7.2.
+    pub fn is_closed(&self) -> bool
+        ensures { IsTrue result ↔ (self.now ≡ TrySendError.Closed (unsent_message self.now)) }
+    {
+        matches!(self, TrySendError::Closed(_))
+    }
+
+    /// Whether an open channel had no active receiver.
+    ///
+    /// Source: `TrySendError::is_disconnected` of async-broadcast 0.7.2.
+    pub fn is_disconnected(&self) -> bool
+        ensures { IsTrue result ↔ (self.now ≡ TrySendError.Inactive (unsent_message self.now)) }
+    {
+        matches!(self, TrySendError::Inactive(_))
+    }
+}
+
+impl<T> SendError<T> {
+    /// The message that was not sent.
+    ///
+    /// Source: `SendError::into_inner` of async-broadcast 0.7.2.
+    pub fn into_inner(self) -> T
+        ensures { result ≡ self.0 }
+    {
+        let SendError(msg) = self;
+        msg
+    }
+}
+
+impl TryRecvError {
+    /// Whether every message was read, in an open channel.
+    ///
+    /// Source: `TryRecvError::is_empty` of async-broadcast 0.7.2.
+    pub fn is_empty(&self) -> bool
+        ensures { IsTrue result ↔ (self.now ≡ TryRecvError.Empty) }
+    {
+        matches!(self, TryRecvError::Empty)
+    }
+
+    /// Whether every message was read, in a closed channel.
+    ///
+    /// Source: `TryRecvError::is_closed` of async-broadcast 0.7.2.
+    pub fn is_closed(&self) -> bool
+        ensures { IsTrue result ↔ (self.now ≡ TryRecvError.Closed) }
+    {
+        matches!(self, TryRecvError::Closed)
+    }
+
+    /// Whether the receiver missed messages.
+    ///
+    /// Source: `TryRecvError::is_overflowed` of async-broadcast 0.7.2.
+    pub fn is_overflowed(&self) -> bool
+        ensures { IsTrue result ↔ IsOverflowed self.now }
+    {
+        matches!(self, TryRecvError::Overflowed(_))
+    }
 }

@@ -1,3 +1,4 @@
 pub mod Ids
 pub mod Kept
+pub mod Marked
 pub mod Same

@@ -22,6 +22,10 @@ by_kinds kind.Future kind.Future = refl
 same-is : same ≡ same_pair
 same-is = λ i pair other. (pair.0 == other.0) && by_kinds pair.1 other.1 i
 
+-- what is said by the test is said by `same_pair`
+pub by_pairs : {A : Type 0} (of : (Pair → Pair → Bool) → A) → of same ≡ of same_pair
+by_pairs of = ap of same-is
+
 -- what a contract sees of the list
 abbrev pub receives_of : Event Pair → Receives
 receives_of e = record { waiting = e.listeners; room = e.room }

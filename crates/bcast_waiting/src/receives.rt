@@ -3,6 +3,7 @@ ghost use Rattle.std.specs.Prelude.{◌≡◌, ◌+◌, ◌*◌, ◌<◌, ◌≤
 ghost use Rattle.bcast_model.specs.Listeners.{no_listeners, tell_all, consume, abandon, wait_again, is_in};
 ghost use Rattle.bcast_model.specs.Pair.{same_pair};
 
+use crate::marks::{Mark, is_marked, set_marked};
 use bcast_event::event::Event;
 use bcast_event::notice::Notice;
 use bcast_model::listener::Kind;
@@ -20,6 +21,11 @@ mod tests;
 #[derive(Drop)]
 pub struct ReceiveList<N: Notice, A: Allocator = Global> {
     waiting: Event<(usize, Kind), N, A>,
+    // For each key below the length, which of its listeners are listed in `waiting`, so that the list
+    // is looked through for a listener that is there alone.
+    marks: Vec<Mark, A>,
+    // Whether a listener was listed whose key has no mark.
+    has_others: bool,
 }
 
 impl<N: Notice, A: Allocator> Model for ReceiveList<N, A> {
@@ -30,6 +36,10 @@ impl<N: Notice, A: Allocator> Model for ReceiveList<N, A> {
     ghost coded = { receives_code };
 
     ghost view = { λ r. record { waiting = r.waiting.listeners; room = r.waiting.room } };
+
+    ghost use Rattle.bcast_waiting.specs.Marks.{AreMarked};
+
+    ghost invariant = { λ r. AreMarked r.marks.items r.has_others r.waiting.listeners.ids };
 }
 
 impl<N: Notice, A: Allocator + Copy> ReceiveList<N, A> {
@@ -41,6 +51,8 @@ impl<N: Notice, A: Allocator + Copy> ReceiveList<N, A> {
     {
         ReceiveList {
             waiting: Event::new(alloc),
+            marks: Vec::new(alloc),
+            has_others: false,
         }
     }
 
@@ -66,13 +78,28 @@ impl<N: Notice, A: Allocator + Copy> ReceiveList<N, A> {
         let Some(room) = count.checked_mul(2) else {
             return Err(AllocError);
         };
-        self.waiting.reserve(room)
+        self.waiting.reserve(room)?;
+        if !self.has_others && self.marks.len() < count {
+            self.marks.push(Mark::none())?;
+        }
+        Ok(())
+    }
+
+    // Whether the listener is listed.
+    fn is_listed(&self, key: usize, kind: Kind) -> bool
+        ensures { result ≡ is_in same_pair (key, kind) self.now.waiting.ids }
+    {
+        if key < self.marks.len() || !self.has_others {
+            is_marked(&self.marks, key, kind)
+        } else {
+            self.waiting.is_told((key, kind)).is_some()
+        }
     }
 
     /// Lists a listener that must wait. One that is listed and not told keeps its position and gets
     /// the new notice; any other is listed last and untold.
     ///
-    /// Takes no memory. Looks through the list from the front.
+    /// Takes no memory. Looks through the list only where the listener is listed.
     ///
     /// Source: `Event::listen`, and a poll of the listener of `Recv` or of the stream.
     pub fn wait(&mut self, key: usize, kind: Kind, notice: N)
@@ -81,8 +108,10 @@ impl<N: Notice, A: Allocator + Copy> ReceiveList<N, A> {
         ensures { self.new
             ≡ record self.old { waiting = wait_again same_pair (key, kind) self.old.waiting } }
     {
-        let is_listed = self.waiting.is_told((key, kind)).is_some();
+        let is_listed = self.is_listed(key, kind);
         self.waiting.wait_again((key, kind), notice, is_listed);
+        self.has_others |= key >= self.marks.len();
+        set_marked(&mut self.marks, key, kind, true);
     }
 
     /// Takes out a listener that got what it waited for. Where it is not listed, nothing changes.
@@ -92,7 +121,11 @@ impl<N: Notice, A: Allocator + Copy> ReceiveList<N, A> {
         ensures { self.new
             ≡ record self.old { waiting = consume same_pair (key, kind) self.old.waiting } }
     {
+        if !self.is_listed(key, kind) {
+            return;
+        }
         self.waiting.consume((key, kind));
+        set_marked(&mut self.marks, key, kind, false);
     }
 
     /// Takes out a listener that gave up. Where it was told, the first of the others that is not
@@ -103,7 +136,11 @@ impl<N: Notice, A: Allocator + Copy> ReceiveList<N, A> {
         ensures { self.new
             ≡ record self.old { waiting = abandon same_pair (key, kind) self.old.waiting } }
     {
+        if !self.is_listed(key, kind) {
+            return;
+        }
         self.waiting.abandon((key, kind));
+        set_marked(&mut self.marks, key, kind, false);
     }
 
     /// Tells every listener.
