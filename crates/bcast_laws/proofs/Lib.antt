@@ -1,0 +1,14 @@
+-- sends, and what is refused
+pub mod Sends
+pub mod Refusals
+-- receivers, and the messages that are kept
+pub mod Kept
+pub mod Answers
+pub mod Missed
+pub mod Clones
+-- a closed channel
+pub mod Closing
+pub mod ClosedSends
+pub mod Terminated
+-- whole runs
+pub mod Order

@@ -1,0 +1,6 @@
+-- The clone stands where its original does.
+use Rattle.bcast_laws.proofs.Clones.{clone_alike}
+use Rattle.bcast_laws.proofs.clones_answer_alike.Goals as goal
+
+pub returns : goal.returns
+returns g _ = λ h key fresh r valid legal. clone_alike g.T.Clone.is_clone h key fresh r valid legal

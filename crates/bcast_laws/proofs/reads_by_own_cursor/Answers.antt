@@ -1,0 +1,9 @@
+-- One receiver's answer in two states that it can't tell apart.
+use Rattle.bcast_laws.proofs.Answers.{own_answer, others_answer}
+use Rattle.bcast_laws.proofs.reads_by_own_cursor.Goals as goal
+
+pub returns : goal.returns
+returns g _ = record {
+  own = λ h other key valid shared cursor. own_answer h other key valid.floor_high shared cursor;
+  others = λ h key reader c r valid reads differs. others_answer h key reader c r valid.floor_high reads differs;
+}

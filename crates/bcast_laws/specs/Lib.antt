@@ -1,0 +1,8 @@
+-- in reading order: what a send adds, and what a refused call leaves as it was
+pub mod Sends
+-- what a closed channel answers
+pub mod Closing
+-- what a receiver is answered, and how many messages are kept
+pub mod Receives
+-- what the receivers of a whole run are given
+pub mod Order

@@ -1,0 +1,79 @@
+-- What a send adds to the accepted messages, and what a refused call leaves as it was.
+use Rattle.std.specs.Prelude.{◌≡◌, ℕ, Bool, true, false, not, ◌∷◌, ◌++◌, [], Option, Some, None, Ok, Err}
+use Rattle.bcast_model.specs.declared.error.TrySendError.TheVariants as unsent
+use Rattle.bcast_model.specs.declared.error.TryRecvError.TheVariants as unread
+use Rattle.bcast_model.specs.declared.run.SendPoll.TheVariants as send
+use Rattle.bcast_model.specs.declared.run.Call.{Call}
+use Rattle.bcast_model.specs.declared.run.Call.TheVariants as call
+use Rattle.bcast_model.specs.declared.run.Reply.{Reply}
+use Rattle.bcast_model.specs.declared.run.Reply.TheVariants as reply
+use Rattle.bcast_model.specs.History.{History}
+use Rattle.bcast_model.specs.Legal.{Legal}
+use Rattle.bcast_model.specs.Next.{next}
+use Rattle.bcast_model.specs.Valid.{IsValid}
+
+module _ {T : Type 0} where
+  -- `try_broadcast`, `Send`: the message that a call sends
+  abbrev pub sent_by : Call T → Option T
+  sent_by (call.TryBroadcast msg) = Some msg
+  sent_by (call.AttemptSend msg) = Some msg
+  sent_by (call.PollSend place msg) = Some msg
+  sent_by c = None
+
+  -- `TrySendError::into_inner`, `SendError`, a `Send` that waits: the message that a reply hands back to its sender
+  abbrev pub returned_by : Reply T → Option T
+  returned_by (reply.TryBroadcast (Err (unsent.Full msg))) = Some msg
+  returned_by (reply.TryBroadcast (Err (unsent.Closed msg))) = Some msg
+  returned_by (reply.TryBroadcast (Err (unsent.Inactive msg))) = Some msg
+  returned_by (reply.AttemptSend (send.Ready (Err error))) = Some error.0
+  returned_by (reply.AttemptSend (send.Wait msg)) = Some msg
+  returned_by (reply.PollSend (send.Ready (Err error))) = Some error.0
+  returned_by (reply.PollSend (send.Wait msg)) = Some msg
+  returned_by r = None
+
+  -- whether a reply says that a message was accepted
+  abbrev pub is_accepted : Reply T → Bool
+  is_accepted (reply.TryBroadcast (Ok back)) = true
+  is_accepted (reply.AttemptSend (send.Ready (Ok back))) = true
+  is_accepted (reply.PollSend (send.Ready (Ok back))) = true
+  is_accepted r = false
+
+  -- whether a reply refuses its call: a message comes back, nothing is there to receive, the channel was closed already,
+  -- there is no memory, or no handle is made. A poll that found memory is not refused, since it changes who waits
+  abbrev pub is_refused : Reply T → Bool
+  is_refused (reply.TryBroadcast (Err error)) = true
+  is_refused (reply.AttemptSend (send.Ready (Err error))) = true
+  is_refused (reply.AttemptSend (send.Wait msg)) = true
+  is_refused (reply.TryRecv (Ok (Err unread.Empty))) = true
+  is_refused (reply.TryRecv (Ok (Err unread.Closed))) = true
+  is_refused (reply.Close was_open) = not was_open
+  is_refused (reply.BeginSend (Err error)) = true
+  is_refused (reply.TryRecv (Err error)) = true
+  is_refused (reply.PollFuture (Err error)) = true
+  is_refused (reply.PollRecv (Err error)) = true
+  is_refused (reply.PollNext (Err error)) = true
+  is_refused (reply.SetCapacity (Err error)) = true
+  is_refused (reply.NewSender (Err error)) = true
+  is_refused (reply.CloneInactive (Err error)) = true
+  is_refused (reply.Deactivate (Err error)) = true
+  is_refused (reply.NewReceiver (Err error)) = true
+  is_refused (reply.Activate (Err error)) = true
+  is_refused (reply.ActivateCloned (Err error)) = true
+  is_refused (reply.CloneReceiver (Err error)) = true
+  is_refused r = false
+
+-- a refused call leaves the channel just as it was, and a send that isn't accepted hands its message back
+pub record RefusedChangesNothing {T : Type 0} (is_clone : T → T → Type 0) : Type 0 where
+  pub same : (h : History T) (c : Call T) (r : Reply T) → IsValid h → Legal is_clone h c r → is_refused r ≡ true → next h c r ≡ h
+  pub returned : (h : History T) (c : Call T) (r : Reply T) (msg : T) → Legal is_clone h c r → sent_by c ≡ Some msg → is_accepted r ≡ false → returned_by r ≡ Some msg
+
+-- a call adds its message at the back where its reply says that it was accepted, and adds nothing anywhere else
+pub record OnlyAcceptedIsAdded {T : Type 0} (is_clone : T → T → Type 0) : Type 0 where
+  pub added : (h : History T) (c : Call T) (r : Reply T) (msg : T) → Legal is_clone h c r → is_accepted r ≡ true → sent_by c ≡ Some msg → (next h c r).accepted ≡ h.accepted ++ msg ∷ []
+  pub nothing : (h : History T) (c : Call T) (r : Reply T) → Legal is_clone h c r → is_accepted r ≡ false → (next h c r).accepted ≡ h.accepted
+
+-- `Send`, dropped before it is answered: neither its polls that wait nor its drop add a message
+pub record DroppedSendAddsNothing {T : Type 0} (is_clone : T → T → Type 0) : Type 0 where
+  pub polled : (h : History T) (place : ℕ) (msg : T) → Legal is_clone h (call.PollSend place msg) (reply.PollSend (send.Wait msg))
+      → (next h (call.PollSend place msg) (reply.PollSend (send.Wait msg))).accepted ≡ h.accepted
+  pub dropped : (h : History T) (place : ℕ) → (next h (call.EndSend place) reply.EndSend).accepted ≡ h.accepted

@@ -1,0 +1,59 @@
+//! What the users of a channel rely on from one call to the next: laws of the definitions.
+//!
+//! Each law stands on a function that does nothing. Whoever calls it may use the law.
+#![tactic(auto)]
+
+ghost use Rattle.bcast_laws.specs.Sends.{RefusedChangesNothing, OnlyAcceptedIsAdded, DroppedSendAddsNothing};
+ghost use Rattle.bcast_laws.specs.Closing.{StaysClosed, TerminatedGivesNothing};
+ghost use Rattle.bcast_laws.specs.Receives.{KeepsAtMostCapacity, MissedThenGiven, ReadsByOwnCursor, ClonesAnswerAlike};
+ghost use Rattle.bcast_laws.specs.Order.{RunsHaveOneOrder};
+
+/// Law: a refused call leaves the channel as it was, and a refused send hands back its message.
+pub fn refused_changes_nothing<T: Clone>()
+    ensures { RefusedChangesNothing T.is_clone }
+{}
+
+/// Law: a call adds its message where it answers that the message was accepted, else it adds none.
+pub fn only_accepted_is_added<T: Clone>()
+    ensures { OnlyAcceptedIsAdded T.is_clone }
+{}
+
+/// Law: a pending send that is dropped before it is answered adds no message.
+pub fn dropped_send_adds_nothing<T: Clone>()
+    ensures { DroppedSendAddsNothing T.is_clone }
+{}
+
+/// Law: a closed channel stays closed, and each send on it is refused with its message.
+pub fn stays_closed<T: Clone>()
+    ensures { StaysClosed T.is_clone }
+{}
+
+/// Law: where `is_terminated` answers true, each receive answers that the channel is closed.
+pub fn terminated_gives_nothing<T: Clone>()
+    ensures { TerminatedGivesNothing T.is_clone }
+{}
+
+/// Law: a channel keeps at most as many messages as its capacity, and none where nobody receives.
+pub fn keeps_at_most_capacity<T: Clone>()
+    ensures { KeepsAtMostCapacity T.is_clone }
+{}
+
+/// Law: a receiver that is told how many messages it missed finds a message next.
+pub fn missed_then_given<T>()
+    ensures { MissedThenGiven T }
+{}
+
+/// Law: what a receiver is answered doesn't depend on what the other receivers read.
+pub fn reads_by_own_cursor<T>()
+    ensures { ReadsByOwnCursor T }
+{}
+
+/// Law: a receiver and its new clone are answered alike, whichever is asked first.
+pub fn clones_answer_alike<T: Clone>()
+    ensures { ClonesAnswerAlike T.is_clone }
+{}
+
+/// Law: all receivers of a run are given the messages in one order, that of their acceptance.
+pub fn one_order<T: Clone>()
+    ensures { RunsHaveOneOrder T.is_clone }
+{}
