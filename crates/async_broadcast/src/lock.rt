@@ -38,13 +38,13 @@ struct Channel<T: Clone, A: Allocator> {
 }
 
 impl<T: Clone, A: Allocator> Channel<T, A> {
-    // Once the lock is free.
+    // Best once the lock is free.
     fn wake(&self, woken: Woken) {
         if woken.sender {
             self.ready.notify_one();
         }
-        if woken.receivers {
-            self.news.notify_all();
+        if woken.receiver {
+            self.news.notify_one();
         }
     }
 }
@@ -117,6 +117,7 @@ impl<T: Clone, R: Wait + Clone, A: Allocator + Copy> Lock<T, R, A> {
                 Reply::AttemptSend(SendPoll::Wait(back)) => left = back,
                 _ => unreachable!(),
             }
+            channel.wake(woken);
             state.begin_to_send();
             state = channel.ready.wait(&self.rt, state);
             state.try_to_send();
@@ -140,8 +141,10 @@ impl<T: Clone, R: Wait + Clone, A: Allocator + Copy> Lock<T, R, A> {
                 channel.wake(woken);
                 return Reply::TryRecv(answer);
             }
-            state.await_message();
+            channel.wake(woken);
+            let known = state.begin_to_receive();
             state = channel.news.wait(&self.rt, state);
+            state.try_to_receive(known);
         }
         unreachable!()
     }

@@ -1,3 +1,5 @@
+-- the program's arguments
+pub mod Command
 -- lines and the names in them
 pub mod Name
 pub mod Line

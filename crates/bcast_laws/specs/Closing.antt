@@ -17,19 +17,29 @@ use Rattle.bcast_model.specs.Run.{end_of_run}
 
 -- no calls open a closed channel, and each send on it is refused with its message
 pub record StaysClosed {T : Type 0} (is_clone : T → T → Type 0) : Type 0 where
-  pub stays : (h : History T) (calls : List (Call T)) (replies : List (Reply T)) → h.control.closed ≡ true → (end_of_run h calls replies).control.closed ≡ true
-  pub try_broadcast : (h : History T) (msg : T) (r : Reply T) → h.control.closed ≡ true → Legal is_clone h (call.TryBroadcast msg) r → r ≡ reply.TryBroadcast (Err (unsent.Closed msg))
-  pub attempt_send : (h : History T) (msg : T) (r : Reply T) → h.control.closed ≡ true → Legal is_clone h (call.AttemptSend msg) r → r ≡ reply.AttemptSend (send.Ready (Err (record { 0 = msg })))
-  pub poll_send : (h : History T) (place : ℕ) (msg : T) (r : Reply T) → h.control.closed ≡ true → has_place h.control place ≡ true → Legal is_clone h (call.PollSend place msg) r
+  pub stays : (h : History T) (calls : List (Call T)) (replies : List (Reply T))
+      → h.control.closed ≡ true → (end_of_run h calls replies).control.closed ≡ true
+  pub try_broadcast : (h : History T) (msg : T) (r : Reply T) → h.control.closed ≡ true
+      → Legal is_clone h (call.TryBroadcast msg) r
+      → r ≡ reply.TryBroadcast (Err (unsent.Closed msg))
+  pub attempt_send : (h : History T) (msg : T) (r : Reply T) → h.control.closed ≡ true
+      → Legal is_clone h (call.AttemptSend msg) r
+      → r ≡ reply.AttemptSend (send.Ready (Err (record { 0 = msg })))
+  pub poll_send : (h : History T) (place : ℕ) (msg : T) (r : Reply T) → h.control.closed ≡ true
+      → has_place h.control place ≡ true → Legal is_clone h (call.PollSend place msg) r
       → r ≡ reply.PollSend (send.Ready (Err (record { 0 = msg })))
 
 -- the receives of this receiver answer that the channel is closed, and nothing else
-pub record AnswersClosed {T : Type 0} (is_clone : T → T → Type 0) (h : History T) (key : ℕ) (r : Reply T) : Type 0 where
+pub record AnswersClosed
+    {T : Type 0} (is_clone : T → T → Type 0) (h : History T) (key : ℕ) (r : Reply T) : Type 0 where
   pub try_recv : Legal is_clone h (call.TryRecv key) r → r ≡ reply.TryRecv (Ok (Err unread.Closed))
-  pub poll_future : Legal is_clone h (call.PollFuture key) r → r ≡ reply.PollFuture (Ok (poll.Ready (Err unreceived.Closed)))
+  pub poll_future : Legal is_clone h (call.PollFuture key) r
+      → r ≡ reply.PollFuture (Ok (poll.Ready (Err unreceived.Closed)))
   pub poll_recv : Legal is_clone h (call.PollRecv key) r → r ≡ reply.PollRecv (Ok (poll.Ready None))
   pub poll_next : Legal is_clone h (call.PollNext key) r → r ≡ reply.PollNext (Ok (poll.Ready None))
 
--- where `is_terminated` answers true, each receive of each receiver answers that the channel is closed
+-- where `is_terminated` answers true, each receive answers that the channel is closed
 abbrev pub TerminatedGivesNothing : {T : Type 0} → (T → T → Type 0) → Type 0
-TerminatedGivesNothing {T} is_clone = (h : History T) (key : ℕ) (r : Reply T) → IsValid h → Legal is_clone h call.IsTerminated (reply.IsTerminated true) → AnswersClosed is_clone h key r
+TerminatedGivesNothing {T} is_clone =
+    (h : History T) (key : ℕ) (r : Reply T) → IsValid h
+    → Legal is_clone h call.IsTerminated (reply.IsTerminated true) → AnswersClosed is_clone h key r

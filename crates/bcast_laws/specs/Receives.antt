@@ -16,33 +16,42 @@ use Rattle.bcast_model.specs.Deliveries.{receives_for}
 -- `len` is never over `capacity`, and no message is kept where nobody receives
 pub record KeepsAtMostCapacity {T : Type 0} (is_clone : T → T → Type 0) : Type 0 where
   pub kept : (h : History T) → IsValid h → length (queue_of h) ≤ h.control.capacity
-  pub answered : (h : History T) (n capacity : ℕ) → IsValid h → Legal is_clone h call.Len (reply.Len n) → Legal is_clone h call.Capacity (reply.Capacity capacity) → n ≤ capacity
+  pub answered : (h : History T) (n capacity : ℕ) → IsValid h
+      → Legal is_clone h call.Len (reply.Len n)
+      → Legal is_clone h call.Capacity (reply.Capacity capacity) → n ≤ capacity
   pub nobody : (h : History T) → IsValid h → len h.control.cursors ≡ 0 → queue_of h ≡ []
 
 -- who is told that it missed messages missed one at least, and its next `try_recv` finds a message
 abbrev pub MissedThenGiven : Type 0 → Type 0
 MissedThenGiven T =
-    (h : History T) (key n : ℕ) → IsValid h → try_recv_reply h (cursor_of h key) ≡ Err (unread.Overflowed n)
+    (h : History T) (key n : ℕ) → IsValid h
+    → try_recv_reply h (cursor_of h key) ≡ Err (unread.Overflowed n)
     → let after = next h (call.TryRecv key) (reply.TryRecv (Ok (Err (unread.Overflowed n)))) in
     (1 ≤ n) × IsOk (try_recv_reply after (cursor_of after key))
 
--- the messages that receivers share: those that were accepted, which of them were dropped, and whether more may come
+-- what receivers share: the accepted messages, which were dropped, and whether more may come
 pub record ShareMessages {T : Type 0} (h other : History T) : Type 0 where
   pub first : other.first ≡ h.first
   pub accepted : other.accepted ≡ h.accepted
   pub floor : other.floor ≡ h.floor
   pub closed : other.control.closed ≡ h.control.closed
 
--- what a receiver is answered depends on the shared messages and on its own cursor alone: no receive by another changes it
+-- what a receiver is answered depends on what is shared and on its own cursor alone:
+-- no receive by another one changes it
 pub record ReadsByOwnCursor (T : Type 0) : Type 0 where
-  pub own : (h other : History T) (key : ℕ) → IsValid h → ShareMessages h other → cursor_of other key ≡ cursor_of h key → try_recv_reply other (cursor_of other key) ≡ try_recv_reply h (cursor_of h key)
-  pub others : (h : History T) (key reader : ℕ) (c : Call T) (r : Reply T) → IsValid h → receives_for reader c ≡ true → reader ≢ key
-      → try_recv_reply (next h c r) (cursor_of (next h c r) key) ≡ try_recv_reply h (cursor_of h key)
+  pub own : (h other : History T) (key : ℕ) → IsValid h → ShareMessages h other
+      → cursor_of other key ≡ cursor_of h key
+      → try_recv_reply other (cursor_of other key) ≡ try_recv_reply h (cursor_of h key)
+  pub others : (h : History T) (key reader : ℕ) (c : Call T) (r : Reply T) → IsValid h
+      → receives_for reader c ≡ true → reader ≢ key
+      → try_recv_reply (next h c r) (cursor_of (next h c r) key)
+      ≡ try_recv_reply h (cursor_of h key)
 
 -- `Receiver::clone`: the two are answered alike, whoever is asked first
 abbrev pub ClonesAnswerAlike : {T : Type 0} → (T → T → Type 0) → Type 0
 ClonesAnswerAlike {T} is_clone =
-    (h : History T) (key fresh : ℕ) (r : Reply T) → IsValid h → Legal is_clone h (call.CloneReceiver key) (reply.CloneReceiver (Ok fresh))
+    (h : History T) (key fresh : ℕ) (r : Reply T) → IsValid h
+    → Legal is_clone h (call.CloneReceiver key) (reply.CloneReceiver (Ok fresh))
     → let made = next h (call.CloneReceiver key) (reply.CloneReceiver (Ok fresh)) in
     let after = next made (call.TryRecv key) r in
     (try_recv_reply made (cursor_of made fresh) ≡ try_recv_reply made (cursor_of made key))

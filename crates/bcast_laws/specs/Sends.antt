@@ -20,7 +20,7 @@ module _ {T : Type 0} where
   sent_by (call.PollSend place msg) = Some msg
   sent_by c = None
 
-  -- `TrySendError::into_inner`, `SendError`, a `Send` that waits: the message that a reply hands back to its sender
+  -- `TrySendError`, `SendError`, a `Send` that waits: the message that a reply hands back
   abbrev pub returned_by : Reply T → Option T
   returned_by (reply.TryBroadcast (Err (unsent.Full msg))) = Some msg
   returned_by (reply.TryBroadcast (Err (unsent.Closed msg))) = Some msg
@@ -38,8 +38,9 @@ module _ {T : Type 0} where
   is_accepted (reply.PollSend (send.Ready (Ok back))) = true
   is_accepted r = false
 
-  -- whether a reply refuses its call: a message comes back, nothing is there to receive, the channel was closed already,
-  -- there is no memory, or no handle is made. A poll that found memory is not refused, since it changes who waits
+  -- whether a reply refuses its call: a message comes back, nothing is there to receive, the
+  -- channel was closed already, there is no memory, or no handle is made. A poll that found memory
+  -- is not refused, since it changes who waits
   abbrev pub is_refused : Reply T → Bool
   is_refused (reply.TryBroadcast (Err error)) = true
   is_refused (reply.AttemptSend (send.Ready (Err error))) = true
@@ -62,18 +63,25 @@ module _ {T : Type 0} where
   is_refused (reply.CloneReceiver (Err error)) = true
   is_refused r = false
 
--- a refused call leaves the channel just as it was, and a send that isn't accepted hands its message back
+-- a refused call leaves the channel as it was, and a send that isn't accepted returns its message
 pub record RefusedChangesNothing {T : Type 0} (is_clone : T → T → Type 0) : Type 0 where
-  pub same : (h : History T) (c : Call T) (r : Reply T) → IsValid h → Legal is_clone h c r → is_refused r ≡ true → next h c r ≡ h
-  pub returned : (h : History T) (c : Call T) (r : Reply T) (msg : T) → Legal is_clone h c r → sent_by c ≡ Some msg → is_accepted r ≡ false → returned_by r ≡ Some msg
+  pub same : (h : History T) (c : Call T) (r : Reply T) → IsValid h → Legal is_clone h c r
+      → is_refused r ≡ true → next h c r ≡ h
+  pub returned : (h : History T) (c : Call T) (r : Reply T) (msg : T) → Legal is_clone h c r
+      → sent_by c ≡ Some msg → is_accepted r ≡ false → returned_by r ≡ Some msg
 
--- a call adds its message at the back where its reply says that it was accepted, and adds nothing anywhere else
+-- a call adds its message at the back where its reply says that it was accepted, else nothing
 pub record OnlyAcceptedIsAdded {T : Type 0} (is_clone : T → T → Type 0) : Type 0 where
-  pub added : (h : History T) (c : Call T) (r : Reply T) (msg : T) → Legal is_clone h c r → is_accepted r ≡ true → sent_by c ≡ Some msg → (next h c r).accepted ≡ h.accepted ++ msg ∷ []
-  pub nothing : (h : History T) (c : Call T) (r : Reply T) → Legal is_clone h c r → is_accepted r ≡ false → (next h c r).accepted ≡ h.accepted
+  pub added : (h : History T) (c : Call T) (r : Reply T) (msg : T) → Legal is_clone h c r
+      → is_accepted r ≡ true → sent_by c ≡ Some msg
+      → (next h c r).accepted ≡ h.accepted ++ msg ∷ []
+  pub nothing : (h : History T) (c : Call T) (r : Reply T) → Legal is_clone h c r
+      → is_accepted r ≡ false → (next h c r).accepted ≡ h.accepted
 
 -- `Send`, dropped before it is answered: neither its polls that wait nor its drop add a message
 pub record DroppedSendAddsNothing {T : Type 0} (is_clone : T → T → Type 0) : Type 0 where
-  pub polled : (h : History T) (place : ℕ) (msg : T) → Legal is_clone h (call.PollSend place msg) (reply.PollSend (send.Wait msg))
+  pub polled : (h : History T) (place : ℕ) (msg : T)
+      → Legal is_clone h (call.PollSend place msg) (reply.PollSend (send.Wait msg))
       → (next h (call.PollSend place msg) (reply.PollSend (send.Wait msg))).accepted ≡ h.accepted
-  pub dropped : (h : History T) (place : ℕ) → (next h (call.EndSend place) reply.EndSend).accepted ≡ h.accepted
+  pub dropped : (h : History T) (place : ℕ)
+      → (next h (call.EndSend place) reply.EndSend).accepted ≡ h.accepted

@@ -2,20 +2,24 @@
 use Rattle.std.specs.Prelude.{ℕ, List, [], ◌++◌, codes}
 use Rattle.std.specs.Fmt.{decimal}
 use Rattle.bcast_text.specs.declared.ending.Ending.{Ending}
-use Rattle.bcast_text.specs.declared.ending.Ending.TheVariants.{Done, NotACall, NoMemory, InputFailed, OutputFailed}
+use Rattle.bcast_text.specs.declared.ending.Ending.TheVariants.{Done, Differ, NotACall, NoMemory, NoThread, InputFailed, OutputFailed}
 
 -- the exit status
 abbrev pub status_of : Ending → ℕ
 status_of Done = 0
+status_of Differ = 1
 status_of (NotACall line) = 2
 status_of NoMemory = 3
+status_of NoThread = 3
 status_of InputFailed = 4
 status_of OutputFailed = 4
 
--- the line on standard error, its LF aside; none where every line was run
+-- the line on standard error, its LF aside; none where the output says it all
 abbrev pub text_of : Ending → List ℕ
 text_of Done = []
+text_of Differ = []
 text_of (NotACall line) = codes "line " ++ decimal line ++ codes ": not a call"
 text_of NoMemory = codes "out of memory"
+text_of NoThread = codes "no thread"
 text_of InputFailed = codes "input failed"
 text_of OutputFailed = codes "output failed"

@@ -7,12 +7,16 @@ use std::fmt;
 /// How a run ended.
 #[derive(Clone, Copy, Debug, PartialEq, Eq)]
 pub enum Ending {
-    /// Every line was run.
+    /// Every line was run, or every thread, and nothing was amiss.
     Done,
+    /// The receivers of a run of threads did not all see one order.
+    Differ,
     /// The line of this number, counted from 1, is no call. The lines before it were run.
     NotACall(u64),
     /// There was no memory.
     NoMemory,
+    /// A thread could not be started.
+    NoThread,
     /// A read failed.
     InputFailed,
     /// A write failed.
@@ -28,8 +32,9 @@ impl Ending {
     {
         match self {
             Ending::Done => 0,
+            Ending::Differ => 1,
             Ending::NotACall(_) => 2,
-            Ending::NoMemory => 3,
+            Ending::NoMemory | Ending::NoThread => 3,
             Ending::InputFailed | Ending::OutputFailed => 4,
         }
     }
@@ -43,9 +48,10 @@ impl fmt::Display for Ending {
 
     fn fmt<W: fmt::Write>(&self, f: &mut fmt::Formatter<W>) -> fmt::Result {
         match self {
-            Ending::Done => Ok(()),
+            Ending::Done | Ending::Differ => Ok(()),
             Ending::NotACall(line) => write!(f, "line {line}: not a call"),
             Ending::NoMemory => f.write_str("out of memory"),
+            Ending::NoThread => f.write_str("no thread"),
             Ending::InputFailed => f.write_str("input failed"),
             Ending::OutputFailed => f.write_str("output failed"),
         }
@@ -54,11 +60,13 @@ impl fmt::Display for Ending {
 
 /// Prints how the run ended on standard error, and answers the exit status.
 ///
+/// `Done` and `Differ` print nothing there: their text is the output.
+///
 /// Source: this crate's own.
 pub fn report(rt: &impl Eprint, ending: Ending) -> u8
     ensures { result ≡ status_of ending }
 {
-    if ending != Ending::Done {
+    if ending != Ending::Done && ending != Ending::Differ {
         let _ = eprintln!(rt; "{ending}");
     }
     ending.status()

@@ -1,0 +1,8 @@
+-- a signal to stop
+pub mod Signal
+-- settings that change
+pub mod Config
+-- events for subscribers that come and go
+pub mod Hub
+-- what readers are still to read
+pub mod Log

@@ -1,4 +1,5 @@
-//! A text sent to two receivers.
+//! Callers of a broadcast channel, each as a program writes it: a text for two receivers, events,
+//! settings, a log and a signal to stop.
 #![tactic(auto)]
 
 ghost use Rattle.std.specs.Prelude.{◌≡◌, IfOk, IfSome, string_bytes};
@@ -7,6 +8,11 @@ use bcast_core::{Inner, Silent};
 use bcast_model::laws::received_is_given;
 use std::alloc::{AllocError, Global};
 use std::string::String;
+
+pub mod config_watcher;
+pub mod event_hub;
+pub mod log_fan_out;
+pub mod shutdown;
 
 /// Sends a text over a new channel of capacity 1 to two receivers, and answers what each got.
 ///

@@ -16,15 +16,21 @@ pub(super) struct State<T: Clone, A: Allocator> {
     // How many threads wait to send, and whether one of them was woken and hasn't tried yet.
     senders: u64,
     is_sender_woken: bool,
-    // Whether a thread began to wait for a message since all that did were woken.
-    awaits_message: bool,
+    // How many threads wait for a message: those that have nothing to receive, and those that have.
+    idle_receivers: u64,
+    due_receivers: u64,
+    // Whether one of them was woken and hasn't tried yet.
+    is_receiver_woken: bool,
 }
 
-/// Whom a call lets go on: one thread that waits to send, all that wait for a message.
+/// Whom to wake after a call: a thread that waits to send, one that waits for a message.
+///
+/// The one that is woken wakes the next after its own call, so that few threads want the lock at
+/// once.
 #[derive(Drop)]
 pub(super) struct Woken {
     pub(super) sender: bool,
-    pub(super) receivers: bool,
+    pub(super) receiver: bool,
 }
 
 impl<T: Clone, A: Allocator + Copy> State<T, A> {
@@ -33,7 +39,9 @@ impl<T: Clone, A: Allocator + Copy> State<T, A> {
             inner,
             senders: 0,
             is_sender_woken: false,
-            awaits_message: false,
+            idle_receivers: 0,
+            due_receivers: 0,
+            is_receiver_woken: false,
         }
     }
 
@@ -44,14 +52,28 @@ impl<T: Clone, A: Allocator + Copy> State<T, A> {
         ensures possible { IsPossible T.is_clone call result.0 }
         ensures kind { IsOfKind call result.0 }
     {
-        let before = self.news();
+        let known = self.news();
         let reply = step(&mut self.inner, call, wake);
-        let receivers = self.awaits_message && self.news() != before;
-        self.awaits_message &= !receivers;
-        // The one that was woken wakes the next, where sends are still ready after its own call.
+        let woken = self.whom_to_wake(known);
+        (reply, woken)
+    }
+
+    // `known` is the news before the call.
+    fn whom_to_wake(&mut self, known: (u64, bool)) -> Woken
+        ensures { self.new.inner ≡ self.old.inner }
+    {
+        let newly_due = if self.news() == known {
+            0
+        } else {
+            self.idle_receivers
+        };
+        self.idle_receivers = self.idle_receivers.wrapping_sub(newly_due);
+        self.due_receivers = self.due_receivers.wrapping_add(newly_due);
+        let receiver = self.due_receivers > 0 && !self.is_receiver_woken;
+        self.is_receiver_woken |= receiver;
         let sender = self.senders > 0 && !self.is_sender_woken && self.sends_are_ready();
         self.is_sender_woken |= sender;
-        (reply, Woken { sender, receivers })
+        Woken { sender, receiver }
     }
 
     /// A thread is about to wait to send.
@@ -65,9 +87,20 @@ impl<T: Clone, A: Allocator + Copy> State<T, A> {
         self.is_sender_woken = false;
     }
 
-    /// A thread is about to wait for a message.
-    pub(super) fn await_message(&mut self) {
-        self.awaits_message = true;
+    /// A thread that has nothing to receive is about to wait for a message. Answers what it knows.
+    pub(super) fn begin_to_receive(&mut self) -> (u64, bool) {
+        self.idle_receivers = self.idle_receivers.wrapping_add(1);
+        self.news()
+    }
+
+    /// A thread that began to wait when it knew this much has waited, and tries again.
+    pub(super) fn try_to_receive(&mut self, known: (u64, bool)) {
+        if self.news() == known {
+            self.idle_receivers = self.idle_receivers.wrapping_sub(1);
+        } else {
+            self.due_receivers = self.due_receivers.wrapping_sub(1);
+        }
+        self.is_receiver_woken = false;
     }
 
     // What changes when a receiver that had read everything has something to receive.

@@ -1,0 +1,33 @@
+-- What the notes of a journal say of the entries.
+use Rattle.std.proofs.Common.{◌≡◌, ℕ, zero, suc, Some, List, [], ◌∷◌, ◌++◌, map, slice_get, length, refl, ap}
+use Rattle.std.proofs.lemmas.List.{length-map}
+use Rattle.bcast_record.specs.declared.entry.Entry.{Entry}
+use Rattle.bcast_record.specs.declared.entry.Opening.{Opening}
+use Rattle.bcast_record.specs.declared.entry.Note.TheVariants as note
+use Rattle.bcast_record.specs.Recording.{notes_of}
+
+module _ {T : Type 0} where
+  -- the entry of a note stands one place before it
+  pub entry_of_note : (opening : Opening) (entries : List (Entry T)) (place : ℕ) (entry : Entry T)
+      → slice_get (notes_of opening entries) (suc place) ≡ Some (note.Answered entry) → slice_get entries place ≡ Some entry
+  entry_of_note opening [] place entry at = absurd cc
+  entry_of_note opening (e ∷ entries) zero entry at = cc at
+  entry_of_note opening (e ∷ entries) (suc place) entry at = entry_of_note opening entries place entry at
+
+  pub notes_of-push : (opening : Opening) (entries : List (Entry T)) (entry : Entry T)
+      → notes_of opening (entries ++ entry ∷ []) ≡ notes_of opening entries ++ note.Answered entry ∷ []
+  notes_of-push opening [] entry = refl
+  notes_of-push opening (e ∷ entries) entry = ap (λ notes. note.Opened opening ∷ note.Answered e ∷ notes) (answers-push entries)
+    where
+      answers-push : (es : List (Entry T)) → map note.Answered (es ++ entry ∷ []) ≡ map note.Answered es ++ note.Answered entry ∷ []
+      answers-push [] = refl
+      answers-push (x ∷ es) = ap (λ ns. note.Answered x ∷ ns) (answers-push es)
+
+  -- the last note is that of the last entry
+  pub last_note : (opening : Opening) (entries : List (Entry T)) (entry : Entry T)
+      → slice_get (notes_of opening (entries ++ entry ∷ [])) (suc (length entries)) ≡ Some (note.Answered entry)
+  last_note opening [] entry = refl
+  last_note opening (e ∷ entries) entry = last_note opening entries entry
+
+  pub length-notes_of : (opening : Opening) (entries : List (Entry T)) → length (notes_of opening entries) ≡ suc (length entries)
+  length-notes_of opening entries = ap suc (length-map entries note.Answered)

@@ -1,0 +1,17 @@
+use Rattle.std.proofs.Common.{ap, sym, subst, ◌∙◌}
+use Rattle.bcast_record.specs.declared.entry.Opening.{Opening}
+use Rattle.bcast_record.specs.Recording.{recording, notes_of}
+use Rattle.bcast_record.specs.Replay.{MayRunAgain}
+use Rattle.bcast_record.proofs.Appends.{replays_opened}
+use Rattle.bcast_record.proofs.log.Log.new.Goals as goal
+
+pub invariant_of-log : goal.invariant_of-log
+invariant_of-log g c =
+    let opening : Opening = record { capacity = c.args.cap; first_key = c.in_ok-inner.first_key } in
+    let none = c.new-2.ensures.items in (
+      replays_opened g.T.Clone.is_clone opening c.new-2.result.items c.in_ok-inner.inner none c.in_ok-inner.ensures.opened c.in_ok-inner.ensures.valid,
+      c.in-Some.ensures ∙ ap (notes_of opening) (sym none),
+      c.open-calls.ensures.total ∙ sym c.new-2.ensures.len,
+      (c.in_ok-made.ensures.left, c.in_ok-made.ensures.rest),
+      subst (λ entries. MayRunAgain {T = g.row.T.Denot} (recording opening entries)) (sym none) (record { capacity = c.requires.capacity; calls = tt }),
+    )

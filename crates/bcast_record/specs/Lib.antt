@@ -1,0 +1,7 @@
+-- what a seat and a recorder are to a contract
+pub mod Seats
+pub mod Opened
+-- what a recorder stores
+pub mod Recording
+-- the recorded history replays
+pub mod Replay

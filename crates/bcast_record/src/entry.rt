@@ -1,0 +1,49 @@
+//! What a recorder stores.
+ghost use Rattle.std.specs.Prelude.{◌≡◌};
+
+use crate::copy::{copy_of_call, copy_of_reply};
+use bcast_core::{Call, Reply};
+
+/// What a recorder's channel was opened with.
+///
+/// Source: this crate's own.
+#[derive(Clone, Copy)]
+pub struct Opening {
+    /// How many messages the channel keeps at most.
+    pub capacity: usize,
+    /// The key of its first receiver.
+    pub first_key: usize,
+}
+
+/// One call on a recorder, and what it was answered.
+///
+/// Source: this crate's own.
+#[derive(Drop)]
+pub struct Entry<T> {
+    /// The number of the seat that made the call.
+    pub seat: usize,
+    pub call: Call<T>,
+    pub reply: Reply<T>,
+}
+
+impl<T: Copy> Entry<T> {
+    // The same entry.
+    pub(crate) fn copied(&self) -> Entry<T>
+        ensures { result ≡ self.now }
+    {
+        Entry {
+            seat: self.seat,
+            call: copy_of_call(&self.call),
+            reply: copy_of_reply(&self.reply),
+        }
+    }
+}
+
+/// What the journal of a recorder notes: first what it was opened with, and then each entry.
+///
+/// Source: this crate's own.
+#[derive(Drop)]
+pub enum Note<T> {
+    Opened(Opening),
+    Answered(Entry<T>),
+}

@@ -1,0 +1,49 @@
+//! What a caller gets for a call.
+ghost use Rattle.std.specs.Prelude.{◌≡◌};
+
+use crate::entry::{Entry, Note};
+use bcast_journal::{Named, Prefix};
+use std::marker::Model;
+
+/// Names an entry of a recorder. To a contract it is the entry and its place.
+///
+/// Source: this crate's own.
+#[derive(Drop)]
+pub struct Receipt<T, R: Named> {
+    pub(crate) place: usize,
+    pub(crate) entry: Entry<T>,
+    // The recorder's journal up to the entry, at least.
+    pub(crate) known: Prefix<Note<T>, R>,
+}
+
+impl<T, R: Named> Model for Receipt<T, R> {
+    ghost use Rattle.std.specs.Prelude.{◌≡◌, suc, Some, slice_get};
+    ghost use Rattle.bcast_record.specs.declared.entry.Note.TheVariants as note;
+    ghost use Rattle.bcast_record.specs.Recording.{Placed};
+
+    ghost Value = { Placed T };
+
+    ghost view = { λ r. record { place = r.place; entry = r.entry } };
+
+    ghost invariant = { λ r. slice_get r.known.notes (suc r.place) ≡ Some (note.Answered r.entry) };
+}
+
+impl<T, R: Named> Receipt<T, R> {
+    /// The index of the entry among the recorder's entries.
+    ///
+    /// Source: this crate's own.
+    pub fn place(&self) -> usize
+        ensures { result ≡ self.now.place }
+    {
+        self.place
+    }
+
+    /// The entry: the seat's number, the call and the reply.
+    ///
+    /// Source: this crate's own.
+    pub fn entry(&self) -> &Entry<T>
+        ensures { result.now ≡ self.now.entry }
+    {
+        &self.entry
+    }
+}

@@ -1,0 +1,153 @@
+//! A log behind a lock.
+ghost use Rattle.std.specs.Prelude.{◌≡◌, ◌+◌, ◌<◌, ◌↔◌, IfOk, IfErr, IsErr, OnOk, vec_len, length};
+ghost use Rattle.std.specs.List.{sum_by};
+ghost use Rattle.bcast_model.specs.Legal.{ClonesEqual, NoClone};
+ghost use Rattle.bcast_model.specs.Next.{HasPositiveCapacity};
+ghost use Rattle.bcast_record.specs.Opened.{Opened};
+ghost use Rattle.bcast_record.specs.Replay.{IsRecordedRun};
+ghost use Rattle.bcast_record.specs.Seats.{new_seats, answered};
+
+use crate::entry::{Note, Opening};
+use crate::error::NoMemory;
+use crate::finished::Finished;
+use crate::log::Log;
+use crate::receipt::Receipt;
+use crate::seat::Seat;
+use bcast_core::Call;
+use bcast_journal::{Journal, Named, Prefix};
+use std::alloc::{AllocError, Allocator, Global};
+use std::marker::Model;
+use std::sync::ledger::Blank;
+use std::sync::{Mutex, Wait};
+
+/// A channel for many threads, which stores each call that it was asked with its reply.
+///
+/// Whenever its lock is got, the entries are a run of the channel. To a contract it is what the
+/// channel was opened with, and how many seats were made.
+///
+/// Source: this crate's own.
+#[derive(Drop)]
+pub struct Recorder<T: Copy + Clone, R: Named, A: Allocator = Global> {
+    log: Mutex<Log<T, R, A>>,
+    opening: Opening,
+    seats: usize,
+    // The journal's beginning, which has the opening.
+    known: Prefix<Note<T>, R>,
+}
+
+impl<T: Copy + Clone, R: Named, A: Allocator> Model for Recorder<T, R, A> {
+    ghost use Rattle.std.specs.Prelude.{◌≡◌, ◌+◌, Some, slice_get};
+    ghost use Rattle.bcast_record.specs.declared.entry.Note.TheVariants as note;
+    ghost use Rattle.bcast_record.specs.Opened.{Opened};
+
+    ghost Value = { Opened };
+
+    ghost view = { λ s. record { opening = s.opening; seats = s.seats } };
+
+    ghost invariant = { λ s. (s.seats + 1 ≡ R.parts)
+        × (slice_get s.known.notes 0 ≡ Some (note.Opened s.opening)) };
+}
+
+impl<T: Copy + Clone, R: Named, A: Allocator + Copy> Recorder<T, R, A> {
+    /// A new channel of this capacity, the key of its first receiver, and so many seats.
+    ///
+    /// The channel is as `Inner::new` makes it. The seats are numbered from 0.
+    ///
+    /// `calls` is a new ledger, with a part for each seat and one more, and `journal` a new journal:
+    /// those that the parameter `R` names.
+    ///
+    /// # Errors
+    ///
+    /// - `AllocError`: no memory for the channel or the seats.
+    ///
+    /// Source: this crate's own.
+    pub fn new(
+        alloc: A,
+        cap: usize,
+        seats: usize,
+        calls: Blank,
+        journal: Journal<Note<T>>,
+    ) -> Result<(Self, usize, Vec<Seat<R>, A>), AllocError>
+        requires capacity { 0 < cap }
+        requires calls { (calls.name ≡ R.name) × (calls.parts ≡ R.parts)
+            × (calls.parts ≡ seats + 1) }
+        requires journal { journal ≡ R.book }
+        ensures recorder { IfOk result (λ made. made.0 ≡ record {
+          opening = record { capacity = cap; first_key = made.1 };
+          seats = seats;
+        }) }
+        ensures seats { IfOk result (λ made. made.2.items ≡ new_seats seats) }
+    {
+        let (log, first_key, made) = Log::new(alloc, cap, seats, calls, journal)?;
+        let known = log.known();
+        let recorder = Recorder {
+            log: Mutex::new(log),
+            opening: Opening {
+                capacity: cap,
+                first_key,
+            },
+            seats,
+            known,
+        };
+        Ok((recorder, first_key, made))
+    }
+
+    /// Makes one call on the channel, for a seat of this recorder, and stores it with its reply.
+    ///
+    /// Waits for the lock. The seat then counts one call more. A new capacity must be positive.
+    ///
+    /// # Errors
+    ///
+    /// - `NoMemory(call)`: no memory for the entry. The call was not made.
+    ///
+    /// Source: this crate's own.
+    pub fn call(
+        &self,
+        rt: &impl Wait,
+        seat: &mut Seat<R>,
+        call: Call<T>,
+    ) -> Result<Receipt<T, R>, NoMemory<Call<T>>>
+        requires { HasPositiveCapacity call }
+        ensures seat { IfOk result (λ receipt. receipt.entry.seat ≡ seat.old.number) }
+        ensures asked { IfOk result (λ receipt. receipt.entry.call ≡ call) }
+        ensures count { OnOk result (seat.new ≡ answered seat.old) }
+        ensures refused { IfErr result (λ back. (back.0 ≡ call) × (seat.new ≡ seat.old)) }
+    {
+        self.log.lock(rt).step(seat, call)
+    }
+
+    /// Ends the recorder, once all its seats are back, and gives what it stored.
+    ///
+    /// # Errors
+    ///
+    /// The recorder and the seats come back: fewer seats were given than were made.
+    ///
+    /// Source: this crate's own.
+    pub fn finish(
+        self,
+        seats: Vec<Seat<R>, A>,
+    ) -> Result<Finished<T, R, A>, (Self, Vec<Seat<R>, A>)>
+        // The entries are a run of the channel, as many as the seats' counts together.
+        ensures run { IfOk result (λ finished. IsRecordedRun T.is_clone finished) }
+        // Where a clone equals its original, the replies are the machine's to the letter.
+        ensures exact { ClonesEqual T.is_clone
+            → IfOk result (λ finished. IsRecordedRun NoClone finished) }
+        ensures opening { IfOk result (λ finished. finished.opening ≡ self.opening) }
+        ensures count { IfOk result (λ finished. length finished.entries
+            ≡ sum_by (λ s. s.count) seats.items) }
+
+        ensures refused { IsErr result ↔ (vec_len seats < self.seats) }
+        ensures back { IfErr result (λ back. (back.0 ≡ self) × (back.1 ≡ seats)) }
+    {
+        if seats.len() < self.seats {
+            return Err((self, seats));
+        }
+        let Recorder {
+            log,
+            opening: _,
+            seats: _,
+            known,
+        } = self;
+        Ok(log.into_inner().finish(&known, seats))
+    }
+}

@@ -1,0 +1,20 @@
+use Rattle.uses.proofs.LogReaders.{adds}
+use Rattle.uses.proofs.log_fan_out.Log.add_reader.Goals as goal
+
+pub returns-clause-added : goal.returns-clause-added
+returns-clause-added c = rw (← c.self.view_is) (adds c.clone_receiver.result c.clone_receiver.ensures c.self.invariant).added
+
+pub returns-clause-others : goal.returns-clause-others
+returns-clause-others c = rw (← c.self.view_is) (adds c.clone_receiver.result c.clone_receiver.ensures c.self.invariant).others
+
+pub returns-clause-reader : goal.returns-clause-reader
+returns-clause-reader c = (adds c.clone_receiver.result c.clone_receiver.ensures c.self.invariant).reader
+
+pub returns-clause-readers : goal.returns-clause-readers
+returns-clause-readers c = rw (← c.self.view_is) (adds c.clone_receiver.result c.clone_receiver.ensures c.self.invariant).readers
+
+pub returns-clause-err : goal.returns-clause-err
+returns-clause-err c = rw (← c.self.view_is) (adds c.clone_receiver.result c.clone_receiver.ensures c.self.invariant).err
+
+pub invariant_of-self : goal.invariant_of-self
+invariant_of-self c = (adds c.clone_receiver.result c.clone_receiver.ensures c.self.invariant).log

@@ -1,0 +1,17 @@
+use Rattle.uses.proofs.LogAnswers.{reads}
+use Rattle.uses.proofs.log_fan_out.Log.read.Goals as goal
+
+pub returns-clause-first : goal.returns-clause-first
+returns-clause-first c = rw (c.into_record.ensures, ← c.self.view_is) (reads (λ msg given e. e) c.try_recv.result (c.try_recv.ensures.sure (λ _. tt)) c.try_recv.ensures.answers c.self.invariant).first
+
+pub returns-clause-none : goal.returns-clause-none
+returns-clause-none c = rw (c.into_record.ensures, ← c.self.view_is) (reads (λ msg given e. e) c.try_recv.result (c.try_recv.ensures.sure (λ _. tt)) c.try_recv.ensures.answers c.self.invariant).none
+
+pub returns-clause-others : goal.returns-clause-others
+returns-clause-others c = rw (← c.self.view_is) (reads (λ msg given e. e) c.try_recv.result (c.try_recv.ensures.sure (λ _. tt)) c.try_recv.ensures.answers c.self.invariant).others
+
+pub returns-clause-readers : goal.returns-clause-readers
+returns-clause-readers c = rw (← c.self.view_is) (reads (λ msg given e. e) c.try_recv.result (c.try_recv.ensures.sure (λ _. tt)) c.try_recv.ensures.answers c.self.invariant).readers
+
+pub invariant_of-self : goal.invariant_of-self
+invariant_of-self c = (reads (λ msg given e. e) c.try_recv.result (c.try_recv.ensures.sure (λ _. tt)) c.try_recv.ensures.answers c.self.invariant).log

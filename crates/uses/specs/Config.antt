@@ -1,0 +1,46 @@
+-- Settings that watchers follow: what one finds that looks late.
+use Rattle.std.specs.Prelude.{◌≡◌, ◌≢◌, ℕ, ◌+◌, ◌≤◌, true, [], ◌∷◌, Option, Some, None}
+use Rattle.std.specs.FinMap.{get, len}
+use Rattle.futures.specs.declared.task.Poll.{Poll}
+use Rattle.futures.specs.declared.task.Poll.TheVariants as poll
+use Rattle.bcast_model.specs.declared.error.TrySendError.{TrySendError}
+use Rattle.bcast_model.specs.declared.error.TrySendError.TheVariants as unsent
+use Rattle.bcast_model.specs.Legal.{IsGiven}
+use Rattle.bcast_model.specs.View.{View}
+use Rattle.uses.specs.declared.config_watcher.Change.{Change}
+
+module _ {S : Type 0} where
+  -- one place, which new settings take over; and somebody watches
+  pub record IsConfig (v : View S) : Type 0 where
+    pub capacity : v.control.capacity ≡ 1
+    pub overflow : v.control.overflow ≡ true
+    pub watchers : 1 ≤ len v.control.cursors
+
+  -- `poll_next`: the latest settings or a clone of them, and the count of those set between the watcher's last look and them
+  pub record IsLatest (is_clone : S → S → Type 0) (v : View S) (watcher : ℕ) (change : Change S) : Type 0 where
+    pub seen : ℕ
+    pub at : get v.control.cursors watcher ≡ Some seen
+    pub missed : seen + change.missed + 1 ≡ v.end
+    pub latest : S
+    pub kept : v.queue ≡ latest ∷ []
+    pub given : IsGiven is_clone latest change.settings
+
+  -- a watcher, if there is one, that has looked at the latest settings
+  abbrev pub IsUpToDate : View S → ℕ → Type 0
+  IsUpToDate v watcher = (seen : ℕ) → get v.control.cursors watcher ≡ Some seen → seen ≡ v.end
+
+  -- nothing is set, and what the other watchers have seen stays
+  pub record KeepsOthers (old new : View S) (watcher : ℕ) : Type 0 where
+    pub end : new.end ≡ old.end
+    pub others : (key : ℕ) → key ≢ watcher → get new.control.cursors key ≡ get old.control.cursors key
+
+  -- `try_broadcast`: the message that a refusal hands back
+  abbrev pub message_of : TrySendError S → S
+  message_of (unsent.Full msg) = msg
+  message_of (unsent.Closed msg) = msg
+  message_of (unsent.Inactive msg) = msg
+
+  -- `poll_next`: what the stream gives, if anything
+  abbrev pub change_of : Poll (Option (S × ℕ)) → Option (Change S)
+  change_of (poll.Ready (Some (settings, missed))) = Some (record { settings = settings; missed = missed })
+  change_of other = None

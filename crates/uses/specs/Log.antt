@@ -1,0 +1,41 @@
+-- A log: what each reader is still to read.
+use Rattle.std.specs.Prelude.{◌≡◌, ◌≢◌, ℕ, ◌-◌, ◌≤◌, false, List, [], ◌∷◌, ◌++◌, drop, Option, Some, None, IsSome, Result, Ok}
+use Rattle.std.specs.FinMap.{get}
+use Rattle.std.specs.declared.alloc.AllocError.{AllocError}
+use Rattle.bcast_model.specs.declared.error.TryRecvError.{TryRecvError}
+use Rattle.bcast_model.specs.View.{View}
+
+module _ {T : Type 0} where
+  -- the kept messages from this cursor on
+  abbrev pub kept_from : View T → Option ℕ → List T
+  kept_from v None = []
+  kept_from v (Some cursor) = drop (cursor - v.front) v.queue
+
+  -- what a reader is still to read, in the order of writing: nothing where there is no such reader
+  abbrev pub unread : View T → ℕ → List T
+  unread v reader = kept_from v (get v.control.cursors reader)
+
+  abbrev pub IsReader : View T → ℕ → Type 0
+  IsReader v reader = IsSome (get v.control.cursors reader)
+
+  -- a full log refuses, so nobody misses a record
+  pub record IsLog (v : View T) : Type 0 where
+    pub overflow : v.control.overflow ≡ false
+    pub reach : (reader cursor : ℕ) → get v.control.cursors reader ≡ Some cursor → v.front ≤ cursor
+
+  -- who reads goes on reading
+  abbrev pub KeepsReaders : View T → View T → Type 0
+  KeepsReaders old new = (reader : ℕ) → IsReader old reader → IsReader new reader
+
+  -- `try_broadcast`: one record more, the last for every reader
+  abbrev pub AddsUnread : View T → View T → T → Type 0
+  AddsUnread old new added = (reader : ℕ) → IsReader old reader → unread new reader ≡ unread old reader ++ added ∷ []
+
+  -- what the other readers are still to read stays
+  abbrev pub KeepsUnread : View T → View T → ℕ → Type 0
+  KeepsUnread old new reader = (other : ℕ) → other ≢ reader → unread new other ≡ unread old other
+
+  -- `try_recv`: the message that it gives, if any
+  abbrev pub record_of : Result (Result T TryRecvError) AllocError → Option T
+  record_of (Ok (Ok item)) = Some item
+  record_of other = None

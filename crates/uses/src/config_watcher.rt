@@ -1,0 +1,142 @@
+//! Settings that change, for watchers that may look late.
+ghost use Rattle.std.specs.Prelude.{◌≡◌, ◌+◌, [], ◌∷◌, false, Some, IfOk, IfErr, IfSome, IfNone, OnOk, OnErr, IsOk};
+ghost use Rattle.std.specs.FinMap.{get};
+ghost use Rattle.uses.specs.Config.{IsLatest, IsUpToDate, KeepsOthers, message_of, change_of};
+
+use bcast_core::{HandleError, Inner, Silent, TrySendError};
+use futures::task::Poll;
+use std::alloc::{AllocError, Global};
+use std::marker::Model;
+
+/// The latest settings, as a channel of capacity 1 in overflow mode: new settings take the place of
+/// those that nobody has looked at yet.
+///
+/// Contracts see the channel's view: `end` counts all settings so far, and a watcher's cursor those
+/// that were set before it looked last.
+#[derive(Drop)]
+pub struct Config<S> {
+    inner: Inner<S, Silent>,
+}
+
+impl<S> Model for Config<S> {
+    ghost use Rattle.bcast_model.specs.View.{View, view_code};
+    ghost use Rattle.uses.specs.Config.{IsConfig};
+
+    ghost Value = { View S };
+
+    ghost coded = { view_code S.code };
+
+    ghost view = { λ c. c.inner };
+
+    ghost invariant = { λ c. IsConfig c.inner };
+}
+
+/// What a watcher finds that has not seen the latest settings.
+#[derive(Drop)]
+pub struct Change<S> {
+    /// The latest settings.
+    pub settings: S,
+    /// How many settings before them it missed.
+    pub missed: u64,
+}
+
+impl<S: Clone> Config<S> {
+    /// A channel for settings, none of which are set yet, and the key of its first watcher.
+    ///
+    /// # Errors
+    ///
+    /// `AllocError`: there is no memory for the channel.
+    ///
+    /// Source: this crate's own.
+    pub fn new(alloc: Global) -> Result<(Self, usize), AllocError>
+        ensures unset { IfOk result (λ made. made.0.end ≡ 0) }
+        ensures watcher { IfOk result (λ made. get made.0.control.cursors made.1 ≡ Some 0) }
+        ensures is_open { IfOk result (λ made. made.0.control.closed ≡ false) }
+    {
+        let (mut inner, watcher) = Inner::new(alloc, 1)?;
+        inner.set_overflow(true);
+        Ok((Config { inner }, watcher))
+    }
+
+    /// Sets new settings, for all watchers.
+    ///
+    /// # Errors
+    ///
+    /// The settings come back and nothing changes: the channel is closed, since it has numbered as
+    /// many settings as it can.
+    ///
+    /// Source: this crate's own.
+    pub fn set(&mut self, settings: S) -> Result<(), S>
+        ensures latest { OnOk result (self.new.queue ≡ settings ∷ []) }
+        ensures counted { OnOk result (self.new.end ≡ self.old.end + 1) }
+        ensures watchers { self.new.control.cursors ≡ self.old.control.cursors }
+
+        ensures back { IfErr result (λ back. back ≡ settings) }
+        ensures err { OnErr result (self.new ≡ self.old) }
+        ensures is_open { self.old.control.closed ≡ false → IsOk result }
+    {
+        into_settings(self.inner.try_broadcast(settings))
+    }
+
+    /// Adds a watcher that has seen the latest settings, and answers its key.
+    ///
+    /// # Errors
+    ///
+    /// `Memory`: there is no memory for it. Nothing changed.
+    ///
+    /// Source: this crate's own.
+    pub fn watch(&mut self) -> Result<usize, HandleError>
+        ensures watcher { IfOk result (λ made.
+            get self.new.control.cursors made ≡ Some self.old.end) }
+        ensures others { IfOk result (λ made. KeepsOthers self.old self.new made) }
+        ensures err { OnErr result (self.new ≡ self.old) }
+    {
+        self.inner.new_receiver()
+    }
+
+    /// Shows a watcher the latest settings, and how many it missed before them. None: it has seen
+    /// them, or none are set.
+    ///
+    /// # Errors
+    ///
+    /// `AllocError`: another watcher has still to look, and there is no memory for a clone of the
+    /// settings. Nothing changed, so nothing that was missed goes uncounted.
+    ///
+    /// Source: this crate's own.
+    pub fn look(&mut self, watcher: usize) -> Result<Option<Change<S>>, AllocError>
+        ensures change { IfOk result (λ found. IfSome found (λ change.
+            IsLatest S.is_clone self.old watcher change)) }
+        ensures none { IfOk result (λ found. IfNone found (IsUpToDate self.old watcher)) }
+        ensures seen { OnOk result (IsUpToDate self.new watcher) }
+        ensures others { KeepsOthers self.old self.new watcher }
+        ensures err { OnErr result (self.new ≡ self.old) }
+    {
+        Ok(into_change(self.inner.poll_next(watcher, Silent)?))
+    }
+}
+
+// The settings that were refused.
+fn into_settings<S: Drop>(sent: Result<Option<S>, TrySendError<S>>) -> Result<(), S>
+    ensures ok { OnOk sent (IsOk result) }
+    ensures err { IfErr sent (λ error. result ≡ Err (message_of error)) }
+{
+    match sent {
+        Ok(_replaced) => Ok(()),
+        Err(TrySendError::Full(back)) => Err(back),
+        Err(TrySendError::Closed(back)) => Err(back),
+        Err(TrySendError::Inactive(back)) => Err(back),
+    }
+}
+
+// What the stream gave, if it gave something.
+fn into_change<S: Drop>(polled: Poll<Option<(S, u64)>>) -> Option<Change<S>>
+    ensures { result ≡ change_of polled }
+{
+    match polled {
+        Poll::Ready(Some((settings, missed))) => Some(Change { settings, missed }),
+        _ => None,
+    }
+}
+
+#[cfg(test)]
+mod tests;

@@ -1,0 +1,148 @@
+//! Events for subscribers that come and go.
+ghost use Rattle.std.specs.Prelude.{◌≡◌, ◌+◌, ◌<◌, ◌≤◌, ◌∷◌, [], ◌++◌, length, false, IfOk, IfErr, IfSome, OnOk, OnErr, IsErr};
+ghost use Rattle.bcast_model.specs.Legal.{NoClone};
+ghost use Rattle.bcast_model.specs.Laws.{IsGivenFrom};
+ghost use Rattle.bcast_model.specs.View.{Answers};
+ghost use Rattle.bcast_model.specs.declared.run.Call.TheVariants as call;
+ghost use Rattle.bcast_model.specs.declared.run.Reply.TheVariants as reply;
+ghost use Rattle.uses.specs.Config.{message_of};
+ghost use Rattle.uses.specs.Hub.{event_of};
+
+use bcast_core::{HandleError, Inner, Silent, TryRecvError, TrySendError};
+use bcast_model::laws::received_is_given;
+use std::alloc::{AllocError, Global};
+use std::marker::Model;
+
+/// A channel whose subscribers come and go: it stays open while none is there.
+///
+/// Contracts see the channel's view: its `queue` is the events that a subscriber is still to get.
+#[derive(Drop)]
+pub struct EventHub<E> {
+    inner: Inner<E, Silent>,
+}
+
+impl<E> Model for EventHub<E> {
+    ghost use Rattle.bcast_model.specs.View.{View, view_code};
+    ghost use Rattle.uses.specs.Hub.{IsHub};
+
+    ghost Value = { View E };
+
+    ghost coded = { view_code E.code };
+
+    ghost view = { λ h. h.inner };
+
+    ghost invariant = { λ h. IsHub h.inner };
+}
+
+impl<E: Clone> EventHub<E> {
+    /// A hub without subscribers, which keeps at most `capacity` events.
+    ///
+    /// # Errors
+    ///
+    /// `Memory`: there is no memory for the channel.
+    ///
+    /// Source: this crate's own.
+    pub fn new(alloc: Global, capacity: usize) -> Result<Self, HandleError>
+        requires { 0 < capacity }
+    {
+        match Inner::new(alloc, capacity) {
+            Ok((inner, first)) => Self::over(inner, first),
+            Err(_) => Err(HandleError::Memory),
+        }
+    }
+
+    // The hub keeps its first receiver as an inactive one.
+    fn over(mut inner: Inner<E, Silent>, first: usize) -> Result<Self, HandleError>
+        requires overflow { inner.control.overflow ≡ false }
+        requires sender { 1 ≤ inner.control.senders }
+    {
+        inner.deactivate(first)?;
+        Ok(EventHub { inner })
+    }
+
+    /// Publishes an event to all subscribers that are there.
+    ///
+    /// # Errors
+    ///
+    /// The event comes back and nothing changes, for the first reason that fits.
+    /// - `Closed`: the hub has numbered as many events as it can.
+    /// - `Inactive`: there is no subscriber.
+    /// - `Full`: some subscriber is still to get the oldest of `capacity` events.
+    ///
+    /// Source: this crate's own.
+    pub fn publish(&mut self, event: E) -> Result<(), TrySendError<E>>
+        ensures accepted { OnOk result (self.new.queue ≡ self.old.queue ++ event ∷ []) }
+        ensures counted { OnOk result (self.new.end ≡ self.old.end + 1) }
+        ensures back { IfErr result (λ error. message_of error ≡ event) }
+        ensures err { OnErr result (self.new ≡ self.old) }
+        ensures full { length self.old.queue ≡ self.old.control.capacity → IsErr result }
+    {
+        self.inner.try_broadcast(event)?;
+        Ok(())
+    }
+
+    /// Adds a subscriber that gets the events to come, and answers its key.
+    ///
+    /// # Errors
+    ///
+    /// `Memory`: there is no memory for it. Nothing changed.
+    ///
+    /// Source: this crate's own.
+    pub fn subscribe(&mut self) -> Result<usize, HandleError>
+        ensures { Answers NoClone self.old call.NewReceiver (reply.NewReceiver result) self.new }
+    {
+        self.inner.new_receiver()
+    }
+
+    /// Adds a subscriber that gets what this one is still to get, and answers its key.
+    ///
+    /// # Errors
+    ///
+    /// Nothing changed.
+    /// - `Gone`: there is no such subscriber.
+    /// - `Memory`: there is no memory for the new one.
+    ///
+    /// Source: this crate's own.
+    pub fn subscribe_like(&mut self, subscriber: usize) -> Result<usize, HandleError>
+        ensures { Answers NoClone self.old (call.CloneReceiver subscriber)
+            (reply.CloneReceiver result) self.new }
+    {
+        self.inner.clone_receiver(subscriber)
+    }
+
+    /// Takes a subscriber out. The hub stays open. An unknown key changes nothing.
+    ///
+    /// Source: this crate's own.
+    pub fn unsubscribe(&mut self, subscriber: usize)
+        ensures answers { Answers NoClone self.old (call.DropReceiver subscriber)
+            reply.DropReceiver self.new }
+        ensures is_open { self.new.control.closed ≡ self.old.control.closed }
+    {
+        self.inner.drop_receiver(subscriber);
+    }
+
+    /// Gives a subscriber its next event. None: it has got all of them, or there is no such one.
+    ///
+    /// # Errors
+    ///
+    /// `AllocError`: the event is also for another subscriber, and its clone found no memory.
+    /// Nothing changed.
+    ///
+    /// Source: this crate's own.
+    pub fn next_event(&mut self, subscriber: usize) -> Result<Option<E>, AllocError>
+        ensures { IfOk result (λ found. IfSome found (IsGivenFrom E.is_clone self.old.queue)) }
+    {
+        received_is_given::<E>();
+        Ok(into_event(self.inner.try_recv(subscriber)?))
+    }
+}
+
+// What a receive gave, if it gave something.
+fn into_event<E: Drop>(received: Result<E, TryRecvError>) -> Option<E>
+    ensures { result ≡ event_of received }
+{
+    received.ok()
+}
+
+#[cfg(test)]
+mod tests;

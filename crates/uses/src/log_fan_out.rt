@@ -1,0 +1,112 @@
+//! A log whose readers agree on the order.
+ghost use Rattle.std.specs.Prelude.{◌≡◌, ◌<◌, ◌∷◌, [], IfOk, IfErr, IfSome, IfNone, OnOk, OnErr};
+ghost use Rattle.uses.specs.Config.{message_of};
+ghost use Rattle.uses.specs.Log.{unread, record_of, IsReader, KeepsReaders, AddsUnread, KeepsUnread};
+
+use bcast_core::{HandleError, Inner, Silent, TryRecvError, TrySendError};
+use std::alloc::{AllocError, Global};
+use std::marker::Model;
+
+/// A log of numbers, which every reader reads from its start on, in the order of writing.
+///
+/// Contracts see the channel's view, and of it the `unread` records of each reader: a write puts
+/// one record last for all of them, and a read takes one reader's first.
+#[derive(Drop)]
+pub struct Log {
+    inner: Inner<u64, Silent>,
+}
+
+impl Model for Log {
+    ghost use Rattle.bcast_model.specs.View.{View, view_code};
+    ghost use Rattle.uses.specs.Log.{IsLog};
+    ghost use Rattle.std.specs.Prelude.{ℕ};
+    ghost use Rattle.std.specs.Coded.{coded_ℕ};
+
+    ghost Value = { View ℕ };
+
+    ghost coded = { view_code coded_ℕ };
+
+    ghost view = { λ l. l.inner };
+
+    ghost invariant = { λ l. IsLog l.inner };
+}
+
+impl Log {
+    /// A log that holds back at most `capacity` records for its slowest reader, and the key of its
+    /// first reader.
+    ///
+    /// # Errors
+    ///
+    /// `AllocError`: there is no memory for it.
+    ///
+    /// Source: this crate's own.
+    pub fn new(alloc: Global, capacity: usize) -> Result<(Self, usize), AllocError>
+        requires { 0 < capacity }
+        ensures reader { IfOk result (λ made. IsReader made.0 made.1) }
+        ensures empty { IfOk result (λ made. unread made.0 made.1 ≡ []) }
+    {
+        let (inner, reader) = Inner::new(alloc, capacity)?;
+        Ok((Log { inner }, reader))
+    }
+
+    /// Writes a record, for all readers.
+    ///
+    /// # Errors
+    ///
+    /// The record comes back and nothing changes.
+    /// - `Full`: some reader has `capacity` records still to read.
+    /// - `Closed`: the log has numbered as many records as it can.
+    ///
+    /// Source: this crate's own.
+    pub fn write(&mut self, entry: u64) -> Result<(), TrySendError<u64>>
+        ensures written { OnOk result (AddsUnread self.old self.new entry) }
+        ensures readers { KeepsReaders self.old self.new }
+        ensures back { IfErr result (λ error. message_of error ≡ entry) }
+        ensures err { OnErr result (self.new ≡ self.old) }
+    {
+        self.inner.try_broadcast(entry)?;
+        Ok(())
+    }
+
+    /// Adds a reader that reads what this one is still to read, and answers its key.
+    ///
+    /// # Errors
+    ///
+    /// Nothing changed.
+    /// - `Gone`: there is no such reader.
+    /// - `Memory`: there is no memory for the new one.
+    ///
+    /// Source: this crate's own.
+    pub fn add_reader(&mut self, reader: usize) -> Result<usize, HandleError>
+        ensures added { IfOk result (λ made. unread self.new made ≡ unread self.old reader) }
+        ensures others { IfOk result (λ made. KeepsUnread self.old self.new made) }
+        ensures reader { IfOk result (IsReader self.new) }
+        ensures readers { KeepsReaders self.old self.new }
+        ensures err { OnErr result (self.new ≡ self.old) }
+    {
+        self.inner.clone_receiver(reader)
+    }
+
+    /// Reads a reader's next record. None: it has read all of them, or there is no such reader.
+    ///
+    /// Source: this crate's own.
+    pub fn read(&mut self, reader: usize) -> Option<u64>
+        ensures first { IfSome result (λ entry.
+            unread self.old reader ≡ entry ∷ unread self.new reader) }
+        ensures none { IfNone result (unread self.old reader ≡ []) }
+        ensures others { KeepsUnread self.old self.new reader }
+        ensures readers { KeepsReaders self.old self.new }
+    {
+        into_record(self.inner.try_recv(reader))
+    }
+}
+
+// What a receive gave, if it gave something.
+fn into_record(received: Result<Result<u64, TryRecvError>, AllocError>) -> Option<u64>
+    ensures { result ≡ record_of received }
+{
+    received.ok()?.ok()
+}
+
+#[cfg(test)]
+mod tests;
