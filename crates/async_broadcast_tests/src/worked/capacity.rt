@@ -54,3 +54,30 @@ fn a_greater_capacity_makes_room(rt: HostRuntime) -> Result<(), Fail> {
     expect_received(&rt, &mut receiver, &[Got::Message(4), Got::Empty]);
     Ok(())
 }
+
+#[test]
+fn a_smaller_capacity_is_missed_by_those_behind(rt: HostRuntime) -> Result<(), Fail> {
+    let (mut sender, mut one) = broadcast(&rt, rt.alloc(), 4)?;
+    let mut two = made(one.clone())?;
+    let mut four = made(one.clone())?;
+    expect_accepted(&rt, &sender, &[1, 2, 3, 4]);
+    expect_received(&rt, &mut two, &[Got::Message(1), Got::Message(2)]);
+    let all = [
+        Got::Message(1),
+        Got::Message(2),
+        Got::Message(3),
+        Got::Message(4),
+    ];
+    expect_received(&rt, &mut four, &all);
+    let mut three = made(two.clone())?;
+    expect_received(&rt, &mut three, &[Got::Message(3)]);
+    sender.set_capacity(2)?;
+    let rest = [Got::Message(4), Got::Empty];
+    expect_received(&rt, &mut one, &[Got::Overflowed(2), Got::Message(3)]);
+    expect_received(&rt, &mut one, &rest);
+    expect_received(&rt, &mut two, &[Got::Message(3)]);
+    expect_received(&rt, &mut two, &rest);
+    expect_received(&rt, &mut three, &rest);
+    expect_received(&rt, &mut four, &[Got::Empty]);
+    Ok(())
+}
