@@ -1,0 +1,5 @@
+//! Tests of `bcast_core` over its public surface, beside those that play calls as text.
+#![tactic(auto)]
+
+#[cfg(test)]
+mod notices;
