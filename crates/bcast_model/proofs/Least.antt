@@ -34,11 +34,11 @@ least-le-limit limit (n ∷ ns) = let r = least-le-limit limit ns in omega arith
 pub find_head : (e : ℕ × ℕ) (es : List (ℕ × ℕ)) → find nat_cmp e.0 (e ∷ es) ≡ Some e.1
 find_head e es = let t = unsigned_tied e.0 e.0 in grind (arith, common_steps, t)
 
-both_true : (a b : Bool) → T (a && b) → T a × T b
+pub both_true : (a b : Bool) → T (a && b) → T a × T b
 both_true true b h = (tt, h)
 both_true false b h = absurd h
 
-below-lt : (x y : ℕ) → T (is_lt (nat_cmp x y)) → x < y
+pub below-lt : (x y : ℕ) → T (is_lt (nat_cmp x y)) → x < y
 below-lt x y h = elim (nat_lt x y) as (λ b. nat_lt x y ≡ b → T (is_lt (cond b Less (cond (x == y) Equal Greater))) → x < y) [
   | true ↦ λ e _. grind (arith, common_steps, e)
   | false ↦ λ e h. elim (x == y) as (λ b. T (is_lt (cond b Equal Greater)) → x < y) [ true ↦ λ h. absurd h | false ↦ λ h. absurd h ] h
@@ -53,7 +53,7 @@ absent x y (e ∷ es) s h =
     let t = unsigned_tied y e.0 in
     grind (arith, common_steps, r, t, lt, s)
 
-later : (q : ℕ) (e : ℕ × ℕ) (es : List (ℕ × ℕ)) (c : ℕ) → T (below_all nat_cmp e.0 es) → find nat_cmp q es ≡ Some c → find nat_cmp q (e ∷ es) ≡ Some c
+pub later : (q : ℕ) (e : ℕ × ℕ) (es : List (ℕ × ℕ)) (c : ℕ) → T (below_all nat_cmp e.0 es) → find nat_cmp q es ≡ Some c → find nat_cmp q (e ∷ es) ≡ Some c
 later q e es c b f =
     elim (eq_by_cmp nat_cmp q e.0) as (λ t. eq_by_cmp nat_cmp q e.0 ≡ t → cond t (Some e.1) (find nat_cmp q es) ≡ Some c) [
       | true ↦ λ t. let same : q ≡ e.0 = grind (arith, common_steps, t, unsigned_tied q e.0) in absurd (none-some c (sym (absent e.0 q es same b) ∙ f))

@@ -1,80 +1,13 @@
--- The least of a number and the cursors of a map.
-use Rattle.std.proofs.Common.{◌≡◌, ℕ, ◌+◌, ◌<◌, ◌≤◌, Bool, true, false, cond, List, [], ◌∷◌, map, min, Some, None, count_by, refl, sym, ◌∙◌, arith}
-use Rattle.std.proofs.lemmas.Grind.{common_steps}
-use Rattle.std.specs.Ordering.{nat_cmp}
+-- Counting, maps of cursors, and the least cursor.
+use Rattle.std.proofs.Common.{◌≡◌, ℕ, ◌+◌, Bool, cond, List, ◌∷◌, count_by}
 use Rattle.std.specs.Cmp.{nat_cmp_total}
-use Rattle.std.specs.FinMap.{get, values, entries, entries_sorted, find, is_sorted, same_map, nat_cmp-IsAntisymmetric, get-entries}
-use Rattle.std.specs.FinMap.Entries.{below_all}
-use Rattle.std.specs.Cmp.{unsigned_tied}
-use Rattle.std.specs.Ordering.{eq_by_cmp}
-use Rattle.std.specs.Prelude.{T, ◌&&◌, nat_lt, ◌==◌}
-use Rattle.std.specs.Ordering.{is_lt}
-use Rattle.std.specs.declared.cmp.Ordering.TheVariants.{Less, Equal, Greater}
-use Rattle.std.proofs.lemmas.Option.{none-some, same_Some}
+use Rattle.std.specs.FinMap.{get, same_map, nat_cmp-IsAntisymmetric}
 use Rattle.std.proofs.lemmas.List.Sums.{sum_by-cons}
 use Rattle.bcast_model.specs.Control.{Cursors}
-use Rattle.bcast_model.specs.History.{least}
+pub use Rattle.bcast_model.proofs.Least.{least-le-cursor, least-le-limit, find_head, both_true, below-lt, later, least-greatest}
 
 pub count_by-cons : {X : Type 0} (p : X → Bool) (x : X) (xs : List X) → count_by p (x ∷ xs) ≡ cond (p x) 1 0 + count_by p xs
 count_by-cons p x xs = sum_by-cons (λ y. cond (p y) 1 0) x xs
 
 pub cursors_ext : (m n : Cursors) → ((q : ℕ) → get m q ≡ get n q) → m ≡ n
 cursors_ext m n h = same_map nat_cmp_total nat_cmp-IsAntisymmetric m n h
-
--- ---- the least cursor
--- it is no greater than a cursor
-least_found : (limit q c : ℕ) (es : List (ℕ × ℕ)) → find nat_cmp q es ≡ Some c → least limit (map (λ e. e.1) es) ≤ c
-least_found limit q c [] h = absurd (none-some c h)
-least_found limit q c (e ∷ es) h =
-    elim (eq_by_cmp nat_cmp q e.0) as (λ b. cond b (Some e.1) (find nat_cmp q es) ≡ Some c → min e.1 (least limit (map (λ e. e.1) es)) ≤ c) [
-      | true ↦ λ h. let s : e.1 ≡ c = same_Some _ _ h in omega arith
-      | false ↦ λ h. let r = least_found limit q c es h in omega arith
-    ] h
-
-pub least-le-cursor : (limit : ℕ) (m : Cursors) (q c : ℕ) → get m q ≡ Some c → least limit (values m) ≤ c
-least-le-cursor limit m q c h = least_found limit q c (entries m) (sym (get-entries m q) ∙ h)
-
-pub least-le-limit : (limit : ℕ) (ns : List ℕ) → least limit ns ≤ limit
-least-le-limit limit [] = omega arith
-least-le-limit limit (n ∷ ns) = let r = least-le-limit limit ns in omega arith
-
--- what is no greater than each cursor is no greater than the least
-pub find_head : (e : ℕ × ℕ) (es : List (ℕ × ℕ)) → find nat_cmp e.0 (e ∷ es) ≡ Some e.1
-find_head e es = let t = unsigned_tied e.0 e.0 in grind (arith, common_steps, t)
-
-pub both_true : (a b : Bool) → T (a && b) → T a × T b
-both_true true b h = (tt, h)
-both_true false b h = absurd h
-
-pub below-lt : (x y : ℕ) → T (is_lt (nat_cmp x y)) → x < y
-below-lt x y h = elim (nat_lt x y) as (λ b. nat_lt x y ≡ b → T (is_lt (cond b Less (cond (x == y) Equal Greater))) → x < y) [
-  | true ↦ λ e _. grind (arith, common_steps, e)
-  | false ↦ λ e h. elim (x == y) as (λ b. T (is_lt (cond b Equal Greater)) → x < y) [ true ↦ λ h. absurd h | false ↦ λ h. absurd h ] h
-] refl h
-
-absent : (x y : ℕ) (es : List (ℕ × ℕ)) → y ≡ x → T (below_all nat_cmp x es) → find nat_cmp y es ≡ None
-absent x y [] s h = refl
-absent x y (e ∷ es) s h =
-    let p = both_true _ _ h in
-    let lt : x < e.0 = below-lt x e.0 p.0 in
-    let r = absent x y es s p.1 in
-    let t = unsigned_tied y e.0 in
-    grind (arith, common_steps, r, t, lt, s)
-
-pub later : (q : ℕ) (e : ℕ × ℕ) (es : List (ℕ × ℕ)) (c : ℕ) → T (below_all nat_cmp e.0 es) → find nat_cmp q es ≡ Some c → find nat_cmp q (e ∷ es) ≡ Some c
-later q e es c b f =
-    elim (eq_by_cmp nat_cmp q e.0) as (λ t. eq_by_cmp nat_cmp q e.0 ≡ t → cond t (Some e.1) (find nat_cmp q es) ≡ Some c) [
-      | true ↦ λ t. let same : q ≡ e.0 = grind (arith, common_steps, t, unsigned_tied q e.0) in absurd (none-some c (sym (absent e.0 q es same b) ∙ f))
-      | false ↦ λ t. f
-    ] refl
-
-greatest : (low limit : ℕ) (es : List (ℕ × ℕ)) → T (is_sorted nat_cmp es) → low ≤ limit → ((q c : ℕ) → find nat_cmp q es ≡ Some c → low ≤ c) → low ≤ least limit (map (λ e. e.1) es)
-greatest low limit [] s l h = l
-greatest low limit (e ∷ es) s l h =
-    let p = both_true _ _ s in
-    let here : low ≤ e.1 = h e.0 e.1 (find_head e es) in
-    let rest : low ≤ least limit (map (λ e. e.1) es) = greatest low limit es p.1 l (λ q c f. h q c (later q e es c p.0 f)) in
-    omega arith
-
-pub least-greatest : (low limit : ℕ) (m : Cursors) → low ≤ limit → ((q c : ℕ) → get m q ≡ Some c → low ≤ c) → low ≤ least limit (values m)
-least-greatest low limit m l h = greatest low limit (entries m) (entries_sorted m) l (λ q c e. h q c (get-entries m q ∙ e))

@@ -5,4 +5,5 @@ mod lines;
 mod playing;
 mod receiving;
 mod sending;
+mod telling;
 mod waiting;
