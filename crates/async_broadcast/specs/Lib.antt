@@ -5,3 +5,5 @@ pub mod Ports
 pub mod OfKind
 -- futures
 pub mod Futures
+-- what is seen of a channel
+pub mod Snapshots

@@ -18,9 +18,9 @@ mod settings;
 ///
 /// Source: `InactiveReceiver` of async-broadcast 0.7.2.
 pub struct InactiveReceiver<T: Clone, P: Port<T, Slot<A>>, A: Allocator = Global> {
-    port: P,
+    pub(crate) port: P,
     // For handles made here.
-    alloc: A,
+    pub(crate) alloc: A,
     messages: PhantomData<T>,
 }
 

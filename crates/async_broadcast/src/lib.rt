@@ -8,9 +8,10 @@ mod lock;
 mod port;
 mod receiver;
 mod sender;
+mod snapshot;
 mod wake;
 
-pub use bcast_core::{Call, Reply, SendPoll};
+pub use bcast_core::{Call, Kind, Reply, SendPoll, Snapshot, Waiting};
 pub use error::{HandleError, NoMemory, RecvError, SendError, TryRecvError, TrySendError};
 pub use future::{Recv, Send};
 pub use inactive::InactiveReceiver;

@@ -1,15 +1,16 @@
 //! The channel of several handles, behind one lock.
-ghost use Rattle.std.specs.Prelude.{◌≡◌, ◌<◌, true, not};
+ghost use Rattle.std.specs.Prelude.{◌≡◌, ◌<◌, true, not, IfOk};
 ghost use Rattle.bcast_model.specs.Next.{HasPositiveCapacity};
 ghost use Rattle.bcast_model.specs.View.{IsPossible};
 ghost use Rattle.async_broadcast.specs.Kinds.{may_wait, is_answer};
+ghost use Rattle.async_broadcast.specs.Snapshots.{ShowsSomeState};
 
 use crate::error::TryRecvError;
 use crate::port::Port;
 use crate::receiver::Receiver;
 use crate::sender::Sender;
 use crate::wake::{Slot, Wake};
-use bcast_core::{Call, Inner, Reply, SendPoll};
+use bcast_core::{Call, Inner, Reply, SendPoll, Snapshot};
 use state::{State, Woken};
 use std::alloc::{AllocError, Allocator, Global};
 use std::sync::{Arc, Condvar, Mutex, Wait};
@@ -21,6 +22,9 @@ mod state;
 ///
 /// A reply is one that the channel gives in some valid history. Of the channel as its other
 /// handles left it, a contract knows nothing more.
+///
+/// A message is cloned and dropped, and a waker is dropped, while the lock is held: none of these
+/// may use a handle of the same channel, which would wait for the lock for ever.
 ///
 /// Source: this crate's own.
 pub struct Lock<T: Clone, R: Wait + Clone, A: Allocator = Global> {
@@ -52,7 +56,8 @@ impl<T: Clone, A: Allocator> Channel<T, A> {
 /// Makes a channel that keeps at most `cap` messages at once, with its first sender and receiver.
 ///
 /// It is open and empty. Overflow mode is off: a full channel accepts no message before every
-/// active receiver has read the oldest one. `await_active` is on.
+/// active receiver has read the oldest one. `await_active` is on. That both handles are of this one
+/// channel no clause says, since the lock hides it: tests do.
 ///
 /// # Errors
 ///
@@ -99,6 +104,13 @@ pub fn broadcast<T: Clone, R: Wait + Clone, A: Allocator + Copy>(
 pub type Ends<T, R, A = Global> = (Sender<T, Lock<T, R, A>, A>, Receiver<T, Lock<T, R, A>, A>);
 
 impl<T: Clone, R: Wait + Clone, A: Allocator + Copy> Lock<T, R, A> {
+    // For the handles' function of this name.
+    pub(crate) fn snapshot(&self, alloc: A) -> Result<Snapshot<T, A>, AllocError>
+        ensures { IfOk result (λ snapshot. ShowsSomeState T.is_clone snapshot) }
+    {
+        self.channel.state.lock(&self.rt).snapshot(alloc)
+    }
+
     fn send_waiting(&self, msg: T) -> Reply<T>
         ensures reply { IsPossible T.is_clone (Call.AttemptSend msg) result }
         ensures answered { is_answer result ≡ true }

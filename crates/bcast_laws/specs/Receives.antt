@@ -21,7 +21,8 @@ pub record KeepsAtMostCapacity {T : Type 0} (is_clone : T → T → Type 0) : Ty
       → Legal is_clone h call.Capacity (reply.Capacity capacity) → n ≤ capacity
   pub nobody : (h : History T) → IsValid h → len h.control.cursors ≡ 0 → queue_of h ≡ []
 
--- who is told that it missed messages missed one at least, and its next `try_recv` finds a message
+-- who is told that it missed messages missed one at least, and finds a message if it asks again
+-- at once
 abbrev pub MissedThenGiven : Type 0 → Type 0
 MissedThenGiven T =
     (h : History T) (key n : ℕ) → IsValid h
@@ -47,7 +48,7 @@ pub record ReadsByOwnCursor (T : Type 0) : Type 0 where
       → try_recv_reply (next h c r) (cursor_of (next h c r) key)
       ≡ try_recv_reply h (cursor_of h key)
 
--- `Receiver::clone`: the two are answered alike, whoever is asked first
+-- `Receiver::clone`: the two are answered alike, also once the receiver was asked
 abbrev pub ClonesAnswerAlike : {T : Type 0} → (T → T → Type 0) → Type 0
 ClonesAnswerAlike {T} is_clone =
     (h : History T) (key fresh : ℕ) (r : Reply T) → IsValid h

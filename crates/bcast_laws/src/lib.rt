@@ -38,7 +38,8 @@ pub fn keeps_at_most_capacity<T: Clone>()
     ensures { KeepsAtMostCapacity T.is_clone }
 {}
 
-/// Law: a receiver that is told how many messages it missed finds a message next.
+/// Law: a `try_recv` that tells how many messages were missed tells of one at least, and finds a
+/// message if it is made again at once.
 pub fn missed_then_given<T>()
     ensures { MissedThenGiven T }
 {}
@@ -48,7 +49,7 @@ pub fn reads_by_own_cursor<T>()
     ensures { ReadsByOwnCursor T }
 {}
 
-/// Law: a receiver and its new clone are answered alike, whichever is asked first.
+/// Law: a receiver and its new clone are answered alike, also once the receiver was asked.
 pub fn clones_answer_alike<T: Clone>()
     ensures { ClonesAnswerAlike T.is_clone }
 {}

@@ -1,14 +1,15 @@
 //! What the lock guards: the channel, and whether threads wait there.
 ghost use Rattle.bcast_model.specs.Next.{HasPositiveCapacity};
-ghost use Rattle.std.specs.Prelude.{◌≡◌};
+ghost use Rattle.std.specs.Prelude.{◌≡◌, IfOk};
 ghost use Rattle.bcast_model.specs.Control.{is_ready};
 ghost use Rattle.bcast_model.specs.Seen.{is_full_seen};
 ghost use Rattle.bcast_model.specs.View.{Answers, IsPossible};
 ghost use Rattle.async_broadcast.specs.Kinds.{IsOfKind};
+ghost use Rattle.async_broadcast.specs.Snapshots.{ShowsSomeState};
 
 use crate::wake::{Slot, Wake};
-use bcast_core::{Call, Inner, Reply, step};
-use std::alloc::Allocator;
+use bcast_core::{Call, Inner, Reply, Snapshot, step};
+use std::alloc::{AllocError, Allocator};
 
 #[derive(Drop)]
 pub(super) struct State<T: Clone, A: Allocator> {
@@ -74,6 +75,15 @@ impl<T: Clone, A: Allocator + Copy> State<T, A> {
         let sender = self.senders > 0 && !self.is_sender_woken && self.sends_are_ready();
         self.is_sender_woken |= sender;
         Woken { sender, receiver }
+    }
+
+    /// What is seen of the channel.
+    pub(super) fn snapshot(&self, alloc: A) -> Result<Snapshot<T, A>, AllocError>
+        ensures { IfOk result (λ snapshot. ShowsSomeState T.is_clone snapshot) }
+    {
+        self.inner.known();
+        let snapshot = self.inner.snapshot(alloc)?;
+        Ok(snapshot)
     }
 
     /// A thread is about to wait to send.
