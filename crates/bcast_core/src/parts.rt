@@ -1,6 +1,6 @@
 //! What the state of a channel consists of, and the steps that its calls are made of.
-ghost use Rattle.std.specs.Prelude.{◌≡◌, ◌==◌, not, ◌^◌, ◌+◌, ◌-◌, ◌<◌, ◌≤◌, ◌∷◌, false, true, length, IfOk, IfSome};
-ghost use Rattle.std.specs.FinMap.{get, len};
+ghost use Rattle.std.specs.Prelude.{◌≡◌, ◌==◌, ◌^◌, ◌+◌, ◌-◌, ◌<◌, ◌≤◌, false, true, length, IfOk};
+ghost use Rattle.std.specs.FinMap.{len};
 ghost use Rattle.bcast_model.specs.History.{opening};
 
 use bcast_event::notice::Notice;
@@ -50,7 +50,7 @@ impl<T, N: Notice, A: Allocator> Model for Parts<T, N, A> {
 
 impl<T: Drop, N: Notice, A: Allocator + Copy> Parts<T, N, A> {
     ghost use Rattle.bcast_model.specs.View.{view_of};
-    ghost use Rattle.bcast_model.specs.Control.{has_no_receiver, is_deserted, close, close_if_deserted, tell_a_sender};
+    ghost use Rattle.bcast_model.specs.Control.{has_no_receiver, is_deserted, close, close_if_deserted};
     ghost use Rattle.bcast_model.specs.Seen.{is_full_seen, is_ready_seen, cursor_seen, tell_if_ready_seen};
 
     /// A new channel, and the key of its first receiver.

@@ -1,8 +1,8 @@
 //! The kept messages and who is still to read them, the slow way: each call looks at every cursor.
 #![tactic(auto)]
 
-ghost use Rattle.std.specs.Prelude.{◌≡◌, ◌==◌, ◌+◌, ◌^◌, ◌<◌, ◌≤◌, [], ◌∷◌, ◌++◌, length, drop, slice_get};
-ghost use Rattle.std.specs.Prelude.{IfOk, OnOk, OnErr, IfNone, IfSome, OnSome};
+ghost use Rattle.std.specs.Prelude.{◌≡◌, ◌==◌, ◌+◌, ◌^◌, ◌<◌, [], length, slice_get};
+ghost use Rattle.std.specs.Prelude.{IfOk};
 ghost use Rattle.std.specs.Option.{option_copied};
 ghost use Rattle.std.specs.FinMap.{empty, entries, get, insert, len};
 ghost use Rattle.bcast_store.specs.Stored.{IsSettled, end_of};

@@ -1,5 +1,5 @@
 //! Receivers come, leave, and read.
-ghost use Rattle.std.specs.Prelude.{◌≡◌, ◌+◌, ◌<◌, ◌≤◌, None, Some, if◌then◌else◌, max};
+ghost use Rattle.std.specs.Prelude.{◌≡◌, ◌+◌, ◌<◌, ◌≤◌, None, if◌then◌else◌, max};
 ghost use Rattle.std.specs.Prelude.{IfOk, IsOk, OnOk, OnErr, IsSomeAnd};
 ghost use Rattle.std.specs.FinMap as map;
 ghost use Rattle.bcast_store.specs.Stored.{IsHandedOut, IsOwed, end_of, with_cursors};

@@ -1,6 +1,6 @@
 //! Receivers, and the counts of senders and inactive receivers.
-ghost use Rattle.std.specs.Prelude.{◌≡◌, ◌+◌, ◌-◌, ◌^◌, ◌<◌, ◌≤◌, true, false, None, IfOk, IfErr, OnErr, is_some};
-ghost use Rattle.std.specs.FinMap.{get, len, remove};
+ghost use Rattle.std.specs.Prelude.{◌≡◌, ◌+◌, ◌-◌, ◌^◌, ◌<◌, ◌≤◌, true, None, IfOk, IfErr, OnErr, is_some};
+ghost use Rattle.std.specs.FinMap.{len, remove};
 
 use super::Parts;
 use bcast_event::notice::Notice;

@@ -1,5 +1,4 @@
 //! The calls by which a handle goes, but for telling a sender.
-ghost use Rattle.std.specs.Prelude.{◌≡◌};
 ghost use Rattle.bcast_model.specs.Legal.{NoClone};
 ghost use Rattle.bcast_model.specs.Laws.{IsValidView};
 ghost use Rattle.bcast_core.specs.Parts.{Does};

@@ -1,5 +1,5 @@
 //! Pending sends and receivers that wait.
-ghost use Rattle.std.specs.Prelude.{◌≡◌, ◌&&◌, ◌+◌, ◌*◌, ◌<◌, ◌⊎◌, true, false, length, IfOk, OnErr, is_some};
+ghost use Rattle.std.specs.Prelude.{◌≡◌, ◌&&◌, ◌+◌, ◌<◌, true, false, IfOk, OnErr, is_some};
 ghost use Rattle.std.specs.FinMap.{get};
 
 use super::Parts;
@@ -8,8 +8,6 @@ use bcast_model::listener::Kind;
 use std::alloc::{AllocError, Allocator};
 
 impl<T: Drop, N: Notice, A: Allocator + Copy> Parts<T, N, A> {
-    ghost use Rattle.bcast_model.specs.Listeners.{is_in};
-    ghost use Rattle.bcast_model.specs.Pair.{same_pair};
     ghost use Rattle.bcast_model.specs.Laws.{IsValidView};
     ghost use Rattle.bcast_model.specs.Seen.{is_ready_seen};
     ghost use Rattle.bcast_model.specs.Control.{has_place, with_place, place_answered, place_dropped, place_waits, pair_waits, pair_answered, pair_dropped};

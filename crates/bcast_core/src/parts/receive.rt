@@ -1,5 +1,5 @@
 //! Receiving.
-ghost use Rattle.std.specs.Prelude.{◌≡◌, ◌⊎◌, ◌+◌, ◌<◌, max, Some, Ok, Err, IfOk, OnOk, OnErr, IsOk, IsSomeAnd, slice_get, alloc_error};
+ghost use Rattle.std.specs.Prelude.{◌≡◌, ◌⊎◌, ◌+◌, ◌<◌, max, Some, Ok, Err, IfOk, OnOk, OnErr, IsOk, IsSomeAnd, alloc_error};
 
 use super::Parts;
 use bcast_event::notice::Notice;

@@ -1,5 +1,4 @@
 //! Handles that are made, and handles that go.
-ghost use Rattle.std.specs.Prelude.{◌≡◌};
 ghost use Rattle.bcast_model.specs.Legal.{NoClone};
 ghost use Rattle.bcast_model.specs.View.{Answers};
 ghost use Rattle.bcast_model.specs.declared.run.Call.TheVariants as call;

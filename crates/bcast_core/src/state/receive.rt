@@ -1,6 +1,5 @@
 //! Receiving at once.
-ghost use Rattle.std.specs.Prelude.{◌≡◌, IsOk};
-ghost use Rattle.bcast_model.specs.Legal.{NoClone, ClonesEqual};
+ghost use Rattle.std.specs.Prelude.{IsOk};
 ghost use Rattle.bcast_model.specs.View.{Answers};
 ghost use Rattle.bcast_model.specs.declared.run.Call.TheVariants as call;
 ghost use Rattle.bcast_model.specs.declared.run.Reply.TheVariants as reply;

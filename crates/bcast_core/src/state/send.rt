@@ -1,5 +1,4 @@
 //! Sending, at once or by a pending send.
-ghost use Rattle.std.specs.Prelude.{◌≡◌};
 ghost use Rattle.bcast_model.specs.Legal.{NoClone};
 ghost use Rattle.bcast_model.specs.View.{Answers};
 ghost use Rattle.bcast_model.specs.declared.run.Call.TheVariants as call;
