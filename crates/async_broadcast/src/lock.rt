@@ -43,6 +43,7 @@ struct Channel<T: Clone, A: Allocator> {
 
 impl<T: Clone, A: Allocator> Channel<T, A> {
     // Best once the lock is free.
+    #[inline(always)]
     fn wake(&self, woken: Woken) {
         if woken.sender {
             self.ready.notify_one();
@@ -175,6 +176,7 @@ impl<T: Clone, R: Wait + Clone, A: Allocator + Copy> Port<T, Slot<A>> for Lock<T
 
     ghost of_kind = { λ _ call reply may. possible T.is_clone call reply may };
 
+    #[inline(always)]
     fn ask(&self, call: Call<T>, wake: Wake<Slot<A>>) -> Reply<T>
         requires { HasPositiveCapacity call }
         ensures { IsPossible T.is_clone call result }

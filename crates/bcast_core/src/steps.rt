@@ -23,6 +23,7 @@ use std::alloc::Allocator;
 /// capacity must be positive.
 ///
 /// Source: this crate's own.
+#[inline(always)]
 pub fn step<T: Clone, N: Notice, A: Allocator + Copy>(
     inner: &mut Inner<T, N, A>,
     call: Call<T>,

@@ -47,6 +47,7 @@ impl<T: Clone, A: Allocator + Copy> State<T, A> {
     }
 
     /// Makes one call, and says whom to wake after it.
+    #[inline(always)]
     pub(super) fn step(&mut self, call: Call<T>, wake: Wake<Slot<A>>) -> (Reply<T>, Woken)
         requires { HasPositiveCapacity call }
         ensures answers { Answers T.is_clone self.old.inner call result.0 self.new.inner }
@@ -60,6 +61,7 @@ impl<T: Clone, A: Allocator + Copy> State<T, A> {
     }
 
     // `known` is the news before the call.
+    #[inline(always)]
     fn whom_to_wake(&mut self, known: (u64, bool)) -> Woken
         ensures { self.new.inner ≡ self.old.inner }
     {

@@ -25,6 +25,7 @@ impl<T: Clone, N: Notice, A: Allocator + Copy> Parts<T, N, A> {
     }
 
     // Gives a receiver the message of this number, which is the greater of its cursor and the front.
+    #[inline(always)]
     fn read(&mut self, key: usize, number: u64) -> Result<T, AllocError>
         requires at { IsSomeAnd (cursor_seen self.old key) (λ cursor. number ≡ max cursor self.old.front) }
         requires below { number < self.old.end }
@@ -40,6 +41,7 @@ impl<T: Clone, N: Notice, A: Allocator + Copy> Parts<T, N, A> {
     /// Gives a receiver the message of this number, or says why there is none.
     ///
     /// `at` is the receiver's cursor, or the greater of it and the front where what it missed is skipped.
+    #[inline(always)]
     pub fn receive(
         &mut self,
         key: usize,

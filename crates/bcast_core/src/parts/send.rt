@@ -27,6 +27,7 @@ impl<T: Drop, N: Notice, A: Allocator + Copy> Parts<T, N, A> {
     }
 
     // Puts a message last, for every receiver, all of whom are told. The last number closes the channel.
+    #[inline(always)]
     fn accept(&mut self, msg: T)
         requires someone { 0 < len self.old.control.cursors }
         requires room { length self.old.queue < self.old.control.room }
@@ -42,6 +43,7 @@ impl<T: Drop, N: Notice, A: Allocator + Copy> Parts<T, N, A> {
     }
 
     /// Accepts a message, or hands it back with the reason.
+    #[inline(always)]
     pub fn offer(&mut self, msg: T) -> Result<Option<T>, TrySendError<T>>
         requires { IsValidView self.old }
         ensures reply { result ≡ try_broadcast_seen self.old msg }

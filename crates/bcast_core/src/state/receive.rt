@@ -25,6 +25,7 @@ impl<T: Clone, N: Notice, A: Allocator + Copy> Inner<T, N, A> {
     /// Nothing changed.
     ///
     /// Source: `Receiver::try_recv` of async-broadcast.
+    #[inline(always)]
     pub fn try_recv(&mut self, key: usize) -> Result<Result<T, TryRecvError>, AllocError>
         ensures answers { Answers T.is_clone self.old (call.TryRecv key) (reply.TryRecv result) self.new }
         // Where no clone fails, there is an answer.

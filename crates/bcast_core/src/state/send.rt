@@ -25,6 +25,7 @@ impl<T: Drop, N: Notice, A: Allocator + Copy> Inner<T, N, A> {
     /// - `Full`: as many messages are kept as the capacity allows, and overflow is off.
     ///
     /// Source: `Sender::try_broadcast` of async-broadcast; the last number is this crate's own.
+    #[inline(always)]
     pub fn try_broadcast(&mut self, msg: T) -> Result<Option<T>, TrySendError<T>>
         ensures { Answers NoClone self.old (call.TryBroadcast msg) (reply.TryBroadcast result) self.new }
     {
