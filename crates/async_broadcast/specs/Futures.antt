@@ -3,6 +3,7 @@ use Rattle.std.specs.Prelude.{◌≡◌, ℕ, List, Option, Some, None, MatchOpt
 use Rattle.std.specs.List.{AllByRecursion}
 use Rattle.std.specs.declared.alloc.AllocError.{AllocError}
 use Rattle.futures.specs.declared.task.Poll.TheVariants as poll
+use Rattle.bcast_model.specs.declared.error.NoMemory.{NoMemory}
 use Rattle.bcast_model.specs.declared.error.SendError.{SendError}
 use Rattle.bcast_model.specs.declared.error.RecvError.{RecvError}
 use Rattle.bcast_model.specs.declared.run.SendPoll.TheVariants as send
@@ -10,7 +11,6 @@ use Rattle.bcast_model.specs.declared.run.Call.{Call}
 use Rattle.bcast_model.specs.declared.run.Call.TheVariants as call
 use Rattle.bcast_model.specs.declared.run.Reply.{Reply}
 use Rattle.bcast_model.specs.declared.run.Reply.TheVariants as reply
-use Rattle.async_broadcast.specs.declared.error.NoMemory.{NoMemory}
 
 module _ {T P : Type 0} (gave : P → Call T → Reply T → Type 0) (port : P) where
   -- `broadcast_direct`: the port gave a place

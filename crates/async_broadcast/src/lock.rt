@@ -5,12 +5,11 @@ ghost use Rattle.bcast_model.specs.View.{IsPossible};
 ghost use Rattle.async_broadcast.specs.Kinds.{may_wait, is_answer};
 ghost use Rattle.async_broadcast.specs.Snapshots.{ShowsSomeState};
 
-use crate::error::TryRecvError;
 use crate::port::Port;
 use crate::receiver::Receiver;
 use crate::sender::Sender;
 use crate::wake::{Slot, Wake};
-use bcast_core::{Call, Inner, Reply, SendPoll, Snapshot};
+use bcast_core::{Call, Inner, Reply, SendPoll, Snapshot, TryRecvError};
 use state::{State, Woken};
 use std::alloc::{AllocError, Allocator, Global};
 use std::sync::{Arc, Condvar, Mutex, Wait};

@@ -2,12 +2,11 @@
 ghost use Rattle.std.specs.Prelude.{◌≡◌, Ok, Err, IfOk, IfErr, ◌⊎◌};
 ghost use Rattle.async_broadcast.specs.Ports.{IsSame, as_try_recv};
 
-use crate::error::{HandleError, RecvError, TryRecvError};
 use crate::inactive::InactiveReceiver;
 use crate::port::{Port, ask};
 use crate::sender::Sender;
 use crate::wake::{Bell, Slot, Wake};
-use bcast_core::{Call, Reply};
+use bcast_core::{Call, HandleError, RecvError, Reply, TryRecvError};
 use std::alloc::{AllocError, Allocator, Global};
 use std::marker::PhantomData;
 

@@ -2,11 +2,10 @@
 ghost use Rattle.std.specs.Prelude.{◌≡◌, Ok, Err, IfOk, IfErr, ◌⊎◌};
 ghost use Rattle.async_broadcast.specs.Ports.{IsSame};
 
-use crate::error::{HandleError, SendError, TrySendError};
 use crate::port::{Port, ask};
 use crate::receiver::Receiver;
 use crate::wake::{Slot, Wake};
-use bcast_core::{Call, Reply, SendPoll};
+use bcast_core::{Call, HandleError, Reply, SendError, SendPoll, TrySendError};
 use std::alloc::{Allocator, Global};
 use std::marker::PhantomData;
 

@@ -11,7 +11,9 @@ mod state;
 mod steps;
 
 pub use bcast_event::notice::{Notice, Silent};
-pub use bcast_model::error::{HandleError, RecvError, SendError, TryRecvError, TrySendError};
+pub use bcast_model::error::{
+    HandleError, NoMemory, RecvError, SendError, TryRecvError, TrySendError,
+};
 pub use bcast_model::listener::Kind;
 pub use bcast_model::run::{Call, Reply, SendPoll};
 pub use snapshot::{Snapshot, Waiting};

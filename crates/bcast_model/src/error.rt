@@ -27,6 +27,14 @@ pub enum TrySendError<T> {
 #[derive(Clone, Copy, Drop, PartialEq, Eq)]
 pub struct SendError<T>(pub T);
 
+/// There was no memory to send a message or to make a call, which comes back. Nothing was done.
+///
+/// It prints without asking anything of what comes back.
+///
+/// Source: this crate's own.
+#[derive(Clone, Copy, Drop, PartialEq, Eq)]
+pub struct NoMemory<T>(pub T);
+
 /// Why `try_recv` gave no message.
 ///
 /// Source: `TryRecvError` of async-broadcast 0.7.2.
@@ -115,6 +123,18 @@ impl<T> SendError<T> {
     {
         let SendError(msg) = self;
         msg
+    }
+}
+
+impl<T> NoMemory<T> {
+    /// The message that was not sent, or the call that was not made.
+    ///
+    /// Source: this crate's own, as `SendError::into_inner`.
+    pub fn into_inner(self) -> T
+        ensures { result ≡ self.0 }
+    {
+        let NoMemory(back) = self;
+        back
     }
 }
 

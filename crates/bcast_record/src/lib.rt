@@ -17,17 +17,16 @@
 
 mod copy;
 mod entry;
-mod error;
 mod finished;
 mod log;
 mod receipt;
 mod recorder;
 mod seat;
 
+pub use bcast_core::NoMemory;
 pub use bcast_journal::{Journal, Named};
 pub use copy::{copy_of_call, copy_of_reply};
 pub use entry::{Entry, Note, Opening};
-pub use error::NoMemory;
 pub use finished::Finished;
 pub use log::Log;
 pub use receipt::Receipt;

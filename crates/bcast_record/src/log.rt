@@ -10,11 +10,10 @@ ghost use Rattle.bcast_record.specs.Seats.{new_seats, answered};
 
 use crate::copy::copy_of_call;
 use crate::entry::{Entry, Note, Opening};
-use crate::error::NoMemory;
 use crate::finished::Finished;
 use crate::receipt::Receipt;
 use crate::seat::{Seat, gather, make_seats};
-use bcast_core::{Call, Inner, Silent, step};
+use bcast_core::{Call, Inner, NoMemory, Silent, step};
 use bcast_journal::{Journal, Named, Prefix, Slot, Writer};
 use std::alloc::{AllocError, Allocator, Global};
 use std::marker::Model;

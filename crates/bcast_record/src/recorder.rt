@@ -8,12 +8,11 @@ ghost use Rattle.bcast_record.specs.Replay.{IsRecordedRun};
 ghost use Rattle.bcast_record.specs.Seats.{new_seats, answered};
 
 use crate::entry::{Note, Opening};
-use crate::error::NoMemory;
 use crate::finished::Finished;
 use crate::log::Log;
 use crate::receipt::Receipt;
 use crate::seat::Seat;
-use bcast_core::Call;
+use bcast_core::{Call, NoMemory};
 use bcast_journal::{Journal, Named, Prefix};
 use std::alloc::{AllocError, Allocator, Global};
 use std::marker::Model;

@@ -4,11 +4,10 @@ ghost use Rattle.futures.specs.Task.{Covers, IsArmed, Keeps};
 ghost use Rattle.futures.specs.Poll.{IfReady, OnPending};
 ghost use Rattle.async_broadcast.specs.Futures.{GivesReceived};
 
-use crate::error::RecvError;
 use crate::port::Port;
 use crate::receiver::Receiver;
 use crate::wake::{Slot, Wake};
-use bcast_core::{Call, Reply};
+use bcast_core::{Call, RecvError, Reply};
 use futures::Future;
 use futures::task::{Context, Poll};
 use std::alloc::{AllocError, Allocator, Global};

@@ -4,11 +4,10 @@ ghost use Rattle.futures.specs.Task.{Covers, Keeps};
 ghost use Rattle.futures.specs.Poll.{IfReady, OnPending};
 ghost use Rattle.async_broadcast.specs.Futures.{BeganSend, GivesSent, MustWait};
 
-use crate::error::{NoMemory, SendError};
 use crate::port::{Port, ask};
 use crate::sender::Sender;
 use crate::wake::{Bell, Slot, Wake};
-use bcast_core::{Call, Reply, SendPoll};
+use bcast_core::{Call, NoMemory, Reply, SendError, SendPoll};
 use futures::Future;
 use futures::task::{Context, Poll};
 use std::alloc::{Allocator, Global};

@@ -4,7 +4,7 @@ ghost use Rattle.bcast_model.specs.Errors.{handle_error_text, recv_error_text};
 ghost use Rattle.bcast_model.specs.Errors.{try_recv_error_text, try_send_error_text};
 ghost use Rattle.bcast_model.specs.Errors.{try_send_error_debug};
 
-use super::{HandleError, RecvError, SendError, TryRecvError, TrySendError};
+use super::{HandleError, NoMemory, RecvError, SendError, TryRecvError, TrySendError};
 use std::error::Error;
 use std::fmt;
 
@@ -51,6 +51,24 @@ impl<T> fmt::Debug for SendError<T> {
 }
 
 impl<T: Drop> Error for SendError<T> {}
+
+impl<T> fmt::Display for NoMemory<T> {
+    ghost output = { λ _. Some (codes "out of memory") };
+
+    fn fmt<W: fmt::Write>(&self, f: &mut fmt::Formatter<W>) -> fmt::Result {
+        f.write_str("out of memory")
+    }
+}
+
+impl<T> fmt::Debug for NoMemory<T> {
+    ghost debug_output = { λ _. Some (codes "NoMemory(..)") };
+
+    fn fmt<W: fmt::Write>(&self, f: &mut fmt::Formatter<W>) -> fmt::Result {
+        f.write_str("NoMemory(..)")
+    }
+}
+
+impl<T: Drop> Error for NoMemory<T> {}
 
 impl fmt::Display for TryRecvError {
     ghost output = { λ error. Some (try_recv_error_text error) };
