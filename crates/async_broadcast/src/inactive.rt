@@ -49,6 +49,14 @@ impl<T: Clone, P: Port<T, Slot<A>>, A: Allocator + Copy> InactiveReceiver<T, P, 
     ///
     /// - `Memory`: no memory for its cursor.
     ///
+    /// ```rust
+    /// let (sender, receiver) = broadcast(&rt, rt.alloc(), 1)?;
+    /// let inactive = receiver.deactivate().ok().ok_or("no handle")?;
+    /// let mut receiver = inactive.activate().ok().ok_or("no handle")?;
+    /// assert!(rt; sender.try_broadcast(1).is_ok());
+    /// assert!(rt; matches!(receiver.try_recv()?, Ok(1)));
+    /// ```
+    ///
     /// Source: `InactiveReceiver::activate` of async-broadcast 0.7.2, which never refuses.
     pub fn activate(self) -> Result<Receiver<T, P, A>, (Self, HandleError)>
         ensures made { IfOk result (λ made. (made.port ≡ self.port)
@@ -76,6 +84,16 @@ impl<T: Clone, P: Port<T, Slot<A>>, A: Allocator + Copy> InactiveReceiver<T, P, 
     ///
     /// - `Memory`: no memory for the handle.
     ///
+    /// ```rust
+    /// let (sender, receiver) = broadcast(&rt, rt.alloc(), 1)?;
+    /// let inactive = receiver.deactivate().ok().ok_or("no handle")?;
+    /// let mut one = inactive.activate_cloned()?;
+    /// let mut two = inactive.activate_cloned()?;
+    /// assert!(rt; sender.try_broadcast(1).is_ok());
+    /// assert!(rt; matches!(one.try_recv()?, Ok(1)));
+    /// assert!(rt; matches!(two.try_recv()?, Ok(1)));
+    /// ```
+    ///
     /// Source: `InactiveReceiver::activate_cloned` of async-broadcast 0.7.2, which never refuses.
     pub fn activate_cloned(&self) -> Result<Receiver<T, P, A>, HandleError>
         ensures channel { IfOk result (λ made. IsSame P.gave made.port self.now.port) }
@@ -100,8 +118,8 @@ impl<T: Clone, P: Port<T, Slot<A>>, A: Allocator + Copy> InactiveReceiver<T, P, 
     ///
     /// ```rust
     /// let (sender, receiver) = broadcast::<u64, _, _>(&rt, rt.alloc(), 1)?;
-    /// let one = receiver.deactivate().map_err(|_| "no handle")?;
-    /// let two = one.clone().map_err(|_| "no handle")?;
+    /// let one = receiver.deactivate().ok().ok_or("no handle")?;
+    /// let two = one.clone()?;
     /// drop(one);
     /// assert!(rt; !sender.is_closed());
     /// drop(two);

@@ -1,4 +1,21 @@
 //! A bounded broadcast channel: every active receiver gets each message.
+//!
+//! What was refused comes as an error, which hands back a message that was not sent.
+//!
+//! ```rust
+//! let (sender, mut receiver) = broadcast(&rt, rt.alloc(), 1)?;
+//! let error = receiver.try_recv()?.err().ok_or("received")?;
+//! assert!(rt; error.is_empty() && !error.is_closed() && !error.is_overflowed());
+//! assert!(rt; sender.try_broadcast(1).is_ok());
+//! let error = sender.try_broadcast(2).err().ok_or("sent")?;
+//! assert!(rt; error.is_full() && !error.is_closed() && !error.is_disconnected());
+//! assert!(rt; error.into_inner() == 2);
+//! sender.close();
+//! let error = sender.broadcast_blocking(3).err().ok_or("sent")?;
+//! assert!(rt; error.into_inner() == 3);
+//!
+//! assert!(rt; NoMemory(7).into_inner() == 7);
+//! ```
 #![tactic(auto)]
 
 mod future;

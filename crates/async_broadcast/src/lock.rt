@@ -65,7 +65,7 @@ impl<T: Clone, A: Allocator> Channel<T, A> {
 ///
 /// ```rust
 /// let (sender, mut one) = broadcast(&rt, rt.alloc(), 2)?;
-/// let mut two = one.clone().map_err(|_| "no handle")?;
+/// let mut two = one.clone()?;
 /// assert!(rt; sender.try_broadcast(7).is_ok());
 /// assert!(rt; sender.try_broadcast(8).is_ok());
 /// assert!(rt; matches!(sender.try_broadcast(9), Err(TrySendError::Full(9))));

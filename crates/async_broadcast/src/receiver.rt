@@ -19,6 +19,14 @@ mod settings;
 /// is dropped, unless an inactive one is left. Contracts name its `port`, and the `key` under
 /// which the channel has its cursor.
 ///
+/// ```rust
+/// let (sender, mut receiver) = broadcast(&rt, rt.alloc(), 1)?;
+/// assert!(rt; sender.try_broadcast(1).is_ok());
+/// drop(sender);
+/// assert!(rt; matches!(block_on(&rt, receiver.next())?, Some(Ok(1))));
+/// assert!(rt; matches!(block_on(&rt, receiver.next())?, None));
+/// ```
+///
 /// Source: `Receiver` of async-broadcast 0.7.2.
 pub struct Receiver<T: Clone, P: Port<T, Slot<A>>, A: Allocator = Global> {
     pub(crate) port: P,
@@ -57,6 +65,15 @@ impl<T: Clone, P: Port<T, Slot<A>>, A: Allocator + Copy> Receiver<T, P, A> {
     /// - `Overflowed(n)`: the next `n` messages were dropped. The receiver goes on after them.
     /// - `Empty`: every message was read, and the channel is open.
     /// - `Closed`: every message was read, and the channel is closed.
+    ///
+    /// ```rust
+    /// let (sender, mut receiver) = broadcast(&rt, rt.alloc(), 1)?;
+    /// assert!(rt; matches!(receiver.try_recv()?, Err(TryRecvError::Empty)));
+    /// assert!(rt; sender.try_broadcast(1).is_ok());
+    /// drop(sender);
+    /// assert!(rt; matches!(receiver.try_recv()?, Ok(1)));
+    /// assert!(rt; matches!(receiver.try_recv()?, Err(TryRecvError::Closed)));
+    /// ```
     ///
     /// Source: `Receiver::try_recv` of async-broadcast 0.7.2, which never refuses for memory.
     pub fn try_recv(&mut self) -> Result<Result<T, TryRecvError>, AllocError>
@@ -106,6 +123,15 @@ impl<T: Clone, P: Port<T, Slot<A>>, A: Allocator + Copy> Receiver<T, P, A> {
     /// A receiver that has read everything is done as soon as the channel is closed, also where
     /// this is false since another receiver has still to read.
     ///
+    /// ```rust
+    /// let (sender, mut receiver) = broadcast(&rt, rt.alloc(), 1)?;
+    /// assert!(rt; sender.try_broadcast(1).is_ok());
+    /// drop(sender);
+    /// assert!(rt; !receiver.is_terminated());
+    /// assert!(rt; matches!(receiver.try_recv()?, Ok(1)));
+    /// assert!(rt; receiver.is_terminated());
+    /// ```
+    ///
     /// Source: `Receiver::is_terminated` of async-broadcast 0.7.2.
     pub fn is_terminated(&self) -> bool
         ensures { P.gave self.now.port Call.IsTerminated (Reply.IsTerminated result) }
@@ -118,6 +144,14 @@ impl<T: Clone, P: Port<T, Slot<A>>, A: Allocator + Copy> Receiver<T, P, A> {
     /// # Errors
     ///
     /// - `Memory`: no memory for the handle.
+    ///
+    /// ```rust
+    /// let (sender, mut one) = broadcast(&rt, rt.alloc(), 1)?;
+    /// assert!(rt; sender.try_broadcast(1).is_ok());
+    /// let mut two = one.clone()?;
+    /// assert!(rt; matches!(one.try_recv()?, Ok(1)));
+    /// assert!(rt; matches!(two.try_recv()?, Ok(1)));
+    /// ```
     ///
     /// Source: `Receiver::clone` of async-broadcast 0.7.2, which never refuses.
     pub fn clone(&self) -> Result<Self, HandleError>
@@ -143,6 +177,14 @@ impl<T: Clone, P: Port<T, Slot<A>>, A: Allocator + Copy> Receiver<T, P, A> {
     ///
     /// - `Memory`: no memory for the handle.
     ///
+    /// ```rust
+    /// let (sender, one) = broadcast(&rt, rt.alloc(), 2)?;
+    /// assert!(rt; sender.try_broadcast(1).is_ok());
+    /// let mut two = one.new_receiver()?;
+    /// assert!(rt; sender.try_broadcast(2).is_ok());
+    /// assert!(rt; matches!(two.try_recv()?, Ok(2)));
+    /// ```
+    ///
     /// Source: `Receiver::new_receiver` of async-broadcast 0.7.2, which never refuses.
     pub fn new_receiver(&self) -> Result<Self, HandleError>
         ensures channel { IfOk result (λ made. IsSame P.gave made.port self.now.port) }
@@ -164,6 +206,14 @@ impl<T: Clone, P: Port<T, Slot<A>>, A: Allocator + Copy> Receiver<T, P, A> {
     ///
     /// - `Memory`: no memory for the handle, and the channel wasn't asked.
     /// - `TooMany`: the channel can't count one more.
+    ///
+    /// ```rust
+    /// let (sender, mut receiver) = broadcast(&rt, rt.alloc(), 1)?;
+    /// let other = receiver.new_sender()?;
+    /// drop(sender);
+    /// assert!(rt; other.try_broadcast(1).is_ok());
+    /// assert!(rt; matches!(receiver.try_recv()?, Ok(1)));
+    /// ```
     ///
     /// Source: `Receiver::new_sender` of async-broadcast 0.7.2, which never refuses.
     pub fn new_sender(&self) -> Result<Sender<T, P, A>, HandleError>
@@ -192,9 +242,9 @@ impl<T: Clone, P: Port<T, Slot<A>>, A: Allocator + Copy> Receiver<T, P, A> {
     ///
     /// ```rust
     /// let (sender, receiver) = broadcast(&rt, rt.alloc(), 1)?;
-    /// let inactive = receiver.deactivate().map_err(|_| "no handle")?;
+    /// let inactive = receiver.deactivate().ok().ok_or("no handle")?;
     /// assert!(rt; matches!(sender.try_broadcast(1), Err(TrySendError::Inactive(1))));
-    /// let mut receiver = inactive.activate().map_err(|_| "no handle")?;
+    /// let mut receiver = inactive.activate().ok().ok_or("no handle")?;
     /// assert!(rt; sender.try_broadcast(2).is_ok());
     /// assert!(rt; matches!(receiver.try_recv()?, Ok(2)));
     /// ```

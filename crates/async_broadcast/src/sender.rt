@@ -53,6 +53,16 @@ impl<T: Clone, P: Port<T, Slot<A>>, A: Allocator + Copy> Sender<T, P, A> {
     /// - `Inactive`: there is no active receiver.
     /// - `Full`: the channel is full, and overflow mode is off.
     ///
+    /// ```rust
+    /// let (sender, receiver) = broadcast(&rt, rt.alloc(), 1)?;
+    /// assert!(rt; matches!(sender.try_broadcast(1), Ok(None)));
+    /// assert!(rt; matches!(sender.try_broadcast(2), Err(TrySendError::Full(2))));
+    /// let inactive = receiver.deactivate().ok().ok_or("no handle")?;
+    /// assert!(rt; matches!(sender.try_broadcast(3), Err(TrySendError::Inactive(3))));
+    /// drop(inactive);
+    /// assert!(rt; matches!(sender.try_broadcast(4), Err(TrySendError::Closed(4))));
+    /// ```
+    ///
     /// Source: `Sender::try_broadcast` of async-broadcast 0.7.2.
     pub fn try_broadcast(&self, msg: T) -> Result<Option<T>, TrySendError<T>>
         ensures { P.gave self.now.port (Call.TryBroadcast msg) (Reply.TryBroadcast result) }
@@ -99,6 +109,16 @@ impl<T: Clone, P: Port<T, Slot<A>>, A: Allocator + Copy> Sender<T, P, A> {
     /// - `Memory`: no memory for the handle, and the channel wasn't asked.
     /// - `TooMany`: the channel can't count one more.
     ///
+    /// ```rust
+    /// let (sender, mut receiver) = broadcast(&rt, rt.alloc(), 1)?;
+    /// let other = sender.clone()?;
+    /// drop(sender);
+    /// assert!(rt; other.try_broadcast(1).is_ok());
+    /// drop(other);
+    /// assert!(rt; matches!(receiver.try_recv()?, Ok(1)));
+    /// assert!(rt; matches!(receiver.try_recv()?, Err(TryRecvError::Closed)));
+    /// ```
+    ///
     /// Source: `Sender::clone` of async-broadcast 0.7.2, which never refuses.
     pub fn clone(&self) -> Result<Self, HandleError>
         ensures channel { IfOk result (λ made. IsSame P.gave made.port self.now.port) }
@@ -121,6 +141,15 @@ impl<T: Clone, P: Port<T, Slot<A>>, A: Allocator + Copy> Sender<T, P, A> {
     /// # Errors
     ///
     /// - `Memory`: no memory for the handle.
+    ///
+    /// ```rust
+    /// let (sender, mut one) = broadcast(&rt, rt.alloc(), 2)?;
+    /// assert!(rt; sender.try_broadcast(1).is_ok());
+    /// let mut two = sender.new_receiver()?;
+    /// assert!(rt; sender.try_broadcast(2).is_ok());
+    /// assert!(rt; matches!(one.try_recv()?, Ok(1)));
+    /// assert!(rt; matches!(two.try_recv()?, Ok(2)));
+    /// ```
     ///
     /// Source: `Sender::new_receiver` of async-broadcast 0.7.2, which never refuses.
     pub fn new_receiver(&self) -> Result<Receiver<T, P, A>, HandleError>

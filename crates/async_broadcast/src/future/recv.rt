@@ -28,6 +28,12 @@ impl<T: Clone, P: Port<T, Slot<A>>, A: Allocator + Copy> Receiver<T, P, A> {
     ///
     /// - `AllocError`: no memory for the box. Nothing changed.
     ///
+    /// ```rust
+    /// let (sender, mut receiver) = broadcast(&rt, rt.alloc(), 1)?;
+    /// assert!(rt; sender.try_broadcast(1).is_ok());
+    /// assert!(rt; matches!(block_on(&rt, &mut *receiver.recv()?)?, Ok(Ok(1))));
+    /// ```
+    ///
     /// Source: `Receiver::recv` of async-broadcast 0.7.2, which never refuses.
     pub fn recv(&mut self) -> Result<Box<Recv<'_, T, P, A>, A>, AllocError>
         ensures { IfOk result (λ recv. recv.value.receiver.now ≡ self.old) }
@@ -37,6 +43,15 @@ impl<T: Clone, P: Port<T, Slot<A>>, A: Allocator + Copy> Receiver<T, P, A> {
     }
 
     /// Receives the next message in a task, by a future.
+    ///
+    /// ```rust
+    /// let (sender, mut receiver) = broadcast(&rt, rt.alloc(), 1)?;
+    /// assert!(rt; sender.try_broadcast(1).is_ok());
+    /// drop(sender);
+    /// assert!(rt; matches!(block_on(&rt, receiver.recv_direct())?, Ok(Ok(1))));
+    /// let ended = block_on(&rt, receiver.recv_direct())?;
+    /// assert!(rt; matches!(ended, Ok(Err(RecvError::Closed))));
+    /// ```
     ///
     /// Source: `Receiver::recv_direct` of async-broadcast 0.7.2.
     pub fn recv_direct(&mut self) -> Recv<'_, T, P, A>
@@ -55,6 +70,16 @@ impl<T: Clone, P: Port<T, Slot<A>>, A: Allocator + Copy> Receiver<T, P, A> {
     /// - `AllocError`: no memory for a notice, or for a clone of a message that others have still
     ///   to read. Nothing changed.
     /// - `Overflowed(n)`: the next `n` messages were dropped. The receiver goes on after them.
+    ///
+    /// ```rust
+    /// let (sender, mut receiver) = broadcast(&rt, rt.alloc(), 1)?;
+    /// let task = MockTask::new(&rt)?;
+    /// assert!(rt; matches!(task.enter(|cx| receiver.poll_recv(cx)), Ok(Poll::Pending)));
+    /// assert!(rt; sender.try_broadcast(1).is_ok());
+    /// assert!(rt; task.is_woken());
+    /// let polled = task.enter(|cx| receiver.poll_recv(cx));
+    /// assert!(rt; matches!(polled, Ok(Poll::Ready(Some(Ok(1))))));
+    /// ```
     ///
     /// Source: `Receiver::poll_recv` of async-broadcast 0.7.2, which never refuses for memory.
     pub fn poll_recv(

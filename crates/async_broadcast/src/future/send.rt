@@ -36,6 +36,14 @@ impl<T: Clone, P: Port<T, Slot<A>>, A: Allocator + Copy> Sender<T, P, A> {
     /// - `NoMemory(msg)`: no memory for its place in the channel, or for the box. The message
     ///   comes back.
     ///
+    /// ```rust
+    /// let (sender, mut receiver) = broadcast(&rt, rt.alloc(), 1)?;
+    /// let mut send = sender.broadcast(1)?;
+    /// assert!(rt; matches!(receiver.try_recv()?, Err(TryRecvError::Empty)));
+    /// assert!(rt; matches!(block_on(&rt, &mut *send)?, Ok(Ok(None))));
+    /// assert!(rt; matches!(receiver.try_recv()?, Ok(1)));
+    /// ```
+    ///
     /// Source: `Sender::broadcast` of async-broadcast 0.7.2, which never refuses.
     pub fn broadcast(&self, msg: T) -> Result<Box<Send<'_, T, P, A>, A>, NoMemory<T>>
         ensures port { IfOk result (λ send. send.value.sender.now.port ≡ self.now.port) }
@@ -57,6 +65,14 @@ impl<T: Clone, P: Port<T, Slot<A>>, A: Allocator + Copy> Sender<T, P, A> {
     /// # Errors
     ///
     /// - `NoMemory(msg)`: no memory for its place in the channel. The message comes back.
+    ///
+    /// ```rust
+    /// let (sender, receiver) = broadcast(&rt, rt.alloc(), 1)?;
+    /// assert!(rt; matches!(block_on(&rt, sender.broadcast_direct(1)?)?, Ok(Ok(None))));
+    /// drop(receiver);
+    /// let refused = block_on(&rt, sender.broadcast_direct(2)?)?;
+    /// assert!(rt; matches!(refused, Ok(Err(SendError(2)))));
+    /// ```
     ///
     /// Source: `Sender::broadcast_direct` of async-broadcast 0.7.2, which never refuses.
     pub fn broadcast_direct(&self, msg: T) -> Result<Send<'_, T, P, A>, NoMemory<T>>

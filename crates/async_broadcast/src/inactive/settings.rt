@@ -10,6 +10,12 @@ use std::alloc::{AllocError, Allocator};
 impl<T: Clone, P: Port<T, Slot<A>>, A: Allocator + Copy> InactiveReceiver<T, P, A> {
     /// The greatest number of messages that the channel keeps at once.
     ///
+    /// ```rust
+    /// let (sender, receiver) = broadcast::<u64, _, _>(&rt, rt.alloc(), 1)?;
+    /// let inactive = receiver.new_receiver()?.deactivate().ok().ok_or("no handle")?;
+    /// assert!(rt; inactive.capacity() == 1);
+    /// ```
+    ///
     /// Source: `InactiveReceiver::capacity` of async-broadcast 0.7.2.
     pub fn capacity(&self) -> usize
         ensures { P.gave self.now.port Call.Capacity (Reply.Capacity result) }
@@ -26,6 +32,14 @@ impl<T: Clone, P: Port<T, Slot<A>>, A: Allocator + Copy> InactiveReceiver<T, P, 
     ///
     /// - `AllocError`: no memory for a greater capacity than any before. Nothing changed.
     ///
+    /// ```rust
+    /// let (sender, receiver) = broadcast(&rt, rt.alloc(), 1)?;
+    /// let mut inactive = receiver.new_receiver()?.deactivate().ok().ok_or("no handle")?;
+    /// inactive.set_capacity(2)?;
+    /// assert!(rt; sender.try_broadcast(1).is_ok());
+    /// assert!(rt; sender.try_broadcast(2).is_ok());
+    /// ```
+    ///
     /// Source: `InactiveReceiver::set_capacity` of async-broadcast 0.7.2, which never refuses.
     pub fn set_capacity(&mut self, new_cap: usize) -> Result<(), AllocError>
         requires { 0 < new_cap }
@@ -37,6 +51,14 @@ impl<T: Clone, P: Port<T, Slot<A>>, A: Allocator + Copy> InactiveReceiver<T, P, 
 
     /// Whether a full channel drops its oldest message to accept a new one.
     ///
+    /// ```rust
+    /// let (sender, receiver) = broadcast::<u64, _, _>(&rt, rt.alloc(), 1)?;
+    /// let mut inactive = receiver.new_receiver()?.deactivate().ok().ok_or("no handle")?;
+    /// assert!(rt; !inactive.overflow());
+    /// inactive.set_overflow(true);
+    /// assert!(rt; inactive.overflow());
+    /// ```
+    ///
     /// Source: `InactiveReceiver::overflow` of async-broadcast 0.7.2.
     pub fn overflow(&self) -> bool
         ensures { P.gave self.now.port Call.Overflow (Reply.Overflow result) }
@@ -45,6 +67,14 @@ impl<T: Clone, P: Port<T, Slot<A>>, A: Allocator + Copy> InactiveReceiver<T, P, 
     }
 
     /// Says whether a full channel drops its oldest message to accept a new one.
+    ///
+    /// ```rust
+    /// let (sender, receiver) = broadcast(&rt, rt.alloc(), 1)?;
+    /// let mut inactive = receiver.new_receiver()?.deactivate().ok().ok_or("no handle")?;
+    /// inactive.set_overflow(true);
+    /// assert!(rt; matches!(sender.try_broadcast(1), Ok(None)));
+    /// assert!(rt; matches!(sender.try_broadcast(2), Ok(Some(1))));
+    /// ```
     ///
     /// Source: `InactiveReceiver::set_overflow` of async-broadcast 0.7.2.
     pub fn set_overflow(&mut self, overflow: bool)
@@ -56,6 +86,14 @@ impl<T: Clone, P: Port<T, Slot<A>>, A: Allocator + Copy> InactiveReceiver<T, P, 
 
     /// Whether sends that may wait do so where there is no active receiver.
     ///
+    /// ```rust
+    /// let (sender, receiver) = broadcast::<u64, _, _>(&rt, rt.alloc(), 1)?;
+    /// let mut inactive = receiver.new_receiver()?.deactivate().ok().ok_or("no handle")?;
+    /// assert!(rt; inactive.await_active());
+    /// inactive.set_await_active(false);
+    /// assert!(rt; !inactive.await_active());
+    /// ```
+    ///
     /// Source: `InactiveReceiver::await_active` of async-broadcast 0.7.2.
     pub fn await_active(&self) -> bool
         ensures { P.gave self.now.port Call.AwaitActive (Reply.AwaitActive result) }
@@ -64,6 +102,13 @@ impl<T: Clone, P: Port<T, Slot<A>>, A: Allocator + Copy> InactiveReceiver<T, P, 
     }
 
     /// Says whether sends that may wait do so where there is no active receiver.
+    ///
+    /// ```rust
+    /// let (sender, receiver) = broadcast(&rt, rt.alloc(), 1)?;
+    /// let mut inactive = receiver.deactivate().ok().ok_or("no handle")?;
+    /// inactive.set_await_active(false);
+    /// assert!(rt; matches!(sender.broadcast_blocking(7), Err(SendError(7))));
+    /// ```
     ///
     /// Source: `InactiveReceiver::set_await_active` of async-broadcast 0.7.2.
     pub fn set_await_active(&mut self, await_active: bool)
@@ -79,6 +124,13 @@ impl<T: Clone, P: Port<T, Slot<A>>, A: Allocator + Copy> InactiveReceiver<T, P, 
     ///
     /// No more messages are accepted. Those that are there can still be received.
     ///
+    /// ```rust
+    /// let (sender, receiver) = broadcast::<u64, _, _>(&rt, rt.alloc(), 1)?;
+    /// let inactive = receiver.new_receiver()?.deactivate().ok().ok_or("no handle")?;
+    /// assert!(rt; inactive.close());
+    /// assert!(rt; !inactive.close());
+    /// ```
+    ///
     /// Source: `InactiveReceiver::close` of async-broadcast 0.7.2.
     pub fn close(&self) -> bool
         ensures { P.gave self.now.port Call.Close (Reply.Close result) }
@@ -87,6 +139,14 @@ impl<T: Clone, P: Port<T, Slot<A>>, A: Allocator + Copy> InactiveReceiver<T, P, 
     }
 
     /// Whether the channel is closed.
+    ///
+    /// ```rust
+    /// let (sender, receiver) = broadcast::<u64, _, _>(&rt, rt.alloc(), 1)?;
+    /// let inactive = receiver.new_receiver()?.deactivate().ok().ok_or("no handle")?;
+    /// assert!(rt; !inactive.is_closed());
+    /// sender.close();
+    /// assert!(rt; inactive.is_closed());
+    /// ```
     ///
     /// Source: `InactiveReceiver::is_closed` of async-broadcast 0.7.2.
     pub fn is_closed(&self) -> bool
@@ -97,6 +157,14 @@ impl<T: Clone, P: Port<T, Slot<A>>, A: Allocator + Copy> InactiveReceiver<T, P, 
 
     /// Whether the channel keeps no message.
     ///
+    /// ```rust
+    /// let (sender, receiver) = broadcast::<u64, _, _>(&rt, rt.alloc(), 1)?;
+    /// let inactive = receiver.new_receiver()?.deactivate().ok().ok_or("no handle")?;
+    /// assert!(rt; inactive.is_empty());
+    /// assert!(rt; sender.try_broadcast(7).is_ok());
+    /// assert!(rt; !inactive.is_empty());
+    /// ```
+    ///
     /// Source: `InactiveReceiver::is_empty` of async-broadcast 0.7.2.
     pub fn is_empty(&self) -> bool
         ensures { P.gave self.now.port Call.IsEmpty (Reply.IsEmpty result) }
@@ -105,6 +173,14 @@ impl<T: Clone, P: Port<T, Slot<A>>, A: Allocator + Copy> InactiveReceiver<T, P, 
     }
 
     /// Whether the channel keeps as many messages as it may.
+    ///
+    /// ```rust
+    /// let (sender, receiver) = broadcast::<u64, _, _>(&rt, rt.alloc(), 1)?;
+    /// let inactive = receiver.new_receiver()?.deactivate().ok().ok_or("no handle")?;
+    /// assert!(rt; !inactive.is_full());
+    /// assert!(rt; sender.try_broadcast(7).is_ok());
+    /// assert!(rt; inactive.is_full());
+    /// ```
     ///
     /// Source: `InactiveReceiver::is_full` of async-broadcast 0.7.2.
     pub fn is_full(&self) -> bool
@@ -115,6 +191,13 @@ impl<T: Clone, P: Port<T, Slot<A>>, A: Allocator + Copy> InactiveReceiver<T, P, 
 
     /// The number of messages that the channel keeps.
     ///
+    /// ```rust
+    /// let (sender, receiver) = broadcast::<u64, _, _>(&rt, rt.alloc(), 1)?;
+    /// let inactive = receiver.new_receiver()?.deactivate().ok().ok_or("no handle")?;
+    /// assert!(rt; sender.try_broadcast(7).is_ok());
+    /// assert!(rt; inactive.len() == 1);
+    /// ```
+    ///
     /// Source: `InactiveReceiver::len` of async-broadcast 0.7.2.
     pub fn len(&self) -> usize
         ensures { P.gave self.now.port Call.Len (Reply.Len result) }
@@ -123,6 +206,13 @@ impl<T: Clone, P: Port<T, Slot<A>>, A: Allocator + Copy> InactiveReceiver<T, P, 
     }
 
     /// The number of active receivers.
+    ///
+    /// ```rust
+    /// let (sender, receiver) = broadcast::<u64, _, _>(&rt, rt.alloc(), 1)?;
+    /// let inactive = receiver.new_receiver()?.deactivate().ok().ok_or("no handle")?;
+    /// let _active = inactive.activate_cloned()?;
+    /// assert!(rt; inactive.receiver_count() == 2);
+    /// ```
     ///
     /// Source: `InactiveReceiver::receiver_count` of async-broadcast 0.7.2.
     pub fn receiver_count(&self) -> usize
@@ -133,6 +223,13 @@ impl<T: Clone, P: Port<T, Slot<A>>, A: Allocator + Copy> InactiveReceiver<T, P, 
 
     /// The number of inactive receivers.
     ///
+    /// ```rust
+    /// let (sender, receiver) = broadcast::<u64, _, _>(&rt, rt.alloc(), 1)?;
+    /// let inactive = receiver.new_receiver()?.deactivate().ok().ok_or("no handle")?;
+    /// let _other = inactive.clone()?;
+    /// assert!(rt; inactive.inactive_receiver_count() == 2);
+    /// ```
+    ///
     /// Source: `InactiveReceiver::inactive_receiver_count` of async-broadcast 0.7.2.
     pub fn inactive_receiver_count(&self) -> usize
         ensures { P.gave self.now.port Call.InactiveReceiverCount
@@ -142,6 +239,13 @@ impl<T: Clone, P: Port<T, Slot<A>>, A: Allocator + Copy> InactiveReceiver<T, P, 
     }
 
     /// The number of senders.
+    ///
+    /// ```rust
+    /// let (sender, receiver) = broadcast::<u64, _, _>(&rt, rt.alloc(), 1)?;
+    /// let inactive = receiver.new_receiver()?.deactivate().ok().ok_or("no handle")?;
+    /// let _sender = sender.clone()?;
+    /// assert!(rt; inactive.sender_count() == 2);
+    /// ```
     ///
     /// Source: `InactiveReceiver::sender_count` of async-broadcast 0.7.2.
     pub fn sender_count(&self) -> usize

@@ -10,6 +10,11 @@ use std::alloc::{AllocError, Allocator};
 impl<T: Clone, P: Port<T, Slot<A>>, A: Allocator + Copy> Receiver<T, P, A> {
     /// The greatest number of messages that the channel keeps at once.
     ///
+    /// ```rust
+    /// let (sender, receiver) = broadcast::<u64, _, _>(&rt, rt.alloc(), 1)?;
+    /// assert!(rt; receiver.capacity() == 1);
+    /// ```
+    ///
     /// Source: `Receiver::capacity` of async-broadcast 0.7.2.
     pub fn capacity(&self) -> usize
         ensures { P.gave self.now.port Call.Capacity (Reply.Capacity result) }
@@ -28,7 +33,7 @@ impl<T: Clone, P: Port<T, Slot<A>>, A: Allocator + Copy> Receiver<T, P, A> {
     ///
     /// ```rust
     /// let (sender, mut slow) = broadcast(&rt, rt.alloc(), 4)?;
-    /// let mut quick = slow.clone().map_err(|_| "no handle")?;
+    /// let mut quick = slow.clone()?;
     /// for msg in 1..5u64 {
     ///     assert!(rt; sender.try_broadcast(msg).is_ok());
     /// }
@@ -53,6 +58,13 @@ impl<T: Clone, P: Port<T, Slot<A>>, A: Allocator + Copy> Receiver<T, P, A> {
 
     /// Whether a full channel drops its oldest message to accept a new one.
     ///
+    /// ```rust
+    /// let (sender, mut receiver) = broadcast::<u64, _, _>(&rt, rt.alloc(), 1)?;
+    /// assert!(rt; !receiver.overflow());
+    /// receiver.set_overflow(true);
+    /// assert!(rt; receiver.overflow());
+    /// ```
+    ///
     /// Source: `Receiver::overflow` of async-broadcast 0.7.2.
     pub fn overflow(&self) -> bool
         ensures { P.gave self.now.port Call.Overflow (Reply.Overflow result) }
@@ -61,6 +73,13 @@ impl<T: Clone, P: Port<T, Slot<A>>, A: Allocator + Copy> Receiver<T, P, A> {
     }
 
     /// Says whether a full channel drops its oldest message to accept a new one.
+    ///
+    /// ```rust
+    /// let (sender, mut receiver) = broadcast(&rt, rt.alloc(), 1)?;
+    /// receiver.set_overflow(true);
+    /// assert!(rt; matches!(sender.try_broadcast(1), Ok(None)));
+    /// assert!(rt; matches!(sender.try_broadcast(2), Ok(Some(1))));
+    /// ```
     ///
     /// Source: `Receiver::set_overflow` of async-broadcast 0.7.2.
     pub fn set_overflow(&mut self, overflow: bool)
@@ -72,6 +91,13 @@ impl<T: Clone, P: Port<T, Slot<A>>, A: Allocator + Copy> Receiver<T, P, A> {
 
     /// Whether sends that may wait do so where there is no active receiver.
     ///
+    /// ```rust
+    /// let (sender, mut receiver) = broadcast::<u64, _, _>(&rt, rt.alloc(), 1)?;
+    /// assert!(rt; receiver.await_active());
+    /// receiver.set_await_active(false);
+    /// assert!(rt; !receiver.await_active());
+    /// ```
+    ///
     /// Source: `Receiver::await_active` of async-broadcast 0.7.2.
     pub fn await_active(&self) -> bool
         ensures { P.gave self.now.port Call.AwaitActive (Reply.AwaitActive result) }
@@ -80,6 +106,13 @@ impl<T: Clone, P: Port<T, Slot<A>>, A: Allocator + Copy> Receiver<T, P, A> {
     }
 
     /// Says whether sends that may wait do so where there is no active receiver.
+    ///
+    /// ```rust
+    /// let (sender, mut receiver) = broadcast(&rt, rt.alloc(), 1)?;
+    /// receiver.set_await_active(false);
+    /// let _inactive = receiver.deactivate().ok().ok_or("no handle")?;
+    /// assert!(rt; matches!(sender.broadcast_blocking(7), Err(SendError(7))));
+    /// ```
     ///
     /// Source: `Receiver::set_await_active` of async-broadcast 0.7.2.
     pub fn set_await_active(&mut self, await_active: bool)
@@ -95,6 +128,12 @@ impl<T: Clone, P: Port<T, Slot<A>>, A: Allocator + Copy> Receiver<T, P, A> {
     ///
     /// No more messages are accepted. Those that are there can still be received.
     ///
+    /// ```rust
+    /// let (sender, receiver) = broadcast::<u64, _, _>(&rt, rt.alloc(), 1)?;
+    /// assert!(rt; receiver.close());
+    /// assert!(rt; !receiver.close());
+    /// ```
+    ///
     /// Source: `Receiver::close` of async-broadcast 0.7.2.
     pub fn close(&self) -> bool
         ensures { P.gave self.now.port Call.Close (Reply.Close result) }
@@ -103,6 +142,13 @@ impl<T: Clone, P: Port<T, Slot<A>>, A: Allocator + Copy> Receiver<T, P, A> {
     }
 
     /// Whether the channel is closed.
+    ///
+    /// ```rust
+    /// let (sender, receiver) = broadcast::<u64, _, _>(&rt, rt.alloc(), 1)?;
+    /// assert!(rt; !receiver.is_closed());
+    /// sender.close();
+    /// assert!(rt; receiver.is_closed());
+    /// ```
     ///
     /// Source: `Receiver::is_closed` of async-broadcast 0.7.2.
     pub fn is_closed(&self) -> bool
@@ -113,6 +159,13 @@ impl<T: Clone, P: Port<T, Slot<A>>, A: Allocator + Copy> Receiver<T, P, A> {
 
     /// Whether the channel keeps no message.
     ///
+    /// ```rust
+    /// let (sender, receiver) = broadcast::<u64, _, _>(&rt, rt.alloc(), 1)?;
+    /// assert!(rt; receiver.is_empty());
+    /// assert!(rt; sender.try_broadcast(7).is_ok());
+    /// assert!(rt; !receiver.is_empty());
+    /// ```
+    ///
     /// Source: `Receiver::is_empty` of async-broadcast 0.7.2.
     pub fn is_empty(&self) -> bool
         ensures { P.gave self.now.port Call.IsEmpty (Reply.IsEmpty result) }
@@ -121,6 +174,13 @@ impl<T: Clone, P: Port<T, Slot<A>>, A: Allocator + Copy> Receiver<T, P, A> {
     }
 
     /// Whether the channel keeps as many messages as it may.
+    ///
+    /// ```rust
+    /// let (sender, receiver) = broadcast::<u64, _, _>(&rt, rt.alloc(), 1)?;
+    /// assert!(rt; !receiver.is_full());
+    /// assert!(rt; sender.try_broadcast(7).is_ok());
+    /// assert!(rt; receiver.is_full());
+    /// ```
     ///
     /// Source: `Receiver::is_full` of async-broadcast 0.7.2.
     pub fn is_full(&self) -> bool
@@ -131,6 +191,12 @@ impl<T: Clone, P: Port<T, Slot<A>>, A: Allocator + Copy> Receiver<T, P, A> {
 
     /// The number of messages that the channel keeps.
     ///
+    /// ```rust
+    /// let (sender, receiver) = broadcast::<u64, _, _>(&rt, rt.alloc(), 1)?;
+    /// assert!(rt; sender.try_broadcast(7).is_ok());
+    /// assert!(rt; receiver.len() == 1);
+    /// ```
+    ///
     /// Source: `Receiver::len` of async-broadcast 0.7.2.
     pub fn len(&self) -> usize
         ensures { P.gave self.now.port Call.Len (Reply.Len result) }
@@ -139,6 +205,12 @@ impl<T: Clone, P: Port<T, Slot<A>>, A: Allocator + Copy> Receiver<T, P, A> {
     }
 
     /// The number of active receivers.
+    ///
+    /// ```rust
+    /// let (sender, receiver) = broadcast::<u64, _, _>(&rt, rt.alloc(), 1)?;
+    /// let other = receiver.clone()?;
+    /// assert!(rt; receiver.receiver_count() == 2);
+    /// ```
     ///
     /// Source: `Receiver::receiver_count` of async-broadcast 0.7.2.
     pub fn receiver_count(&self) -> usize
@@ -149,6 +221,13 @@ impl<T: Clone, P: Port<T, Slot<A>>, A: Allocator + Copy> Receiver<T, P, A> {
 
     /// The number of inactive receivers.
     ///
+    /// ```rust
+    /// let (sender, receiver) = broadcast::<u64, _, _>(&rt, rt.alloc(), 1)?;
+    /// let other = receiver.clone()?;
+    /// let _inactive = other.deactivate().ok().ok_or("no handle")?;
+    /// assert!(rt; receiver.inactive_receiver_count() == 1);
+    /// ```
+    ///
     /// Source: `Receiver::inactive_receiver_count` of async-broadcast 0.7.2.
     pub fn inactive_receiver_count(&self) -> usize
         ensures { P.gave self.now.port Call.InactiveReceiverCount
@@ -158,6 +237,12 @@ impl<T: Clone, P: Port<T, Slot<A>>, A: Allocator + Copy> Receiver<T, P, A> {
     }
 
     /// The number of senders.
+    ///
+    /// ```rust
+    /// let (sender, receiver) = broadcast::<u64, _, _>(&rt, rt.alloc(), 1)?;
+    /// let _sender = sender.clone()?;
+    /// assert!(rt; receiver.sender_count() == 2);
+    /// ```
     ///
     /// Source: `Receiver::sender_count` of async-broadcast 0.7.2.
     pub fn sender_count(&self) -> usize

@@ -10,6 +10,11 @@ use std::alloc::{AllocError, Allocator};
 impl<T: Clone, P: Port<T, Slot<A>>, A: Allocator + Copy> Sender<T, P, A> {
     /// The greatest number of messages that the channel keeps at once.
     ///
+    /// ```rust
+    /// let (sender, receiver) = broadcast::<u64, _, _>(&rt, rt.alloc(), 1)?;
+    /// assert!(rt; sender.capacity() == 1);
+    /// ```
+    ///
     /// Source: `Sender::capacity` of async-broadcast 0.7.2.
     pub fn capacity(&self) -> usize
         ensures { P.gave self.now.port Call.Capacity (Reply.Capacity result) }
@@ -26,6 +31,15 @@ impl<T: Clone, P: Port<T, Slot<A>>, A: Allocator + Copy> Sender<T, P, A> {
     ///
     /// - `AllocError`: no memory for a greater capacity than any before. Nothing changed.
     ///
+    /// ```rust
+    /// let (mut sender, mut receiver) = broadcast(&rt, rt.alloc(), 2)?;
+    /// assert!(rt; sender.try_broadcast(1).is_ok());
+    /// assert!(rt; sender.try_broadcast(2).is_ok());
+    /// sender.set_capacity(1)?;
+    /// assert!(rt; matches!(receiver.try_recv()?, Err(TryRecvError::Overflowed(1))));
+    /// assert!(rt; matches!(receiver.try_recv()?, Ok(2)));
+    /// ```
+    ///
     /// Source: `Sender::set_capacity` of async-broadcast 0.7.2, which never refuses.
     pub fn set_capacity(&mut self, new_cap: usize) -> Result<(), AllocError>
         requires { 0 < new_cap }
@@ -36,6 +50,13 @@ impl<T: Clone, P: Port<T, Slot<A>>, A: Allocator + Copy> Sender<T, P, A> {
     }
 
     /// Whether a full channel drops its oldest message to accept a new one.
+    ///
+    /// ```rust
+    /// let (mut sender, receiver) = broadcast::<u64, _, _>(&rt, rt.alloc(), 1)?;
+    /// assert!(rt; !sender.overflow());
+    /// sender.set_overflow(true);
+    /// assert!(rt; sender.overflow());
+    /// ```
     ///
     /// Source: `Sender::overflow` of async-broadcast 0.7.2.
     pub fn overflow(&self) -> bool
@@ -65,6 +86,13 @@ impl<T: Clone, P: Port<T, Slot<A>>, A: Allocator + Copy> Sender<T, P, A> {
 
     /// Whether sends that may wait do so where there is no active receiver.
     ///
+    /// ```rust
+    /// let (mut sender, receiver) = broadcast::<u64, _, _>(&rt, rt.alloc(), 1)?;
+    /// assert!(rt; sender.await_active());
+    /// sender.set_await_active(false);
+    /// assert!(rt; !sender.await_active());
+    /// ```
+    ///
     /// Source: `Sender::await_active` of async-broadcast 0.7.2.
     pub fn await_active(&self) -> bool
         ensures { P.gave self.now.port Call.AwaitActive (Reply.AwaitActive result) }
@@ -76,7 +104,7 @@ impl<T: Clone, P: Port<T, Slot<A>>, A: Allocator + Copy> Sender<T, P, A> {
     ///
     /// ```rust
     /// let (mut sender, receiver) = broadcast(&rt, rt.alloc(), 1)?;
-    /// let _inactive = receiver.deactivate().map_err(|_| "no handle")?;
+    /// let _inactive = receiver.deactivate().ok().ok_or("no handle")?;
     /// sender.set_await_active(false);
     /// assert!(rt; matches!(sender.broadcast_blocking(7), Err(SendError(7))));
     /// assert!(rt; !sender.is_closed());
@@ -96,6 +124,12 @@ impl<T: Clone, P: Port<T, Slot<A>>, A: Allocator + Copy> Sender<T, P, A> {
     ///
     /// No more messages are accepted. Those that are there can still be received.
     ///
+    /// ```rust
+    /// let (sender, receiver) = broadcast::<u64, _, _>(&rt, rt.alloc(), 1)?;
+    /// assert!(rt; sender.close());
+    /// assert!(rt; !sender.close());
+    /// ```
+    ///
     /// Source: `Sender::close` of async-broadcast 0.7.2.
     pub fn close(&self) -> bool
         ensures { P.gave self.now.port Call.Close (Reply.Close result) }
@@ -104,6 +138,13 @@ impl<T: Clone, P: Port<T, Slot<A>>, A: Allocator + Copy> Sender<T, P, A> {
     }
 
     /// Whether the channel is closed.
+    ///
+    /// ```rust
+    /// let (sender, receiver) = broadcast::<u64, _, _>(&rt, rt.alloc(), 1)?;
+    /// assert!(rt; !sender.is_closed());
+    /// receiver.close();
+    /// assert!(rt; sender.is_closed());
+    /// ```
     ///
     /// Source: `Sender::is_closed` of async-broadcast 0.7.2.
     pub fn is_closed(&self) -> bool
@@ -114,6 +155,13 @@ impl<T: Clone, P: Port<T, Slot<A>>, A: Allocator + Copy> Sender<T, P, A> {
 
     /// Whether the channel keeps no message.
     ///
+    /// ```rust
+    /// let (sender, receiver) = broadcast::<u64, _, _>(&rt, rt.alloc(), 1)?;
+    /// assert!(rt; sender.is_empty());
+    /// assert!(rt; sender.try_broadcast(7).is_ok());
+    /// assert!(rt; !sender.is_empty());
+    /// ```
+    ///
     /// Source: `Sender::is_empty` of async-broadcast 0.7.2.
     pub fn is_empty(&self) -> bool
         ensures { P.gave self.now.port Call.IsEmpty (Reply.IsEmpty result) }
@@ -122,6 +170,13 @@ impl<T: Clone, P: Port<T, Slot<A>>, A: Allocator + Copy> Sender<T, P, A> {
     }
 
     /// Whether the channel keeps as many messages as it may.
+    ///
+    /// ```rust
+    /// let (sender, receiver) = broadcast::<u64, _, _>(&rt, rt.alloc(), 1)?;
+    /// assert!(rt; !sender.is_full());
+    /// assert!(rt; sender.try_broadcast(7).is_ok());
+    /// assert!(rt; sender.is_full());
+    /// ```
     ///
     /// Source: `Sender::is_full` of async-broadcast 0.7.2.
     pub fn is_full(&self) -> bool
@@ -132,6 +187,12 @@ impl<T: Clone, P: Port<T, Slot<A>>, A: Allocator + Copy> Sender<T, P, A> {
 
     /// The number of messages that the channel keeps.
     ///
+    /// ```rust
+    /// let (sender, receiver) = broadcast::<u64, _, _>(&rt, rt.alloc(), 1)?;
+    /// assert!(rt; sender.try_broadcast(7).is_ok());
+    /// assert!(rt; sender.len() == 1);
+    /// ```
+    ///
     /// Source: `Sender::len` of async-broadcast 0.7.2.
     pub fn len(&self) -> usize
         ensures { P.gave self.now.port Call.Len (Reply.Len result) }
@@ -140,6 +201,12 @@ impl<T: Clone, P: Port<T, Slot<A>>, A: Allocator + Copy> Sender<T, P, A> {
     }
 
     /// The number of active receivers.
+    ///
+    /// ```rust
+    /// let (sender, receiver) = broadcast::<u64, _, _>(&rt, rt.alloc(), 1)?;
+    /// let other = receiver.clone()?;
+    /// assert!(rt; sender.receiver_count() == 2);
+    /// ```
     ///
     /// Source: `Sender::receiver_count` of async-broadcast 0.7.2.
     pub fn receiver_count(&self) -> usize
@@ -150,6 +217,12 @@ impl<T: Clone, P: Port<T, Slot<A>>, A: Allocator + Copy> Sender<T, P, A> {
 
     /// The number of inactive receivers.
     ///
+    /// ```rust
+    /// let (sender, receiver) = broadcast::<u64, _, _>(&rt, rt.alloc(), 1)?;
+    /// let _inactive = receiver.deactivate().ok().ok_or("no handle")?;
+    /// assert!(rt; sender.inactive_receiver_count() == 1);
+    /// ```
+    ///
     /// Source: `Sender::inactive_receiver_count` of async-broadcast 0.7.2.
     pub fn inactive_receiver_count(&self) -> usize
         ensures { P.gave self.now.port Call.InactiveReceiverCount
@@ -159,6 +232,12 @@ impl<T: Clone, P: Port<T, Slot<A>>, A: Allocator + Copy> Sender<T, P, A> {
     }
 
     /// The number of senders.
+    ///
+    /// ```rust
+    /// let (sender, receiver) = broadcast::<u64, _, _>(&rt, rt.alloc(), 1)?;
+    /// let _sender = sender.clone()?;
+    /// assert!(rt; sender.sender_count() == 2);
+    /// ```
     ///
     /// Source: `Sender::sender_count` of async-broadcast 0.7.2.
     pub fn sender_count(&self) -> usize

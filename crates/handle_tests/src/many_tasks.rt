@@ -1,0 +1,76 @@
+//! Many tasks in one thread: senders that wait, and receivers as streams.
+use async_broadcast::broadcast;
+use futures::executor::LocalPool;
+use std::alloc::AllocError;
+use std::process::Abort;
+use std::sync::Mutex;
+use std::test::Fail;
+use tasks::{Counts, Task};
+
+mod tasks;
+
+const SENDERS: u64 = 4;
+
+const RECEIVERS: u64 = 64;
+
+/// How many messages each sender sends, and all of them.
+const SHARE: u64 = 2_500;
+
+const MESSAGES: u64 = SENDERS * SHARE;
+
+/// How many messages the channel keeps at once.
+const CAPACITY: usize = 100;
+
+/// How often the channel is filled, where it is always emptied in between.
+const FILLS: u64 = MESSAGES / CAPACITY as u64;
+
+/// The most polls of receivers: one a message and receiver, and two a receiver and fill.
+const MOST_RECEIVE_POLLS: u64 = RECEIVERS * (MESSAGES + 2 * FILLS);
+
+/// The most polls of sends: one a message, and one a sender and fill.
+const MOST_SEND_POLLS: u64 = MESSAGES + SENDERS * FILLS;
+
+// All receivers see the same order, and few polls find nothing to do.
+#[test]
+fn many_receivers_get_one_order(rt: HostRuntime) -> Result<(), Fail> {
+    let (sender, receiver) = broadcast(rt, rt.alloc(), CAPACITY)?;
+    let counts = Counts::new(SENDERS);
+    let lists = Mutex::new(Vec::new(rt.alloc()));
+    let mut pool = LocalPool::new(&rt)?;
+    let spawner = pool.spawner()?;
+    for _ in 0..RECEIVERS {
+        let clone = receiver.clone()?;
+        let task = Task::receiving(rt, rt.alloc(), clone, &counts, &lists);
+        spawner.spawn(task).ok().ok_or("no task")?;
+    }
+    drop(receiver);
+    for number in 0..SENDERS {
+        let task = Task::sending(&sender, number * SHARE, SHARE, &counts);
+        spawner.spawn(task).ok().ok_or("no task")?;
+    }
+    pool.run(&rt);
+    drop((pool, spawner));
+    expect_one_order(&rt, lists.into_inner().as_slice())?;
+    let (received, sent) = (counts.receive_polls(), counts.send_polls());
+    println!(rt; "{received} polls of receivers, {sent} of sends")?;
+    assert!(rt; received <= MOST_RECEIVE_POLLS && sent <= MOST_SEND_POLLS);
+    Ok(())
+}
+
+// The lists are equal, and have each number once.
+fn expect_one_order(rt: &impl Abort, lists: &[Vec<u64>]) -> Result<(), AllocError> {
+    assert!(rt;
+        lists.len() as u64 == RECEIVERS,
+        "each receiver saw the end"
+    );
+    let Some(first) = lists.first() else {
+        return Ok(());
+    };
+    for list in lists {
+        assert!(rt; list.as_slice() == first.as_slice(), "one order");
+    }
+    let mut sorted = first.clone()?;
+    sorted.sort()?;
+    assert!(rt; sorted.iter().copied().eq(0..MESSAGES), "each number once");
+    Ok(())
+}

@@ -1,0 +1,34 @@
+//! Threads that wait for one another over channels.
+use async_broadcast::{Lock, Receiver, Sender};
+use std::sync::atomic::{AtomicU64, Ordering};
+use std::thread;
+
+mod handshake;
+mod waiting;
+
+/// The sender of a thread.
+pub type Sending<R> = Sender<u64, Lock<u64, R>>;
+
+/// The receiver of a thread.
+pub type Receiving<R> = Receiver<u64, Lock<u64, R>>;
+
+/// How often a test looks for what threads have done, before it fails.
+const MOST_LOOKS: u64 = 20_000_000;
+
+/// Whether the count gets to `target`, while this thread looks and yields.
+pub fn reaches(count: &AtomicU64, target: u64) -> bool {
+    for _ in 0..MOST_LOOKS {
+        if count.load(Ordering::SeqCst) == target {
+            return true;
+        }
+        thread::yield_now();
+    }
+    false
+}
+
+/// Lets other threads run, so that those that wait are asleep.
+pub fn pause() {
+    for _ in 0..2000u64 {
+        thread::yield_now();
+    }
+}
