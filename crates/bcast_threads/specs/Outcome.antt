@@ -1,5 +1,5 @@
 -- What a run of `bcast threads` prints, and how it may end.
-use Rattle.std.specs.Prelude.{ℕ, List, Bool, true, false, ◌++◌, ⊤, codes}
+use Rattle.std.specs.Prelude.{ℕ, List, Bool, true, false, [], ◌++◌, ⊤, codes}
 use Rattle.std.specs.Fmt.{decimal}
 use Rattle.bcast_text.specs.declared.ending.Ending.{Ending}
 use Rattle.bcast_text.specs.declared.ending.Ending.TheVariants.{Done, Differ, NoThread, NoMemory, OutputFailed}
@@ -13,6 +13,12 @@ one_order_text receivers messages =
 abbrev pub outcome_text : Bool → ℕ → ℕ → List ℕ
 outcome_text true receivers messages = one_order_text receivers messages
 outcome_text false receivers messages = codes "orders differ\n"
+
+-- what a run with this ending prints
+abbrev pub printed_text : Ending → ℕ → ℕ → List ℕ
+printed_text Done receivers messages = outcome_text true receivers messages
+printed_text Differ receivers messages = outcome_text false receivers messages
+printed_text other receivers messages = []
 
 -- no line is read, so no ending speaks of one
 abbrev pub IsEnding : Ending → Type 0

@@ -1,7 +1,8 @@
 //! The run of `bcast threads`.
-ghost use Rattle.std.specs.Prelude.{◌≡◌, ◌≢◌, ◌<◌, ◌≤◌, ◌*◌, true, false, OnOk};
+ghost use Rattle.std.specs.Prelude.{◌≡◌, ◌≢◌, ◌<◌, ◌≤◌, ◌*◌, OnOk, length, map};
 ghost use Rattle.std.specs.Io.KnownBytes.{Appends};
-ghost use Rattle.bcast_threads.specs.Outcome.{one_order_text, outcome_text, IsEnding};
+ghost use Rattle.bcast_threads.specs.Order.{IsOneOrder};
+ghost use Rattle.bcast_threads.specs.Outcome.{one_order_text, outcome_text, printed_text, IsEnding};
 
 use crate::fault::Fault;
 use crate::order::is_one_order;
@@ -59,38 +60,26 @@ fn run<R: Threads + Wait + Clone + Send + 'static, W: Write + Drop>(
     ensures { IsEnding result }
 {
     let total = plan.senders * plan.messages;
-    match seen_in_one_order(rt, alloc, plan, total) {
+    match lists_of(rt, alloc, plan) {
         Err(Fault::NoMemory) => Ending::NoMemory,
         Err(Fault::NoThread) => Ending::NoThread,
-        Ok(is_one_order) => print_outcome(is_one_order, plan.receivers, total, &mut output),
+        Ok(lists) => print_seen(alloc, lists.as_slice(), total, &mut output),
     }
 }
 
-/// Runs the plan's threads, and answers whether all receivers saw one order of the `total` numbers.
-fn seen_in_one_order<R: Threads + Wait + Clone + Send + 'static>(
-    rt: &R,
-    alloc: Global,
-    plan: Plan,
-    total: u64,
-) -> Result<bool, Fault> {
-    let lists = lists_of(rt, alloc, plan)?;
-    Ok(is_one_order(alloc, lists.as_slice(), total as usize)?)
-}
-
-/// Prints whether all receivers saw one order, and answers how the run ends.
-fn print_outcome<W: Write>(
-    is_one_order: bool,
-    receivers: u64,
-    messages: u64,
-    output: &mut W,
-) -> Ending
+/// Prints whether all lists are one order of the `total` numbers, and answers how the run ends.
+fn print_seen<W: Write>(alloc: Global, lists: &[Vec<u64>], total: u64, output: &mut W) -> Ending
     ensures ending { IsEnding result }
-    ensures done { result ≡ Ending.Done → is_one_order ≡ true }
-    ensures differ { result ≡ Ending.Differ → is_one_order ≡ false }
+    ensures done { result ≡ Ending.Done → IsOneOrder (map (λ list. list.items) lists.now) total }
+    ensures differ { result ≡ Ending.Differ
+        → IsOneOrder (map (λ list. list.items) lists.now) total → ⊥ }
     ensures text { result ≢ Ending.OutputFailed → Appends (W.contents output.old)
-        (W.contents output.new) (outcome_text is_one_order receivers messages) }
+        (W.contents output.new) (printed_text result (length lists.now) total) }
 {
-    if write_outcome(is_one_order, receivers, messages, output).is_err() {
+    let Ok(is_one_order) = is_one_order(alloc, lists, total as usize) else {
+        return Ending::NoMemory;
+    };
+    if write_outcome(is_one_order, lists.len() as u64, total, output).is_err() {
         return Ending::OutputFailed;
     }
     if is_one_order {

@@ -72,6 +72,7 @@ module _ {S : Type 0} where
     pub polled_others : KeepsOthers v w key
     polled_others = record {
       end = end_after a ∙ end_stays ∙ sym (end_before a);
+      closed = left (λ c. c.closed) (λ _ _. refl) (λ _. refl) ∙ moved_is (λ c. c.closed ≡ h.control.closed) refl (λ _. refl) ∙ sym (control_before a (λ c. c.closed));
       others = λ other differs. left (λ c. get c.cursors other) (λ _ _. refl) (λ _. refl)
           ∙ moved_is (λ c. get c.cursors other ≡ get h.control.cursors other) refl (λ n. get-insert_other h.control.cursors key n other differs)
           ∙ sym (control_before a (λ c. get c.cursors other));
@@ -121,6 +122,7 @@ module _ {S : Type 0} where
   pub watch_others : {is_clone : S → S → Type 0} {v w : View S} (result : Result ℕ HandleError) → Answers is_clone v call.NewReceiver (reply.NewReceiver result) w → IfOk result (λ made. KeepsOthers v w made)
   watch_others (Ok key) a = record {
     end = end_after a ∙ sym (end_before a);
+    closed = control_after a (λ c. c.closed) (λ _. refl) ∙ sym (control_before a (λ c. c.closed));
     others = λ other differs. control_after a (λ c. get c.cursors other) (λ _. refl) ∙ get-insert_other a.shown.0.control.cursors key (end_number a.shown.0) other differs ∙ sym (control_before a (λ c. get c.cursors other));
   }
   watch_others (Err error) a = tt

@@ -11,7 +11,8 @@ use Rattle.bcast_model.specs.View.{View, Answers}
 use Rattle.bcast_model.proofs.Cases.{close_is}
 use Rattle.bcast_model.proofs.Least.{least-le-cursor}
 use Rattle.bcast_model.proofs.Views.{valid_front, valid_view}
-use Rattle.uses.specs.Config.{IsConfig, message_of}
+use Rattle.bcast_model.specs.Errors.{unsent_message}
+use Rattle.uses.specs.Config.{IsConfig}
 use Rattle.uses.proofs.Told.{control_before, some_key, on_ok}
 use Rattle.uses.proofs.Accepted.{kept_accepting, after_send, as_accepted, valid_after, cursors_after}
 
@@ -49,6 +50,6 @@ module _ {S : Type 0} where
         ∙ last_only (front_number (accept a.shown.0 msg) - a.shown.0.first) a.shown.0.accepted msg (ap length (sym same) ∙ size_after)
 
   pub set_latest : {is_clone : S → S → Type 0} {v w : View S} {msg : S} (result : Result (Option S) (TrySendError S)) (kept : Result (Unit {0}) S) → Answers is_clone v (call.TryBroadcast msg) (reply.TryBroadcast result) w → IsConfig v
-      → IfErr result (λ error. kept ≡ Err (message_of error)) → OnOk kept (w.queue ≡ msg ∷ [])
+      → IfErr result (λ error. kept ≡ Err (unsent_message error)) → OnOk kept (w.queue ≡ msg ∷ [])
   set_latest (Ok back) kept a config err = on_ok kept (latest_only a config)
   set_latest {w = w} {msg = msg} (Err error) kept a config err = subst (λ k. OnOk k (w.queue ≡ msg ∷ [])) (sym err) tt

@@ -2,6 +2,7 @@ pub mod OneMessage
 -- what every call leaves
 pub mod Told
 pub mod Accepted
+pub mod Sends
 pub mod Exact
 -- a signal to stop
 pub mod Signals

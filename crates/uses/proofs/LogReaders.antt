@@ -1,7 +1,8 @@
 -- A reader that is added to a log.
-use Rattle.std.proofs.Common.{◌≡◌, inl, inr, ℕ, ◌-◌, ◌≤◌, false, [], drop, Option, Some, None, Result, Ok, Err, IfOk, OnErr, not, refl, sym, ap, ◌∙◌, subst, arith}
+use Rattle.std.proofs.Common.{◌≡◌, inl, inr, ℕ, ◌-◌, ◌≤◌, false, [], drop, Option, Some, None, Result, Ok, Err, IfOk, IfErr, OnErr, ◌↔◌, not, refl, sym, ap, ◌∙◌, subst, arith}
 use Rattle.std.proofs.lemmas.List.{nil_from_length, drop_all}
-use Rattle.std.specs.Prelude.{IsSome}
+use Rattle.std.proofs.lemmas.Bool.{true≢false}
+use Rattle.std.specs.Prelude.{IsSome, IsErrOf}
 use Rattle.std.specs.FinMap.{get, insert, empty}
 use Rattle.bcast_model.specs.declared.error.HandleError.{HandleError}
 use Rattle.bcast_model.specs.declared.error.HandleError.TheVariants as handle
@@ -122,6 +123,38 @@ module _ {T : Type 0} where
         | inr is ↦ subst IsSome (sym (control_before a (λ c. get c.cursors key))) is.0
       ]
 
+  -- no such reader, or no memory
+  record Refused (v : View T) (key : ℕ) (error : HandleError) : Type 0 where
+    pub gone : IsErrOf {T = ℕ} (Err error) handle.Gone ↔ (IsReader v key → ⊥)
+    pub memory : IsReader v key → error ≡ handle.Memory
+
+  why_refused : {is_clone : T → T → Type 0} {v w : View T} {key : ℕ} {error : HandleError} → Answers is_clone v (call.CloneReceiver key) (reply.CloneReceiver (Err error)) w → Refused v key error
+  why_refused {v = v} {key = key} {error = error} a = elim (a.legal a.shown.0 a.shown.1 a.shown.2) [
+    | inl none ↦ record {
+      gone = (λ _ is. absurd (true≢false (sym (shown is) ∙ none.0)), λ _. ap Err (same_error handle.Gone none.1));
+      memory = λ is. absurd (true≢false (sym (shown is) ∙ none.0));
+    }
+    | inr there ↦ elim there.1 [
+      | inl made ↦ absurd (not_made made.0 made.1)
+      | inr memory ↦ record {
+        gone = (λ e. absurd (not_gone (sym (same_error handle.Memory memory)) e), λ none. absurd (none (subst IsSome (sym (control_before a (λ c. get c.cursors key))) there.0)));
+        memory = λ _. same_error handle.Memory memory;
+      }
+    ]
+  ]
+    where
+      shown : IsReader v key → IsSome (cursor_of a.shown.0 key)
+      shown is = subst IsSome (control_before a (λ c. get c.cursors key)) is
+
+      same_error : (other : HandleError) → ◌≡◌ {A = Reply T} (reply.CloneReceiver (Err error)) (reply.CloneReceiver (Err other)) → error ≡ other
+      same_error other e = cc
+
+      not_made : (made : ℕ) → ◌≡◌ {A = Reply T} (reply.CloneReceiver (Err error)) (reply.CloneReceiver (Ok made)) → ⊥
+      not_made made e = cc
+
+      not_gone : handle.Memory ≡ error → IsErrOf {T = ℕ} (Err error) handle.Gone → ⊥
+      not_gone is e = cc
+
   pub record Adds (v w : View T) (key : ℕ) (result : Result ℕ HandleError) : Type 0 where
     pub log : IsLog w
     pub added : IfOk result (λ made. unread w made ≡ unread v key)
@@ -129,6 +162,8 @@ module _ {T : Type 0} where
     pub reader : IfOk result (IsReader w)
     pub readers : KeepsReaders v w
     pub err : OnErr result (w ≡ v)
+    pub gone : IsErrOf result handle.Gone ↔ (IsReader v key → ⊥)
+    pub memory : IsReader v key → IfErr result (λ error. error ≡ handle.Memory)
 
   pub adds : {is_clone : T → T → Type 0} {v w : View T} {key : ℕ} (result : Result ℕ HandleError) → Answers is_clone v (call.CloneReceiver key) (reply.CloneReceiver result) w → IsLog v → Adds v w key result
   adds (Ok made) a log = let reader = copied a in record {
@@ -138,12 +173,16 @@ module _ {T : Type 0} where
     reader = cloned_reader a log reader;
     readers = cloned_readers a log reader;
     err = tt;
+    gone = (λ e. cc, λ none. absurd (none reader));
+    memory = λ _. tt;
   }
-  adds (Err error) a log = let same = refused_clone a in record {
+  adds (Err error) a log = let same = refused_clone a in let refused = why_refused a in record {
     log = subst IsLog (sym same) log;
     added = tt;
     others = tt;
     reader = tt;
     readers = λ other is. subst (λ (u : View T). IsReader u other) (sym same) is;
     err = same;
+    gone = refused.gone;
+    memory = refused.memory;
   }

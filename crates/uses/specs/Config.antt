@@ -3,8 +3,6 @@ use Rattle.std.specs.Prelude.{◌≡◌, ◌≢◌, ℕ, ◌+◌, ◌≤◌, tru
 use Rattle.std.specs.FinMap.{get, len}
 use Rattle.futures.specs.declared.task.Poll.{Poll}
 use Rattle.futures.specs.declared.task.Poll.TheVariants as poll
-use Rattle.bcast_model.specs.declared.error.TrySendError.{TrySendError}
-use Rattle.bcast_model.specs.declared.error.TrySendError.TheVariants as unsent
 use Rattle.bcast_model.specs.Legal.{IsGiven}
 use Rattle.bcast_model.specs.View.{View}
 use Rattle.uses.specs.declared.config_watcher.Change.{Change}
@@ -29,16 +27,11 @@ module _ {S : Type 0} where
   abbrev pub IsUpToDate : View S → ℕ → Type 0
   IsUpToDate v watcher = (seen : ℕ) → get v.control.cursors watcher ≡ Some seen → seen ≡ v.end
 
-  -- nothing is set, and what the other watchers have seen stays
+  -- nothing is set, what the other watchers have seen stays, and the channel is open if it was
   pub record KeepsOthers (old new : View S) (watcher : ℕ) : Type 0 where
     pub end : new.end ≡ old.end
+    pub closed : new.control.closed ≡ old.control.closed
     pub others : (key : ℕ) → key ≢ watcher → get new.control.cursors key ≡ get old.control.cursors key
-
-  -- `try_broadcast`: the message that a refusal hands back
-  abbrev pub message_of : TrySendError S → S
-  message_of (unsent.Full msg) = msg
-  message_of (unsent.Closed msg) = msg
-  message_of (unsent.Inactive msg) = msg
 
   -- `poll_next`: what the stream gives, if anything
   abbrev pub change_of : Poll (Option (S × ℕ)) → Option (Change S)

@@ -1,7 +1,10 @@
 -- Events for subscribers that come and go.
-use Rattle.std.specs.Prelude.{◌≡◌, ◌≤◌, false, Option, Some, None, Result, Ok, Err}
+use Rattle.std.specs.Prelude.{◌≡◌, ◌≤◌, ℕ, false, [], Option, Some, None, Result, Ok, Err}
+use Rattle.std.specs.FinMap.{len}
 use Rattle.bcast_model.specs.declared.error.TryRecvError.{TryRecvError}
-use Rattle.bcast_model.specs.View.{View}
+use Rattle.bcast_model.specs.declared.run.Call.TheVariants as call
+use Rattle.bcast_model.specs.declared.run.Reply.TheVariants as reply
+use Rattle.bcast_model.specs.View.{View, Answers}
 
 module _ {E : Type 0} where
   -- a full hub refuses, and the hub itself keeps the channel open by a sender and an inactive receiver
@@ -10,7 +13,22 @@ module _ {E : Type 0} where
     pub sender : 1 ≤ v.control.senders
     pub inactive : 1 ≤ v.control.inactive
 
+  -- `broadcast`, then `deactivate`: an open hub of this capacity, without events or subscribers
+  pub record IsOpened (v : View E) (asked : ℕ) : Type 0 where
+    pub capacity : v.control.capacity ≡ asked
+    pub closed : v.control.closed ≡ false
+    pub queue : v.queue ≡ []
+    pub subscribers : len v.control.cursors ≡ 0
+
   -- `try_recv`: the message that it gives, if any
   abbrev pub event_of : Result E TryRecvError → Option E
   event_of (Ok event) = Some event
   event_of (Err error) = None
+
+  -- `try_recv`: an answer to this subscriber, read as an event or none
+  pub record IsNextEvent
+      (is_clone : E → E → Type 0) (old : View E) (subscriber : ℕ) (found : Option E)
+      (new : View E) : Type 0 where
+    pub received : Result E TryRecvError
+    pub event : found ≡ event_of received
+    pub answers : Answers is_clone old (call.TryRecv subscriber) (reply.TryRecv (Ok received)) new

@@ -1,3 +1,5 @@
+-- how a send without overflow is answered
+pub mod Sends
 -- a signal to stop
 pub mod Signal
 -- settings that change

@@ -1,7 +1,8 @@
 //! Settings that change, for watchers that may look late.
-ghost use Rattle.std.specs.Prelude.{◌≡◌, ◌+◌, [], ◌∷◌, false, Some, IfOk, IfErr, IfSome, IfNone, OnOk, OnErr, IsOk};
+ghost use Rattle.std.specs.Prelude.{◌≡◌, ◌+◌, ◌<◌, ◌^◌, [], ◌∷◌, false, Some, IfOk, IfErr, IfSome, IfNone, OnOk, OnErr, IsOk};
 ghost use Rattle.std.specs.FinMap.{get};
-ghost use Rattle.uses.specs.Config.{IsLatest, IsUpToDate, KeepsOthers, message_of, change_of};
+ghost use Rattle.bcast_model.specs.Errors.{unsent_message};
+ghost use Rattle.uses.specs.Config.{IsLatest, IsUpToDate, KeepsOthers, change_of};
 
 use bcast_core::{HandleError, Inner, Silent, TrySendError};
 use futures::task::Poll;
@@ -74,6 +75,8 @@ impl<S: Clone> Config<S> {
         ensures back { IfErr result (λ back. back ≡ settings) }
         ensures err { OnErr result (self.new ≡ self.old) }
         ensures is_open { self.old.control.closed ≡ false → IsOk result }
+        ensures stays { self.old.control.closed ≡ false → self.old.end + 2 < 2 ^ 64
+            → self.new.control.closed ≡ false }
     {
         into_settings(self.inner.try_broadcast(settings))
     }
@@ -118,7 +121,7 @@ impl<S: Clone> Config<S> {
 // The settings that were refused.
 fn into_settings<S: Drop>(sent: Result<Option<S>, TrySendError<S>>) -> Result<(), S>
     ensures ok { OnOk sent (IsOk result) }
-    ensures err { IfErr sent (λ error. result ≡ Err (message_of error)) }
+    ensures err { IfErr sent (λ error. result ≡ Err (unsent_message error)) }
 {
     match sent {
         Ok(_replaced) => Ok(()),

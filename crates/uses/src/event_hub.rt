@@ -1,12 +1,14 @@
 //! Events for subscribers that come and go.
-ghost use Rattle.std.specs.Prelude.{◌≡◌, ◌+◌, ◌<◌, ◌≤◌, ◌∷◌, [], ◌++◌, length, false, IfOk, IfErr, IfSome, OnOk, OnErr, IsErr};
+ghost use Rattle.std.specs.Prelude.{◌≡◌, ◌+◌, ◌<◌, ◌≤◌, ◌∷◌, [], ◌++◌, IfOk, IfErr, IfSome, OnOk, OnErr};
+ghost use Rattle.bcast_model.specs.Errors.{unsent_message};
+ghost use Rattle.bcast_model.specs.History.{opening};
 ghost use Rattle.bcast_model.specs.Legal.{NoClone};
 ghost use Rattle.bcast_model.specs.Laws.{IsGivenFrom};
-ghost use Rattle.bcast_model.specs.View.{Answers};
+ghost use Rattle.bcast_model.specs.View.{Answers, Represents};
 ghost use Rattle.bcast_model.specs.declared.run.Call.TheVariants as call;
 ghost use Rattle.bcast_model.specs.declared.run.Reply.TheVariants as reply;
-ghost use Rattle.uses.specs.Config.{message_of};
-ghost use Rattle.uses.specs.Hub.{event_of};
+ghost use Rattle.uses.specs.Hub.{IsOpened, IsNextEvent, event_of};
+ghost use Rattle.uses.specs.Sends.{send_answer};
 
 use bcast_core::{HandleError, Inner, Silent, TryRecvError, TrySendError};
 use bcast_model::laws::received_is_given;
@@ -44,6 +46,7 @@ impl<E: Clone> EventHub<E> {
     /// Source: this crate's own.
     pub fn new(alloc: Global, capacity: usize) -> Result<Self, HandleError>
         requires { 0 < capacity }
+        ensures { IfOk result (λ hub. IsOpened hub capacity) }
     {
         match Inner::new(alloc, capacity) {
             Ok((inner, first)) => Self::over(inner, first),
@@ -53,8 +56,8 @@ impl<E: Clone> EventHub<E> {
 
     // The hub keeps its first receiver as an inactive one.
     fn over(mut inner: Inner<E, Silent>, first: usize) -> Result<Self, HandleError>
-        requires overflow { inner.control.overflow ≡ false }
-        requires sender { 1 ≤ inner.control.senders }
+        requires { Represents inner (opening inner.control.capacity 0 first) }
+        ensures { IfOk result (λ hub. IsOpened hub inner.control.capacity) }
     {
         inner.deactivate(first)?;
         Ok(EventHub { inner })
@@ -73,9 +76,9 @@ impl<E: Clone> EventHub<E> {
     pub fn publish(&mut self, event: E) -> Result<(), TrySendError<E>>
         ensures accepted { OnOk result (self.new.queue ≡ self.old.queue ++ event ∷ []) }
         ensures counted { OnOk result (self.new.end ≡ self.old.end + 1) }
-        ensures back { IfErr result (λ error. message_of error ≡ event) }
+        ensures back { IfErr result (λ error. unsent_message error ≡ event) }
         ensures err { OnErr result (self.new ≡ self.old) }
-        ensures full { length self.old.queue ≡ self.old.control.capacity → IsErr result }
+        ensures answer { result ≡ send_answer self.old event }
     {
         self.inner.try_broadcast(event)?;
         Ok(())
@@ -130,7 +133,10 @@ impl<E: Clone> EventHub<E> {
     ///
     /// Source: this crate's own.
     pub fn next_event(&mut self, subscriber: usize) -> Result<Option<E>, AllocError>
-        ensures { IfOk result (λ found. IfSome found (IsGivenFrom E.is_clone self.old.queue)) }
+        ensures given { IfOk result (λ found. IfSome found (IsGivenFrom E.is_clone self.old.queue)) }
+        ensures answers { IfOk result (λ found.
+            IsNextEvent E.is_clone self.old subscriber found self.new) }
+        ensures err { OnErr result (self.new ≡ self.old) }
     {
         received_is_given::<E>();
         Ok(into_event(self.inner.try_recv(subscriber)?))

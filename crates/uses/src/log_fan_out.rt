@@ -1,6 +1,7 @@
 //! A log whose readers agree on the order.
-ghost use Rattle.std.specs.Prelude.{◌≡◌, ◌<◌, ◌∷◌, [], IfOk, IfErr, IfSome, IfNone, OnOk, OnErr};
-ghost use Rattle.uses.specs.Config.{message_of};
+ghost use Rattle.std.specs.Prelude.{◌≡◌, ◌↔◌, ◌<◌, ◌∷◌, [], false, IfOk, IfErr, IfSome, IfNone, OnOk, OnErr, IsErrOf};
+ghost use Rattle.bcast_model.specs.Errors.{unsent_message};
+ghost use Rattle.uses.specs.Sends.{send_answer};
 ghost use Rattle.uses.specs.Log.{unread, record_of, IsReader, KeepsReaders, AddsUnread, KeepsUnread};
 
 use bcast_core::{HandleError, Inner, Silent, TryRecvError, TrySendError};
@@ -44,6 +45,8 @@ impl Log {
         requires { 0 < capacity }
         ensures reader { IfOk result (λ made. IsReader made.0 made.1) }
         ensures empty { IfOk result (λ made. unread made.0 made.1 ≡ []) }
+        ensures capacity { IfOk result (λ made. made.0.control.capacity ≡ capacity) }
+        ensures is_open { IfOk result (λ made. made.0.control.closed ≡ false) }
     {
         let (inner, reader) = Inner::new(alloc, capacity)?;
         Ok((Log { inner }, reader))
@@ -53,16 +56,18 @@ impl Log {
     ///
     /// # Errors
     ///
-    /// The record comes back and nothing changes.
-    /// - `Full`: some reader has `capacity` records still to read.
+    /// The record comes back and nothing changes, for the first reason that fits.
     /// - `Closed`: the log has numbered as many records as it can.
+    /// - `Inactive`: there is no reader, which no call here brings about.
+    /// - `Full`: some reader has `capacity` records still to read.
     ///
     /// Source: this crate's own.
     pub fn write(&mut self, entry: u64) -> Result<(), TrySendError<u64>>
         ensures written { OnOk result (AddsUnread self.old self.new entry) }
         ensures readers { KeepsReaders self.old self.new }
-        ensures back { IfErr result (λ error. message_of error ≡ entry) }
+        ensures back { IfErr result (λ error. unsent_message error ≡ entry) }
         ensures err { OnErr result (self.new ≡ self.old) }
+        ensures answer { result ≡ send_answer self.old entry }
     {
         self.inner.try_broadcast(entry)?;
         Ok(())
@@ -83,6 +88,9 @@ impl Log {
         ensures reader { IfOk result (IsReader self.new) }
         ensures readers { KeepsReaders self.old self.new }
         ensures err { OnErr result (self.new ≡ self.old) }
+        ensures gone { IsErrOf result HandleError.Gone ↔ (IsReader self.old reader → ⊥) }
+        ensures memory { IsReader self.old reader
+            → IfErr result (λ error. error ≡ HandleError.Memory) }
     {
         self.inner.clone_receiver(reader)
     }

@@ -1,5 +1,5 @@
 //! A signal to stop, given by the drop of the last sender.
-ghost use Rattle.std.specs.Prelude.{◌≡◌, ◌+◌, ◌-◌, ◌==◌, ◌↔◌, IfOk, OnOk, OnErr, IsErrOf};
+ghost use Rattle.std.specs.Prelude.{◌≡◌, ◌+◌, ◌-◌, ◌==◌, ◌<◌, ◌^◌, IfOk, OnOk, OnErr, IsOk, IsErrOf};
 ghost use Rattle.uses.specs.Signal.{IsWorker, AddsWorker, is_closed_reply};
 
 use bcast_core::{HandleError, Inner, Silent, TryRecvError};
@@ -56,6 +56,8 @@ impl Shutdown {
         ensures ok { OnOk result (self.new ≡ record self.old { holders = self.old.holders + 1 }) }
         ensures err { OnErr result (self.new ≡ self.old) }
         ensures gone { self.old.holders ≡ 0 → IsErrOf result HandleError.Gone }
+        ensures too_many { self.old.holders + 1 ≡ 2 ^ 64 → IsErrOf result HandleError.TooMany }
+        ensures sure { 0 < self.old.holders → self.old.holders + 1 < 2 ^ 64 → IsOk result }
     {
         if self.inner.is_closed() {
             return Err(HandleError::Gone);

@@ -18,3 +18,9 @@ returns-clause-err c = rw (← c.self.view_is) (adds c.clone_receiver.result c.c
 
 pub invariant_of-self : goal.invariant_of-self
 invariant_of-self c = (adds c.clone_receiver.result c.clone_receiver.ensures c.self.invariant).log
+
+pub returns-clause-gone : goal.returns-clause-gone
+returns-clause-gone c = rw (← c.self.view_is) (adds c.clone_receiver.result c.clone_receiver.ensures c.self.invariant).gone
+
+pub returns-clause-memory : goal.returns-clause-memory
+returns-clause-memory c = rw (← c.self.view_is) (adds c.clone_receiver.result c.clone_receiver.ensures c.self.invariant).memory
