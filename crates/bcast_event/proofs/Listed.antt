@@ -5,7 +5,7 @@ use Rattle.std.specs.List.{AllByRecursion}
 use Rattle.std.specs.Cmp.{IsEquivalence}
 use Rattle.std.proofs.lemmas.Bool.{true≢false}
 use Rattle.bcast_model.specs.Listeners.{is_in, without, IsDistinct}
-use Rattle.bcast_event.specs.Position.{IsFirstAt}
+use Rattle.bcast_event.proofs.Position.{IsFirstAt}
 
 module _ {I : Type 0} where
   all_more : (P Q : I → Type 0) (ids : List I) → ((x : I) → P x → Q x) → AllByRecursion P ids → AllByRecursion Q ids

@@ -1,6 +1,8 @@
 -- what a contract sees of an event
 pub mod Event
--- where an id stands
-pub mod Position
--- how the listeners are kept
+-- what a contract sees of its slots
+pub mod Slots
+-- how the slots are kept
 pub mod Listener
+-- how an event keeps count of its listeners
+pub mod Kept

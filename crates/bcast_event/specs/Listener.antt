@@ -1,20 +1,15 @@
 -- How an `Event` keeps its listeners.
-use Rattle.std.specs.Prelude.{ℕ, List, map}
-use Rattle.std.specs.VecDeque.{deque_capacity}
-use Rattle.std.specs.declared.collections.VecDeque.{VecDeque}
-use Rattle.bcast_model.specs.Listeners.{Listeners}
-use Rattle.bcast_event.specs.declared.event.Listener.{Listener}
-use Rattle.bcast_event.specs.Event.{Event}
+use Rattle.std.specs.Prelude.{Option, map, option_map}
+use Rattle.std.specs.Vec.{vec_capacity}
+use Rattle.std.specs.declared.vec.Vec.{Vec}
+use Rattle.bcast_event.specs.declared.slots.Listener.{Listener}
+use Rattle.bcast_event.specs.Slots.{Slots}
 
 module _ {I N : Type 0} where
-  -- the id of a listener
-  abbrev pub id_of : Listener I N → I
-  id_of x = x.id
+  -- the id in a slot
+  abbrev pub slot_id : Option (Listener I N) → Option I
+  slot_id slot = option_map (λ x. x.id) slot
 
-  -- the ids of the listeners, and how many are told
-  abbrev pub listeners_of : List (Listener I N) → ℕ → Listeners I
-  listeners_of xs told = record { ids = map id_of xs; told = told }
-
-  -- what a contract sees of the listeners and how many are told
-  abbrev pub event_of : {A : Type 0} → VecDeque (Listener I N) A → ℕ → Event I
-  event_of xs told = record { listeners = listeners_of xs.items told; room = deque_capacity xs }
+  -- what a contract sees of the slots
+  abbrev pub slots_of : {A : Type 0} → Vec (Option (Listener I N)) A → Slots I
+  slots_of slots = record { ids = map slot_id slots.items; capacity = vec_capacity slots }

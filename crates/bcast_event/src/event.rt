@@ -1,13 +1,12 @@
 //! The listeners in the order of registering, of which a front part is told.
-ghost use Rattle.std.specs.Prelude.{◌≡◌, ◌<◌, ◌≤◌, true, false, MatchOption, OnOk, IfOk, IsOk, length, map};
+ghost use Rattle.std.specs.Prelude.{◌≡◌, ◌<◌, ◌≤◌, false, OnOk, IfOk, IsOk, length};
 ghost use Rattle.bcast_model.specs.Listeners.{no_listeners, tell, tell_all, join, consume, abandon, wait_again, is_in, AreInOrder};
 ghost use Rattle.bcast_event.specs.Event.{is_told};
-ghost use Rattle.bcast_event.specs.Listener.{id_of};
-ghost use Rattle.bcast_event.specs.Position.{IsFirstAt};
 
+use crate::indexed::Indexed;
 use crate::notice::Notice;
+use crate::slots::Slots;
 use std::alloc::{AllocError, Allocator, Global};
-use std::collections::VecDeque;
 use std::marker::Model;
 
 #[cfg(test)]
@@ -16,36 +15,38 @@ mod tests;
 /// The listeners in the order of registering, each with its id and its notice. The told ones are a
 /// front part. Nobody is listed twice.
 ///
+/// A call for one listener takes constant time, amortised over the calls, in whatever order they
+/// leave. That rests on the numbers of their ids ([`Indexed`]), and on the id being listed.
+///
 /// Source: `event_listener::Event`, as async-broadcast 0.7.2 uses it.
 #[derive(Drop)]
-pub struct Event<I: Copy + Eq, N: Notice, A: Allocator = Global> {
-    listeners: VecDeque<Listener<I, N>, A>,
+pub struct Event<I: Copy + Eq + Indexed, N: Notice, A: Allocator = Global> {
+    slots: Slots<I, N, A>,
+    // How many listeners are listed.
+    len: usize,
     // How many listeners, from the front on, are told.
     told: usize,
+    // The told ones are those in the slots below this position.
+    told_end: usize,
+    // For how many listeners there is room.
+    room: usize,
 }
 
-#[derive(Drop)]
-struct Listener<I, N> {
-    id: I,
-    notice: N,
-}
-
-impl<I: Copy + Eq, N: Notice, A: Allocator> Model for Event<I, N, A> {
+impl<I: Copy + Eq + Indexed, N: Notice, A: Allocator> Model for Event<I, N, A> {
     ghost use Rattle.bcast_event.specs.Event.{Event as Listed, event_code};
 
     ghost Value = { Listed I };
 
     ghost coded = { event_code I.code };
 
-    ghost use Rattle.bcast_model.specs.Listeners.{AreInOrder};
-    ghost use Rattle.bcast_event.specs.Listener.{event_of, listeners_of};
+    ghost use Rattle.bcast_event.specs.Kept.{listeners_of, IsKept};
 
-    ghost view = { λ e. event_of e.listeners e.told };
+    ghost view = { λ e. record { listeners = listeners_of e.slots.ids e.told; room = e.room } };
 
-    ghost invariant = { λ e. AreInOrder I.eq (listeners_of e.listeners.items e.told) };
+    ghost invariant = { λ e. IsKept I.eq e.slots e.len e.told e.told_end e.room };
 }
 
-impl<I: Copy + Eq, N: Notice, A: Allocator> Event<I, N, A> {
+impl<I: Copy + Eq + Indexed, N: Notice, A: Allocator + Copy> Event<I, N, A> {
     /// An event that nobody waits for. Takes no memory.
     ///
     /// Source: `Event::new`.
@@ -53,11 +54,16 @@ impl<I: Copy + Eq, N: Notice, A: Allocator> Event<I, N, A> {
         ensures { result.listeners ≡ no_listeners }
     {
         Event {
-            listeners: VecDeque::new(alloc),
+            slots: Slots::new(alloc),
+            len: 0,
             told: 0,
+            told_end: 0,
+            room: 0,
         }
     }
+}
 
+impl<I: Copy + Eq + Indexed, N: Notice, A: Allocator> Event<I, N, A> {
     /// What always holds: nobody is listed twice, no more are told than are listed, and no more are
     /// listed than there is room for.
     ///
@@ -68,7 +74,7 @@ impl<I: Copy + Eq, N: Notice, A: Allocator> Event<I, N, A> {
         ensures in_order { AreInOrder I.eq self.now.listeners }
         ensures fits { length self.now.listeners.ids ≤ self.now.room }
     {
-        let _listeners = &self.listeners;
+        let _slots = &self.slots;
     }
 
     /// How many listeners are listed.
@@ -77,7 +83,7 @@ impl<I: Copy + Eq, N: Notice, A: Allocator> Event<I, N, A> {
     pub fn len(&self) -> usize
         ensures { result ≡ length self.now.listeners.ids }
     {
-        self.listeners.len()
+        self.len
     }
 
     /// The ids of the listeners, from the front.
@@ -92,7 +98,7 @@ impl<I: Copy + Eq, N: Notice, A: Allocator> Event<I, N, A> {
     pub fn ids<B: Allocator>(&self, alloc: B) -> Result<Vec<I, B>, AllocError>
         ensures { IfOk result (λ ids. ids.items ≡ self.now.listeners.ids) }
     {
-        ids_of(&self.listeners, alloc)
+        self.slots.ids(alloc)
     }
 
     /// How many listeners, from the front, are told.
@@ -107,6 +113,8 @@ impl<I: Copy + Eq, N: Notice, A: Allocator> Event<I, N, A> {
     /// Makes room for `room` listeners in all. The listeners stay as they are, and the room doesn't
     /// fall.
     ///
+    /// Takes memory for twice as many, so that the places of those that leave are cleared rarely.
+    ///
     /// # Errors
     ///
     /// `AllocError`: there was less room, and memory for more was refused.
@@ -119,41 +127,29 @@ impl<I: Copy + Eq, N: Notice, A: Allocator> Event<I, N, A> {
         ensures listeners { self.new.listeners ≡ self.old.listeners }
         ensures room { self.old.room ≤ self.new.room }
     {
-        let len = self.listeners.len();
-        if room > len {
-            self.listeners.reserve(room - len)?;
+        if room > self.room {
+            self.slots.reserve(room)?;
+            self.room = room;
         }
         Ok(())
     }
 
-    // The position of the listener in the list, from the front.
-    fn position_of(&self, id: I) -> Option<usize>
-        ensures { MatchOption result (is_in I.eq id self.now.listeners.ids ≡ false)
-            (IsFirstAt I.eq id self.now.listeners.ids) }
-    {
-        for position in 0..self.listeners.len() {
-            if id == self.listeners[position].id {
-                return Some(position);
-            }
-        }
-        None
-    }
-
     /// Whether a listener is told, if it is listed.
     ///
-    /// Looks through the list from the front. Changes nothing.
+    /// Takes constant time where it is listed, and looks through the list where it isn't. Changes
+    /// nothing.
     ///
     /// Source: this crate's own; a poll of an `EventListener` answers it.
     pub fn is_told(&self, id: I) -> Option<bool>
         ensures { result ≡ is_told I.eq id self.now.listeners }
     {
-        let Some(position) = self.position_of(id) else {
+        let Some(position) = self.slots.find(id) else {
             return None;
         };
-        Some(position < self.told)
+        Some(position < self.told_end)
     }
 
-    /// Lists a listener, last and untold. Takes no memory, and doesn't look through the list.
+    /// Lists a listener, last and untold. Takes no memory, and constant time, amortised.
     ///
     /// Source: `Event::listen`.
     pub fn join(&mut self, id: I, notice: N)
@@ -161,21 +157,25 @@ impl<I: Copy + Eq, N: Notice, A: Allocator> Event<I, N, A> {
         requires room { length self.old.listeners.ids < self.old.room }
         ensures { self.new ≡ record self.old { listeners = join id self.old.listeners } }
     {
-        self.listeners.push_back_reserved(Listener { id, notice });
+        self.told_end = self.slots.tidy(self.len, self.told, self.told_end);
+        self.slots.push(id, notice);
+        self.len += 1;
     }
 
     /// Tells the first `count` listeners. The notice of each that was not told yet is called, once
     /// and front first.
     ///
+    /// Takes time for those that were not told yet alone, amortised.
+    ///
     /// Source: `Event::notify`.
     pub fn tell(&mut self, count: usize)
         ensures { self.new ≡ record self.old { listeners = tell count self.old.listeners } }
     {
-        let end = count.min(self.listeners.len());
-        for position in self.told..end {
-            self.listeners[position].notice.tell();
+        let end = count.min(self.len);
+        if self.told < end {
+            self.told_end = self.slots.tell(self.told_end, end - self.told);
+            self.told = end;
         }
-        self.told = self.told.max(end);
     }
 
     /// Tells every listener, as [`Event::tell`] does.
@@ -184,14 +184,14 @@ impl<I: Copy + Eq, N: Notice, A: Allocator> Event<I, N, A> {
     pub fn tell_all(&mut self)
         ensures { self.new ≡ record self.old { listeners = tell_all self.old.listeners } }
     {
-        let len = self.listeners.len();
+        let len = self.len;
         self.tell(len);
     }
 
     /// Takes out a listener that got what it waited for, and answers whether it was told; `None`
     /// where it is not listed, which changes nothing.
     ///
-    /// Looks through the list from the front; takes out the first in constant time.
+    /// Takes constant time where it is listed, and looks through the list where it isn't.
     ///
     /// Source: a listener of `Event` that ends as notified.
     pub fn consume(&mut self, id: I) -> Option<bool>
@@ -199,11 +199,12 @@ impl<I: Copy + Eq, N: Notice, A: Allocator> Event<I, N, A> {
         ensures rest { self.new
             ≡ record self.old { listeners = consume I.eq id self.old.listeners } }
     {
-        let Some(position) = self.position_of(id) else {
+        let Some(position) = self.slots.find(id) else {
             return None;
         };
-        self.listeners.remove(position);
-        if position < self.told {
+        self.slots.vacate(position);
+        self.len -= 1;
+        if position < self.told_end {
             self.told -= 1;
             Some(true)
         } else {
@@ -213,6 +214,8 @@ impl<I: Copy + Eq, N: Notice, A: Allocator> Event<I, N, A> {
 
     /// Takes out a listener that gave up. Where it was told, the first of the others that is not told
     /// is told in its place. Where it is not listed, nothing changes.
+    ///
+    /// Takes constant time, amortised, where it is listed.
     ///
     /// Source: the drop of an `EventListener`.
     pub fn abandon(&mut self, id: I)
@@ -226,8 +229,8 @@ impl<I: Copy + Eq, N: Notice, A: Allocator> Event<I, N, A> {
     /// Lists a listener that must wait. One that is listed and not told keeps its position and gets
     /// the new notice; any other is listed last and untold, and taken out first where it was listed.
     ///
-    /// `is_listed` says whether it is listed; where it isn't, the list isn't looked through. Takes
-    /// no memory.
+    /// `is_listed` says whether it is listed, so that the list is never looked through. Takes no
+    /// memory, and constant time, amortised.
     ///
     /// Source: this crate's own; a future of async-broadcast that polls its listener again.
     pub fn wait_again(&mut self, id: I, notice: N, is_listed: bool)
@@ -252,24 +255,16 @@ impl<I: Copy + Eq, N: Notice, A: Allocator> Event<I, N, A> {
 
     /// Gives a listener that is not told another notice. It keeps its position.
     ///
+    /// Takes constant time.
+    ///
     /// Source: a poll of an `EventListener` with another waker.
     pub fn renew(&mut self, id: I, notice: N)
         requires { is_told I.eq id self.old.listeners ≡ Some false }
         ensures { self.new ≡ self.old }
     {
-        let Some(position) = self.position_of(id) else {
+        let Some(position) = self.slots.find(id) else {
             unreachable!()
         };
-        self.listeners[position].notice = notice;
+        self.slots.renew(position, notice);
     }
-}
-
-// The ids of the listeners, from the front.
-fn ids_of<I: Copy, N, A: Allocator, B: Allocator>(
-    listeners: &VecDeque<Listener<I, N>, A>,
-    alloc: B,
-) -> Result<Vec<I, B>, AllocError>
-    ensures { IfOk result (λ ids. ids.items ≡ map id_of listeners.now.items) }
-{
-    listeners.iter().map(|listener| listener.id).collect(alloc)
 }

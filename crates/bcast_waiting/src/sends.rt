@@ -86,7 +86,7 @@ impl<N: Notice, A: Allocator + Copy> SendList<N, A> {
     /// Lists a send that must wait. One that is listed and not told keeps its position and gets the
     /// new notice; any other is listed last and untold.
     ///
-    /// Takes no memory. Looks through the list only where the send is listed.
+    /// Takes no memory, and constant time, amortised.
     ///
     /// Source: `Event::listen`, and a poll of the listener of `Send`.
     pub fn wait(&mut self, place: usize, notice: N)

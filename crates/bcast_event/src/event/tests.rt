@@ -1,6 +1,7 @@
 //! Which notices are called, how often and in which order, and what a refusal of memory leaves.
 use super::*;
 use crate::notice::Silent;
+use bcast_model::listener::Kind;
 use linked_list_allocator::LocalHeap;
 use std::cell::RefCell;
 use std::process::Abort;
@@ -114,5 +115,26 @@ fn refused(rt: &impl Abort, heap: &LocalHeap) -> Result<(), AllocError> {
 fn a_refused_reserve_changes_nothing(rt: HostRuntime) -> Result<(), Fail> {
     let heap = LocalHeap::new(rt.alloc(), 1 << 12)?;
     refused(&rt, &heap)?;
+    Ok(())
+}
+
+#[test]
+fn listeners_leave_in_any_order(rt: HostRuntime) -> Result<(), Fail> {
+    let told = Rc::new(rt.alloc(), RefCell::new(Vec::new(rt.alloc())))?;
+    let mut event: Event<(usize, Kind), Noted> = Event::new(rt.alloc());
+    event.reserve(4)?;
+    event.join((0, Kind::Stream), make_noted(&told, 1)?);
+    event.join((0, Kind::Future), make_noted(&told, 2)?);
+    event.join((9, Kind::Stream), make_noted(&told, 3)?);
+    event.join((1, Kind::Stream), make_noted(&told, 4)?);
+    event.tell(2);
+    event.abandon((1, Kind::Stream));
+    event.abandon((0, Kind::Future));
+    assert_eq!(rt; event.consume((0, Kind::Stream)), Some(true));
+    assert_eq!(rt; event.is_told((9, Kind::Stream)), Some(false));
+    event.join((0, Kind::Future), make_noted(&told, 5)?);
+    event.join((0, Kind::Stream), make_noted(&told, 6)?);
+    event.tell_all();
+    assert!(rt; is(&told, &[1, 2, 3, 5, 6]), "in the order of joining");
     Ok(())
 }

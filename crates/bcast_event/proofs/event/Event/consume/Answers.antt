@@ -1,80 +1,86 @@
--- The listener at the position is taken out.
-use Rattle.std.proofs.Common.{◌≡◌, true, false, map, Some, ltb, sym, ap, ◌∙◌, subst, arith}
-use Rattle.std.specs.Prelude.{remove}
-use Rattle.std.proofs.lemmas.List.{length-map}
-use Rattle.bcast_model.specs.Listeners.{consume}
-use Rattle.bcast_event.specs.Event.{is_told}
-use Rattle.bcast_event.specs.Position.{IsFirstAt}
-use Rattle.bcast_event.specs.Listener.{id_of, listeners_of}
-use Rattle.bcast_event.proofs.Listeners.{on_some, is_told_first, is_told_absent, consume_absent, told_less, told_same, removed, AreInOrder-remove}
+-- The slot of the listener is left.
+use Rattle.std.proofs.Common.{◌≡◌, ◌<◌, ◌≤◌, ◌-◌, true, false, cond, Some, ltb, sym, ap, ◌∙◌, subst, arith}
+use Rattle.bcast_model.specs.Listeners.{is_in, consume}
+use Rattle.bcast_event.specs.Event.{Event, is_told}
+use Rattle.bcast_event.specs.Kept.{listeners_of, IsKept}
+use Rattle.bcast_event.proofs.Listeners.{is_told_absent, consume_absent}
+use Rattle.bcast_event.proofs.Kept.{first_at, told_before, is_told_at, taken, IsKept-left}
 use Rattle.bcast_event.proofs.event.Event.consume.Goals as goal
-use Rattle.bcast_event.proofs.event.Event.consume.Goals.{After-remove}
+use Rattle.bcast_event.proofs.event.Event.consume.Goals.{After-vacate}
 
 pub returns-in_default-clause-told : goal.returns-in_default-clause-told
-returns-in_default-clause-told g c = is_told_absent g.I.PartialEq.eq c.args.id c.args.self.now.listeners c.in_default.ensures
+returns-in_default-clause-told g c =
+    let absent = subst (λ e. is_in g.I.PartialEq.eq c.args.id e.listeners.ids ≡ false) c.self.view_is c.in_default.ensures in
+    is_told_absent g.I.PartialEq.eq c.args.id c.args.self.now.listeners absent
 
 pub returns-in_default-clause-rest : goal.returns-in_default-clause-rest
 returns-in_default-clause-rest g c =
-    λ i. record { listeners = sym (consume_absent g.I.PartialEq.eq c.args.id c.args.self.now.listeners c.in_default.ensures) i; room = c.args.self.now.room }
+    let absent = subst (λ e. is_in g.I.PartialEq.eq c.args.id e.listeners.ids ≡ false) c.self.view_is c.in_default.ensures in
+    λ i. record { listeners = sym (consume_absent g.I.PartialEq.eq c.args.id c.args.self.now.listeners absent) i; room = c.args.self.now.room }
 
--- where the listener stands
-first : (g : _) (c : After-remove g) → IsFirstAt g.I.PartialEq.eq c.args.id (map id_of c.self.inside.listeners.items) c.in-Some.position
-first g c = subst (λ e. IsFirstAt g.I.PartialEq.eq c.args.id e.listeners.ids c.in-Some.position) (sym c.self.view_is) c.in-Some.ensures
+pub overflow_sub-self : goal.overflow_sub-self
+overflow_sub-self g c =
+    let at = first_at c.self.invariant g.met.I.Eq.laws c.args.id c.in-Some.position c.in-Some.ensures in
+    omega (arith, at.within, c.self.invariant.counted)
 
--- the listeners that are left
-items : (g : _) (c : After-remove g) → c.remove.new.self.items ≡ remove c.self.inside.listeners.items c.in-Some.position
-items g c =
-    let at = first g c in
-    let deque = c.self.inside.listeners in
-    let ok = deque.ok in
-    on_some c.remove.result (c.remove.ensures.variant.1 (omega (arith, at.within, ok.0, length-map deque.items id_of))) c.remove.ensures.items
+pub overflow_sub-self-then-position-self : goal.overflow_sub-self-then-position-self
+overflow_sub-self-then-position-self g c =
+    let less = told_before c.self.invariant g.met.I.Eq.laws c.args.id c.in-Some.position c.in-Some.ensures c.if-position-self.true in
+    omega (arith, less)
+
+-- how many are told without it
+told_less : (i end told : _) → i < end → told - 1 ≡ cond (ltb i end) (told - 1) told
+told_less i end told h = grind (arith, h)
+
+told_same : (i end told : _) → end ≤ i → told ≡ cond (ltb i end) (told - 1) told
+told_same i end told h = grind (arith, h)
+
+kept : (g : _) (c : After-vacate g) (rest : _) → rest ≡ cond (ltb c.in-Some.position c.self.inside.told_end) (c.self.inside.told - 1) c.self.inside.told → IsKept g.I.PartialEq.eq c.vacate.new.self (c.self.inside.len - 1) rest c.self.inside.told_end c.self.inside.room
+kept g c rest is =
+    let e = c.self.inside in
+    subst (λ s. IsKept g.I.PartialEq.eq s (e.len - 1) rest e.told_end e.room) (sym c.vacate.ensures)
+    (IsKept-left c.self.invariant g.met.I.Eq.laws c.args.id c.in-Some.position c.in-Some.ensures rest is)
+
+-- who is left
+left : (g : _) (c : After-vacate g) (rest : _) → rest ≡ cond (ltb c.in-Some.position c.self.inside.told_end) (c.self.inside.told - 1) c.self.inside.told → ◌≡◌ {A = Event g.row.I.Denot} (record { listeners = listeners_of c.vacate.new.self.ids rest; room = c.self.inside.room }) (record c.args.self.now { listeners = consume g.I.PartialEq.eq c.args.id c.args.self.now.listeners })
+left g c rest is =
+    let e = c.self.inside in
+    let listeners =
+    ap (λ s. listeners_of s.ids rest) c.vacate.ensures
+    ∙ taken c.self.invariant g.met.I.Eq.laws c.args.id c.in-Some.position c.in-Some.ensures rest is in
+    (λ i. record { listeners = listeners i; room = e.room })
+    ∙ ap (λ (e : Event g.row.I.Denot). record e { listeners = consume g.I.PartialEq.eq c.args.id e.listeners }) c.self.view_is
+
+-- what the answer says of the list as it was
+told_then : (g : _) (c : After-vacate g) → Some (ltb c.in-Some.position c.self.inside.told_end) ≡ is_told g.I.PartialEq.eq c.args.id c.args.self.now.listeners
+told_then g c =
+    is_told_at c.self.invariant g.met.I.Eq.laws c.args.id c.in-Some.position c.in-Some.ensures
+    ∙ ap (λ e. is_told g.I.PartialEq.eq c.args.id e.listeners) c.self.view_is
 
 pub invariant_of-self : goal.invariant_of-self
 invariant_of-self g c =
-    let told = c.self.inside.told in
-    let w = (goal.at.invariant_of-self g c).After-remove in
-    AreInOrder-remove g.I.PartialEq.eq g.met.I.Eq.laws c.self.inside.listeners.items c.remove.new.self.items c.in-Some.position told _ c.args.id c.self.invariant (first g w) (items g w) (told_less c.in-Some.position told c.if-position-self.true)
+    kept g (goal.at.invariant_of-self g c).After-vacate _ (told_less c.in-Some.position c.self.inside.told_end c.self.inside.told c.if-position-self.true)
 
 pub invariant_of-self-else-position-self : goal.invariant_of-self-else-position-self
 invariant_of-self-else-position-self g c =
-    let told = c.self.inside.told in
-    let w = (goal.at.invariant_of-self-else-position-self g c).After-remove in
-    AreInOrder-remove g.I.PartialEq.eq g.met.I.Eq.laws c.self.inside.listeners.items c.remove.new.self.items c.in-Some.position told _ c.args.id c.self.invariant (first g w) (items g w) (told_same c.in-Some.position told c.if-position-self.false)
-
--- what the answer says of the list as it was
-told_before : (g : _) (c : After-remove g) → Some (ltb c.in-Some.position c.self.inside.told) ≡ is_told g.I.PartialEq.eq c.args.id c.args.self.now.listeners
-told_before g c =
-    is_told_first g.I.PartialEq.eq c.args.id (listeners_of c.self.inside.listeners.items c.self.inside.told) c.in-Some.position (first g c)
-    ∙ ap (λ e. is_told g.I.PartialEq.eq c.args.id e.listeners) c.self.view_is
+    kept g (goal.at.invariant_of-self-else-position-self g c).After-vacate _ (told_same c.in-Some.position c.self.inside.told_end c.self.inside.told c.if-position-self.false)
 
 pub returns-then-position-self-clause-told : goal.returns-then-position-self-clause-told
 returns-then-position-self-clause-told g c =
     let less = c.if-position-self.true in
-    let yes : ltb c.in-Some.position c.self.inside.told ≡ true = grind (arith, less) in
-    ap Some (sym yes) ∙ told_before g (goal.at.returns-then-position-self-clause-told g c).After-remove
+    let yes : ltb c.in-Some.position c.self.inside.told_end ≡ true = grind (arith, less) in
+    ap Some (sym yes) ∙ told_then g (goal.at.returns-then-position-self-clause-told g c).After-vacate
 
 pub returns-else-position-self-clause-told : goal.returns-else-position-self-clause-told
 returns-else-position-self-clause-told g c =
     let more = c.if-position-self.false in
-    let no : ltb c.in-Some.position c.self.inside.told ≡ false = grind (arith, more) in
-    ap Some (sym no) ∙ told_before g (goal.at.returns-else-position-self-clause-told g c).After-remove
+    let no : ltb c.in-Some.position c.self.inside.told_end ≡ false = grind (arith, more) in
+    ap Some (sym no) ∙ told_then g (goal.at.returns-else-position-self-clause-told g c).After-vacate
 
 pub returns-then-position-self-clause-rest : goal.returns-then-position-self-clause-rest
 returns-then-position-self-clause-rest g c =
-    let told = c.self.inside.told in
-    let w = (goal.at.returns-then-position-self-clause-rest g c).After-remove in
-    let listeners = removed g.I.PartialEq.eq g.met.I.Eq.laws c.self.inside.listeners.items c.remove.new.self.items c.in-Some.position told _ c.args.id c.self.invariant (first g w) (items g w) (told_less c.in-Some.position told c.if-position-self.true) in
-    λ i. record {
-      listeners = (listeners ∙ ap (λ e. consume g.I.PartialEq.eq c.args.id e.listeners) c.self.view_is) i;
-      room = (c.remove.ensures.capacity ∙ ap (λ e. e.room) c.self.view_is) i;
-    }
+    left g (goal.at.returns-then-position-self-clause-rest g c).After-vacate _ (told_less c.in-Some.position c.self.inside.told_end c.self.inside.told c.if-position-self.true)
 
 pub returns-else-position-self-clause-rest : goal.returns-else-position-self-clause-rest
 returns-else-position-self-clause-rest g c =
-    let told = c.self.inside.told in
-    let w = (goal.at.returns-else-position-self-clause-rest g c).After-remove in
-    let listeners = removed g.I.PartialEq.eq g.met.I.Eq.laws c.self.inside.listeners.items c.remove.new.self.items c.in-Some.position told _ c.args.id c.self.invariant (first g w) (items g w) (told_same c.in-Some.position told c.if-position-self.false) in
-    λ i. record {
-      listeners = (listeners ∙ ap (λ e. consume g.I.PartialEq.eq c.args.id e.listeners) c.self.view_is) i;
-      room = (c.remove.ensures.capacity ∙ ap (λ e. e.room) c.self.view_is) i;
-    }
+    left g (goal.at.returns-else-position-self-clause-rest g c).After-vacate _ (told_same c.in-Some.position c.self.inside.told_end c.self.inside.told c.if-position-self.false)
