@@ -2,6 +2,4 @@ pub mod AllKeys
 pub mod Counts
 pub mod Entries
 pub mod Keys
-pub mod Parts
-pub mod Sizes
 pub mod Slots

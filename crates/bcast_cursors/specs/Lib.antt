@@ -6,5 +6,3 @@ pub mod Places
 pub mod Counts
 -- the keys of a slab, and what stands under them
 pub mod Keys
--- how cursors are kept
-pub mod Slot

@@ -39,9 +39,9 @@ impl<T, A: Allocator> Model for Store<T, A> {
 
     ghost use Rattle.bcast_store.specs.Sound.{store_of, IsSound};
 
-    ghost view = { λ s. store_of s.queue s.cursors.numbers };
+    ghost view = { λ s. store_of s.queue s.cursors };
 
-    ghost invariant = { λ s. IsSound s.queue s.cursors.numbers };
+    ghost invariant = { λ s. IsSound s.queue s.cursors };
 }
 
 impl<T: Drop, A: Allocator + Copy> Store<T, A> {

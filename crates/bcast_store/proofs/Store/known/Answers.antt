@@ -8,4 +8,4 @@ pub returns : goal.returns
 returns g c =
     let n = c.known.ensures in
     subst IsSettled c.self.view_is
-    (settled c.self.inside.queue c.self.inside.cursors.numbers c.self.invariant (record { lengths = n.lengths; owed = n.owed }) n.fits n.numbered (omega (arith, c.len.ensures, c.len.type_inv)))
+    (settled c.self.inside.queue c.self.inside.cursors c.self.invariant (record { lengths = n.lengths; owed = n.owed }) n.fits n.numbered (omega (arith, c.len.ensures, c.len.type_inv)))

@@ -6,5 +6,5 @@ use Rattle.bcast_store.proofs.Store.new.Goals as goal
 
 pub invariant_of-result : goal.invariant_of-result
 invariant_of-result g c =
-    let added = ap (λ m. m.numbers) c.in_ok-key.ensures.ok ∙ ap (λ m. insert m.numbers c.in_ok-key.key c.args.first) c.new-cursors.ensures in
+    let added = c.in_ok-key.ensures.ok ∙ ap (λ m. insert m c.in_ok-key.key c.args.first) c.new-cursors.ensures in
     same_sound _ _ _ _ c.in_ok-queue.ensures added (sound_new c.args.first c.in_ok-key.key c.args.room)

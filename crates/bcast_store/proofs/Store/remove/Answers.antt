@@ -13,24 +13,24 @@ use Rattle.bcast_store.proofs.Store.remove.Goals as goal
 pub invariant_of-self : goal.invariant_of-self
 invariant_of-self g c =
     let none = sym c.in_default.ensures.value in
-    same_sound _ _ _ _ refl (ap (λ m. m.numbers) c.remove.ensures.rest ∙ remove-absent c.self.inside.cursors.numbers c.args.key none) c.self.invariant
+    same_sound _ _ _ _ refl (c.remove.ensures.rest ∙ remove-absent c.self.inside.cursors c.args.key none) c.self.invariant
 
 pub returns-in_default-clause-rest : goal.returns-in_default-clause-rest
 returns-in_default-clause-rest g c =
     let none = sym c.in_default.ensures.value in
-    same_store c.self.inside.queue _ _ _ refl (ap (λ m. m.numbers) c.remove.ensures.rest ∙ remove-absent c.self.inside.cursors.numbers c.args.key none) ∙ c.self.view_is
+    same_store c.self.inside.queue _ _ _ refl (c.remove.ensures.rest ∙ remove-absent c.self.inside.cursors c.args.key none) ∙ c.self.view_is
 
 pub leave-requires-clause-owed : goal.leave-requires-clause-owed
 leave-requires-clause-owed g c = λ some within.
     let at = sym c.in-Some.ensures.value in
-    steps_up c.self.inside.queue c.self.inside.cursors.numbers c.args.key c.in-Some.cursor c.saturating_sub-index.result c.self.invariant at (omega (arith, c.saturating_sub-index.ensures, c.front.ensures, some)) within some
+    steps_up c.self.inside.queue c.self.inside.cursors c.args.key c.in-Some.cursor c.saturating_sub-index.result c.self.invariant at (omega (arith, c.saturating_sub-index.ensures, c.front.ensures, some)) within some
 
 pub invariant_of-self-2 : goal.invariant_of-self-2
 invariant_of-self-2 g c =
     let at = sym c.in-Some.ensures.value in
     let index = c.saturating_sub-index.ensures ∙ ap (λ x. c.in-Some.cursor - x) c.front.ensures in
-    same_sound _ _ _ _ (c.leave.ensures ∙ ap (λ x. left x c.self.inside.queue) index) (ap (λ m. m.numbers) c.remove.ensures.rest)
-    (sound_left c.self.inside.queue c.self.inside.cursors.numbers c.args.key c.in-Some.cursor c.self.invariant c.known.ensures.lengths at)
+    same_sound _ _ _ _ (c.leave.ensures ∙ ap (λ x. left x c.self.inside.queue) index) c.remove.ensures.rest
+    (sound_left c.self.inside.queue c.self.inside.cursors c.args.key c.in-Some.cursor c.self.invariant c.known.ensures.lengths at)
 
 pub returns-clause-rest : goal.returns-clause-rest
 returns-clause-rest g c =
@@ -40,6 +40,6 @@ returns-clause-rest g c =
     let is : c.leave.new.self ≡ left (c.in-Some.cursor - c.self.inside.queue.front) c.self.inside.queue = c.leave.ensures ∙ ap (λ x. left x c.self.inside.queue) index in
     let n = c.known-2.ensures in
     let after = subst IsCounted is (record { lengths = n.lengths; owed = n.owed }) in
-    same_store c.leave.new.self (left (c.in-Some.cursor - c.self.inside.queue.front) c.self.inside.queue) c.remove.new.self.numbers (remove c.self.inside.cursors.numbers c.args.key) is (ap (λ m. m.numbers) c.remove.ensures.rest)
-    ∙ store_left c.self.inside.queue c.self.inside.cursors.numbers c.args.key c.in-Some.cursor c.self.invariant c.known.ensures.lengths at after
+    same_store c.leave.new.self (left (c.in-Some.cursor - c.self.inside.queue.front) c.self.inside.queue) c.remove.new.self (remove c.self.inside.cursors c.args.key) is c.remove.ensures.rest
+    ∙ store_left c.self.inside.queue c.self.inside.cursors c.args.key c.in-Some.cursor c.self.invariant c.known.ensures.lengths at after
     ∙ ap (λ (s : Stored g.row.T.Denot). with_cursors s (remove s.cursors c.args.key)) c.self.view_is

@@ -12,7 +12,7 @@ pub invariant_of-self : goal.invariant_of-self
 invariant_of-self g c =
     let q = c.self.inside.queue in
     let lags = subst (λ (s : Stored g.row.T.Denot). IsSomeAnd (get s.cursors c.args.key) (λ n. n < s.front)) (sym c.self.view_is) c.requires.lags in
-    let at = found (get c.self.inside.cursors.numbers c.args.key) (λ n. n < c.self.inside.queue.front) lags in
-    let set = ap (λ m. m.numbers) (c.set.ensures.there (ap is_some at.1)) in
-    same_sound _ _ _ _ refl (set ∙ ap (λ n. insert c.self.inside.cursors.numbers c.args.key n) c.front.ensures)
-    (sound_skip c.self.inside.queue c.self.inside.cursors.numbers c.args.key at.0 c.self.invariant at.1 at.2)
+    let at = found (get c.self.inside.cursors c.args.key) (λ n. n < c.self.inside.queue.front) lags in
+    let set = c.set.ensures.there (ap is_some at.1) in
+    same_sound _ _ _ _ refl (set ∙ ap (λ n. insert c.self.inside.cursors c.args.key n) c.front.ensures)
+    (sound_skip c.self.inside.queue c.self.inside.cursors c.args.key at.0 c.self.invariant at.1 at.2)
