@@ -181,6 +181,7 @@ impl<I: Copy + Eq + Indexed, N: Notice, A: Allocator> Event<I, N, A> {
     /// Tells every listener, as [`Event::tell`] does.
     ///
     /// Source: `Event::notify(usize::MAX)`.
+    #[inline(always)]
     pub fn tell_all(&mut self)
         ensures { self.new ≡ record self.old { listeners = tell_all self.old.listeners } }
     {

@@ -151,6 +151,7 @@ impl<T, A: Allocator> Queue<T, A> {
     /// Appends `msg`, to which `owing` readers owe a read. Takes no memory.
     ///
     /// Source: this crate's own, for `queue.push_back` in `try_broadcast` of async-broadcast.
+    #[inline(always)]
     pub fn push(&mut self, msg: T, owing: usize)
         requires fits { length self.old.messages < self.old.room }
         requires owed { 1 ≤ owing }

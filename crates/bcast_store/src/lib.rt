@@ -180,6 +180,7 @@ impl<T: Drop, A: Allocator + Copy> Store<T, A> {
     /// Puts `msg` last, for every receiver. Takes no memory.
     ///
     /// Source: this crate's own, for `queue.push_back` in `try_broadcast` of async-broadcast.
+    #[inline(always)]
     pub fn push(&mut self, msg: T)
         requires someone { 0 < len self.old.cursors }
         requires room { length self.old.queue < self.old.room }

@@ -146,6 +146,7 @@ impl<N: Notice, A: Allocator + Copy> ReceiveList<N, A> {
     /// Tells every listener.
     ///
     /// Source: `recv_ops.notify(usize::MAX)`.
+    #[inline(always)]
     pub fn tell_all(&mut self)
         ensures { self.new ≡ record self.old { waiting = tell_all self.old.waiting } }
     {

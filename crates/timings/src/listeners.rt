@@ -2,6 +2,7 @@
 use bcast_core::{Inner, Silent};
 use futures::task::Poll;
 use std::alloc::{AllocError, Global};
+use std::fmt;
 
 /// A channel of numbers, whose listeners' notices say nothing.
 type Numbers = Inner<u64, Silent>;
@@ -18,31 +19,53 @@ pub(crate) fn receivers_served(alloc: Global, waiting: u64, reps: u64) -> Result
     Ok(sum)
 }
 
-/// This many receivers wait, and give up, the first one first, `reps` times. Answers how many
-/// waited.
-pub(crate) fn first_leaves(alloc: Global, waiting: u64, reps: u64) -> Result<u64, AllocError> {
+/// In which order receivers that wait give up.
+#[derive(Clone, Copy)]
+pub(crate) enum Order {
+    FirstFirst,
+    LastFirst,
+    SecondHalfFirst,
+}
+
+impl fmt::Display for Order {
+    fn fmt<W: fmt::Write>(&self, f: &mut fmt::Formatter<W>) -> fmt::Result {
+        f.write_str(match self {
+            Order::FirstFirst => "the first first",
+            Order::LastFirst => "the last first",
+            Order::SecondHalfFirst => "the second half first",
+        })
+    }
+}
+
+/// This many receivers wait, and give up in this order, `reps` times. Answers how many waited.
+pub(crate) fn leave(
+    alloc: Global,
+    order: Order,
+    waiting: u64,
+    reps: u64,
+) -> Result<u64, AllocError> {
     let (mut inner, keys) = readers(alloc, waiting)?;
+    let leaving = in_order(alloc, order, keys.as_slice())?;
     let mut waited: u64 = 0;
     for _ in 0..reps {
         waited = waited.wrapping_add(wait_all(&mut inner, keys.as_slice())?);
-        for key in keys.as_slice() {
+        for key in leaving.as_slice() {
             inner.end_future(*key);
         }
     }
     Ok(waited)
 }
 
-/// The same, the last one first.
-pub(crate) fn last_leaves(alloc: Global, waiting: u64, reps: u64) -> Result<u64, AllocError> {
-    let (mut inner, keys) = readers(alloc, waiting)?;
-    let mut waited: u64 = 0;
-    for _ in 0..reps {
-        waited = waited.wrapping_add(wait_all(&mut inner, keys.as_slice())?);
-        for key in keys.as_slice().iter().rev() {
-            inner.end_future(*key);
+/// These keys in another order.
+fn in_order(alloc: Global, order: Order, keys: &[usize]) -> Result<Vec<usize>, AllocError> {
+    match order {
+        Order::FirstFirst => keys.iter().copied().collect(alloc),
+        Order::LastFirst => keys.iter().rev().copied().collect(alloc),
+        Order::SecondHalfFirst => {
+            let (front, back) = keys.split_at(keys.len() / 2);
+            back.iter().chain(front.iter()).copied().collect(alloc)
         }
     }
-    Ok(waited)
 }
 
 /// This many sends wait on a full channel of capacity 1, and each is served by a receive, in order,

@@ -1,5 +1,6 @@
 //! The workloads.
 use crate::handles::CAPACITY;
+use crate::listeners::Order;
 use crate::{handles, listeners, polls};
 use std::alloc::AllocGlobal;
 use std::fmt;
@@ -18,8 +19,7 @@ pub(crate) enum Workload {
     ManyTold(u64),
     ReceiversServed(u64),
     SendsServed(u64),
-    FirstLeaves(u64),
-    LastLeaves(u64),
+    Leave(Order, u64),
 }
 
 /// All workloads, in the order in which they are run.
@@ -43,12 +43,15 @@ pub(crate) const WORKLOADS: &[Workload] = &[
     Workload::SendsServed(10),
     Workload::SendsServed(1000),
     Workload::SendsServed(100000),
-    Workload::FirstLeaves(10),
-    Workload::FirstLeaves(1000),
-    Workload::FirstLeaves(100000),
-    Workload::LastLeaves(10),
-    Workload::LastLeaves(1000),
-    Workload::LastLeaves(100000),
+    Workload::Leave(Order::FirstFirst, 10),
+    Workload::Leave(Order::FirstFirst, 1000),
+    Workload::Leave(Order::FirstFirst, 100000),
+    Workload::Leave(Order::LastFirst, 10),
+    Workload::Leave(Order::LastFirst, 1000),
+    Workload::Leave(Order::LastFirst, 100000),
+    Workload::Leave(Order::SecondHalfFirst, 10),
+    Workload::Leave(Order::SecondHalfFirst, 1000),
+    Workload::Leave(Order::SecondHalfFirst, 100000),
 ];
 
 impl Workload {
@@ -61,8 +64,7 @@ impl Workload {
             Workload::ManyTold(waiting)
             | Workload::ReceiversServed(waiting)
             | Workload::SendsServed(waiting)
-            | Workload::FirstLeaves(waiting)
-            | Workload::LastLeaves(waiting) => waiting,
+            | Workload::Leave(_, waiting) => waiting,
         }
     }
 
@@ -88,8 +90,7 @@ impl Workload {
                 Ok(listeners::receivers_served(alloc, waiting, reps)?)
             }
             Workload::SendsServed(waiting) => Ok(listeners::sends_served(alloc, waiting, reps)?),
-            Workload::FirstLeaves(waiting) => Ok(listeners::first_leaves(alloc, waiting, reps)?),
-            Workload::LastLeaves(waiting) => Ok(listeners::last_leaves(alloc, waiting, reps)?),
+            Workload::Leave(order, waiting) => Ok(listeners::leave(alloc, order, waiting, reps)?),
         }
     }
 }
@@ -118,16 +119,10 @@ impl fmt::Display for Workload {
                     "unlocked: {waiting} sends wait, and are accepted in order, each"
                 )
             }
-            Workload::FirstLeaves(waiting) => {
+            Workload::Leave(order, waiting) => {
                 write!(
                     f,
-                    "unlocked: {waiting} receivers wait, and leave, the first first, each"
-                )
-            }
-            Workload::LastLeaves(waiting) => {
-                write!(
-                    f,
-                    "unlocked: {waiting} receivers wait, and leave, the last first, each"
+                    "unlocked: {waiting} receivers wait, and leave, {order}, each"
                 )
             }
         }

@@ -34,6 +34,15 @@ pub(super) struct Woken {
     pub(super) receiver: bool,
 }
 
+impl Woken {
+    fn nobody() -> Self {
+        Woken {
+            sender: false,
+            receiver: false,
+        }
+    }
+}
+
 impl<T: Clone, A: Allocator + Copy> State<T, A> {
     pub(super) fn new(inner: Inner<T, Wake<Slot<A>>, A>) -> Self {
         State {
@@ -54,14 +63,38 @@ impl<T: Clone, A: Allocator + Copy> State<T, A> {
         ensures possible { IsPossible T.is_clone call result.0 }
         ensures kind { IsOfKind call result.0 }
     {
+        if self.senders == 0 && self.idle_receivers == 0 && self.due_receivers == 0 {
+            let reply = self.make(call, wake);
+            return (reply, Woken::nobody());
+        }
+        self.make_and_wake(call, wake)
+    }
+
+    #[inline(always)]
+    fn make(&mut self, call: Call<T>, wake: Wake<Slot<A>>) -> Reply<T>
+        requires { HasPositiveCapacity call }
+        ensures answers { Answers T.is_clone self.old.inner call result self.new.inner }
+        ensures possible { IsPossible T.is_clone call result }
+        ensures kind { IsOfKind call result }
+    {
+        step(&mut self.inner, call, wake)
+    }
+
+    // Where threads wait.
+    #[inline(never)]
+    fn make_and_wake(&mut self, call: Call<T>, wake: Wake<Slot<A>>) -> (Reply<T>, Woken)
+        requires { HasPositiveCapacity call }
+        ensures answers { Answers T.is_clone self.old.inner call result.0 self.new.inner }
+        ensures possible { IsPossible T.is_clone call result.0 }
+        ensures kind { IsOfKind call result.0 }
+    {
         let known = self.news();
-        let reply = step(&mut self.inner, call, wake);
+        let reply = self.make(call, wake);
         let woken = self.whom_to_wake(known);
         (reply, woken)
     }
 
     // `known` is the news before the call.
-    #[inline(always)]
     fn whom_to_wake(&mut self, known: (u64, bool)) -> Woken
         ensures { self.new.inner ≡ self.old.inner }
     {
