@@ -6,7 +6,7 @@ use std::alloc::AllocError;
 use std::process::Abort;
 use std::test::Fail;
 
-#[derive(Debug, PartialEq, Eq, Drop)]
+#[derive(PartialEq, Eq, Drop)]
 struct Message<'a> {
     bytes: Vec<u8, &'a LocalHeap>,
 }
@@ -21,7 +21,7 @@ impl<'a> Clone for Message<'a> {
 const TEXT: [u8; 24] = *b"a message of some length";
 
 // Which calls were refused their memory.
-#[derive(Clone, Copy, Debug, PartialEq, Eq)]
+#[derive(Clone, Copy, PartialEq, Eq)]
 struct Refused {
     new: bool,
     grow: bool,
@@ -44,19 +44,19 @@ fn two_read(rt: &impl Abort, heap: &LocalHeap) -> Result<Refused, AllocError> {
     let second = add(rt, &mut store, 7)?;
     assert!(rt; store.room() <= 9);
     refused.grow = store.grow(9).is_err();
-    assert_eq!(rt; store.room(), if refused.grow { 1 } else { 9 });
+    assert!(rt; store.room() == (if refused.grow { 1 } else { 9 }));
     match read(rt, &mut store, first) {
-        Ok(message) => assert_eq!(rt; message.bytes.as_slice(), TEXT.as_slice()),
+        Ok(message) => assert!(rt; message.bytes.as_slice() == TEXT.as_slice()),
         Err(_) => {
             refused.read = true;
-            assert_eq!(rt; store.cursor(first), Some(7));
+            assert!(rt; store.cursor(first) == Some(7));
             store.remove(first);
         }
     }
-    assert_eq!(rt; store.len(), 1);
+    assert!(rt; store.len() == 1);
     let message = read(rt, &mut store, second).expect(rt, "the last reader takes no memory");
-    assert_eq!(rt; message.bytes.as_slice(), TEXT.as_slice());
-    assert_eq!(rt; store.front(), 8);
+    assert!(rt; message.bytes.as_slice() == TEXT.as_slice());
+    assert!(rt; store.front() == 8);
     Ok(refused)
 }
 
@@ -75,9 +75,8 @@ fn refused_memory_changes_nothing(rt: HostRuntime) -> Result<(), Fail> {
         "grow and read"
     );
     let most = runs.last().copied();
-    assert_eq!(rt;
-        most,
-        Some(Refused {
+    assert!(rt;
+        most == Some(Refused {
             new: false,
             grow: false,
             read: false
@@ -92,8 +91,8 @@ fn a_refused_receiver_is_not_added(rt: HostRuntime) -> Result<(), Fail> {
     let (mut store, _) = Store::<u8, &LocalHeap>::new(&heap, 7, 1)?;
     for added in 1..64 {
         if add(&rt, &mut store, 7).is_err() {
-            assert_eq!(rt; store.receivers(), added);
-            assert_eq!(rt; store.end(), 7);
+            assert!(rt; store.receivers() == added);
+            assert!(rt; store.end() == 7);
             return Ok(());
         }
     }

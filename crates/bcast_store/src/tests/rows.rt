@@ -17,6 +17,48 @@ enum Call {
     Read(usize),
 }
 
+// The key of the receiver of this number.
+fn key_of(rt: &impl Abort, keys: &[usize], receiver: usize) -> usize {
+    *keys.get(receiver).expect(rt, "a receiver")
+}
+
+// Drops the first messages.
+fn drop_first(rt: &impl Abort, store: &mut Store<u8>, count: usize) {
+    assert!(rt; count <= store.len());
+    store.drop_first(count);
+}
+
+// Removes a receiver, and asks to remove it once more.
+fn remove(rt: &impl Abort, store: &mut Store<u8>, key: usize) {
+    assert!(rt; store.remove(key), "a receiver leaves");
+    assert!(rt; !store.remove(key), "and is gone");
+}
+
+// Moves a receiver to the front.
+fn skip(rt: &impl Abort, store: &mut Store<u8>, key: usize) {
+    let cursor = store.cursor(key).expect(rt, "a receiver");
+    assert!(rt; cursor < store.front());
+    store.skip(key);
+}
+
+// Makes a call that gives no message.
+fn change(
+    rt: &impl Abort,
+    store: &mut Store<u8>,
+    keys: &mut Vec<usize>,
+    call: Call,
+) -> Result<(), AllocError> {
+    match call {
+        Call::Push(msg) => push(rt, store, msg),
+        Call::DropFirst(count) => drop_first(rt, store, count),
+        Call::Add(cursor) => keys.push(add(rt, store, cursor)?)?,
+        Call::Remove(receiver) => remove(rt, store, key_of(rt, keys, receiver)),
+        Call::Skip(receiver) => skip(rt, store, key_of(rt, keys, receiver)),
+        Call::Pop | Call::Read(_) => {}
+    }
+    Ok(())
+}
+
 // Makes the call, and gives the message that it gave.
 fn make(
     rt: &impl Abort,
@@ -25,30 +67,13 @@ fn make(
     call: Call,
 ) -> Result<Option<u8>, AllocError> {
     match call {
-        Call::Push(msg) => push(rt, store, msg),
-        Call::Pop => return Ok(store.pop()),
-        Call::DropFirst(count) => {
-            assert!(rt; count <= store.len());
-            store.drop_first(count);
-        }
-        Call::Add(cursor) => keys.push(add(rt, store, cursor)?)?,
-        Call::Remove(receiver) => {
-            assert!(rt; receiver < keys.len());
-            assert!(rt; store.remove(keys[receiver]), "a receiver leaves");
-            assert!(rt; !store.remove(keys[receiver]), "and is gone");
-        }
-        Call::Skip(receiver) => {
-            assert!(rt; receiver < keys.len());
-            let cursor = store.cursor(keys[receiver]).expect(rt, "a receiver");
-            assert!(rt; cursor < store.front());
-            store.skip(keys[receiver]);
-        }
-        Call::Read(receiver) => {
-            assert!(rt; receiver < keys.len());
-            return Ok(Some(read(rt, store, keys[receiver])?));
+        Call::Pop => Ok(store.pop()),
+        Call::Read(receiver) => Ok(Some(read(rt, store, key_of(rt, keys, receiver))?)),
+        _ => {
+            change(rt, store, keys, call)?;
+            Ok(None)
         }
     }
-    Ok(None)
 }
 
 // The name of a row, the call, the message that it gives, and then the front, the messages, and the
@@ -68,22 +93,22 @@ fn run(rt: &impl Abort, alloc: Global, first: u64, room: usize, rows: &[Row]) ->
     let (mut store, key) = Store::new(alloc, first, room)?;
     let mut keys = Vec::new(alloc);
     keys.push(key)?;
-    assert_eq!(rt; store.room(), room);
+    assert!(rt; store.room() == room);
     for (name, call, given, front, messages, cursors) in rows {
-        assert_eq!(rt; make(rt, &mut store, &mut keys, *call)?, *given, "{name}");
-        assert_eq!(rt; store.front(), *front, "{name}");
-        assert_eq!(rt; store.len(), messages.len(), "{name}");
-        assert_eq!(rt; store.is_empty(), messages.is_empty(), "{name}");
+        assert!(rt; make(rt, &mut store, &mut keys, *call)? == *given, "{name}");
+        assert!(rt; store.front() == *front, "{name}");
+        assert!(rt; store.len() == messages.len(), "{name}");
+        assert!(rt; store.is_empty() == messages.is_empty(), "{name}");
         for (index, message) in messages.iter().enumerate() {
-            assert_eq!(rt; store.get(index), Some(message), "{name}");
+            assert!(rt; store.get(index) == Some(message), "{name}");
         }
         for (key, cursor) in keys.iter().zip(cursors.iter()) {
-            assert_eq!(rt; store.cursor(*key), *cursor, "{name}");
+            assert!(rt; store.cursor(*key) == *cursor, "{name}");
         }
         let receivers = cursors.iter().filter(|cursor| cursor.is_some()).count();
-        assert_eq!(rt; store.receivers(), receivers, "{name}");
-        assert_eq!(rt; store.cursors(alloc)?.len(), receivers, "{name}");
-        assert_eq!(rt; store.has_no_receiver(), receivers == 0, "{name}");
+        assert!(rt; store.receivers() == receivers, "{name}");
+        assert!(rt; store.cursors(alloc)?.len() == receivers, "{name}");
+        assert!(rt; store.has_no_receiver() == (receivers == 0), "{name}");
     }
     Ok(())
 }
