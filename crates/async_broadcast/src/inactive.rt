@@ -54,7 +54,7 @@ impl<T: Clone, P: Port<T, Slot<A>>, A: Allocator + Copy> InactiveReceiver<T, P, 
     /// let inactive = receiver.deactivate().ok().ok_or("no handle")?;
     /// let mut receiver = inactive.activate().ok().ok_or("no handle")?;
     /// assert!(rt; sender.try_broadcast(1).is_ok());
-    /// assert!(rt; matches!(receiver.try_recv()?, Ok(1)));
+    /// assert!(rt; matches!(receiver.try_recv(), Ok(Ok(1))));
     /// ```
     ///
     /// Source: `InactiveReceiver::activate` of async-broadcast 0.7.2, which never refuses.
@@ -90,8 +90,8 @@ impl<T: Clone, P: Port<T, Slot<A>>, A: Allocator + Copy> InactiveReceiver<T, P, 
     /// let mut one = inactive.activate_cloned()?;
     /// let mut two = inactive.activate_cloned()?;
     /// assert!(rt; sender.try_broadcast(1).is_ok());
-    /// assert!(rt; matches!(one.try_recv()?, Ok(1)));
-    /// assert!(rt; matches!(two.try_recv()?, Ok(1)));
+    /// assert!(rt; matches!(one.try_recv(), Ok(Ok(1))));
+    /// assert!(rt; matches!(two.try_recv(), Ok(Ok(1))));
     /// ```
     ///
     /// Source: `InactiveReceiver::activate_cloned` of async-broadcast 0.7.2, which never refuses.

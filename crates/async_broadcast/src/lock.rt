@@ -70,14 +70,14 @@ impl<T: Clone, A: Allocator> Channel<T, A> {
 /// assert!(rt; sender.try_broadcast(8).is_ok());
 /// assert!(rt; matches!(sender.try_broadcast(9), Err(TrySendError::Full(9))));
 ///
-/// assert!(rt; matches!(one.try_recv()?, Ok(7)));
+/// assert!(rt; matches!(one.try_recv(), Ok(Ok(7))));
 /// assert!(rt; matches!(block_on(&rt, one.next())?, Some(Ok(8))));
-/// assert!(rt; matches!(two.recv_blocking()?, Ok(7)));
+/// assert!(rt; matches!(two.recv_blocking(), Ok(Ok(7))));
 /// assert!(rt; matches!(block_on(&rt, two.recv_direct())?, Ok(Ok(8))));
-/// assert!(rt; matches!(one.try_recv()?, Err(TryRecvError::Empty)));
+/// assert!(rt; matches!(one.try_recv(), Ok(Err(TryRecvError::Empty))));
 ///
 /// drop(sender);
-/// assert!(rt; matches!(two.try_recv()?, Err(TryRecvError::Closed)));
+/// assert!(rt; matches!(two.try_recv(), Ok(Err(TryRecvError::Closed))));
 /// ```
 ///
 /// Source: `broadcast` of async-broadcast 0.7.2, which takes the capacity alone and never refuses.

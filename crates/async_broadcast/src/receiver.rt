@@ -68,11 +68,11 @@ impl<T: Clone, P: Port<T, Slot<A>>, A: Allocator + Copy> Receiver<T, P, A> {
     ///
     /// ```rust
     /// let (sender, mut receiver) = broadcast(&rt, rt.alloc(), 1)?;
-    /// assert!(rt; matches!(receiver.try_recv()?, Err(TryRecvError::Empty)));
+    /// assert!(rt; matches!(receiver.try_recv(), Ok(Err(TryRecvError::Empty))));
     /// assert!(rt; sender.try_broadcast(1).is_ok());
     /// drop(sender);
-    /// assert!(rt; matches!(receiver.try_recv()?, Ok(1)));
-    /// assert!(rt; matches!(receiver.try_recv()?, Err(TryRecvError::Closed)));
+    /// assert!(rt; matches!(receiver.try_recv(), Ok(Ok(1))));
+    /// assert!(rt; matches!(receiver.try_recv(), Ok(Err(TryRecvError::Closed))));
     /// ```
     ///
     /// Source: `Receiver::try_recv` of async-broadcast 0.7.2, which never refuses for memory.
@@ -97,8 +97,8 @@ impl<T: Clone, P: Port<T, Slot<A>>, A: Allocator + Copy> Receiver<T, P, A> {
     /// let (sender, mut receiver) = broadcast(&rt, rt.alloc(), 1)?;
     /// assert!(rt; sender.try_broadcast(1).is_ok());
     /// drop(sender);
-    /// assert!(rt; matches!(receiver.recv_blocking()?, Ok(1)));
-    /// assert!(rt; matches!(receiver.recv_blocking()?, Err(RecvError::Closed)));
+    /// assert!(rt; matches!(receiver.recv_blocking(), Ok(Ok(1))));
+    /// assert!(rt; matches!(receiver.recv_blocking(), Ok(Err(RecvError::Closed))));
     /// ```
     ///
     /// Source: `Receiver::recv_blocking` of async-broadcast 0.7.2, which never refuses for memory.
@@ -128,7 +128,7 @@ impl<T: Clone, P: Port<T, Slot<A>>, A: Allocator + Copy> Receiver<T, P, A> {
     /// assert!(rt; sender.try_broadcast(1).is_ok());
     /// drop(sender);
     /// assert!(rt; !receiver.is_terminated());
-    /// assert!(rt; matches!(receiver.try_recv()?, Ok(1)));
+    /// assert!(rt; matches!(receiver.try_recv(), Ok(Ok(1))));
     /// assert!(rt; receiver.is_terminated());
     /// ```
     ///
@@ -149,8 +149,8 @@ impl<T: Clone, P: Port<T, Slot<A>>, A: Allocator + Copy> Receiver<T, P, A> {
     /// let (sender, mut one) = broadcast(&rt, rt.alloc(), 1)?;
     /// assert!(rt; sender.try_broadcast(1).is_ok());
     /// let mut two = one.clone()?;
-    /// assert!(rt; matches!(one.try_recv()?, Ok(1)));
-    /// assert!(rt; matches!(two.try_recv()?, Ok(1)));
+    /// assert!(rt; matches!(one.try_recv(), Ok(Ok(1))));
+    /// assert!(rt; matches!(two.try_recv(), Ok(Ok(1))));
     /// ```
     ///
     /// Source: `Receiver::clone` of async-broadcast 0.7.2, which never refuses.
@@ -182,7 +182,7 @@ impl<T: Clone, P: Port<T, Slot<A>>, A: Allocator + Copy> Receiver<T, P, A> {
     /// assert!(rt; sender.try_broadcast(1).is_ok());
     /// let mut two = one.new_receiver()?;
     /// assert!(rt; sender.try_broadcast(2).is_ok());
-    /// assert!(rt; matches!(two.try_recv()?, Ok(2)));
+    /// assert!(rt; matches!(two.try_recv(), Ok(Ok(2))));
     /// ```
     ///
     /// Source: `Receiver::new_receiver` of async-broadcast 0.7.2, which never refuses.
@@ -212,7 +212,7 @@ impl<T: Clone, P: Port<T, Slot<A>>, A: Allocator + Copy> Receiver<T, P, A> {
     /// let other = receiver.new_sender()?;
     /// drop(sender);
     /// assert!(rt; other.try_broadcast(1).is_ok());
-    /// assert!(rt; matches!(receiver.try_recv()?, Ok(1)));
+    /// assert!(rt; matches!(receiver.try_recv(), Ok(Ok(1))));
     /// ```
     ///
     /// Source: `Receiver::new_sender` of async-broadcast 0.7.2, which never refuses.
@@ -246,7 +246,7 @@ impl<T: Clone, P: Port<T, Slot<A>>, A: Allocator + Copy> Receiver<T, P, A> {
     /// assert!(rt; matches!(sender.try_broadcast(1), Err(TrySendError::Inactive(1))));
     /// let mut receiver = inactive.activate().ok().ok_or("no handle")?;
     /// assert!(rt; sender.try_broadcast(2).is_ok());
-    /// assert!(rt; matches!(receiver.try_recv()?, Ok(2)));
+    /// assert!(rt; matches!(receiver.try_recv(), Ok(Ok(2))));
     /// ```
     ///
     /// Source: `Receiver::deactivate` of async-broadcast 0.7.2, which never refuses.

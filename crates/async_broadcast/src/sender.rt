@@ -84,9 +84,9 @@ impl<T: Clone, P: Port<T, Slot<A>>, A: Allocator + Copy> Sender<T, P, A> {
     /// ```rust
     /// let (sender, mut receiver) = broadcast(&rt, rt.alloc(), 1)?;
     /// assert!(rt; sender.broadcast_blocking(7).is_ok());
-    /// assert!(rt; matches!(receiver.try_recv()?, Ok(7)));
+    /// assert!(rt; matches!(receiver.try_recv(), Ok(Ok(7))));
     /// assert!(rt; sender.broadcast_blocking(8).is_ok());
-    /// assert!(rt; matches!(receiver.recv_blocking()?, Ok(8)));
+    /// assert!(rt; matches!(receiver.recv_blocking(), Ok(Ok(8))));
     /// drop(receiver);
     /// assert!(rt; matches!(sender.broadcast_blocking(9), Err(SendError(9))));
     /// ```
@@ -115,8 +115,8 @@ impl<T: Clone, P: Port<T, Slot<A>>, A: Allocator + Copy> Sender<T, P, A> {
     /// drop(sender);
     /// assert!(rt; other.try_broadcast(1).is_ok());
     /// drop(other);
-    /// assert!(rt; matches!(receiver.try_recv()?, Ok(1)));
-    /// assert!(rt; matches!(receiver.try_recv()?, Err(TryRecvError::Closed)));
+    /// assert!(rt; matches!(receiver.try_recv(), Ok(Ok(1))));
+    /// assert!(rt; matches!(receiver.try_recv(), Ok(Err(TryRecvError::Closed))));
     /// ```
     ///
     /// Source: `Sender::clone` of async-broadcast 0.7.2, which never refuses.
@@ -147,8 +147,8 @@ impl<T: Clone, P: Port<T, Slot<A>>, A: Allocator + Copy> Sender<T, P, A> {
     /// assert!(rt; sender.try_broadcast(1).is_ok());
     /// let mut two = sender.new_receiver()?;
     /// assert!(rt; sender.try_broadcast(2).is_ok());
-    /// assert!(rt; matches!(one.try_recv()?, Ok(1)));
-    /// assert!(rt; matches!(two.try_recv()?, Ok(2)));
+    /// assert!(rt; matches!(one.try_recv(), Ok(Ok(1))));
+    /// assert!(rt; matches!(two.try_recv(), Ok(Ok(2))));
     /// ```
     ///
     /// Source: `Sender::new_receiver` of async-broadcast 0.7.2, which never refuses.

@@ -1,5 +1,5 @@
 //! Threads that wait for one another over channels.
-use async_broadcast::{Lock, Receiver, Sender};
+use async_broadcast::{Receiver, Sender};
 use std::sync::atomic::{AtomicU64, Ordering};
 use std::thread;
 
@@ -7,10 +7,10 @@ mod handshake;
 mod waiting;
 
 /// The sender of a thread.
-pub type Sending<R> = Sender<u64, Lock<u64, R>>;
+pub type Sending<P> = Sender<u64, P>;
 
 /// The receiver of a thread.
-pub type Receiving<R> = Receiver<u64, Lock<u64, R>>;
+pub type Receiving<P> = Receiver<u64, P>;
 
 /// How often a test looks for what threads have done, before it fails.
 const MOST_LOOKS: u64 = 20_000_000;

@@ -39,9 +39,9 @@ impl<T: Clone, P: Port<T, Slot<A>>, A: Allocator + Copy> Sender<T, P, A> {
     /// ```rust
     /// let (sender, mut receiver) = broadcast(&rt, rt.alloc(), 1)?;
     /// let mut send = sender.broadcast(1)?;
-    /// assert!(rt; matches!(receiver.try_recv()?, Err(TryRecvError::Empty)));
+    /// assert!(rt; matches!(receiver.try_recv(), Ok(Err(TryRecvError::Empty))));
     /// assert!(rt; matches!(block_on(&rt, &mut *send)?, Ok(Ok(None))));
-    /// assert!(rt; matches!(receiver.try_recv()?, Ok(1)));
+    /// assert!(rt; matches!(receiver.try_recv(), Ok(Ok(1))));
     /// ```
     ///
     /// Source: `Sender::broadcast` of async-broadcast 0.7.2, which never refuses.

@@ -38,13 +38,13 @@ impl<T: Clone, P: Port<T, Slot<A>>, A: Allocator + Copy> Receiver<T, P, A> {
     ///     assert!(rt; sender.try_broadcast(msg).is_ok());
     /// }
     /// for msg in 1..4u64 {
-    ///     assert!(rt; matches!(quick.try_recv()?, Ok(got) if got == msg));
+    ///     assert!(rt; matches!(quick.try_recv(), Ok(Ok(got)) if got == msg));
     /// }
     /// slow.set_capacity(2)?;
-    /// assert!(rt; matches!(slow.try_recv()?, Err(TryRecvError::Overflowed(2))));
-    /// assert!(rt; matches!(slow.try_recv()?, Ok(3)));
-    /// assert!(rt; matches!(quick.try_recv()?, Ok(4)));
-    /// assert!(rt; matches!(quick.try_recv()?, Err(TryRecvError::Empty)));
+    /// assert!(rt; matches!(slow.try_recv(), Ok(Err(TryRecvError::Overflowed(2)))));
+    /// assert!(rt; matches!(slow.try_recv(), Ok(Ok(3))));
+    /// assert!(rt; matches!(quick.try_recv(), Ok(Ok(4))));
+    /// assert!(rt; matches!(quick.try_recv(), Ok(Err(TryRecvError::Empty))));
     /// ```
     ///
     /// Source: `Receiver::set_capacity` of async-broadcast 0.7.2, which never refuses.

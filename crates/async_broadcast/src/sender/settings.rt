@@ -36,8 +36,8 @@ impl<T: Clone, P: Port<T, Slot<A>>, A: Allocator + Copy> Sender<T, P, A> {
     /// assert!(rt; sender.try_broadcast(1).is_ok());
     /// assert!(rt; sender.try_broadcast(2).is_ok());
     /// sender.set_capacity(1)?;
-    /// assert!(rt; matches!(receiver.try_recv()?, Err(TryRecvError::Overflowed(1))));
-    /// assert!(rt; matches!(receiver.try_recv()?, Ok(2)));
+    /// assert!(rt; matches!(receiver.try_recv(), Ok(Err(TryRecvError::Overflowed(1)))));
+    /// assert!(rt; matches!(receiver.try_recv(), Ok(Ok(2))));
     /// ```
     ///
     /// Source: `Sender::set_capacity` of async-broadcast 0.7.2, which never refuses.
@@ -72,8 +72,8 @@ impl<T: Clone, P: Port<T, Slot<A>>, A: Allocator + Copy> Sender<T, P, A> {
     /// sender.set_overflow(true);
     /// assert!(rt; matches!(sender.try_broadcast(1), Ok(None)));
     /// assert!(rt; matches!(sender.try_broadcast(2), Ok(Some(1))));
-    /// assert!(rt; matches!(receiver.try_recv()?, Err(TryRecvError::Overflowed(1))));
-    /// assert!(rt; matches!(receiver.try_recv()?, Ok(2)));
+    /// assert!(rt; matches!(receiver.try_recv(), Ok(Err(TryRecvError::Overflowed(1)))));
+    /// assert!(rt; matches!(receiver.try_recv(), Ok(Ok(2))));
     /// ```
     ///
     /// Source: `Sender::set_overflow` of async-broadcast 0.7.2.

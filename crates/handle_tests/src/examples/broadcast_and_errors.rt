@@ -1,33 +1,55 @@
 //! Of `lock.rt` and `lib.rt`.
-use async_broadcast::{NoMemory, TryRecvError, TrySendError, broadcast};
+use async_broadcast::{
+    NoMemory, Port, Receiver, Sender, Slot, TryRecvError, TrySendError, broadcast,
+};
 use futures::StreamExt;
 use futures::executor::block_on;
+use std::alloc::AllocGlobal;
+use std::process::Abort;
+use std::random::RandomSource;
+use std::sync::Wait;
 use std::test::Fail;
 
 // Of `broadcast`.
 #[test]
 fn a_channel_of_two(rt: HostRuntime) -> Result<(), Fail> {
-    let (sender, mut one) = broadcast(&rt, rt.alloc(), 2)?;
+    let (sender, one) = broadcast(&rt, rt.alloc(), 2)?;
+    plays_two(&rt, sender, one)
+}
+
+fn plays_two<R: Abort + Wait + RandomSource + AllocGlobal, P: Port<u64, Slot>>(
+    rt: &R,
+    sender: Sender<u64, P>,
+    mut one: Receiver<u64, P>,
+) -> Result<(), Fail> {
     let mut two = one.clone()?;
     assert!(rt; sender.try_broadcast(7).is_ok());
     assert!(rt; sender.try_broadcast(8).is_ok());
     assert!(rt; matches!(sender.try_broadcast(9), Err(TrySendError::Full(9))));
 
-    assert!(rt; matches!(one.try_recv()?, Ok(7)));
+    assert!(rt; matches!(one.try_recv(), Ok(Ok(7))));
     assert!(rt; matches!(block_on(&rt, one.next())?, Some(Ok(8))));
-    assert!(rt; matches!(two.recv_blocking()?, Ok(7)));
+    assert!(rt; matches!(two.recv_blocking(), Ok(Ok(7))));
     assert!(rt; matches!(block_on(&rt, two.recv_direct())?, Ok(Ok(8))));
-    assert!(rt; matches!(one.try_recv()?, Err(TryRecvError::Empty)));
+    assert!(rt; matches!(one.try_recv(), Ok(Err(TryRecvError::Empty))));
 
     drop(sender);
-    assert!(rt; matches!(two.try_recv()?, Err(TryRecvError::Closed)));
+    assert!(rt; matches!(two.try_recv(), Ok(Err(TryRecvError::Closed))));
     Ok(())
 }
 
 // Of the crate, on its errors.
 #[test]
 fn errors(rt: HostRuntime) -> Result<(), Fail> {
-    let (sender, mut receiver) = broadcast(&rt, rt.alloc(), 1)?;
+    let (sender, receiver) = broadcast(&rt, rt.alloc(), 1)?;
+    refuses(&rt, sender, receiver)
+}
+
+fn refuses<P: Port<u64, Slot>>(
+    rt: &impl Abort,
+    sender: Sender<u64, P>,
+    mut receiver: Receiver<u64, P>,
+) -> Result<(), Fail> {
     let error = receiver.try_recv()?.err().ok_or("received")?;
     assert!(rt; error.is_empty() && !error.is_closed() && !error.is_overflowed());
     assert!(rt; sender.try_broadcast(1).is_ok());

@@ -1,22 +1,43 @@
 //! Of `future/send.rt` and `future/recv.rt`.
-use async_broadcast::{RecvError, SendError, TryRecvError, broadcast};
+use async_broadcast::{
+    Port, Receiver, RecvError, SendError, Sender, Slot, TryRecvError, broadcast,
+};
 use futures::executor::block_on;
 use futures::task::Poll;
 use futures::test::MockTask;
+use std::alloc::AllocGlobal;
+use std::process::Abort;
+use std::random::RandomSource;
+use std::sync::Wait;
 use std::test::Fail;
 
 // Of `broadcast`, and then of `broadcast_direct`.
 #[test]
 fn sends(rt: HostRuntime) -> Result<(), Fail> {
-    let (sender, mut receiver) = broadcast(&rt, rt.alloc(), 1)?;
-    let mut send = sender.broadcast(1)?;
-    assert!(rt; matches!(receiver.try_recv()?, Err(TryRecvError::Empty)));
-    assert!(rt; matches!(block_on(&rt, &mut *send)?, Ok(Ok(None))));
-    assert!(rt; matches!(receiver.try_recv()?, Ok(1)));
-    drop(send);
-    drop((sender, receiver));
+    let (sender, receiver) = broadcast(&rt, rt.alloc(), 1)?;
+    sends_in_a_box(&rt, sender, receiver)?;
 
     let (sender, receiver) = broadcast(&rt, rt.alloc(), 1)?;
+    sends_directly(&rt, sender, receiver)
+}
+
+fn sends_in_a_box<R: Abort + Wait + RandomSource + AllocGlobal, P: Port<u64, Slot>>(
+    rt: &R,
+    sender: Sender<u64, P>,
+    mut receiver: Receiver<u64, P>,
+) -> Result<(), Fail> {
+    let mut send = sender.broadcast(1)?;
+    assert!(rt; matches!(receiver.try_recv(), Ok(Err(TryRecvError::Empty))));
+    assert!(rt; matches!(block_on(&rt, &mut *send)?, Ok(Ok(None))));
+    assert!(rt; matches!(receiver.try_recv(), Ok(Ok(1))));
+    Ok(())
+}
+
+fn sends_directly<R: Abort + Wait + RandomSource + AllocGlobal, P: Port<u64, Slot>>(
+    rt: &R,
+    sender: Sender<u64, P>,
+    receiver: Receiver<u64, P>,
+) -> Result<(), Fail> {
     assert!(rt; matches!(block_on(&rt, sender.broadcast_direct(1)?)?, Ok(Ok(None))));
     drop(receiver);
     let refused = block_on(&rt, sender.broadcast_direct(2)?)?;
@@ -27,20 +48,44 @@ fn sends(rt: HostRuntime) -> Result<(), Fail> {
 // Of `recv`, and then of `recv_direct` and `poll_recv`.
 #[test]
 fn receives(rt: HostRuntime) -> Result<(), Fail> {
-    let (sender, mut receiver) = broadcast(&rt, rt.alloc(), 1)?;
+    let (sender, receiver) = broadcast(&rt, rt.alloc(), 1)?;
+    receives_in_a_box(&rt, sender, receiver)?;
+
+    let (sender, receiver) = broadcast(&rt, rt.alloc(), 1)?;
+    receives_directly(&rt, sender, receiver)?;
+
+    let (sender, receiver) = broadcast(&rt, rt.alloc(), 1)?;
+    polls(&rt, sender, receiver)
+}
+
+fn receives_in_a_box<R: Abort + Wait + RandomSource + AllocGlobal, P: Port<u64, Slot>>(
+    rt: &R,
+    sender: Sender<u64, P>,
+    mut receiver: Receiver<u64, P>,
+) -> Result<(), Fail> {
     assert!(rt; sender.try_broadcast(1).is_ok());
     assert!(rt; matches!(block_on(&rt, &mut *receiver.recv()?)?, Ok(Ok(1))));
-    drop((sender, receiver));
+    Ok(())
+}
 
-    let (sender, mut receiver) = broadcast(&rt, rt.alloc(), 1)?;
+fn receives_directly<R: Abort + Wait + RandomSource + AllocGlobal, P: Port<u64, Slot>>(
+    rt: &R,
+    sender: Sender<u64, P>,
+    mut receiver: Receiver<u64, P>,
+) -> Result<(), Fail> {
     assert!(rt; sender.try_broadcast(1).is_ok());
     drop(sender);
     assert!(rt; matches!(block_on(&rt, receiver.recv_direct())?, Ok(Ok(1))));
     let ended = block_on(&rt, receiver.recv_direct())?;
     assert!(rt; matches!(ended, Ok(Err(RecvError::Closed))));
-    drop(receiver);
+    Ok(())
+}
 
-    let (sender, mut receiver) = broadcast(&rt, rt.alloc(), 1)?;
+fn polls<R: Abort + RandomSource + AllocGlobal, P: Port<u64, Slot>>(
+    rt: &R,
+    sender: Sender<u64, P>,
+    mut receiver: Receiver<u64, P>,
+) -> Result<(), Fail> {
     let task = MockTask::new(&rt)?;
     assert!(rt; matches!(task.enter(|cx| receiver.poll_recv(cx)), Ok(Poll::Pending)));
     assert!(rt; sender.try_broadcast(1).is_ok());

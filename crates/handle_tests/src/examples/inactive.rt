@@ -1,32 +1,56 @@
 //! Of `inactive.rt`.
-use async_broadcast::broadcast;
+use async_broadcast::{Port, Receiver, Sender, Slot, broadcast};
+use std::process::Abort;
 use std::test::Fail;
 
 // Of `activate`, and then of `activate_cloned`.
 #[test]
 fn activation(rt: HostRuntime) -> Result<(), Fail> {
     let (sender, receiver) = broadcast(&rt, rt.alloc(), 1)?;
+    activates(&rt, sender, receiver)?;
+
+    let (sender, receiver) = broadcast(&rt, rt.alloc(), 1)?;
+    activates_clones(&rt, sender, receiver)
+}
+
+fn activates<P: Port<u64, Slot>>(
+    rt: &impl Abort,
+    sender: Sender<u64, P>,
+    receiver: Receiver<u64, P>,
+) -> Result<(), Fail> {
     let inactive = receiver.deactivate().ok().ok_or("no handle")?;
     let mut receiver = inactive.activate().ok().ok_or("no handle")?;
     assert!(rt; sender.try_broadcast(1).is_ok());
-    assert!(rt; matches!(receiver.try_recv()?, Ok(1)));
-    drop(sender);
-    drop(receiver);
+    assert!(rt; matches!(receiver.try_recv(), Ok(Ok(1))));
+    Ok(())
+}
 
-    let (sender, receiver) = broadcast(&rt, rt.alloc(), 1)?;
+fn activates_clones<P: Port<u64, Slot>>(
+    rt: &impl Abort,
+    sender: Sender<u64, P>,
+    receiver: Receiver<u64, P>,
+) -> Result<(), Fail> {
     let inactive = receiver.deactivate().ok().ok_or("no handle")?;
     let mut one = inactive.activate_cloned()?;
     let mut two = inactive.activate_cloned()?;
     assert!(rt; sender.try_broadcast(1).is_ok());
-    assert!(rt; matches!(one.try_recv()?, Ok(1)));
-    assert!(rt; matches!(two.try_recv()?, Ok(1)));
+    assert!(rt; matches!(one.try_recv(), Ok(Ok(1))));
+    assert!(rt; matches!(two.try_recv(), Ok(Ok(1))));
     Ok(())
 }
 
 // Of `clone`.
 #[test]
 fn an_inactive_receiver_keeps_it_open(rt: HostRuntime) -> Result<(), Fail> {
-    let (sender, receiver) = broadcast::<u64, _, _>(&rt, rt.alloc(), 1)?;
+    let (sender, receiver) = broadcast(&rt, rt.alloc(), 1)?;
+    keeps_it_open(&rt, sender, receiver)
+}
+
+fn keeps_it_open<P: Port<u64, Slot>>(
+    rt: &impl Abort,
+    sender: Sender<u64, P>,
+    receiver: Receiver<u64, P>,
+) -> Result<(), Fail> {
     let one = receiver.deactivate().ok().ok_or("no handle")?;
     let two = one.clone()?;
     drop(one);

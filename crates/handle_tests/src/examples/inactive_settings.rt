@@ -1,11 +1,20 @@
 //! Of `inactive/settings.rt`.
-use async_broadcast::{SendError, broadcast};
+use async_broadcast::{Port, Receiver, SendError, Sender, Slot, broadcast};
+use std::process::Abort;
 use std::test::Fail;
 
 // Of the calls that say how a channel is.
 #[test]
 fn what_an_inactive_receiver_says(rt: HostRuntime) -> Result<(), Fail> {
-    let (sender, receiver) = broadcast::<u64, _, _>(&rt, rt.alloc(), 1)?;
+    let (sender, receiver) = broadcast(&rt, rt.alloc(), 1)?;
+    says(&rt, sender, receiver)
+}
+
+fn says<P: Port<u64, Slot>>(
+    rt: &impl Abort,
+    sender: Sender<u64, P>,
+    receiver: Receiver<u64, P>,
+) -> Result<(), Fail> {
     let inactive = receiver
         .new_receiver()?
         .deactivate()
@@ -31,7 +40,18 @@ fn what_an_inactive_receiver_says(rt: HostRuntime) -> Result<(), Fail> {
 // Of `overflow`, `await_active`, `close` and `is_closed`.
 #[test]
 fn modes_by_an_inactive_receiver(rt: HostRuntime) -> Result<(), Fail> {
-    let (sender, receiver) = broadcast::<u64, _, _>(&rt, rt.alloc(), 1)?;
+    let (sender, receiver) = broadcast(&rt, rt.alloc(), 1)?;
+    changes_modes(&rt, sender, receiver)?;
+
+    let (sender, receiver) = broadcast(&rt, rt.alloc(), 1)?;
+    sees_the_end(&rt, sender, receiver)
+}
+
+fn changes_modes<P: Port<u64, Slot>>(
+    rt: &impl Abort,
+    sender: Sender<u64, P>,
+    receiver: Receiver<u64, P>,
+) -> Result<(), Fail> {
     let mut inactive = receiver
         .new_receiver()?
         .deactivate()
@@ -45,9 +65,14 @@ fn modes_by_an_inactive_receiver(rt: HostRuntime) -> Result<(), Fail> {
     assert!(rt; !inactive.await_active());
     assert!(rt; inactive.close());
     assert!(rt; !inactive.close());
-    drop((sender, receiver, inactive));
+    Ok(())
+}
 
-    let (sender, receiver) = broadcast::<u64, _, _>(&rt, rt.alloc(), 1)?;
+fn sees_the_end<P: Port<u64, Slot>>(
+    rt: &impl Abort,
+    sender: Sender<u64, P>,
+    receiver: Receiver<u64, P>,
+) -> Result<(), Fail> {
     let inactive = receiver
         .new_receiver()?
         .deactivate()
@@ -63,6 +88,20 @@ fn modes_by_an_inactive_receiver(rt: HostRuntime) -> Result<(), Fail> {
 #[test]
 fn changes_by_an_inactive_receiver(rt: HostRuntime) -> Result<(), Fail> {
     let (sender, receiver) = broadcast(&rt, rt.alloc(), 1)?;
+    grows(&rt, sender, receiver)?;
+
+    let (sender, receiver) = broadcast(&rt, rt.alloc(), 1)?;
+    overflows(&rt, sender, receiver)?;
+
+    let (sender, receiver) = broadcast(&rt, rt.alloc(), 1)?;
+    awaits_nobody(&rt, sender, receiver)
+}
+
+fn grows<P: Port<u64, Slot>>(
+    rt: &impl Abort,
+    sender: Sender<u64, P>,
+    receiver: Receiver<u64, P>,
+) -> Result<(), Fail> {
     let mut inactive = receiver
         .new_receiver()?
         .deactivate()
@@ -71,9 +110,14 @@ fn changes_by_an_inactive_receiver(rt: HostRuntime) -> Result<(), Fail> {
     inactive.set_capacity(2)?;
     assert!(rt; sender.try_broadcast(1).is_ok());
     assert!(rt; sender.try_broadcast(2).is_ok());
-    drop((sender, receiver, inactive));
+    Ok(())
+}
 
-    let (sender, receiver) = broadcast(&rt, rt.alloc(), 1)?;
+fn overflows<P: Port<u64, Slot>>(
+    rt: &impl Abort,
+    sender: Sender<u64, P>,
+    receiver: Receiver<u64, P>,
+) -> Result<(), Fail> {
     let mut inactive = receiver
         .new_receiver()?
         .deactivate()
@@ -82,9 +126,14 @@ fn changes_by_an_inactive_receiver(rt: HostRuntime) -> Result<(), Fail> {
     inactive.set_overflow(true);
     assert!(rt; matches!(sender.try_broadcast(1), Ok(None)));
     assert!(rt; matches!(sender.try_broadcast(2), Ok(Some(1))));
-    drop((sender, receiver, inactive));
+    Ok(())
+}
 
-    let (sender, receiver) = broadcast(&rt, rt.alloc(), 1)?;
+fn awaits_nobody<P: Port<u64, Slot>>(
+    rt: &impl Abort,
+    sender: Sender<u64, P>,
+    receiver: Receiver<u64, P>,
+) -> Result<(), Fail> {
     let mut inactive = receiver.deactivate().ok().ok_or("no handle")?;
     inactive.set_await_active(false);
     assert!(rt; matches!(sender.broadcast_blocking(7), Err(SendError(7))));

@@ -1,11 +1,22 @@
 //! Of `sender.rt`.
-use async_broadcast::{SendError, TryRecvError, TrySendError, broadcast};
+use async_broadcast::{
+    Port, Receiver, SendError, Sender, Slot, TryRecvError, TrySendError, broadcast,
+};
+use std::process::Abort;
 use std::test::Fail;
 
 // Of `try_broadcast`.
 #[test]
 fn offers(rt: HostRuntime) -> Result<(), Fail> {
     let (sender, receiver) = broadcast(&rt, rt.alloc(), 1)?;
+    tries(&rt, sender, receiver)
+}
+
+fn tries<P: Port<u64, Slot>>(
+    rt: &impl Abort,
+    sender: Sender<u64, P>,
+    receiver: Receiver<u64, P>,
+) -> Result<(), Fail> {
     assert!(rt; matches!(sender.try_broadcast(1), Ok(None)));
     assert!(rt; matches!(sender.try_broadcast(2), Err(TrySendError::Full(2))));
     let inactive = receiver.deactivate().ok().ok_or("no handle")?;
@@ -18,33 +29,57 @@ fn offers(rt: HostRuntime) -> Result<(), Fail> {
 // Of `broadcast_blocking`.
 #[test]
 fn blocking_sends(rt: HostRuntime) -> Result<(), Fail> {
-    let (sender, mut receiver) = broadcast(&rt, rt.alloc(), 1)?;
+    let (sender, receiver) = broadcast(&rt, rt.alloc(), 1)?;
+    blocks(&rt, sender, receiver);
+    Ok(())
+}
+
+fn blocks<P: Port<u64, Slot>>(
+    rt: &impl Abort,
+    sender: Sender<u64, P>,
+    mut receiver: Receiver<u64, P>,
+) {
     assert!(rt; sender.broadcast_blocking(7).is_ok());
-    assert!(rt; matches!(receiver.try_recv()?, Ok(7)));
+    assert!(rt; matches!(receiver.try_recv(), Ok(Ok(7))));
     assert!(rt; sender.broadcast_blocking(8).is_ok());
-    assert!(rt; matches!(receiver.recv_blocking()?, Ok(8)));
+    assert!(rt; matches!(receiver.recv_blocking(), Ok(Ok(8))));
     drop(receiver);
     assert!(rt; matches!(sender.broadcast_blocking(9), Err(SendError(9))));
-    Ok(())
 }
 
 // Of `clone`, and then of `new_receiver`.
 #[test]
 fn handles_of_a_sender(rt: HostRuntime) -> Result<(), Fail> {
-    let (sender, mut receiver) = broadcast(&rt, rt.alloc(), 1)?;
+    let (sender, receiver) = broadcast(&rt, rt.alloc(), 1)?;
+    clones(&rt, sender, receiver)?;
+
+    let (sender, one) = broadcast(&rt, rt.alloc(), 2)?;
+    adds_a_receiver(&rt, sender, one)
+}
+
+fn clones<P: Port<u64, Slot>>(
+    rt: &impl Abort,
+    sender: Sender<u64, P>,
+    mut receiver: Receiver<u64, P>,
+) -> Result<(), Fail> {
     let other = sender.clone()?;
     drop(sender);
     assert!(rt; other.try_broadcast(1).is_ok());
     drop(other);
-    assert!(rt; matches!(receiver.try_recv()?, Ok(1)));
-    assert!(rt; matches!(receiver.try_recv()?, Err(TryRecvError::Closed)));
-    drop(receiver);
+    assert!(rt; matches!(receiver.try_recv(), Ok(Ok(1))));
+    assert!(rt; matches!(receiver.try_recv(), Ok(Err(TryRecvError::Closed))));
+    Ok(())
+}
 
-    let (sender, mut one) = broadcast(&rt, rt.alloc(), 2)?;
+fn adds_a_receiver<P: Port<u64, Slot>>(
+    rt: &impl Abort,
+    sender: Sender<u64, P>,
+    mut one: Receiver<u64, P>,
+) -> Result<(), Fail> {
     assert!(rt; sender.try_broadcast(1).is_ok());
     let mut two = sender.new_receiver()?;
     assert!(rt; sender.try_broadcast(2).is_ok());
-    assert!(rt; matches!(one.try_recv()?, Ok(1)));
-    assert!(rt; matches!(two.try_recv()?, Ok(2)));
+    assert!(rt; matches!(one.try_recv(), Ok(Ok(1))));
+    assert!(rt; matches!(two.try_recv(), Ok(Ok(2))));
     Ok(())
 }

@@ -1,11 +1,20 @@
 //! Of `sender/settings.rt`.
-use async_broadcast::{SendError, TryRecvError, broadcast};
+use async_broadcast::{Port, Receiver, SendError, Sender, Slot, TryRecvError, broadcast};
+use std::process::Abort;
 use std::test::Fail;
 
 // Of the calls that say how a channel is.
 #[test]
 fn what_a_sender_says(rt: HostRuntime) -> Result<(), Fail> {
-    let (sender, receiver) = broadcast::<u64, _, _>(&rt, rt.alloc(), 1)?;
+    let (sender, receiver) = broadcast(&rt, rt.alloc(), 1)?;
+    says(&rt, sender, receiver)
+}
+
+fn says<P: Port<u64, Slot>>(
+    rt: &impl Abort,
+    sender: Sender<u64, P>,
+    receiver: Receiver<u64, P>,
+) -> Result<(), Fail> {
     assert!(rt; sender.capacity() == 1);
     assert!(rt; sender.is_empty());
     assert!(rt; !sender.is_full());
@@ -27,7 +36,19 @@ fn what_a_sender_says(rt: HostRuntime) -> Result<(), Fail> {
 // Of `overflow`, `await_active`, `close` and `is_closed`.
 #[test]
 fn modes_by_a_sender(rt: HostRuntime) -> Result<(), Fail> {
-    let (mut sender, receiver) = broadcast::<u64, _, _>(&rt, rt.alloc(), 1)?;
+    let (sender, receiver) = broadcast(&rt, rt.alloc(), 1)?;
+    changes_modes(&rt, sender, receiver);
+
+    let (sender, receiver) = broadcast(&rt, rt.alloc(), 1)?;
+    sees_the_end(&rt, sender, receiver);
+    Ok(())
+}
+
+fn changes_modes<P: Port<u64, Slot>>(
+    rt: &impl Abort,
+    mut sender: Sender<u64, P>,
+    receiver: Receiver<u64, P>,
+) {
     assert!(rt; !sender.overflow());
     sender.set_overflow(true);
     assert!(rt; sender.overflow());
@@ -36,38 +57,61 @@ fn modes_by_a_sender(rt: HostRuntime) -> Result<(), Fail> {
     assert!(rt; !sender.await_active());
     assert!(rt; sender.close());
     assert!(rt; !sender.close());
-    drop(receiver);
-    drop(sender);
+}
 
-    let (sender, receiver) = broadcast::<u64, _, _>(&rt, rt.alloc(), 1)?;
+fn sees_the_end<P: Port<u64, Slot>>(
+    rt: &impl Abort,
+    sender: Sender<u64, P>,
+    receiver: Receiver<u64, P>,
+) {
     assert!(rt; !sender.is_closed());
     receiver.close();
     assert!(rt; sender.is_closed());
-    Ok(())
 }
 
 // Of `set_capacity`, `set_overflow` and `set_await_active`.
 #[test]
 fn changes_by_a_sender(rt: HostRuntime) -> Result<(), Fail> {
-    let (mut sender, mut receiver) = broadcast(&rt, rt.alloc(), 2)?;
+    let (sender, receiver) = broadcast(&rt, rt.alloc(), 2)?;
+    shrinks(&rt, sender, receiver)?;
+
+    let (sender, receiver) = broadcast(&rt, rt.alloc(), 1)?;
+    overflows(&rt, sender, receiver);
+
+    let (sender, receiver) = broadcast(&rt, rt.alloc(), 1)?;
+    awaits_nobody(&rt, sender, receiver)
+}
+
+fn shrinks<P: Port<u64, Slot>>(
+    rt: &impl Abort,
+    mut sender: Sender<u64, P>,
+    mut receiver: Receiver<u64, P>,
+) -> Result<(), Fail> {
     assert!(rt; sender.try_broadcast(1).is_ok());
     assert!(rt; sender.try_broadcast(2).is_ok());
     sender.set_capacity(1)?;
-    assert!(rt; matches!(receiver.try_recv()?, Err(TryRecvError::Overflowed(1))));
-    assert!(rt; matches!(receiver.try_recv()?, Ok(2)));
-    drop(sender);
-    drop(receiver);
+    assert!(rt; matches!(receiver.try_recv(), Ok(Err(TryRecvError::Overflowed(1)))));
+    assert!(rt; matches!(receiver.try_recv(), Ok(Ok(2))));
+    Ok(())
+}
 
-    let (mut sender, mut receiver) = broadcast(&rt, rt.alloc(), 1)?;
+fn overflows<P: Port<u64, Slot>>(
+    rt: &impl Abort,
+    mut sender: Sender<u64, P>,
+    mut receiver: Receiver<u64, P>,
+) {
     sender.set_overflow(true);
     assert!(rt; matches!(sender.try_broadcast(1), Ok(None)));
     assert!(rt; matches!(sender.try_broadcast(2), Ok(Some(1))));
-    assert!(rt; matches!(receiver.try_recv()?, Err(TryRecvError::Overflowed(1))));
-    assert!(rt; matches!(receiver.try_recv()?, Ok(2)));
-    drop(sender);
-    drop(receiver);
+    assert!(rt; matches!(receiver.try_recv(), Ok(Err(TryRecvError::Overflowed(1)))));
+    assert!(rt; matches!(receiver.try_recv(), Ok(Ok(2))));
+}
 
-    let (mut sender, receiver) = broadcast(&rt, rt.alloc(), 1)?;
+fn awaits_nobody<P: Port<u64, Slot>>(
+    rt: &impl Abort,
+    mut sender: Sender<u64, P>,
+    receiver: Receiver<u64, P>,
+) -> Result<(), Fail> {
     let _inactive = receiver.deactivate().ok().ok_or("no handle")?;
     sender.set_await_active(false);
     assert!(rt; matches!(sender.broadcast_blocking(7), Err(SendError(7))));

@@ -1,5 +1,5 @@
 //! The tasks, whose polls are counted.
-use async_broadcast::{Lock, Receiver, Send, Sender};
+use async_broadcast::{Port, Receiver, Send, Sender, Slot};
 use futures::stream::{Count, TryCollect};
 use futures::task::{Context, Poll};
 use futures::{Future, Stream, StreamExt, TryStreamExt};
@@ -38,12 +38,12 @@ impl Counts {
 
 /// A receiver as a stream.
 #[derive(Drop)]
-struct Received<'a, R: Wait + Clone> {
-    receiver: Receiver<u64, Lock<u64, R>>,
+struct Received<'a, P: Port<u64, Slot>> {
+    receiver: Receiver<u64, P>,
     counts: &'a Counts,
 }
 
-impl<R: Wait + Clone> Stream for Received<'_, R> {
+impl<P: Port<u64, Slot>> Stream for Received<'_, P> {
     type Item = Result<u64, AllocError>;
 
     fn poll_next(&mut self, cx: &mut Context<'_>) -> Poll<Option<Result<u64, AllocError>>> {
@@ -55,16 +55,16 @@ impl<R: Wait + Clone> Stream for Received<'_, R> {
 /// The sends of a sender, one after another. An item says that a number was accepted, and the
 /// stream ends with the last one, or where one is refused.
 #[derive(Drop)]
-struct Sends<'a, R: Wait + Clone> {
-    sender: &'a Sender<u64, Lock<u64, R>>,
+struct Sends<'a, P: Port<u64, Slot>> {
+    sender: &'a Sender<u64, P>,
     next: u64,
     end: u64,
     // Of the number before `next`, until it is accepted.
-    send: Option<Send<'a, u64, Lock<u64, R>>>,
+    send: Option<Send<'a, u64, P>>,
     counts: &'a Counts,
 }
 
-impl<R: Wait + Clone> Stream for Sends<'_, R> {
+impl<P: Port<u64, Slot>> Stream for Sends<'_, P> {
     type Item = ();
 
     fn poll_next(&mut self, cx: &mut Context<'_>) -> Poll<Option<()>> {
@@ -89,33 +89,33 @@ impl<R: Wait + Clone> Stream for Sends<'_, R> {
 
 /// A task of the pool.
 #[derive(Drop)]
-pub enum Task<'a, R: Wait + Clone> {
-    Receiving(Receiving<'a, R>),
-    Sending(Sending<'a, R>),
+pub enum Task<'a, R: Wait + Drop, P: Port<u64, Slot>> {
+    Receiving(Receiving<'a, R, P>),
+    Sending(Sending<'a, P>),
 }
 
 /// Receives to the end, and keeps the list of what came.
 #[derive(Drop)]
-pub struct Receiving<'a, R: Wait + Clone> {
+pub struct Receiving<'a, R: Wait + Drop, P: Port<u64, Slot>> {
     rt: R,
-    list: TryCollect<Received<'a, R>, u64>,
+    list: TryCollect<Received<'a, P>, u64>,
     lists: &'a Mutex<Vec<Vec<u64>>>,
 }
 
 /// Sends numbers. The last of the senders closes the channel.
 #[derive(Drop)]
-pub struct Sending<'a, R: Wait + Clone> {
-    sender: &'a Sender<u64, Lock<u64, R>>,
-    count: Count<Sends<'a, R>>,
+pub struct Sending<'a, P: Port<u64, Slot>> {
+    sender: &'a Sender<u64, P>,
+    count: Count<Sends<'a, P>>,
     counts: &'a Counts,
 }
 
-impl<'a, R: Wait + Clone> Task<'a, R> {
+impl<'a, R: Wait + Drop, P: Port<u64, Slot>> Task<'a, R, P> {
     /// Receives to the end, and adds what came to `lists`.
     pub fn receiving(
         rt: R,
         alloc: Global,
-        receiver: Receiver<u64, Lock<u64, R>>,
+        receiver: Receiver<u64, P>,
         counts: &'a Counts,
         lists: &'a Mutex<Vec<Vec<u64>>>,
     ) -> Self {
@@ -124,12 +124,7 @@ impl<'a, R: Wait + Clone> Task<'a, R> {
     }
 
     /// Sends `count` numbers from `first` on.
-    pub fn sending(
-        sender: &'a Sender<u64, Lock<u64, R>>,
-        first: u64,
-        count: u64,
-        counts: &'a Counts,
-    ) -> Self {
+    pub fn sending(sender: &'a Sender<u64, P>, first: u64, count: u64, counts: &'a Counts) -> Self {
         let sends = Sends {
             sender,
             next: first,
@@ -145,7 +140,7 @@ impl<'a, R: Wait + Clone> Task<'a, R> {
     }
 }
 
-impl<R: Wait + Clone> Future for Receiving<'_, R> {
+impl<R: Wait + Drop, P: Port<u64, Slot>> Future for Receiving<'_, R, P> {
     type Output = ();
 
     fn poll(&mut self, cx: &mut Context<'_>) -> Poll<()> {
@@ -164,7 +159,7 @@ fn keep<R: Wait>(rt: &R, lists: &Mutex<Vec<Vec<u64>>>, list: Result<Vec<u64>, Al
     }
 }
 
-impl<R: Wait + Clone> Future for Sending<'_, R> {
+impl<P: Port<u64, Slot>> Future for Sending<'_, P> {
     type Output = ();
 
     fn poll(&mut self, cx: &mut Context<'_>) -> Poll<()> {
@@ -178,7 +173,7 @@ impl<R: Wait + Clone> Future for Sending<'_, R> {
     }
 }
 
-impl<R: Wait + Clone> Future for Task<'_, R> {
+impl<R: Wait + Drop, P: Port<u64, Slot>> Future for Task<'_, R, P> {
     type Output = ();
 
     fn poll(&mut self, cx: &mut Context<'_>) -> Poll<()> {

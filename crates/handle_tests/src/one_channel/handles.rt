@@ -1,35 +1,34 @@
 //! Handles of one channel, and a state that has as many.
 use super::settings::{Settings, settings};
-use async_broadcast::{InactiveReceiver, Lock, Receiver, Sender};
+use async_broadcast::{InactiveReceiver, Port, Receiver, Sender, Slot};
 use bcast_core::{Inner, Silent};
 use std::alloc::Global;
 use std::process::Abort;
-use std::sync::Wait;
 use std::test::Fail;
 
-pub type One<R> = Sender<u64, Lock<u64, R>>;
+pub type One<P> = Sender<u64, P>;
 
-pub type Active<R> = Receiver<u64, Lock<u64, R>>;
+pub type Active<P> = Receiver<u64, P>;
 
-pub type Inactive<R> = InactiveReceiver<u64, Lock<u64, R>>;
+pub type Inactive<P> = InactiveReceiver<u64, P>;
 
 /// Handles of one channel, each but the first two made by another, and a state that has as many.
 #[derive(Drop)]
-pub struct Handles<R: Wait + Clone> {
-    pub senders: Vec<One<R>>,
-    pub receivers: Vec<Active<R>>,
-    pub inactive: Vec<Inactive<R>>,
+pub struct Handles<P: Port<u64, Slot>> {
+    pub senders: Vec<One<P>>,
+    pub receivers: Vec<Active<P>>,
+    pub inactive: Vec<Inactive<P>>,
     pub state: Inner<u64, Silent>,
     /// Of the receivers, in their order.
     pub keys: Vec<usize>,
 }
 
-impl<R: Wait + Clone> Handles<R> {
+impl<P: Port<u64, Slot>> Handles<P> {
     /// A sender and a receiver, beside a state that has both.
     pub fn new(
         alloc: Global,
-        sender: One<R>,
-        receiver: Active<R>,
+        sender: One<P>,
+        receiver: Active<P>,
         state: Inner<u64, Silent>,
         key: usize,
     ) -> Result<Self, Fail> {

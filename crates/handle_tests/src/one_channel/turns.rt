@@ -3,7 +3,7 @@ ghost use Rattle.std.specs.Prelude.{◌<◌};
 
 use super::Turn;
 use super::handles::Handles;
-use std::sync::Wait;
+use async_broadcast::{Port, Slot};
 
 /// The element whose turn it is. None: there is no element.
 fn pick<H>(handles: &[H], number: usize) -> Option<&H> {
@@ -15,7 +15,7 @@ fn pick_mut<H>(handles: &mut [H], number: usize) -> Option<&mut H> {
     handles.get_mut(index)
 }
 
-impl<R: Wait + Clone> Handles<R> {
+impl<P: Port<u64, Slot>> Handles<P> {
     /// Makes the call by the handle whose turn it is, and on the state. Whether both answered the
     /// same. None: there is no such handle.
     pub fn answer_alike(&mut self, number: usize, turn: Turn) -> Option<bool> {

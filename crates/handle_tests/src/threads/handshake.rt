@@ -1,10 +1,10 @@
 //! Two threads that answer each other over two channels.
 use super::{Receiving, Sending, reaches};
-use async_broadcast::broadcast;
+use async_broadcast::{Port, Slot, broadcast};
 use std::alloc::AllocError;
 use std::process::Abort;
+use std::sync::Arc;
 use std::sync::atomic::{AtomicU64, Ordering};
-use std::sync::{Arc, Wait};
 use std::test::Fail;
 use std::thread;
 
@@ -27,10 +27,10 @@ fn handshake(rt: HostRuntime) -> Result<(), Fail> {
 }
 
 // Sends each number, and waits for it to come back.
-fn ask<R: Wait + Abort + Clone>(
-    rt: &R,
-    numbers: Sending<R>,
-    mut answers: Receiving<R>,
+fn ask<P: Port<u64, Slot>>(
+    rt: &impl Abort,
+    numbers: Sending<P>,
+    mut answers: Receiving<P>,
     finished: &AtomicU64,
 ) {
     for number in 1..=ROUNDS {
@@ -41,10 +41,10 @@ fn ask<R: Wait + Abort + Clone>(
 }
 
 // Waits for each number, and sends it back.
-fn answer<R: Wait + Abort + Clone>(
-    rt: &R,
-    answers: Sending<R>,
-    mut numbers: Receiving<R>,
+fn answer<P: Port<u64, Slot>>(
+    rt: &impl Abort,
+    answers: Sending<P>,
+    mut numbers: Receiving<P>,
     finished: &AtomicU64,
 ) {
     for number in 1..=ROUNDS {
@@ -54,14 +54,14 @@ fn answer<R: Wait + Abort + Clone>(
     finished.fetch_add(1, Ordering::SeqCst);
 }
 
-fn send<R: Wait + Abort + Clone>(rt: &R, sender: &Sending<R>, number: u64) {
+fn send<P: Port<u64, Slot>>(rt: &impl Abort, sender: &Sending<P>, number: u64) {
     assert!(rt;
         sender.broadcast_blocking(number).is_ok(),
         "{number} is sent"
     );
 }
 
-fn receive<R: Wait + Abort + Clone>(rt: &R, receiver: &mut Receiving<R>, number: u64) {
+fn receive<P: Port<u64, Slot>>(rt: &impl Abort, receiver: &mut Receiving<P>, number: u64) {
     let received = receiver.recv_blocking();
     assert!(rt;
         matches!(received, Ok(Ok(got)) if got == number),

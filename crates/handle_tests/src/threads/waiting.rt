@@ -1,9 +1,9 @@
 //! Threads that sleep in a call until another thread makes one.
 use super::{Receiving, Sending, pause, reaches};
-use async_broadcast::{RecvError, SendError, broadcast};
+use async_broadcast::{Port, RecvError, SendError, Slot, broadcast};
 use std::process::Abort;
+use std::sync::Arc;
 use std::sync::atomic::{AtomicU64, Ordering};
-use std::sync::{Arc, Wait};
 use std::test::Fail;
 use std::thread;
 
@@ -29,9 +29,9 @@ fn receivers_go_on_where_a_thread_sends_or_closes(rt: HostRuntime) -> Result<(),
 }
 
 // Counts a step before each call and after the last.
-fn receive_to_the_end<R: Wait + Abort + Clone>(
-    rt: &R,
-    mut receiver: Receiving<R>,
+fn receive_to_the_end<P: Port<u64, Slot>>(
+    rt: &impl Abort,
+    mut receiver: Receiving<P>,
     steps: &AtomicU64,
 ) {
     steps.fetch_add(1, Ordering::SeqCst);
@@ -52,21 +52,21 @@ fn a_sender_goes_on_where_a_thread_receives_or_closes(rt: HostRuntime) -> Result
     let thread = thread::spawn(&rt, move || send_to_the_end(&rt, sender, &counted))?;
     assert!(rt; reaches(&steps, 1), "it waits for room");
     pause();
-    assert!(rt; matches!(receiver.try_recv()?, Ok(1)));
+    assert!(rt; matches!(receiver.try_recv(), Ok(Ok(1))));
     assert!(rt; reaches(&steps, 2), "it sent and waits again");
     pause();
     assert!(rt; receiver.close());
     assert!(rt; reaches(&steps, 3), "it was refused");
     thread.join(&rt);
     assert!(rt;
-        matches!(receiver.try_recv()?, Ok(2)),
+        matches!(receiver.try_recv(), Ok(Ok(2))),
         "what was sent before is kept"
     );
     Ok(())
 }
 
 // Counts a step before each call that must wait, and after the last.
-fn send_to_the_end<R: Wait + Abort + Clone>(rt: &R, sender: Sending<R>, steps: &AtomicU64) {
+fn send_to_the_end<P: Port<u64, Slot>>(rt: &impl Abort, sender: Sending<P>, steps: &AtomicU64) {
     assert!(rt; sender.broadcast_blocking(1).is_ok(), "there is room");
     steps.fetch_add(1, Ordering::SeqCst);
     assert!(rt; sender.broadcast_blocking(2).is_ok());
