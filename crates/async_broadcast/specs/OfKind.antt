@@ -9,10 +9,11 @@ use Rattle.bcast_model.specs.declared.run.Call.TheVariants as call
 use Rattle.bcast_model.specs.declared.run.Reply.{Reply}
 use Rattle.bcast_model.specs.declared.run.Reply.TheVariants as reply
 use Rattle.bcast_model.specs.Control.{Cursors, has_no_receiver, has_place}
-use Rattle.bcast_model.specs.History.{History}
+use Rattle.bcast_model.specs.View.{View}
+use Rattle.bcast_model.specs.History.{view_of}
 use Rattle.bcast_model.specs.Sending.{attempted, attempt_send_reply}
 use Rattle.bcast_model.specs.Legal.{Legal, IsReceived, IsMade, IsMadeFrom}
-use Rattle.bcast_model.specs.View.{IsPossible}
+use Rattle.bcast_model.specs.Answers.{IsPossible}
 use Rattle.async_broadcast.specs.Kinds.{IsA, HandsBack, IsOfKind}
 
 module _ {T : Type 0} where
@@ -25,12 +26,12 @@ module _ {T : Type 0} where
   attempted-back false false true await back msg = refl
   attempted-back false false false await back msg = tt
 
-  attempt_send-back : (h : History T) (msg : T) → HandsBack msg (attempt_send_reply h msg)
-  attempt_send-back h msg = attempted-back h.control.closed (has_no_receiver h.control) _ h.control.await_active _ msg
+  attempt_send-back : (v : View T) (msg : T) → HandsBack msg (attempt_send_reply v msg)
+  attempt_send-back v msg = attempted-back v.control.closed (has_no_receiver v.control) _ v.control.await_active _ msg
 
-  poll_send-back : (there : Bool) (h : History T) (msg : T) → HandsBack msg (if there then attempt_send_reply h msg else send.Wait msg)
-  poll_send-back true h msg = attempt_send-back h msg
-  poll_send-back false h msg = refl
+  poll_send-back : (there : Bool) (v : View T) (msg : T) → HandsBack msg (if there then attempt_send_reply v msg else send.Wait msg)
+  poll_send-back true v msg = attempt_send-back v msg
+  poll_send-back false v msg = refl
 
   received : {A : Type 0} (is_clone : T → T → Type 0) (owed : Type 0) (variant : A → Reply T) (spell : Result T TryRecvError → A) (refused : A) (exact : Result T TryRecvError) (r : Reply T)
       → IsReceived is_clone owed (λ answer. variant (spell answer)) (variant refused) exact r → IsA variant r
@@ -46,45 +47,45 @@ module _ {T : Type 0} where
   made_from there cursors variant r (inl gone) = (_, gone.1)
   made_from there cursors variant r (inr given) = made cursors variant r given.1
 
-  legal : (is_clone : T → T → Type 0) (h : History T) (c : Call T) (r : Reply T) → Legal is_clone h c r → IsOfKind c r
-  legal is_clone h (call.TryBroadcast msg) r l = (_, l)
-  legal is_clone h (call.AttemptSend msg) r l = (_, l, attempt_send-back h msg)
-  legal is_clone h call.BeginSend r (inl given) = (_, given.1)
-  legal is_clone h call.BeginSend r (inr none) = (_, none)
-  legal is_clone h (call.PollSend place msg) r l = (_, l, poll_send-back (has_place h.control place) h msg)
-  legal is_clone h (call.EndSend place) r l = l
-  legal is_clone h (call.TryRecv key) r l = received is_clone _ reply.TryRecv _ _ _ r l
-  legal is_clone h (call.PollFuture key) r l = received is_clone _ reply.PollFuture _ _ _ r l
-  legal is_clone h (call.EndFuture key) r l = l
-  legal is_clone h (call.PollRecv key) r l = received is_clone _ reply.PollRecv _ _ _ r l
-  legal is_clone h (call.PollNext key) r l = received is_clone _ reply.PollNext _ _ _ r l
-  legal is_clone h call.Close r l = (_, l)
-  legal is_clone h (call.SetCapacity n) r (inl given) = (_, given)
-  legal is_clone h (call.SetCapacity n) r (inr none) = (_, none.0)
-  legal is_clone h (call.SetOverflow on) r l = l
-  legal is_clone h (call.SetAwaitActive on) r l = l
-  legal is_clone h call.NewSender r l = (_, l)
-  legal is_clone h call.CloneInactive r l = (_, l)
-  legal is_clone h (call.Deactivate key) r l = (_, l)
-  legal is_clone h call.NewReceiver r l = made _ reply.NewReceiver r l
-  legal is_clone h call.Activate r l = made_from _ _ reply.Activate r l
-  legal is_clone h call.ActivateCloned r l = made_from _ _ reply.ActivateCloned r l
-  legal is_clone h (call.CloneReceiver key) r l = made_from _ _ reply.CloneReceiver r l
-  legal is_clone h call.DropSender r l = l
-  legal is_clone h call.DropInactive r l = l
-  legal is_clone h (call.DropReceiver key) r l = l
-  legal is_clone h call.Overflow r l = (_, l)
-  legal is_clone h call.AwaitActive r l = (_, l)
-  legal is_clone h call.IsEmpty r l = (_, l)
-  legal is_clone h call.IsFull r l = (_, l)
-  legal is_clone h call.IsClosed r l = (_, l)
-  legal is_clone h call.IsTerminated r l = (_, l)
-  legal is_clone h call.Capacity r l = (_, l)
-  legal is_clone h call.Len r l = (_, l)
-  legal is_clone h call.ReceiverCount r l = (_, l)
-  legal is_clone h call.InactiveReceiverCount r l = (_, l)
-  legal is_clone h call.SenderCount r l = (_, l)
-  legal is_clone h call.EndNumber r l = (_, l)
+  legal : (is_clone : T → T → Type 0) (v : View T) (c : Call T) (r : Reply T) → Legal is_clone v c r → IsOfKind c r
+  legal is_clone v (call.TryBroadcast msg) r l = (_, l)
+  legal is_clone v (call.AttemptSend msg) r l = (_, l, attempt_send-back v msg)
+  legal is_clone v call.BeginSend r (inl given) = (_, given.1)
+  legal is_clone v call.BeginSend r (inr none) = (_, none)
+  legal is_clone v (call.PollSend place msg) r l = (_, l, poll_send-back (has_place v.control place) v msg)
+  legal is_clone v (call.EndSend place) r l = l
+  legal is_clone v (call.TryRecv key) r l = received is_clone _ reply.TryRecv _ _ _ r l
+  legal is_clone v (call.PollFuture key) r l = received is_clone _ reply.PollFuture _ _ _ r l
+  legal is_clone v (call.EndFuture key) r l = l
+  legal is_clone v (call.PollRecv key) r l = received is_clone _ reply.PollRecv _ _ _ r l
+  legal is_clone v (call.PollNext key) r l = received is_clone _ reply.PollNext _ _ _ r l
+  legal is_clone v call.Close r l = (_, l)
+  legal is_clone v (call.SetCapacity n) r (inl given) = (_, given)
+  legal is_clone v (call.SetCapacity n) r (inr none) = (_, none.0)
+  legal is_clone v (call.SetOverflow on) r l = l
+  legal is_clone v (call.SetAwaitActive on) r l = l
+  legal is_clone v call.NewSender r l = (_, l)
+  legal is_clone v call.CloneInactive r l = (_, l)
+  legal is_clone v (call.Deactivate key) r l = (_, l)
+  legal is_clone v call.NewReceiver r l = made _ reply.NewReceiver r l
+  legal is_clone v call.Activate r l = made_from _ _ reply.Activate r l
+  legal is_clone v call.ActivateCloned r l = made_from _ _ reply.ActivateCloned r l
+  legal is_clone v (call.CloneReceiver key) r l = made_from _ _ reply.CloneReceiver r l
+  legal is_clone v call.DropSender r l = l
+  legal is_clone v call.DropInactive r l = l
+  legal is_clone v (call.DropReceiver key) r l = l
+  legal is_clone v call.Overflow r l = (_, l)
+  legal is_clone v call.AwaitActive r l = (_, l)
+  legal is_clone v call.IsEmpty r l = (_, l)
+  legal is_clone v call.IsFull r l = (_, l)
+  legal is_clone v call.IsClosed r l = (_, l)
+  legal is_clone v call.IsTerminated r l = (_, l)
+  legal is_clone v call.Capacity r l = (_, l)
+  legal is_clone v call.Len r l = (_, l)
+  legal is_clone v call.ReceiverCount r l = (_, l)
+  legal is_clone v call.InactiveReceiverCount r l = (_, l)
+  legal is_clone v call.SenderCount r l = (_, l)
+  legal is_clone v call.EndNumber r l = (_, l)
 
   pub possible : (is_clone : T → T → Type 0) (c : Call T) (r : Reply T) → IsPossible is_clone c r → IsOfKind c r
-  possible is_clone c r may = legal is_clone may.0 c r may.2
+  possible is_clone c r may = legal is_clone (view_of may.0) c r may.2

@@ -1,7 +1,7 @@
 //! The channel of several handles, behind one lock.
 ghost use Rattle.std.specs.Prelude.{◌≡◌, ◌<◌, true, not, IfOk};
 ghost use Rattle.bcast_model.specs.Next.{HasPositiveCapacity};
-ghost use Rattle.bcast_model.specs.View.{IsPossible};
+ghost use Rattle.bcast_model.specs.Answers.{IsPossible};
 ghost use Rattle.async_broadcast.specs.Kinds.{may_wait, is_answer};
 ghost use Rattle.async_broadcast.specs.Snapshots.{ShowsSomeState};
 

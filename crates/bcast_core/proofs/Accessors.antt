@@ -3,10 +3,14 @@ use Rattle.std.proofs.Common.{◌≡◌, true, false, cond, not, ◌&&◌, refl,
 use Rattle.bcast_model.specs.declared.run.Call.{Call}
 use Rattle.bcast_model.specs.declared.run.Reply.{Reply}
 use Rattle.bcast_model.specs.Control.{tell_a_sender}
-use Rattle.bcast_model.specs.Next.{may_tell}
+use Rattle.bcast_model.specs.Next.{may_tell, tell_if_ready}
 use Rattle.bcast_model.specs.Laws.{HasRange}
-use Rattle.bcast_model.specs.View.{View, IsShown, Answers}
-use Rattle.bcast_model.specs.Seen.{LegalSeen, effect, sets, settle, is_ready_seen, tell_if_ready_seen}
+use Rattle.bcast_model.specs.View.{View, sends_are_ready}
+use Rattle.bcast_model.specs.Answers.{IsShown, Answers}
+use Rattle.bcast_model.specs.Legal.{Legal}
+use Rattle.bcast_model.specs.Effects.{effect}
+use Rattle.bcast_model.specs.Effect.{sets}
+use Rattle.bcast_model.specs.Steps.{settle}
 use Rattle.std.specs.FinMap.{len}
 use Rattle.bcast_model.proofs.Answers.{answers}
 use Rattle.bcast_core.proofs.Settle.{settle_idle}
@@ -14,16 +18,16 @@ use Rattle.bcast_core.proofs.Does.{valid_shown}
 
 module _ {T : Type 0} where
   -- where sends were ready already nobody is told
-  told_nobody : (v : View T) → tell_if_ready_seen (not (is_ready_seen v)) v ≡ v
-  told_nobody v = elim (is_ready_seen v) as (λ b. cond (not b && b) (record v { control = tell_a_sender v.control }) v ≡ v) [ true ↦ refl | false ↦ refl ]
+  told_nobody : (v : View T) → tell_if_ready (not (sends_are_ready v)) v ≡ v
+  told_nobody v = elim (sends_are_ready v) as (λ b. cond (not b && b) (record v { control = tell_a_sender v.control }) v ≡ v) [ true ↦ refl | false ↦ refl ]
 
   -- a call that only reads leaves the state as it is
-  pub answers_read : {is_clone : T → T → Type 0} {v : View T} {c : Call T} {r : Reply T} → IsShown v → LegalSeen is_clone v c r → effect v c r ≡ sets v.control → may_tell v.control (is_ready_seen v) c ≡ not (is_ready_seen v)
+  pub answers_read : {is_clone : T → T → Type 0} {v : View T} {c : Call T} {r : Reply T} → IsShown v → Legal is_clone v c r → effect v c r ≡ sets v.control → may_tell v.control (sends_are_ready v) c ≡ not (sends_are_ready v)
       → HasRange c (len v.control.cursors) → Answers is_clone v c r v
   answers_read {v = v} {c = c} {r = r} shown legal idle may range =
       answers range shown (record {
         legal = legal;
-        next = sym (ap (λ x. tell_if_ready_seen x (settle v (effect v c r))) may ∙ ap (λ (w : View T). tell_if_ready_seen (not (is_ready_seen v)) w) (ap (settle v) idle ∙ settle_idle v (valid_shown shown)) ∙ told_nobody v);
+        next = sym (ap (λ x. tell_if_ready x (settle v (effect v c r))) may ∙ ap (λ (w : View T). tell_if_ready (not (sends_are_ready v)) w) (ap (settle v) idle ∙ settle_idle v (valid_shown shown)) ∙ told_nobody v);
       })
 
   -- the same call under another name

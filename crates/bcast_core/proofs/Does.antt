@@ -8,11 +8,14 @@ use Rattle.bcast_model.specs.declared.run.Reply.{Reply}
 use Rattle.bcast_model.specs.declared.run.Reply.TheVariants as reply
 use Rattle.bcast_model.specs.Control.{Control, with_place, has_place, tell_a_sender}
 use Rattle.bcast_model.specs.History.{least}
-use Rattle.bcast_model.specs.Legal.{NoClone}
-use Rattle.bcast_model.specs.Next.{may_tell}
-use Rattle.bcast_model.specs.View.{View, IsShown}
+use Rattle.bcast_model.specs.Legal.{NoClone, Legal}
+use Rattle.bcast_model.specs.Next.{may_tell, tell_if_ready}
+use Rattle.bcast_model.specs.View.{View, sends_are_ready}
+use Rattle.bcast_model.specs.Answers.{IsShown}
 use Rattle.bcast_model.specs.Laws.{IsValidView}
-use Rattle.bcast_model.specs.Seen.{LegalSeen, Steps, sets, effect, settle, is_ready_seen, tell_if_ready_seen, resize_seen}
+use Rattle.bcast_model.specs.Steps.{Steps, settle}
+use Rattle.bcast_model.specs.Effect.{sets}
+use Rattle.bcast_model.specs.Effects.{effect, resize}
 use Rattle.bcast_model.proofs.Views.{valid_view}
 use Rattle.bcast_core.specs.Parts.{Does}
 use Rattle.bcast_core.proofs.Settle.{settle_stays, settle_idle}
@@ -22,21 +25,21 @@ module _ {T : Type 0} where
   valid_shown s = subst IsValidView (sym s.2) (valid_view s.0 s.1)
 
   -- a sender is told after all else
-  pub told : {is_clone : T → T → Type 0} {old mid new : View T} {c : Call T} {r : Reply T} (may : Bool) → may ≡ may_tell old.control (is_ready_seen old) c → Does is_clone old c r mid → new ≡ tell_if_ready_seen may mid → Steps is_clone old c r new
-  told may is does new_is = record { legal = does.legal; next = new_is ∙ (λ i. tell_if_ready_seen (is i) (does.effect i)) }
+  pub told : {is_clone : T → T → Type 0} {old mid new : View T} {c : Call T} {r : Reply T} (may : Bool) → may ≡ may_tell old.control (sends_are_ready old) c → Does is_clone old c r mid → new ≡ tell_if_ready may mid → Steps is_clone old c r new
+  told may is does new_is = record { legal = does.legal; next = new_is ∙ (λ i. tell_if_ready (is i) (does.effect i)) }
 
   -- and that leaves the receivers
-  pub fits_told : (may : Bool) (mid new : View T) (n : ℕ) → new ≡ tell_if_ready_seen may mid → len mid.control.cursors < n → len new.control.cursors < n
+  pub fits_told : (may : Bool) (mid new : View T) (n : ℕ) → new ≡ tell_if_ready may mid → len mid.control.cursors < n → len new.control.cursors < n
   fits_told may mid new n is fits = subst (λ (v : View T). len v.control.cursors < n) (sym is)
-      (elim (may && is_ready_seen mid) as (λ b. len (cond b (record mid { control = tell_a_sender mid.control }) mid).control.cursors < n) [ true ↦ fits | false ↦ fits ])
+      (elim (may && sends_are_ready mid) as (λ b. len (cond b (record mid { control = tell_a_sender mid.control }) mid).control.cursors < n) [ true ↦ fits | false ↦ fits ])
 
   -- only what stands beside the messages changes, and no receiver is kept waiting for
-  pub does_sets : {is_clone : T → T → Type 0} {v new : View T} {c : Call T} {r : Reply T} (control : Control) → LegalSeen is_clone v c r → effect v c r ≡ sets control → least v.end (values control.cursors) ≤ v.front
+  pub does_sets : {is_clone : T → T → Type 0} {v new : View T} {c : Call T} {r : Reply T} (control : Control) → Legal is_clone v c r → effect v c r ≡ sets control → least v.end (values control.cursors) ≤ v.front
       → new ≡ record v { control = control } → Does is_clone v c r new
   does_sets {v = v} control legal is low new_is = record { legal = legal; effect = new_is ∙ sym (settle_stays v control low) ∙ ap (settle v) (sym is) }
 
   -- nothing changes
-  pub does_nothing : {is_clone : T → T → Type 0} {v new : View T} {c : Call T} {r : Reply T} → IsValidView v → LegalSeen is_clone v c r → effect v c r ≡ sets v.control → new ≡ v → Does is_clone v c r new
+  pub does_nothing : {is_clone : T → T → Type 0} {v new : View T} {c : Call T} {r : Reply T} → IsValidView v → Legal is_clone v c r → effect v c r ≡ sets v.control → new ≡ v → Does is_clone v c r new
   does_nothing {v = v} valid legal is new_is = record { legal = legal; effect = new_is ∙ sym (settle_idle v valid) ∙ ap (settle v) (sym is) }
 
   pub does_begin : (v new : View T) (r : Result ℕ AllocError) → IsValidView v → IfOk r (λ place. has_place v.control place ≡ false) → IfOk r (λ place. new ≡ record v { control = with_place v.control place }) → OnErr r (new ≡ v)
@@ -44,7 +47,7 @@ module _ {T : Type 0} where
   does_begin v new (Ok place) valid free ok err = does_sets (with_place v.control place) (inl (place, refl, free)) refl valid.low ok
   does_begin v new (Err e) valid free ok err = does_nothing valid (inr refl) refl err
 
-  pub does_resize : (v new : View T) (n : ℕ) (r : Result (Unit {0}) AllocError) → IsValidView v → OnOk r (new ≡ settle v (resize_seen v n)) → OnErr r (v.control.room < n) → OnErr r (new ≡ v)
+  pub does_resize : (v new : View T) (n : ℕ) (r : Result (Unit {0}) AllocError) → IsValidView v → OnOk r (new ≡ settle v (resize v n)) → OnErr r (v.control.room < n) → OnErr r (new ≡ v)
       → Does NoClone v (call.SetCapacity n) (reply.SetCapacity r) new
   does_resize v new n (Ok u) valid ok refused err = record { legal = inl refl; effect = ok }
   does_resize v new n (Err e) valid ok refused err = does_nothing valid (inr (refl, refused)) refl err

@@ -10,7 +10,8 @@ use Rattle.bcast_model.specs.Handles.{has_next}
 use Rattle.bcast_model.specs.Legal.{IsMade}
 use Rattle.bcast_model.specs.View.{View}
 use Rattle.bcast_model.specs.Laws.{IsValidView}
-use Rattle.bcast_model.specs.Seen.{sets, settle}
+use Rattle.bcast_model.specs.Effect.{sets}
+use Rattle.bcast_model.specs.Steps.{settle}
 use Rattle.bcast_core.proofs.Settle.{settle_idle}
 
 pub none_left : (n : ℕ) → n ≡ 0 → (n == 0) ≡ true

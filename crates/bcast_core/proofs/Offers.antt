@@ -5,15 +5,16 @@ use Rattle.std.specs.FinMap.{len, values}
 use Rattle.bcast_model.specs.declared.error.TrySendError.{TrySendError}
 use Rattle.bcast_model.specs.Control.{has_no_receiver, accepting}
 use Rattle.bcast_model.specs.History.{least}
-use Rattle.bcast_model.specs.View.{View}
+use Rattle.bcast_model.specs.View.{View, is_full}
 use Rattle.bcast_model.specs.Laws.{IsValidView}
-use Rattle.bcast_model.specs.Seen.{settle, accept_seen, accept_unless_seen, offer_seen, refusal_seen, with_message_seen, is_full_seen}
+use Rattle.bcast_model.specs.Steps.{settle, with_message}
+use Rattle.bcast_model.specs.Sending.{accept, accept_unless, offer, refusal}
 use Rattle.bcast_core.proofs.Settle.{settle_to, settle_idle, least_raised, cursors-accepting}
 
 module _ {T : Type 0} where
   -- a message that is refused changes nothing
-  pub offer_refused : (v : View T) (msg : T) (error : TrySendError T) → IsValidView v → refusal_seen v msg ≡ Some error → settle v (offer_seen v msg) ≡ v
-  offer_refused v msg error valid is = ap (λ o. settle v (accept_unless_seen v msg o)) is ∙ settle_idle v valid
+  pub offer_refused : (v : View T) (msg : T) (error : TrySendError T) → IsValidView v → refusal v msg ≡ Some error → settle v (offer v msg) ≡ v
+  offer_refused v msg error valid is = ap (λ o. settle v (accept_unless v msg o)) is ∙ settle_idle v valid
 
   -- where somebody receives, the end may rise
   low_next : (v : View T) → IsValidView v → has_no_receiver v.control ≡ false → least (v.end + 1) (values v.control.cursors) ≤ v.front
@@ -23,20 +24,20 @@ module _ {T : Type 0} where
       omega (arith, r, valid.low)
 
   -- a message is accepted where there is room
-  pub offer_accepted : (v : View T) (msg : T) → IsValidView v → refusal_seen v msg ≡ None → has_no_receiver v.control ≡ false → is_full_seen v ≡ false → settle v (offer_seen v msg) ≡ with_message_seen v msg
+  pub offer_accepted : (v : View T) (msg : T) → IsValidView v → refusal v msg ≡ None → has_no_receiver v.control ≡ false → is_full v ≡ false → settle v (offer v msg) ≡ with_message v msg
   offer_accepted v msg valid is some full =
       let low = low_next v valid some in
-      let front : max (max v.front (accept_seen v msg).floor) (least (v.end + 1) (values (accepting v.control v.end).cursors)) ≡ v.front = rw (full, cursors-accepting) (omega (arith, low)) in
+      let front : max (max v.front (accept v msg).floor) (least (v.end + 1) (values (accepting v.control v.end).cursors)) ≡ v.front = rw (full, cursors-accepting) (omega (arith, low)) in
       let none : v.front - v.front ≡ 0 = omega arith in
-      ap (λ o. settle v (accept_unless_seen v msg o)) is ∙ settle_to v (accept_seen v msg) (with_message_seen v msg) front (rw none refl) refl refl
+      ap (λ o. settle v (accept_unless v msg o)) is ∙ settle_to v (accept v msg) (with_message v msg) front (rw none refl) refl refl
 
   -- the oldest message makes room for it
-  pub offer_dropping : (v w : View T) (msg oldest : T) → IsValidView v → refusal_seen v msg ≡ None → has_no_receiver v.control ≡ false → is_full_seen v ≡ true
-      → v.queue ≡ oldest ∷ w.queue → w ≡ record v { front = v.front + 1; queue = w.queue } → settle v (offer_seen v msg) ≡ with_message_seen w msg
+  pub offer_dropping : (v w : View T) (msg oldest : T) → IsValidView v → refusal v msg ≡ None → has_no_receiver v.control ≡ false → is_full v ≡ true
+      → v.queue ≡ oldest ∷ w.queue → w ≡ record v { front = v.front + 1; queue = w.queue } → settle v (offer v msg) ≡ with_message w msg
   offer_dropping v w msg oldest valid is some full first rest =
       let low = low_next v valid some in
-      let front : max (max v.front (accept_seen v msg).floor) (least (v.end + 1) (values (accepting v.control v.end).cursors)) ≡ v.front + 1 = rw (full, cursors-accepting) (omega (arith, low)) in
+      let front : max (max v.front (accept v msg).floor) (least (v.end + 1) (values (accepting v.control v.end).cursors)) ≡ v.front + 1 = rw (full, cursors-accepting) (omega (arith, low)) in
       let one : (v.front + 1) - v.front ≡ 1 = omega arith in
-      ap (λ o. settle v (accept_unless_seen v msg o)) is
-      ∙ settle_to v (accept_seen v msg) (with_message_seen (record v { front = v.front + 1; queue = w.queue }) msg) front (rw (one, first) refl) refl refl
-      ∙ ap (λ (x : View T). with_message_seen x msg) (sym rest)
+      ap (λ o. settle v (accept_unless v msg o)) is
+      ∙ settle_to v (accept v msg) (with_message (record v { front = v.front + 1; queue = w.queue }) msg) front (rw (one, first) refl) refl refl
+      ∙ ap (λ (x : View T). with_message x msg) (sym rest)

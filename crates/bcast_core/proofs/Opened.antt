@@ -4,8 +4,7 @@ use Rattle.std.specs.Ordering.{nat_cmp}
 use Rattle.std.specs.FinMap.{empty, insert, len, get-empty, len-empty}
 use Rattle.std.specs.FinSet as set
 use Rattle.bcast_model.specs.Listeners.{no_listeners}
-use Rattle.bcast_model.specs.History.{opening}
-use Rattle.bcast_model.specs.View.{view_of}
+use Rattle.bcast_model.specs.History.{opening, view_of}
 use Rattle.bcast_model.proofs.Opening.{view_of-opening}
 use Rattle.bcast_store.specs.Stored.{Stored, end_of}
 use Rattle.bcast_waiting.specs.Lists.{Sends, Receives}

@@ -8,12 +8,13 @@ use Rattle.bcast_model.specs.declared.error.TryRecvError.TheVariants as unread
 use Rattle.bcast_model.specs.declared.run.Reply.{Reply}
 use Rattle.bcast_model.specs.declared.run.Reply.TheVariants as reply
 use Rattle.bcast_model.specs.Pair.{Pair}
-use Rattle.bcast_model.specs.Control.{Control, pair_waits}
-use Rattle.bcast_model.specs.Receiving.{found, receive, skipped_to, is_empty_reply, listens, poll_receive}
+use Rattle.bcast_model.specs.Control.{Control, pair_waits, cursor_of}
+use Rattle.bcast_model.specs.Receiving.{found, receive, skipped_to, is_empty_reply, listens, poll_receive, try_recv_reply}
 use Rattle.bcast_model.specs.Legal.{IsReceived}
-use Rattle.bcast_model.specs.View.{View}
+use Rattle.bcast_model.specs.View.{View, kept_at}
 use Rattle.bcast_model.specs.Laws.{IsValidView}
-use Rattle.bcast_model.specs.Seen.{sets, settle, cursor_seen, numbered_seen, try_recv_seen}
+use Rattle.bcast_model.specs.Effect.{sets}
+use Rattle.bcast_model.specs.Steps.{settle}
 use Rattle.bcast_core.proofs.Settle.{settle_stays, settle_idle}
 
 -- it changes nothing
@@ -44,12 +45,12 @@ module _ {T : Type 0} where
   past items i none = elim (slice_get_cases items i).1 [ inl some ↦ absurd (none-some some.0 (sym none ∙ some.2)) | inr beyond ↦ beyond.0 ]
 
   -- a receive that finds nothing is at the end
-  pub empty_at : (v : View T) (at : Option ℕ) → IsValidView v → is_empty_reply (try_recv_seen v at) ≡ true → (cursor : ℕ) × (at ≡ Some cursor) × (v.front ≤ cursor) × (v.end ≤ cursor)
+  pub empty_at : (v : View T) (at : Option ℕ) → IsValidView v → is_empty_reply (try_recv_reply v at) ≡ true → (cursor : ℕ) × (at ≡ Some cursor) × (v.front ≤ cursor) × (v.end ≤ cursor)
   empty_at v None valid e = cc
-  empty_at v (Some cursor) valid e = elim (nat_lt cursor v.front) as (λ b. nat_lt cursor v.front ≡ b → is_empty_reply (cond b (Err (unread.Overflowed (v.front - cursor))) (found v.control.closed (numbered_seen v cursor))) ≡ true → (c : ℕ) × (Some cursor ≡ Some c) × (v.front ≤ c) × (v.end ≤ c)) [
+  empty_at v (Some cursor) valid e = elim (nat_lt cursor v.front) as (λ b. nat_lt cursor v.front ≡ b → is_empty_reply (cond b (Err (unread.Overflowed (v.front - cursor))) (found v.control.closed (kept_at v cursor))) ≡ true → (c : ℕ) × (Some cursor ≡ Some c) × (v.front ≤ c) × (v.end ≤ c)) [
     | true ↦ λ _ e. cc
     | false ↦ λ t e.
-        let none = found_none v.control.closed (numbered_seen v cursor) e in
+        let none = found_none v.control.closed (kept_at v cursor) e in
         let from : v.front ≤ cursor = grind (arith, common_steps, t) in
         let p = past v.queue (cursor - v.front) none in
         (cursor, refl, from, omega (arith, p, valid.end))
@@ -61,19 +62,19 @@ module _ {T : Type 0} where
   is_there v key None at cursor is (inr e) = absurd (none-some cursor (sym e ∙ is))
   is_there v key (Some c) at cursor is s = refl
 
-  pub empty_there : (v : View T) (key : ℕ) (at : Option ℕ) → IsValidView v → (at ≡ cursor_seen v key) ⊎ (at ≡ skipped_to v.front (cursor_seen v key)) → is_empty_reply (try_recv_seen v at) ≡ true → is_some (cursor_seen v key) ≡ true
-  empty_there v key at valid s e = let a = empty_at v at valid e in is_there v key (cursor_seen v key) at a.0 a.1 s
+  pub empty_there : (v : View T) (key : ℕ) (at : Option ℕ) → IsValidView v → (at ≡ cursor_of v.control key) ⊎ (at ≡ skipped_to v.front (cursor_of v.control key)) → is_empty_reply (try_recv_reply v at) ≡ true → is_some (cursor_of v.control key) ≡ true
+  empty_there v key at valid s e = let a = empty_at v at valid e in is_there v key (cursor_of v.control key) at a.0 a.1 s
 
-  pub receive_empty : (v : View T) (key : ℕ) (at : Option ℕ) → IsValidView v → is_empty_reply (try_recv_seen v at) ≡ true → receive v.front v.end v.control key at ≡ v.control
+  pub receive_empty : (v : View T) (key : ℕ) (at : Option ℕ) → IsValidView v → is_empty_reply (try_recv_reply v at) ≡ true → receive v.front v.end v.control key at ≡ v.control
   receive_empty v key at valid e = let a = empty_at v at valid e in receive_at_end v.front v.end v.control key at a.0 a.1 a.2 a.3
 
-  pub settle_empty : (v mid : View T) (key : ℕ) (at : Option ℕ) → IsValidView v → is_empty_reply (try_recv_seen v at) ≡ true → mid ≡ settle v (sets (receive v.front v.end v.control key at)) → mid ≡ v
+  pub settle_empty : (v mid : View T) (key : ℕ) (at : Option ℕ) → IsValidView v → is_empty_reply (try_recv_reply v at) ≡ true → mid ≡ settle v (sets (receive v.front v.end v.control key at)) → mid ≡ v
   settle_empty v mid key at valid e is = is ∙ ap (λ c. settle v (sets c)) (receive_empty v key at valid e) ∙ settle_idle v valid
 
   -- so a poll only waits
-  pub poll_waits : (v mid new : View T) (pair : Pair) (at : Option ℕ) → IsValidView v → is_empty_reply (try_recv_seen v at) ≡ true
+  pub poll_waits : (v mid new : View T) (pair : Pair) (at : Option ℕ) → IsValidView v → is_empty_reply (try_recv_reply v at) ≡ true
       → mid ≡ settle v (sets (receive v.front v.end v.control pair.0 at)) → new ≡ record mid { control = pair_waits mid.control pair }
-      → new ≡ settle v (sets (poll_receive v.front v.end v.control pair at (try_recv_seen v at)))
+      → new ≡ settle v (sets (poll_receive v.front v.end v.control pair at (try_recv_reply v at)))
   poll_waits v mid new pair at valid e mid_is new_is =
       new_is ∙ ap (λ (x : View T). record x { control = pair_waits x.control pair }) (settle_empty v mid pair.0 at valid e mid_is)
       ∙ sym (settle_stays v (pair_waits v.control pair) valid.low)

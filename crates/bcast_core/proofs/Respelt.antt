@@ -8,11 +8,14 @@ use Rattle.bcast_model.specs.declared.run.Call.TheVariants as call
 use Rattle.bcast_model.specs.declared.run.Reply.{Reply}
 use Rattle.bcast_model.specs.declared.run.Reply.TheVariants as reply
 use Rattle.bcast_model.specs.Pair.{Pair}
-use Rattle.bcast_model.specs.Receiving.{receive, poll_receive}
-use Rattle.bcast_model.specs.Legal.{IsReceived}
+use Rattle.bcast_model.specs.Receiving.{receive, poll_receive, try_recv_reply, IsOwed}
+use Rattle.bcast_model.specs.Legal.{IsReceived, Legal}
 use Rattle.bcast_model.specs.View.{View}
 use Rattle.bcast_model.specs.Laws.{IsValidView}
-use Rattle.bcast_model.specs.Seen.{LegalSeen, sets, settle, effect, cursor_seen, try_recv_seen, IsOwedSeen}
+use Rattle.bcast_model.specs.Effect.{sets}
+use Rattle.bcast_model.specs.Steps.{settle}
+use Rattle.bcast_model.specs.Effects.{effect}
+use Rattle.bcast_model.specs.Control.{cursor_of}
 use Rattle.bcast_core.specs.Parts.{Does}
 use Rattle.bcast_core.proofs.Does.{does_nothing}
 
@@ -43,39 +46,39 @@ module _ {T : Type 0} {is_clone : T → T → Type 0} {owed : Type 0} where
 module _ {T : Type 0} where
   -- `try_recv`, refused or not
   pub does_receive : {is_clone : T → T → Type 0} (v new : View T) (key : ℕ) (r : Result (Result T TryRecvError) AllocError) → IsValidView v
-      → IsReceived is_clone (IsOwedSeen v key (cursor_seen v key)) (λ a. reply.TryRecv (Ok a)) (reply.TryRecv (Err alloc_error)) (try_recv_seen v (cursor_seen v key)) (reply.TryRecv r)
-      → OnOk r (new ≡ settle v (sets (receive v.front v.end v.control key (cursor_seen v key)))) → OnErr r (new ≡ v) → Does is_clone v (call.TryRecv key) (reply.TryRecv r) new
+      → IsReceived is_clone (IsOwed v key (cursor_of v.control key)) (λ a. reply.TryRecv (Ok a)) (reply.TryRecv (Err alloc_error)) (try_recv_reply v (cursor_of v.control key)) (reply.TryRecv r)
+      → OnOk r (new ≡ settle v (sets (receive v.front v.end v.control key (cursor_of v.control key)))) → OnErr r (new ≡ v) → Does is_clone v (call.TryRecv key) (reply.TryRecv r) new
   does_receive v new key (Ok answer) valid legal ok err = record { legal = legal; effect = ok }
   does_receive v new key (Err e) valid legal ok err = does_nothing valid legal refl err
 
   -- a poll that was answered, or waits
   pub does_poll : {is_clone : T → T → Type 0} (v new : View T) (c : Call T) (pair : Pair) (at was : Option ℕ) (spelt : Result T TryRecvError → Reply T) (refused r : Reply T) (answer : Result T TryRecvError)
-      → was ≡ at → IsTryRecv is_clone (IsOwedSeen v pair.0 was) (try_recv_seen v was) (Ok answer)
-      → new ≡ settle v (sets (poll_receive v.front v.end v.control pair was (try_recv_seen v was))) → r ≡ spelt answer
-      → (IsReceived is_clone (IsOwedSeen v pair.0 at) spelt refused (try_recv_seen v at) (spelt answer) → LegalSeen is_clone v c (spelt answer))
-      → effect v c (spelt answer) ≡ sets (poll_receive v.front v.end v.control pair at (try_recv_seen v at)) → Does is_clone v c r new
+      → was ≡ at → IsTryRecv is_clone (IsOwed v pair.0 was) (try_recv_reply v was) (Ok answer)
+      → new ≡ settle v (sets (poll_receive v.front v.end v.control pair was (try_recv_reply v was))) → r ≡ spelt answer
+      → (IsReceived is_clone (IsOwed v pair.0 at) spelt refused (try_recv_reply v at) (spelt answer) → Legal is_clone v c (spelt answer))
+      → effect v c (spelt answer) ≡ sets (poll_receive v.front v.end v.control pair at (try_recv_reply v at)) → Does is_clone v c r new
   does_poll {is_clone = is_clone} v new c pair at was spelt refused r answer same legal new_is is means effect_is =
-      let exactly = subst (λ o. IsTryRecv is_clone (IsOwedSeen v pair.0 o) (try_recv_seen v o) (Ok answer)) same legal in
+      let exactly = subst (λ o. IsTryRecv is_clone (IsOwed v pair.0 o) (try_recv_reply v o) (Ok answer)) same legal in
       subst (λ x. Does is_clone v c x new) (sym is) (record {
-        legal = means (respelt spelt refused (try_recv_seen v at) answer exactly);
-        effect = new_is ∙ ap (λ o. settle v (sets (poll_receive v.front v.end v.control pair o (try_recv_seen v o)))) same ∙ ap (settle v) (sym effect_is);
+        legal = means (respelt spelt refused (try_recv_reply v at) answer exactly);
+        effect = new_is ∙ ap (λ o. settle v (sets (poll_receive v.front v.end v.control pair o (try_recv_reply v o)))) same ∙ ap (settle v) (sym effect_is);
       })
 
   -- a poll that found no memory
   pub does_poll_refused : {is_clone : T → T → Type 0} (v new : View T) (c : Call T) (key : ℕ) (at was : Option ℕ) (spelt : Result T TryRecvError → Reply T) (refused : Reply T) (e : AllocError) → IsValidView v
-      → was ≡ at → IsTryRecv is_clone (IsOwedSeen v key was) (try_recv_seen v was) (Err e) → new ≡ v
-      → (IsReceived is_clone (IsOwedSeen v key at) spelt refused (try_recv_seen v at) refused → LegalSeen is_clone v c refused) → effect v c refused ≡ sets v.control → Does is_clone v c refused new
+      → was ≡ at → IsTryRecv is_clone (IsOwed v key was) (try_recv_reply v was) (Err e) → new ≡ v
+      → (IsReceived is_clone (IsOwed v key at) spelt refused (try_recv_reply v at) refused → Legal is_clone v c refused) → effect v c refused ≡ sets v.control → Does is_clone v c refused new
   does_poll_refused {is_clone = is_clone} v new c key at was spelt refused e valid same legal new_is means effect_is =
-      let exactly = subst (λ o. IsTryRecv is_clone (IsOwedSeen v key o) (try_recv_seen v o) (Err e)) same legal in
-      does_nothing valid (means (respelt_refused spelt refused (try_recv_seen v at) e exactly)) effect_is new_is
+      let exactly = subst (λ o. IsTryRecv is_clone (IsOwed v key o) (try_recv_reply v o) (Err e)) same legal in
+      does_nothing valid (means (respelt_refused spelt refused (try_recv_reply v at) e exactly)) effect_is new_is
 
   -- a poll whose answer is spelt by this word
   pub does_spelt : {is_clone : T → T → Type 0} {X : Type 0} (v new : View T) (c : Call T) (pair : Pair) (at was : Option ℕ) (word : Result T TryRecvError → X) (wrap : Result X AllocError → Reply T)
-      (received : Result (Result T TryRecvError) AllocError) (spelt : Result X AllocError) → IsValidView v → was ≡ at → IsTryRecv is_clone (IsOwedSeen v pair.0 was) (try_recv_seen v was) received
-      → OnOk received (new ≡ settle v (sets (poll_receive v.front v.end v.control pair was (try_recv_seen v was)))) → OnErr received (new ≡ v)
+      (received : Result (Result T TryRecvError) AllocError) (spelt : Result X AllocError) → IsValidView v → was ≡ at → IsTryRecv is_clone (IsOwed v pair.0 was) (try_recv_reply v was) received
+      → OnOk received (new ≡ settle v (sets (poll_receive v.front v.end v.control pair was (try_recv_reply v was)))) → OnErr received (new ≡ v)
       → IfOk received (λ answer. spelt ≡ Ok (word answer)) → IfErr received (λ e. spelt ≡ Err e)
-      → ((r : Reply T) → IsReceived is_clone (IsOwedSeen v pair.0 at) (λ a. wrap (Ok (word a))) (wrap (Err alloc_error)) (try_recv_seen v at) r → LegalSeen is_clone v c r)
-      → ((answer : Result T TryRecvError) → effect v c (wrap (Ok (word answer))) ≡ sets (poll_receive v.front v.end v.control pair at (try_recv_seen v at)))
+      → ((r : Reply T) → IsReceived is_clone (IsOwed v pair.0 at) (λ a. wrap (Ok (word a))) (wrap (Err alloc_error)) (try_recv_reply v at) r → Legal is_clone v c r)
+      → ((answer : Result T TryRecvError) → effect v c (wrap (Ok (word answer))) ≡ sets (poll_receive v.front v.end v.control pair at (try_recv_reply v at)))
       → effect v c (wrap (Err alloc_error)) ≡ sets v.control → Does is_clone v c (wrap spelt) new
   does_spelt v new c pair at was word wrap (Ok answer) spelt valid same legal ok err is_ok is_err means effect_ok effect_err =
       does_poll v new c pair at was (λ a. wrap (Ok (word a))) (wrap (Err alloc_error)) (wrap spelt) answer same legal ok (ap wrap is_ok) (means (wrap (Ok (word answer)))) (effect_ok answer)

@@ -5,10 +5,11 @@ use Rattle.std.specs.Ordering.{nat_cmp, eq_by_cmp}
 use Rattle.std.specs.Cmp.{nat_cmp_total, unsigned_tied}
 use Rattle.std.specs.FinMap.{get, insert, len, values, entries, find, len-entries, get-entries, get-insert}
 use Rattle.bcast_model.specs.Control.{Control, Cursors, tell_receivers, close, close_if_deserted, accepting}
-use Rattle.bcast_model.specs.History.{least}
+use Rattle.bcast_model.specs.History.{least, front_of}
 use Rattle.bcast_model.specs.View.{View}
 use Rattle.bcast_model.specs.Laws.{IsValidView}
-use Rattle.bcast_model.specs.Seen.{Effect, sets, settle, settled_front}
+use Rattle.bcast_model.specs.Effect.{Effect, sets}
+use Rattle.bcast_model.specs.Steps.{settle}
 use Rattle.bcast_model.proofs.Cases.{close_is, deserted_is, accepting_is}
 use Rattle.bcast_model.proofs.Least.{least-le-cursor, least-greatest, find_head}
 
@@ -54,7 +55,7 @@ module _ {T : Type 0} where
   same_view a b p q r s = λ i. record { front = p i; queue = q i; end = r i; control = s i }
 
   -- an effect leads to the view with the front that its floor, the end and the cursors give
-  pub settle_to : (v : View T) (e : Effect T) (new : View T) → settled_front (max v.front e.floor) (v.end + length e.accepted) e.control.cursors ≡ new.front
+  pub settle_to : (v : View T) (e : Effect T) (new : View T) → front_of (max v.front e.floor) (v.end + length e.accepted) e.control.cursors ≡ new.front
       → drop (new.front - v.front) (v.queue ++ e.accepted) ≡ new.queue → v.end + length e.accepted ≡ new.end → e.control ≡ new.control → settle v e ≡ new
   settle_to v e new front queue end control = same_view (settle v e) new front (rw front queue) end control
 

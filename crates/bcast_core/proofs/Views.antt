@@ -2,7 +2,8 @@
 use Rattle.std.proofs.Common.{◌≡◌, ℕ, Bool, sym, ap, ◌∙◌}
 use Rattle.bcast_model.specs.Control.{Control, Cursors}
 use Rattle.bcast_model.specs.View.{View}
-use Rattle.bcast_model.specs.Seen.{sets, settle}
+use Rattle.bcast_model.specs.Effect.{sets}
+use Rattle.bcast_model.specs.Steps.{settle}
 use Rattle.bcast_store.specs.Stored.{Stored, with_cursors}
 use Rattle.bcast_waiting.specs.Lists.{Sends, Receives}
 use Rattle.bcast_core.specs.Parts.{control_of, seen_of}

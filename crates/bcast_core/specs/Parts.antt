@@ -1,10 +1,12 @@
 -- How the state of a channel is put together. No public clause cites this module.
 use Rattle.std.specs.Prelude.{◌≡◌, ℕ, Bool}
 use Rattle.bcast_model.specs.Control.{Control}
+use Rattle.bcast_model.specs.View.{View}
+use Rattle.bcast_model.specs.Legal.{Legal}
+use Rattle.bcast_model.specs.Effects.{effect}
+use Rattle.bcast_model.specs.Steps.{settle}
 use Rattle.bcast_model.specs.declared.run.Call.{Call}
 use Rattle.bcast_model.specs.declared.run.Reply.{Reply}
-use Rattle.bcast_model.specs.View.{View}
-use Rattle.bcast_model.specs.Seen.{LegalSeen, effect, settle}
 use Rattle.bcast_store.specs.Stored.{Stored, end_of}
 use Rattle.bcast_waiting.specs.Lists.{Sends, Receives}
 
@@ -29,5 +31,5 @@ seen_of store control = record { front = store.front; queue = store.queue; end =
 
 -- a call and its reply, but for telling a sender
 pub record Does {T : Type 0} (is_clone : T → T → Type 0) (old : View T) (c : Call T) (r : Reply T) (new : View T) : Type 0 where
-  pub legal : LegalSeen is_clone old c r
+  pub legal : Legal is_clone old c r
   pub effect : new ≡ settle old (effect old c r)

@@ -32,7 +32,8 @@ pub struct Parts<T, N: Notice, A: Allocator = Global> {
 }
 
 impl<T, N: Notice, A: Allocator> Model for Parts<T, N, A> {
-    ghost use Rattle.bcast_model.specs.View.{View, view_code};
+    ghost use Rattle.bcast_model.specs.View.{View};
+    ghost use Rattle.bcast_model.specs.Codes.{view_code};
     ghost use Rattle.bcast_core.specs.Parts.{seen_of, control_of};
 
     ghost Value = { View T };
@@ -49,9 +50,11 @@ impl<T, N: Notice, A: Allocator> Model for Parts<T, N, A> {
 }
 
 impl<T: Drop, N: Notice, A: Allocator + Copy> Parts<T, N, A> {
-    ghost use Rattle.bcast_model.specs.View.{view_of};
+    ghost use Rattle.bcast_model.specs.History.{view_of};
     ghost use Rattle.bcast_model.specs.Control.{has_no_receiver, is_deserted, close, close_if_deserted};
-    ghost use Rattle.bcast_model.specs.Seen.{is_full_seen, is_ready_seen, cursor_seen, tell_if_ready_seen};
+    ghost use Rattle.bcast_model.specs.View.{is_full, sends_are_ready};
+    ghost use Rattle.bcast_model.specs.Control.{cursor_of};
+    ghost use Rattle.bcast_model.specs.Next.{tell_if_ready};
 
     /// A new channel, and the key of its first receiver.
     pub fn starting_at(alloc: A, cap: usize, first: u64) -> Result<(Self, usize), AllocError>
@@ -140,13 +143,13 @@ impl<T: Drop, N: Notice, A: Allocator + Copy> Parts<T, N, A> {
     }
 
     pub fn cursor(&self, key: usize) -> Option<u64>
-        ensures { result ≡ cursor_seen self.now key }
+        ensures { result ≡ cursor_of self.now.control key }
     {
         self.store.cursor(key)
     }
 
     pub fn is_full(&self) -> bool
-        ensures { result ≡ is_full_seen self.now }
+        ensures { result ≡ is_full self.now }
     {
         self.store.len() == self.capacity
     }
@@ -159,7 +162,7 @@ impl<T: Drop, N: Notice, A: Allocator + Copy> Parts<T, N, A> {
 
     /// Whether a send would be answered without waiting.
     pub fn is_ready(&self) -> bool
-        ensures { result ≡ is_ready_seen self.now }
+        ensures { result ≡ sends_are_ready self.now }
     {
         let nobody = self.has_no_receiver();
         self.closed
@@ -169,7 +172,7 @@ impl<T: Drop, N: Notice, A: Allocator + Copy> Parts<T, N, A> {
 
     /// Tells the first waiting send, if this call is to and sends are ready.
     pub fn tell_if_ready(&mut self, may: bool)
-        ensures { self.new ≡ tell_if_ready_seen may self.old }
+        ensures { self.new ≡ tell_if_ready may self.old }
     {
         if may && self.is_ready() {
             self.sends.tell_one();

@@ -27,7 +27,9 @@ pub struct Inner<T, N: Notice, A: Allocator = Global> {
 }
 
 impl<T, N: Notice, A: Allocator> Model for Inner<T, N, A> {
-    ghost use Rattle.bcast_model.specs.View.{View, view_code, IsShown};
+    ghost use Rattle.bcast_model.specs.View.{View};
+    ghost use Rattle.bcast_model.specs.Codes.{view_code};
+    ghost use Rattle.bcast_model.specs.Answers.{IsShown};
 
     ghost Value = { View T };
 
@@ -40,7 +42,7 @@ impl<T, N: Notice, A: Allocator> Model for Inner<T, N, A> {
 
 impl<T: Drop, N: Notice, A: Allocator + Copy> Inner<T, N, A> {
     ghost use Rattle.bcast_model.specs.Valid.{IsValid};
-    ghost use Rattle.bcast_model.specs.View.{Represents, IsShown};
+    ghost use Rattle.bcast_model.specs.Answers.{Represents, IsShown};
 
     /// A new channel of this capacity, and the key of its first receiver.
     ///

@@ -2,7 +2,7 @@
 ghost use Rattle.std.specs.Prelude.{◌≡◌, ◌+◌, ◌^◌, ◌<◌, false, IfOk, IfErr};
 ghost use Rattle.std.specs.List.{All, AllByRecursion};
 ghost use Rattle.bcast_model.specs.Next.{HasPositiveCapacity};
-ghost use Rattle.bcast_model.specs.View.{Answers, IsPossible, Represents};
+ghost use Rattle.bcast_model.specs.Answers.{Answers, IsPossible, Represents};
 ghost use Rattle.bcast_model.specs.History.{opening};
 ghost use Rattle.bcast_model.specs.Run.{IsRun, end_of_run};
 ghost use Rattle.bcast_model.specs.Valid.{IsValid};

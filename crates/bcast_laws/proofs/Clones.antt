@@ -2,60 +2,55 @@
 use Rattle.std.proofs.Common.{◌≡◌, inl, inr, ◌≢◌, ℕ, ◌≤◌, true, Option, Some, None, Ok, refl, sym, ap, ◌∙◌, arith}
 use Rattle.std.proofs.lemmas.Grind.{common_steps}
 use Rattle.std.specs.Prelude.{is_some}
-use Rattle.bcast_model.specs.declared.run.Call.{Call}
 use Rattle.bcast_model.specs.declared.run.Call.TheVariants as call
 use Rattle.bcast_model.specs.declared.run.Reply.{Reply}
 use Rattle.bcast_model.specs.declared.run.Reply.TheVariants as reply
 use Rattle.bcast_model.specs.Handles.{clone_receiver}
-use Rattle.bcast_model.specs.History.{History, end_number, sends_are_ready, cursor_of, with_control}
+use Rattle.std.specs.FinMap.{get}
+use Rattle.bcast_model.specs.Control.{Control, cursor_of}
+use Rattle.bcast_model.specs.View.{View}
 use Rattle.bcast_model.specs.Receiving.{try_recv_reply}
+use Rattle.bcast_model.specs.History.{History, view_of}
+use Rattle.bcast_model.specs.Next.{next}
+use Rattle.bcast_model.proofs.Answers.{cursors-next}
 use Rattle.bcast_model.specs.Legal.{Legal}
-use Rattle.bcast_model.specs.Next.{may_tell, changed, next}
 use Rattle.bcast_model.specs.Valid.{IsValid}
-use Rattle.bcast_model.proofs.Cases.{tell_is}
 use Rattle.bcast_model.proofs.DeliveryMaps.{inserted, inserted_other}
 use Rattle.bcast_laws.proofs.Sends.{apart}
 use Rattle.bcast_laws.proofs.Answers.{others_answer}
+
+record IsFresh (c : Control) (key fresh : ℕ) : Type 0 where
+  there : is_some (cursor_of c key) ≡ true
+  free : cursor_of c fresh ≡ None
+
+key_differs : (c : Control) (key fresh : ℕ) → IsFresh c key fresh → key ≢ fresh
+key_differs c key fresh is same = apart (ap is_some (sym is.free ∙ ap (cursor_of c) (sym same)) ∙ is.there)
+
+-- the clone stands where its original does
+alike_at : (c : Control) (key fresh : ℕ) (cursor : Option ℕ) → IsFresh c key fresh → cursor_of c key ≡ cursor → cursor_of (clone_receiver c cursor (Some fresh)) fresh ≡ cursor_of (clone_receiver c cursor (Some fresh)) key
+alike_at c key fresh None is at = is.free ∙ sym at
+alike_at c key fresh (Some cursor) is at = inserted c.cursors fresh cursor ∙ sym (inserted_other c.cursors fresh cursor key (key_differs c key fresh is) ∙ at)
 
 module _ {T : Type 0} where
   same_key : (x y : ℕ) → ◌≡◌ {A = Reply T} (reply.CloneReceiver (Ok x)) (reply.CloneReceiver (Ok y)) → x ≡ y
   same_key x y e = cc
 
-  record IsFresh (h : History T) (key fresh : ℕ) : Type 0 where
-    there : is_some (cursor_of h key) ≡ true
-    free : cursor_of h fresh ≡ None
+  fresh_key : (is_clone : T → T → Type 0) (v : View T) (key fresh : ℕ) → Legal is_clone v (call.CloneReceiver key) (reply.CloneReceiver (Ok fresh)) → IsFresh v.control key fresh
+  fresh_key is_clone v key fresh (inl (gone, is)) = cc
+  fresh_key is_clone v key fresh (inr (there, inl (made, is, free))) = record { there = there; free = ap (cursor_of v.control) (same_key fresh made is) ∙ free }
+  fresh_key is_clone v key fresh (inr (there, inr is)) = cc
 
-  fresh_key : (is_clone : T → T → Type 0) (h : History T) (key fresh : ℕ) → Legal is_clone h (call.CloneReceiver key) (reply.CloneReceiver (Ok fresh)) → IsFresh h key fresh
-  fresh_key is_clone h key fresh (inl (gone, is)) = cc
-  fresh_key is_clone h key fresh (inr (there, inl (made, is, free))) = record { there = there; free = ap (cursor_of h) (same_key fresh made is) ∙ free }
-  fresh_key is_clone h key fresh (inr (there, inr is)) = cc
+  stand_alike : (h : History T) (key fresh : ℕ) → IsFresh h.control key fresh → let made = next h (call.CloneReceiver key) (reply.CloneReceiver (Ok fresh)) in cursor_of made.control fresh ≡ cursor_of made.control key
+  stand_alike h key fresh is =
+      let same = cursors-next h (call.CloneReceiver key) (reply.CloneReceiver (Ok fresh)) in
+      ap (λ m. get m fresh) same ∙ alike_at h.control key fresh (cursor_of h.control key) is refl ∙ ap (λ m. get m key) (sym same)
 
-  key_differs : (h : History T) (key fresh : ℕ) → IsFresh h key fresh → key ≢ fresh
-  key_differs h key fresh is same = apart (ap is_some (sym is.free ∙ ap (cursor_of h) (sym same)) ∙ is.there)
-
-  -- the clone stands where its original does
-  record StandAlike (h : History T) (key fresh : ℕ) (made : History T) : Type 0 where
-    cursor : cursor_of made fresh ≡ cursor_of made key
-    low : made.floor ≤ end_number made
-
-  alike_at : (h : History T) (key fresh : ℕ) (cursor : Option ℕ) → IsValid h → IsFresh h key fresh → cursor_of h key ≡ cursor → StandAlike h key fresh (with_control h (clone_receiver h.control cursor (Some fresh)))
-  alike_at h key fresh None valid is at = record { cursor = is.free ∙ sym at; low = valid.floor_high }
-  alike_at h key fresh (Some cursor) valid is at =
-      record { cursor = inserted h.control.cursors fresh cursor ∙ sym (inserted_other h.control.cursors fresh cursor key (key_differs h key fresh is) ∙ at); low = valid.floor_high }
-
-  stand_alike : (h : History T) (key fresh : ℕ) → IsValid h → IsFresh h key fresh → StandAlike h key fresh (next h (call.CloneReceiver key) (reply.CloneReceiver (Ok fresh)))
-  stand_alike h key fresh valid is =
-      let asked : Call T = call.CloneReceiver key in
-      let r : Reply T = reply.CloneReceiver (Ok fresh) in
-      let alike = alike_at h key fresh (cursor_of h key) valid is refl in
-      tell_is (StandAlike h key fresh) (may_tell h.control (sends_are_ready h) asked) (changed h asked r) (λ _. record { cursor = alike.cursor; low = alike.low }) (λ _. alike)
-
-  pub clone_alike : (is_clone : T → T → Type 0) (h : History T) (key fresh : ℕ) (r : Reply T) → IsValid h → Legal is_clone h (call.CloneReceiver key) (reply.CloneReceiver (Ok fresh))
+  pub clone_alike : (is_clone : T → T → Type 0) (h : History T) (key fresh : ℕ) (r : Reply T) → IsValid h → Legal is_clone (view_of h) (call.CloneReceiver key) (reply.CloneReceiver (Ok fresh))
       → let made = next h (call.CloneReceiver key) (reply.CloneReceiver (Ok fresh)) in let after = next made (call.TryRecv key) r in
-      (try_recv_reply made (cursor_of made fresh) ≡ try_recv_reply made (cursor_of made key)) × (try_recv_reply after (cursor_of after fresh) ≡ try_recv_reply made (cursor_of made key))
+      (try_recv_reply (view_of made) (cursor_of made.control fresh) ≡ try_recv_reply (view_of made) (cursor_of made.control key)) × (try_recv_reply (view_of after) (cursor_of after.control fresh) ≡ try_recv_reply (view_of made) (cursor_of made.control key))
   clone_alike is_clone h key fresh r valid legal =
       let made : History T = next h (call.CloneReceiver key) (reply.CloneReceiver (Ok fresh)) in
-      let is = fresh_key is_clone h key fresh legal in
-      let alike = stand_alike h key fresh valid is in
-      let same = ap (try_recv_reply made) alike.cursor in
-      (same, others_answer made fresh key (call.TryRecv key) r alike.low (grind (arith, common_steps)) (key_differs h key fresh is) ∙ same)
+      let is = fresh_key is_clone (view_of h) key fresh legal in
+      let low : made.first ≤ made.floor = omega (arith, valid.floor_low) in
+      let same = ap (try_recv_reply (view_of made)) (stand_alike h key fresh is) in
+      (same, others_answer made fresh key (call.TryRecv key) r low (grind (arith, common_steps)) (key_differs h.control key fresh is) ∙ same)

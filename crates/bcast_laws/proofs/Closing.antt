@@ -6,12 +6,15 @@ use Rattle.bcast_model.specs.declared.run.Call.{Call}
 use Rattle.bcast_model.specs.declared.run.Call.TheVariants as call
 use Rattle.bcast_model.specs.declared.run.Reply.{Reply}
 use Rattle.bcast_model.specs.Pair.{Pair, stream_of, future_of}
-use Rattle.bcast_model.specs.Control.{Control, tell_receivers, close, close_if_deserted, accepting, has_place, place_answered, place_waits, pair_waits, pair_answered}
-use Rattle.bcast_model.specs.History.{History, front_number, end_number, is_full, sends_are_ready, cursor_of, with_control}
-use Rattle.bcast_model.specs.Sending.{refusal, accept_unless, offer}
+use Rattle.bcast_model.specs.Control.{Control, tell_receivers, close, close_if_deserted, accepting, has_place, place_waits, pair_waits, pair_answered, cursor_of}
+use Rattle.bcast_model.specs.View.{View, sends_are_ready}
+use Rattle.bcast_model.specs.Effect.{Effect, sets}
+use Rattle.bcast_model.specs.Sending.{refusal, accept_unless, offer, answered, poll_send}
 use Rattle.bcast_model.specs.Receiving.{receive, listens, skipped_to, poll_receive, is_empty_reply, try_recv_reply}
+use Rattle.bcast_model.specs.Effects.{resize, set_unless_refused, effect}
+use Rattle.bcast_model.specs.History.{History, view_of, remember}
+use Rattle.bcast_model.specs.Next.{found_no_memory, chosen, may_tell, next}
 use Rattle.bcast_model.specs.Handles.{has_next, begin_send, new_receiver, activate, clone_receiver, new_sender, clone_inactive, without_receiver, drop_receiver, deactivate, drop_sender, drop_inactive}
-use Rattle.bcast_model.specs.Next.{found_no_memory, chosen, unless_refused, resize, may_tell, changed, next}
 use Rattle.bcast_model.specs.Run.{end_of_run}
 use Rattle.bcast_model.proofs.Cases.{test_is, close_is, deserted_is, accepting_is, receive_is, tell_is}
 
@@ -74,59 +77,58 @@ drop_inactive_stays : (c : Control) → IsClosed c → IsClosed (drop_inactive c
 drop_inactive_stays c is = let now : Control = record c { inactive = c.inactive - 1 } in test_is IsClosed (c.inactive == 0) c (close_if_deserted now) (λ _. is) (λ _. deserted_stays now is)
 
 module _ {T : Type 0} where
-  abbrev pub IsClosedNow : History T → Type 0
-  IsClosedNow h = h.control.closed ≡ true
+  offer_stays : (v : View T) (msg : T) → IsClosed v.control → IsClosed (offer v msg).control
+  offer_stays v msg is = accept_stays (refusal v msg)
+    where
+      accept_stays : (error : Option (TrySendError T)) → IsClosed (accept_unless v msg error).control
+      accept_stays None = accepting_stays v.control v.end is
+      accept_stays (Some error) = is
 
-  accept_stays : (h : History T) (msg : T) (error : Option (TrySendError T)) → IsClosedNow h → IsClosedNow (accept_unless h msg error)
-  accept_stays h msg None is = accepting_stays h.control (end_number h) is
-  accept_stays h msg (Some error) is = is
+  abbrev Closed : Effect T → Type 0
+  Closed e = IsClosed e.control
 
-  offer_stays : (h : History T) (msg : T) → IsClosedNow h → IsClosedNow (offer h msg)
-  offer_stays h msg is = accept_stays h msg (refusal h.control (is_full h) msg) is
+  poll_send_stays : (v : View T) (place : ℕ) (msg : T) → IsClosed v.control → IsClosed (poll_send v place msg).control
+  poll_send_stays v place msg is =
+      let waits : Effect T = sets (place_waits v.control place) in
+      test_is Closed (has_place v.control place) (cond (sends_are_ready v) (answered (offer v msg) place) waits) (sets v.control)
+      (λ _. test_is Closed (sends_are_ready v) (answered (offer v msg) place) waits (λ _. offer_stays v msg is) (λ _. is)) (λ _. is)
 
-  poll_send_stays : (h : History T) (place : ℕ) (msg : T) (r : Reply T) → IsClosedNow h → IsClosedNow (changed h (call.PollSend place msg) r)
-  poll_send_stays h place msg r is =
-      let answered : History T = with_control (offer h msg) (place_answered (offer h msg).control place) in
-      let waits : History T = with_control h (place_waits h.control place) in
-      test_is IsClosedNow (has_place h.control place) (cond (sends_are_ready h) answered waits) h
-      (λ _. test_is IsClosedNow (sends_are_ready h) answered waits (λ _. offer_stays h msg is) (λ _. is)) (λ _. is)
+  unless_stays : (v : View T) (e : Effect T) (r : Reply T) → IsClosed v.control → IsClosed e.control → IsClosed (cond (found_no_memory r) (sets v.control) e).control
+  unless_stays v e r is then = test_is Closed (found_no_memory r) (sets v.control) e (λ _. is) (λ _. then)
 
-  unless_stays : (h now : History T) (r : Reply T) → IsClosedNow h → IsClosedNow now → IsClosedNow (unless_refused r h now)
-  unless_stays h now r is then = test_is IsClosedNow (found_no_memory r) h now (λ _. is) (λ _. then)
-
-  poll_stays : (h : History T) (r : Reply T) (pair : Pair) (cursor : Option ℕ) (answer : Result T TryRecvError) → IsClosedNow h → IsClosedNow (unless_refused r h (with_control h (poll_receive (front_number h) (end_number h) h.control pair cursor answer)))
-  poll_stays h r pair cursor answer is =
-      let c : Control = receive (front_number h) (end_number h) h.control pair.0 cursor in
-      unless_stays h (with_control h (listens c pair (is_empty_reply answer))) r is (listens_stays c (receive_stays h.control is (front_number h) (end_number h) pair.0 cursor) pair (is_empty_reply answer))
+  poll_stays : (v : View T) (r : Reply T) (pair : Pair) (cursor : Option ℕ) (answer : Result T TryRecvError) → IsClosed v.control → IsClosed (set_unless_refused r v (poll_receive v.front v.end v.control pair cursor answer)).control
+  poll_stays v r pair cursor answer is =
+      let c : Control = receive v.front v.end v.control pair.0 cursor in
+      unless_stays v (sets (listens c pair (is_empty_reply answer))) r is (listens_stays c (receive_stays v.control is v.front v.end pair.0 cursor) pair (is_empty_reply answer))
 
   -- ---- each call
-  changed_stays : (h : History T) (c : Call T) (r : Reply T) → IsClosedNow h → IsClosedNow (changed h c r)
-  changed_stays h (call.TryBroadcast msg) r is = offer_stays h msg is
-  changed_stays h (call.AttemptSend msg) r is = offer_stays h msg is
-  changed_stays h call.BeginSend r is = begin_stays h.control is (chosen r)
-  changed_stays h (call.PollSend place msg) r is = poll_send_stays h place msg r is
-  changed_stays h (call.TryRecv key) r is = unless_stays h (with_control h (receive (front_number h) (end_number h) h.control key (cursor_of h key))) r is (receive_stays h.control is (front_number h) (end_number h) key (cursor_of h key))
-  changed_stays h (call.PollFuture key) r is = poll_stays h r (future_of key) (cursor_of h key) (try_recv_reply h (cursor_of h key)) is
-  changed_stays h (call.PollRecv key) r is = poll_stays h r (stream_of key) (cursor_of h key) (try_recv_reply h (cursor_of h key)) is
-  changed_stays h (call.PollNext key) r is = let cursor = skipped_to (front_number h) (cursor_of h key) in poll_stays h r (stream_of key) cursor (try_recv_reply h cursor) is
-  changed_stays h call.Close r is = close_stays h.control is
-  changed_stays h (call.SetCapacity n) r is = unless_stays h (resize h n) r is is
-  changed_stays h call.NewSender r is = new_sender_stays h.control is
-  changed_stays h call.CloneInactive r is = clone_inactive_stays h.control is
-  changed_stays h (call.Deactivate key) r is = deactivate_stays h.control key (cursor_of h key) is
-  changed_stays h call.NewReceiver r is = new_receiver_stays h.control is (end_number h) (chosen r)
-  changed_stays h call.Activate r is = activate_stays h.control is (end_number h) (chosen r)
-  changed_stays h call.ActivateCloned r is = new_receiver_stays h.control is (end_number h) (chosen r)
-  changed_stays h (call.CloneReceiver key) r is = clone_stays h.control is (cursor_of h key) (chosen r)
-  changed_stays h call.DropSender r is = drop_sender_stays h.control is
-  changed_stays h call.DropInactive r is = drop_inactive_stays h.control is
-  changed_stays h (call.DropReceiver key) r is = dropped_stays h.control key (cursor_of h key) is
-  changed_stays h c r is = is
+  effect_stays : (v : View T) (c : Call T) (r : Reply T) → IsClosed v.control → IsClosed (effect v c r).control
+  effect_stays v (call.TryBroadcast msg) r is = offer_stays v msg is
+  effect_stays v (call.AttemptSend msg) r is = offer_stays v msg is
+  effect_stays v call.BeginSend r is = begin_stays v.control is (chosen r)
+  effect_stays v (call.PollSend place msg) r is = poll_send_stays v place msg is
+  effect_stays v (call.TryRecv key) r is = unless_stays v (sets (receive v.front v.end v.control key (cursor_of v.control key))) r is (receive_stays v.control is v.front v.end key (cursor_of v.control key))
+  effect_stays v (call.PollFuture key) r is = poll_stays v r (future_of key) (cursor_of v.control key) (try_recv_reply v (cursor_of v.control key)) is
+  effect_stays v (call.PollRecv key) r is = poll_stays v r (stream_of key) (cursor_of v.control key) (try_recv_reply v (cursor_of v.control key)) is
+  effect_stays v (call.PollNext key) r is = let cursor = skipped_to v.front (cursor_of v.control key) in poll_stays v r (stream_of key) cursor (try_recv_reply v cursor) is
+  effect_stays v call.Close r is = close_stays v.control is
+  effect_stays v (call.SetCapacity n) r is = unless_stays v (resize v n) r is is
+  effect_stays v call.NewSender r is = new_sender_stays v.control is
+  effect_stays v call.CloneInactive r is = clone_inactive_stays v.control is
+  effect_stays v (call.Deactivate key) r is = deactivate_stays v.control key (cursor_of v.control key) is
+  effect_stays v call.NewReceiver r is = new_receiver_stays v.control is v.end (chosen r)
+  effect_stays v call.Activate r is = activate_stays v.control is v.end (chosen r)
+  effect_stays v call.ActivateCloned r is = new_receiver_stays v.control is v.end (chosen r)
+  effect_stays v (call.CloneReceiver key) r is = clone_stays v.control is (cursor_of v.control key) (chosen r)
+  effect_stays v call.DropSender r is = drop_sender_stays v.control is
+  effect_stays v call.DropInactive r is = drop_inactive_stays v.control is
+  effect_stays v (call.DropReceiver key) r is = dropped_stays v.control key (cursor_of v.control key) is
+  effect_stays v c r is = is
 
-  next_stays : (h : History T) (c : Call T) (r : Reply T) → IsClosedNow h → IsClosedNow (next h c r)
-  next_stays h c r is = let now = changed_stays h c r is in tell_is IsClosedNow (may_tell h.control (sends_are_ready h) c) (changed h c r) (λ _. now) (λ _. now)
+  next_stays : (h : History T) (c : Call T) (r : Reply T) → IsClosed h.control → IsClosed (next h c r).control
+  next_stays h c r is = let now = effect_stays (view_of h) c r is in tell_is (λ (after : History T). IsClosed after.control) (may_tell h.control (sends_are_ready (view_of h)) c) (remember h (effect (view_of h) c r)) (λ _. now) (λ _. now)
 
-  pub run_stays : (h : History T) (calls : List (Call T)) (replies : List (Reply T)) → IsClosedNow h → IsClosedNow (end_of_run h calls replies)
+  pub run_stays : (h : History T) (calls : List (Call T)) (replies : List (Reply T)) → IsClosed h.control → IsClosed (end_of_run h calls replies).control
   run_stays h [] replies is = is
   run_stays h (c ∷ calls) [] is = is
   run_stays h (c ∷ calls) (r ∷ replies) is = run_stays (next h c r) calls replies (next_stays h c r is)

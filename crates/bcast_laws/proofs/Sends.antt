@@ -8,13 +8,17 @@ use Rattle.bcast_model.specs.declared.run.Call.{Call}
 use Rattle.bcast_model.specs.declared.run.Call.TheVariants as call
 use Rattle.bcast_model.specs.declared.run.Reply.{Reply}
 use Rattle.bcast_model.specs.declared.run.Reply.TheVariants as reply
-use Rattle.bcast_model.specs.Control.{has_no_receiver, has_place, place_answered, place_waits}
-use Rattle.bcast_model.specs.History.{History, is_full, sends_are_ready, with_control}
-use Rattle.bcast_model.specs.Sending.{refusal, sent, attempted, handed_back, attempt_send_reply, accept_unless, offer}
+use Rattle.bcast_model.specs.Control.{has_no_receiver, has_place, place_waits}
+use Rattle.bcast_model.specs.View.{View, is_full, sends_are_ready}
+use Rattle.bcast_model.specs.Effect.{Effect, sets}
+use Rattle.bcast_model.specs.Sending.{refusal, sent, attempted, handed_back, attempt_send_reply, accept_unless, offer, answered, poll_send}
+use Rattle.bcast_model.specs.Effects.{effect}
+use Rattle.bcast_model.specs.Replies.{found_no_memory}
+use Rattle.bcast_model.specs.History.{History, view_of}
+use Rattle.bcast_model.specs.Next.{next}
 use Rattle.bcast_model.specs.Legal.{Legal}
-use Rattle.bcast_model.specs.Next.{found_no_memory, may_tell, changed, next}
 use Rattle.bcast_model.specs.Laws.{must_wait}
-use Rattle.bcast_model.proofs.Cases.{test_is, tell_is}
+use Rattle.bcast_model.proofs.Cases.{test_is}
 use Rattle.bcast_model.proofs.Polls.{send_waits_unready}
 use Rattle.bcast_laws.specs.Sends.{sent_by, returned_by, is_accepted}
 
@@ -31,20 +35,20 @@ module _ {T : Type 0} where
   added true None = []
   added false msg = []
 
-  none_added : (h : History T) (b : Bool) → h.accepted ≡ h.accepted ++ added b None
-  none_added h true = sym (append-nil h.accepted)
-  none_added h false = sym (append-nil h.accepted)
+  none_added : (b : Bool) → [] ≡ added b None
+  none_added true = refl
+  none_added false = refl
 
-  adds_try : (h : History T) (msg : T) (back : Option T) (error : Option (TrySendError T)) → (accept_unless h msg error).accepted ≡ h.accepted ++ added (is_accepted (reply.TryBroadcast (sent back error))) (Some msg)
-  adds_try h msg back None = refl
-  adds_try h msg back (Some error) = sym (append-nil h.accepted)
+  adds_try : (v : View T) (msg : T) (back : Option T) (error : Option (TrySendError T)) → (accept_unless v msg error).accepted ≡ added (is_accepted (reply.TryBroadcast (sent back error))) (Some msg)
+  adds_try v msg back None = refl
+  adds_try v msg back (Some error) = refl
 
-  adds_attempt : (h : History T) (msg : T) (await : Bool) (back : Option T) (error : Option (TrySendError T)) → (accept_unless h msg error).accepted ≡ h.accepted ++ added (is_accepted (reply.AttemptSend (attempted await back error))) (Some msg)
-  adds_attempt h msg await back None = refl
-  adds_attempt h msg await back (Some (unsent.Closed m)) = sym (append-nil h.accepted)
-  adds_attempt h msg true back (Some (unsent.Inactive m)) = sym (append-nil h.accepted)
-  adds_attempt h msg false back (Some (unsent.Inactive m)) = sym (append-nil h.accepted)
-  adds_attempt h msg await back (Some (unsent.Full m)) = sym (append-nil h.accepted)
+  adds_attempt : (v : View T) (msg : T) (await : Bool) (back : Option T) (error : Option (TrySendError T)) → (accept_unless v msg error).accepted ≡ added (is_accepted (reply.AttemptSend (attempted await back error))) (Some msg)
+  adds_attempt v msg await back None = refl
+  adds_attempt v msg await back (Some (unsent.Closed m)) = refl
+  adds_attempt v msg true back (Some (unsent.Inactive m)) = refl
+  adds_attempt v msg false back (Some (unsent.Inactive m)) = refl
+  adds_attempt v msg await back (Some (unsent.Full m)) = refl
 
   -- a poll is answered as an attempt is
   as_attempt : (answer : SendPoll T) → is_accepted (reply.PollSend answer) ≡ is_accepted (reply.AttemptSend answer)
@@ -57,47 +61,43 @@ module _ {T : Type 0} where
   waits_unaccepted (send.Ready (Err error)) e = refl
   waits_unaccepted (send.Wait msg) e = refl
 
-  adds_poll : (is_clone : T → T → Type 0) (h : History T) (place : ℕ) (msg : T) (r : Reply T) → Legal is_clone h (call.PollSend place msg) r → (changed h (call.PollSend place msg) r).accepted ≡ h.accepted ++ added (is_accepted r) (Some msg)
-  adds_poll is_clone h place msg r legal =
-      let answer : SendPoll T = attempt_send_reply h msg in
+  adds_poll : (is_clone : T → T → Type 0) (v : View T) (place : ℕ) (msg : T) (r : Reply T) → Legal is_clone v (call.PollSend place msg) r → (poll_send v place msg).accepted ≡ added (is_accepted r) (Some msg)
+  adds_poll is_clone v place msg r legal =
+      let answer : SendPoll T = attempt_send_reply v msg in
       rw legal
-      (elim (has_place h.control place) as (λ b. has_place h.control place ≡ b
-      → (cond b (cond (sends_are_ready h) (with_control (offer h msg) (place_answered (offer h msg).control place)) (with_control h (place_waits h.control place))) h).accepted
-      ≡ h.accepted ++ added (is_accepted (reply.PollSend (cond b answer (send.Wait msg)))) (Some msg)) [
-        | true ↦ λ known. elim (sends_are_ready h) as (λ b. sends_are_ready h ≡ b
-            → (cond b (with_control (offer h msg) (place_answered (offer h msg).control place)) (with_control h (place_waits h.control place))).accepted ≡ h.accepted ++ added (is_accepted (reply.PollSend answer)) (Some msg)) [
-              | true ↦ λ _. adds_attempt h msg h.control.await_active (handed_back h) (refusal h.control (is_full h) msg) ∙ ap (λ b. h.accepted ++ added b (Some msg)) (sym (as_attempt answer))
+      (elim (has_place v.control place) as (λ b. has_place v.control place ≡ b
+      → (cond b (cond (sends_are_ready v) (answered (offer v msg) place) (sets (place_waits v.control place))) (sets v.control)).accepted
+      ≡ added (is_accepted (reply.PollSend (cond b answer (send.Wait msg)))) (Some msg)) [
+        | true ↦ λ known. elim (sends_are_ready v) as (λ b. sends_are_ready v ≡ b
+            → (cond b (answered (offer v msg) place) (sets (place_waits v.control place))).accepted ≡ added (is_accepted (reply.PollSend answer)) (Some msg)) [
+              | true ↦ λ _. adds_attempt v msg v.control.await_active (handed_back v) (refusal v msg) ∙ ap (λ b. added b (Some msg)) (sym (as_attempt answer))
               | false ↦ λ ready.
-                  let waits : must_wait (reply.PollSend answer) ≡ true = send_waits_unready is_clone h place msg (reply.PollSend answer) known (sym (ap (λ b. reply.PollSend (cond b answer (send.Wait msg))) known)) ∙ ap not ready in
-                  sym (append-nil h.accepted) ∙ ap (λ b. h.accepted ++ added b (Some msg)) (sym (waits_unaccepted answer waits))
+                  let waits : must_wait (reply.PollSend answer) ≡ true = send_waits_unready is_clone v place msg (reply.PollSend answer) known (sym (ap (λ b. reply.PollSend (cond b answer (send.Wait msg))) known)) ∙ ap not ready in
+                  ap (λ b. added b (Some msg)) (sym (waits_unaccepted answer waits))
             ] refl
-        | false ↦ λ _. sym (append-nil h.accepted)
+        | false ↦ λ _. refl
       ] refl)
 
-  adds_unless : (h now : History T) (r : Reply T) → now.accepted ≡ h.accepted → (cond (found_no_memory r) h now).accepted ≡ h.accepted ++ added (is_accepted r) None
-  adds_unless h now r same = test_is (λ (after : History T). after.accepted ≡ h.accepted) (found_no_memory r) h now (λ _. refl) (λ _. same) ∙ none_added h (is_accepted r)
+  adds_unless : (v : View T) (e : Effect T) (r : Reply T) → e.accepted ≡ [] → (cond (found_no_memory r) (sets v.control) e).accepted ≡ added (is_accepted r) None
+  adds_unless v e r same = test_is (λ (e : Effect T). e.accepted ≡ []) (found_no_memory r) (sets v.control) e (λ _. refl) (λ _. same) ∙ none_added (is_accepted r)
 
-  adds_changed : (is_clone : T → T → Type 0) (h : History T) (c : Call T) (r : Reply T) → Legal is_clone h c r → (changed h c r).accepted ≡ h.accepted ++ added (is_accepted r) (sent_by c)
-  adds_changed is_clone h (call.TryBroadcast msg) r legal = rw legal (adds_try h msg (handed_back h) (refusal h.control (is_full h) msg))
-  adds_changed is_clone h (call.AttemptSend msg) r legal = rw legal (adds_attempt h msg h.control.await_active (handed_back h) (refusal h.control (is_full h) msg))
-  adds_changed is_clone h (call.PollSend place msg) r legal = adds_poll is_clone h place msg r legal
-  adds_changed is_clone h (call.TryRecv key) r legal = adds_unless h _ r refl
-  adds_changed is_clone h (call.PollFuture key) r legal = adds_unless h _ r refl
-  adds_changed is_clone h (call.PollRecv key) r legal = adds_unless h _ r refl
-  adds_changed is_clone h (call.PollNext key) r legal = adds_unless h _ r refl
-  adds_changed is_clone h (call.SetCapacity n) r legal = adds_unless h _ r refl
-  adds_changed is_clone h c r legal = none_added h (is_accepted r)
+  -- what a call adds
+  adds : (is_clone : T → T → Type 0) (v : View T) (c : Call T) (r : Reply T) → Legal is_clone v c r → (effect v c r).accepted ≡ added (is_accepted r) (sent_by c)
+  adds is_clone v (call.TryBroadcast msg) r legal = rw legal (adds_try v msg (handed_back v) (refusal v msg))
+  adds is_clone v (call.AttemptSend msg) r legal = rw legal (adds_attempt v msg v.control.await_active (handed_back v) (refusal v msg))
+  adds is_clone v (call.PollSend place msg) r legal = adds_poll is_clone v place msg r legal
+  adds is_clone v (call.TryRecv key) r legal = adds_unless v _ r refl
+  adds is_clone v (call.PollFuture key) r legal = adds_unless v _ r refl
+  adds is_clone v (call.PollRecv key) r legal = adds_unless v _ r refl
+  adds is_clone v (call.PollNext key) r legal = adds_unless v _ r refl
+  adds is_clone v (call.SetCapacity n) r legal = adds_unless v _ r refl
+  adds is_clone v c r legal = none_added (is_accepted r)
 
-  adds_next : (is_clone : T → T → Type 0) (h : History T) (c : Call T) (r : Reply T) → Legal is_clone h c r → (next h c r).accepted ≡ h.accepted ++ added (is_accepted r) (sent_by c)
-  adds_next is_clone h c r legal =
-      let adds = adds_changed is_clone h c r legal in
-      tell_is (λ (after : History T). after.accepted ≡ h.accepted ++ added (is_accepted r) (sent_by c)) (may_tell h.control (sends_are_ready h) c) (changed h c r) (λ _. adds) (λ _. adds)
+  pub accepted_added : (is_clone : T → T → Type 0) (h : History T) (c : Call T) (r : Reply T) (msg : T) → Legal is_clone (view_of h) c r → is_accepted r ≡ true → sent_by c ≡ Some msg → (next h c r).accepted ≡ h.accepted ++ msg ∷ []
+  accepted_added is_clone h c r msg legal accepted is = ap (◌++◌ h.accepted) (adds is_clone (view_of h) c r legal ∙ ap (λ b. added b (sent_by c)) accepted ∙ ap (added true) is)
 
-  pub accepted_added : (is_clone : T → T → Type 0) (h : History T) (c : Call T) (r : Reply T) (msg : T) → Legal is_clone h c r → is_accepted r ≡ true → sent_by c ≡ Some msg → (next h c r).accepted ≡ h.accepted ++ msg ∷ []
-  accepted_added is_clone h c r msg legal accepted is = adds_next is_clone h c r legal ∙ ap (λ b. h.accepted ++ added b (sent_by c)) accepted ∙ ap (λ o. h.accepted ++ added true o) is
-
-  pub nothing_added : (is_clone : T → T → Type 0) (h : History T) (c : Call T) (r : Reply T) → Legal is_clone h c r → is_accepted r ≡ false → (next h c r).accepted ≡ h.accepted
-  nothing_added is_clone h c r legal refused = adds_next is_clone h c r legal ∙ ap (λ b. h.accepted ++ added b (sent_by c)) refused ∙ append-nil h.accepted
+  pub nothing_added : (is_clone : T → T → Type 0) (h : History T) (c : Call T) (r : Reply T) → Legal is_clone (view_of h) c r → is_accepted r ≡ false → (next h c r).accepted ≡ h.accepted
+  nothing_added is_clone h c r legal refused = ap (◌++◌ h.accepted) (adds is_clone (view_of h) c r legal ∙ ap (λ b. added b (sent_by c)) refused) ∙ append-nil h.accepted
 
   -- ---- what comes back, by: closed, no receiver, full without overflow, and whether sends await a receiver
   returns_try : (closed none full : Bool) (back : Option T) (msg : T) → is_accepted (reply.TryBroadcast (sent back (cond closed (Some (unsent.Closed msg)) (cond none (Some (unsent.Inactive msg)) (cond full (Some (unsent.Full msg)) None))))) ≡ false
@@ -120,17 +120,17 @@ module _ {T : Type 0} where
   returns_as_attempt (send.Ready (Err error)) = refl
   returns_as_attempt (send.Wait msg) = refl
 
-  returns_poll : (h : History T) (known : Bool) (msg : T) → is_accepted (reply.PollSend (cond known (attempt_send_reply h msg) (send.Wait msg))) ≡ false → returned_by (reply.PollSend (cond known (attempt_send_reply h msg) (send.Wait msg))) ≡ Some msg
-  returns_poll h true msg e =
-      let answer : SendPoll T = attempt_send_reply h msg in
-      returns_as_attempt answer ∙ returns_attempt h.control.closed (has_no_receiver h.control) (is_full h && not h.control.overflow) h.control.await_active (handed_back h) msg (sym (as_attempt answer) ∙ e)
-  returns_poll h false msg e = refl
+  returns_poll : (v : View T) (known : Bool) (msg : T) → is_accepted (reply.PollSend (cond known (attempt_send_reply v msg) (send.Wait msg))) ≡ false → returned_by (reply.PollSend (cond known (attempt_send_reply v msg) (send.Wait msg))) ≡ Some msg
+  returns_poll v true msg e =
+      let answer : SendPoll T = attempt_send_reply v msg in
+      returns_as_attempt answer ∙ returns_attempt v.control.closed (has_no_receiver v.control) (is_full v && not v.control.overflow) v.control.await_active (handed_back v) msg (sym (as_attempt answer) ∙ e)
+  returns_poll v false msg e = refl
 
-  pub returned_back : (is_clone : T → T → Type 0) (h : History T) (c : Call T) (r : Reply T) (msg : T) → Legal is_clone h c r → sent_by c ≡ Some msg → is_accepted r ≡ false → returned_by r ≡ Some msg
-  returned_back is_clone h (call.TryBroadcast m) r msg legal is refused =
-      ap returned_by legal ∙ returns_try h.control.closed (has_no_receiver h.control) (is_full h && not h.control.overflow) (handed_back h) m (sym (ap is_accepted legal) ∙ refused) ∙ is
-  returned_back is_clone h (call.AttemptSend m) r msg legal is refused =
-      ap returned_by legal ∙ returns_attempt h.control.closed (has_no_receiver h.control) (is_full h && not h.control.overflow) h.control.await_active (handed_back h) m (sym (ap is_accepted legal) ∙ refused) ∙ is
-  returned_back is_clone h (call.PollSend place m) r msg legal is refused =
-      ap returned_by legal ∙ returns_poll h (has_place h.control place) m (sym (ap is_accepted legal) ∙ refused) ∙ is
-  returned_back is_clone h c r msg legal is refused = none_some msg is
+  pub returned_back : (is_clone : T → T → Type 0) (v : View T) (c : Call T) (r : Reply T) (msg : T) → Legal is_clone v c r → sent_by c ≡ Some msg → is_accepted r ≡ false → returned_by r ≡ Some msg
+  returned_back is_clone v (call.TryBroadcast m) r msg legal is refused =
+      ap returned_by legal ∙ returns_try v.control.closed (has_no_receiver v.control) (is_full v && not v.control.overflow) (handed_back v) m (sym (ap is_accepted legal) ∙ refused) ∙ is
+  returned_back is_clone v (call.AttemptSend m) r msg legal is refused =
+      ap returned_by legal ∙ returns_attempt v.control.closed (has_no_receiver v.control) (is_full v && not v.control.overflow) v.control.await_active (handed_back v) m (sym (ap is_accepted legal) ∙ refused) ∙ is
+  returned_back is_clone v (call.PollSend place m) r msg legal is refused =
+      ap returned_by legal ∙ returns_poll v (has_place v.control place) m (sym (ap is_accepted legal) ∙ refused) ∙ is
+  returned_back is_clone v c r msg legal is refused = none_some msg is

@@ -10,36 +10,37 @@ use Rattle.bcast_model.specs.declared.run.Call.TheVariants as call
 use Rattle.bcast_model.specs.declared.run.Reply.{Reply}
 use Rattle.bcast_model.specs.declared.run.Reply.TheVariants as reply
 use Rattle.bcast_model.specs.Control.{has_place}
+use Rattle.bcast_model.specs.View.{View}
 use Rattle.bcast_model.specs.History.{History}
 use Rattle.bcast_model.specs.Legal.{Legal}
-use Rattle.bcast_model.specs.Valid.{IsValid}
+use Rattle.bcast_model.specs.Valid.{IsValidView}
 use Rattle.bcast_model.specs.Run.{end_of_run}
 
 -- no calls open a closed channel, and each send on it is refused with its message
 pub record StaysClosed {T : Type 0} (is_clone : T → T → Type 0) : Type 0 where
   pub stays : (h : History T) (calls : List (Call T)) (replies : List (Reply T))
       → h.control.closed ≡ true → (end_of_run h calls replies).control.closed ≡ true
-  pub try_broadcast : (h : History T) (msg : T) (r : Reply T) → h.control.closed ≡ true
-      → Legal is_clone h (call.TryBroadcast msg) r
+  pub try_broadcast : (v : View T) (msg : T) (r : Reply T) → v.control.closed ≡ true
+      → Legal is_clone v (call.TryBroadcast msg) r
       → r ≡ reply.TryBroadcast (Err (unsent.Closed msg))
-  pub attempt_send : (h : History T) (msg : T) (r : Reply T) → h.control.closed ≡ true
-      → Legal is_clone h (call.AttemptSend msg) r
+  pub attempt_send : (v : View T) (msg : T) (r : Reply T) → v.control.closed ≡ true
+      → Legal is_clone v (call.AttemptSend msg) r
       → r ≡ reply.AttemptSend (send.Ready (Err (record { 0 = msg })))
-  pub poll_send : (h : History T) (place : ℕ) (msg : T) (r : Reply T) → h.control.closed ≡ true
-      → has_place h.control place ≡ true → Legal is_clone h (call.PollSend place msg) r
+  pub poll_send : (v : View T) (place : ℕ) (msg : T) (r : Reply T) → v.control.closed ≡ true
+      → has_place v.control place ≡ true → Legal is_clone v (call.PollSend place msg) r
       → r ≡ reply.PollSend (send.Ready (Err (record { 0 = msg })))
 
 -- the receives of this receiver answer that the channel is closed, and nothing else
 pub record AnswersClosed
-    {T : Type 0} (is_clone : T → T → Type 0) (h : History T) (key : ℕ) (r : Reply T) : Type 0 where
-  pub try_recv : Legal is_clone h (call.TryRecv key) r → r ≡ reply.TryRecv (Ok (Err unread.Closed))
-  pub poll_future : Legal is_clone h (call.PollFuture key) r
+    {T : Type 0} (is_clone : T → T → Type 0) (v : View T) (key : ℕ) (r : Reply T) : Type 0 where
+  pub try_recv : Legal is_clone v (call.TryRecv key) r → r ≡ reply.TryRecv (Ok (Err unread.Closed))
+  pub poll_future : Legal is_clone v (call.PollFuture key) r
       → r ≡ reply.PollFuture (Ok (poll.Ready (Err unreceived.Closed)))
-  pub poll_recv : Legal is_clone h (call.PollRecv key) r → r ≡ reply.PollRecv (Ok (poll.Ready None))
-  pub poll_next : Legal is_clone h (call.PollNext key) r → r ≡ reply.PollNext (Ok (poll.Ready None))
+  pub poll_recv : Legal is_clone v (call.PollRecv key) r → r ≡ reply.PollRecv (Ok (poll.Ready None))
+  pub poll_next : Legal is_clone v (call.PollNext key) r → r ≡ reply.PollNext (Ok (poll.Ready None))
 
 -- where `is_terminated` answers true, each receive answers that the channel is closed
 abbrev pub TerminatedGivesNothing : {T : Type 0} → (T → T → Type 0) → Type 0
 TerminatedGivesNothing {T} is_clone =
-    (h : History T) (key : ℕ) (r : Reply T) → IsValid h
-    → Legal is_clone h call.IsTerminated (reply.IsTerminated true) → AnswersClosed is_clone h key r
+    (v : View T) (key : ℕ) (r : Reply T) → IsValidView v
+    → Legal is_clone v call.IsTerminated (reply.IsTerminated true) → AnswersClosed is_clone v key r

@@ -2,7 +2,8 @@
 use Rattle.std.specs.Prelude.{◌≡◌, ℕ, ◌+◌, ◌⊎◌, List, [], ◌∷◌, slice_get, Some, IsSomeAnd}
 use Rattle.bcast_model.specs.declared.run.Call.{Call}
 use Rattle.bcast_model.specs.declared.run.Reply.{Reply}
-use Rattle.bcast_model.specs.History.{History, cursor_of, numbered}
+use Rattle.bcast_model.specs.Control.{cursor_of}
+use Rattle.bcast_model.specs.History.{History, numbered}
 use Rattle.bcast_model.specs.Legal.{IsGiven, ClonesEqual}
 use Rattle.bcast_model.specs.Next.{next}
 use Rattle.bcast_model.specs.Valid.{IsValid}
@@ -17,7 +18,7 @@ pub record IsGivenAs
   pub key : ℕ
   pub start : ℕ
   pub index : ℕ
-  pub there : cursor_of h key ≡ Some start
+  pub there : cursor_of h.control key ≡ Some start
   pub is_number : start + index ≡ number
   pub given : slice_get (deliveries_of key h calls replies) index ≡ Some (Some msg)
 

@@ -6,29 +6,31 @@ use Rattle.bcast_model.specs.declared.run.Call.{Call}
 use Rattle.bcast_model.specs.declared.run.Call.TheVariants as call
 use Rattle.bcast_model.specs.declared.run.Reply.{Reply}
 use Rattle.bcast_model.specs.declared.run.Reply.TheVariants as reply
-use Rattle.bcast_model.specs.History.{History, queue_of, cursor_of}
+use Rattle.bcast_model.specs.Control.{cursor_of}
+use Rattle.bcast_model.specs.View.{View}
+use Rattle.bcast_model.specs.History.{History, view_of}
 use Rattle.bcast_model.specs.Receiving.{try_recv_reply}
 use Rattle.bcast_model.specs.Legal.{Legal}
 use Rattle.bcast_model.specs.Next.{next}
-use Rattle.bcast_model.specs.Valid.{IsValid}
+use Rattle.bcast_model.specs.Valid.{IsValid, IsValidView}
 use Rattle.bcast_model.specs.Deliveries.{receives_for}
 
 -- `len` is never over `capacity`, and no message is kept where nobody receives
 pub record KeepsAtMostCapacity {T : Type 0} (is_clone : T → T → Type 0) : Type 0 where
-  pub kept : (h : History T) → IsValid h → length (queue_of h) ≤ h.control.capacity
-  pub answered : (h : History T) (n capacity : ℕ) → IsValid h
-      → Legal is_clone h call.Len (reply.Len n)
-      → Legal is_clone h call.Capacity (reply.Capacity capacity) → n ≤ capacity
-  pub nobody : (h : History T) → IsValid h → len h.control.cursors ≡ 0 → queue_of h ≡ []
+  pub kept : (v : View T) → IsValidView v → length v.queue ≤ v.control.capacity
+  pub answered : (v : View T) (n capacity : ℕ) → IsValidView v
+      → Legal is_clone v call.Len (reply.Len n)
+      → Legal is_clone v call.Capacity (reply.Capacity capacity) → n ≤ capacity
+  pub nobody : (v : View T) → IsValidView v → len v.control.cursors ≡ 0 → v.queue ≡ []
 
 -- who is told that it missed messages missed one at least, and finds a message if it asks again
 -- at once
 abbrev pub MissedThenGiven : Type 0 → Type 0
 MissedThenGiven T =
     (h : History T) (key n : ℕ) → IsValid h
-    → try_recv_reply h (cursor_of h key) ≡ Err (unread.Overflowed n)
+    → try_recv_reply (view_of h) (cursor_of h.control key) ≡ Err (unread.Overflowed n)
     → let after = next h (call.TryRecv key) (reply.TryRecv (Ok (Err (unread.Overflowed n)))) in
-    (1 ≤ n) × IsOk (try_recv_reply after (cursor_of after key))
+    (1 ≤ n) × IsOk (try_recv_reply (view_of after) (cursor_of after.control key))
 
 -- what receivers share: the accepted messages, which were dropped, and whether more may come
 pub record ShareMessages {T : Type 0} (h other : History T) : Type 0 where
@@ -41,19 +43,19 @@ pub record ShareMessages {T : Type 0} (h other : History T) : Type 0 where
 -- no receive by another one changes it
 pub record ReadsByOwnCursor (T : Type 0) : Type 0 where
   pub own : (h other : History T) (key : ℕ) → IsValid h → ShareMessages h other
-      → cursor_of other key ≡ cursor_of h key
-      → try_recv_reply other (cursor_of other key) ≡ try_recv_reply h (cursor_of h key)
+      → cursor_of other.control key ≡ cursor_of h.control key
+      → try_recv_reply (view_of other) (cursor_of other.control key) ≡ try_recv_reply (view_of h) (cursor_of h.control key)
   pub others : (h : History T) (key reader : ℕ) (c : Call T) (r : Reply T) → IsValid h
       → receives_for reader c ≡ true → reader ≢ key
-      → try_recv_reply (next h c r) (cursor_of (next h c r) key)
-      ≡ try_recv_reply h (cursor_of h key)
+      → try_recv_reply (view_of (next h c r)) (cursor_of (next h c r).control key)
+      ≡ try_recv_reply (view_of h) (cursor_of h.control key)
 
 -- `Receiver::clone`: the two are answered alike, also once the receiver was asked
 abbrev pub ClonesAnswerAlike : {T : Type 0} → (T → T → Type 0) → Type 0
 ClonesAnswerAlike {T} is_clone =
     (h : History T) (key fresh : ℕ) (r : Reply T) → IsValid h
-    → Legal is_clone h (call.CloneReceiver key) (reply.CloneReceiver (Ok fresh))
+    → Legal is_clone (view_of h) (call.CloneReceiver key) (reply.CloneReceiver (Ok fresh))
     → let made = next h (call.CloneReceiver key) (reply.CloneReceiver (Ok fresh)) in
     let after = next made (call.TryRecv key) r in
-    (try_recv_reply made (cursor_of made fresh) ≡ try_recv_reply made (cursor_of made key))
-    × (try_recv_reply after (cursor_of after fresh) ≡ try_recv_reply made (cursor_of made key))
+    (try_recv_reply (view_of made) (cursor_of made.control fresh) ≡ try_recv_reply (view_of made) (cursor_of made.control key))
+    × (try_recv_reply (view_of after) (cursor_of after.control fresh) ≡ try_recv_reply (view_of made) (cursor_of made.control key))

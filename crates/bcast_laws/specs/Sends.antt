@@ -7,7 +7,8 @@ use Rattle.bcast_model.specs.declared.run.Call.{Call}
 use Rattle.bcast_model.specs.declared.run.Call.TheVariants as call
 use Rattle.bcast_model.specs.declared.run.Reply.{Reply}
 use Rattle.bcast_model.specs.declared.run.Reply.TheVariants as reply
-use Rattle.bcast_model.specs.History.{History}
+use Rattle.bcast_model.specs.View.{View}
+use Rattle.bcast_model.specs.History.{History, view_of}
 use Rattle.bcast_model.specs.Legal.{Legal}
 use Rattle.bcast_model.specs.Next.{next}
 use Rattle.bcast_model.specs.Valid.{IsValid}
@@ -65,23 +66,23 @@ module _ {T : Type 0} where
 
 -- a refused call leaves the channel as it was, and a send that isn't accepted returns its message
 pub record RefusedChangesNothing {T : Type 0} (is_clone : T → T → Type 0) : Type 0 where
-  pub same : (h : History T) (c : Call T) (r : Reply T) → IsValid h → Legal is_clone h c r
+  pub same : (h : History T) (c : Call T) (r : Reply T) → IsValid h → Legal is_clone (view_of h) c r
       → is_refused r ≡ true → next h c r ≡ h
-  pub returned : (h : History T) (c : Call T) (r : Reply T) (msg : T) → Legal is_clone h c r
+  pub returned : (v : View T) (c : Call T) (r : Reply T) (msg : T) → Legal is_clone v c r
       → sent_by c ≡ Some msg → is_accepted r ≡ false → returned_by r ≡ Some msg
 
 -- a call adds its message at the back where its reply says that it was accepted, else nothing
 pub record OnlyAcceptedIsAdded {T : Type 0} (is_clone : T → T → Type 0) : Type 0 where
-  pub added : (h : History T) (c : Call T) (r : Reply T) (msg : T) → Legal is_clone h c r
+  pub added : (h : History T) (c : Call T) (r : Reply T) (msg : T) → Legal is_clone (view_of h) c r
       → is_accepted r ≡ true → sent_by c ≡ Some msg
       → (next h c r).accepted ≡ h.accepted ++ msg ∷ []
-  pub nothing : (h : History T) (c : Call T) (r : Reply T) → Legal is_clone h c r
+  pub nothing : (h : History T) (c : Call T) (r : Reply T) → Legal is_clone (view_of h) c r
       → is_accepted r ≡ false → (next h c r).accepted ≡ h.accepted
 
 -- `Send`, dropped before it is answered: neither its polls that wait nor its drop add a message
 pub record DroppedSendAddsNothing {T : Type 0} (is_clone : T → T → Type 0) : Type 0 where
   pub polled : (h : History T) (place : ℕ) (msg : T)
-      → Legal is_clone h (call.PollSend place msg) (reply.PollSend (send.Wait msg))
+      → Legal is_clone (view_of h) (call.PollSend place msg) (reply.PollSend (send.Wait msg))
       → (next h (call.PollSend place msg) (reply.PollSend (send.Wait msg))).accepted ≡ h.accepted
   pub dropped : (h : History T) (place : ℕ)
       → (next h (call.EndSend place) reply.EndSend).accepted ≡ h.accepted

@@ -2,8 +2,9 @@
 use Rattle.std.proofs.Common.{◌≡◌, ℕ, ◌+◌, ◌<◌, ◌≤◌, ◌==◌, ◌&&◌, Bool, true, false, cond, Some, nat_lt, refl, arith}
 use Rattle.std.proofs.lemmas.Grind.{common_steps}
 use Rattle.bcast_model.specs.Control.{Control, last_end, tell_a_sender, tell_receivers, closing, close, is_deserted, close_if_deserted, accepting, with_cursor}
-use Rattle.bcast_model.specs.History.{History, sends_are_ready, with_control}
-use Rattle.bcast_model.specs.Next.{tell_if_ready}
+use Rattle.bcast_model.specs.History.{History, with_control, view_of}
+use Rattle.bcast_model.specs.View.{View, sends_are_ready}
+use Rattle.bcast_model.specs.Next.{end_call}
 use Rattle.bcast_model.specs.Receiving.{receive}
 
 -- a value that is one of two, where the test was computed
@@ -30,5 +31,7 @@ receive_is P front end c key cursor lags takes none =
     (λ e. test_is P (nat_lt cursor end) (with_cursor c key (cursor + 1)) c (λ f. takes (grind (arith, common_steps, e)) (grind (arith, common_steps, f))) (λ f. none (grind (arith, common_steps, e)) (grind (arith, common_steps, f))))
 
 module _ {T : Type 0} where
-  pub tell_is : (P : History T → Type 0) (may : Bool) (h : History T) → ((may && sends_are_ready h) ≡ true → P (with_control h (tell_a_sender h.control))) → ((may && sends_are_ready h) ≡ false → P h) → P (tell_if_ready may h)
-  tell_is P may h tells keeps = test_is P (may && sends_are_ready h) (with_control h (tell_a_sender h.control)) h tells keeps
+  pub tell_is : (P : History T → Type 0) (may : Bool) (h : History T) → ((may && sends_are_ready (view_of h)) ≡ true → P (with_control h (tell_a_sender h.control))) → ((may && sends_are_ready (view_of h)) ≡ false → P h) → P (end_call may h)
+  tell_is P may h tells keeps =
+      let v : View T = view_of h in
+      test_is (λ (w : View T). P (with_control h w.control)) (may && sends_are_ready v) (record v { control = tell_a_sender v.control }) v tells keeps

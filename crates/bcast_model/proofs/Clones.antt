@@ -4,12 +4,13 @@ use Rattle.bcast_model.specs.declared.error.TryRecvError.{TryRecvError}
 use Rattle.bcast_model.specs.declared.run.Call.{Call}
 use Rattle.bcast_model.specs.declared.run.Call.TheVariants as call
 use Rattle.bcast_model.specs.declared.run.Reply.{Reply}
-use Rattle.bcast_model.specs.History.{History}
+use Rattle.bcast_model.specs.History.{History, view_of}
 use Rattle.bcast_model.specs.Legal.{Legal, IsGiven, NoClone, ClonesEqual, IsReceived}
 use Rattle.bcast_model.specs.Next.{next}
-use Rattle.bcast_model.specs.View.{View, Answers}
+use Rattle.bcast_model.specs.View.{View}
+use Rattle.bcast_model.specs.Answers.{Answers}
 use Rattle.bcast_model.specs.Run.{IsRun}
-use Rattle.bcast_model.specs.Seen.{LegalSeen, Steps}
+use Rattle.bcast_model.specs.Steps.{Steps}
 
 module _ {T : Type 0} where
   module _ (p q : T → T → Type 0) (wider : (msg given : T) → p msg given → IsGiven q msg given) where
@@ -26,39 +27,32 @@ module _ {T : Type 0} where
       ]
     ]
 
-    pub legal_wider : (h : History T) (c : Call T) (r : Reply T) → Legal p h c r → Legal q h c r
-    legal_wider h (call.TryRecv key) r legal = received_wider _ _ _ _ r legal
-    legal_wider h (call.PollFuture key) r legal = received_wider _ _ _ _ r legal
-    legal_wider h (call.PollRecv key) r legal = received_wider _ _ _ _ r legal
-    legal_wider h (call.PollNext key) r legal = received_wider _ _ _ _ r legal
-    legal_wider h other r legal = legal
-
-    pub legal_seen_wider : (v : View T) (c : Call T) (r : Reply T) → LegalSeen p v c r → LegalSeen q v c r
-    legal_seen_wider v (call.TryRecv key) r legal = received_wider _ _ _ _ r legal
-    legal_seen_wider v (call.PollFuture key) r legal = received_wider _ _ _ _ r legal
-    legal_seen_wider v (call.PollRecv key) r legal = received_wider _ _ _ _ r legal
-    legal_seen_wider v (call.PollNext key) r legal = received_wider _ _ _ _ r legal
-    legal_seen_wider v other r legal = legal
+    pub legal_wider : (v : View T) (c : Call T) (r : Reply T) → Legal p v c r → Legal q v c r
+    legal_wider v (call.TryRecv key) r legal = received_wider _ _ _ _ r legal
+    legal_wider v (call.PollFuture key) r legal = received_wider _ _ _ _ r legal
+    legal_wider v (call.PollRecv key) r legal = received_wider _ _ _ _ r legal
+    legal_wider v (call.PollNext key) r legal = received_wider _ _ _ _ r legal
+    legal_wider v other r legal = legal
 
   pub answers_wider : {p q : T → T → Type 0} {old new : View T} {c : Call T} {r : Reply T} → ((msg given : T) → p msg given → IsGiven q msg given) → Answers p old c r new → Answers q old c r new
-  answers_wider {p = p} {q = q} {c = c} {r = r} wider a = record { shown = a.shown; legal = λ h valid is. legal_wider p q wider h c r (a.legal h valid is); represents = a.represents; valid = a.valid }
+  answers_wider {p = p} {q = q} {old = old} {c = c} {r = r} wider a = record { shown = a.shown; legal = legal_wider p q wider old c r a.legal; represents = a.represents; valid = a.valid }
 
   -- what gives no clones is so whatever a clone is
   pub answers_any : {q : T → T → Type 0} {old new : View T} {c : Call T} {r : Reply T} → Answers NoClone old c r new → Answers q old c r new
   answers_any a = answers_wider (λ msg given none. absurd none) a
 
   pub steps_any : {q : T → T → Type 0} {old new : View T} {c : Call T} {r : Reply T} → Steps NoClone old c r new → Steps q old c r new
-  steps_any {q = q} {old = old} {c = c} {r = r} s = record { legal = legal_seen_wider NoClone q (λ msg given none. absurd none) old c r s.legal; next = s.next }
+  steps_any {q = q} {old = old} {c = c} {r = r} s = record { legal = legal_wider NoClone q (λ msg given none. absurd none) old c r s.legal; next = s.next }
 
   -- where a clone equals its original, each message that is handed out is the message itself
   pub answers_exact : {p : T → T → Type 0} {old new : View T} {c : Call T} {r : Reply T} → ClonesEqual p → Answers p old c r new → Answers NoClone old c r new
   answers_exact equal a = answers_wider (λ msg given cloned. inl (equal msg given cloned)) a
 
-  pub legal_exact : (p : T → T → Type 0) (h : History T) (c : Call T) (r : Reply T) → ClonesEqual p → Legal p h c r → Legal NoClone h c r
-  legal_exact p h c r equal legal = legal_wider p NoClone (λ msg given cloned. inl (equal msg given cloned)) h c r legal
+  pub legal_exact : (p : T → T → Type 0) (v : View T) (c : Call T) (r : Reply T) → ClonesEqual p → Legal p v c r → Legal NoClone v c r
+  legal_exact p v c r equal legal = legal_wider p NoClone (λ msg given cloned. inl (equal msg given cloned)) v c r legal
 
   pub run_exact : (p : T → T → Type 0) (h : History T) (calls : List (Call T)) (replies : List (Reply T)) → ClonesEqual p → IsRun p h calls replies → IsRun NoClone h calls replies
   run_exact p h [] [] equal run = tt
-  run_exact p h (c ∷ calls) (r ∷ replies) equal run = (legal_exact p h c r equal run.0, run_exact p (next h c r) calls replies equal run.1)
+  run_exact p h (c ∷ calls) (r ∷ replies) equal run = (legal_exact p (view_of h) c r equal run.0, run_exact p (next h c r) calls replies equal run.1)
   run_exact p h [] (r ∷ replies) equal run = absurd run
   run_exact p h (c ∷ calls) [] equal run = absurd run

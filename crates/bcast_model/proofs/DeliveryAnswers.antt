@@ -7,10 +7,12 @@ use Rattle.std.specs.Prelude.{IsSomeAnd}
 use Rattle.std.specs.FinMap.{get, insert}
 use Rattle.bcast_model.specs.declared.error.TryRecvError.{TryRecvError}
 use Rattle.bcast_model.specs.declared.error.TryRecvError.TheVariants as unread
-use Rattle.bcast_model.specs.Control.{Cursors, with_cursor}
-use Rattle.bcast_model.specs.History.{History, front_number, end_number, cursor_of, numbered}
+use Rattle.bcast_model.specs.Control.{Cursors, with_cursor, cursor_of}
+use Rattle.bcast_model.specs.History.{History, view_of, front_number, end_number, numbered}
+use Rattle.bcast_model.specs.View.{kept_at}
 use Rattle.bcast_model.specs.Receiving.{receive, found, try_recv_reply}
 use Rattle.bcast_model.specs.Legal.{IsGiven}
+use Rattle.bcast_model.proofs.Views.{numbered-queue, first_under}
 use Rattle.bcast_model.proofs.DeliveryMaps.{inserted}
 use Rattle.bcast_model.proofs.DeliveryLists.{within_missed, within_given, past_end}
 
@@ -101,7 +103,7 @@ module _ {T : Type 0} where
       let within = slice_get_within h.accepted (n - h.first) msg there in
       grind (arith, common_steps, within, low)
 
-  gives_found : {is_clone : T → T → Type 0} (h : History T) (key cursor skips : ℕ) (answer : Result T TryRecvError) (o : Option T) → h.first ≤ cursor → cursor_of h key ≡ Some cursor
+  gives_found : {is_clone : T → T → Type 0} (h : History T) (key cursor skips : ℕ) (answer : Result T TryRecvError) (o : Option T) → h.first ≤ h.floor → cursor_of h.control key ≡ Some cursor
       → front_number h ≤ cursor + skips → (skips ≡ 0) ⊎ (cursor + skips ≡ front_number h) → numbered h (cursor + skips) ≡ o → IsAnswer is_clone (found h.control.closed o) answer
       → Gives is_clone h key cursor (cond (nat_lt (cursor + skips) (end_number h)) (with_cursor h.control key (cursor + skips + 1)) h.control).cursors (entries_of skips answer)
   gives_found {is_clone = is_clone} h key cursor skips answer None low is from exact there (inl e) =
@@ -115,12 +117,12 @@ module _ {T : Type 0} where
       let within : nat_lt (cursor + skips) (end_number h) ≡ true = numbered_within h (cursor + skips) msg (omega arith) there in
       rw (e, within) (gives_message h key cursor skips h.control.cursors msg given from exact there (inr (subst (λ m. is_clone m given) (sym (same_Ok msg original same)) copy)))
 
-  pub gives_answer : {is_clone : T → T → Type 0} (h : History T) (key cursor skips : ℕ) (answer : Result T TryRecvError) → h.first ≤ cursor → cursor_of h key ≡ Some cursor
-      → (skips ≡ 0) ⊎ (cursor + skips ≡ front_number h) → IsAnswer is_clone (try_recv_reply h (Some (cursor + skips))) answer
+  pub gives_answer : {is_clone : T → T → Type 0} (h : History T) (key cursor skips : ℕ) (answer : Result T TryRecvError) → h.first ≤ h.floor → cursor_of h.control key ≡ Some cursor
+      → (skips ≡ 0) ⊎ (cursor + skips ≡ front_number h) → IsAnswer is_clone (try_recv_reply (view_of h) (Some (cursor + skips))) answer
       → Gives is_clone h key cursor (receive (front_number h) (end_number h) h.control key (Some (cursor + skips))).cursors (entries_of skips answer)
   gives_answer {is_clone = is_clone} h key cursor skips answer low is exact given =
       elim (nat_lt (cursor + skips) (front_number h)) as (λ b. nat_lt (cursor + skips) (front_number h) ≡ b
-      → IsAnswer is_clone (cond b (Err (unread.Overflowed (front_number h - (cursor + skips)))) (found h.control.closed (numbered h (cursor + skips)))) answer
+      → IsAnswer is_clone (cond b (Err (unread.Overflowed (front_number h - (cursor + skips)))) (found h.control.closed (kept_at (view_of h) (cursor + skips)))) answer
       → Gives is_clone h key cursor (cond b (with_cursor h.control key (front_number h)) (cond (nat_lt (cursor + skips) (end_number h)) (with_cursor h.control key (cursor + skips + 1)) h.control)).cursors (entries_of skips answer)) [
         | true ↦ λ t given.
             let lags : cursor + skips < front_number h = grind (arith, common_steps, t) in
@@ -129,5 +131,7 @@ module _ {T : Type 0} where
               | inl e ↦ (let same : front_number h - (cursor + skips) ≡ front_number h - cursor = omega (arith, none) in rw (e, same) (gives_overflowed h key cursor h.control.cursors (omega (arith, lags))))
               | inr (msg, x, was, copy, e) ↦ ok_err msg _ was
             ]
-        | false ↦ λ t given. gives_found h key cursor skips answer (numbered h (cursor + skips)) low is (grind (arith, common_steps, t)) exact refl given
+        | false ↦ λ t given.
+            let from : front_number h ≤ cursor + skips = grind (arith, common_steps, t) in
+            gives_found h key cursor skips answer (kept_at (view_of h) (cursor + skips)) low is from exact (numbered-queue h (cursor + skips) (first_under h low) from) given
       ] refl given

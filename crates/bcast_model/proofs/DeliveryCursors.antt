@@ -1,5 +1,5 @@
 -- What each call does to the receivers' cursors.
-use Rattle.std.proofs.Common.{◌≡◌, inl, inr, ℕ, ◌+◌, ◌-◌, ◌≤◌, ◌==◌, ◌&&◌, ◌||◌, not, max, Bool, true, false, cond, Option, Some, None, Result, nat_lt, refl, sym, subst, arith}
+use Rattle.std.proofs.Common.{◌≡◌, inl, inr, ℕ, ◌+◌, ◌-◌, ◌≤◌, ◌==◌, ◌||◌, not, max, Bool, true, false, cond, Option, Some, None, Result, nat_lt, refl, sym, subst, arith}
 use Rattle.std.proofs.lemmas.Grind.{common_steps}
 use Rattle.std.specs.FinMap.{get}
 use Rattle.bcast_model.specs.declared.error.TrySendError.{TrySendError}
@@ -8,14 +8,18 @@ use Rattle.bcast_model.specs.declared.run.Call.{Call}
 use Rattle.bcast_model.specs.declared.run.Call.TheVariants as call
 use Rattle.bcast_model.specs.declared.run.Reply.{Reply}
 use Rattle.bcast_model.specs.Pair.{Pair, stream_of, future_of}
-use Rattle.bcast_model.specs.Control.{Control, close_if_deserted, has_place, with_cursor, place_answered, place_waits, tell_a_sender}
-use Rattle.bcast_model.specs.History.{History, front_number, end_number, is_full, sends_are_ready, cursor_of, with_control}
-use Rattle.bcast_model.specs.Sending.{refusal, accept_unless, offer, poll_send}
+use Rattle.bcast_model.specs.Control.{Control, close_if_deserted, has_place, with_cursor, place_waits, cursor_of}
+use Rattle.bcast_model.specs.View.{View, sends_are_ready}
+use Rattle.bcast_model.specs.Effect.{Effect, sets}
+use Rattle.bcast_model.specs.Sending.{refusal, accept_unless, offer, answered, poll_send}
 use Rattle.bcast_model.specs.Receiving.{receive, skipped_to, poll_receive, is_empty_reply, try_recv_reply}
-use Rattle.bcast_model.specs.Handles.{has_next, drop_receiver, deactivate, drop_sender, drop_inactive, new_sender, clone_inactive, without_receiver, clone_receiver}
 use Rattle.bcast_model.specs.Legal.{Legal}
-use Rattle.bcast_model.specs.Next.{changed, chosen, found_no_memory, unless_refused, try_recv, resize, tell_if_ready, may_tell, next}
+use Rattle.bcast_model.specs.Effects.{resize, set_unless_refused, effect}
+use Rattle.bcast_model.specs.Replies.{found_no_memory, chosen}
+use Rattle.bcast_model.specs.Handles.{has_next, drop_receiver, deactivate, drop_sender, drop_inactive, new_sender, clone_inactive, without_receiver, clone_receiver}
+use Rattle.bcast_model.specs.Effects.{resize}
 use Rattle.bcast_model.specs.Deliveries.{receives_for}
+use Rattle.bcast_model.proofs.Cases.{test_is}
 use Rattle.bcast_model.proofs.DeliveryMaps.{CursorsChange, stay, rise, make_at_end, make_where, leave, cursors-close, cursors-close_if_deserted, cursors-accepting, cursors-listens, cursors-begin_send}
 
 rise_from : (front end : ℕ) (receives : ℕ → Bool) (c : Control) (key from at : ℕ) → receives key ≡ true → get c.cursors key ≡ Some from → from ≤ at → CursorsChange front end receives c.cursors (receive front end c key (Some at)).cursors
@@ -70,73 +74,63 @@ cursors-clone_inactive : (c : Control) → (clone_inactive c).cursors ≡ c.curs
 cursors-clone_inactive c = elim ((c.inactive == 0) || not (has_next c.inactive)) as (λ b. (cond b c (record c { inactive = c.inactive + 1 })).cursors ≡ c.cursors) [ true ↦ refl | false ↦ refl ]
 
 module _ {T : Type 0} where
-  pub cursors-accept_unless : (h : History T) (msg : T) (error : Option (TrySendError T)) → (accept_unless h msg error).control.cursors ≡ h.control.cursors
-  cursors-accept_unless h msg None = cursors-accepting h.control (end_number h)
-  cursors-accept_unless h msg (Some error) = refl
+  cursors-accept_unless : (v : View T) (msg : T) (error : Option (TrySendError T)) → (accept_unless v msg error).control.cursors ≡ v.control.cursors
+  cursors-accept_unless v msg None = cursors-accepting v.control v.end
+  cursors-accept_unless v msg (Some error) = refl
 
-  pub cursors-offer : (h : History T) (msg : T) → (offer h msg).control.cursors ≡ h.control.cursors
-  cursors-offer h msg = cursors-accept_unless h msg (refusal h.control (is_full h) msg)
+  cursors-offer : (v : View T) (msg : T) → (offer v msg).control.cursors ≡ v.control.cursors
+  cursors-offer v msg = cursors-accept_unless v msg (refusal v msg)
 
-  cursors-poll_send : (h : History T) (place : ℕ) (msg : T) → (poll_send h place msg).control.cursors ≡ h.control.cursors
-  cursors-poll_send h place msg =
-      elim (has_place h.control place) as (λ b. (cond b (cond (sends_are_ready h) (with_control (offer h msg) (place_answered (offer h msg).control place)) (with_control h (place_waits h.control place))) h).control.cursors ≡ h.control.cursors) [
-        | true ↦ elim (sends_are_ready h) as (λ b. (cond b (with_control (offer h msg) (place_answered (offer h msg).control place)) (with_control h (place_waits h.control place))).control.cursors ≡ h.control.cursors) [
-          | true ↦ cursors-offer h msg
-          | false ↦ refl
-        ]
-        | false ↦ refl
-      ]
+  cursors-poll_send : (v : View T) (place : ℕ) (msg : T) → (poll_send v place msg).control.cursors ≡ v.control.cursors
+  cursors-poll_send v place msg =
+      test_is (λ (e : Effect T). e.control.cursors ≡ v.control.cursors) (has_place v.control place) (cond (sends_are_ready v) (answered (offer v msg) place) (sets (place_waits v.control place))) (sets v.control)
+      (λ _. test_is (λ (e : Effect T). e.control.cursors ≡ v.control.cursors) (sends_are_ready v) (answered (offer v msg) place) (sets (place_waits v.control place)) (λ _. cursors-offer v msg) (λ _. refl))
+      (λ _. refl)
 
   -- the change that a call makes
-  abbrev pub Changes : History T → Call T → Control → Type 0
-  Changes h c new = CursorsChange (front_number h) (end_number h) (λ key. receives_for key c) h.control.cursors new.cursors
+  abbrev pub Changes : View T → Call T → Control → Type 0
+  Changes v c new = CursorsChange v.front v.end (λ key. receives_for key c) v.control.cursors new.cursors
 
-  unless : (h changed : History T) (c : Call T) (r : Reply T) → Changes h c changed.control → Changes h c (unless_refused r h changed).control
-  unless h changed c r change = elim (found_no_memory r) as (λ b. Changes h c (cond b h changed).control) [ true ↦ stay refl | false ↦ change ]
+  unless : (v : View T) (e : Effect T) (c : Call T) (r : Reply T) → Changes v c e.control → Changes v c (cond (found_no_memory r) (sets v.control) e).control
+  unless v e c r change = test_is (λ (e : Effect T). Changes v c e.control) (found_no_memory r) (sets v.control) e (λ _. stay refl) (λ _. change)
 
-  polled : (h : History T) (c : Call T) (r : Reply T) (pair : Pair) (cursor : Option ℕ) (answer : Result T TryRecvError) → Changes h c (receive (front_number h) (end_number h) h.control pair.0 cursor)
-      → Changes h c (unless_refused r h (with_control h (poll_receive (front_number h) (end_number h) h.control pair cursor answer))).control
-  polled h c r pair cursor answer change =
-      unless h (with_control h (poll_receive (front_number h) (end_number h) h.control pair cursor answer)) c r
-      (subst (CursorsChange (front_number h) (end_number h) (λ key. receives_for key c) h.control.cursors) (sym (cursors-listens (receive (front_number h) (end_number h) h.control pair.0 cursor) pair (is_empty_reply answer))) change)
+  polled : (v : View T) (c : Call T) (r : Reply T) (pair : Pair) (cursor : Option ℕ) (answer : Result T TryRecvError) → Changes v c (receive v.front v.end v.control pair.0 cursor)
+      → Changes v c (set_unless_refused r v (poll_receive v.front v.end v.control pair cursor answer)).control
+  polled v c r pair cursor answer change =
+      unless v (sets (poll_receive v.front v.end v.control pair cursor answer)) c r
+      (subst (CursorsChange v.front v.end (λ key. receives_for key c) v.control.cursors) (sym (cursors-listens (receive v.front v.end v.control pair.0 cursor) pair (is_empty_reply answer))) change)
 
-  pub changes : (is_clone : T → T → Type 0) (h : History T) (c : Call T) (r : Reply T) → Legal is_clone h c r → Changes h c (changed h c r).control
-  changes is_clone h (call.TryBroadcast msg) r legal = stay (cursors-offer h msg)
-  changes is_clone h (call.AttemptSend msg) r legal = stay (cursors-offer h msg)
-  changes is_clone h call.BeginSend r legal = stay (cursors-begin_send h.control (chosen r))
-  changes is_clone h (call.PollSend place msg) r legal = stay (cursors-poll_send h place msg)
-  changes is_clone h (call.TryRecv key) r legal =
-      unless h (try_recv h key) (call.TryRecv key) r (rise_at _ _ _ h.control key (cursor_of h key) (same_key key) refl)
-  changes is_clone h (call.PollFuture key) r legal =
-      polled h (call.PollFuture key) r (future_of key) (cursor_of h key) (try_recv_reply h (cursor_of h key)) (rise_at _ _ _ h.control key (cursor_of h key) (same_key key) refl)
-  changes is_clone h (call.PollRecv key) r legal =
-      polled h (call.PollRecv key) r (stream_of key) (cursor_of h key) (try_recv_reply h (cursor_of h key)) (rise_at _ _ _ h.control key (cursor_of h key) (same_key key) refl)
-  changes is_clone h (call.PollNext key) r legal =
-      let cursor = skipped_to (front_number h) (cursor_of h key) in
-      polled h (call.PollNext key) r (stream_of key) cursor (try_recv_reply h cursor) (rise_skipping _ _ _ h.control key (cursor_of h key) (same_key key) refl)
-  changes is_clone h call.Close r legal = stay (cursors-close h.control)
-  changes is_clone h (call.SetCapacity n) r legal = unless h (resize h n) (call.SetCapacity n) r (stay refl)
-  changes is_clone h call.NewSender r legal = stay (cursors-new_sender h.control)
-  changes is_clone h call.CloneInactive r legal = stay (cursors-clone_inactive h.control)
-  changes is_clone h (call.Deactivate key) r legal = deactivated h.control _ _ key _ (cursor_of h key)
-  changes is_clone h call.NewReceiver r (inl (key, is, free)) = rw is (make_at_end key free refl)
-  changes is_clone h call.NewReceiver r (inr is) = rw is (stay refl)
-  changes is_clone h call.Activate r (inl (gone, is)) = rw is (stay refl)
-  changes is_clone h call.Activate r (inr (there, inl (key, is, free))) = rw is (make_at_end key free refl)
-  changes is_clone h call.Activate r (inr (there, inr is)) = rw is (stay refl)
-  changes is_clone h call.ActivateCloned r (inl (gone, is)) = rw is (stay refl)
-  changes is_clone h call.ActivateCloned r (inr (there, inl (key, is, free))) = rw is (make_at_end key free refl)
-  changes is_clone h call.ActivateCloned r (inr (there, inr is)) = rw is (stay refl)
-  changes is_clone h (call.CloneReceiver other) r (inl (gone, is)) = rw is (stay (uncloned h.control (cursor_of h other)))
-  changes is_clone h (call.CloneReceiver other) r (inr (there, inl (key, is, free))) = rw is (cloned h.control _ _ key _ other (cursor_of h other) refl free)
-  changes is_clone h (call.CloneReceiver other) r (inr (there, inr is)) = rw is (stay (uncloned h.control (cursor_of h other)))
-  changes is_clone h call.DropSender r legal = stay (cursors-drop_sender h.control)
-  changes is_clone h call.DropInactive r legal = stay (cursors-drop_inactive h.control)
-  changes is_clone h (call.DropReceiver key) r legal = left h.control _ _ key _ (cursor_of h key)
-  changes is_clone h c r legal = stay refl
-
-  cursors-tell_if_ready : (may : Bool) (h : History T) → (tell_if_ready may h).control.cursors ≡ h.control.cursors
-  cursors-tell_if_ready may h = elim (may && sends_are_ready h) as (λ b. (cond b (with_control h (tell_a_sender h.control)) h).control.cursors ≡ h.control.cursors) [ true ↦ refl | false ↦ refl ]
-
-  pub cursors-next : (h : History T) (c : Call T) (r : Reply T) → (next h c r).control.cursors ≡ (changed h c r).control.cursors
-  cursors-next h c r = cursors-tell_if_ready (may_tell h.control (sends_are_ready h) c) (changed h c r)
+  pub changes : (is_clone : T → T → Type 0) (v : View T) (c : Call T) (r : Reply T) → Legal is_clone v c r → Changes v c (effect v c r).control
+  changes is_clone v (call.TryBroadcast msg) r legal = stay (cursors-offer v msg)
+  changes is_clone v (call.AttemptSend msg) r legal = stay (cursors-offer v msg)
+  changes is_clone v call.BeginSend r legal = stay (cursors-begin_send v.control (chosen r))
+  changes is_clone v (call.PollSend place msg) r legal = stay (cursors-poll_send v place msg)
+  changes is_clone v (call.TryRecv key) r legal =
+      unless v (sets (receive v.front v.end v.control key (cursor_of v.control key))) (call.TryRecv key) r (rise_at _ _ _ v.control key (cursor_of v.control key) (same_key key) refl)
+  changes is_clone v (call.PollFuture key) r legal =
+      polled v (call.PollFuture key) r (future_of key) (cursor_of v.control key) (try_recv_reply v (cursor_of v.control key)) (rise_at _ _ _ v.control key (cursor_of v.control key) (same_key key) refl)
+  changes is_clone v (call.PollRecv key) r legal =
+      polled v (call.PollRecv key) r (stream_of key) (cursor_of v.control key) (try_recv_reply v (cursor_of v.control key)) (rise_at _ _ _ v.control key (cursor_of v.control key) (same_key key) refl)
+  changes is_clone v (call.PollNext key) r legal =
+      let cursor = skipped_to v.front (cursor_of v.control key) in
+      polled v (call.PollNext key) r (stream_of key) cursor (try_recv_reply v cursor) (rise_skipping _ _ _ v.control key (cursor_of v.control key) (same_key key) refl)
+  changes is_clone v call.Close r legal = stay (cursors-close v.control)
+  changes is_clone v (call.SetCapacity n) r legal = unless v (resize v n) (call.SetCapacity n) r (stay refl)
+  changes is_clone v call.NewSender r legal = stay (cursors-new_sender v.control)
+  changes is_clone v call.CloneInactive r legal = stay (cursors-clone_inactive v.control)
+  changes is_clone v (call.Deactivate key) r legal = deactivated v.control _ _ key _ (cursor_of v.control key)
+  changes is_clone v call.NewReceiver r (inl (key, is, free)) = rw is (make_at_end key free refl)
+  changes is_clone v call.NewReceiver r (inr is) = rw is (stay refl)
+  changes is_clone v call.Activate r (inl (gone, is)) = rw is (stay refl)
+  changes is_clone v call.Activate r (inr (there, inl (key, is, free))) = rw is (make_at_end key free refl)
+  changes is_clone v call.Activate r (inr (there, inr is)) = rw is (stay refl)
+  changes is_clone v call.ActivateCloned r (inl (gone, is)) = rw is (stay refl)
+  changes is_clone v call.ActivateCloned r (inr (there, inl (key, is, free))) = rw is (make_at_end key free refl)
+  changes is_clone v call.ActivateCloned r (inr (there, inr is)) = rw is (stay refl)
+  changes is_clone v (call.CloneReceiver other) r (inl (gone, is)) = rw is (stay (uncloned v.control (cursor_of v.control other)))
+  changes is_clone v (call.CloneReceiver other) r (inr (there, inl (key, is, free))) = rw is (cloned v.control _ _ key _ other (cursor_of v.control other) refl free)
+  changes is_clone v (call.CloneReceiver other) r (inr (there, inr is)) = rw is (stay (uncloned v.control (cursor_of v.control other)))
+  changes is_clone v call.DropSender r legal = stay (cursors-drop_sender v.control)
+  changes is_clone v call.DropInactive r legal = stay (cursors-drop_inactive v.control)
+  changes is_clone v (call.DropReceiver key) r legal = left v.control _ _ key _ (cursor_of v.control key)
+  changes is_clone v c r legal = stay refl

@@ -2,19 +2,17 @@
 use Rattle.std.proofs.Common.{◌≡◌, inl, inr, ℕ, ◌+◌, ◌-◌, ◌≤◌, true, false, List, [], ◌∷◌, ◌++◌, length, Option, Some, None, slice_get, refl, sym, ap, ◌∙◌, subst, arith, length-append}
 use Rattle.std.proofs.lemmas.Option.{none-some}
 use Rattle.std.specs.Prelude.{IsSomeAnd, is_some}
-use Rattle.std.specs.FinMap.{get}
 use Rattle.bcast_model.specs.declared.run.Call.{Call}
 use Rattle.bcast_model.specs.declared.run.Reply.{Reply}
-use Rattle.bcast_model.specs.History.{History, front_number, end_number, cursor_of, numbered}
-use Rattle.bcast_model.specs.Legal.{Legal, IsGiven}
-use Rattle.bcast_model.specs.Next.{changed, next}
+use Rattle.bcast_model.specs.History.{History, numbered}
+use Rattle.bcast_model.specs.Legal.{IsGiven}
+use Rattle.bcast_model.specs.Control.{cursor_of}
+use Rattle.bcast_model.specs.Next.{next}
 use Rattle.bcast_model.specs.Valid.{IsValid}
 use Rattle.bcast_model.specs.Run.{IsRun, end_of_run}
-use Rattle.bcast_model.specs.Deliveries.{receives_for, given_to, deliveries_of, AreExact, AreAllExact, AtEachPoint}
-use Rattle.bcast_model.proofs.DeliveryMaps.{came_from}
-use Rattle.bcast_model.proofs.DeliveryCursors.{changes, cursors-next}
+use Rattle.bcast_model.specs.Deliveries.{given_to, deliveries_of, AreExact, AreAllExact, AtEachPoint}
 use Rattle.bcast_model.proofs.DeliverySteps.{gives_call}
-use Rattle.bcast_model.proofs.DeliveryMessages.{grows_next, numbered_stays}
+use Rattle.bcast_model.proofs.DeliveryMessages.{numbered_stays}
 use Rattle.bcast_model.proofs.DeliveryLists.{in_parts}
 
 -- what is there stays there
@@ -23,15 +21,15 @@ still_some P None later stays there = absurd there
 still_some P (Some x) later stays there = subst (λ o. IsSomeAnd o P) (sym (stays x refl)) there
 
 module _ {T : Type 0} where
-  exact_at : (is_clone : T → T → Type 0) (h : History T) (key cursor : ℕ) (calls : List (Call T)) (replies : List (Reply T)) → h.first ≤ cursor → IsRun is_clone h calls replies → cursor_of h key ≡ Some cursor → AreExact is_clone h key cursor calls replies
+  exact_at : (is_clone : T → T → Type 0) (h : History T) (key cursor : ℕ) (calls : List (Call T)) (replies : List (Reply T)) → h.first ≤ h.floor → IsRun is_clone h calls replies → cursor_of h.control key ≡ Some cursor → AreExact is_clone h key cursor calls replies
   exact_at is_clone h key cursor [] replies low run is = record { size = is ∙ ap Some (omega arith); each = λ index msg e. absurd (none-some (Some msg) e) }
   exact_at is_clone h key cursor (c ∷ calls) [] low run is = absurd run
   exact_at is_clone h key cursor (c ∷ calls) (r ∷ replies) low run is =
       let gives = gives_call is_clone h key cursor c r low is run.0 in
       let stays = λ (number : ℕ) (msg : T). numbered_stays h (c ∷ calls) (r ∷ replies) number msg in
       elim gives.cursor_after [
-        | inl after ↦ (let there : is_some (cursor_of (next h c r) key) ≡ true = ap is_some after in
-            let rest = exact_at is_clone (next h c r) key (cursor + length (given_to key c r)) calls replies (let e = (grows_next h c r).first in omega (arith, e, low)) run.1 after in
+        | inl after ↦ (let there : is_some (cursor_of (next h c r).control key) ≡ true = ap is_some after in
+            let rest = exact_at is_clone (next h c r) key (cursor + length (given_to key c r)) calls replies (omega (arith, low)) run.1 after in
             record {
               size = rw there (rest.size ∙ ap Some (omega (arith, length-append (given_to key c r) (deliveries_of key (next h c r) calls replies))));
               each = λ index msg e.
@@ -42,32 +40,18 @@ module _ {T : Type 0} where
                         rw same (rest.each (index - length (given_to key c r)) msg later.1))
                   ];
             })
-        | inr after ↦ (let gone : is_some (cursor_of (next h c r) key) ≡ false = ap is_some after.0 in
+        | inr after ↦ (let gone : is_some (cursor_of (next h c r).control key) ≡ false = ap is_some after.0 in
             record {
               size = rw (gone, after.1) (is ∙ ap Some (omega arith));
               each = λ index msg e. absurd (none-some (Some msg) (rw (gone, after.1) at e));
             })
       ]
 
-  -- no receiver stands under the first number
-  record AreFromFirst (h : History T) : Type 0 where
-    low : (key cursor : ℕ) → cursor_of h key ≡ Some cursor → h.first ≤ cursor
-
-  from_first-next : (is_clone : T → T → Type 0) (h : History T) (c : Call T) (r : Reply T) → Legal is_clone h c r → AreFromFirst h → AreFromFirst (next h c r)
-  from_first-next is_clone h c r legal from = record {
-    low = λ key cursor is.
-        let same = (grows_next h c r).first in
-        elim (came_from (front_number h) (end_number h) (λ key. receives_for key c) h.control.cursors (changed h c r).control.cursors key cursor (changes is_clone h c r legal) (ap (λ m. get m key) (sym (cursors-next h c r)) ∙ is)) [
-          | inl e ↦ omega (arith, e, same)
-          | inr stood ↦ (let before = from.low stood.key stood.before stood.found in omega (arith, same, before, stood.low))
-        ];
-  }
-
-  all_exact : (is_clone : T → T → Type 0) (h : History T) (calls : List (Call T)) (replies : List (Reply T)) → AreFromFirst h → IsRun is_clone h calls replies → AtEachPoint (AreAllExact is_clone) h calls replies
-  all_exact is_clone h [] replies from run = λ key cursor is. exact_at is_clone h key cursor [] replies (from.low key cursor is) run is
-  all_exact is_clone h (c ∷ calls) [] from run = absurd run
-  all_exact is_clone h (c ∷ calls) (r ∷ replies) from run =
-      (λ key cursor is. exact_at is_clone h key cursor (c ∷ calls) (r ∷ replies) (from.low key cursor is) run is, all_exact is_clone (next h c r) calls replies (from_first-next is_clone h c r run.0 from) run.1)
+  all_exact : (is_clone : T → T → Type 0) (h : History T) (calls : List (Call T)) (replies : List (Reply T)) → h.first ≤ h.floor → IsRun is_clone h calls replies → AtEachPoint (AreAllExact is_clone) h calls replies
+  all_exact is_clone h [] replies low run = λ key cursor is. exact_at is_clone h key cursor [] replies low run is
+  all_exact is_clone h (c ∷ calls) [] low run = absurd run
+  all_exact is_clone h (c ∷ calls) (r ∷ replies) low run =
+      (λ key cursor is. exact_at is_clone h key cursor (c ∷ calls) (r ∷ replies) low run is, all_exact is_clone (next h c r) calls replies (omega (arith, low)) run.1)
 
   pub deliveries_exact : (is_clone : T → T → Type 0) (h : History T) (calls : List (Call T)) (replies : List (Reply T)) → IsValid h → IsRun is_clone h calls replies → AtEachPoint (AreAllExact is_clone) h calls replies
-  deliveries_exact is_clone h calls replies valid run = all_exact is_clone h calls replies (record { low = λ key cursor is. (valid.cursors key cursor is).0 }) run
+  deliveries_exact is_clone h calls replies valid run = all_exact is_clone h calls replies valid.floor_low run

@@ -10,14 +10,17 @@ use Rattle.bcast_model.specs.declared.run.Call.TheVariants as call
 use Rattle.bcast_model.specs.declared.run.Reply.{Reply}
 use Rattle.bcast_model.specs.declared.run.Reply.TheVariants as reply
 use Rattle.bcast_model.specs.Pair.{stream_of, future_of}
-use Rattle.bcast_model.specs.Control.{Cursors}
-use Rattle.bcast_model.specs.History.{History, front_number, end_number, cursor_of, numbered}
-use Rattle.bcast_model.specs.Receiving.{receive, found, received, try_recv_reply, is_empty_reply, skipped, skipped_to, future_reply, stream_reply, next_reply}
-use Rattle.bcast_model.specs.Legal.{Legal, IsReceived, IsOwed}
-use Rattle.bcast_model.specs.Next.{changed, next}
+use Rattle.bcast_model.specs.Control.{Cursors, cursor_of}
+use Rattle.bcast_model.specs.History.{History, view_of, front_number, end_number}
+use Rattle.bcast_model.specs.Receiving.{receive, found, received, try_recv_reply, is_empty_reply, skipped, skipped_to, future_reply, stream_reply, next_reply, IsOwed}
+use Rattle.bcast_model.specs.Legal.{Legal, IsReceived}
+use Rattle.bcast_model.specs.View.{kept_at}
+use Rattle.bcast_model.specs.Effects.{effect}
+use Rattle.bcast_model.specs.Next.{next}
 use Rattle.bcast_model.specs.Deliveries.{receives_for, given_by, given_to}
+use Rattle.bcast_model.proofs.Answers.{cursors-next}
 use Rattle.bcast_model.proofs.DeliveryMaps.{cursors-listens, stands_or_left}
-use Rattle.bcast_model.proofs.DeliveryCursors.{changes, cursors-next}
+use Rattle.bcast_model.proofs.DeliveryCursors.{changes}
 use Rattle.bcast_model.proofs.DeliveryAnswers.{Gives, entries_of, IsAnswer, gives_nothing, gives_answer, ok_err}
 
 skipping : (cursor front : ℕ) → (front - cursor ≡ 0) ⊎ (cursor + (front - cursor) ≡ front)
@@ -69,7 +72,7 @@ module _ {T : Type 0} where
 
   -- ---- a receive, by its cursors after each reply
   gives_reply : (is_clone : T → T → Type 0) (h : History T) (key cursor skips : ℕ) (cursors_after : Reply T → Cursors) (after : Cursors) (owed : Type 0) (spelt : Result T TryRecvError → Reply T) (refused : Reply T) (exact : Result T TryRecvError) (r : Reply T)
-      → cursor_of h key ≡ Some cursor → ((answer : Result T TryRecvError) → cursors_after (spelt answer) ≡ after) → cursors_after refused ≡ h.control.cursors
+      → cursor_of h.control key ≡ Some cursor → ((answer : Result T TryRecvError) → cursors_after (spelt answer) ≡ after) → cursors_after refused ≡ h.control.cursors
       → ((answer : Result T TryRecvError) → IsAnswer is_clone exact answer → given_by (spelt answer) ≡ entries_of skips answer) → given_by refused ≡ []
       → ((answer : Result T TryRecvError) → IsAnswer is_clone exact answer → Gives is_clone h key cursor after (entries_of skips answer))
       → IsReceived is_clone owed spelt refused exact r → Gives is_clone h key cursor (cursors_after r) (given_by r)
@@ -85,60 +88,60 @@ module _ {T : Type 0} where
       (rw (kept, none) (gives_nothing h key cursor h.control.cursors (inl is)))
 
   -- what each receive gives the receiver that makes it: at its cursor, or going on at the front
-  gives_at_cursor : (is_clone : T → T → Type 0) (h : History T) (key cursor : ℕ) (cursors_after : Reply T → Cursors) (spelt : Result T TryRecvError → Reply T) (refused r : Reply T) → h.first ≤ cursor → cursor_of h key ≡ Some cursor
-      → ((answer : Result T TryRecvError) → cursors_after (spelt answer) ≡ (receive (front_number h) (end_number h) h.control key (cursor_of h key)).cursors) → cursors_after refused ≡ h.control.cursors
+  gives_at_cursor : (is_clone : T → T → Type 0) (h : History T) (key cursor : ℕ) (cursors_after : Reply T → Cursors) (spelt : Result T TryRecvError → Reply T) (refused r : Reply T) → h.first ≤ h.floor → cursor_of h.control key ≡ Some cursor
+      → ((answer : Result T TryRecvError) → cursors_after (spelt answer) ≡ (receive (front_number h) (end_number h) h.control key (cursor_of h.control key)).cursors) → cursors_after refused ≡ h.control.cursors
       → ((answer : Result T TryRecvError) → given_by (spelt answer) ≡ entries_of 0 answer) → given_by refused ≡ []
-      → IsReceived is_clone (IsOwed h key (cursor_of h key)) spelt refused (try_recv_reply h (cursor_of h key)) r → Gives is_clone h key cursor (cursors_after r) (given_by r)
+      → IsReceived is_clone (IsOwed (view_of h) key (cursor_of h.control key)) spelt refused (try_recv_reply (view_of h) (cursor_of h.control key)) r → Gives is_clone h key cursor (cursors_after r) (given_by r)
   gives_at_cursor is_clone h key cursor cursors_after spelt refused r low is moved kept spells none legal =
-      let at : cursor_of h key ≡ Some (cursor + 0) = is ∙ ap Some (omega arith) in
+      let at : cursor_of h.control key ≡ Some (cursor + 0) = is ∙ ap Some (omega arith) in
       gives_reply is_clone h key cursor 0 cursors_after (receive (front_number h) (end_number h) h.control key (Some (cursor + 0))).cursors
-      (IsOwed h key (Some (cursor + 0))) spelt refused (try_recv_reply h (Some (cursor + 0))) r is
+      (IsOwed (view_of h) key (Some (cursor + 0))) spelt refused (try_recv_reply (view_of h) (Some (cursor + 0))) r is
       (λ answer. moved answer ∙ ap (λ o. (receive (front_number h) (end_number h) h.control key o).cursors) at) kept (λ answer given. spells answer) none
       (λ answer given. gives_answer h key cursor 0 answer low is (inl refl) given)
-      (subst (λ o. IsReceived is_clone (IsOwed h key o) spelt refused (try_recv_reply h o) r) at legal)
+      (subst (λ o. IsReceived is_clone (IsOwed (view_of h) key o) spelt refused (try_recv_reply (view_of h) o) r) at legal)
 
-  gives_next : (is_clone : T → T → Type 0) (h : History T) (key cursor : ℕ) (r : Reply T) → h.first ≤ cursor → cursor_of h key ≡ Some cursor → Legal is_clone h (call.PollNext key) r
-      → Gives is_clone h key cursor (changed h (call.PollNext key) r).control.cursors (given_by r)
+  gives_next : (is_clone : T → T → Type 0) (h : History T) (key cursor : ℕ) (r : Reply T) → h.first ≤ h.floor → cursor_of h.control key ≡ Some cursor → Legal is_clone (view_of h) (call.PollNext key) r
+      → Gives is_clone h key cursor (effect (view_of h) (call.PollNext key) r).control.cursors (given_by r)
   gives_next is_clone h key cursor r low is legal =
       let front = front_number h in
       let skips = front_number h - cursor in
-      let at : skipped_to front (cursor_of h key) ≡ Some (cursor + skips) = ap (skipped_to front) is ∙ ap Some (omega arith) in
-      let by : skipped front (cursor_of h key) ≡ skips = ap (skipped front) is in
+      let at : skipped_to front (cursor_of h.control key) ≡ Some (cursor + skips) = ap (skipped_to front) is ∙ ap Some (omega arith) in
+      let by : skipped front (cursor_of h.control key) ≡ skips = ap (skipped front) is in
       let past : front_number h ≤ cursor + skips = omega arith in
-      gives_reply is_clone h key cursor skips (λ r. (changed h (call.PollNext key) r).control.cursors) (receive front (end_number h) h.control key (Some (cursor + skips))).cursors
-      (IsOwed h key (Some (cursor + skips))) (λ answer. reply.PollNext (Ok (next_reply skips answer))) (reply.PollNext (Err alloc_error)) (try_recv_reply h (Some (cursor + skips))) r is
-      (λ answer. cursors-listens (receive front (end_number h) h.control key (skipped_to front (cursor_of h key))) (stream_of key) (is_empty_reply (try_recv_reply h (skipped_to front (cursor_of h key)))) ∙ ap (λ o. (receive front (end_number h) h.control key o).cursors) at) refl
-      (λ answer given. given_by-next skips answer (answer_reached is_clone _ answer (λ n e. received_reached h.control.closed front (numbered h) (cursor + skips) n past e) given)) refl
+      gives_reply is_clone h key cursor skips (λ r. (effect (view_of h) (call.PollNext key) r).control.cursors) (receive front (end_number h) h.control key (Some (cursor + skips))).cursors
+      (IsOwed (view_of h) key (Some (cursor + skips))) (λ answer. reply.PollNext (Ok (next_reply skips answer))) (reply.PollNext (Err alloc_error)) (try_recv_reply (view_of h) (Some (cursor + skips))) r is
+      (λ answer. cursors-listens (receive front (end_number h) h.control key (skipped_to front (cursor_of h.control key))) (stream_of key) (is_empty_reply (try_recv_reply (view_of h) (skipped_to front (cursor_of h.control key)))) ∙ ap (λ o. (receive front (end_number h) h.control key o).cursors) at) refl
+      (λ answer given. given_by-next skips answer (answer_reached is_clone _ answer (λ n e. received_reached h.control.closed front (kept_at (view_of h)) (cursor + skips) n past e) given)) refl
       (λ answer given. gives_answer h key cursor skips answer low is (elim (skipping cursor front) [ inl e ↦ inl e | inr e ↦ inr e ]) given)
-      (subst (λ n. IsReceived is_clone (IsOwed h key (Some (cursor + skips))) (λ answer. reply.PollNext (Ok (next_reply n answer))) (reply.PollNext (Err alloc_error)) (try_recv_reply h (Some (cursor + skips))) r) by
-      (subst (λ o. IsReceived is_clone (IsOwed h key o) (λ answer. reply.PollNext (Ok (next_reply (skipped front (cursor_of h key)) answer))) (reply.PollNext (Err alloc_error)) (try_recv_reply h o) r) at legal))
+      (subst (λ n. IsReceived is_clone (IsOwed (view_of h) key (Some (cursor + skips))) (λ answer. reply.PollNext (Ok (next_reply n answer))) (reply.PollNext (Err alloc_error)) (try_recv_reply (view_of h) (Some (cursor + skips))) r) by
+      (subst (λ o. IsReceived is_clone (IsOwed (view_of h) key o) (λ answer. reply.PollNext (Ok (next_reply (skipped front (cursor_of h.control key)) answer))) (reply.PollNext (Err alloc_error)) (try_recv_reply (view_of h) o) r) at legal))
 
-  gives_received : (is_clone : T → T → Type 0) (h : History T) (key cursor : ℕ) (c : Call T) (r : Reply T) → h.first ≤ cursor → cursor_of h key ≡ Some cursor → receives_for key c ≡ true → Legal is_clone h c r
-      → Gives is_clone h key cursor (changed h c r).control.cursors (given_by r)
+  gives_received : (is_clone : T → T → Type 0) (h : History T) (key cursor : ℕ) (c : Call T) (r : Reply T) → h.first ≤ h.floor → cursor_of h.control key ≡ Some cursor → receives_for key c ≡ true → Legal is_clone (view_of h) c r
+      → Gives is_clone h key cursor (effect (view_of h) c r).control.cursors (given_by r)
   gives_received is_clone h key cursor (call.TryRecv reader) r low is reads legal =
       let same : reader ≡ key = grind (arith, common_steps, reads) in
-      rw same (gives_at_cursor is_clone h key cursor (λ r. (changed h (call.TryRecv key) r).control.cursors) (λ answer. reply.TryRecv (Ok answer)) (reply.TryRecv (Err alloc_error)) r low is
+      rw same (gives_at_cursor is_clone h key cursor (λ r. (effect (view_of h) (call.TryRecv key) r).control.cursors) (λ answer. reply.TryRecv (Ok answer)) (reply.TryRecv (Err alloc_error)) r low is
       (λ answer. refl) refl given_by-try_recv refl (rw same at legal))
   gives_received is_clone h key cursor (call.PollFuture reader) r low is reads legal =
       let same : reader ≡ key = grind (arith, common_steps, reads) in
-      rw same (gives_at_cursor is_clone h key cursor (λ r. (changed h (call.PollFuture key) r).control.cursors) (λ answer. reply.PollFuture (Ok (future_reply answer))) (reply.PollFuture (Err alloc_error)) r low is
-      (λ answer. cursors-listens (receive (front_number h) (end_number h) h.control key (cursor_of h key)) (future_of key) (is_empty_reply (try_recv_reply h (cursor_of h key)))) refl given_by-future refl (rw same at legal))
+      rw same (gives_at_cursor is_clone h key cursor (λ r. (effect (view_of h) (call.PollFuture key) r).control.cursors) (λ answer. reply.PollFuture (Ok (future_reply answer))) (reply.PollFuture (Err alloc_error)) r low is
+      (λ answer. cursors-listens (receive (front_number h) (end_number h) h.control key (cursor_of h.control key)) (future_of key) (is_empty_reply (try_recv_reply (view_of h) (cursor_of h.control key)))) refl given_by-future refl (rw same at legal))
   gives_received is_clone h key cursor (call.PollRecv reader) r low is reads legal =
       let same : reader ≡ key = grind (arith, common_steps, reads) in
-      rw same (gives_at_cursor is_clone h key cursor (λ r. (changed h (call.PollRecv key) r).control.cursors) (λ answer. reply.PollRecv (Ok (stream_reply answer))) (reply.PollRecv (Err alloc_error)) r low is
-      (λ answer. cursors-listens (receive (front_number h) (end_number h) h.control key (cursor_of h key)) (stream_of key) (is_empty_reply (try_recv_reply h (cursor_of h key)))) refl given_by-stream refl (rw same at legal))
+      rw same (gives_at_cursor is_clone h key cursor (λ r. (effect (view_of h) (call.PollRecv key) r).control.cursors) (λ answer. reply.PollRecv (Ok (stream_reply answer))) (reply.PollRecv (Err alloc_error)) r low is
+      (λ answer. cursors-listens (receive (front_number h) (end_number h) h.control key (cursor_of h.control key)) (stream_of key) (is_empty_reply (try_recv_reply (view_of h) (cursor_of h.control key)))) refl given_by-stream refl (rw same at legal))
   gives_received is_clone h key cursor (call.PollNext reader) r low is reads legal =
       let same : reader ≡ key = grind (arith, common_steps, reads) in
       rw same (gives_next is_clone h key cursor r low is (rw same at legal))
   gives_received is_clone h key cursor c r low is reads legal = receives_none reads
 
   -- what each call gives each receiver
-  pub gives_call : (is_clone : T → T → Type 0) (h : History T) (key cursor : ℕ) (c : Call T) (r : Reply T) → h.first ≤ cursor → cursor_of h key ≡ Some cursor → Legal is_clone h c r
+  pub gives_call : (is_clone : T → T → Type 0) (h : History T) (key cursor : ℕ) (c : Call T) (r : Reply T) → h.first ≤ h.floor → cursor_of h.control key ≡ Some cursor → Legal is_clone (view_of h) c r
       → Gives is_clone h key cursor (next h c r).control.cursors (given_to key c r)
   gives_call is_clone h key cursor c r low is legal =
       rw (cursors-next h c r)
-      (elim (receives_for key c) as (λ b. receives_for key c ≡ b → Gives is_clone h key cursor (changed h c r).control.cursors (cond b (given_by r) [])) [
+      (elim (receives_for key c) as (λ b. receives_for key c ≡ b → Gives is_clone h key cursor (effect (view_of h) c r).control.cursors (cond b (given_by r) [])) [
         | true ↦ λ reads. gives_received is_clone h key cursor c r low is reads legal
-        | false ↦ λ reads. gives_nothing h key cursor (changed h c r).control.cursors
-            (stands_or_left (front_number h) (end_number h) (λ key. receives_for key c) h.control.cursors (changed h c r).control.cursors key cursor (changes is_clone h c r legal) reads is)
+        | false ↦ λ reads. gives_nothing h key cursor (effect (view_of h) c r).control.cursors
+            (stands_or_left (front_number h) (end_number h) (λ key. receives_for key c) h.control.cursors (effect (view_of h) c r).control.cursors key cursor (changes is_clone (view_of h) c r legal) reads is)
       ] refl)

@@ -7,10 +7,10 @@ use Rattle.bcast_model.specs.declared.error.TryRecvError.TheVariants as unread
 use Rattle.bcast_model.specs.declared.run.Call.TheVariants as call
 use Rattle.bcast_model.specs.declared.run.Reply.{Reply}
 use Rattle.bcast_model.specs.declared.run.Reply.TheVariants as reply
-use Rattle.bcast_model.specs.Receiving.{found, skipped, skipped_to, future_reply, stream_reply, next_reply}
-use Rattle.bcast_model.specs.Legal.{IsGiven, IsReceived}
+use Rattle.bcast_model.specs.Receiving.{found, skipped, skipped_to, future_reply, stream_reply, next_reply, IsOwed, try_recv_reply}
+use Rattle.bcast_model.specs.Legal.{IsGiven, IsReceived, Legal}
 use Rattle.bcast_model.specs.View.{View}
-use Rattle.bcast_model.specs.Seen.{LegalSeen, IsOwedSeen, cursor_seen, try_recv_seen}
+use Rattle.bcast_model.specs.Control.{cursor_of}
 use Rattle.bcast_model.specs.Laws.{IsGivenFrom}
 
 module _ {T : Type 0} where
@@ -18,21 +18,21 @@ module _ {T : Type 0} where
   found_message closed (Some other) msg e = cc
   found_message closed None msg e = cc
 
-  kept_message : (v : View T) (cursor : Option ℕ) (msg : T) → try_recv_seen v cursor ≡ Ok msg → (index : ℕ) × (slice_get v.queue index ≡ Some msg)
+  kept_message : (v : View T) (cursor : Option ℕ) (msg : T) → try_recv_reply v cursor ≡ Ok msg → (index : ℕ) × (slice_get v.queue index ≡ Some msg)
   kept_message v None msg e = cc
   kept_message v (Some cursor) msg e = elim (nat_lt cursor v.front) as (λ b. cond b (Err (unread.Overflowed (v.front - cursor))) (found v.control.closed (slice_get v.queue (cursor - v.front))) ≡ Ok msg → (index : ℕ) × (slice_get v.queue index ≡ Some msg)) [
     | true ↦ λ e. cc
     | false ↦ λ e. (cursor - v.front, found_message v.control.closed (slice_get v.queue (cursor - v.front)) msg e)
   ] e
 
-  given_kept : (is_clone : T → T → Type 0) (v : View T) (cursor : Option ℕ) (msg given : T) → try_recv_seen v cursor ≡ Ok msg → IsGiven is_clone msg given → IsGivenFrom is_clone v.queue given
+  given_kept : (is_clone : T → T → Type 0) (v : View T) (cursor : Option ℕ) (msg given : T) → try_recv_reply v cursor ≡ Ok msg → IsGiven is_clone msg given → IsGivenFrom is_clone v.queue given
   given_kept is_clone v cursor msg given e is = let k = kept_message v cursor msg e in record { index = k.0; message = subst (λ o. IsSomeAnd o (λ msg. IsGiven is_clone msg given)) (sym k.1) is }
 
   -- a receive that spells its answers so hands out a kept message, or a clone of one
   received_from : (is_clone : T → T → Type 0) (owed : Type 0) (spelt : Result T TryRecvError → Reply T) (refused : Reply T) (v : View T) (cursor : Option ℕ) (r : Reply T) (given : T)
-      → ((answer : Result T TryRecvError) → r ≡ spelt answer → answer ≡ Ok given) → (r ≡ refused → ⊥) → IsReceived is_clone owed spelt refused (try_recv_seen v cursor) r → IsGivenFrom is_clone v.queue given
+      → ((answer : Result T TryRecvError) → r ≡ spelt answer → answer ≡ Ok given) → (r ≡ refused → ⊥) → IsReceived is_clone owed spelt refused (try_recv_reply v cursor) r → IsGivenFrom is_clone v.queue given
   received_from is_clone owed spelt refused v cursor r given one none legal = elim legal [
-    | inl e ↦ given_kept is_clone v cursor given given (one (try_recv_seen v cursor) e) (inl refl)
+    | inl e ↦ given_kept is_clone v cursor given given (one (try_recv_reply v cursor) e) (inl refl)
     | inr s ↦ elim s.1 [
       | inl clone ↦ (let same : clone.given ≡ given = (let e = one (Ok clone.given) clone.reply in cc) in given_kept is_clone v cursor clone.msg given clone.exactly (inr (subst (is_clone clone.msg) same clone.cloned)))
       | inr e ↦ absurd (none e)
@@ -58,20 +58,20 @@ module _ {T : Type 0} where
   next_is skips n (Err unread.Empty) given e = cc
 
   module _ (is_clone : T → T → Type 0) (v : View T) (key : ℕ) (given : T) where
-    pub given_try_recv : LegalSeen is_clone v (call.TryRecv key) (reply.TryRecv (Ok (Ok given))) → IsGivenFrom is_clone v.queue given
-    given_try_recv legal = received_from is_clone (IsOwedSeen v key (cursor_seen v key)) (λ answer. reply.TryRecv (Ok answer)) (reply.TryRecv (Err alloc_error)) v (cursor_seen v key) (reply.TryRecv (Ok (Ok given))) given (λ answer e. cc) (λ e. cc) legal
+    pub given_try_recv : Legal is_clone v (call.TryRecv key) (reply.TryRecv (Ok (Ok given))) → IsGivenFrom is_clone v.queue given
+    given_try_recv legal = received_from is_clone (IsOwed v key (cursor_of v.control key)) (λ answer. reply.TryRecv (Ok answer)) (reply.TryRecv (Err alloc_error)) v (cursor_of v.control key) (reply.TryRecv (Ok (Ok given))) given (λ answer e. cc) (λ e. cc) legal
 
-    pub given_future : LegalSeen is_clone v (call.PollFuture key) (reply.PollFuture (Ok (poll.Ready (Ok given)))) → IsGivenFrom is_clone v.queue given
-    given_future legal = received_from is_clone (IsOwedSeen v key (cursor_seen v key)) (λ answer. reply.PollFuture (Ok (future_reply answer))) (reply.PollFuture (Err alloc_error)) v (cursor_seen v key) (reply.PollFuture (Ok (poll.Ready (Ok given)))) given
+    pub given_future : Legal is_clone v (call.PollFuture key) (reply.PollFuture (Ok (poll.Ready (Ok given)))) → IsGivenFrom is_clone v.queue given
+    given_future legal = received_from is_clone (IsOwed v key (cursor_of v.control key)) (λ answer. reply.PollFuture (Ok (future_reply answer))) (reply.PollFuture (Err alloc_error)) v (cursor_of v.control key) (reply.PollFuture (Ok (poll.Ready (Ok given)))) given
         (λ answer e. future_is answer given (cc)) (λ e. cc) legal
 
-    pub given_recv : LegalSeen is_clone v (call.PollRecv key) (reply.PollRecv (Ok (poll.Ready (Some (Ok given))))) → IsGivenFrom is_clone v.queue given
-    given_recv legal = received_from is_clone (IsOwedSeen v key (cursor_seen v key)) (λ answer. reply.PollRecv (Ok (stream_reply answer))) (reply.PollRecv (Err alloc_error)) v (cursor_seen v key) (reply.PollRecv (Ok (poll.Ready (Some (Ok given))))) given
+    pub given_recv : Legal is_clone v (call.PollRecv key) (reply.PollRecv (Ok (poll.Ready (Some (Ok given))))) → IsGivenFrom is_clone v.queue given
+    given_recv legal = received_from is_clone (IsOwed v key (cursor_of v.control key)) (λ answer. reply.PollRecv (Ok (stream_reply answer))) (reply.PollRecv (Err alloc_error)) v (cursor_of v.control key) (reply.PollRecv (Ok (poll.Ready (Some (Ok given))))) given
         (λ answer e. stream_is answer given (cc)) (λ e. cc) legal
 
-    pub given_next : (n : ℕ) → LegalSeen is_clone v (call.PollNext key) (reply.PollNext (Ok (poll.Ready (Some (given, n))))) → IsGivenFrom is_clone v.queue given
+    pub given_next : (n : ℕ) → Legal is_clone v (call.PollNext key) (reply.PollNext (Ok (poll.Ready (Some (given, n))))) → IsGivenFrom is_clone v.queue given
     given_next n legal =
-        let cursor : Option ℕ = skipped_to v.front (cursor_seen v key) in
-        let skips : ℕ = skipped v.front (cursor_seen v key) in
-        received_from is_clone (IsOwedSeen v key cursor) (λ answer. reply.PollNext (Ok (next_reply skips answer))) (reply.PollNext (Err alloc_error)) v cursor (reply.PollNext (Ok (poll.Ready (Some (given, n))))) given
+        let cursor : Option ℕ = skipped_to v.front (cursor_of v.control key) in
+        let skips : ℕ = skipped v.front (cursor_of v.control key) in
+        received_from is_clone (IsOwed v key cursor) (λ answer. reply.PollNext (Ok (next_reply skips answer))) (reply.PollNext (Err alloc_error)) v cursor (reply.PollNext (Ok (poll.Ready (Some (given, n))))) given
         (λ answer e. next_is skips n answer given (cc)) (λ e. cc) legal

@@ -6,8 +6,9 @@ use Rattle.bcast_model.specs.Listeners.{Listeners, untold_ids}
 use Rattle.bcast_model.specs.Pair.{Pair}
 use Rattle.bcast_model.specs.Control.{Control, Places, is_ready, close, close_if_deserted, with_cursor}
 use Rattle.bcast_model.specs.Valid.{WouldWait}
-use Rattle.bcast_model.specs.View.{View}
-use Rattle.bcast_model.specs.Seen.{sets, settle, is_ready_seen}
+use Rattle.bcast_model.specs.View.{View, sends_are_ready}
+use Rattle.bcast_model.specs.Effect.{sets}
+use Rattle.bcast_model.specs.Steps.{settle}
 use Rattle.bcast_model.specs.Laws.{IsValidView}
 use Rattle.bcast_model.proofs.Lists.{all_more}
 use Rattle.bcast_model.proofs.Least.{len_insert}
@@ -92,7 +93,7 @@ module _ {T : Type 0} (v : View T) (valid : IsValidView v) where
       ap (λ n. drop (n - v.front) (v.queue ++ [])) front ∙ ap (λ n. drop n (v.queue ++ [])) none ∙ append-nil v.queue
 
   -- a call that changes only what stands beside the messages
-  keeps_control : (c : Control) (may : Bool) → IsSound v v.end c → IsAttended c.closed c.senders (len c.cursors) c.inactive v.end → length v.queue ≤ c.capacity → (may ≡ false → is_ready_seen (settle v (sets c)) ≡ true → OneIsTold c.waiting_sends) → KeepsValid v (sets c) may
+  keeps_control : (c : Control) (may : Bool) → IsSound v v.end c → IsAttended c.closed c.senders (len c.cursors) c.inactive v.end → length v.queue ≤ c.capacity → (may ≡ false → sends_are_ready (settle v (sets c)) ≡ true → OneIsTold c.waiting_sends) → KeepsValid v (sets c) may
   keeps_control c may s attended fits told =
       let e : v.end + 0 ≡ v.end = omega arith in
       record {
@@ -104,11 +105,11 @@ module _ {T : Type 0} (v : View T) (valid : IsValidView v) where
       }
 
   -- a sender is told where sends are ready only afterwards
-  pub keeps_sets : (c : Control) → IsKept v c → KeepsValid v (sets c) (not (is_ready_seen v))
-  keeps_sets c kept = keeps_control c (not (is_ready_seen v)) kept.sound kept.attended kept.fits (λ was _. kept.told (valid.wake_ups.sends (not_not (is_ready_seen v) was)))
+  pub keeps_sets : (c : Control) → IsKept v c → KeepsValid v (sets c) (not (sends_are_ready v))
+  keeps_sets c kept = keeps_control c (not (sends_are_ready v)) kept.sound kept.attended kept.fits (λ was _. kept.told (valid.wake_ups.sends (not_not (sends_are_ready v) was)))
 
   -- a poll of a send that waits, or has no place
-  pub keeps_waits : (l : Listeners ℕ) (may : Bool) → AreSends v.control.places l → (is_ready_seen v ≡ true → OneIsTold l) → KeepsValid v (sets (record v.control { waiting_sends = l })) may
+  pub keeps_waits : (l : Listeners ℕ) (may : Bool) → AreSends v.control.places l → (sends_are_ready v ≡ true → OneIsTold l) → KeepsValid v (sets (record v.control { waiting_sends = l })) may
   keeps_waits l may sends told =
       let kept = kept_idle in
       let c : Control = record v.control { waiting_sends = l } in

@@ -18,8 +18,6 @@ pub mod Leaving
 pub mod Making
 pub mod Calls
 -- histories and what is seen of them
-pub mod Replies
-pub mod Changes
 pub mod Answers
 pub mod Witness
 pub mod Opening

@@ -1,24 +1,25 @@
 -- What a call does to what is seen, it does to each valid history that shows it, and this stays valid.
-use Rattle.std.proofs.Common.{◌≡◌, ◌⊎◌, inl, inr, ℕ, ◌+◌, ◌-◌, ◌<◌, ◌≤◌, Bool, true, false, cond, ◌&&◌, ◌++◌, length, max, drop, refl, sym, ap, ◌∙◌, subst, arith, length-append}
+use Rattle.std.proofs.Common.{◌≡◌, ◌⊎◌, inl, inr, ℕ, ◌+◌, ◌-◌, ◌<◌, ◌≤◌, Bool, true, false, ◌&&◌, ◌++◌, length, max, drop, refl, sym, ap, ◌∙◌, subst, arith, length-append}
 use Rattle.std.proofs.lemmas.List.{drop-drop, drop-append-le}
 use Rattle.std.proofs.lemmas.Bool.{cases_lt}
 use Rattle.std.specs.FinMap.{len, values}
 use Rattle.std.specs.List.{AllByRecursion}
 use Rattle.bcast_model.specs.Listeners.{Listeners, untold_ids, tell}
 use Rattle.bcast_model.specs.Control.{Control, tell_a_sender}
-use Rattle.bcast_model.specs.History.{History, least, end_number, front_number, queue_of, sends_are_ready, with_control}
-use Rattle.bcast_model.specs.Next.{tell_if_ready}
+use Rattle.bcast_model.specs.History.{History, least, end_number, front_number, queue_of, with_control, view_of, remember}
+use Rattle.bcast_model.specs.View.{sends_are_ready, View}
+use Rattle.bcast_model.specs.Next.{tell_if_ready, end_call}
 use Rattle.bcast_model.specs.Valid.{IsValid, IsValidControl, WouldWait}
-use Rattle.bcast_model.specs.View.{View, view_of}
-use Rattle.bcast_model.specs.Seen.{Effect, is_ready_seen, remember, settle, tell_if_ready_seen}
+use Rattle.bcast_model.specs.Effect.{Effect}
+use Rattle.bcast_model.specs.Steps.{settle}
 use Rattle.bcast_model.specs.Laws.{IsValidView}
 use Rattle.bcast_model.proofs.Lists.{all_more}
 use Rattle.bcast_model.proofs.Least.{least-le-limit, least-le-cursor, least-greatest}
-use Rattle.bcast_model.proofs.Cases.{tell_is}
+use Rattle.bcast_model.proofs.Cases.{test_is, tell_is}
 use Rattle.bcast_model.proofs.WaitingSends.{OneIsTold, AreSends, sends_told}
 use Rattle.bcast_model.proofs.WaitingReceives.{Sleeps, AreReceives}
 use Rattle.bcast_model.proofs.Sound.{AreSizes, IsAttended, IsNoLower, IsSound}
-use Rattle.bcast_model.proofs.Views.{front_of-settled, valid_front, first_under, valid_view}
+use Rattle.bcast_model.proofs.Views.{first_under, valid_view}
 
 -- an effect that keeps a history valid, where a sender is told at the end of the call as it says
 pub record KeepsValid {T : Type 0} (v : View T) (e : Effect T) (may : Bool) : Type 0 where
@@ -26,7 +27,7 @@ pub record KeepsValid {T : Type 0} (v : View T) (e : Effect T) (may : Bool) : Ty
   pub fits : length (settle v e).queue ≤ e.control.capacity
   pub sound : IsSound v (v.end + length e.accepted) e.control
   pub attended : IsAttended e.control.closed e.control.senders (len e.control.cursors) e.control.inactive (v.end + length e.accepted)
-  pub told : may ≡ false → is_ready_seen (settle v e) ≡ true → OneIsTold e.control.waiting_sends
+  pub told : may ≡ false → sends_are_ready (settle v e) ≡ true → OneIsTold e.control.waiting_sends
 
 -- the parts make up all that is valid
 pub valid_control : (c : Control) (end : ℕ) → AreSizes c.capacity c.room (len c.cursors) c.senders c.inactive end → IsAttended c.closed c.senders (len c.cursors) c.inactive end
@@ -73,8 +74,11 @@ module _ {T : Type 0} where
     | inr p ↦ elim valid.floor_below [ inl m ↦ elim (cases_lt h.first e.floor) [ inl a ↦ inr (omega arith) | inr a ↦ inl (omega arith) ] | inr m ↦ inr (omega arith) ]
   ]
 
-  view_of-tell : (may : Bool) (h : History T) → view_of (tell_if_ready may h) ≡ tell_if_ready_seen may (view_of h)
-  view_of-tell may h = elim (may && sends_are_ready h) as (λ b. view_of (cond b (with_control h (tell_a_sender h.control)) h) ≡ cond b (record (view_of h) { control = tell_a_sender h.control }) (view_of h)) [ true ↦ refl | false ↦ refl ]
+  view_of-end_call : (may : Bool) (h : History T) → view_of (end_call may h) ≡ tell_if_ready may (view_of h)
+  view_of-end_call may h =
+      let v : View T = view_of h in
+      let told : View T = record v { control = tell_a_sender v.control } in
+      test_is (λ (w : View T). view_of (with_control h w.control) ≡ w) (may && sends_are_ready v) told v (λ _. refl) (λ _. refl)
 
   module _ (h : History T) (e : Effect T) (may : Bool) (valid : IsValid h) (keeps : KeepsValid (view_of h) e may) where
     end-remember : end_number (remember h e) ≡ end_number h + length e.accepted
@@ -85,14 +89,12 @@ module _ {T : Type 0} where
 
     front-remember : front_number (remember h e) ≡ (settle (view_of h) e).front
     front-remember =
-        let settled = front_of-settled (max h.floor e.floor) (end_number h + length e.accepted) e.control.cursors floor_high (λ key cursor f. (keeps.sound.cursors key cursor f).0) in
         let up = rises (view_of h) e may (valid_view h valid) keeps in
-        let was = valid_front h valid in
-        rw end-remember (omega (arith, settled, up, was))
+        rw end-remember (omega (arith, up))
 
     pub view_of-remember : view_of (remember h e) ≡ settle (view_of h) e
     view_of-remember =
-        let low = first_under h valid in
+        let low = first_under h valid.floor_low in
         let view = valid_view h valid in
         let high : front_number h - h.first ≤ length h.accepted = omega (arith, view.high) in
         let new : ℕ = (settle (view_of h) e).front in
@@ -106,11 +108,11 @@ module _ {T : Type 0} where
 
     above_first : (cursor : ℕ) → IsNoLower (view_of h) cursor → h.first ≤ cursor
     above_first cursor s =
-        let low = first_under h valid in
+        let low = first_under h valid.floor_low in
         elim s [ inl p ↦ omega arith | inr p ↦ (let k = (valid.cursors p.0 p.1 p.2).0 in omega (arith, k, p.3)) ]
 
     -- it is valid with this list of waiting sends
-    valid_with : (l : Listeners ℕ) → AreSends e.control.places l → (sends_are_ready (remember h e) ≡ true → OneIsTold l) → IsValid (with_control (remember h e) (record e.control { waiting_sends = l }))
+    valid_with : (l : Listeners ℕ) → AreSends e.control.places l → (sends_are_ready (view_of (remember h e)) ≡ true → OneIsTold l) → IsValid (with_control (remember h e) (record e.control { waiting_sends = l }))
     valid_with l sends one =
         let c : Control = record e.control { waiting_sends = l } in
         let below : (max h.floor e.floor ≡ h.first) ⊎ (max h.floor e.floor < end_number h + length e.accepted) = floor_raised h e valid keeps.floor in
@@ -128,10 +130,10 @@ module _ {T : Type 0} where
         }
 
     -- so it is valid after a sender was told as the call says
-    pub valid_told : IsValid (tell_if_ready may (remember h e))
+    pub valid_told : IsValid (end_call may (remember h e))
     valid_told = tell_is IsValid may (remember h e)
         (λ _. valid_with (tell 1 e.control.waiting_sends) (sends_told e.control.places 1 e.control.waiting_sends keeps.sound.sends) (λ ready some. omega arith))
-        (λ untold. valid_with e.control.waiting_sends keeps.sound.sends (λ ready. keeps.told (not_may may (sends_are_ready (remember h e)) untold ready) (sym (ap is_ready_seen view_of-remember) ∙ ready)))
+        (λ untold. valid_with e.control.waiting_sends keeps.sound.sends (λ ready. keeps.told (not_may may (sends_are_ready (view_of (remember h e))) untold ready) (sym (ap sends_are_ready view_of-remember) ∙ ready)))
 
-    pub view_of-told : view_of (tell_if_ready may (remember h e)) ≡ tell_if_ready_seen may (settle (view_of h) e)
-    view_of-told = view_of-tell may (remember h e) ∙ ap (tell_if_ready_seen may) view_of-remember
+    pub view_of-told : view_of (end_call may (remember h e)) ≡ tell_if_ready may (settle (view_of h) e)
+    view_of-told = view_of-end_call may (remember h e) ∙ ap (tell_if_ready may) view_of-remember

@@ -11,8 +11,8 @@ use Rattle.bcast_model.specs.Handles.{has_next, new_receiver, activate, clone_re
 use Rattle.bcast_model.specs.History.{least}
 use Rattle.bcast_model.specs.Legal.{IsMadeFrom}
 use Rattle.bcast_model.specs.Next.{chosen}
-use Rattle.bcast_model.specs.View.{View}
-use Rattle.bcast_model.specs.Seen.{is_ready_seen, resize_seen}
+use Rattle.bcast_model.specs.View.{View, sends_are_ready}
+use Rattle.bcast_model.specs.Effects.{resize}
 use Rattle.bcast_model.specs.Laws.{IsValidView}
 use Rattle.bcast_model.proofs.Least.{len_insert}
 use Rattle.bcast_model.proofs.Cases.{test_is}
@@ -73,7 +73,7 @@ module _ {T : Type 0} where
     pub kept_settings : (overflow await_active : Bool) → IsKept v (record v.control { overflow = overflow; await_active = await_active })
     kept_settings overflow await_active = kept_counts v v.control v.control.senders v.control.inactive overflow await_active valid.control.senders_fit valid.control.inactive_fit valid.control.sender valid.control.receiver (kept_idle v valid)
 
-    pub keeps_resize : (n : ℕ) → 1 ≤ n → n < 2 ^ 64 → KeepsValid v (resize_seen v n) (not (is_ready_seen v))
+    pub keeps_resize : (n : ℕ) → 1 ≤ n → n < 2 ^ 64 → KeepsValid v (resize v n) (not (sends_are_ready v))
     keeps_resize n some few =
         let e : v.end + 0 ≡ v.end = omega arith in
         let idle = kept_idle v valid in
@@ -89,5 +89,5 @@ module _ {T : Type 0} where
           sound = rw e (sound_counts v v.end c n (max c.room n) c.senders c.inactive c.overflow c.await_active
               (record { positive = some; within = omega arith; room_fits = omega (arith, sizes.room_fits); receivers_fit = sizes.receivers_fit; senders_fit = sizes.senders_fit; inactive_fit = sizes.inactive_fit; end_fits = sizes.end_fits }) idle.sound);
           attended = rw e idle.attended;
-          told = λ was _. valid.wake_ups.sends (not_not (is_ready_seen v) was);
+          told = λ was _. valid.wake_ups.sends (not_not (sends_are_ready v) was);
         }

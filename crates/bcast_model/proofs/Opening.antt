@@ -6,11 +6,9 @@ use Rattle.std.proofs.lemmas.List.{drop_all}
 use Rattle.std.specs.Ordering.{nat_cmp, eq_by_cmp}
 use Rattle.std.specs.Cmp.{nat_cmp_total}
 use Rattle.std.specs.FinMap.{get, insert, empty, values, get-insert, get-empty, len-insert, len-empty}
-use Rattle.bcast_model.specs.History.{History, opening, front_number}
+use Rattle.bcast_model.specs.History.{History, opening, front_number, view_of}
 use Rattle.bcast_model.specs.Valid.{IsValid}
-use Rattle.bcast_model.specs.View.{view_of}
 use Rattle.bcast_model.proofs.Least.{least-le-limit}
-use Rattle.bcast_model.proofs.Views.{valid_front}
 use Rattle.bcast_model.proofs.Lift.{same_view}
 
 -- its only receiver is at the first number
@@ -53,6 +51,5 @@ module _ {T : Type 0} where
       → view_of {T = T} (opening capacity first key) ≡ record { front = first; queue = []; end = first; control = (opening {T = T} capacity first key).control }
   view_of-opening capacity first key some few below =
       let h : History T = opening capacity first key in
-      let front = valid_front h (opening_valid capacity first key some few below) in
       let limit = least-le-limit (first + 0) (values h.control.cursors) in
-      same_view _ _ (omega (arith, front, limit)) (drop_all (front_number h - first) [] (omega arith)) (omega arith) refl
+      same_view _ _ (omega (arith, limit)) (drop_all (front_number h - first) [] (omega arith)) (omega arith) refl

@@ -11,19 +11,15 @@ use Rattle.bcast_model.specs.declared.run.SendPoll.TheVariants as send
 use Rattle.bcast_model.specs.declared.run.Call.TheVariants as call
 use Rattle.bcast_model.specs.declared.run.Reply.{Reply}
 use Rattle.bcast_model.specs.declared.run.Reply.TheVariants as reply
-use Rattle.bcast_model.specs.Control.{has_place, has_no_receiver}
-use Rattle.bcast_model.specs.History.{History, front_number, is_full, sends_are_ready, cursor_of}
+use Rattle.bcast_model.specs.Control.{has_place, has_no_receiver, cursor_of}
+use Rattle.bcast_model.specs.View.{is_full, sends_are_ready, View}
 use Rattle.bcast_model.specs.Sending.{refusal, sent, attempted, handed_back, attempt_send_reply, try_broadcast_reply}
-use Rattle.bcast_model.specs.Receiving.{is_empty_reply, skipped, skipped_to, future_reply, stream_reply, next_reply, try_recv_reply}
-use Rattle.bcast_model.specs.Legal.{Legal, IsReceived, IsOwed}
+use Rattle.bcast_model.specs.Receiving.{is_empty_reply, skipped, skipped_to, future_reply, stream_reply, next_reply, try_recv_reply, IsOwed}
+use Rattle.bcast_model.specs.Legal.{Legal, IsReceived}
 use Rattle.bcast_model.specs.Next.{found_no_memory}
-use Rattle.bcast_model.specs.Valid.{IsValid}
-use Rattle.bcast_model.specs.View.{View, view_of}
-use Rattle.bcast_model.specs.Seen.{try_recv_seen}
 use Rattle.bcast_model.specs.Laws.{IsValidView, must_wait, is_wait_reply}
-use Rattle.bcast_model.proofs.Views.{lagging, valid_view}
+use Rattle.bcast_model.proofs.Views.{lagging}
 use Rattle.bcast_model.proofs.Receives.{empty_at}
-use Rattle.bcast_model.proofs.Replies.{try_recv-seen}
 
 module _ {T : Type 0} where
   -- ---- sends
@@ -46,15 +42,15 @@ module _ {T : Type 0} where
   unready_waits false false false true await_active back msg = refl
   unready_waits false false false false await_active back msg = refl
 
-  module _ (is_clone : T → T → Type 0) (h : History T) (place : ℕ) (msg : T) (r : Reply T) (known : has_place h.control place ≡ true) (legal : Legal is_clone h (call.PollSend place msg) r) where
-    polled : must_wait r ≡ must_wait (reply.PollSend (attempt_send_reply h msg))
-    polled = ap must_wait (legal ∙ ap (λ b. reply.PollSend (cond b (attempt_send_reply h msg) (send.Wait msg))) known)
+  module _ (is_clone : T → T → Type 0) (v : View T) (place : ℕ) (msg : T) (r : Reply T) (known : has_place v.control place ≡ true) (legal : Legal is_clone v (call.PollSend place msg) r) where
+    polled : must_wait r ≡ must_wait (reply.PollSend (attempt_send_reply v msg))
+    polled = ap must_wait (legal ∙ ap (λ b. reply.PollSend (cond b (attempt_send_reply v msg) (send.Wait msg))) known)
 
-    pub send_waits_full : must_wait r ≡ is_wait_reply h.control.await_active (try_broadcast_reply h msg)
-    send_waits_full = polled ∙ send_waits h.control.await_active (handed_back h) (refusal h.control (is_full h) msg)
+    pub send_waits_full : must_wait r ≡ is_wait_reply v.control.await_active (try_broadcast_reply v msg)
+    send_waits_full = polled ∙ send_waits v.control.await_active (handed_back v) (refusal v msg)
 
-    pub send_waits_unready : must_wait r ≡ not (sends_are_ready h)
-    send_waits_unready = polled ∙ unready_waits h.control.closed (has_no_receiver h.control) h.control.overflow (is_full h) h.control.await_active (handed_back h) msg
+    pub send_waits_unready : must_wait r ≡ not (sends_are_ready v)
+    send_waits_unready = polled ∙ unready_waits v.control.closed (has_no_receiver v.control) v.control.overflow (is_full v) v.control.await_active (handed_back v) msg
 
   -- ---- receives
   received_waits : (is_clone : T → T → Type 0) (owed : Type 0) (spelt : Result T TryRecvError → Reply T) (refused : Reply T) (exact : Result T TryRecvError) (r : Reply T)
@@ -89,30 +85,28 @@ module _ {T : Type 0} where
   next_waits skips (Err unread.Empty) = refl
 
   -- who lags finds something, before a skip and after it
-  not_empty : (v : View T) (at : ℕ) → IsValidView v → at ≤ v.front → v.front < v.end → is_empty_reply (try_recv_seen v (Some at)) ≡ false
-  not_empty v at valid low some = elim (is_empty_reply (try_recv_seen v (Some at))) as (λ b. is_empty_reply (try_recv_seen v (Some at)) ≡ b → b ≡ false) [
+  not_empty : (v : View T) (at : ℕ) → IsValidView v → at ≤ v.front → v.front < v.end → is_empty_reply (try_recv_reply v (Some at)) ≡ false
+  not_empty v at valid low some = elim (is_empty_reply (try_recv_reply v (Some at))) as (λ b. is_empty_reply (try_recv_reply v (Some at)) ≡ b → b ≡ false) [
     | true ↦ λ e. (let f = empty_at v at e in absurd (omega (arith, f.kept, f.read, valid.end)))
     | false ↦ λ _. refl
   ] refl
 
-  skip_same : (v : View T) (key : ℕ) (cursor : Option ℕ) → IsValidView v → get v.control.cursors key ≡ cursor → is_empty_reply (try_recv_seen v (skipped_to v.front cursor)) ≡ is_empty_reply (try_recv_seen v cursor)
+  skip_same : (v : View T) (key : ℕ) (cursor : Option ℕ) → IsValidView v → get v.control.cursors key ≡ cursor → is_empty_reply (try_recv_reply v (skipped_to v.front cursor)) ≡ is_empty_reply (try_recv_reply v cursor)
   skip_same v key None valid e = refl
   skip_same v key (Some cursor) valid e = elim (cases_lt cursor v.front) [
     | inl lags ↦ (let some = lagging v valid key cursor e lags in not_empty v (max cursor v.front) valid (omega arith) some ∙ sym (not_empty v cursor valid (omega arith) some))
-    | inr here ↦ (let same : max cursor v.front ≡ cursor = omega arith in ap (λ at. is_empty_reply (try_recv_seen v (Some at))) same)
+    | inr here ↦ (let same : max cursor v.front ≡ cursor = omega arith in ap (λ at. is_empty_reply (try_recv_reply v (Some at))) same)
   ]
 
-  module _ (is_clone : T → T → Type 0) (h : History T) (key : ℕ) (r : Reply T) (memory : found_no_memory r ≡ false) where
-    pub future_waits_empty : Legal is_clone h (call.PollFuture key) r → must_wait r ≡ is_empty_reply (try_recv_reply h (cursor_of h key))
-    future_waits_empty legal = received_waits is_clone (IsOwed h key (cursor_of h key)) (λ answer. reply.PollFuture (Ok (future_reply answer))) (reply.PollFuture (Err alloc_error)) (try_recv_reply h (cursor_of h key)) r future_waits refl memory legal
+  module _ (is_clone : T → T → Type 0) (v : View T) (key : ℕ) (r : Reply T) (memory : found_no_memory r ≡ false) where
+    pub future_waits_empty : Legal is_clone v (call.PollFuture key) r → must_wait r ≡ is_empty_reply (try_recv_reply v (cursor_of v.control key))
+    future_waits_empty legal = received_waits is_clone (IsOwed v key (cursor_of v.control key)) (λ answer. reply.PollFuture (Ok (future_reply answer))) (reply.PollFuture (Err alloc_error)) (try_recv_reply v (cursor_of v.control key)) r future_waits refl memory legal
 
-    pub recv_waits_empty : Legal is_clone h (call.PollRecv key) r → must_wait r ≡ is_empty_reply (try_recv_reply h (cursor_of h key))
-    recv_waits_empty legal = received_waits is_clone (IsOwed h key (cursor_of h key)) (λ answer. reply.PollRecv (Ok (stream_reply answer))) (reply.PollRecv (Err alloc_error)) (try_recv_reply h (cursor_of h key)) r stream_waits refl memory legal
+    pub recv_waits_empty : Legal is_clone v (call.PollRecv key) r → must_wait r ≡ is_empty_reply (try_recv_reply v (cursor_of v.control key))
+    recv_waits_empty legal = received_waits is_clone (IsOwed v key (cursor_of v.control key)) (λ answer. reply.PollRecv (Ok (stream_reply answer))) (reply.PollRecv (Err alloc_error)) (try_recv_reply v (cursor_of v.control key)) r stream_waits refl memory legal
 
-    pub next_waits_empty : IsValid h → Legal is_clone h (call.PollNext key) r → must_wait r ≡ is_empty_reply (try_recv_reply h (cursor_of h key))
+    pub next_waits_empty : IsValidView v → Legal is_clone v (call.PollNext key) r → must_wait r ≡ is_empty_reply (try_recv_reply v (cursor_of v.control key))
     next_waits_empty valid legal =
-        let cursor : Option ℕ = skipped_to (front_number h) (cursor_of h key) in
-        received_waits is_clone (IsOwed h key cursor) (λ answer. reply.PollNext (Ok (next_reply (skipped (front_number h) (cursor_of h key)) answer))) (reply.PollNext (Err alloc_error)) (try_recv_reply h cursor) r (next_waits (skipped (front_number h) (cursor_of h key))) refl memory legal
-        ∙ ap is_empty_reply (try_recv-seen h valid cursor)
-        ∙ skip_same (view_of h) key (cursor_of h key) (valid_view h valid) refl
-        ∙ sym (ap is_empty_reply (try_recv-seen h valid (cursor_of h key)))
+        let cursor : Option ℕ = skipped_to v.front (cursor_of v.control key) in
+        received_waits is_clone (IsOwed v key cursor) (λ answer. reply.PollNext (Ok (next_reply (skipped v.front (cursor_of v.control key)) answer))) (reply.PollNext (Err alloc_error)) (try_recv_reply v cursor) r (next_waits (skipped v.front (cursor_of v.control key))) refl memory legal
+        ∙ skip_same v key (cursor_of v.control key) valid refl

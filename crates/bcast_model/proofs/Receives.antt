@@ -10,10 +10,11 @@ use Rattle.bcast_model.specs.declared.run.Reply.{Reply}
 use Rattle.bcast_model.specs.Listeners.{consume, wait_again}
 use Rattle.bcast_model.specs.Pair.{Pair, same_pair}
 use Rattle.bcast_model.specs.Control.{Control, Cursors, with_cursor}
-use Rattle.bcast_model.specs.Receiving.{receive, listens, skipped_to, found, is_empty_reply, poll_receive}
+use Rattle.bcast_model.specs.Receiving.{receive, listens, skipped_to, found, is_empty_reply, poll_receive, try_recv_reply}
 use Rattle.bcast_model.specs.Next.{found_no_memory}
-use Rattle.bcast_model.specs.View.{View}
-use Rattle.bcast_model.specs.Seen.{sets, is_ready_seen, try_recv_seen, set_unless_refused}
+use Rattle.bcast_model.specs.View.{View, sends_are_ready}
+use Rattle.bcast_model.specs.Effect.{sets}
+use Rattle.bcast_model.specs.Effects.{set_unless_refused}
 use Rattle.bcast_model.specs.Laws.{IsValidView}
 use Rattle.bcast_model.proofs.Cases.{test_is, receive_is}
 use Rattle.bcast_model.proofs.WaitingReceives.{receives_consumed, receives_waiting}
@@ -43,7 +44,7 @@ module _ {T : Type 0} where
   found_none true None e = cc
   found_none false None e = (refl, refl)
 
-  pub empty_at : (v : View T) (cursor : ℕ) → is_empty_reply (try_recv_seen v (Some cursor)) ≡ true → IsEmptyAt v cursor
+  pub empty_at : (v : View T) (cursor : ℕ) → is_empty_reply (try_recv_reply v (Some cursor)) ≡ true → IsEmptyAt v cursor
   empty_at v cursor e = elim (nat_lt cursor v.front) as (λ b. nat_lt cursor v.front ≡ b → is_empty_reply (cond b (Err (unread.Overflowed (v.front - cursor))) (found v.control.closed (slice_get v.queue (cursor - v.front)))) ≡ true → IsEmptyAt v cursor) [
     | true ↦ λ t e. cc
     | false ↦ λ t e. (let f = found_none v.control.closed (slice_get v.queue (cursor - v.front)) e in record { kept = grind (arith, common_steps, t); read = past_end v.queue (cursor - v.front) f.0; is_open = f.1 })
@@ -68,8 +69,8 @@ module _ {T : Type 0} where
 
     -- who found nothing stays, and waits; anyone else waits no more
     poll_from : (pair : Pair) (cursor start : ℕ) → get v.control.cursors pair.0 ≡ Some cursor → cursor ≤ start → (v.end ≤ start → cursor ≡ v.end)
-        → IsKept v (poll_receive v.front v.end v.control pair (Some start) (try_recv_seen v (Some start)))
-    poll_from pair cursor start e after all_read = elim (is_empty_reply (try_recv_seen v (Some start))) as (λ b. is_empty_reply (try_recv_seen v (Some start)) ≡ b → IsKept v (listens (receive v.front v.end v.control pair.0 (Some start)) pair b)) [
+        → IsKept v (poll_receive v.front v.end v.control pair (Some start) (try_recv_reply v (Some start)))
+    poll_from pair cursor start e after all_read = elim (is_empty_reply (try_recv_reply v (Some start))) as (λ b. is_empty_reply (try_recv_reply v (Some start)) ≡ b → IsKept v (listens (receive v.front v.end v.control pair.0 (Some start)) pair b)) [
       | true ↦ λ none.
           let at = empty_at v start none in
           let idle = kept_idle v valid in
@@ -90,13 +91,13 @@ module _ {T : Type 0} where
         let idle = kept_idle v valid in
         kept_receives v v.control (consume same_pair pair v.control.waiting_receives) (receives_consumed v.control.cursors v.control.closed v.end v.control.waiting_receives pair idle.sound.receives) idle
 
-    pub kept_poll : (pair : Pair) (cursor : Option ℕ) → get v.control.cursors pair.0 ≡ cursor → IsKept v (poll_receive v.front v.end v.control pair cursor (try_recv_seen v cursor))
+    pub kept_poll : (pair : Pair) (cursor : Option ℕ) → get v.control.cursors pair.0 ≡ cursor → IsKept v (poll_receive v.front v.end v.control pair cursor (try_recv_reply v cursor))
     kept_poll pair None e = poll_gone pair
     kept_poll pair (Some cursor) e = let r = valid.reach pair.0 cursor e in poll_from pair cursor cursor e (omega arith) (λ past. omega arith)
 
     -- the stream skips what was dropped, and finds a message then
     pub kept_poll_next : (pair : Pair) (cursor : Option ℕ) → get v.control.cursors pair.0 ≡ cursor
-        → IsKept v (poll_receive v.front v.end v.control pair (skipped_to v.front cursor) (try_recv_seen v (skipped_to v.front cursor)))
+        → IsKept v (poll_receive v.front v.end v.control pair (skipped_to v.front cursor) (try_recv_reply v (skipped_to v.front cursor)))
     kept_poll_next pair None e = poll_gone pair
     kept_poll_next pair (Some cursor) e =
         let r = valid.reach pair.0 cursor e in
@@ -105,5 +106,5 @@ module _ {T : Type 0} where
           | inr here ↦ omega arith
         ])
 
-    pub keeps_unless : (r : Reply T) (c : Control) → IsKept v c → KeepsValid v (set_unless_refused r v c) (not (is_ready_seen v))
-    keeps_unless r c idle = test_is (λ e. KeepsValid v e (not (is_ready_seen v))) (found_no_memory r) (sets v.control) (sets c) (λ _. keeps_sets v valid v.control (kept_idle v valid)) (λ _. keeps_sets v valid c idle)
+    pub keeps_unless : (r : Reply T) (c : Control) → IsKept v c → KeepsValid v (set_unless_refused r v c) (not (sends_are_ready v))
+    keeps_unless r c idle = test_is (λ e. KeepsValid v e (not (sends_are_ready v))) (found_no_memory r) (sets v.control) (sets c) (λ _. keeps_sets v valid v.control (kept_idle v valid)) (λ _. keeps_sets v valid c idle)

@@ -1,5 +1,5 @@
 -- What sends keep.
-use Rattle.std.proofs.Common.{◌≡◌, ◌≢◌, ◌⊎◌, inl, inr, ℕ, ◌+◌, ◌-◌, ◌^◌, ◌<◌, ◌≤◌, ◌&&◌, Bool, true, false, cond, not, [], ◌∷◌, ◌++◌, length, max, drop, Option, Some, None, refl, arith, length-append, length-drop}
+use Rattle.std.proofs.Common.{◌≡◌, ◌≢◌, ◌⊎◌, inl, inr, ℕ, ◌+◌, ◌-◌, ◌^◌, ◌<◌, ◌≤◌, ◌&&◌, true, false, cond, not, [], ◌∷◌, ◌++◌, length, max, drop, Option, Some, None, refl, arith, length-append, length-drop}
 use Rattle.std.proofs.lemmas.Grind.{common_steps}
 use Rattle.std.specs.FinMap.{len, values}
 use Rattle.std.specs.FinSet as set
@@ -8,10 +8,10 @@ use Rattle.bcast_model.specs.Listeners.{consume, abandon, wait_again}
 use Rattle.bcast_model.specs.Pair.{same_place}
 use Rattle.bcast_model.specs.Control.{Control, has_no_receiver, tell_receivers, close, accepting, has_place, place_dropped, place_waits}
 use Rattle.bcast_model.specs.Handles.{begin_send}
-use Rattle.bcast_model.specs.Sending.{refusal}
+use Rattle.bcast_model.specs.Sending.{refusal, accept, accept_unless, offer, answered, poll_send}
 use Rattle.bcast_model.specs.History.{least}
-use Rattle.bcast_model.specs.View.{View}
-use Rattle.bcast_model.specs.Seen.{sets, is_full_seen, is_ready_seen, refusal_seen, accept_seen, accept_unless_seen, offer_seen, answered, poll_send_seen}
+use Rattle.bcast_model.specs.View.{View, is_full, sends_are_ready}
+use Rattle.bcast_model.specs.Effect.{sets}
 use Rattle.bcast_model.specs.Laws.{IsValidView}
 use Rattle.bcast_model.proofs.Cases.{test_is, close_is, accepting_is}
 use Rattle.bcast_model.proofs.Listeners.{one_abandon}
@@ -61,34 +61,34 @@ module _ {T : Type 0} where
       accepting_is (IsSound v (end + 1)) c end (sound_close v (end + 1) (tell_receivers c) told) (λ _. told)
 
   -- what is not refused finds an open channel
-  open_offer : (c : Control) (full : Bool) (msg : T) → refusal c full msg ≡ None → c.closed ≡ false
-  open_offer c full msg e = elim c.closed as (λ b. cond b (Some (unsent.Closed msg)) (cond (has_no_receiver c) (Some (unsent.Inactive msg)) (cond (full && not c.overflow) (Some (unsent.Full msg)) None)) ≡ None → b ≡ false) [
+  open_offer : (v : View T) (msg : T) → refusal v msg ≡ None → v.control.closed ≡ false
+  open_offer v msg e = elim v.control.closed as (λ b. cond b (Some (unsent.Closed msg)) (cond (has_no_receiver v.control) (Some (unsent.Inactive msg)) (cond (is_full v && not v.control.overflow) (Some (unsent.Full msg)) None)) ≡ None → b ≡ false) [
     | true ↦ λ e. cc
     | false ↦ λ e. refl
   ] e
 
   module _ (v : View T) (valid : IsValidView v) where
-    keeps_accept : (msg : T) → v.control.closed ≡ false → KeepsValid v (accept_seen v msg) (not (is_ready_seen v))
+    keeps_accept : (msg : T) → v.control.closed ≡ false → KeepsValid v (accept v msg) (not (sends_are_ready v))
     keeps_accept msg open_now =
         let idle = kept_idle v valid in
         let below : v.end + 1 < 2 ^ 64 = valid.control.open_end open_now in
         let same = capacity_accepting v.control v.end in
         record {
-          floor = test_is (λ n. (n ≡ 0) ⊎ (n < v.end + 1)) (is_full_seen v) (v.front + 1) 0
+          floor = test_is (λ n. (n ≡ 0) ⊎ (n < v.end + 1)) (is_full v) (v.front + 1) 0
               (λ e. let full : length v.queue ≡ v.control.capacity = grind (arith, common_steps, e) in inr (omega (arith, full, valid.control.capacity, valid.end)))
               (λ _. inl refl);
-          fits = rw same (test_is (λ n. length (drop (max (max v.front n) (least (v.end + 1) (values (accepting v.control v.end).cursors)) - v.front) (v.queue ++ msg ∷ [])) ≤ v.control.capacity) (is_full_seen v) (v.front + 1) 0
+          fits = rw same (test_is (λ n. length (drop (max (max v.front n) (least (v.end + 1) (values (accepting v.control v.end).cursors)) - v.front) (v.queue ++ msg ∷ [])) ≤ v.control.capacity) (is_full v) (v.front + 1) 0
               (λ e. let full : length v.queue ≡ v.control.capacity = grind (arith, common_steps, e) in simp (length-drop, length-append) (omega arith))
               (λ e. let other : length v.queue ≢ v.control.capacity = grind (arith, common_steps, e) in simp (length-drop, length-append) (omega (arith, valid.fits))));
           sound = sound_accepting v v.control v.end below idle.sound;
           attended = attended_accepting v.control v.end below idle.attended;
-          told = λ was _. told_accepting v.control v.end (valid.wake_ups.sends (not_not (is_ready_seen v) was));
+          told = λ was _. told_accepting v.control v.end (valid.wake_ups.sends (not_not (sends_are_ready v) was));
         }
 
-    pub keeps_offer : (msg : T) → KeepsValid v (offer_seen v msg) (not (is_ready_seen v))
-    keeps_offer msg = elim (refusal_seen v msg) as (λ o. refusal_seen v msg ≡ o → KeepsValid v (accept_unless_seen v msg o) (not (is_ready_seen v))) [
+    pub keeps_offer : (msg : T) → KeepsValid v (offer v msg) (not (sends_are_ready v))
+    keeps_offer msg = elim (refusal v msg) as (λ o. refusal v msg ≡ o → KeepsValid v (accept_unless v msg o) (not (sends_are_ready v))) [
       | Some error ↦ λ _. keeps_sets v valid v.control (kept_idle v valid)
-      | None ↦ λ e. keeps_accept msg (open_offer v.control (is_full_seen v) msg e)
+      | None ↦ λ e. keeps_accept msg (open_offer v msg e)
     ] refl
 
     -- ---- pending sends
@@ -104,10 +104,10 @@ module _ {T : Type 0} where
         (one_abandon same_place test_place place v.control.waiting_sends s.in_order) idle
 
     -- a send that is answered waits no more
-    keeps_answered : (place : ℕ) (msg : T) → KeepsValid v (answered (offer_seen v msg) place) true
+    keeps_answered : (place : ℕ) (msg : T) → KeepsValid v (answered (offer v msg) place) true
     keeps_answered place msg =
         let f = keeps_offer msg in
-        let e = offer_seen v msg in
+        let e = offer v msg in
         record {
           floor = f.floor;
           fits = f.fits;
@@ -116,11 +116,11 @@ module _ {T : Type 0} where
           told = λ t. cc;
         }
 
-    pub keeps_poll_send : (place : ℕ) (msg : T) → KeepsValid v (poll_send_seen v place msg) (has_place v.control place && is_ready_seen v)
+    pub keeps_poll_send : (place : ℕ) (msg : T) → KeepsValid v (poll_send v place msg) (has_place v.control place && sends_are_ready v)
     keeps_poll_send place msg =
         let s = (kept_idle v valid).sound.sends in
-        elim (has_place v.control place) as (λ b. has_place v.control place ≡ b → KeepsValid v (cond b (cond (is_ready_seen v) (answered (offer_seen v msg) place) (sets (place_waits v.control place))) (sets v.control)) (b && is_ready_seen v)) [
-          | true ↦ λ h. elim (is_ready_seen v) as (λ b. is_ready_seen v ≡ b → KeepsValid v (cond b (answered (offer_seen v msg) place) (sets (place_waits v.control place))) b) [
+        elim (has_place v.control place) as (λ b. has_place v.control place ≡ b → KeepsValid v (cond b (cond (sends_are_ready v) (answered (offer v msg) place) (sets (place_waits v.control place))) (sets v.control)) (b && sends_are_ready v)) [
+          | true ↦ λ h. elim (sends_are_ready v) as (λ b. sends_are_ready v ≡ b → KeepsValid v (cond b (answered (offer v msg) place) (sets (place_waits v.control place))) b) [
             | true ↦ λ _. keeps_answered place msg
             | false ↦ λ e. keeps_waits v valid (wait_again same_place place v.control.waiting_sends) false (sends_waiting v.control.places place v.control.waiting_sends h s) (λ ready. cc)
           ] refl

@@ -1,16 +1,20 @@
 -- The capacity stays positive.
-use Rattle.std.proofs.Common.{◌≡◌, ℕ, ◌+◌, ◌-◌, ◌≤◌, ◌==◌, ◌&&◌, ◌||◌, not, Bool, true, false, cond, Option, Some, None, nat_lt, refl, ◌∙◌, arith}
+use Rattle.std.proofs.Common.{◌≡◌, ℕ, ◌+◌, ◌-◌, ◌≤◌, ◌==◌, ◌||◌, not, Bool, true, false, cond, Option, Some, None, nat_lt, refl, ◌∙◌, arith}
 use Rattle.bcast_model.specs.declared.error.TrySendError.{TrySendError}
 use Rattle.bcast_model.specs.declared.run.Call.{Call}
 use Rattle.bcast_model.specs.declared.run.Call.TheVariants as call
 use Rattle.bcast_model.specs.declared.run.Reply.{Reply}
 use Rattle.bcast_model.specs.Pair.{Pair, stream_of, future_of}
-use Rattle.bcast_model.specs.Control.{Control, close, closing, close_if_deserted, is_deserted, accepting, has_place, last_end, tell_receivers, tell_a_sender, with_cursor, place_answered, place_waits}
-use Rattle.bcast_model.specs.History.{History, front_number, end_number, is_full, sends_are_ready, cursor_of, with_control}
-use Rattle.bcast_model.specs.Sending.{refusal, accept_unless, offer, poll_send}
+use Rattle.bcast_model.specs.Control.{Control, close, closing, close_if_deserted, is_deserted, accepting, has_place, last_end, tell_receivers, with_cursor, place_waits, cursor_of}
+use Rattle.bcast_model.specs.View.{View, sends_are_ready}
+use Rattle.bcast_model.specs.Effect.{Effect, sets}
+use Rattle.bcast_model.specs.Sending.{refusal, accept_unless, offer, answered, poll_send}
 use Rattle.bcast_model.specs.Receiving.{receive, listens, skipped_to, is_empty_reply, try_recv_reply}
+use Rattle.bcast_model.specs.Effects.{resize, set_unless_refused, effect}
+use Rattle.bcast_model.specs.History.{History, view_of, remember}
+use Rattle.bcast_model.specs.Next.{HasPositiveCapacity, chosen, found_no_memory, may_tell, next}
+use Rattle.bcast_model.proofs.Cases.{test_is, tell_is}
 use Rattle.bcast_model.specs.Handles.{begin_send, new_receiver, activate, clone_receiver, new_sender, clone_inactive, has_next, drop_receiver, deactivate, drop_sender, drop_inactive, without_receiver}
-use Rattle.bcast_model.specs.Next.{HasPositiveCapacity, changed, chosen, found_no_memory, resize, may_tell, next}
 
 -- ---- what leaves it as it is
 capacity-close : (c : Control) → (close c).capacity ≡ c.capacity
@@ -77,62 +81,54 @@ stays_positive old new same positive = omega (arith, same, positive)
 
 module _ {T : Type 0} where
   -- ---- each call
-  capacity-send : (h : History T) (msg : T) (error : Option (TrySendError T)) → (accept_unless h msg error).control.capacity ≡ h.control.capacity
-  capacity-send h msg None = capacity-accepting h.control (end_number h)
-  capacity-send h msg (Some error) = refl
+  capacity-send : (v : View T) (msg : T) (error : Option (TrySendError T)) → (accept_unless v msg error).control.capacity ≡ v.control.capacity
+  capacity-send v msg None = capacity-accepting v.control v.end
+  capacity-send v msg (Some error) = refl
 
-  capacity-poll_send : (h : History T) (place : ℕ) (msg : T) → (poll_send h place msg).control.capacity ≡ h.control.capacity
-  capacity-poll_send h place msg =
-      elim (has_place h.control place) as (λ b. (cond b (cond (sends_are_ready h) (with_control (offer h msg) (place_answered (offer h msg).control place)) (with_control h (place_waits h.control place))) h).control.capacity ≡ h.control.capacity) [
-        | true ↦ elim (sends_are_ready h) as (λ b. (cond b (with_control (offer h msg) (place_answered (offer h msg).control place)) (with_control h (place_waits h.control place))).control.capacity ≡ h.control.capacity) [
-          | true ↦ capacity-send h msg (refusal h.control (is_full h) msg)
-          | false ↦ refl
-        ]
-        | false ↦ refl
-      ]
+  capacity-poll_send : (v : View T) (place : ℕ) (msg : T) → (poll_send v place msg).control.capacity ≡ v.control.capacity
+  capacity-poll_send v place msg =
+      test_is (λ (e : Effect T). e.control.capacity ≡ v.control.capacity) (has_place v.control place) (cond (sends_are_ready v) (answered (offer v msg) place) (sets (place_waits v.control place))) (sets v.control)
+      (λ _. test_is (λ (e : Effect T). e.control.capacity ≡ v.control.capacity) (sends_are_ready v) (answered (offer v msg) place) (sets (place_waits v.control place)) (λ _. capacity-send v msg (refusal v msg)) (λ _. refl))
+      (λ _. refl)
 
-  capacity-unless : (h : History T) (control : Control) (b : Bool) → control.capacity ≡ h.control.capacity → (cond b h (with_control h control)).control.capacity ≡ h.control.capacity
-  capacity-unless h control true same = refl
-  capacity-unless h control false same = same
+  capacity-unless : (v : View T) (control : Control) (b : Bool) → control.capacity ≡ v.control.capacity → (cond b (sets {T = T} v.control) (sets control)).control.capacity ≡ v.control.capacity
+  capacity-unless v control true same = refl
+  capacity-unless v control false same = same
 
-  capacity-poll : (h : History T) (r : Reply T) (pair : Pair) (cursor : Option ℕ) (waits : Bool)
-      → (cond (found_no_memory r) h (with_control h (listens (receive (front_number h) (end_number h) h.control pair.0 cursor) pair waits))).control.capacity ≡ h.control.capacity
-  capacity-poll h r pair cursor waits =
-      let after = receive (front_number h) (end_number h) h.control pair.0 cursor in
-      capacity-unless h (listens after pair waits) (found_no_memory r) (capacity-listens after pair waits ∙ capacity-receive (front_number h) (end_number h) h.control pair.0 cursor)
+  capacity-poll : (v : View T) (r : Reply T) (pair : Pair) (cursor : Option ℕ) (waits : Bool)
+      → (set_unless_refused r v (listens (receive v.front v.end v.control pair.0 cursor) pair waits)).control.capacity ≡ v.control.capacity
+  capacity-poll v r pair cursor waits =
+      let after = receive v.front v.end v.control pair.0 cursor in
+      capacity-unless v (listens after pair waits) (found_no_memory r) (capacity-listens after pair waits ∙ capacity-receive v.front v.end v.control pair.0 cursor)
 
-  capacity-changed : (h : History T) (c : Call T) (r : Reply T) → HasPositiveCapacity c → 1 ≤ h.control.capacity → 1 ≤ (changed h c r).control.capacity
-  capacity-changed h (call.TryBroadcast msg) r allowed positive = stays_positive _ _ (capacity-send h msg (refusal h.control (is_full h) msg)) positive
-  capacity-changed h (call.AttemptSend msg) r allowed positive = stays_positive _ _ (capacity-send h msg (refusal h.control (is_full h) msg)) positive
-  capacity-changed h call.BeginSend r allowed positive = stays_positive _ _ (capacity-begin_send h.control (chosen r)) positive
-  capacity-changed h (call.PollSend place msg) r allowed positive = stays_positive _ _ (capacity-poll_send h place msg) positive
-  capacity-changed h (call.TryRecv key) r allowed positive =
-      stays_positive _ _ (capacity-unless h _ (found_no_memory r) (capacity-receive (front_number h) (end_number h) h.control key (cursor_of h key))) positive
-  capacity-changed h (call.PollFuture key) r allowed positive =
-      stays_positive _ _ (capacity-poll h r (future_of key) (cursor_of h key) (is_empty_reply (try_recv_reply h (cursor_of h key)))) positive
-  capacity-changed h (call.PollRecv key) r allowed positive =
-      stays_positive _ _ (capacity-poll h r (stream_of key) (cursor_of h key) (is_empty_reply (try_recv_reply h (cursor_of h key)))) positive
-  capacity-changed h (call.PollNext key) r allowed positive =
-      let cursor = skipped_to (front_number h) (cursor_of h key) in
-      stays_positive _ _ (capacity-poll h r (stream_of key) cursor (is_empty_reply (try_recv_reply h cursor))) positive
-  capacity-changed h call.Close r allowed positive = stays_positive _ _ (capacity-close h.control) positive
-  capacity-changed h (call.SetCapacity n) r allowed positive =
-      elim (found_no_memory r) as (λ b. 1 ≤ (cond b h (resize h n)).control.capacity) [ true ↦ positive | false ↦ allowed ]
-  capacity-changed h call.NewSender r allowed positive = stays_positive _ _ (capacity-new_sender h.control) positive
-  capacity-changed h call.CloneInactive r allowed positive = stays_positive _ _ (capacity-clone_inactive h.control) positive
-  capacity-changed h (call.Deactivate key) r allowed positive = stays_positive _ _ (capacity-deactivate h.control key (cursor_of h key)) positive
-  capacity-changed h call.NewReceiver r allowed positive = stays_positive _ _ (capacity-new_receiver h.control (end_number h) (chosen r)) positive
-  capacity-changed h call.Activate r allowed positive = stays_positive _ _ (capacity-activate h.control (end_number h) (chosen r)) positive
-  capacity-changed h call.ActivateCloned r allowed positive = stays_positive _ _ (capacity-new_receiver h.control (end_number h) (chosen r)) positive
-  capacity-changed h (call.CloneReceiver key) r allowed positive = stays_positive _ _ (capacity-clone_receiver h.control (cursor_of h key) (chosen r)) positive
-  capacity-changed h call.DropSender r allowed positive = stays_positive _ _ (capacity-drop_sender h.control) positive
-  capacity-changed h call.DropInactive r allowed positive = stays_positive _ _ (capacity-drop_inactive h.control) positive
-  capacity-changed h (call.DropReceiver key) r allowed positive = stays_positive _ _ (capacity-drop_receiver h.control key (cursor_of h key)) positive
-  capacity-changed h c r allowed positive = positive
+  capacity-effect : (v : View T) (c : Call T) (r : Reply T) → HasPositiveCapacity c → 1 ≤ v.control.capacity → 1 ≤ (effect v c r).control.capacity
+  capacity-effect v (call.TryBroadcast msg) r allowed positive = stays_positive _ _ (capacity-send v msg (refusal v msg)) positive
+  capacity-effect v (call.AttemptSend msg) r allowed positive = stays_positive _ _ (capacity-send v msg (refusal v msg)) positive
+  capacity-effect v call.BeginSend r allowed positive = stays_positive _ _ (capacity-begin_send v.control (chosen r)) positive
+  capacity-effect v (call.PollSend place msg) r allowed positive = stays_positive _ _ (capacity-poll_send v place msg) positive
+  capacity-effect v (call.TryRecv key) r allowed positive =
+      stays_positive _ _ (capacity-unless v _ (found_no_memory r) (capacity-receive v.front v.end v.control key (cursor_of v.control key))) positive
+  capacity-effect v (call.PollFuture key) r allowed positive =
+      stays_positive _ _ (capacity-poll v r (future_of key) (cursor_of v.control key) (is_empty_reply (try_recv_reply v (cursor_of v.control key)))) positive
+  capacity-effect v (call.PollRecv key) r allowed positive =
+      stays_positive _ _ (capacity-poll v r (stream_of key) (cursor_of v.control key) (is_empty_reply (try_recv_reply v (cursor_of v.control key)))) positive
+  capacity-effect v (call.PollNext key) r allowed positive =
+      let cursor = skipped_to v.front (cursor_of v.control key) in
+      stays_positive _ _ (capacity-poll v r (stream_of key) cursor (is_empty_reply (try_recv_reply v cursor))) positive
+  capacity-effect v call.Close r allowed positive = stays_positive _ _ (capacity-close v.control) positive
+  capacity-effect v (call.SetCapacity n) r allowed positive =
+      elim (found_no_memory r) as (λ b. 1 ≤ (cond b (sets v.control) (resize v n)).control.capacity) [ true ↦ positive | false ↦ allowed ]
+  capacity-effect v call.NewSender r allowed positive = stays_positive _ _ (capacity-new_sender v.control) positive
+  capacity-effect v call.CloneInactive r allowed positive = stays_positive _ _ (capacity-clone_inactive v.control) positive
+  capacity-effect v (call.Deactivate key) r allowed positive = stays_positive _ _ (capacity-deactivate v.control key (cursor_of v.control key)) positive
+  capacity-effect v call.NewReceiver r allowed positive = stays_positive _ _ (capacity-new_receiver v.control v.end (chosen r)) positive
+  capacity-effect v call.Activate r allowed positive = stays_positive _ _ (capacity-activate v.control v.end (chosen r)) positive
+  capacity-effect v call.ActivateCloned r allowed positive = stays_positive _ _ (capacity-new_receiver v.control v.end (chosen r)) positive
+  capacity-effect v (call.CloneReceiver key) r allowed positive = stays_positive _ _ (capacity-clone_receiver v.control (cursor_of v.control key) (chosen r)) positive
+  capacity-effect v call.DropSender r allowed positive = stays_positive _ _ (capacity-drop_sender v.control) positive
+  capacity-effect v call.DropInactive r allowed positive = stays_positive _ _ (capacity-drop_inactive v.control) positive
+  capacity-effect v (call.DropReceiver key) r allowed positive = stays_positive _ _ (capacity-drop_receiver v.control key (cursor_of v.control key)) positive
+  capacity-effect v c r allowed positive = positive
 
   pub capacity-next : (h : History T) (c : Call T) (r : Reply T) → HasPositiveCapacity c → 1 ≤ h.control.capacity → 1 ≤ (next h c r).control.capacity
-  capacity-next h c r allowed positive =
-      elim (may_tell h.control (sends_are_ready h) c && sends_are_ready (changed h c r)) as (λ b. 1 ≤ (cond b (with_control (changed h c r) (tell_a_sender (changed h c r).control)) (changed h c r)).control.capacity) [
-        | true ↦ capacity-changed h c r allowed positive
-        | false ↦ capacity-changed h c r allowed positive
-      ]
+  capacity-next h c r allowed positive = tell_is (λ (now : History T). 1 ≤ now.control.capacity) (may_tell h.control (sends_are_ready (view_of h)) c) (remember h (effect (view_of h) c r)) (λ _. capacity-effect (view_of h) c r allowed positive) (λ _. capacity-effect (view_of h) c r allowed positive)

@@ -1,59 +1,54 @@
 -- Which messages each call drops: those from the front up to the floor after it.
-use Rattle.std.proofs.Common.{◌≡◌, ℕ, ◌-◌, ◌<◌, ◌&&◌, max, Bool, true, false, cond, List, [], length, nat_lt, refl, ap, arith}
+use Rattle.std.proofs.Common.{◌≡◌, ℕ, ◌-◌, ◌<◌, max, Bool, true, false, cond, List, [], length, nat_lt, refl, ap, arith}
 use Rattle.std.proofs.lemmas.Grind.{common_steps}
 use Rattle.std.specs.List.{range_with_len}
 use Rattle.bcast_model.specs.declared.run.Call.{Call}
 use Rattle.bcast_model.specs.declared.run.Call.TheVariants as call
 use Rattle.bcast_model.specs.declared.run.Reply.{Reply}
-use Rattle.bcast_model.specs.Control.{Control, tell_a_sender}
-use Rattle.bcast_model.specs.History.{History, front_number, end_number, queue_of, is_full, sends_are_ready, with_control}
+use Rattle.bcast_model.specs.Control.{Control}
+use Rattle.bcast_model.specs.Effect.{Effect, sets}
 use Rattle.bcast_model.specs.Sending.{refusal, handed_back}
 use Rattle.bcast_model.specs.Legal.{Legal}
-use Rattle.bcast_model.specs.Next.{changed, found_no_memory, resize, may_tell, next}
+use Rattle.bcast_model.specs.Effects.{resize, effect}
+use Rattle.bcast_model.specs.History.{History, view_of, front_number, end_number, queue_of}
+use Rattle.bcast_model.specs.Replies.{found_no_memory}
 use Rattle.bcast_model.specs.Tiling.{dropped_by}
 use Rattle.bcast_model.proofs.TilingFront.{IsBounded, length-queue}
-use Rattle.bcast_model.proofs.TilingSends.{FloorChange, stays, passes, recontrol, hands_back-sent, hands_back-attempted, floor-send, floor-poll_send}
+use Rattle.bcast_model.proofs.TilingSends.{FloorChange, stays, passes, hands_back-sent, hands_back-attempted, floor-send, floor-poll_send}
 
 module _ {T : Type 0} where
   -- ---- a smaller capacity
-  floor-resize : (h : History T) (n : ℕ) → IsBounded h → FloorChange h (resize h n) (range_with_len (front_number h) (length (queue_of h) - n))
+  floor-resize : (h : History T) (n : ℕ) → IsBounded h → FloorChange h (resize (view_of h) n) (range_with_len (front_number h) (length (queue_of h) - n))
   floor-resize h n bounded =
       let size = length-queue h bounded in
       elim (nat_lt n (length (queue_of h))) as (λ b. nat_lt n (length (queue_of h)) ≡ b → FloorChange h
-      (record h { floor = cond b (end_number h - n) h.floor; control = record h.control { capacity = n; room = max h.control.room n } }) (range_with_len (front_number h) (length (queue_of h) - n))) [
+      (record { control = record h.control { capacity = n; room = max h.control.room n }; accepted = []; floor = cond b (end_number h - n) 0 }) (range_with_len (front_number h) (length (queue_of h) - n))) [
         | true ↦ λ t.
             let fewer : n < length (queue_of h) = grind (arith, common_steps, t) in
-            passes (length (queue_of h) - n) refl (omega (arith, size, fewer)) (omega arith) refl
+            passes (length (queue_of h) - n) refl (omega (arith, size, fewer)) (omega (arith, size)) refl
         | false ↦ λ t.
             let none : length (queue_of h) - n ≡ 0 = grind (arith, common_steps, t) in
             stays refl (ap (range_with_len (front_number h)) none)
       ] refl
 
-  floor-unless : (h now : History T) (b : Bool) (dropped : List ℕ) → FloorChange h now dropped → FloorChange h (cond b h now) (cond b [] dropped)
-  floor-unless h now true dropped change = stays refl refl
-  floor-unless h now false dropped change = change
+  floor-unless : (h : History T) (e : Effect T) (b : Bool) (dropped : List ℕ) → FloorChange h e dropped → FloorChange h (cond b (sets h.control) e) (cond b [] dropped)
+  floor-unless h e true dropped change = stays refl refl
+  floor-unless h e false dropped change = change
 
-  floor-receive : (h : History T) (b : Bool) (control : Control) → FloorChange h (cond b h (with_control h control)) []
+  floor-receive : (h : History T) (b : Bool) (control : Control) → FloorChange h (cond b (sets h.control) (sets control)) []
   floor-receive h true control = stays refl refl
   floor-receive h false control = stays refl refl
 
   -- ---- each call
-  floor-changed : (is_clone : T → T → Type 0) (h : History T) (c : Call T) (r : Reply T) → IsBounded h → Legal is_clone h c r → FloorChange h (changed h c r) (dropped_by h c r)
-  floor-changed is_clone h (call.TryBroadcast msg) r bounded legal =
-      rw (legal, hands_back-sent (handed_back h) (refusal h.control (is_full h) msg)) (floor-send h msg (refusal h.control (is_full h) msg) bounded)
-  floor-changed is_clone h (call.AttemptSend msg) r bounded legal =
-      rw (legal, hands_back-attempted h.control.await_active (handed_back h) (refusal h.control (is_full h) msg)) (floor-send h msg (refusal h.control (is_full h) msg) bounded)
-  floor-changed is_clone h (call.PollSend place msg) r bounded legal = floor-poll_send h place msg r bounded legal
-  floor-changed is_clone h (call.SetCapacity n) r bounded legal = floor-unless h (resize h n) (found_no_memory r) (range_with_len (front_number h) (length (queue_of h) - n)) (floor-resize h n bounded)
-  floor-changed is_clone h (call.TryRecv key) r bounded legal = floor-receive h (found_no_memory r) _
-  floor-changed is_clone h (call.PollFuture key) r bounded legal = floor-receive h (found_no_memory r) _
-  floor-changed is_clone h (call.PollRecv key) r bounded legal = floor-receive h (found_no_memory r) _
-  floor-changed is_clone h (call.PollNext key) r bounded legal = floor-receive h (found_no_memory r) _
-  floor-changed is_clone h c r bounded legal = stays refl refl
-
-  pub floor-next : (is_clone : T → T → Type 0) (h : History T) (c : Call T) (r : Reply T) → IsBounded h → Legal is_clone h c r → FloorChange h (next h c r) (dropped_by h c r)
-  floor-next is_clone h c r bounded legal =
-      elim (may_tell h.control (sends_are_ready h) c && sends_are_ready (changed h c r)) as (λ b. FloorChange h (cond b (with_control (changed h c r) (tell_a_sender (changed h c r).control)) (changed h c r)) (dropped_by h c r)) [
-        | true ↦ recontrol h (changed h c r) (dropped_by h c r) (tell_a_sender (changed h c r).control) refl (floor-changed is_clone h c r bounded legal)
-        | false ↦ floor-changed is_clone h c r bounded legal
-      ]
+  pub floor-effect : (is_clone : T → T → Type 0) (h : History T) (c : Call T) (r : Reply T) → IsBounded h → Legal is_clone (view_of h) c r → FloorChange h (effect (view_of h) c r) (dropped_by h c r)
+  floor-effect is_clone h (call.TryBroadcast msg) r bounded legal =
+      rw (legal, hands_back-sent (handed_back (view_of h)) (refusal (view_of h) msg)) (floor-send h msg (refusal (view_of h) msg) bounded)
+  floor-effect is_clone h (call.AttemptSend msg) r bounded legal =
+      rw (legal, hands_back-attempted h.control.await_active (handed_back (view_of h)) (refusal (view_of h) msg)) (floor-send h msg (refusal (view_of h) msg) bounded)
+  floor-effect is_clone h (call.PollSend place msg) r bounded legal = floor-poll_send h place msg r bounded legal
+  floor-effect is_clone h (call.SetCapacity n) r bounded legal = floor-unless h (resize (view_of h) n) (found_no_memory r) (range_with_len (front_number h) (length (queue_of h) - n)) (floor-resize h n bounded)
+  floor-effect is_clone h (call.TryRecv key) r bounded legal = floor-receive h (found_no_memory r) _
+  floor-effect is_clone h (call.PollFuture key) r bounded legal = floor-receive h (found_no_memory r) _
+  floor-effect is_clone h (call.PollRecv key) r bounded legal = floor-receive h (found_no_memory r) _
+  floor-effect is_clone h (call.PollNext key) r bounded legal = floor-receive h (found_no_memory r) _
+  floor-effect is_clone h c r bounded legal = stays refl refl

@@ -6,7 +6,8 @@ use Rattle.std.specs.List.{AllByRecursion, Contains}
 use Rattle.std.specs.List.Sorted.{IsStrictlyIncreasing}
 use Rattle.bcast_model.specs.declared.run.Call.{Call}
 use Rattle.bcast_model.specs.declared.run.Reply.{Reply}
-use Rattle.bcast_model.specs.History.{History, cursor_of}
+use Rattle.bcast_model.specs.History.{History, view_of}
+use Rattle.bcast_model.specs.Control.{cursor_of}
 use Rattle.bcast_model.specs.Legal.{Legal}
 use Rattle.bcast_model.specs.Next.{HasPositiveCapacity, next}
 use Rattle.bcast_model.specs.Valid.{IsValid}
@@ -25,7 +26,7 @@ module _ {T : Type 0} (is_clone : T → T → Type 0) where
   dropped_rise h calls replies valid allowed run = increasing h.floor (end_of_run h calls replies).floor (dropped_in h calls replies) (rising_run is_clone h calls replies (bounded_valid h valid) allowed run).1
 
   pub tells_dropped : (h : History T) (calls : List (Call T)) (replies : List (Reply T)) (key cursor : ℕ) (c : Call T) (r : Reply T) → IsValid h → AllByRecursion HasPositiveCapacity calls → IsRun is_clone h calls replies
-      → cursor_of (end_of_run h calls replies) key ≡ Some cursor → Legal is_clone (end_of_run h calls replies) c r → TellsDropped h calls replies key cursor c r
+      → cursor_of (end_of_run h calls replies).control key ≡ Some cursor → Legal is_clone (view_of (end_of_run h calls replies)) c r → TellsDropped h calls replies key cursor c r
   tells_dropped h calls replies key cursor c r valid allowed run is legal =
       let bounded = bounded_valid h valid in
       let now = end_of_run h calls replies in
@@ -40,13 +41,13 @@ module _ {T : Type 0} (is_clone : T → T → Type 0) where
 
   -- ---- all deliveries
   told_gone : (Gone : ℕ → Type 0) (h : History T) (key cursor index : ℕ) (calls : List (Call T)) (replies : List (Reply T)) → IsBounded h → AllByRecursion HasPositiveCapacity calls → IsRun is_clone h calls replies → AreGone is_clone Gone h
-      → cursor_of h key ≡ Some cursor → slice_get (deliveries_of key h calls replies) index ≡ Some None → Gone (cursor + index) ⊎ Contains (dropped_in h calls replies) (cursor + index)
+      → cursor_of h.control key ≡ Some cursor → slice_get (deliveries_of key h calls replies) index ≡ Some None → Gone (cursor + index) ⊎ Contains (dropped_in h calls replies) (cursor + index)
   told_gone Gone h key cursor index [] replies bounded allowed run gone is e = absurd (none-some None e)
   told_gone Gone h key cursor index (c ∷ calls) [] bounded allowed run gone is e = absurd (none-some None e)
   told_gone Gone h key cursor index (c ∷ calls) (r ∷ replies) bounded allowed run gone is e =
-      let gives = gives_call is_clone h key cursor c r (bounded.cursors key cursor is).0 is run.0 in
+      let gives = gives_call is_clone h key cursor c r bounded.floor_low is run.0 in
       elim gives.cursor_after [
-        | inl after ↦ (let stands : is_some (cursor_of (next h c r) key) ≡ true = ap is_some after in
+        | inl after ↦ (let stands : is_some (cursor_of (next h c r).control key) ≡ true = ap is_some after in
             let entry : slice_get (given_to key c r ++ deliveries_of key (next h c r) calls replies) index ≡ Some None = rw stands at e in
             elim (in_parts (given_to key c r) (deliveries_of key (next h c r) calls replies) index None entry) [
               | inl now ↦ inl (missed_gone is_clone Gone h key cursor index c r bounded gone is run.0 now)
@@ -55,17 +56,17 @@ module _ {T : Type 0} (is_clone : T → T → Type 0) where
                   (told_gone (λ n. Gone n ⊎ Contains (dropped_by h c r) n) (next h c r) key (cursor + length (given_to key c r)) (index - length (given_to key c r)) calls replies
                   (bounded-next is_clone h c r allowed.0 bounded run.0) allowed.1 run.1 (gone_next is_clone Gone h c r bounded run.0 gone) after later.1)))
             ])
-        | inr after ↦ (let left : is_some (cursor_of (next h c r) key) ≡ false = ap is_some after.0 in absurd (none-some None (rw (left, after.1) at e)))
+        | inr after ↦ (let left : is_some (cursor_of (next h c r).control key) ≡ false = ap is_some after.0 in absurd (none-some None (rw (left, after.1) at e)))
       ]
 
   given_above : (h : History T) (key cursor index : ℕ) (msg : T) (calls : List (Call T)) (replies : List (Reply T)) → IsBounded h → AllByRecursion HasPositiveCapacity calls → IsRun is_clone h calls replies
-      → cursor_of h key ≡ Some cursor → slice_get (deliveries_of key h calls replies) index ≡ Some (Some msg) → h.floor ≤ cursor + index
+      → cursor_of h.control key ≡ Some cursor → slice_get (deliveries_of key h calls replies) index ≡ Some (Some msg) → h.floor ≤ cursor + index
   given_above h key cursor index msg [] replies bounded allowed run is e = absurd (none-some (Some msg) e)
   given_above h key cursor index msg (c ∷ calls) [] bounded allowed run is e = absurd (none-some (Some msg) e)
   given_above h key cursor index msg (c ∷ calls) (r ∷ replies) bounded allowed run is e =
-      let gives = gives_call is_clone h key cursor c r (bounded.cursors key cursor is).0 is run.0 in
+      let gives = gives_call is_clone h key cursor c r bounded.floor_low is run.0 in
       elim gives.cursor_after [
-        | inl after ↦ (let stands : is_some (cursor_of (next h c r) key) ≡ true = ap is_some after in
+        | inl after ↦ (let stands : is_some (cursor_of (next h c r).control key) ≡ true = ap is_some after in
             let entry : slice_get (given_to key c r ++ deliveries_of key (next h c r) calls replies) index ≡ Some (Some msg) = rw stands at e in
             elim (in_parts (given_to key c r) (deliveries_of key (next h c r) calls replies) index (Some msg) entry) [
               | inl now ↦ given_kept is_clone h key cursor index msg c r bounded is run.0 now
@@ -73,12 +74,12 @@ module _ {T : Type 0} (is_clone : T → T → Type 0) where
                   let rises = (drops_next is_clone h c r bounded run.0).rises in
                   omega (arith, rest, rises, later.0))
             ])
-        | inr after ↦ (let left : is_some (cursor_of (next h c r) key) ≡ false = ap is_some after.0 in absurd (none-some (Some msg) (rw (left, after.1) at e)))
+        | inr after ↦ (let left : is_some (cursor_of (next h c r).control key) ≡ false = ap is_some after.0 in absurd (none-some (Some msg) (rw (left, after.1) at e)))
       ]
 
   pub deliveries_tile : (h : History T) (calls : List (Call T)) (replies : List (Reply T)) (key start : ℕ) (later : List (Call T)) (later_replies : List (Reply T)) → IsValid h
       → AllByRecursion HasPositiveCapacity calls → IsRun is_clone h calls replies → AllByRecursion HasPositiveCapacity later → IsRun is_clone (end_of_run h calls replies) later later_replies
-      → cursor_of (end_of_run h calls replies) key ≡ Some start → Tiles h calls replies key start later later_replies
+      → cursor_of (end_of_run h calls replies).control key ≡ Some start → Tiles h calls replies key start later later_replies
   deliveries_tile h calls replies key start later later_replies valid allowed run allowed_later run_later is =
       let bounded = bounded_valid h valid in
       let now = end_of_run h calls replies in

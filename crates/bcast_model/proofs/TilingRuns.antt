@@ -6,14 +6,16 @@ use Rattle.std.specs.List.{AllByRecursion, Contains}
 use Rattle.std.specs.FinMap.{get}
 use Rattle.bcast_model.specs.declared.run.Call.{Call}
 use Rattle.bcast_model.specs.declared.run.Reply.{Reply}
-use Rattle.bcast_model.specs.History.{History, cursor_of}
+use Rattle.bcast_model.specs.History.{History, view_of}
+use Rattle.bcast_model.specs.Control.{cursor_of}
 use Rattle.bcast_model.specs.Legal.{Legal}
 use Rattle.bcast_model.specs.Next.{HasPositiveCapacity, next}
 use Rattle.bcast_model.specs.Run.{IsRun, end_of_run}
 use Rattle.bcast_model.specs.Deliveries.{given_to}
 use Rattle.bcast_model.specs.Tiling.{dropped_by, dropped_in, WasDropped}
+use Rattle.bcast_model.proofs.Views.{floor_under}
 use Rattle.bcast_model.proofs.DeliverySteps.{gives_call}
-use Rattle.bcast_model.proofs.TilingFront.{IsBounded, front-le-cursor, floor-le-front}
+use Rattle.bcast_model.proofs.TilingFront.{IsBounded, front-le-cursor}
 use Rattle.bcast_model.proofs.TilingNumbers.{IsRising, rising_append, within_rising}
 use Rattle.bcast_model.proofs.TilingSteps.{drops_next, stood_before, bounded-next}
 
@@ -41,9 +43,9 @@ module _ {T : Type 0} (is_clone : T → T → Type 0) where
 
   -- ---- what a receiver has missed is gone
   pub record AreGone (Gone : ℕ → Type 0) (h : History T) : Type 0 where
-    pub each : (n key cursor : ℕ) → cursor_of h key ≡ Some cursor → cursor ≤ n → n < h.floor → Gone n
+    pub each : (n key cursor : ℕ) → cursor_of h.control key ≡ Some cursor → cursor ≤ n → n < h.floor → Gone n
 
-  pub gone_next : (Gone : ℕ → Type 0) (h : History T) (c : Call T) (r : Reply T) → IsBounded h → Legal is_clone h c r → AreGone Gone h → AreGone (λ n. Gone n ⊎ Contains (dropped_by h c r) n) (next h c r)
+  pub gone_next : (Gone : ℕ → Type 0) (h : History T) (c : Call T) (r : Reply T) → IsBounded h → Legal is_clone (view_of h) c r → AreGone Gone h → AreGone (λ n. Gone n ⊎ Contains (dropped_by h c r) n) (next h c r)
   gone_next Gone h c r bounded legal gone =
       let drops = drops_next is_clone h c r bounded legal in
       let high = bounded.floor_high in
@@ -55,7 +57,7 @@ module _ {T : Type 0} (is_clone : T → T → Type 0) where
                     | inl at ↦ absurd (omega (arith, at, low, under, same, high))
                     | inr s ↦ (let before = s.low in inl (gone.each n s.key s.before s.found (omega (arith, before, low)) (omega (arith, under, same))))
                   ])
-              | inr same ↦ (let stands : cursor_of h key ≡ Some cursor = ap (λ m. get m key) (sym same) ∙ is in
+              | inr same ↦ (let stands : cursor_of h.control key ≡ Some cursor = ap (λ m. get m key) (sym same) ∙ is in
                   let front = front-le-cursor h key cursor stands in
                   elim (cases_lt n h.floor) [
                     | inl below ↦ inl (gone.each n key cursor stands low below)
@@ -83,16 +85,16 @@ module _ {T : Type 0} (is_clone : T → T → Type 0) where
       (within_rising h.floor (end_of_run h calls replies).floor n (dropped_in h calls replies) (rising_run h calls replies bounded allowed run).1 there).1
 
   -- ---- one call
-  pub missed_gone : (Gone : ℕ → Type 0) (h : History T) (key cursor index : ℕ) (c : Call T) (r : Reply T) → IsBounded h → AreGone Gone h → cursor_of h key ≡ Some cursor → Legal is_clone h c r → slice_get (given_to key c r) index ≡ Some None → Gone (cursor + index)
+  pub missed_gone : (Gone : ℕ → Type 0) (h : History T) (key cursor index : ℕ) (c : Call T) (r : Reply T) → IsBounded h → AreGone Gone h → cursor_of h.control key ≡ Some cursor → Legal is_clone (view_of h) c r → slice_get (given_to key c r) index ≡ Some None → Gone (cursor + index)
   missed_gone Gone h key cursor index c r bounded gone is legal e =
-      let gives = gives_call is_clone h key cursor c r (bounded.cursors key cursor is).0 is legal in
+      let gives = gives_call is_clone h key cursor c r bounded.floor_low is legal in
       let missed = gives.missed index e in
       let front = front-le-cursor h key cursor is in
       gone.each (cursor + index) key cursor is (omega arith) (omega (arith, missed, front))
 
-  pub given_kept : (h : History T) (key cursor index : ℕ) (msg : T) (c : Call T) (r : Reply T) → IsBounded h → cursor_of h key ≡ Some cursor → Legal is_clone h c r → slice_get (given_to key c r) index ≡ Some (Some msg) → h.floor ≤ cursor + index
+  pub given_kept : (h : History T) (key cursor index : ℕ) (msg : T) (c : Call T) (r : Reply T) → IsBounded h → cursor_of h.control key ≡ Some cursor → Legal is_clone (view_of h) c r → slice_get (given_to key c r) index ≡ Some (Some msg) → h.floor ≤ cursor + index
   given_kept h key cursor index msg c r bounded is legal e =
-      let gives = gives_call is_clone h key cursor c r (bounded.cursors key cursor is).0 is legal in
+      let gives = gives_call is_clone h key cursor c r bounded.floor_low is legal in
       let kept = gives.kept index msg e in
-      let low = floor-le-front h bounded in
+      let low = floor_under h in
       omega (arith, kept, low)

@@ -1,5 +1,5 @@
 -- Which messages a send drops: those from the front up to the floor after it.
-use Rattle.std.proofs.Common.{◌≡◌, ℕ, ◌+◌, ◌≤◌, ◌&&◌, ◌||◌, not, Bool, true, false, cond, List, [], ◌∷◌, ◌++◌, length, Option, Some, None, nat_lt, refl, ◌∙◌, arith, length-append}
+use Rattle.std.proofs.Common.{◌≡◌, ℕ, ◌+◌, ◌≤◌, ◌&&◌, ◌||◌, not, Bool, true, false, cond, List, [], ◌∷◌, length, Option, Some, None, slice_get, refl, arith}
 use Rattle.std.proofs.lemmas.Grind.{common_steps}
 use Rattle.std.specs.Prelude.{is_some}
 use Rattle.std.specs.List.{range_with_len}
@@ -8,18 +8,20 @@ use Rattle.bcast_model.specs.declared.error.TrySendError.TheVariants as unsent
 use Rattle.bcast_model.specs.declared.run.SendPoll.TheVariants as send
 use Rattle.bcast_model.specs.declared.run.Reply.{Reply}
 use Rattle.bcast_model.specs.declared.run.Reply.TheVariants as reply
-use Rattle.bcast_model.specs.Control.{Control, has_no_receiver, accepting, has_place, place_answered, place_waits}
-use Rattle.bcast_model.specs.History.{History, front_number, end_number, queue_of, is_full, sends_are_ready, numbered, with_control}
-use Rattle.bcast_model.specs.Sending.{refusal, sent, attempted, handed_back, attempt_send_reply, accept_unless, offer, poll_send}
+use Rattle.bcast_model.specs.Control.{has_no_receiver, accepting, has_place, place_waits}
+use Rattle.bcast_model.specs.View.{View, is_full, sends_are_ready}
+use Rattle.bcast_model.specs.Effect.{Effect, sets}
+use Rattle.bcast_model.specs.Sending.{refusal, sent, attempted, handed_back, attempt_send_reply, accept_unless, offer, answered, poll_send}
+use Rattle.bcast_model.specs.History.{History, view_of, front_number, end_number, queue_of}
 use Rattle.bcast_model.specs.Tiling.{hands_back, dropped_by_send}
 use Rattle.bcast_model.proofs.DeliveryMaps.{cursors-accepting}
-use Rattle.bcast_model.proofs.DeliveryAnswers.{numbered_past}
-use Rattle.bcast_model.proofs.TilingFront.{IsBounded, front-le-end, floor-le-front, length-queue}
+use Rattle.bcast_model.proofs.DeliveryLists.{past_end}
+use Rattle.bcast_model.proofs.TilingFront.{IsBounded, front-le-end}
 
--- the floor stays, or passes so many messages from the front on while the receivers stay
-pub data FloorChange {T : Type 0} (h now : History T) (dropped : List ℕ) : Type 0 where
-  stays : now.floor ≡ h.floor → dropped ≡ [] → FloorChange h now dropped
-  passes : (count : ℕ) → now.control.cursors ≡ h.control.cursors → now.floor ≡ front_number h + count → now.floor ≤ end_number now → dropped ≡ range_with_len (front_number h) count → FloorChange h now dropped
+-- an effect drops no message, or so many from the front on while the receivers stay
+pub data FloorChange {T : Type 0} (h : History T) (e : Effect T) (dropped : List ℕ) : Type 0 where
+  stays : e.floor ≡ 0 → dropped ≡ [] → FloorChange h e dropped
+  passes : (count : ℕ) → e.control.cursors ≡ h.control.cursors → e.floor ≡ front_number h + count → front_number h + count ≤ end_number h + length e.accepted → dropped ≡ range_with_len (front_number h) count → FloorChange h e dropped
 
 -- a send that isn't ready would be refused
 unready : {E : Type 0} (closed none full overflow await : Bool) (x y z : E) → (closed || (not none && (overflow || not full)) || (none && not await)) ≡ false
@@ -32,10 +34,6 @@ unready false false false true await x y z ready e = cc
 unready false false false false await x y z ready e = cc
 
 module _ {T : Type 0} where
-  pub recontrol : (h now : History T) (dropped : List ℕ) (control : Control) → control.cursors ≡ now.control.cursors → FloorChange h now dropped → FloorChange h (with_control now control) dropped
-  recontrol h now dropped control same (stays floor none) = stays floor none
-  recontrol h now dropped control same (passes count cursors floor within is) = passes count (same ∙ cursors) floor within is
-
   -- ---- sends
   -- whether an acceptance hands back a message, by the one that it would and the refusal
   pub hands : Option T → Option (TrySendError T) → Bool
@@ -67,50 +65,50 @@ module _ {T : Type 0} where
   hands_back-poll_send await back (Some (unsent.Full msg)) = refl
 
   -- the oldest message of a full channel is there
-  oldest_there : (h : History T) (o : Option T) → IsBounded h → is_full h ≡ true → numbered h (front_number h) ≡ o → is_some o ≡ true
+  oldest_there : (h : History T) (o : Option T) → IsBounded h → is_full (view_of h) ≡ true → slice_get (queue_of h) 0 ≡ o → is_some o ≡ true
   oldest_there h (Some msg) bounded full is = refl
   oldest_there h None bounded full is =
-      let low = floor-le-front h bounded in
-      let first = bounded.floor_low in
-      let past : nat_lt (front_number h) (end_number h) ≡ false = numbered_past h (front_number h) (omega (arith, low, first)) is in
-      let size = length-queue h bounded in
+      let none = past_end (queue_of h) 0 is in
       let positive = bounded.capacity in
-      let at_capacity : length (queue_of h) ≡ h.control.capacity = grind (arith, common_steps, full) in
-      absurd (grind (arith, common_steps, past, size, positive, at_capacity))
+      absurd (grind (arith, common_steps, none, positive, full))
 
-  pub floor-send : (h : History T) (msg : T) (error : Option (TrySendError T)) → IsBounded h → FloorChange h (accept_unless h msg error) (cond (hands (handed_back h) error) (front_number h ∷ []) [])
+  pub floor-send : (h : History T) (msg : T) (error : Option (TrySendError T)) → IsBounded h → FloorChange h (accept_unless (view_of h) msg error) (cond (hands (handed_back (view_of h)) error) (front_number h ∷ []) [])
   unfolding hands
   floor-send h msg (Some error) bounded = stays refl refl
   floor-send h msg None bounded =
-      elim (is_full h) as (λ b. is_full h ≡ b → FloorChange h
-      (record { first = h.first; accepted = h.accepted ++ msg ∷ []; floor = cond b (front_number h + 1) h.floor; control = accepting h.control (end_number h) })
-      (cond (is_some (cond b (numbered h (front_number h)) None)) (front_number h ∷ []) [])) [
+      elim (is_full (view_of h)) as (λ b. is_full (view_of h) ≡ b → FloorChange h
+      (record { control = accepting h.control (end_number h); accepted = msg ∷ []; floor = cond b (front_number h + 1) 0 })
+      (cond (is_some (cond b (slice_get (queue_of h) 0) None)) (front_number h ∷ []) [])) [
         | true ↦ λ full.
-            let there : is_some (numbered h (front_number h)) ≡ true = oldest_there h (numbered h (front_number h)) bounded full refl in
-            let size = length-append h.accepted (msg ∷ []) in
+            let there : is_some (slice_get (queue_of h) 0) ≡ true = oldest_there h (slice_get (queue_of h) 0) bounded full refl in
             let within = front-le-end h bounded in
-            rw there (passes 1 (cursors-accepting h.control (end_number h)) refl (omega (arith, size, within)) refl)
+            rw there (passes 1 (cursors-accepting h.control (end_number h)) refl (omega (arith, within)) refl)
         | false ↦ λ full. stays refl refl
       ] refl
 
-  not_handed : (h : History T) (msg : T) (o : Option (TrySendError T)) → sends_are_ready h ≡ false → refusal h.control (is_full h) msg ≡ o → hands (handed_back h) o ≡ false
+  not_handed : (v : View T) (msg : T) (o : Option (TrySendError T)) → sends_are_ready v ≡ false → refusal v msg ≡ o → hands (handed_back v) o ≡ false
   unfolding hands
-  not_handed h msg None ready is = absurd (unready h.control.closed (has_no_receiver h.control) (is_full h) h.control.overflow h.control.await_active (unsent.Closed msg) (unsent.Inactive msg) (unsent.Full msg) ready is)
-  not_handed h msg (Some error) ready is = refl
+  not_handed v msg None ready is = absurd (unready v.control.closed (has_no_receiver v.control) (is_full v) v.control.overflow v.control.await_active (unsent.Closed msg) (unsent.Inactive msg) (unsent.Full msg) ready is)
+  not_handed v msg (Some error) ready is = refl
 
-  pub floor-poll_send : (h : History T) (place : ℕ) (msg : T) (r : Reply T) → IsBounded h → r ≡ reply.PollSend (cond (has_place h.control place) (attempt_send_reply h msg) (send.Wait msg)) → FloorChange h (poll_send h place msg) (dropped_by_send h r)
+  answered_same : (h : History T) (e : Effect T) (place : ℕ) (dropped : List ℕ) → FloorChange h e dropped → FloorChange h (answered e place) dropped
+  answered_same h e place dropped (stays floor none) = stays floor none
+  answered_same h e place dropped (passes count cursors floor within is) = passes count cursors floor within is
+
+  pub floor-poll_send : (h : History T) (place : ℕ) (msg : T) (r : Reply T) → IsBounded h → r ≡ reply.PollSend (cond (has_place h.control place) (attempt_send_reply (view_of h) msg) (send.Wait msg)) → FloorChange h (poll_send (view_of h) place msg) (dropped_by_send h r)
   floor-poll_send h place msg r bounded legal =
-      let error = refusal h.control (is_full h) msg in
+      let v : View T = view_of h in
+      let error : Option (TrySendError T) = refusal v msg in
       rw legal
       (elim (has_place h.control place) as (λ b. FloorChange h
-      (cond b (cond (sends_are_ready h) (with_control (offer h msg) (place_answered (offer h msg).control place)) (with_control h (place_waits h.control place))) h)
-      (dropped_by_send h (reply.PollSend (cond b (attempt_send_reply h msg) (send.Wait msg))))) [
+      (cond b (cond (sends_are_ready v) (answered (offer v msg) place) (sets (place_waits h.control place))) (sets h.control))
+      (dropped_by_send h (reply.PollSend (cond b (attempt_send_reply v msg) (send.Wait msg))))) [
         | true ↦
-            rw (hands_back-poll_send h.control.await_active (handed_back h) error)
-            (elim (sends_are_ready h) as (λ b. sends_are_ready h ≡ b → FloorChange h
-            (cond b (with_control (offer h msg) (place_answered (offer h msg).control place)) (with_control h (place_waits h.control place))) (cond (hands (handed_back h) error) (front_number h ∷ []) [])) [
-              | true ↦ λ ready. recontrol h (offer h msg) _ (place_answered (offer h msg).control place) refl (floor-send h msg error bounded)
-              | false ↦ λ ready. let none : hands (handed_back h) error ≡ false = not_handed h msg error ready refl in rw none (stays refl refl)
+            rw (hands_back-poll_send h.control.await_active (handed_back v) error)
+            (elim (sends_are_ready v) as (λ b. sends_are_ready v ≡ b → FloorChange h
+            (cond b (answered (offer v msg) place) (sets (place_waits h.control place))) (cond (hands (handed_back v) error) (front_number h ∷ []) [])) [
+              | true ↦ λ ready. answered_same h (offer v msg) place _ (floor-send h msg error bounded)
+              | false ↦ λ ready. let none : hands (handed_back v) error ≡ false = not_handed v msg error ready refl in rw none (stays refl refl)
             ] refl)
         | false ↦ stays refl refl
       ])

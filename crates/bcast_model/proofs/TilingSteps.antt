@@ -1,20 +1,23 @@
 -- What a call drops, and what it leaves bounded.
-use Rattle.std.proofs.Common.{◌≡◌, ◌⊎◌, inl, inr, ℕ, ◌+◌, ◌<◌, ◌≤◌, List, length, Some, sym, ap, ◌∙◌, arith, length-append}
+use Rattle.std.proofs.Common.{◌≡◌, ◌⊎◌, inl, inr, ℕ, ◌+◌, ◌<◌, ◌≤◌, List, Some, sym, ap, ◌∙◌, arith, length-append}
 use Rattle.std.specs.List.{Contains, range_with_len}
 use Rattle.std.specs.FinMap.{get}
 use Rattle.bcast_model.specs.declared.run.Call.{Call}
 use Rattle.bcast_model.specs.declared.run.Reply.{Reply}
-use Rattle.bcast_model.specs.History.{History, front_number, end_number, cursor_of}
+use Rattle.bcast_model.specs.History.{History, view_of, front_number, end_number}
+use Rattle.bcast_model.specs.Control.{cursor_of}
 use Rattle.bcast_model.specs.Legal.{Legal}
-use Rattle.bcast_model.specs.Next.{HasPositiveCapacity, changed, next}
+use Rattle.bcast_model.specs.Effects.{effect}
+use Rattle.bcast_model.specs.Next.{HasPositiveCapacity, next}
 use Rattle.bcast_model.specs.Deliveries.{receives_for}
 use Rattle.bcast_model.specs.Tiling.{dropped_by}
+use Rattle.bcast_model.proofs.Views.{floor_under}
+use Rattle.bcast_model.proofs.Answers.{cursors-next}
 use Rattle.bcast_model.proofs.DeliveryMaps.{came_from}
-use Rattle.bcast_model.proofs.DeliveryCursors.{changes, cursors-next}
-use Rattle.bcast_model.proofs.DeliveryMessages.{Grows, grows_next}
-use Rattle.bcast_model.proofs.TilingFront.{IsBounded, floor-le-front, front-le-end}
+use Rattle.bcast_model.proofs.DeliveryCursors.{changes}
+use Rattle.bcast_model.proofs.TilingFront.{IsBounded, front-le-end}
 use Rattle.bcast_model.proofs.TilingSends.{FloorChange, stays, passes}
-use Rattle.bcast_model.proofs.TilingFloor.{floor-next}
+use Rattle.bcast_model.proofs.TilingFloor.{floor-effect}
 use Rattle.bcast_model.proofs.TilingCapacity.{capacity-next}
 use Rattle.bcast_model.proofs.TilingNumbers.{contains_range, IsRising, rising_range, rising_wider}
 
@@ -27,43 +30,43 @@ module _ {T : Type 0} where
     pub receivers : (now.floor ≡ h.floor) ⊎ (now.control.cursors ≡ h.control.cursors)
     pub within : now.floor ≤ end_number now
 
-  drops_change : (h now : History T) (dropped : List ℕ) → IsBounded h → Grows h now → FloorChange h now dropped → Drops h now dropped
-  drops_change h now dropped bounded grown (stays floor none) =
-      let size = length-append h.accepted grown.more in
-      let longer = ap length grown.accepted in
-      let first = grown.first in
+  drops_change : (h : History T) (c : Call T) (r : Reply T) (dropped : List ℕ) → IsBounded h → FloorChange h (effect (view_of h) c r) dropped → Drops h (next h c r) dropped
+  drops_change h c r dropped bounded (stays floor none) =
+      let size = length-append h.accepted (effect (view_of h) c r).accepted in
       let high = bounded.floor_high in
       record {
-        rises = omega (arith, floor);
+        rises = omega arith;
         rising = rw none tt;
         each = λ n low above from. absurd (omega (arith, floor, low, above));
-        receivers = inl floor;
-        within = omega (arith, floor, size, longer, first, high);
+        receivers = inl (omega (arith, floor));
+        within = omega (arith, floor, size, high);
       }
-  drops_change h now dropped bounded grown (passes count cursors floor within is) =
-      let low = floor-le-front h bounded in
+  drops_change h c r dropped bounded (passes count cursors floor within is) =
+      let size = length-append h.accepted (effect (view_of h) c r).accepted in
+      let low = floor_under h in
+      let top : (next h c r).floor ≡ front_number h + count = omega (arith, floor, low) in
       record {
-        rises = omega (arith, floor, low);
-        rising = rw (is, floor) (rising_wider (front_number h) (front_number h + count) h.floor (front_number h + count) (range_with_len (front_number h) count) low (omega arith) (rising_range (front_number h) count (front_number h + count) (omega arith)));
-        each = λ n under above from. rw is (contains_range (front_number h) count n from (omega (arith, floor, above)));
-        receivers = inr cursors;
-        within = within;
+        rises = omega arith;
+        rising = rw (is, top) (rising_wider (front_number h) (front_number h + count) h.floor (front_number h + count) (range_with_len (front_number h) count) low (omega arith) (rising_range (front_number h) count (front_number h + count) (omega arith)));
+        each = λ n under above from. rw is (contains_range (front_number h) count n from (omega (arith, top, above)));
+        receivers = inr (cursors-next h c r ∙ cursors);
+        within = omega (arith, top, size, within);
       }
 
-  pub drops_next : (is_clone : T → T → Type 0) (h : History T) (c : Call T) (r : Reply T) → IsBounded h → Legal is_clone h c r → Drops h (next h c r) (dropped_by h c r)
-  drops_next is_clone h c r bounded legal = drops_change h (next h c r) (dropped_by h c r) bounded (grows_next h c r) (floor-next is_clone h c r bounded legal)
+  pub drops_next : (is_clone : T → T → Type 0) (h : History T) (c : Call T) (r : Reply T) → IsBounded h → Legal is_clone (view_of h) c r → Drops h (next h c r) (dropped_by h c r)
+  drops_next is_clone h c r bounded legal = drops_change h c r (dropped_by h c r) bounded (floor-effect is_clone h c r bounded legal)
 
   -- where the receivers of the next state stood before
   pub record Stood (h : History T) (cursor : ℕ) : Type 0 where
     pub key : ℕ
     pub before : ℕ
-    pub found : cursor_of h key ≡ Some before
+    pub found : cursor_of h.control key ≡ Some before
     pub low : before ≤ cursor
 
-  pub stood_before : (is_clone : T → T → Type 0) (h : History T) (c : Call T) (r : Reply T) (key cursor : ℕ) → IsBounded h → Legal is_clone h c r → cursor_of (next h c r) key ≡ Some cursor
+  pub stood_before : (is_clone : T → T → Type 0) (h : History T) (c : Call T) (r : Reply T) (key cursor : ℕ) → IsBounded h → Legal is_clone (view_of h) c r → cursor_of (next h c r).control key ≡ Some cursor
       → (cursor ≤ end_number h) × ((cursor ≡ end_number h) ⊎ Stood h cursor)
   stood_before is_clone h c r key cursor bounded legal is =
-      elim (came_from (front_number h) (end_number h) (λ key. receives_for key c) h.control.cursors (changed h c r).control.cursors key cursor (changes is_clone h c r legal) (ap (λ m. get m key) (sym (cursors-next h c r)) ∙ is)) [
+      elim (came_from (front_number h) (end_number h) (λ key. receives_for key c) h.control.cursors (effect (view_of h) c r).control.cursors key cursor (changes is_clone (view_of h) c r legal) (ap (λ m. get m key) (sym (cursors-next h c r)) ∙ is)) [
         | inl e ↦ (omega (arith, e), inl e)
         | inr stood ↦ (let before = (bounded.cursors stood.key stood.before stood.found).1 in
             let front = front-le-end h bounded in
@@ -71,24 +74,21 @@ module _ {T : Type 0} where
             (high, inr (record { key = stood.key; before = stood.before; found = stood.found; low = stood.low })))
       ]
 
-  pub bounded-next : (is_clone : T → T → Type 0) (h : History T) (c : Call T) (r : Reply T) → HasPositiveCapacity c → IsBounded h → Legal is_clone h c r → IsBounded (next h c r)
+  pub bounded-next : (is_clone : T → T → Type 0) (h : History T) (c : Call T) (r : Reply T) → HasPositiveCapacity c → IsBounded h → Legal is_clone (view_of h) c r → IsBounded (next h c r)
   bounded-next is_clone h c r allowed bounded legal =
       let drops = drops_next is_clone h c r bounded legal in
-      let grown = grows_next h c r in
-      let size = length-append h.accepted grown.more in
-      let longer = ap length grown.accepted in
-      let first = grown.first in
+      let size = length-append h.accepted (effect (view_of h) c r).accepted in
       let rises = drops.rises in
       let low = bounded.floor_low in
       record {
-        floor_low = omega (arith, first, rises, low);
+        floor_low = omega (arith, rises, low);
         floor_high = drops.within;
         cursors = λ key cursor is.
             let stood = stood_before is_clone h c r key cursor bounded legal is in
-            let high : cursor ≤ end_number (next h c r) = (let k = stood.0 in omega (arith, k, size, longer, first)) in
+            let high : cursor ≤ end_number (next h c r) = (let k = stood.0 in omega (arith, k, size)) in
             elim stood.1 [
-              | inl e ↦ (omega (arith, e, first), high)
-              | inr s ↦ (let before = (bounded.cursors s.key s.before s.found).0 in let above = s.low in (omega (arith, before, above, first), high))
+              | inl e ↦ (omega (arith, e), high)
+              | inr s ↦ (let before = (bounded.cursors s.key s.before s.found).0 in let above = s.low in (omega (arith, before, above), high))
             ];
         capacity = capacity-next h c r allowed bounded.capacity;
       }

@@ -1,14 +1,14 @@
 -- What may be seen of a channel is seen of some valid history.
 use Rattle.std.proofs.Common.{◌↔◌, ◌≡◌, inl, inr, ℕ, ◌+◌, ◌-◌, ◌==◌, List, [], ◌∷◌, ◌++◌, length, drop, replicate, refl, sym, subst, arith, length-append}
 use Rattle.std.proofs.lemmas.List.{length-replicate, drop_at}
-use Rattle.std.specs.FinMap.{values}
 use Rattle.bcast_model.specs.Control.{Control}
-use Rattle.bcast_model.specs.History.{History, front_of}
+use Rattle.bcast_model.specs.History.{History, front_of, view_of}
 use Rattle.bcast_model.specs.Valid.{IsValid, IsValidControl, NoLostWakeUp}
-use Rattle.bcast_model.specs.View.{View, view_of, IsShown, Represents}
+use Rattle.bcast_model.specs.View.{View}
+use Rattle.bcast_model.specs.Answers.{IsShown, Represents}
 use Rattle.bcast_model.specs.Laws.{IsValidView}
 use Rattle.bcast_model.proofs.Lift.{same_view}
-use Rattle.bcast_model.proofs.Views.{front_of-settled, valid_view}
+use Rattle.bcast_model.proofs.Views.{valid_view}
 
 -- no message is kept: the history begins at the front. Else copies of the oldest message stand for those that are gone
 module _ {T : Type 0} where
@@ -16,8 +16,7 @@ module _ {T : Type 0} where
       → (h : History T) × IsValid h × Represents (record { front = front; queue = queue; end = end; control = control }) h
   witness_of front end [] control valid =
       let n : front + 0 ≡ end = omega (arith, valid.end) in
-      let settled = front_of-settled front end control.cursors valid.high valid.reach in
-      let f : front_of front (front + 0) (values control.cursors) ≡ front = rw n (omega (arith, settled, valid.low)) in
+      let f : front_of front (front + 0) control.cursors ≡ front = rw n (omega (arith, valid.low, valid.high)) in
       let none : front - front ≡ 0 = omega arith in
       let is : Represents (record { front = front; queue = []; end = end; control = control }) (record { first = front; accepted = []; floor = front; control = control }) =
       same_view (record { front = front; queue = []; end = end; control = control }) (view_of {T = T} (record { first = front; accepted = []; floor = front; control = control })) (sym f) (rw f (rw none refl)) (sym n) refl in (
@@ -36,8 +35,7 @@ module _ {T : Type 0} where
   witness_of front end (msg ∷ queue) control valid =
       let size : length (replicate front msg ++ msg ∷ queue) ≡ front + length (msg ∷ queue) = omega (arith, length-append (replicate front msg) (msg ∷ queue), length-replicate front msg) in
       let n : 0 + length (replicate front msg ++ msg ∷ queue) ≡ end = omega (arith, size, valid.end) in
-      let settled = front_of-settled front end control.cursors valid.high valid.reach in
-      let f : front_of front (0 + length (replicate front msg ++ msg ∷ queue)) (values control.cursors) ≡ front = rw n (omega (arith, settled, valid.low)) in
+      let f : front_of front (0 + length (replicate front msg ++ msg ∷ queue)) control.cursors ≡ front = rw n (omega (arith, valid.low, valid.high)) in
       let z : front - 0 ≡ front = omega arith in
       let d : drop front (replicate front msg ++ msg ∷ queue) ≡ msg ∷ queue = drop_at (replicate front msg) (msg ∷ queue) front (length-replicate front msg) in
       let is : Represents (record { front = front; queue = msg ∷ queue; end = end; control = control }) (record { first = 0; accepted = replicate front msg ++ msg ∷ queue; floor = front; control = control }) =

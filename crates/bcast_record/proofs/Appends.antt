@@ -7,7 +7,9 @@ use Rattle.bcast_model.specs.History.{opening}
 use Rattle.bcast_model.specs.Next.{next, HasPositiveCapacity}
 use Rattle.bcast_model.specs.Run.{IsRun, end_of_run}
 use Rattle.bcast_model.specs.Valid.{IsValid}
-use Rattle.bcast_model.specs.View.{View, Represents, Answers}
+use Rattle.bcast_model.specs.View.{View}
+use Rattle.bcast_model.specs.Legal.{Legal}
+use Rattle.bcast_model.specs.Answers.{Represents, Answers}
 use Rattle.bcast_model.proofs.Lists.{all_append}
 use Rattle.bcast_core.proofs.Runs.{run_more, end_more}
 use Rattle.bcast_record.specs.declared.entry.Entry.{Entry}
@@ -33,7 +35,7 @@ module _ {T : Type 0} where
   replays_more is_clone r seen after entry replays answers =
       let calls = calls_of-with_entry r entry in
       let replies = replies_of-with_entry r entry in
-      let legal = answers.legal (end_of r) replays.valid replays.end in
+      let legal = subst (λ v. Legal is_clone v entry.call entry.reply) replays.end answers.legal in
       let run = run_more is_clone (start_of r) (calls_of r) (replies_of r) entry.call entry.reply replays.run legal in
       let end : end_of (with_entry r entry) ≡ next (end_of r) entry.call entry.reply =
       (λ i. end_of_run (start_of r) (calls i) (replies i)) ∙ end_more is_clone (start_of r) (calls_of r) (replies_of r) entry.call entry.reply replays.run in

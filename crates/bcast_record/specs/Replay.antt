@@ -7,7 +7,8 @@ use Rattle.bcast_model.specs.History.{History, opening}
 use Rattle.bcast_model.specs.Next.{HasPositiveCapacity}
 use Rattle.bcast_model.specs.Run.{IsRun, end_of_run}
 use Rattle.bcast_model.specs.Valid.{IsValid}
-use Rattle.bcast_model.specs.View.{View, Represents}
+use Rattle.bcast_model.specs.View.{View}
+use Rattle.bcast_model.specs.Answers.{Represents}
 use Rattle.bcast_record.specs.Recording.{Recording}
 
 module _ {T : Type 0} where

@@ -9,11 +9,12 @@ use Rattle.bcast_model.specs.declared.run.Call.TheVariants as call
 use Rattle.bcast_model.specs.declared.run.Reply.{Reply}
 use Rattle.bcast_model.specs.declared.run.Reply.TheVariants as reply
 use Rattle.bcast_model.specs.Control.{Control, Cursors, has_no_receiver, tell_a_sender, tell_receivers, close, accepting}
-use Rattle.bcast_model.specs.History.{History, front_of, front_number, end_number, queue_of, is_full, sends_are_ready, with_control}
+use Rattle.bcast_model.specs.History.{History, front_of, front_number, end_number, queue_of, with_control, view_of}
+use Rattle.bcast_model.specs.View.{is_full, sends_are_ready, View}
 use Rattle.bcast_model.specs.Sending.{refusal, sent, handed_back, accept, accept_unless}
 use Rattle.bcast_model.specs.Next.{tell_if_ready, next}
 use Rattle.bcast_model.specs.Valid.{IsValid}
-use Rattle.bcast_model.specs.View.{View, view_of, Answers}
+use Rattle.bcast_model.specs.Answers.{Answers}
 use Rattle.bcast_model.proofs.Cases.{close_is, accepting_is}
 use Rattle.bcast_model.proofs.Views.{valid_view}
 use Rattle.uses.proofs.Told.{after, control_before, told_nobody}

@@ -10,11 +10,12 @@ use Rattle.bcast_model.specs.declared.run.Reply.{Reply}
 use Rattle.bcast_model.specs.declared.run.Reply.TheVariants as reply
 use Rattle.bcast_model.specs.Listeners.{Listeners}
 use Rattle.bcast_model.specs.Pair.{Pair, stream_of}
-use Rattle.bcast_model.specs.Control.{Control, tell_a_sender, with_cursor, pair_waits, pair_answered}
-use Rattle.bcast_model.specs.History.{History, front_number, end_number, cursor_of, with_control}
+use Rattle.bcast_model.specs.Control.{Control, tell_a_sender, with_cursor, pair_waits, pair_answered, cursor_of}
+use Rattle.bcast_model.specs.History.{History, front_number, end_number, with_control, view_of}
 use Rattle.bcast_model.specs.Receiving.{receive, listens, skipped_to, is_empty_reply, try_recv_reply}
-use Rattle.bcast_model.specs.Next.{found_no_memory, changed}
-use Rattle.bcast_model.specs.View.{View, view_of, Answers}
+use Rattle.bcast_model.specs.Next.{found_no_memory}
+use Rattle.bcast_model.specs.View.{View}
+use Rattle.bcast_model.specs.Answers.{Answers}
 use Rattle.bcast_model.proofs.Cases.{receive_is}
 use Rattle.bcast_model.proofs.Least.{len_insert}
 use Rattle.bcast_model.proofs.Views.{valid_view}

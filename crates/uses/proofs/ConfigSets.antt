@@ -7,11 +7,12 @@ use Rattle.bcast_model.specs.declared.run.Call.TheVariants as call
 use Rattle.bcast_model.specs.declared.run.Reply.TheVariants as reply
 use Rattle.bcast_model.specs.History.{front_number, end_number, queue_of}
 use Rattle.bcast_model.specs.Sending.{accept}
-use Rattle.bcast_model.specs.View.{View, Answers}
+use Rattle.bcast_model.specs.View.{View}
+use Rattle.bcast_model.specs.Answers.{Answers}
+use Rattle.bcast_model.specs.Errors.{unsent_message}
 use Rattle.bcast_model.proofs.Cases.{close_is}
 use Rattle.bcast_model.proofs.Least.{least-le-cursor}
 use Rattle.bcast_model.proofs.Views.{valid_front, valid_view}
-use Rattle.bcast_model.specs.Errors.{unsent_message}
 use Rattle.uses.specs.Config.{IsConfig}
 use Rattle.uses.proofs.Told.{control_before, some_key, on_ok}
 use Rattle.uses.proofs.Accepted.{kept_accepting, after_send, as_accepted, valid_after, cursors_after}

@@ -12,11 +12,12 @@ use Rattle.bcast_model.specs.declared.run.Call.{Call}
 use Rattle.bcast_model.specs.declared.run.Call.TheVariants as call
 use Rattle.bcast_model.specs.declared.run.Reply.{Reply}
 use Rattle.bcast_model.specs.declared.run.Reply.TheVariants as reply
-use Rattle.bcast_model.specs.Receiving.{found, skipped, skipped_to, next_reply}
-use Rattle.bcast_model.specs.Legal.{IsGiven, IsReceived}
-use Rattle.bcast_model.specs.View.{View, Answers}
+use Rattle.bcast_model.specs.Receiving.{found, skipped, skipped_to, next_reply, IsOwed, try_recv_reply}
+use Rattle.bcast_model.specs.Legal.{IsGiven, IsReceived, Legal}
+use Rattle.bcast_model.specs.View.{View}
+use Rattle.bcast_model.specs.Answers.{Answers}
 use Rattle.bcast_model.specs.Laws.{IsValidView}
-use Rattle.bcast_model.specs.Seen.{LegalSeen, IsOwedSeen, cursor_seen, try_recv_seen}
+use Rattle.bcast_model.specs.Control.{cursor_of}
 use Rattle.bcast_model.proofs.Views.{valid_view}
 use Rattle.bcast_model.proofs.Replies.{legal-seen}
 use Rattle.uses.specs.declared.config_watcher.Change.{Change}
@@ -91,7 +92,7 @@ module _ {S : Type 0} where
     few = let fits = valid.fits in let one = config.capacity in omega arith
 
     -- a cursor that skips to the end is there
-    pub at_end : (cursor : ℕ) → cursor_seen v key ≡ Some cursor → v.end ≤ max cursor v.front → cursor ≡ v.end
+    pub at_end : (cursor : ℕ) → cursor_of v.control key ≡ Some cursor → v.end ≤ max cursor v.front → cursor ≡ v.end
     at_end cursor e late =
         let reach = valid.reach key cursor e in
         elim (cases_lt v.front v.end) [
@@ -99,12 +100,12 @@ module _ {S : Type 0} where
           | inr none ↦ (let caught = valid.caught_up key cursor (nil_from_length v.queue (let end = valid.end in omega arith)) e in omega arith)
         ]
 
-    exactly : (cursor : ℕ) → try_recv_seen v (Some (max cursor v.front)) ≡ found v.control.closed (slice_get v.queue (max cursor v.front - v.front))
+    exactly : (cursor : ℕ) → try_recv_reply v (Some (max cursor v.front)) ≡ found v.control.closed (slice_get v.queue (max cursor v.front - v.front))
     exactly cursor =
         let ahead : nat_lt (max cursor v.front) v.front ≡ false = grind (arith, common_steps) in
         ap (λ b. cond b (Err (unread.Overflowed (v.front - max cursor v.front))) (found v.control.closed (slice_get v.queue (max cursor v.front - v.front)))) ahead
 
-    found_by : (cursor : ℕ) (polled : Poll (Option (S × ℕ))) (answer : Result S TryRecvError) (message : Option S) → cursor_seen v key ≡ Some cursor → slice_get v.queue (max cursor v.front - v.front) ≡ message
+    found_by : (cursor : ℕ) (polled : Poll (Option (S × ℕ))) (answer : Result S TryRecvError) (message : Option S) → cursor_of v.control key ≡ Some cursor → slice_get v.queue (max cursor v.front - v.front) ≡ message
         → polled ≡ next_reply (v.front - cursor) answer → IsAnswer is_clone (found v.control.closed message) answer → Finds polled
     found_by cursor polled answer (Some latest) at is e from =
         let one = one_kept v.queue (max cursor v.front - v.front) latest few is in
@@ -126,20 +127,20 @@ module _ {S : Type 0} where
         finds_none polled (ap change_of e ∙ ap (λ a. change_of (next_reply (v.front - cursor) a)) (error_of is_clone (cond v.control.closed unread.Closed unread.Empty) answer from) ∙ no_change v.control.closed (v.front - cursor))
         (λ seen f. sym (same_Some cursor seen (sym at ∙ f)) ∙ at_end cursor at (omega arith))
 
-    found_at : (o : Option ℕ) (polled : Poll (Option (S × ℕ))) → cursor_seen v key ≡ o
-        → IsReceived is_clone (IsOwedSeen v key (skipped_to v.front o)) (λ answer. reply.PollNext (Ok (next_reply (skipped v.front o) answer))) (reply.PollNext (Err alloc_error)) (try_recv_seen v (skipped_to v.front o)) (reply.PollNext (Ok polled)) → Finds polled
+    found_at : (o : Option ℕ) (polled : Poll (Option (S × ℕ))) → cursor_of v.control key ≡ o
+        → IsReceived is_clone (IsOwed v key (skipped_to v.front o)) (λ answer. reply.PollNext (Ok (next_reply (skipped v.front o) answer))) (reply.PollNext (Err alloc_error)) (try_recv_reply v (skipped_to v.front o)) (reply.PollNext (Ok polled)) → Finds polled
     found_at (Some cursor) polled at legal =
-        let a = answered is_clone (IsOwedSeen v key (Some (max cursor v.front))) (v.front - cursor) (try_recv_seen v (Some (max cursor v.front))) polled legal in
+        let a = answered is_clone (IsOwed v key (Some (max cursor v.front))) (v.front - cursor) (try_recv_reply v (Some (max cursor v.front))) polled legal in
         found_by cursor polled a.0 (slice_get v.queue (max cursor v.front - v.front)) at refl a.1 (subst (λ exact. IsAnswer is_clone exact a.0) (exactly cursor) a.2)
     found_at None polled at legal =
-        let a = answered is_clone (IsOwedSeen v key None) 0 (Err unread.Closed) polled legal in
+        let a = answered is_clone (IsOwed v key None) 0 (Err unread.Closed) polled legal in
         finds_none polled (ap change_of a.1 ∙ ap (λ r. change_of (next_reply 0 r)) (error_of is_clone unread.Closed a.0 a.2)) (λ seen f. absurd (none-some seen (sym at ∙ f)))
 
   pub looks : {is_clone : S → S → Type 0} {v w : View S} {key : ℕ} (polled : Poll (Option (S × ℕ))) → Answers is_clone v (call.PollNext key) (reply.PollNext (Ok polled)) w → (config : IsConfig v) → (valid : IsValidView v) → Finds is_clone v key config valid polled
   looks {is_clone = is_clone} {v = v} {key = key} polled a config valid =
-      let legal : LegalSeen is_clone v (call.PollNext key) (reply.PollNext (Ok polled)) =
-      subst (λ u. LegalSeen is_clone u (call.PollNext key) (reply.PollNext (Ok polled))) (sym a.shown.2) ((legal-seen a.shown.0 a.shown.1 is_clone (call.PollNext key) (reply.PollNext (Ok polled))).0 (a.legal a.shown.0 a.shown.1 a.shown.2)) in
-      found_at is_clone v key config valid (cursor_seen v key) polled refl legal
+      let legal : Legal is_clone v (call.PollNext key) (reply.PollNext (Ok polled)) =
+      subst (λ u. Legal is_clone u (call.PollNext key) (reply.PollNext (Ok polled))) (sym a.shown.2) ((legal-seen a.shown.0 a.shown.1 is_clone (call.PollNext key) (reply.PollNext (Ok polled))).0 (a.legal a.shown.0 a.shown.1 a.shown.2)) in
+      found_at is_clone v key config valid (cursor_of v.control key) polled refl legal
 
   pub shown_valid : {is_clone : S → S → Type 0} {v w : View S} {c : Call S} {r : Reply S} → Answers is_clone v c r w → IsValidView v
   shown_valid a = subst IsValidView (sym a.shown.2) (valid_view a.shown.0 a.shown.1)

@@ -12,13 +12,14 @@ use Rattle.bcast_model.specs.declared.error.HandleError.TheVariants as handle
 use Rattle.bcast_model.specs.declared.run.Call.TheVariants as call
 use Rattle.bcast_model.specs.declared.run.Reply.{Reply}
 use Rattle.bcast_model.specs.declared.run.Reply.TheVariants as reply
-use Rattle.bcast_model.specs.Control.{Control, tell_a_sender, with_cursor}
+use Rattle.bcast_model.specs.Control.{Control, tell_a_sender, with_cursor, cursor_of}
 use Rattle.bcast_model.specs.Handles.{has_next, without_receiver, deactivate}
-use Rattle.bcast_model.specs.History.{History, front_number, end_number, cursor_of, opening}
+use Rattle.bcast_model.specs.History.{History, front_number, end_number, opening, view_of}
 use Rattle.bcast_model.specs.Next.{next}
 use Rattle.bcast_model.specs.Legal.{raised}
 use Rattle.bcast_model.specs.Receiving.{receive}
-use Rattle.bcast_model.specs.View.{View, view_of, Represents, Answers}
+use Rattle.bcast_model.specs.View.{View}
+use Rattle.bcast_model.specs.Answers.{Represents, Answers}
 use Rattle.bcast_model.specs.Laws.{ReceivedIsGiven, IsGivenFrom}
 use Rattle.bcast_model.proofs.Cases.{receive_is}
 use Rattle.bcast_model.proofs.Views.{valid_view}

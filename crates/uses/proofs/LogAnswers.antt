@@ -6,11 +6,13 @@ use Rattle.std.specs.FinMap.{get}
 use Rattle.bcast_model.specs.declared.error.TryRecvError.{TryRecvError}
 use Rattle.bcast_model.specs.declared.run.Call.TheVariants as call
 use Rattle.bcast_model.specs.declared.run.Reply.TheVariants as reply
-use Rattle.bcast_model.specs.History.{front_number, end_number, cursor_of, sends_are_ready, with_control}
+use Rattle.bcast_model.specs.History.{front_number, end_number, with_control, view_of}
+use Rattle.bcast_model.specs.Control.{cursor_of}
+use Rattle.bcast_model.specs.View.{sends_are_ready, View}
 use Rattle.bcast_model.specs.Receiving.{receive, try_recv_reply}
 use Rattle.bcast_model.specs.Legal.{ClonesEqual}
 use Rattle.bcast_model.specs.Next.{tell_if_ready}
-use Rattle.bcast_model.specs.View.{View, view_of, Answers}
+use Rattle.bcast_model.specs.Answers.{Answers}
 use Rattle.uses.specs.Log.{kept_from, unread, record_of, IsReader, IsLog, KeepsReaders, KeepsUnread}
 use Rattle.uses.proofs.Told.{control_before, told_nobody}
 use Rattle.uses.proofs.Exact.{exact_of}

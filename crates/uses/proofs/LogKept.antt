@@ -8,7 +8,8 @@ use Rattle.std.specs.FinMap.{get, insert, get-insert}
 use Rattle.bcast_model.specs.Control.{Cursors}
 use Rattle.bcast_model.specs.History.{History, front_number, end_number}
 use Rattle.bcast_model.specs.Valid.{IsValid}
-use Rattle.bcast_model.specs.View.{View, Represents}
+use Rattle.bcast_model.specs.View.{View}
+use Rattle.bcast_model.specs.Answers.{Represents}
 use Rattle.bcast_model.proofs.Least.{least-le-cursor}
 use Rattle.bcast_model.proofs.Views.{valid_front, first_under}
 use Rattle.uses.specs.Log.{IsLog}

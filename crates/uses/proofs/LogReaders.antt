@@ -9,11 +9,13 @@ use Rattle.bcast_model.specs.declared.error.HandleError.TheVariants as handle
 use Rattle.bcast_model.specs.declared.run.Call.TheVariants as call
 use Rattle.bcast_model.specs.declared.run.Reply.{Reply}
 use Rattle.bcast_model.specs.declared.run.Reply.TheVariants as reply
-use Rattle.bcast_model.specs.History.{History, opening, cursor_of, sends_are_ready, with_control}
+use Rattle.bcast_model.specs.History.{History, opening, with_control, view_of}
+use Rattle.bcast_model.specs.Control.{cursor_of}
+use Rattle.bcast_model.specs.View.{sends_are_ready, View}
 use Rattle.bcast_model.specs.Handles.{clone_receiver}
 use Rattle.bcast_model.specs.Next.{tell_if_ready, next}
 use Rattle.bcast_model.specs.Valid.{IsValid}
-use Rattle.bcast_model.specs.View.{View, view_of, Represents, Answers}
+use Rattle.bcast_model.specs.Answers.{Represents, Answers}
 use Rattle.bcast_model.proofs.Views.{valid_view, floor_under}
 use Rattle.uses.specs.Log.{kept_from, unread, IsReader, IsLog, KeepsReaders, KeepsUnread}
 use Rattle.uses.proofs.Told.{after, control_after, control_before, get-insert_own, get-insert_other, some_insert, some_of, told_nobody}

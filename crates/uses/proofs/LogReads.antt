@@ -8,13 +8,14 @@ use Rattle.bcast_model.specs.declared.error.TryRecvError.{TryRecvError}
 use Rattle.bcast_model.specs.declared.error.TryRecvError.TheVariants as unread_error
 use Rattle.bcast_model.specs.declared.run.Call.TheVariants as call
 use Rattle.bcast_model.specs.declared.run.Reply.TheVariants as reply
-use Rattle.bcast_model.specs.Control.{Control, with_cursor}
-use Rattle.bcast_model.specs.History.{History, front_number, end_number, numbered, cursor_of}
+use Rattle.bcast_model.specs.Control.{Control, with_cursor, cursor_of}
+use Rattle.bcast_model.specs.History.{History, front_number, end_number, numbered}
 use Rattle.bcast_model.specs.Receiving.{found, receive, try_recv_reply}
 use Rattle.bcast_model.specs.Legal.{ClonesEqual}
 use Rattle.bcast_model.specs.Next.{next}
 use Rattle.bcast_model.specs.Valid.{IsValid}
-use Rattle.bcast_model.specs.View.{View, Represents, Answers}
+use Rattle.bcast_model.specs.View.{View}
+use Rattle.bcast_model.specs.Answers.{Represents, Answers}
 use Rattle.bcast_model.proofs.Views.{floor_under, first_under}
 use Rattle.uses.specs.Log.{kept_from, unread, record_of, IsReader, IsLog, KeepsReaders, KeepsUnread}
 use Rattle.uses.proofs.Told.{after, control_after, control_before, get-insert_own, get-insert_other, some_insert, some_of}

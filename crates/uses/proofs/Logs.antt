@@ -5,7 +5,8 @@ use Rattle.std.specs.Prelude.{IsSome}
 use Rattle.std.specs.FinMap.{get}
 use Rattle.bcast_model.specs.declared.run.Call.TheVariants as call
 use Rattle.bcast_model.specs.declared.run.Reply.TheVariants as reply
-use Rattle.bcast_model.specs.View.{View, Answers}
+use Rattle.bcast_model.specs.View.{View}
+use Rattle.bcast_model.specs.Answers.{Answers}
 use Rattle.bcast_model.proofs.Views.{valid_view}
 use Rattle.uses.specs.Log.{kept_from, IsReader, IsLog, KeepsReaders, AddsUnread}
 use Rattle.uses.proofs.Told.{some_of}

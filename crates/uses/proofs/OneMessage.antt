@@ -7,12 +7,13 @@ use Rattle.bcast_model.specs.declared.run.Call.{Call}
 use Rattle.bcast_model.specs.declared.run.Call.TheVariants as call
 use Rattle.bcast_model.specs.declared.run.Reply.{Reply}
 use Rattle.bcast_model.specs.declared.run.Reply.TheVariants as reply
-use Rattle.bcast_model.specs.History.{History, front_number, queue_of, is_full, sends_are_ready}
+use Rattle.bcast_model.specs.History.{History, front_number, queue_of}
+use Rattle.bcast_model.specs.View.{is_full, sends_are_ready, View}
 use Rattle.bcast_model.specs.Sending.{refusal, accept_unless}
 use Rattle.bcast_model.specs.Legal.{IsGiven}
-use Rattle.bcast_model.specs.Next.{found_no_memory, try_recv, unless_refused, may_tell, changed, next}
+use Rattle.bcast_model.specs.Next.{found_no_memory, may_tell, next}
 use Rattle.bcast_model.specs.Valid.{IsValid}
-use Rattle.bcast_model.specs.View.{View, Represents, Answers}
+use Rattle.bcast_model.specs.Answers.{Represents, Answers}
 use Rattle.bcast_model.specs.Laws.{ReceivedIsGiven}
 use Rattle.bcast_model.proofs.Cases.{tell_is}
 

@@ -7,9 +7,10 @@ use Rattle.bcast_model.specs.declared.run.Call.TheVariants as call
 use Rattle.bcast_model.specs.declared.run.Reply.{Reply}
 use Rattle.bcast_model.specs.declared.run.Reply.TheVariants as reply
 use Rattle.bcast_model.specs.Control.{Control, has_no_receiver, last_end, tell_receivers, close, accepting}
-use Rattle.bcast_model.specs.History.{end_number, is_full}
+use Rattle.bcast_model.specs.History.{end_number}
+use Rattle.bcast_model.specs.View.{is_full, View}
 use Rattle.bcast_model.specs.Sending.{sent, handed_back, try_broadcast_reply}
-use Rattle.bcast_model.specs.View.{View, Answers}
+use Rattle.bcast_model.specs.Answers.{Answers}
 use Rattle.bcast_model.proofs.Cases.{test_is}
 use Rattle.uses.specs.Sends.{send_answer}
 use Rattle.uses.proofs.Told.{control_before, end_before}

@@ -12,12 +12,13 @@ use Rattle.bcast_model.specs.declared.error.TryRecvError.TheVariants as unread
 use Rattle.bcast_model.specs.declared.run.Call.TheVariants as call
 use Rattle.bcast_model.specs.declared.run.Reply.{Reply}
 use Rattle.bcast_model.specs.declared.run.Reply.TheVariants as reply
-use Rattle.bcast_model.specs.Control.{Control, with_cursor, tell_a_sender}
-use Rattle.bcast_model.specs.History.{History, front_number, end_number, numbered, cursor_of}
+use Rattle.bcast_model.specs.Control.{Control, with_cursor, tell_a_sender, cursor_of}
+use Rattle.bcast_model.specs.History.{History, front_number, end_number, numbered}
 use Rattle.bcast_model.specs.Receiving.{found, receive, try_recv_reply}
-use Rattle.bcast_model.specs.Next.{found_no_memory, try_recv, changed}
+use Rattle.bcast_model.specs.Next.{found_no_memory}
 use Rattle.bcast_model.specs.Valid.{IsValid}
-use Rattle.bcast_model.specs.View.{View, Answers}
+use Rattle.bcast_model.specs.View.{View}
+use Rattle.bcast_model.specs.Answers.{Answers}
 use Rattle.bcast_model.proofs.Views.{valid_view}
 use Rattle.uses.specs.Signal.{Signal, signal_of, IsSignal, AddsWorker, is_closed_reply}
 use Rattle.uses.proofs.Told.{control_after, control_before, end_after, end_before, get-insert_own, some_of}

@@ -8,9 +8,10 @@ use Rattle.std.specs.FinMap.{get, insert, len, entries, find, get-insert, get-en
 use Rattle.bcast_model.specs.declared.run.Call.{Call}
 use Rattle.bcast_model.specs.declared.run.Reply.{Reply}
 use Rattle.bcast_model.specs.Control.{Control, Cursors, tell_a_sender}
-use Rattle.bcast_model.specs.History.{History, sends_are_ready, end_number, with_control}
-use Rattle.bcast_model.specs.Next.{may_tell, tell_if_ready, changed, next}
-use Rattle.bcast_model.specs.View.{View, Answers}
+use Rattle.bcast_model.specs.History.{History, end_number, with_control}
+use Rattle.bcast_model.specs.View.{sends_are_ready, View}
+use Rattle.bcast_model.specs.Next.{may_tell, tell_if_ready, next}
+use Rattle.bcast_model.specs.Answers.{Answers}
 use Rattle.bcast_model.proofs.Cases.{tell_is}
 use Rattle.bcast_model.proofs.Least.{find_head}
 

@@ -4,7 +4,8 @@ use Rattle.std.specs.FinMap.{len}
 use Rattle.bcast_model.specs.declared.error.TryRecvError.{TryRecvError}
 use Rattle.bcast_model.specs.declared.run.Call.TheVariants as call
 use Rattle.bcast_model.specs.declared.run.Reply.TheVariants as reply
-use Rattle.bcast_model.specs.View.{View, Answers}
+use Rattle.bcast_model.specs.View.{View}
+use Rattle.bcast_model.specs.Answers.{Answers}
 
 module _ {E : Type 0} where
   -- a full hub refuses, and the hub itself keeps the channel open by a sender and an inactive receiver

@@ -20,7 +20,8 @@ pub struct Config<S> {
 }
 
 impl<S> Model for Config<S> {
-    ghost use Rattle.bcast_model.specs.View.{View, view_code};
+    ghost use Rattle.bcast_model.specs.View.{View};
+    ghost use Rattle.bcast_model.specs.Codes.{view_code};
     ghost use Rattle.uses.specs.Config.{IsConfig};
 
     ghost Value = { View S };

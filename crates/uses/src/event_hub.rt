@@ -4,7 +4,7 @@ ghost use Rattle.bcast_model.specs.Errors.{unsent_message};
 ghost use Rattle.bcast_model.specs.History.{opening};
 ghost use Rattle.bcast_model.specs.Legal.{NoClone};
 ghost use Rattle.bcast_model.specs.Laws.{IsGivenFrom};
-ghost use Rattle.bcast_model.specs.View.{Answers, Represents};
+ghost use Rattle.bcast_model.specs.Answers.{Answers, Represents};
 ghost use Rattle.bcast_model.specs.declared.run.Call.TheVariants as call;
 ghost use Rattle.bcast_model.specs.declared.run.Reply.TheVariants as reply;
 ghost use Rattle.uses.specs.Hub.{IsOpened, IsNextEvent, event_of};
@@ -24,7 +24,8 @@ pub struct EventHub<E> {
 }
 
 impl<E> Model for EventHub<E> {
-    ghost use Rattle.bcast_model.specs.View.{View, view_code};
+    ghost use Rattle.bcast_model.specs.View.{View};
+    ghost use Rattle.bcast_model.specs.Codes.{view_code};
     ghost use Rattle.uses.specs.Hub.{IsHub};
 
     ghost Value = { View E };

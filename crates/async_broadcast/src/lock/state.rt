@@ -2,8 +2,8 @@
 ghost use Rattle.bcast_model.specs.Next.{HasPositiveCapacity};
 ghost use Rattle.std.specs.Prelude.{◌≡◌, IfOk};
 ghost use Rattle.bcast_model.specs.Control.{is_ready};
-ghost use Rattle.bcast_model.specs.Seen.{is_full_seen};
-ghost use Rattle.bcast_model.specs.View.{Answers, IsPossible};
+ghost use Rattle.bcast_model.specs.View.{is_full};
+ghost use Rattle.bcast_model.specs.Answers.{Answers, IsPossible};
 ghost use Rattle.async_broadcast.specs.Kinds.{IsOfKind};
 ghost use Rattle.async_broadcast.specs.Snapshots.{ShowsSomeState};
 
@@ -156,7 +156,7 @@ impl<T: Clone, A: Allocator + Copy> State<T, A> {
     }
 
     fn sends_are_ready(&self) -> bool
-        ensures { result ≡ is_ready self.now.inner.control (is_full_seen self.now.inner) }
+        ensures { result ≡ is_ready self.now.inner.control (is_full self.now.inner) }
     {
         if self.inner.receiver_count() == 0 {
             self.inner.is_closed() || !self.inner.await_active()

@@ -12,13 +12,15 @@ impl<T: Drop, N: Notice, A: Allocator + Copy> Parts<T, N, A> {
     ghost use Rattle.bcast_model.specs.Laws.{IsValidView};
     ghost use Rattle.bcast_model.specs.Control.{with_cursor};
     ghost use Rattle.bcast_model.specs.Handles.{without_receiver};
-    ghost use Rattle.bcast_model.specs.Seen.{settle, sets, cursor_seen};
+    ghost use Rattle.bcast_model.specs.Steps.{settle};
+    ghost use Rattle.bcast_model.specs.Effect.{sets};
+    ghost use Rattle.bcast_model.specs.Control.{cursor_of};
 
     /// Adds a receiver that reads the message of this number next, under a key that none has.
     pub fn add_receiver(&mut self, cursor: u64) -> Result<usize, HandleError>
         requires valid { IsValidView self.old }
         requires reach { cursor ≤ self.old.end }
-        ensures free { IfOk result (λ key. cursor_seen self.old key ≡ None) }
+        ensures free { IfOk result (λ key. cursor_of self.old.control key ≡ None) }
         ensures ok { IfOk result (λ key. self.new ≡ settle self.old (sets (with_cursor self.old.control key cursor))) }
         ensures fits { IfOk result (λ key. len (with_cursor self.old.control key cursor).cursors < 2 ^ 64) }
         ensures memory { IfErr result (λ error. error ≡ HandleError.Memory) }
@@ -36,7 +38,7 @@ impl<T: Drop, N: Notice, A: Allocator + Copy> Parts<T, N, A> {
 
     // Takes a receiver's cursor out, and drops the messages that nobody is to read any more.
     fn remove_cursor(&mut self, key: usize)
-        requires { is_some (cursor_seen self.old key) ≡ true }
+        requires { is_some (cursor_of self.old.control key) ≡ true }
         ensures { self.new ≡ settle self.old (sets (record self.old.control { cursors = remove self.old.control.cursors key })) }
     {
         self.store.remove(key);
@@ -45,7 +47,7 @@ impl<T: Drop, N: Notice, A: Allocator + Copy> Parts<T, N, A> {
     /// Takes a receiver out: it abandons its stream, then its future, and then what it has to read.
     pub fn remove_receiver(&mut self, key: usize)
         requires valid { IsValidView self.old }
-        requires there { is_some (cursor_seen self.old key) ≡ true }
+        requires there { is_some (cursor_of self.old.control key) ≡ true }
         ensures { self.new ≡ settle self.old (sets (without_receiver self.old.control key)) }
     {
         self.pair_dropped(key, Kind::Stream);

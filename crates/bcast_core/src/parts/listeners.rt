@@ -9,7 +9,7 @@ use std::alloc::{AllocError, Allocator};
 
 impl<T: Drop, N: Notice, A: Allocator + Copy> Parts<T, N, A> {
     ghost use Rattle.bcast_model.specs.Laws.{IsValidView};
-    ghost use Rattle.bcast_model.specs.Seen.{is_ready_seen};
+    ghost use Rattle.bcast_model.specs.View.{sends_are_ready};
     ghost use Rattle.bcast_model.specs.Control.{has_place, with_place, place_answered, place_dropped, place_waits, pair_waits, pair_answered, pair_dropped};
 
     /// Whether a pending send has this place.
@@ -21,7 +21,7 @@ impl<T: Drop, N: Notice, A: Allocator + Copy> Parts<T, N, A> {
 
     /// Whether a poll of the pending send of this place would be answered.
     pub fn answers_send(&self, place: usize) -> bool
-        ensures { result ≡ has_place self.now.control place && is_ready_seen self.now }
+        ensures { result ≡ has_place self.now.control place && sends_are_ready self.now }
     {
         self.has_place(place) && self.is_ready()
     }

@@ -11,14 +11,18 @@ impl<T: Clone, N: Notice, A: Allocator + Copy> Parts<T, N, A> {
     ghost use Rattle.bcast_model.specs.Laws.{IsValidView};
     ghost use Rattle.bcast_model.specs.Legal.{IsReceived};
     ghost use Rattle.bcast_model.specs.Receiving.{receive, poll_receive, skipped, skipped_to};
-    ghost use Rattle.bcast_model.specs.Seen.{settle, sets, cursor_seen, numbered_seen, try_recv_seen, IsOwedSeen};
+    ghost use Rattle.bcast_model.specs.Steps.{settle};
+    ghost use Rattle.bcast_model.specs.Effect.{sets};
+    ghost use Rattle.bcast_model.specs.Control.{cursor_of};
+    ghost use Rattle.bcast_model.specs.View.{kept_at};
+    ghost use Rattle.bcast_model.specs.Receiving.{try_recv_reply, IsOwed};
     ghost use Rattle.bcast_model.specs.Control.{with_cursor};
     ghost use Rattle.bcast_model.specs.declared.run.Reply.TheVariants as reply;
 
     // Lets a receiver that lags go on at the front.
     fn skip(&mut self, key: usize)
         requires valid { IsValidView self.old }
-        requires lags { IsSomeAnd (cursor_seen self.old key) (λ cursor. cursor < self.old.front) }
+        requires lags { IsSomeAnd (cursor_of self.old.control key) (λ cursor. cursor < self.old.front) }
         ensures { self.new ≡ settle self.old (sets (with_cursor self.old.control key self.old.front)) }
     {
         self.store.skip(key);
@@ -27,11 +31,11 @@ impl<T: Clone, N: Notice, A: Allocator + Copy> Parts<T, N, A> {
     // Gives a receiver the message of this number, which is the greater of its cursor and the front.
     #[inline(always)]
     fn read(&mut self, key: usize, number: u64) -> Result<T, AllocError>
-        requires at { IsSomeAnd (cursor_seen self.old key) (λ cursor. number ≡ max cursor self.old.front) }
+        requires at { IsSomeAnd (cursor_of self.old.control key) (λ cursor. number ≡ max cursor self.old.front) }
         requires below { number < self.old.end }
-        ensures given { IfOk result (λ given. (numbered_seen self.old number ≡ Some given) ⊎ (IsOwedSeen self.old key (Some number) × IsSomeAnd (numbered_seen self.old number) (λ msg. T.is_clone msg given))) }
+        ensures given { IfOk result (λ given. (kept_at self.old number ≡ Some given) ⊎ (IsOwed self.old key (Some number) × IsSomeAnd (kept_at self.old number) (λ msg. T.is_clone msg given))) }
         ensures ok { OnOk result (self.new ≡ settle self.old (sets (with_cursor self.old.control key (number + 1)))) }
-        ensures owed { OnErr result (IsOwedSeen self.old key (Some number)) }
+        ensures owed { OnErr result (IsOwed self.old key (Some number)) }
         ensures err { OnErr result (self.new ≡ self.old) }
         ensures sure { ((msg : T) → T.is_infallible msg) → IsOk result }
     {
@@ -48,8 +52,8 @@ impl<T: Clone, N: Notice, A: Allocator + Copy> Parts<T, N, A> {
         at: Option<u64>,
     ) -> Result<Result<T, TryRecvError>, AllocError>
         requires valid { IsValidView self.old }
-        requires at { (at ≡ cursor_seen self.old key) ⊎ (at ≡ skipped_to self.old.front (cursor_seen self.old key)) }
-        ensures reply { IsReceived T.is_clone (IsOwedSeen self.old key at) (λ answer. reply.TryRecv (Ok answer)) (reply.TryRecv (Err alloc_error)) (try_recv_seen self.old at) (reply.TryRecv result) }
+        requires at { (at ≡ cursor_of self.old.control key) ⊎ (at ≡ skipped_to self.old.front (cursor_of self.old.control key)) }
+        ensures reply { IsReceived T.is_clone (IsOwed self.old key at) (λ answer. reply.TryRecv (Ok answer)) (reply.TryRecv (Err alloc_error)) (try_recv_reply self.old at) (reply.TryRecv result) }
         ensures ok { OnOk result (self.new ≡ settle self.old (sets (receive self.old.front self.old.end self.old.control key at))) }
         ensures err { OnErr result (self.new ≡ self.old) }
         ensures sure { ((msg : T) → T.is_infallible msg) → IsOk result }
@@ -77,8 +81,8 @@ impl<T: Clone, N: Notice, A: Allocator + Copy> Parts<T, N, A> {
 
     /// Where the receiver reads on that skips what it missed, and how many messages those are.
     pub fn skipped_to(&self, key: usize) -> (Option<u64>, u64)
-        ensures at { result.0 ≡ skipped_to self.now.front (cursor_seen self.now key) }
-        ensures skips { result.1 ≡ skipped self.now.front (cursor_seen self.now key) }
+        ensures at { result.0 ≡ skipped_to self.now.front (cursor_of self.now.control key) }
+        ensures skips { result.1 ≡ skipped self.now.front (cursor_of self.now.control key) }
     {
         let front = self.front();
         match self.cursor(key) {
@@ -96,9 +100,9 @@ impl<T: Clone, N: Notice, A: Allocator + Copy> Parts<T, N, A> {
         notice: N,
     ) -> Result<Result<T, TryRecvError>, AllocError>
         requires valid { IsValidView self.old }
-        requires at { (at ≡ cursor_seen self.old key) ⊎ (at ≡ skipped_to self.old.front (cursor_seen self.old key)) }
-        ensures reply { IsReceived T.is_clone (IsOwedSeen self.old key at) (λ answer. reply.TryRecv (Ok answer)) (reply.TryRecv (Err alloc_error)) (try_recv_seen self.old at) (reply.TryRecv result) }
-        ensures ok { OnOk result (self.new ≡ settle self.old (sets (poll_receive self.old.front self.old.end self.old.control (key, kind) at (try_recv_seen self.old at)))) }
+        requires at { (at ≡ cursor_of self.old.control key) ⊎ (at ≡ skipped_to self.old.front (cursor_of self.old.control key)) }
+        ensures reply { IsReceived T.is_clone (IsOwed self.old key at) (λ answer. reply.TryRecv (Ok answer)) (reply.TryRecv (Err alloc_error)) (try_recv_reply self.old at) (reply.TryRecv result) }
+        ensures ok { OnOk result (self.new ≡ settle self.old (sets (poll_receive self.old.front self.old.end self.old.control (key, kind) at (try_recv_reply self.old at)))) }
         ensures err { OnErr result (self.new ≡ self.old) }
         ensures sure { ((msg : T) → T.is_infallible msg) → IsOk result }
     {

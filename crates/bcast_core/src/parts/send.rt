@@ -12,7 +12,9 @@ impl<T: Drop, N: Notice, A: Allocator + Copy> Parts<T, N, A> {
     ghost use Rattle.bcast_model.specs.Control.{has_place};
     ghost use Rattle.bcast_model.specs.Laws.{IsValidView};
     ghost use Rattle.bcast_model.specs.declared.run.SendPoll.TheVariants as send;
-    ghost use Rattle.bcast_model.specs.Seen.{settle, with_message_seen, try_broadcast_seen, offer_seen, attempt_send_seen, poll_send_seen, resize_seen};
+    ghost use Rattle.bcast_model.specs.Steps.{settle, with_message};
+    ghost use Rattle.bcast_model.specs.Sending.{try_broadcast_reply, offer, attempt_send_reply, poll_send};
+    ghost use Rattle.bcast_model.specs.Effects.{resize};
 
     // Takes the oldest message out, whoever is still to read it.
     fn drop_oldest(&mut self) -> T
@@ -32,7 +34,7 @@ impl<T: Drop, N: Notice, A: Allocator + Copy> Parts<T, N, A> {
         requires someone { 0 < len self.old.control.cursors }
         requires room { length self.old.queue < self.old.control.room }
         requires number { self.old.end + 1 < 2 ^ 64 }
-        ensures { self.new ≡ with_message_seen self.old msg }
+        ensures { self.new ≡ with_message self.old msg }
     {
         let number = self.store.end();
         self.store.push(msg);
@@ -46,8 +48,8 @@ impl<T: Drop, N: Notice, A: Allocator + Copy> Parts<T, N, A> {
     #[inline(always)]
     pub fn offer(&mut self, msg: T) -> Result<Option<T>, TrySendError<T>>
         requires { IsValidView self.old }
-        ensures reply { result ≡ try_broadcast_seen self.old msg }
-        ensures effect { self.new ≡ settle self.old (offer_seen self.old msg) }
+        ensures reply { result ≡ try_broadcast_reply self.old msg }
+        ensures effect { self.new ≡ settle self.old (offer self.old msg) }
     {
         if self.is_closed() {
             return Err(TrySendError::Closed(msg));
@@ -70,8 +72,8 @@ impl<T: Drop, N: Notice, A: Allocator + Copy> Parts<T, N, A> {
     /// The same for a send that may wait.
     pub fn attempt(&mut self, msg: T) -> SendPoll<T>
         requires { IsValidView self.old }
-        ensures reply { result ≡ attempt_send_seen self.old msg }
-        ensures effect { self.new ≡ settle self.old (offer_seen self.old msg) }
+        ensures reply { result ≡ attempt_send_reply self.old msg }
+        ensures effect { self.new ≡ settle self.old (offer self.old msg) }
     {
         let await_active = self.await_active();
         match self.offer(msg) {
@@ -91,8 +93,8 @@ impl<T: Drop, N: Notice, A: Allocator + Copy> Parts<T, N, A> {
     /// A poll of a pending send.
     pub fn poll_send(&mut self, place: usize, msg: T, notice: N) -> SendPoll<T>
         requires { IsValidView self.old }
-        ensures reply { result ≡ (if has_place self.old.control place then attempt_send_seen self.old msg else send.Wait msg) }
-        ensures effect { self.new ≡ settle self.old (poll_send_seen self.old place msg) }
+        ensures reply { result ≡ (if has_place self.old.control place then attempt_send_reply self.old msg else send.Wait msg) }
+        ensures effect { self.new ≡ settle self.old (poll_send self.old place msg) }
     {
         if !self.has_place(place) {
             return SendPoll::Wait(msg);
@@ -113,7 +115,7 @@ impl<T: Drop, N: Notice, A: Allocator + Copy> Parts<T, N, A> {
     pub fn set_capacity(&mut self, n: usize) -> Result<(), AllocError>
         requires valid { IsValidView self.old }
         requires positive { 1 ≤ n }
-        ensures ok { OnOk result (self.new ≡ settle self.old (resize_seen self.old n)) }
+        ensures ok { OnOk result (self.new ≡ settle self.old (resize self.old n)) }
         ensures refused { OnErr result (self.old.control.room < n) }
         ensures err { OnErr result (self.new ≡ self.old) }
     {

@@ -1,7 +1,7 @@
 //! Receiving by a future or a stream, which wait where there is nothing.
 ghost use Rattle.std.specs.Prelude.{◌≡◌, Ok, Err, IfOk, IfErr, IsOk};
 ghost use Rattle.bcast_model.specs.Legal.{NoClone};
-ghost use Rattle.bcast_model.specs.View.{Answers};
+ghost use Rattle.bcast_model.specs.Answers.{Answers};
 ghost use Rattle.bcast_model.specs.Receiving;
 ghost use Rattle.bcast_model.specs.declared.run.Call.TheVariants as call;
 ghost use Rattle.bcast_model.specs.declared.run.Reply.TheVariants as reply;

@@ -1,6 +1,6 @@
 //! Sending, at once or by a pending send.
 ghost use Rattle.bcast_model.specs.Legal.{NoClone};
-ghost use Rattle.bcast_model.specs.View.{Answers};
+ghost use Rattle.bcast_model.specs.Answers.{Answers};
 ghost use Rattle.bcast_model.specs.declared.run.Call.TheVariants as call;
 ghost use Rattle.bcast_model.specs.declared.run.Reply.TheVariants as reply;
 

@@ -4,6 +4,6 @@ use Rattle.bcast_laws.proofs.reads_by_own_cursor.Goals as goal
 
 pub returns : goal.returns
 returns g _ = record {
-  own = λ h other key valid shared cursor. own_answer h other key valid.floor_high shared cursor;
-  others = λ h key reader c r valid reads differs. others_answer h key reader c r valid.floor_high reads differs;
+  own = λ h other key valid shared cursor. own_answer h other key valid.floor_low shared cursor;
+  others = λ h key reader c r valid reads differs. others_answer h key reader c r valid.floor_low reads differs;
 }

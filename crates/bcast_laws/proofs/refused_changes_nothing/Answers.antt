@@ -6,5 +6,5 @@ use Rattle.bcast_laws.proofs.refused_changes_nothing.Goals as goal
 pub returns : goal.returns
 returns g _ = record {
   same = λ h c r valid legal refused. refused_same g.T.Clone.is_clone h c r valid legal refused;
-  returned = λ h c r msg legal is refused. returned_back g.T.Clone.is_clone h c r msg legal is refused;
+  returned = λ v c r msg legal is refused. returned_back g.T.Clone.is_clone v c r msg legal is refused;
 }

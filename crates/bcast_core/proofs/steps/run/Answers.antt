@@ -2,11 +2,11 @@ use Rattle.std.proofs.Common.{◌≡◌, false, [], ◌∷◌, ◌++◌, length,
 use Rattle.std.specs.Vec.Iter.{into_iter_items}
 use Rattle.std.specs.List.{All, AllByRecursion}
 use Rattle.std.proofs.lemmas.List.Elements.{All-append, All-cons, All-nil}
-use Rattle.bcast_model.specs.Legal.{NoClone}
+use Rattle.bcast_model.specs.Legal.{Legal, NoClone}
 use Rattle.bcast_model.specs.Next.{HasPositiveCapacity}
 use Rattle.bcast_model.specs.History.{opening}
 use Rattle.bcast_model.specs.Valid.{IsValid}
-use Rattle.bcast_model.specs.View.{Represents}
+use Rattle.bcast_model.specs.Answers.{Represents}
 use Rattle.bcast_model.specs.Run.{IsRun, end_of_run}
 use Rattle.bcast_model.specs.Deliveries.{AtEachPoint, AreAllExact}
 use Rattle.bcast_model.proofs.Lists.{all_right}
@@ -29,7 +29,7 @@ loop-call-preserved g c =
     let i = c.loop-call.invariant in
     let a = c.step.ensures.answers in
     let s = c.in-Some.ensures.steps in
-    let on = run_more g.T.Clone.is_clone (opening c.args.cap c.args.first c.in-Ok-starting_at.key) c.loop-call.yielded c.loop-call.replies.items c.in-Some.call c.step.result i.run (a.legal _ i.valid i.represents) in
+    let on = run_more g.T.Clone.is_clone (opening c.args.cap c.args.first c.in-Ok-starting_at.key) c.loop-call.yielded c.loop-call.replies.items c.in-Some.call c.step.result i.run (subst (λ v. Legal g.T.Clone.is_clone v c.in-Some.call c.step.result) i.represents a.legal) in
     let e = ap (end_of_run (opening c.args.cap c.args.first c.in-Ok-starting_at.key) (c.loop-call.yielded ++ c.in-Some.call ∷ [])) c.push_reserved.ensures.items
     ∙ end_more g.T.Clone.is_clone (opening c.args.cap c.args.first c.in-Ok-starting_at.key) c.loop-call.yielded c.loop-call.replies.items c.in-Some.call c.step.result i.run in
     record {

@@ -3,7 +3,7 @@ use Rattle.std.specs.Vec.Iter.{into_iter_items}
 use Rattle.std.specs.List.{All}
 use Rattle.bcast_model.specs.History.{opening}
 use Rattle.bcast_model.specs.Valid.{IsValid}
-use Rattle.bcast_model.specs.View.{Represents}
+use Rattle.bcast_model.specs.Answers.{Represents}
 use Rattle.bcast_model.specs.Run.{IsRun, end_of_run}
 use Rattle.bcast_core.specs.Sure.{is_receive_refused}
 use Rattle.bcast_core.proofs.steps.run.Given as goal

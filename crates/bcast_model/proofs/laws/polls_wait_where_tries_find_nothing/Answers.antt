@@ -4,9 +4,9 @@ use Rattle.bcast_model.proofs.laws.polls_wait_where_tries_find_nothing.Goals as 
 
 pub returns : goal.returns
 returns g _ = record {
-  send = λ h place msg r known legal. send_waits_full g.T.Clone.is_clone h place msg r known legal;
-  ready = λ h place msg r known legal. send_waits_unready g.T.Clone.is_clone h place msg r known legal;
-  future = λ h key r memory legal. future_waits_empty g.T.Clone.is_clone h key r memory legal;
-  recv = λ h key r memory legal. recv_waits_empty g.T.Clone.is_clone h key r memory legal;
-  next = λ h key r valid memory legal. next_waits_empty g.T.Clone.is_clone h key r memory valid legal;
+  send = λ v place msg r known legal. send_waits_full g.T.Clone.is_clone v place msg r known legal;
+  ready = λ v place msg r known legal. send_waits_unready g.T.Clone.is_clone v place msg r known legal;
+  future = λ v key r memory legal. future_waits_empty g.T.Clone.is_clone v key r memory legal;
+  recv = λ v key r memory legal. recv_waits_empty g.T.Clone.is_clone v key r memory legal;
+  next = λ v key r valid memory legal. next_waits_empty g.T.Clone.is_clone v key r memory valid legal;
 }

@@ -3,4 +3,4 @@ use Rattle.bcast_model.proofs.Clones.{legal_exact}
 use Rattle.bcast_model.proofs.laws.replies_are_exact.Goals as goal
 
 pub returns : goal.returns
-returns g _ = λ equal h c r legal. legal_exact g.T.Clone.is_clone h c r equal legal
+returns g _ = λ equal v c r legal. legal_exact g.T.Clone.is_clone v c r equal legal

@@ -1,7 +1,7 @@
 use Rattle.std.proofs.Common.{◌+◌, cond, Ok, Err, refl, sym, ap, ◌∙◌}
 use Rattle.bcast_model.specs.declared.error.HandleError.TheVariants as handle
 use Rattle.bcast_model.specs.declared.run.Reply.TheVariants as reply
-use Rattle.bcast_model.specs.Seen.{sets}
+use Rattle.bcast_model.specs.Effect.{sets}
 use Rattle.bcast_core.proofs.Does.{does_sets, does_nothing}
 use Rattle.bcast_core.proofs.Making.{at_most, below_most}
 use Rattle.bcast_core.proofs.parts.Parts.new_sender.Goals as goal

@@ -1,9 +1,10 @@
 use Rattle.std.proofs.Common.{◌+◌, ap, ◌∙◌, is_some, arith}
-use Rattle.bcast_model.specs.Seen.{sets, settle}
+use Rattle.bcast_model.specs.Effect.{sets}
+use Rattle.bcast_model.specs.Steps.{settle}
+use Rattle.bcast_model.specs.View.{View}
 use Rattle.std.specs.FinMap.{get, insert}
 use Rattle.std.proofs.lemmas.Result.{on_ok_weaker}
 use Rattle.bcast_core.proofs.Views.{view-with_cursors}
-use Rattle.bcast_model.specs.View.{View}
 use Rattle.bcast_core.proofs.Positions.{some_and, len_read}
 use Rattle.bcast_core.proofs.parts.Parts.read.Goals as goal
 

@@ -1,6 +1,7 @@
 use Rattle.std.proofs.Common.{cond, is_some, ap, ◌∙◌, arith}
 use Rattle.std.specs.FinMap.{get, len, remove}
-use Rattle.bcast_model.specs.Seen.{sets, settle}
+use Rattle.bcast_model.specs.Effect.{sets}
+use Rattle.bcast_model.specs.Steps.{settle}
 use Rattle.bcast_store.specs.Stored.{Stored, with_cursors}
 use Rattle.bcast_core.proofs.Views.{view-with_cursors}
 use Rattle.bcast_core.proofs.Positions.{len_removed}

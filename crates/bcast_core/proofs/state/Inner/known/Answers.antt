@@ -1,5 +1,5 @@
 use Rattle.std.proofs.Common.{subst}
-use Rattle.bcast_model.specs.View.{IsShown}
+use Rattle.bcast_model.specs.Answers.{IsShown}
 use Rattle.bcast_core.proofs.state.Inner.known.Goals as goal
 
 pub returns : goal.returns
