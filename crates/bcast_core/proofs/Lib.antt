@@ -4,7 +4,7 @@ pub mod Views
 pub mod Offers
 pub mod Polls
 pub mod Receives
-pub mod Positions
+pub mod Rooms
 pub mod Does
 pub mod Making
 pub mod Respelt

@@ -1,7 +1,6 @@
 -- The parts of a new channel.
 use Rattle.std.proofs.Common.{◌≡◌, ℕ, ◌+◌, ◌^◌, ◌<◌, ◌≤◌, true, false, [], sym, ap, ◌∙◌, arith}
-use Rattle.std.specs.Ordering.{nat_cmp}
-use Rattle.std.specs.FinMap.{empty, insert, len, get-empty, len-empty}
+use Rattle.std.specs.FinMap.{empty, insert}
 use Rattle.std.specs.FinSet as set
 use Rattle.bcast_model.specs.Listeners.{no_listeners}
 use Rattle.bcast_model.specs.History.{opening, view_of}
@@ -10,16 +9,8 @@ use Rattle.bcast_store.specs.Stored.{Stored, end_of}
 use Rattle.bcast_waiting.specs.Lists.{Sends, Receives}
 use Rattle.bcast_core.specs.Parts.{control_of, seen_of}
 use Rattle.bcast_core.proofs.Settle.{same_view}
-use Rattle.bcast_core.proofs.Positions.{len_added}
 
 module _ {T : Type 0} where
-  -- one receiver
-  pub one_receiver : (store : Stored T) (first key room : ℕ) → store ≡ record { front = first; queue = []; cursors = insert empty key first; room = room } → len store.cursors ≡ 1
-  one_receiver store first key room is =
-      let n = ap (λ (s : Stored T). len s.cursors) is ∙ len_added empty key first (get-empty nat_cmp key) in
-      let none = len-empty nat_cmp ℕ in
-      omega (arith, n, none)
-
   pub opened : (store : Stored T) (sends : Sends) (receives : Receives) (first key cap : ℕ) → 1 ≤ cap → cap < 2 ^ 64 → first + 1 < 2 ^ 64
       → store ≡ record { front = first; queue = []; cursors = insert empty key first; room = cap } → sends ≡ record { places = set.empty; waiting = no_listeners } → receives.waiting ≡ no_listeners
       → seen_of store (control_of store sends receives 1 0 false false true cap) ≡ view_of (opening cap first key)

@@ -1,6 +1,7 @@
 -- How the state of a channel is put together. No public clause cites this module.
-use Rattle.std.specs.Prelude.{◌≡◌, ℕ, Bool}
-use Rattle.bcast_model.specs.Control.{Control}
+use Rattle.std.specs.Prelude.{◌≡◌, ℕ, ◌+◌, ◌*◌, ◌<◌, Bool, true, is_some}
+use Rattle.std.specs.FinMap.{get}
+use Rattle.bcast_model.specs.Control.{Control, Cursors}
 use Rattle.bcast_model.specs.View.{View}
 use Rattle.bcast_model.specs.Legal.{Legal}
 use Rattle.bcast_model.specs.Effects.{effect}
@@ -28,6 +29,10 @@ control_of store sends receives senders inactive closed overflow await_active ca
 
 abbrev pub seen_of : {T : Type 0} → Stored T → Control → View T
 seen_of store control = record { front = store.front; queue = store.queue; end = end_of store; control = control }
+
+-- each receiver's stream and future find room among the listeners
+abbrev pub HaveRoom : Cursors → ℕ → Type 0
+HaveRoom cursors room = (key : ℕ) → is_some (get cursors key) ≡ true → 2 * key + 1 < room
 
 -- a call and its reply, but for telling a sender
 pub record Does {T : Type 0} (is_clone : T → T → Type 0) (old : View T) (c : Call T) (r : Reply T) (new : View T) : Type 0 where

@@ -42,11 +42,10 @@ impl<T, N: Notice, A: Allocator> Model for Parts<T, N, A> {
 
     ghost view = { λ p. seen_of p.store (control_of p.store p.sends p.receives p.senders p.inactive p.closed p.overflow p.await_active p.capacity) };
 
-    ghost use Rattle.std.specs.Prelude.{◌*◌, ◌≤◌};
-    ghost use Rattle.std.specs.FinMap.{len};
+    ghost use Rattle.bcast_core.specs.Parts.{HaveRoom};
 
-    // Each receiver has two positions among those that wait.
-    ghost invariant = { λ p. 2 * len p.store.cursors ≤ p.receives.room };
+    // Each receiver's listeners find room among those that wait.
+    ghost invariant = { λ p. HaveRoom p.store.cursors p.receives.room };
 }
 
 impl<T: Drop, N: Notice, A: Allocator + Copy> Parts<T, N, A> {
@@ -64,7 +63,7 @@ impl<T: Drop, N: Notice, A: Allocator + Copy> Parts<T, N, A> {
     {
         let (store, key) = Store::new(alloc, first, cap)?;
         let mut receives = ReceiveList::new(alloc);
-        receives.reserve_one_more(0)?;
+        receives.reserve_for(key)?;
         let parts = Parts {
             store,
             sends: SendList::new(alloc),

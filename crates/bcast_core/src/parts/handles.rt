@@ -26,10 +26,11 @@ impl<T: Drop, N: Notice, A: Allocator + Copy> Parts<T, N, A> {
         ensures memory { IfErr result (λ error. error ≡ HandleError.Memory) }
         ensures err { OnErr result (self.new ≡ self.old) }
     {
-        let Ok(()) = self.receives.reserve_one_more(self.store.receivers()) else {
+        let Ok(key) = self.store.add(cursor) else {
             return Err(HandleError::Memory);
         };
-        let Ok(key) = self.store.add(cursor) else {
+        let Ok(()) = self.receives.reserve_for(key) else {
+            self.store.remove(key);
             return Err(HandleError::Memory);
         };
         self.store.known();

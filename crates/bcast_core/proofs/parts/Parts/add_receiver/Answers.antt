@@ -1,10 +1,36 @@
-use Rattle.std.proofs.Common.{ap, ◌∙◌, arith}
-use Rattle.std.specs.FinMap.{len}
-use Rattle.bcast_store.specs.Stored.{Stored}
-use Rattle.bcast_core.proofs.Positions.{len_added}
+-- A receiver stays if its listeners find room, and is taken back at once if they don't.
+use Rattle.std.proofs.Common.{◌≡◌, cond, is_some, sym, ap, ◌∙◌, subst}
+use Rattle.std.specs.FinMap.{get, remove}
+use Rattle.bcast_model.specs.Laws.{IsValidView}
+use Rattle.bcast_store.specs.Stored.{Stored, with_cursors}
+use Rattle.bcast_core.specs.Parts.{HaveRoom, control_of, seen_of}
+use Rattle.bcast_core.proofs.Settle.{inserted}
+use Rattle.bcast_core.proofs.Rooms.{room_inserted, room_raised, taken_back}
 use Rattle.bcast_core.proofs.parts.Parts.add_receiver.Goals as goal
+use Rattle.bcast_core.proofs.parts.Parts.add_receiver.Goals.{After-remove}
 
 pub invariant_of-self-2 : goal.invariant_of-self-2
 invariant_of-self-2 g c =
-    let n = ap (λ (s : Stored g.row.T.Denot). len s.cursors) c.in-Ok-add.ensures.ok ∙ len_added c.self.inside.store.cursors c.in-Ok-add.key c.args.cursor c.in-Ok-add.ensures.free in
-    omega (arith, n, c.in-Ok.ensures.ok, c.receivers.ensures)
+    subst (λ (s : Stored g.row.T.Denot). HaveRoom s.cursors c.reserve_for.new.self.room) (sym c.in-Ok.ensures.ok)
+    (room_inserted c.self.inside.store.cursors c.in-Ok.key c.args.cursor c.reserve_for.new.self.room c.in-Ok-reserve_for.ensures.ok
+    (room_raised c.self.inside.store.cursors c.self.inside.receives.room c.reserve_for.new.self.room c.reserve_for.ensures.rises c.self.invariant))
+
+-- the store is as it was
+store_is : (g : _) (c : After-remove g) → c.remove.new.self ≡ c.self.inside.store
+store_is g c =
+    let some = c.remove.ensures.found ∙ ap (λ (s : Stored g.row.T.Denot). is_some (get s.cursors c.in-Ok.key)) c.in-Ok.ensures.ok ∙ ap is_some (inserted c.self.inside.store.cursors c.in-Ok.key c.args.cursor) in
+    c.remove.ensures.rest
+    ∙ ap (λ b. cond b (with_cursors c.add.new.self (remove c.add.new.self.cursors c.in-Ok.key)) c.add.new.self) some
+    ∙ ap (λ (s : Stored g.row.T.Denot). with_cursors s (remove s.cursors c.in-Ok.key)) c.in-Ok.ensures.ok
+    ∙ taken_back c.self.inside.store c.in-Ok.key c.args.cursor c.in-Ok.ensures.free (subst IsValidView (sym c.self.view_is) c.requires.valid).low
+
+pub invariant_of-self-in_default-reserve_for : goal.invariant_of-self-in_default-reserve_for
+invariant_of-self-in_default-reserve_for g c =
+    subst (λ (s : Stored g.row.T.Denot). HaveRoom s.cursors c.reserve_for.new.self.room) (sym (store_is g (goal.at.invariant_of-self-in_default-reserve_for g c).After-remove))
+    (room_raised c.self.inside.store.cursors c.self.inside.receives.room c.reserve_for.new.self.room c.reserve_for.ensures.rises c.self.invariant)
+
+pub returns-in_default-reserve_for-clause-err : goal.returns-in_default-reserve_for-clause-err
+returns-in_default-reserve_for-clause-err g c =
+    (λ i. seen_of (store_is g (goal.at.returns-in_default-reserve_for-clause-err g c).After-remove i)
+      (control_of (store_is g (goal.at.returns-in_default-reserve_for-clause-err g c).After-remove i) c.self.inside.sends (c.reserve_for.ensures.same i) c.self.inside.senders c.self.inside.inactive c.self.inside.closed c.self.inside.overflow c.self.inside.await_active c.self.inside.capacity))
+    ∙ c.self.view_is

@@ -1,11 +1,11 @@
-use Rattle.std.proofs.Common.{◌+◌, ap, ◌∙◌, is_some, arith}
+use Rattle.std.proofs.Common.{◌+◌, ap, ◌∙◌, is_some}
 use Rattle.bcast_model.specs.Effect.{sets}
 use Rattle.bcast_model.specs.Steps.{settle}
 use Rattle.bcast_model.specs.View.{View}
 use Rattle.std.specs.FinMap.{get, insert}
 use Rattle.std.proofs.lemmas.Result.{on_ok_weaker}
 use Rattle.bcast_core.proofs.Views.{view-with_cursors}
-use Rattle.bcast_core.proofs.Positions.{some_and, len_read}
+use Rattle.bcast_core.proofs.Rooms.{some_and, room_read}
 use Rattle.bcast_core.proofs.parts.Parts.read.Goals as goal
 
 pub returns-clause-ok : goal.returns-clause-ok
@@ -18,5 +18,4 @@ returns-clause-ok g c =
 pub invariant_of-self : goal.invariant_of-self
 invariant_of-self g c =
     let some = ap (λ (v : View g.row.T.Denot). is_some (get v.control.cursors c.args.key)) c.self.view_is ∙ some_and _ _ c.requires.at in
-    let n = len_read c.read.result c.self.inside.store c.read.new.self c.args.key (c.args.number + 1) some c.read.ensures.ok c.read.ensures.err in
-    omega (arith, n, c.self.invariant)
+    room_read c.read.result c.self.inside.store c.read.new.self c.args.key (c.args.number + 1) c.self.inside.receives.room some c.read.ensures.ok c.read.ensures.err c.self.invariant

@@ -1,10 +1,11 @@
-use Rattle.std.proofs.Common.{cond, is_some, ap, ◌∙◌, arith}
-use Rattle.std.specs.FinMap.{get, len, remove}
+use Rattle.std.proofs.Common.{cond, is_some, sym, ap, ◌∙◌, subst}
+use Rattle.std.specs.FinMap.{get, remove}
 use Rattle.bcast_model.specs.Effect.{sets}
 use Rattle.bcast_model.specs.Steps.{settle}
 use Rattle.bcast_store.specs.Stored.{Stored, with_cursors}
+use Rattle.bcast_core.specs.Parts.{HaveRoom}
 use Rattle.bcast_core.proofs.Views.{view-with_cursors}
-use Rattle.bcast_core.proofs.Positions.{len_removed}
+use Rattle.bcast_core.proofs.Rooms.{room_removed}
 use Rattle.bcast_core.proofs.parts.Parts.remove_cursor.Goals as goal
 
 pub returns : goal.returns
@@ -17,6 +18,6 @@ returns g c =
 pub invariant_of-self : goal.invariant_of-self
 invariant_of-self g c =
     let there = c.remove.ensures.found ∙ ap (λ v. is_some (get v.control.cursors c.args.key)) c.self.view_is ∙ c.requires in
-    let n = ap (λ (s : Stored g.row.T.Denot). len s.cursors) (c.remove.ensures.rest ∙ ap (λ b. cond b (with_cursors c.self.inside.store (remove c.self.inside.store.cursors c.args.key)) c.self.inside.store) there) in
-    let fewer = len_removed c.self.inside.store.cursors c.args.key in
-    omega (arith, n, fewer, c.self.invariant)
+    subst (λ (s : Stored g.row.T.Denot). HaveRoom s.cursors c.self.inside.receives.room)
+    (sym (c.remove.ensures.rest ∙ ap (λ b. cond b (with_cursors c.self.inside.store (remove c.self.inside.store.cursors c.args.key)) c.self.inside.store) there))
+    (room_removed c.self.inside.store.cursors c.args.key c.self.inside.receives.room c.self.invariant)

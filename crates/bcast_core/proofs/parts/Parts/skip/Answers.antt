@@ -1,11 +1,11 @@
-use Rattle.std.proofs.Common.{sym, ap, ◌∙◌, arith, is_some}
+use Rattle.std.proofs.Common.{sym, ap, ◌∙◌, subst, arith, is_some}
 use Rattle.bcast_model.specs.Control.{with_cursor}
 use Rattle.bcast_model.specs.View.{View}
-use Rattle.bcast_core.specs.Parts.{control_of, seen_of}
+use Rattle.bcast_core.specs.Parts.{HaveRoom, control_of, seen_of}
 use Rattle.bcast_core.proofs.Settle.{settle_stays, low_inserted}
-use Rattle.std.specs.FinMap.{get, len}
+use Rattle.std.specs.FinMap.{get}
 use Rattle.bcast_store.specs.Stored.{Stored}
-use Rattle.bcast_core.proofs.Positions.{some_and, len_moved}
+use Rattle.bcast_core.proofs.Rooms.{some_and, room_inserted}
 use Rattle.bcast_core.proofs.parts.Parts.skip.Goals as goal
 
 pub returns : goal.returns
@@ -17,5 +17,5 @@ returns g c =
 pub invariant_of-self : goal.invariant_of-self
 invariant_of-self g c =
     let some = ap (λ (v : View g.row.T.Denot). is_some (get v.control.cursors c.args.key)) c.self.view_is ∙ some_and _ _ c.requires.lags in
-    let n = ap (λ (s : Stored g.row.T.Denot). len s.cursors) c.skip.ensures ∙ len_moved c.self.inside.store.cursors c.args.key c.self.inside.store.front some in
-    omega (arith, n, c.self.invariant)
+    subst (λ (s : Stored g.row.T.Denot). HaveRoom s.cursors c.self.inside.receives.room) (sym c.skip.ensures)
+    (room_inserted c.self.inside.store.cursors c.args.key c.self.inside.store.front c.self.inside.receives.room (c.self.invariant c.args.key some) c.self.invariant)

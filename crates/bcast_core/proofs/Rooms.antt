@@ -1,0 +1,73 @@
+-- Each receiver's listeners find room, while receivers come, read and leave.
+use Rattle.std.proofs.Common.{◌≡◌, ℕ, ◌+◌, ◌-◌, ◌*◌, ◌<◌, ◌≤◌, Bool, true, false, cond, max, drop, Option, Some, None, is_some, Result, Ok, Err, IsSomeAnd, OnOk, OnErr, refl, sym, ap, ◌∙◌, subst, arith}
+use Rattle.std.proofs.lemmas.Bool.{true≢false}
+use Rattle.std.specs.Ordering.{nat_cmp, eq_by_cmp}
+use Rattle.std.specs.Cmp.{nat_cmp_total, unsigned_tied}
+use Rattle.std.specs.FinMap.{nat_cmp-IsAntisymmetric, get, insert, remove, empty, values, get-empty, get-insert, get-remove, same_map}
+use Rattle.bcast_model.specs.Control.{Cursors}
+use Rattle.bcast_model.specs.History.{least}
+use Rattle.bcast_model.proofs.Tests.{test_place}
+use Rattle.bcast_store.specs.Stored.{Stored, end_of, with_cursors}
+use Rattle.bcast_core.specs.Parts.{HaveRoom}
+
+pub some_and : (P : ℕ → Type 0) (o : Option ℕ) → IsSomeAnd o P → is_some o ≡ true
+some_and P None p = absurd p
+some_and P (Some cursor) p = refl
+
+same_key : (q key : ℕ) → eq_by_cmp nat_cmp q key ≡ true → q ≡ key
+same_key q key e = test_place.no q key (sym (unsigned_tied q key) ∙ e)
+
+-- nobody needs room
+pub room_empty : (room : ℕ) → HaveRoom empty room
+room_empty room key h = absurd (true≢false (sym h ∙ ap is_some (get-empty nat_cmp key)))
+
+pub room_raised : (cursors : Cursors) (room more : ℕ) → room ≤ more → HaveRoom cursors room → HaveRoom cursors more
+room_raised cursors room more rises all key h = let own = all key h in omega (arith, own, rises)
+
+-- a receiver comes that finds room, or has another cursor
+pub room_inserted : (cursors : Cursors) (key cursor room : ℕ) → 2 * key + 1 < room → HaveRoom cursors room → HaveRoom (insert cursors key cursor) room
+room_inserted cursors key cursor room own all other h = by_key (eq_by_cmp nat_cmp other key) refl (sym (ap is_some (get-insert nat_cmp_total cursors key cursor other)) ∙ h)
+  where
+    by_key : (b : Bool) → eq_by_cmp nat_cmp other key ≡ b → is_some (cond b (Some cursor) (get cursors other)) ≡ true → 2 * other + 1 < room
+    by_key true e some = let same = same_key other key e in omega (arith, same, own)
+    by_key false e some = all other some
+
+-- a receiver leaves
+pub room_removed : (cursors : Cursors) (key room : ℕ) → HaveRoom cursors room → HaveRoom (remove cursors key) room
+room_removed cursors key room all other h = by_key (eq_by_cmp nat_cmp other key) (sym (ap is_some (get-remove nat_cmp_total cursors key other)) ∙ h)
+  where
+    by_key : (b : Bool) → is_some (cond b None (get cursors other)) ≡ true → 2 * other + 1 < room
+    by_key true some = cc
+    by_key false some = all other some
+
+-- a read leaves the receivers, whether it was refused or not
+pub room_read : {T E : Type 0} (r : Result T E) (old new : Stored T) (key cursor room : ℕ) → is_some (get old.cursors key) ≡ true
+    → OnOk r (new ≡ with_cursors old (insert old.cursors key cursor)) → OnErr r (new ≡ old) → HaveRoom old.cursors room → HaveRoom new.cursors room
+room_read {T = T} (Ok msg) old new key cursor room some ok err all = subst (λ (s : Stored T). HaveRoom s.cursors room) (sym ok) (room_inserted old.cursors key cursor room (all key some) all)
+room_read {T = T} (Err e) old new key cursor room some ok err all = subst (λ (s : Stored T). HaveRoom s.cursors room) (sym err) all
+
+-- a receiver that came and left at once
+pub remove-insert : (cursors : Cursors) (key cursor : ℕ) → get cursors key ≡ None → remove (insert cursors key cursor) key ≡ cursors
+remove-insert cursors key cursor fresh =
+    same_map nat_cmp_total nat_cmp-IsAntisymmetric _ _ (λ q.
+    get-remove nat_cmp_total (insert cursors key cursor) key q
+    ∙ ap (λ o. cond (eq_by_cmp nat_cmp q key) None o) (get-insert nat_cmp_total cursors key cursor q)
+    ∙ by_key q (eq_by_cmp nat_cmp q key) refl)
+  where
+    by_key : (q : ℕ) (b : Bool) → eq_by_cmp nat_cmp q key ≡ b → cond b None (cond b (Some cursor) (get cursors q)) ≡ get cursors q
+    by_key q true e = sym (ap (get cursors) (same_key q key e) ∙ fresh)
+    by_key q false e = refl
+
+module _ {T : Type 0} where
+  -- the cursors that it has leave a store as it is
+  with_own_cursors : (s : Stored T) → least (end_of s) (values s.cursors) ≤ s.front → with_cursors s s.cursors ≡ s
+  with_own_cursors s low =
+      let front : max s.front (least (end_of s) (values s.cursors)) ≡ s.front = omega (arith, low) in
+      let none : s.front - s.front ≡ 0 = omega arith in
+      ap (λ m. record s { front = m; queue = drop (m - s.front) s.queue }) front
+      ∙ ap (λ n. record s { queue = drop n s.queue }) none
+
+  -- so does a receiver that came and left at once
+  pub taken_back : (s : Stored T) (key cursor : ℕ) → get s.cursors key ≡ None → least (end_of s) (values s.cursors) ≤ s.front
+      → with_cursors s (remove (insert s.cursors key cursor) key) ≡ s
+  taken_back s key cursor fresh low = ap (with_cursors s) (remove-insert s.cursors key cursor fresh) ∙ with_own_cursors s low
