@@ -15,14 +15,12 @@ ghost use Rattle.bcast_core.specs.Sure.{is_receive_refused};
 use crate::state::Inner;
 use bcast_event::notice::{Notice, Silent};
 use bcast_model::run::{Call, Reply};
-use std::alloc::Allocator;
+use std::alloc::{Allocator, Global};
 
-/// Makes the one state call that `call` names, and answers its reply.
+/// Makes the one state call that `call` names, and returns its reply.
 ///
 /// `notice` is told once a poll that waits is to be made again; only the four polls use it. A new
 /// capacity must be positive.
-///
-/// Source: this crate's own.
 #[inline(always)]
 pub fn step<T: Clone, N: Notice, A: Allocator + Copy>(
     inner: &mut Inner<T, N, A>,
@@ -32,7 +30,7 @@ pub fn step<T: Clone, N: Notice, A: Allocator + Copy>(
     requires { HasPositiveCapacity call }
     ensures answers { Answers T.is_clone inner.old call result inner.new }
     ensures possible { IsPossible T.is_clone call result }
-    // Where no clone fails, no receive is refused.
+    // If no clone fails, no receive is refused.
     ensures sure { ((msg : T) → T.is_infallible msg) → is_receive_refused result ≡ false }
 {
     inner.known();
@@ -99,9 +97,16 @@ pub fn step<T: Clone, N: Notice, A: Allocator + Copy>(
     }
 }
 
-/// What `run` answers: the channel, the key of its first receiver, and the replies in order; or the
-/// calls, where it found no memory.
-pub type Ran<T, A> = Result<(Inner<T, Silent, A>, usize, Vec<Reply<T>, A>), Vec<Call<T>, A>>;
+/// What `run` returns.
+#[derive(Drop)]
+pub struct Ran<T, A: Allocator = Global> {
+    /// The channel after the last call.
+    pub channel: Inner<T, Silent, A>,
+    /// The key of its first receiver.
+    pub first_key: usize,
+    /// The replies, one for each call, in order.
+    pub replies: Vec<Reply<T>, A>,
+}
 
 /// Makes all calls in order, on a channel of its own: `starting_at(alloc, cap, first)`.
 ///
@@ -110,41 +115,51 @@ pub type Ran<T, A> = Result<(Inner<T, Silent, A>, usize, Vec<Reply<T>, A>), Vec<
 ///
 /// # Errors
 ///
-/// The calls come back, and none was made: there is no memory for the channel or for the replies.
-///
-/// Source: this crate's own.
+/// The calls come back, and none was made: memory for the channel or for the replies was refused.
 pub fn run<T: Clone, A: Allocator + Copy>(
     alloc: A,
     cap: usize,
     first: u64,
     calls: Vec<Call<T>, A>,
-) -> Ran<T, A>
+) -> Result<Ran<T, A>, Vec<Call<T>, A>>
     requires capacity { 0 < cap }
     requires number { first + 1 < 2 ^ 64 }
     requires positive { AllByRecursion HasPositiveCapacity calls.items }
     // The replies are those of a run of the machine, and what is returned shows its end.
-    ensures replies { IfOk result (λ made. IsRun T.is_clone (opening cap first made.1) calls.items made.2.items) }
-    ensures end { IfOk result (λ made. Represents made.0 (end_of_run (opening cap first made.1) calls.items made.2.items)) }
-    ensures valid { IfOk result (λ made. IsValid (end_of_run (opening cap first made.1) calls.items made.2.items)) }
-    // Every receiver was given the accepted messages from its start to its cursor, in order, and told how many it missed.
-    ensures deliveries { IfOk result (λ made. AtEachPoint (AreAllExact T.is_clone) (opening cap first made.1) calls.items made.2.items) }
+    ensures replies { IfOk result (λ made.
+        IsRun T.is_clone (opening cap first made.first_key) calls.items made.replies.items) }
+    ensures end { IfOk result (λ made. Represents made.channel
+        (end_of_run (opening cap first made.first_key) calls.items made.replies.items)) }
+    ensures valid { IfOk result (λ made. IsValid
+        (end_of_run (opening cap first made.first_key) calls.items made.replies.items)) }
+    // Every receiver was given the accepted messages from its start to its cursor, in order, and told
+    // how many it missed.
+    ensures deliveries { IfOk result (λ made. AtEachPoint (AreAllExact T.is_clone)
+        (opening cap first made.first_key) calls.items made.replies.items) }
     // No message was dropped twice.
-    ensures dropped { IfOk result (λ made. IsStrictlyIncreasing (dropped_in (opening cap first made.1) calls.items made.2.items)) }
-    // Where a clone equals its original, the replies are the machine's to the letter.
-    ensures exact { ClonesEqual T.is_clone → IfOk result (λ made. IsRun NoClone (opening cap first made.1) calls.items made.2.items) }
-    // Where no clone fails, no receive is refused.
-    ensures sure { ((msg : T) → T.is_infallible msg) → IfOk result (λ made. All (λ r. is_receive_refused r ≡ false) made.2.items) }
+    ensures dropped { IfOk result (λ made. IsStrictlyIncreasing
+        (dropped_in (opening cap first made.first_key) calls.items made.replies.items)) }
+    // If a clone equals its original, the replies are the machine's to the letter.
+    ensures exact { ClonesEqual T.is_clone → IfOk result (λ made.
+        IsRun NoClone (opening cap first made.first_key) calls.items made.replies.items) }
+    // If no clone fails, no receive is refused.
+    ensures sure { ((msg : T) → T.is_infallible msg)
+        → IfOk result (λ made. All (λ r. is_receive_refused r ≡ false) made.replies.items) }
 
     ensures refused { IfErr result (λ back. back.items ≡ calls.items) }
 {
     let Ok(mut replies) = Vec::with_capacity(alloc, calls.len()) else {
         return Err(calls);
     };
-    let Ok((mut inner, key)) = Inner::starting_at(alloc, cap, first) else {
+    let Ok((mut channel, first_key)) = Inner::starting_at(alloc, cap, first) else {
         return Err(calls);
     };
     for call in calls {
-        replies.push_reserved(step(&mut inner, call, Silent));
+        replies.push_reserved(step(&mut channel, call, Silent));
     }
-    Ok((inner, key, replies))
+    Ok(Ran {
+        channel,
+        first_key,
+        replies,
+    })
 }

@@ -4,7 +4,7 @@ use futures::task::Poll;
 use std::alloc::AllocError;
 
 /// What a send that may wait was answered.
-#[derive(Drop)]
+#[derive(Clone, Copy, PartialEq, Drop)]
 pub enum SendPoll<T> {
     /// The message was accepted, and the oldest one is handed back where overflow dropped it;
     /// or the message comes back, since nobody can receive it.
@@ -17,7 +17,7 @@ pub enum SendPoll<T> {
 ///
 /// A `usize` is a receiver's key, in `PollSend` and `EndSend` a send's place, and in `SetCapacity`
 /// the new capacity.
-#[derive(Drop)]
+#[derive(Clone, Copy, PartialEq, Drop)]
 pub enum Call<T> {
     TryBroadcast(T),
     AttemptSend(T),
@@ -58,7 +58,7 @@ pub enum Call<T> {
 }
 
 /// What the state call of the same name answered.
-#[derive(Drop)]
+#[derive(PartialEq, Drop)]
 pub enum Reply<T> {
     TryBroadcast(Result<Option<T>, TrySendError<T>>),
     AttemptSend(SendPoll<T>),

@@ -20,9 +20,9 @@ impl<T: Drop, N: Notice, A: Allocator + Copy> Inner<T, N, A> {
     pub fn new_sender(&mut self) -> Result<(), HandleError>
         ensures { Answers NoClone self.old call.NewSender (reply.NewSender result) self.new }
     {
-        let may_tell = !self.parts.is_ready();
+        let was_blocked = !self.parts.is_ready();
         let made = self.parts.new_sender();
-        self.parts.tell_if_ready(may_tell);
+        self.parts.tell_if_ready(was_blocked);
         made
     }
 
@@ -38,9 +38,9 @@ impl<T: Drop, N: Notice, A: Allocator + Copy> Inner<T, N, A> {
     pub fn clone_inactive(&mut self) -> Result<(), HandleError>
         ensures { Answers NoClone self.old call.CloneInactive (reply.CloneInactive result) self.new }
     {
-        let may_tell = !self.parts.is_ready();
+        let was_blocked = !self.parts.is_ready();
         let made = self.parts.clone_inactive();
-        self.parts.tell_if_ready(may_tell);
+        self.parts.tell_if_ready(was_blocked);
         made
     }
 
@@ -57,9 +57,9 @@ impl<T: Drop, N: Notice, A: Allocator + Copy> Inner<T, N, A> {
     pub fn deactivate(&mut self, key: usize) -> Result<(), HandleError>
         ensures { Answers NoClone self.old (call.Deactivate key) (reply.Deactivate result) self.new }
     {
-        let may_tell = !self.parts.is_ready();
+        let was_blocked = !self.parts.is_ready();
         let made = self.parts.deactivate(key);
-        self.parts.tell_if_ready(may_tell);
+        self.parts.tell_if_ready(was_blocked);
         made
     }
 
@@ -73,9 +73,9 @@ impl<T: Drop, N: Notice, A: Allocator + Copy> Inner<T, N, A> {
     pub fn new_receiver(&mut self) -> Result<usize, HandleError>
         ensures { Answers NoClone self.old call.NewReceiver (reply.NewReceiver result) self.new }
     {
-        let may_tell = !self.parts.is_ready();
+        let was_blocked = !self.parts.is_ready();
         let made = self.parts.new_receiver();
-        self.parts.tell_if_ready(may_tell);
+        self.parts.tell_if_ready(was_blocked);
         made
     }
 
@@ -91,9 +91,9 @@ impl<T: Drop, N: Notice, A: Allocator + Copy> Inner<T, N, A> {
     pub fn activate(&mut self) -> Result<usize, HandleError>
         ensures { Answers NoClone self.old call.Activate (reply.Activate result) self.new }
     {
-        let may_tell = !self.parts.is_ready();
+        let was_blocked = !self.parts.is_ready();
         let made = self.parts.activate();
-        self.parts.tell_if_ready(may_tell);
+        self.parts.tell_if_ready(was_blocked);
         made
     }
 
@@ -109,9 +109,9 @@ impl<T: Drop, N: Notice, A: Allocator + Copy> Inner<T, N, A> {
     pub fn activate_cloned(&mut self) -> Result<usize, HandleError>
         ensures { Answers NoClone self.old call.ActivateCloned (reply.ActivateCloned result) self.new }
     {
-        let may_tell = !self.parts.is_ready();
+        let was_blocked = !self.parts.is_ready();
         let made = self.parts.activate_cloned();
-        self.parts.tell_if_ready(may_tell);
+        self.parts.tell_if_ready(was_blocked);
         made
     }
 
@@ -127,9 +127,9 @@ impl<T: Drop, N: Notice, A: Allocator + Copy> Inner<T, N, A> {
     pub fn clone_receiver(&mut self, key: usize) -> Result<usize, HandleError>
         ensures { Answers NoClone self.old (call.CloneReceiver key) (reply.CloneReceiver result) self.new }
     {
-        let may_tell = !self.parts.is_ready();
+        let was_blocked = !self.parts.is_ready();
         let made = self.parts.clone_receiver(key);
-        self.parts.tell_if_ready(may_tell);
+        self.parts.tell_if_ready(was_blocked);
         made
     }
 
@@ -139,9 +139,9 @@ impl<T: Drop, N: Notice, A: Allocator + Copy> Inner<T, N, A> {
     pub fn drop_sender(&mut self)
         ensures { Answers NoClone self.old call.DropSender reply.DropSender self.new }
     {
-        let may_tell = !self.parts.is_ready();
+        let was_blocked = !self.parts.is_ready();
         self.parts.drop_sender();
-        self.parts.tell_if_ready(may_tell);
+        self.parts.tell_if_ready(was_blocked);
     }
 
     /// Counts one inactive receiver less. Where neither an inactive nor an active one is left, the
@@ -151,9 +151,9 @@ impl<T: Drop, N: Notice, A: Allocator + Copy> Inner<T, N, A> {
     pub fn drop_inactive(&mut self)
         ensures { Answers NoClone self.old call.DropInactive reply.DropInactive self.new }
     {
-        let may_tell = !self.parts.is_ready();
+        let was_blocked = !self.parts.is_ready();
         self.parts.drop_inactive();
-        self.parts.tell_if_ready(may_tell);
+        self.parts.tell_if_ready(was_blocked);
     }
 
     /// Takes the receiver of this key out: its stream and its future wait no more, and the messages
@@ -164,8 +164,8 @@ impl<T: Drop, N: Notice, A: Allocator + Copy> Inner<T, N, A> {
     pub fn drop_receiver(&mut self, key: usize)
         ensures { Answers NoClone self.old (call.DropReceiver key) reply.DropReceiver self.new }
     {
-        let may_tell = !self.parts.is_ready();
+        let was_blocked = !self.parts.is_ready();
         self.parts.drop_receiver(key);
-        self.parts.tell_if_ready(may_tell);
+        self.parts.tell_if_ready(was_blocked);
     }
 }

@@ -76,10 +76,10 @@ impl<T: Clone, N: Notice, A: Allocator + Copy> Inner<T, N, A> {
         ensures answers { Answers T.is_clone self.old (call.PollFuture key) (reply.PollFuture result) self.new }
         ensures sure { ((msg : T) → T.is_infallible msg) → IsOk result }
     {
-        let may_tell = !self.parts.is_ready();
+        let was_blocked = !self.parts.is_ready();
         let at = self.parts.cursor(key);
         let received = self.parts.poll(key, Kind::Future, at, notice);
-        self.parts.tell_if_ready(may_tell);
+        self.parts.tell_if_ready(was_blocked);
         future_reply(received)
     }
 
@@ -99,10 +99,10 @@ impl<T: Clone, N: Notice, A: Allocator + Copy> Inner<T, N, A> {
         ensures answers { Answers T.is_clone self.old (call.PollRecv key) (reply.PollRecv result) self.new }
         ensures sure { ((msg : T) → T.is_infallible msg) → IsOk result }
     {
-        let may_tell = !self.parts.is_ready();
+        let was_blocked = !self.parts.is_ready();
         let at = self.parts.cursor(key);
         let received = self.parts.poll(key, Kind::Stream, at, notice);
-        self.parts.tell_if_ready(may_tell);
+        self.parts.tell_if_ready(was_blocked);
         stream_reply(received)
     }
 
@@ -118,10 +118,10 @@ impl<T: Clone, N: Notice, A: Allocator + Copy> Inner<T, N, A> {
         ensures answers { Answers T.is_clone self.old (call.PollNext key) (reply.PollNext result) self.new }
         ensures sure { ((msg : T) → T.is_infallible msg) → IsOk result }
     {
-        let may_tell = !self.parts.is_ready();
+        let was_blocked = !self.parts.is_ready();
         let (at, skips) = self.parts.skipped_to(key);
         let received = self.parts.poll(key, Kind::Stream, at, notice);
-        self.parts.tell_if_ready(may_tell);
+        self.parts.tell_if_ready(was_blocked);
         next_reply(skips, received)
     }
 }
@@ -134,8 +134,8 @@ impl<T: Drop, N: Notice, A: Allocator + Copy> Inner<T, N, A> {
     pub fn end_future(&mut self, key: usize)
         ensures { Answers NoClone self.old (call.EndFuture key) reply.EndFuture self.new }
     {
-        let may_tell = !self.parts.is_ready();
+        let was_blocked = !self.parts.is_ready();
         self.parts.pair_dropped(key, Kind::Future);
-        self.parts.tell_if_ready(may_tell);
+        self.parts.tell_if_ready(was_blocked);
     }
 }

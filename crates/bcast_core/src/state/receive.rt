@@ -31,10 +31,10 @@ impl<T: Clone, N: Notice, A: Allocator + Copy> Inner<T, N, A> {
         // Where no clone fails, there is an answer.
         ensures sure { ((msg : T) → T.is_infallible msg) → IsOk result }
     {
-        let may_tell = !self.parts.is_ready();
+        let was_blocked = !self.parts.is_ready();
         let at = self.parts.cursor(key);
         let received = self.parts.receive(key, at);
-        self.parts.tell_if_ready(may_tell);
+        self.parts.tell_if_ready(was_blocked);
         received
     }
 }

@@ -29,9 +29,9 @@ impl<T: Drop, N: Notice, A: Allocator + Copy> Inner<T, N, A> {
     pub fn try_broadcast(&mut self, msg: T) -> Result<Option<T>, TrySendError<T>>
         ensures { Answers NoClone self.old (call.TryBroadcast msg) (reply.TryBroadcast result) self.new }
     {
-        let may_tell = !self.parts.is_ready();
+        let was_blocked = !self.parts.is_ready();
         let sent = self.parts.offer(msg);
-        self.parts.tell_if_ready(may_tell);
+        self.parts.tell_if_ready(was_blocked);
         sent
     }
 
@@ -46,9 +46,9 @@ impl<T: Drop, N: Notice, A: Allocator + Copy> Inner<T, N, A> {
     pub fn attempt_send(&mut self, msg: T) -> SendPoll<T>
         ensures { Answers NoClone self.old (call.AttemptSend msg) (reply.AttemptSend result) self.new }
     {
-        let may_tell = !self.parts.is_ready();
+        let was_blocked = !self.parts.is_ready();
         let sent = self.parts.attempt(msg);
-        self.parts.tell_if_ready(may_tell);
+        self.parts.tell_if_ready(was_blocked);
         sent
     }
 
@@ -62,9 +62,9 @@ impl<T: Drop, N: Notice, A: Allocator + Copy> Inner<T, N, A> {
     pub fn begin_send(&mut self) -> Result<usize, AllocError>
         ensures { Answers NoClone self.old call.BeginSend (reply.BeginSend result) self.new }
     {
-        let may_tell = !self.parts.is_ready();
+        let was_blocked = !self.parts.is_ready();
         let begun = self.parts.begin_send();
-        self.parts.tell_if_ready(may_tell);
+        self.parts.tell_if_ready(was_blocked);
         begun
     }
 
@@ -78,9 +78,9 @@ impl<T: Drop, N: Notice, A: Allocator + Copy> Inner<T, N, A> {
     pub fn poll_send(&mut self, place: usize, msg: T, notice: N) -> SendPoll<T>
         ensures { Answers NoClone self.old (call.PollSend place msg) (reply.PollSend result) self.new }
     {
-        let may_tell = self.parts.answers_send(place);
+        let is_answered = self.parts.answers_send(place);
         let sent = self.parts.poll_send(place, msg, notice);
-        self.parts.tell_if_ready(may_tell);
+        self.parts.tell_if_ready(is_answered);
         sent
     }
 
@@ -91,8 +91,8 @@ impl<T: Drop, N: Notice, A: Allocator + Copy> Inner<T, N, A> {
     pub fn end_send(&mut self, place: usize)
         ensures { Answers NoClone self.old (call.EndSend place) reply.EndSend self.new }
     {
-        let may_tell = !self.parts.is_ready();
+        let was_blocked = !self.parts.is_ready();
         self.parts.place_dropped(place);
-        self.parts.tell_if_ready(may_tell);
+        self.parts.tell_if_ready(was_blocked);
     }
 }

@@ -29,15 +29,15 @@ loop-call-preserved g c =
     let i = c.loop-call.invariant in
     let a = c.step.ensures.answers in
     let s = c.in-Some.ensures.steps in
-    let on = run_more g.T.Clone.is_clone (opening c.args.cap c.args.first c.in-Ok-starting_at.key) c.loop-call.yielded c.loop-call.replies.items c.in-Some.call c.step.result i.run (subst (λ v. Legal g.T.Clone.is_clone v c.in-Some.call c.step.result) i.represents a.legal) in
-    let e = ap (end_of_run (opening c.args.cap c.args.first c.in-Ok-starting_at.key) (c.loop-call.yielded ++ c.in-Some.call ∷ [])) c.push_reserved.ensures.items
-    ∙ end_more g.T.Clone.is_clone (opening c.args.cap c.args.first c.in-Ok-starting_at.key) c.loop-call.yielded c.loop-call.replies.items c.in-Some.call c.step.result i.run in
+    let on = run_more g.T.Clone.is_clone (opening c.args.cap c.args.first c.in-Ok-starting_at.first_key) c.loop-call.yielded c.loop-call.replies.items c.in-Some.call c.step.result i.run (subst (λ v. Legal g.T.Clone.is_clone v c.in-Some.call c.step.result) i.represents a.legal) in
+    let e = ap (end_of_run (opening c.args.cap c.args.first c.in-Ok-starting_at.first_key) (c.loop-call.yielded ++ c.in-Some.call ∷ [])) c.push_reserved.ensures.items
+    ∙ end_more g.T.Clone.is_clone (opening c.args.cap c.args.first c.in-Ok-starting_at.first_key) c.loop-call.yielded c.loop-call.replies.items c.in-Some.call c.step.result i.run in
     record {
       goes = tt;
       finite = tt;
       rest = append_assoc c.loop-call.yielded (c.in-Some.call ∷ []) (into_iter_items c.next.new.self) ∙ ap (λ xs. c.loop-call.yielded ++ xs) (sym s.0) ∙ i.rest;
       room = (let n = ap length s.0 in omega (arith, n, i.room, c.push_reserved.ensures.len, c.push_reserved.ensures.capacity));
-      run = subst (IsRun g.T.Clone.is_clone (opening c.args.cap c.args.first c.in-Ok-starting_at.key) (c.loop-call.yielded ++ c.in-Some.call ∷ [])) (sym c.push_reserved.ensures.items) on;
+      run = subst (IsRun g.T.Clone.is_clone (opening c.args.cap c.args.first c.in-Ok-starting_at.first_key) (c.loop-call.yielded ++ c.in-Some.call ∷ [])) (sym c.push_reserved.ensures.items) on;
       sure = λ f. subst (All (λ r. is_receive_refused r ≡ false)) (sym c.push_reserved.ensures.items)
           (All-append (λ r. is_receive_refused r ≡ false) c.loop-call.replies.items (c.step.result ∷ []) (i.sure f)
           (All-cons (λ r. is_receive_refused r ≡ false) c.step.result [] (c.step.ensures.sure f) (All-nil (λ r. is_receive_refused r ≡ false))));
@@ -48,23 +48,23 @@ loop-call-preserved g c =
 pub returns-clause-deliveries : goal.returns-clause-deliveries
 returns-clause-deliveries g c =
     let i = c.loop-call.invariant in
-    subst (λ calls. AtEachPoint (AreAllExact g.T.Clone.is_clone) (opening c.args.cap c.args.first c.in-Ok-starting_at.key) calls c.loop-call.replies.items)
+    subst (λ calls. AtEachPoint (AreAllExact g.T.Clone.is_clone) (opening c.args.cap c.args.first c.in-Ok-starting_at.first_key) calls c.loop-call.replies.items)
     (all_made c.loop-call.yielded (into_iter_items c.loop-call.call-iterator) c.args.calls.items (omega (arith, c.in-None.ensures.steps.0, c.loop-call.call-iterator.rest.ok)) i.rest)
-    (deliveries_exact g.T.Clone.is_clone (opening c.args.cap c.args.first c.in-Ok-starting_at.key) c.loop-call.yielded c.loop-call.replies.items c.in-Ok-starting_at.ensures.valid i.run)
+    (deliveries_exact g.T.Clone.is_clone (opening c.args.cap c.args.first c.in-Ok-starting_at.first_key) c.loop-call.yielded c.loop-call.replies.items c.in-Ok-starting_at.ensures.valid i.run)
 
 pub returns-clause-dropped : goal.returns-clause-dropped
 returns-clause-dropped g c =
     let i = c.loop-call.invariant in
     let all = all_made c.loop-call.yielded (into_iter_items c.loop-call.call-iterator) c.args.calls.items (omega (arith, c.in-None.ensures.steps.0, c.loop-call.call-iterator.rest.ok)) i.rest in
-    dropped_rise g.T.Clone.is_clone (opening c.args.cap c.args.first c.in-Ok-starting_at.key) c.args.calls.items c.loop-call.replies.items c.in-Ok-starting_at.ensures.valid c.requires.positive
-    (subst (λ calls. IsRun g.T.Clone.is_clone (opening c.args.cap c.args.first c.in-Ok-starting_at.key) calls c.loop-call.replies.items) all i.run)
+    dropped_rise g.T.Clone.is_clone (opening c.args.cap c.args.first c.in-Ok-starting_at.first_key) c.args.calls.items c.loop-call.replies.items c.in-Ok-starting_at.ensures.valid c.requires.positive
+    (subst (λ calls. IsRun g.T.Clone.is_clone (opening c.args.cap c.args.first c.in-Ok-starting_at.first_key) calls c.loop-call.replies.items) all i.run)
 
 pub returns-clause-exact : goal.returns-clause-exact
 returns-clause-exact g c = λ equal.
     let i = c.loop-call.invariant in
-    subst (λ calls. IsRun NoClone (opening c.args.cap c.args.first c.in-Ok-starting_at.key) calls c.loop-call.replies.items)
+    subst (λ calls. IsRun NoClone (opening c.args.cap c.args.first c.in-Ok-starting_at.first_key) calls c.loop-call.replies.items)
     (all_made c.loop-call.yielded (into_iter_items c.loop-call.call-iterator) c.args.calls.items (omega (arith, c.in-None.ensures.steps.0, c.loop-call.call-iterator.rest.ok)) i.rest)
-    (run_exact g.T.Clone.is_clone (opening c.args.cap c.args.first c.in-Ok-starting_at.key) c.loop-call.yielded c.loop-call.replies.items equal i.run)
+    (run_exact g.T.Clone.is_clone (opening c.args.cap c.args.first c.in-Ok-starting_at.first_key) c.loop-call.yielded c.loop-call.replies.items equal i.run)
 
 pub loop-call-init : goal.loop-call-init
 loop-call-init g c =
@@ -74,7 +74,7 @@ loop-call-init g c =
       finite = tt;
       rest = c.into_iter-call-iterator.ensures.into_iter_gives.0;
       room = omega (arith, n, c.len.ensures, c.in-Ok.ensures.len, c.in-Ok.ensures.capacity);
-      run = subst (λ replies. IsRun g.T.Clone.is_clone (opening c.args.cap c.args.first c.in-Ok-starting_at.key) [] replies) (sym c.in-Ok.ensures.items) tt;
+      run = subst (λ replies. IsRun g.T.Clone.is_clone (opening c.args.cap c.args.first c.in-Ok-starting_at.first_key) [] replies) (sym c.in-Ok.ensures.items) tt;
       sure = λ f. subst (All (λ r. is_receive_refused r ≡ false)) (sym c.in-Ok.ensures.items) (All-nil (λ r. is_receive_refused r ≡ false));
       represents = c.in-Ok-starting_at.ensures.opened;
       valid = c.in-Ok-starting_at.ensures.valid;
@@ -83,5 +83,5 @@ loop-call-init g c =
 pub returns-clause-valid : goal.returns-clause-valid
 returns-clause-valid g c =
     let i = c.loop-call.invariant in
-    subst (λ calls. IsValid (end_of_run (opening c.args.cap c.args.first c.in-Ok-starting_at.key) calls c.loop-call.replies.items))
+    subst (λ calls. IsValid (end_of_run (opening c.args.cap c.args.first c.in-Ok-starting_at.first_key) calls c.loop-call.replies.items))
     (all_made c.loop-call.yielded (into_iter_items c.loop-call.call-iterator) c.args.calls.items (omega (arith, c.in-None.ensures.steps.0, c.loop-call.call-iterator.rest.ok)) i.rest) i.valid

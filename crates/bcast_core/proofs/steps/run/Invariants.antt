@@ -14,8 +14,8 @@ invariant-loop-call g l = record {
   finite : (goal.iterator-loop-call g).is_finite l.call-iterator;
   rest : l.yielded ++ into_iter_items l.call-iterator ≡ l.fn.calls.items;
   room : vec_len l.replies + length (into_iter_items l.call-iterator) ≤ vec_capacity l.replies;
-  run : IsRun g.T.Clone.is_clone (opening l.cap l.first l.key) l.yielded l.replies.items;
+  run : IsRun g.T.Clone.is_clone (opening l.cap l.first l.first_key) l.yielded l.replies.items;
   sure : ((msg : g.row.T.Denot) → g.T.Clone.is_infallible msg) → All (λ r. is_receive_refused r ≡ false) l.replies.items;
-  represents : Represents l.inner (end_of_run (opening l.cap l.first l.key) l.yielded l.replies.items);
-  valid : IsValid (end_of_run (opening l.cap l.first l.key) l.yielded l.replies.items);
+  represents : Represents l.channel (end_of_run (opening l.cap l.first l.first_key) l.yielded l.replies.items);
+  valid : IsValid (end_of_run (opening l.cap l.first l.first_key) l.yielded l.replies.items);
 }

@@ -32,5 +32,5 @@ invariant_of-self-in_default-reserve_for g c =
 pub returns-in_default-reserve_for-clause-err : goal.returns-in_default-reserve_for-clause-err
 returns-in_default-reserve_for-clause-err g c =
     (λ i. seen_of (store_is g (goal.at.returns-in_default-reserve_for-clause-err g c).After-remove i)
-      (control_of (store_is g (goal.at.returns-in_default-reserve_for-clause-err g c).After-remove i) c.self.inside.sends (c.reserve_for.ensures.same i) c.self.inside.senders c.self.inside.inactive c.self.inside.closed c.self.inside.overflow c.self.inside.await_active c.self.inside.capacity))
+    (control_of (store_is g (goal.at.returns-in_default-reserve_for-clause-err g c).After-remove i) c.self.inside.sends (c.reserve_for.ensures.same i) c.self.inside.senders c.self.inside.inactive c.self.inside.closed c.self.inside.overflow c.self.inside.await_active c.self.inside.capacity))
     ∙ c.self.view_is

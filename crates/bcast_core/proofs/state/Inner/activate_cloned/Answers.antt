@@ -7,7 +7,7 @@ pub activate_cloned-made-requires : goal.activate_cloned-made-requires
 activate_cloned-made-requires g c = valid_shown c.self.invariant
 
 pub returns : goal.returns
-returns g c = answers_as c.self.view_is (fits_told _ c.activate_cloned-made.new.self c.tell_if_ready.new.self (2 ^ 64) c.tell_if_ready.ensures c.activate_cloned-made.ensures.fits) c.self.invariant (told (not c.is_ready-may_tell.result) (ap not c.is_ready-may_tell.ensures) c.activate_cloned-made.ensures.does c.tell_if_ready.ensures)
+returns g c = answers_as c.self.view_is (fits_told _ c.activate_cloned-made.new.self c.tell_if_ready.new.self (2 ^ 64) c.tell_if_ready.ensures c.activate_cloned-made.ensures.fits) c.self.invariant (told (not c.is_ready-was_blocked.result) (ap not c.is_ready-was_blocked.ensures) c.activate_cloned-made.ensures.does c.tell_if_ready.ensures)
 
 pub invariant_of-self : goal.invariant_of-self
 invariant_of-self g c = shown_after (returns g c)

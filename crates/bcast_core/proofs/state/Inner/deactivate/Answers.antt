@@ -7,7 +7,7 @@ pub deactivate-made-requires : goal.deactivate-made-requires
 deactivate-made-requires g c = valid_shown c.self.invariant
 
 pub returns : goal.returns
-returns g c = answers_as c.self.view_is tt c.self.invariant (told (not c.is_ready-may_tell.result) (ap not c.is_ready-may_tell.ensures) c.deactivate-made.ensures c.tell_if_ready.ensures)
+returns g c = answers_as c.self.view_is tt c.self.invariant (told (not c.is_ready-was_blocked.result) (ap not c.is_ready-was_blocked.ensures) c.deactivate-made.ensures c.tell_if_ready.ensures)
 
 pub invariant_of-self : goal.invariant_of-self
 invariant_of-self g c = shown_after (returns g c)

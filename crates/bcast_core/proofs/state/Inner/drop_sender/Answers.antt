@@ -7,7 +7,7 @@ pub drop_sender-requires : goal.drop_sender-requires
 drop_sender-requires g c = valid_shown c.self.invariant
 
 pub returns : goal.returns
-returns g c = answers_as c.self.view_is tt c.self.invariant (told (not c.is_ready-may_tell.result) (ap not c.is_ready-may_tell.ensures) c.drop_sender.ensures c.tell_if_ready.ensures)
+returns g c = answers_as c.self.view_is tt c.self.invariant (told (not c.is_ready-was_blocked.result) (ap not c.is_ready-was_blocked.ensures) c.drop_sender.ensures c.tell_if_ready.ensures)
 
 pub invariant_of-self : goal.invariant_of-self
 invariant_of-self g c = shown_after (returns g c)

@@ -14,7 +14,7 @@ poll-received-requires-clause-valid g c = valid_shown c.self.invariant
 
 pub returns-clause-answers : goal.returns-clause-answers
 returns-clause-answers g c =
-    answers_as c.self.view_is tt c.self.invariant (told (not c.is_ready-may_tell.result) (ap not c.is_ready-may_tell.ensures)
+    answers_as c.self.view_is tt c.self.invariant (told (not c.is_ready-was_blocked.result) (ap not c.is_ready-was_blocked.ensures)
     (does_spelt c.self.inside.parts c.poll-received.new.self (call.PollFuture c.args.key) (c.args.key, kind.Future) (cursor_of c.self.inside.parts.control c.args.key) c.cursor-at.result
     future_reply reply.PollFuture c.poll-received.result c.future_reply.result (valid_shown c.self.invariant) c.cursor-at.ensures
     c.poll-received.ensures.reply c.poll-received.ensures.ok c.poll-received.ensures.err c.future_reply.ensures.ok c.future_reply.ensures.err (λ r legal. legal) (λ a. refl) refl) c.tell_if_ready.ensures)

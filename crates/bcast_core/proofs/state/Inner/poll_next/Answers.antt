@@ -14,7 +14,7 @@ poll-received-requires-clause-valid g c = valid_shown c.self.invariant
 
 pub returns-clause-answers : goal.returns-clause-answers
 returns-clause-answers g c =
-    answers_as c.self.view_is tt c.self.invariant (told (not c.is_ready-may_tell.result) (ap not c.is_ready-may_tell.ensures)
+    answers_as c.self.view_is tt c.self.invariant (told (not c.is_ready-was_blocked.result) (ap not c.is_ready-was_blocked.ensures)
     (does_spelt c.self.inside.parts c.poll-received.new.self (call.PollNext c.args.key) (c.args.key, kind.Stream) (skipped_to c.self.inside.parts.front (cursor_of c.self.inside.parts.control c.args.key)) c.skipped_to-at.result.0
     (next_reply (skipped c.self.inside.parts.front (cursor_of c.self.inside.parts.control c.args.key))) reply.PollNext c.poll-received.result c.next_reply.result (valid_shown c.self.invariant) c.skipped_to-at.ensures.at
     c.poll-received.ensures.reply c.poll-received.ensures.ok c.poll-received.ensures.err (subst (λ n. IfOk c.poll-received.result (λ answer. c.next_reply.result ≡ Ok (next_reply n answer))) c.skipped_to-at.ensures.skips c.next_reply.ensures.ok) c.next_reply.ensures.err (λ r legal. legal) (λ a. refl) refl) c.tell_if_ready.ensures)

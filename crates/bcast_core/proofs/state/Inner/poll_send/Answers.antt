@@ -8,7 +8,7 @@ pub poll_send-sent-requires : goal.poll_send-sent-requires
 poll_send-sent-requires g c = valid_shown c.self.invariant
 
 pub returns : goal.returns
-returns g c = answers_as c.self.view_is tt c.self.invariant (told c.answers_send-may_tell.result c.answers_send-may_tell.ensures (record { legal = ap reply.PollSend c.poll_send-sent.ensures.reply; effect = c.poll_send-sent.ensures.effect }) c.tell_if_ready.ensures)
+returns g c = answers_as c.self.view_is tt c.self.invariant (told c.answers_send-is_answered.result c.answers_send-is_answered.ensures (record { legal = ap reply.PollSend c.poll_send-sent.ensures.reply; effect = c.poll_send-sent.ensures.effect }) c.tell_if_ready.ensures)
 
 pub invariant_of-self : goal.invariant_of-self
 invariant_of-self g c = shown_after (returns g c)
