@@ -67,8 +67,6 @@ impl<T: Drop, N: Notice, A: Allocator + Copy> Inner<T, N, A> {
     /// # Errors
     ///
     /// `AllocError`: there is no memory for `cap` messages, or for the receiver.
-    ///
-    /// Source: this crate's own.
     pub fn starting_at(alloc: A, cap: usize, first: u64) -> Result<(Self, usize), AllocError>
         requires capacity { 0 < cap }
         requires number { first + 1 < 2 ^ 64 }

@@ -30,8 +30,6 @@ pub struct SendError<T>(pub T);
 /// There was no memory to send a message or to make a call, which comes back. Nothing was done.
 ///
 /// It prints without asking anything of what comes back.
-///
-/// Source: this crate's own.
 #[derive(Clone, Copy, Drop, PartialEq, Eq)]
 pub struct NoMemory<T>(pub T);
 
@@ -60,8 +58,6 @@ pub enum RecvError {
 }
 
 /// Why a handle was not made. Nothing changed.
-///
-/// Source: this crate's own.
 #[derive(Clone, Copy, Debug, PartialEq, Eq)]
 pub enum HandleError {
     /// There was no memory for it.

@@ -21,8 +21,10 @@ impl<T: Drop, N: Notice, A: Allocator + Copy> Parts<T, N, A> {
         requires valid { IsValidView self.old }
         requires reach { cursor ≤ self.old.end }
         ensures free { IfOk result (λ key. cursor_of self.old.control key ≡ None) }
-        ensures ok { IfOk result (λ key. self.new ≡ settle self.old (sets (with_cursor self.old.control key cursor))) }
-        ensures fits { IfOk result (λ key. len (with_cursor self.old.control key cursor).cursors < 2 ^ 64) }
+        ensures ok { IfOk result (λ key. self.new
+            ≡ settle self.old (sets (with_cursor self.old.control key cursor))) }
+        ensures fits { IfOk result
+            (λ key. len (with_cursor self.old.control key cursor).cursors < 2 ^ 64) }
         ensures memory { IfErr result (λ error. error ≡ HandleError.Memory) }
         ensures err { OnErr result (self.new ≡ self.old) }
     {
@@ -40,7 +42,8 @@ impl<T: Drop, N: Notice, A: Allocator + Copy> Parts<T, N, A> {
     // Takes a receiver's cursor out, and drops the messages that nobody is to read any more.
     fn remove_cursor(&mut self, key: usize)
         requires { is_some (cursor_of self.old.control key) ≡ true }
-        ensures { self.new ≡ settle self.old (sets (record self.old.control { cursors = remove self.old.control.cursors key })) }
+        ensures { self.new ≡ settle self.old
+            (sets (record self.old.control { cursors = remove self.old.control.cursors key })) }
     {
         self.store.remove(key);
     }
@@ -57,25 +60,29 @@ impl<T: Drop, N: Notice, A: Allocator + Copy> Parts<T, N, A> {
     }
 
     pub fn set_senders(&mut self, senders: usize)
-        ensures { self.new ≡ record self.old { control = record self.old.control { senders = senders } } }
+        ensures { self.new
+            ≡ record self.old { control = record self.old.control { senders = senders } } }
     {
         self.senders = senders;
     }
 
     pub fn set_inactive(&mut self, inactive: usize)
-        ensures { self.new ≡ record self.old { control = record self.old.control { inactive = inactive } } }
+        ensures { self.new
+            ≡ record self.old { control = record self.old.control { inactive = inactive } } }
     {
         self.inactive = inactive;
     }
 
     pub fn set_overflow(&mut self, on: bool)
-        ensures { self.new ≡ record self.old { control = record self.old.control { overflow = on } } }
+        ensures { self.new
+            ≡ record self.old { control = record self.old.control { overflow = on } } }
     {
         self.overflow = on;
     }
 
     pub fn set_await_active(&mut self, on: bool)
-        ensures { self.new ≡ record self.old { control = record self.old.control { await_active = on } } }
+        ensures { self.new
+            ≡ record self.old { control = record self.old.control { await_active = on } } }
     {
         self.await_active = on;
     }

@@ -29,7 +29,8 @@ impl<T: Drop, N: Notice, A: Allocator + Copy> Parts<T, N, A> {
     /// Gives a place to a send that is to wait.
     pub fn begin_send(&mut self) -> Result<usize, AllocError>
         ensures free { IfOk result (λ place. has_place self.old.control place ≡ false) }
-        ensures ok { IfOk result (λ place. self.new ≡ record self.old { control = with_place self.old.control place }) }
+        ensures ok { IfOk result (λ place. self.new
+            ≡ record self.old { control = with_place self.old.control place }) }
         ensures err { OnErr result (self.new ≡ self.old) }
     {
         self.sends.begin()
@@ -68,14 +69,16 @@ impl<T: Drop, N: Notice, A: Allocator + Copy> Parts<T, N, A> {
 
     /// A receiver's listener was answered.
     pub fn pair_answered(&mut self, key: usize, kind: Kind)
-        ensures { self.new ≡ record self.old { control = pair_answered self.old.control (key, kind) } }
+        ensures { self.new
+            ≡ record self.old { control = pair_answered self.old.control (key, kind) } }
     {
         self.receives.answered(key, kind);
     }
 
     /// A receiver's listener is dropped. What it was told is passed on.
     pub fn pair_dropped(&mut self, key: usize, kind: Kind)
-        ensures { self.new ≡ record self.old { control = pair_dropped self.old.control (key, kind) } }
+        ensures { self.new
+            ≡ record self.old { control = pair_dropped self.old.control (key, kind) } }
     {
         self.receives.give_up(key, kind);
     }

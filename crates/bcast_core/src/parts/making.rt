@@ -66,7 +66,8 @@ impl<T: Drop, N: Notice, A: Allocator + Copy> Parts<T, N, A> {
 
     pub fn activate_cloned(&mut self) -> Result<usize, HandleError>
         requires { IsValidView self.old }
-        ensures does { Does NoClone self.old call.ActivateCloned (reply.ActivateCloned result) self.new }
+        ensures does { Does NoClone self.old call.ActivateCloned (reply.ActivateCloned result)
+            self.new }
         ensures fits { len self.new.control.cursors < 2 ^ 64 }
     {
         if self.inactive() == 0 {
@@ -77,7 +78,8 @@ impl<T: Drop, N: Notice, A: Allocator + Copy> Parts<T, N, A> {
 
     pub fn clone_receiver(&mut self, key: usize) -> Result<usize, HandleError>
         requires { IsValidView self.old }
-        ensures does { Does NoClone self.old (call.CloneReceiver key) (reply.CloneReceiver result) self.new }
+        ensures does { Does NoClone self.old (call.CloneReceiver key) (reply.CloneReceiver result)
+            self.new }
         ensures fits { len self.new.control.cursors < 2 ^ 64 }
     {
         let Some(cursor) = self.cursor(key) else {

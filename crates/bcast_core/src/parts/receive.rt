@@ -9,7 +9,7 @@ use std::alloc::{AllocError, Allocator};
 
 impl<T: Clone, N: Notice, A: Allocator + Copy> Parts<T, N, A> {
     ghost use Rattle.bcast_model.specs.Laws.{IsValidView};
-    ghost use Rattle.bcast_model.specs.Legal.{IsReceived};
+    ghost use Rattle.bcast_model.specs.Legal.{IsReceivedBy};
     ghost use Rattle.bcast_model.specs.Receiving.{receive, poll_receive, skipped, skipped_to};
     ghost use Rattle.bcast_model.specs.Steps.{settle};
     ghost use Rattle.bcast_model.specs.Effect.{sets};
@@ -22,8 +22,10 @@ impl<T: Clone, N: Notice, A: Allocator + Copy> Parts<T, N, A> {
     // Lets a receiver that lags go on at the front.
     fn skip(&mut self, key: usize)
         requires valid { IsValidView self.old }
-        requires lags { IsSomeAnd (cursor_of self.old.control key) (λ cursor. cursor < self.old.front) }
-        ensures { self.new ≡ settle self.old (sets (with_cursor self.old.control key self.old.front)) }
+        requires lags { IsSomeAnd (cursor_of self.old.control key)
+            (λ cursor. cursor < self.old.front) }
+        ensures { self.new
+            ≡ settle self.old (sets (with_cursor self.old.control key self.old.front)) }
     {
         self.store.skip(key);
     }
@@ -31,10 +33,14 @@ impl<T: Clone, N: Notice, A: Allocator + Copy> Parts<T, N, A> {
     // Gives a receiver the message of this number, which is the greater of its cursor and the front.
     #[inline(always)]
     fn read(&mut self, key: usize, number: u64) -> Result<T, AllocError>
-        requires at { IsSomeAnd (cursor_of self.old.control key) (λ cursor. number ≡ max cursor self.old.front) }
+        requires at { IsSomeAnd (cursor_of self.old.control key)
+            (λ cursor. number ≡ max cursor self.old.front) }
         requires below { number < self.old.end }
-        ensures given { IfOk result (λ given. (kept_at self.old number ≡ Some given) ⊎ (IsOwed self.old key (Some number) × IsSomeAnd (kept_at self.old number) (λ msg. T.is_clone msg given))) }
-        ensures ok { OnOk result (self.new ≡ settle self.old (sets (with_cursor self.old.control key (number + 1)))) }
+        ensures given { IfOk result (λ given. (kept_at self.old number ≡ Some given)
+            ⊎ (IsOwed self.old key (Some number)
+            × IsSomeAnd (kept_at self.old number) (λ msg. T.is_clone msg given))) }
+        ensures ok { OnOk result (self.new ≡ settle self.old
+            (sets (with_cursor self.old.control key (number + 1)))) }
         ensures owed { OnErr result (IsOwed self.old key (Some number)) }
         ensures err { OnErr result (self.new ≡ self.old) }
         ensures sure { ((msg : T) → T.is_infallible msg) → IsOk result }
@@ -52,9 +58,13 @@ impl<T: Clone, N: Notice, A: Allocator + Copy> Parts<T, N, A> {
         at: Option<u64>,
     ) -> Result<Result<T, TryRecvError>, AllocError>
         requires valid { IsValidView self.old }
-        requires at { (at ≡ cursor_of self.old.control key) ⊎ (at ≡ skipped_to self.old.front (cursor_of self.old.control key)) }
-        ensures reply { IsReceived T.is_clone (IsOwed self.old key at) (λ answer. reply.TryRecv (Ok answer)) (reply.TryRecv (Err alloc_error)) (try_recv_reply self.old at) (reply.TryRecv result) }
-        ensures ok { OnOk result (self.new ≡ settle self.old (sets (receive self.old.front self.old.end self.old.control key at))) }
+        requires at { (at ≡ cursor_of self.old.control key)
+            ⊎ (at ≡ skipped_to self.old.front (cursor_of self.old.control key)) }
+        ensures reply { IsReceivedBy T.is_clone self.old key at
+            (λ answer. reply.TryRecv (Ok answer)) (reply.TryRecv (Err alloc_error))
+            (reply.TryRecv result) }
+        ensures ok { OnOk result (self.new ≡ settle self.old
+            (sets (receive self.old.front self.old.end self.old.control key at))) }
         ensures err { OnErr result (self.new ≡ self.old) }
         ensures sure { ((msg : T) → T.is_infallible msg) → IsOk result }
     {
@@ -100,9 +110,14 @@ impl<T: Clone, N: Notice, A: Allocator + Copy> Parts<T, N, A> {
         notice: N,
     ) -> Result<Result<T, TryRecvError>, AllocError>
         requires valid { IsValidView self.old }
-        requires at { (at ≡ cursor_of self.old.control key) ⊎ (at ≡ skipped_to self.old.front (cursor_of self.old.control key)) }
-        ensures reply { IsReceived T.is_clone (IsOwed self.old key at) (λ answer. reply.TryRecv (Ok answer)) (reply.TryRecv (Err alloc_error)) (try_recv_reply self.old at) (reply.TryRecv result) }
-        ensures ok { OnOk result (self.new ≡ settle self.old (sets (poll_receive self.old.front self.old.end self.old.control (key, kind) at (try_recv_reply self.old at)))) }
+        requires at { (at ≡ cursor_of self.old.control key)
+            ⊎ (at ≡ skipped_to self.old.front (cursor_of self.old.control key)) }
+        ensures reply { IsReceivedBy T.is_clone self.old key at
+            (λ answer. reply.TryRecv (Ok answer)) (reply.TryRecv (Err alloc_error))
+            (reply.TryRecv result) }
+        ensures ok { OnOk result (self.new ≡ settle self.old
+            (sets (poll_receive self.old.front self.old.end self.old.control (key, kind) at
+            (try_recv_reply self.old at)))) }
         ensures err { OnErr result (self.new ≡ self.old) }
         ensures sure { ((msg : T) → T.is_infallible msg) → IsOk result }
     {

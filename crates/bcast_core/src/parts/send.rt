@@ -20,7 +20,8 @@ impl<T: Drop, N: Notice, A: Allocator + Copy> Parts<T, N, A> {
     fn drop_oldest(&mut self) -> T
         requires { 0 < length self.old.queue }
         ensures oldest { self.old.queue ≡ result ∷ self.new.queue }
-        ensures rest { self.new ≡ record self.old { front = self.old.front + 1; queue = self.new.queue } }
+        ensures rest { self.new ≡ record self.old
+            { front = self.old.front + 1; queue = self.new.queue } }
     {
         let Some(oldest) = self.store.pop() else {
             unreachable!()
@@ -93,7 +94,9 @@ impl<T: Drop, N: Notice, A: Allocator + Copy> Parts<T, N, A> {
     /// A poll of a pending send.
     pub fn poll_send(&mut self, place: usize, msg: T, notice: N) -> SendPoll<T>
         requires { IsValidView self.old }
-        ensures reply { result ≡ (if has_place self.old.control place then attempt_send_reply self.old msg else send.Wait msg) }
+        ensures reply { result ≡ (if has_place self.old.control place
+            then attempt_send_reply self.old msg
+            else send.Wait msg) }
         ensures effect { self.new ≡ settle self.old (poll_send self.old place msg) }
     {
         if !self.has_place(place) {

@@ -36,7 +36,8 @@ impl<T: Drop, N: Notice, A: Allocator + Copy> Inner<T, N, A> {
     ///
     /// Source: `InactiveReceiver::clone` of async-broadcast; the refusals are this crate's own.
     pub fn clone_inactive(&mut self) -> Result<(), HandleError>
-        ensures { Answers NoClone self.old call.CloneInactive (reply.CloneInactive result) self.new }
+        ensures { Answers NoClone self.old call.CloneInactive (reply.CloneInactive result)
+            self.new }
     {
         let was_blocked = !self.parts.is_ready();
         let made = self.parts.clone_inactive();
@@ -55,7 +56,8 @@ impl<T: Drop, N: Notice, A: Allocator + Copy> Inner<T, N, A> {
     ///
     /// Source: `Receiver::deactivate` of async-broadcast; the refusals are this crate's own.
     pub fn deactivate(&mut self, key: usize) -> Result<(), HandleError>
-        ensures { Answers NoClone self.old (call.Deactivate key) (reply.Deactivate result) self.new }
+        ensures { Answers NoClone self.old (call.Deactivate key) (reply.Deactivate result)
+            self.new }
     {
         let was_blocked = !self.parts.is_ready();
         let made = self.parts.deactivate(key);
@@ -107,7 +109,8 @@ impl<T: Drop, N: Notice, A: Allocator + Copy> Inner<T, N, A> {
     ///
     /// Source: `InactiveReceiver::activate_cloned` of async-broadcast.
     pub fn activate_cloned(&mut self) -> Result<usize, HandleError>
-        ensures { Answers NoClone self.old call.ActivateCloned (reply.ActivateCloned result) self.new }
+        ensures { Answers NoClone self.old call.ActivateCloned (reply.ActivateCloned result)
+            self.new }
     {
         let was_blocked = !self.parts.is_ready();
         let made = self.parts.activate_cloned();
@@ -125,7 +128,8 @@ impl<T: Drop, N: Notice, A: Allocator + Copy> Inner<T, N, A> {
     ///
     /// Source: `Receiver::clone` of async-broadcast.
     pub fn clone_receiver(&mut self, key: usize) -> Result<usize, HandleError>
-        ensures { Answers NoClone self.old (call.CloneReceiver key) (reply.CloneReceiver result) self.new }
+        ensures { Answers NoClone self.old (call.CloneReceiver key) (reply.CloneReceiver result)
+            self.new }
     {
         let was_blocked = !self.parts.is_ready();
         let made = self.parts.clone_receiver(key);

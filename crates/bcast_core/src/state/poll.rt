@@ -73,7 +73,8 @@ impl<T: Clone, N: Notice, A: Allocator + Copy> Inner<T, N, A> {
         key: usize,
         notice: N,
     ) -> Result<Poll<Result<T, RecvError>>, AllocError>
-        ensures answers { Answers T.is_clone self.old (call.PollFuture key) (reply.PollFuture result) self.new }
+        ensures answers { Answers T.is_clone self.old (call.PollFuture key)
+            (reply.PollFuture result) self.new }
         ensures sure { ((msg : T) → T.is_infallible msg) → IsOk result }
     {
         let was_blocked = !self.parts.is_ready();
@@ -96,7 +97,8 @@ impl<T: Clone, N: Notice, A: Allocator + Copy> Inner<T, N, A> {
         key: usize,
         notice: N,
     ) -> Result<Poll<Option<Result<T, RecvError>>>, AllocError>
-        ensures answers { Answers T.is_clone self.old (call.PollRecv key) (reply.PollRecv result) self.new }
+        ensures answers { Answers T.is_clone self.old (call.PollRecv key) (reply.PollRecv result)
+            self.new }
         ensures sure { ((msg : T) → T.is_infallible msg) → IsOk result }
     {
         let was_blocked = !self.parts.is_ready();
@@ -115,7 +117,8 @@ impl<T: Clone, N: Notice, A: Allocator + Copy> Inner<T, N, A> {
     ///
     /// Source: the `Stream` of async-broadcast's `Receiver`; the number is this crate's own.
     pub fn poll_next(&mut self, key: usize, notice: N) -> Result<Poll<Option<(T, u64)>>, AllocError>
-        ensures answers { Answers T.is_clone self.old (call.PollNext key) (reply.PollNext result) self.new }
+        ensures answers { Answers T.is_clone self.old (call.PollNext key) (reply.PollNext result)
+            self.new }
         ensures sure { ((msg : T) → T.is_infallible msg) → IsOk result }
     {
         let was_blocked = !self.parts.is_ready();

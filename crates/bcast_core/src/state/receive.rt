@@ -27,7 +27,8 @@ impl<T: Clone, N: Notice, A: Allocator + Copy> Inner<T, N, A> {
     /// Source: `Receiver::try_recv` of async-broadcast.
     #[inline(always)]
     pub fn try_recv(&mut self, key: usize) -> Result<Result<T, TryRecvError>, AllocError>
-        ensures answers { Answers T.is_clone self.old (call.TryRecv key) (reply.TryRecv result) self.new }
+        ensures answers { Answers T.is_clone self.old (call.TryRecv key) (reply.TryRecv result)
+            self.new }
         // Where no clone fails, there is an answer.
         ensures sure { ((msg : T) → T.is_infallible msg) → IsOk result }
     {

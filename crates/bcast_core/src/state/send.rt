@@ -27,7 +27,8 @@ impl<T: Drop, N: Notice, A: Allocator + Copy> Inner<T, N, A> {
     /// Source: `Sender::try_broadcast` of async-broadcast; the last number is this crate's own.
     #[inline(always)]
     pub fn try_broadcast(&mut self, msg: T) -> Result<Option<T>, TrySendError<T>>
-        ensures { Answers NoClone self.old (call.TryBroadcast msg) (reply.TryBroadcast result) self.new }
+        ensures { Answers NoClone self.old (call.TryBroadcast msg) (reply.TryBroadcast result)
+            self.new }
     {
         let was_blocked = !self.parts.is_ready();
         let sent = self.parts.offer(msg);
@@ -44,7 +45,8 @@ impl<T: Drop, N: Notice, A: Allocator + Copy> Inner<T, N, A> {
     ///
     /// Source: the poll of `Send` of async-broadcast, without its listener.
     pub fn attempt_send(&mut self, msg: T) -> SendPoll<T>
-        ensures { Answers NoClone self.old (call.AttemptSend msg) (reply.AttemptSend result) self.new }
+        ensures { Answers NoClone self.old (call.AttemptSend msg) (reply.AttemptSend result)
+            self.new }
     {
         let was_blocked = !self.parts.is_ready();
         let sent = self.parts.attempt(msg);
@@ -57,8 +59,6 @@ impl<T: Drop, N: Notice, A: Allocator + Copy> Inner<T, N, A> {
     /// # Errors
     ///
     /// `AllocError`: there is no memory for it, and nothing changed.
-    ///
-    /// Source: this crate's own.
     pub fn begin_send(&mut self) -> Result<usize, AllocError>
         ensures { Answers NoClone self.old call.BeginSend (reply.BeginSend result) self.new }
     {
@@ -76,7 +76,8 @@ impl<T: Drop, N: Notice, A: Allocator + Copy> Inner<T, N, A> {
     ///
     /// Source: the poll of `Send` of async-broadcast; who is told next is this crate's own.
     pub fn poll_send(&mut self, place: usize, msg: T, notice: N) -> SendPoll<T>
-        ensures { Answers NoClone self.old (call.PollSend place msg) (reply.PollSend result) self.new }
+        ensures { Answers NoClone self.old (call.PollSend place msg) (reply.PollSend result)
+            self.new }
     {
         let is_answered = self.parts.answers_send(place);
         let sent = self.parts.poll_send(place, msg, notice);

@@ -36,7 +36,8 @@ impl<T: Drop, N: Notice, A: Allocator + Copy> Inner<T, N, A> {
     /// Source: `set_capacity` of async-broadcast.
     pub fn set_capacity(&mut self, n: usize) -> Result<(), AllocError>
         requires { 0 < n }
-        ensures { Answers NoClone self.old (call.SetCapacity n) (reply.SetCapacity result) self.new }
+        ensures { Answers NoClone self.old (call.SetCapacity n) (reply.SetCapacity result)
+            self.new }
     {
         let was_blocked = !self.parts.is_ready();
         let set = self.parts.set_capacity(n);
