@@ -162,7 +162,7 @@ impl<T: Drop, N: Notice, A: Allocator + Copy> Inner<T, N, A> {
     }
 
     /// Proves that some valid history shows the state. Does nothing.
-    pub fn known(&self)
+    pub fn invariant_holds(&self)
         ensures { IsShown self.now }
     {
         let _ = &self.parts;

@@ -33,7 +33,21 @@ pub fn step<T: Clone, N: Notice, A: Allocator + Copy>(
     // If no clone fails, no receive is refused.
     ensures sure { ((msg : T) → T.is_infallible msg) → is_receive_refused result ≡ false }
 {
-    inner.known();
+    make_call(inner, call, notice)
+}
+
+// The same. That the reply is possible follows from what it answers.
+#[inline(always)]
+fn make_call<T: Clone, N: Notice, A: Allocator + Copy>(
+    inner: &mut Inner<T, N, A>,
+    call: Call<T>,
+    notice: N,
+) -> Reply<T>
+    requires { HasPositiveCapacity call }
+    ensures answers { Answers T.is_clone inner.old call result inner.new }
+    ensures sure { ((msg : T) → T.is_infallible msg) → is_receive_refused result ≡ false }
+{
+    inner.invariant_holds();
     match call {
         Call::TryBroadcast(msg) => Reply::TryBroadcast(inner.try_broadcast(msg)),
         Call::AttemptSend(msg) => Reply::AttemptSend(inner.attempt_send(msg)),
