@@ -5,5 +5,7 @@ pub mod Ports
 pub mod OfKind
 -- futures
 pub mod Futures
+-- which channel a lock leads to
+pub mod Channels
 -- what is seen of a channel
 pub mod Snapshots

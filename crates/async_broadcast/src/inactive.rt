@@ -96,7 +96,7 @@ impl<T: Clone, P: Port<T, Slot<A>>, A: Allocator + Copy> InactiveReceiver<T, P, 
     ///
     /// Source: `InactiveReceiver::activate_cloned` of async-broadcast 0.7.2, which never refuses.
     pub fn activate_cloned(&self) -> Result<Receiver<T, P, A>, HandleError>
-        ensures channel { IfOk result (λ made. IsSame P.gave made.port self.now.port) }
+        ensures channel { IfOk result (λ made. IsSame P.gave P.channel made.port self.now.port) }
         ensures made { IfOk result (λ made. P.gave self.now.port Call.ActivateCloned
             (Reply.ActivateCloned (Ok made.key))) }
         ensures refused { IfErr result (λ error. (error ≡ HandleError.Memory)
@@ -128,7 +128,7 @@ impl<T: Clone, P: Port<T, Slot<A>>, A: Allocator + Copy> InactiveReceiver<T, P, 
     ///
     /// Source: `InactiveReceiver::clone` of async-broadcast 0.7.2, which never refuses.
     pub fn clone(&self) -> Result<Self, HandleError>
-        ensures channel { IfOk result (λ made. IsSame P.gave made.port self.now.port) }
+        ensures channel { IfOk result (λ made. IsSame P.gave P.channel made.port self.now.port) }
         ensures made { IfOk result
             (λ _. P.gave self.now.port Call.CloneInactive (Reply.CloneInactive (Ok tt))) }
         ensures refused { IfErr result (λ error. (error ≡ HandleError.Memory)
@@ -143,7 +143,9 @@ impl<T: Clone, P: Port<T, Slot<A>>, A: Allocator + Copy> InactiveReceiver<T, P, 
 }
 
 impl<T: Clone, P: Port<T, Slot<A>>, A: Allocator> Drop for InactiveReceiver<T, P, A> {
-    fn drop(self) {
+    fn drop(self)
+        ensures { P.gave self.port Call.DropInactive Reply.DropInactive }
+    {
         self.port.ask(Call::DropInactive, Wake::none());
         let InactiveReceiver {
             port: _,

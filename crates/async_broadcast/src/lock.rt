@@ -4,6 +4,7 @@ ghost use Rattle.bcast_model.specs.Next.{HasPositiveCapacity};
 ghost use Rattle.bcast_model.specs.Answers.{IsPossible};
 ghost use Rattle.async_broadcast.specs.Kinds.{may_wait, is_answer};
 ghost use Rattle.async_broadcast.specs.Snapshots.{ShowsSomeState};
+ghost use Rattle.async_broadcast.specs.Channels.{channel_of};
 
 use crate::port::Port;
 use crate::receiver::Receiver;
@@ -12,6 +13,7 @@ use crate::wake::{Slot, Wake};
 use bcast_core::{Call, Inner, Reply, SendPoll, Snapshot, TryRecvError};
 use state::{State, Woken};
 use std::alloc::{AllocError, Allocator, Global};
+use std::sync::ledger::Blank;
 use std::sync::{Arc, Condvar, Mutex, Wait};
 
 mod state;
@@ -33,6 +35,8 @@ pub struct Lock<T: Clone, R: Wait + Clone, A: Allocator = Global> {
 
 #[derive(Drop)]
 struct Channel<T: Clone, A: Allocator> {
+    // Names the channel in contracts, and takes no memory.
+    name: Blank,
     state: Mutex<State<T, A>>,
     // For threads that wait to send.
     ready: Condvar,
@@ -44,20 +48,15 @@ impl<T: Clone, A: Allocator> Channel<T, A> {
     // Best once the lock is free.
     #[inline(always)]
     fn wake(&self, woken: Woken) {
-        if woken.sender {
-            self.ready.notify_one();
-        }
-        if woken.receiver {
-            self.news.notify_one();
-        }
+        woken.wake(&self.ready, &self.news);
     }
 }
 
 /// Makes a channel that keeps at most `cap` messages at once, with its first sender and receiver.
 ///
 /// It is open and empty. Overflow mode is off: a full channel accepts no message before every
-/// active receiver has read the oldest one. `await_active` is on. That both handles are of this one
-/// channel no clause says, since the lock hides it: tests do.
+/// active receiver has read the oldest one. `await_active` is on. Both handles lead to this one
+/// channel, and so does each handle that is made by them.
 ///
 /// # Errors
 ///
@@ -87,9 +86,11 @@ pub fn broadcast<T: Clone, R: Wait + Clone, A: Allocator + Copy>(
     cap: usize,
 ) -> Result<Ends<T, R, A>, AllocError>
     requires { 0 < cap }
+    ensures { IfOk result (λ ends. channel_of ends.0.port ≡ channel_of ends.1.port) }
 {
     let (inner, key) = Inner::new(alloc, cap)?;
     let channel = Channel {
+        name: Blank::new(1),
         state: Mutex::new(State::new(inner)),
         ready: Condvar::new(),
         news: Condvar::new(),
@@ -170,8 +171,11 @@ fn is_empty<T>(answer: &Result<Result<T, TryRecvError>, AllocError>) -> bool
 
 impl<T: Clone, R: Wait + Clone, A: Allocator + Copy> Port<T, Slot<A>> for Lock<T, R, A> {
     ghost use Rattle.async_broadcast.specs.OfKind.{possible};
+    ghost use Rattle.async_broadcast.specs.Channels.{channel_of};
 
     ghost gave = { λ _ call reply. IsPossible T.is_clone call reply };
+
+    ghost channel = { λ lock. channel_of lock };
 
     ghost of_kind = { λ _ call reply may. possible T.is_clone call reply may };
 

@@ -16,12 +16,16 @@ use bcast_core::{Call, Reply};
 ///
 /// Source: this crate's own.
 pub trait Port<T: Clone, S>: Sized + Drop {
+    ghost use Rattle.std.specs.Prelude.{ℕ};
     ghost use Rattle.bcast_model.specs.declared.run.Call.{Call};
     ghost use Rattle.bcast_model.specs.declared.run.Reply.{Reply};
     ghost use Rattle.async_broadcast.specs.Kinds.{IsOfKind};
 
     // Holds of a call and a reply that the port may give to it.
     ghost gave: { Self → Call T → Reply T → Type 0 };
+
+    // Names the channel that the port leads to.
+    ghost channel: { Self → ℕ };
 
     /// Makes one call on the channel. One of the four polls that must wait leaves `wake` there.
     fn ask(&self, call: Call<T>, wake: Wake<S>) -> Reply<T>
@@ -37,7 +41,7 @@ pub trait Port<T: Clone, S>: Sized + Drop {
 
     /// Another port of the same channel. None: there was no memory for it.
     fn same(&self) -> Option<Self>
-        ensures { IfSome result (λ port. IsSame gave port self.now) };
+        ensures { IfSome result (λ port. IsSame gave channel port self.now) };
 
     // A reply is of its call's kind.
     ghost of_kind: { (port : Self) (call : Call T) (reply : Reply T)

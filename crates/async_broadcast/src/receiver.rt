@@ -5,7 +5,7 @@ ghost use Rattle.async_broadcast.specs.Ports.{IsSame, as_try_recv};
 use crate::inactive::InactiveReceiver;
 use crate::port::{Port, ask};
 use crate::sender::Sender;
-use crate::wake::{Bell, Slot, Wake};
+use crate::wake::{Slot, TaskWaker, Wake};
 use bcast_core::{Call, HandleError, RecvError, Reply, TryRecvError};
 use std::alloc::{AllocError, Allocator, Global};
 use std::marker::PhantomData;
@@ -32,7 +32,7 @@ pub struct Receiver<T: Clone, P: Port<T, Slot<A>>, A: Allocator = Global> {
     pub(crate) port: P,
     pub(crate) key: usize,
     // Of the task that polls this receiver, as a stream or by a `Recv`.
-    pub(crate) bell: Bell<A>,
+    pub(crate) waker: TaskWaker<A>,
     messages: PhantomData<T>,
 }
 
@@ -49,7 +49,7 @@ impl<T: Clone, P: Port<T, Slot<A>>, A: Allocator + Copy> Receiver<T, P, A> {
         Receiver {
             port,
             key,
-            bell: Bell::new(alloc),
+            waker: TaskWaker::new(alloc),
             messages: PhantomData,
         }
     }
@@ -155,7 +155,7 @@ impl<T: Clone, P: Port<T, Slot<A>>, A: Allocator + Copy> Receiver<T, P, A> {
     ///
     /// Source: `Receiver::clone` of async-broadcast 0.7.2, which never refuses.
     pub fn clone(&self) -> Result<Self, HandleError>
-        ensures channel { IfOk result (λ made. IsSame P.gave made.port self.now.port) }
+        ensures channel { IfOk result (λ made. IsSame P.gave P.channel made.port self.now.port) }
         ensures made { IfOk result (λ made. P.gave self.now.port (Call.CloneReceiver self.now.key)
             (Reply.CloneReceiver (Ok made.key))) }
         ensures refused { IfErr result (λ error. (error ≡ HandleError.Memory)
@@ -164,7 +164,7 @@ impl<T: Clone, P: Port<T, Slot<A>>, A: Allocator + Copy> Receiver<T, P, A> {
     {
         let port = self.port.same().ok_or(HandleError::Memory)?;
         match ask!(self.port, CloneReceiver(self.key)) {
-            Ok(key) => Ok(Receiver::over(port, key, self.bell.alloc())),
+            Ok(key) => Ok(Receiver::over(port, key, self.waker.alloc())),
             Err(error) => Err(error),
         }
     }
@@ -187,7 +187,7 @@ impl<T: Clone, P: Port<T, Slot<A>>, A: Allocator + Copy> Receiver<T, P, A> {
     ///
     /// Source: `Receiver::new_receiver` of async-broadcast 0.7.2, which never refuses.
     pub fn new_receiver(&self) -> Result<Self, HandleError>
-        ensures channel { IfOk result (λ made. IsSame P.gave made.port self.now.port) }
+        ensures channel { IfOk result (λ made. IsSame P.gave P.channel made.port self.now.port) }
         ensures made { IfOk result
             (λ made. P.gave self.now.port Call.NewReceiver (Reply.NewReceiver (Ok made.key))) }
         ensures refused { IfErr result (λ error. (error ≡ HandleError.Memory)
@@ -195,7 +195,7 @@ impl<T: Clone, P: Port<T, Slot<A>>, A: Allocator + Copy> Receiver<T, P, A> {
     {
         let port = self.port.same().ok_or(HandleError::Memory)?;
         match ask!(self.port, NewReceiver) {
-            Ok(key) => Ok(Receiver::over(port, key, self.bell.alloc())),
+            Ok(key) => Ok(Receiver::over(port, key, self.waker.alloc())),
             Err(error) => Err(error),
         }
     }
@@ -217,7 +217,7 @@ impl<T: Clone, P: Port<T, Slot<A>>, A: Allocator + Copy> Receiver<T, P, A> {
     ///
     /// Source: `Receiver::new_sender` of async-broadcast 0.7.2, which never refuses.
     pub fn new_sender(&self) -> Result<Sender<T, P, A>, HandleError>
-        ensures channel { IfOk result (λ made. IsSame P.gave made.port self.now.port) }
+        ensures channel { IfOk result (λ made. IsSame P.gave P.channel made.port self.now.port) }
         ensures made { IfOk result
             (λ _. P.gave self.now.port Call.NewSender (Reply.NewSender (Ok tt))) }
         ensures refused { IfErr result (λ error. (error ≡ HandleError.Memory)
@@ -225,7 +225,7 @@ impl<T: Clone, P: Port<T, Slot<A>>, A: Allocator + Copy> Receiver<T, P, A> {
     {
         let port = self.port.same().ok_or(HandleError::Memory)?;
         match ask!(self.port, NewSender) {
-            Ok(()) => Ok(Sender::over(port, self.bell.alloc())),
+            Ok(()) => Ok(Sender::over(port, self.waker.alloc())),
             Err(error) => Err(error),
         }
     }
@@ -261,10 +261,10 @@ impl<T: Clone, P: Port<T, Slot<A>>, A: Allocator + Copy> Receiver<T, P, A> {
                 let Receiver {
                     port,
                     key: _,
-                    bell,
+                    waker,
                     messages: _,
                 } = self;
-                Ok(InactiveReceiver::over(port, bell.alloc()))
+                Ok(InactiveReceiver::over(port, waker.alloc()))
             }
             Err(error) => Err((self, error)),
         }
@@ -272,12 +272,14 @@ impl<T: Clone, P: Port<T, Slot<A>>, A: Allocator + Copy> Receiver<T, P, A> {
 }
 
 impl<T: Clone, P: Port<T, Slot<A>>, A: Allocator> Drop for Receiver<T, P, A> {
-    fn drop(self) {
+    fn drop(self)
+        ensures { P.gave self.port (Call.DropReceiver self.key) Reply.DropReceiver }
+    {
         self.port.ask(Call::DropReceiver(self.key), Wake::none());
         let Receiver {
             port: _,
             key: _,
-            bell: _,
+            waker: _,
             messages: _,
         } = self;
     }

@@ -41,7 +41,7 @@ impl<T: Clone, R: Wait + Clone, A: Allocator + Copy> Receiver<T, Lock<T, R, A>, 
     pub fn snapshot(&self) -> Result<Snapshot<T, A>, AllocError>
         ensures { IfOk result (λ snapshot. ShowsSomeState T.is_clone snapshot) }
     {
-        self.port.snapshot(self.bell.alloc())
+        self.port.snapshot(self.waker.alloc())
     }
 }
 

@@ -1,4 +1,5 @@
 //! What wakes the task that a poll left waiting.
+ghost use Rattle.std.specs.Prelude.{◌≡◌, IsSome, is_none};
 ghost use Rattle.futures.specs.Task.{IsArmed, Keeps};
 
 use bcast_core::Notice;
@@ -41,18 +42,22 @@ impl<A: Allocator> Notice for Wake<Slot<A>> {
 /// Keeps a task's waker between polls. All notices made here share it, so that a newer notice
 /// doesn't wake the task by the drop of an older one.
 #[derive(Drop)]
-pub(crate) struct Bell<A: Allocator> {
+pub(crate) struct TaskWaker<A: Allocator> {
     source: Source,
     alloc: A,
+    // Made by the first poll, and then kept: dropped with a waker in it, it wakes the task.
     slot: Option<Slot<A>>,
+    // Whether the last poll found no memory for a notice.
+    is_refused: bool,
 }
 
-impl<A: Allocator + Copy> Bell<A> {
+impl<A: Allocator + Copy> TaskWaker<A> {
     pub(crate) fn new(alloc: A) -> Self {
-        Bell {
+        TaskWaker {
             source: Source::new(),
             alloc,
             slot: None,
+            is_refused: false,
         }
     }
 
@@ -61,7 +66,19 @@ impl<A: Allocator + Copy> Bell<A> {
     }
 
     /// Registers the poll's task, and makes a notice for it. None: there was no memory for one.
-    pub(crate) fn listen(&mut self, cx: &mut Context<'_>) -> Option<Wake<Slot<A>>>
+    pub(crate) fn register(&mut self, cx: &mut Context<'_>) -> Option<Wake<Slot<A>>>
+        ensures slot { IsSome self.old.slot → self.new.slot ≡ self.old.slot }
+        ensures refused { self.new.is_refused ≡ is_none result }
+        ensures registered { IsArmed cx.new }
+        ensures kept { Keeps cx.old cx.new }
+    {
+        let notice = self.notice(cx);
+        self.is_refused = notice.is_none();
+        notice
+    }
+
+    fn notice(&mut self, cx: &mut Context<'_>) -> Option<Wake<Slot<A>>>
+        ensures slot { IsSome self.old.slot → self.new.slot ≡ self.old.slot }
         ensures registered { IsArmed cx.new }
         ensures kept { Keeps cx.old cx.new }
     {
@@ -72,12 +89,12 @@ impl<A: Allocator + Copy> Bell<A> {
             let _: Poll<()> = cx.yield_now();
             return None;
         };
-        register(slot, &self.source, cx)
+        notice_in(slot, &self.source, cx)
     }
 }
 
 // A context that finds no memory for a waker leaves none, and has its task polled again.
-fn register<A: Allocator + Copy>(
+fn notice_in<A: Allocator + Copy>(
     slot: &Slot<A>,
     source: &Source,
     cx: &mut Context<'_>,

@@ -1,5 +1,5 @@
 //! Receiving in a task, a message at a time.
-ghost use Rattle.std.specs.Prelude.{◌≡◌, ⊤, Ok, Err, IfOk};
+ghost use Rattle.std.specs.Prelude.{◌≡◌, ◌⊎◌, ⊤, true, Ok, Err, IfOk, IfErr};
 ghost use Rattle.futures.specs.Task.{Covers, IsArmed, Keeps};
 ghost use Rattle.futures.specs.Poll.{IfReady, OnPending};
 ghost use Rattle.async_broadcast.specs.Futures.{GivesReceived};
@@ -38,7 +38,7 @@ impl<T: Clone, P: Port<T, Slot<A>>, A: Allocator + Copy> Receiver<T, P, A> {
     pub fn recv(&mut self) -> Result<Box<Recv<'_, T, P, A>, A>, AllocError>
         ensures { IfOk result (λ recv. recv.value.receiver.now ≡ self.old) }
     {
-        let alloc = self.bell.alloc();
+        let alloc = self.waker.alloc();
         Ok(Box::new(alloc, self.recv_direct())?)
     }
 
@@ -89,10 +89,12 @@ impl<T: Clone, P: Port<T, Slot<A>>, A: Allocator + Copy> Receiver<T, P, A> {
         ensures asked { IfOk result (λ poll. P.gave self.old.port (Call.PollRecv self.old.key)
             (Reply.PollRecv (Ok poll))) }
         ensures same { (self.new.port ≡ self.old.port) × (self.new.key ≡ self.old.key) }
+        ensures refused { IfErr result (λ error. (self.new.waker.is_refused ≡ true)
+            ⊎ P.gave self.old.port (Call.PollRecv self.old.key) (Reply.PollRecv (Err error))) }
         ensures registered { IsArmed cx.new }
         ensures kept { Keeps cx.old cx.new }
     {
-        let Some(wake) = self.bell.listen(cx) else {
+        let Some(wake) = self.waker.register(cx) else {
             return Err(AllocError);
         };
         match self.port.ask(Call::PollRecv(self.key), wake) {
@@ -103,7 +105,10 @@ impl<T: Clone, P: Port<T, Slot<A>>, A: Allocator + Copy> Receiver<T, P, A> {
 }
 
 impl<T: Clone, P: Port<T, Slot<A>>, A: Allocator> Drop for Recv<'_, T, P, A> {
-    fn drop(self) {
+    fn drop(self)
+        ensures { P.gave self.entry.receiver.now.port (Call.EndFuture self.entry.receiver.now.key)
+            Reply.EndFuture }
+    {
         let receiver = &*self.receiver;
         receiver
             .port
@@ -129,11 +134,15 @@ impl<T: Clone, P: Port<T, Slot<A>>, A: Allocator + Copy> Future for Recv<'_, T, 
 
         ensures waits { OnPending result (P.gave self.old.receiver.now.port
             (Call.PollFuture self.old.receiver.now.key) (Reply.PollFuture (Ok Poll.Pending))) }
+        ensures refused { IfReady result (λ out. IfErr out (λ error.
+            (self.new.receiver.now.waker.is_refused ≡ true)
+            ⊎ P.gave self.old.receiver.now.port (Call.PollFuture self.old.receiver.now.key)
+            (Reply.PollFuture (Err error)))) }
         ensures port { self.new.receiver.now.port ≡ self.old.receiver.now.port }
         ensures key { self.new.receiver.now.key ≡ self.old.receiver.now.key }
     {
         let receiver = &mut *self.receiver;
-        let Some(wake) = receiver.bell.listen(cx) else {
+        let Some(wake) = receiver.waker.register(cx) else {
             return Poll::Ready(Err(AllocError));
         };
         match receiver.port.ask(Call::PollFuture(receiver.key), wake) {

@@ -1,12 +1,12 @@
 //! Sends that wait in a task.
-ghost use Rattle.std.specs.Prelude.{◌≡◌, ⊤, Some, None, Ok, Err, IfOk, IfErr, IsSome, alloc_error};
+ghost use Rattle.std.specs.Prelude.{◌≡◌, ⊤, true, Some, None, Ok, Err, IfOk, IfErr, IfSome, IsSome, alloc_error};
 ghost use Rattle.futures.specs.Task.{Covers, Keeps};
 ghost use Rattle.futures.specs.Poll.{IfReady, OnPending};
 ghost use Rattle.async_broadcast.specs.Futures.{BeganSend, GivesSent, MustWait};
 
 use crate::port::{Port, ask};
 use crate::sender::Sender;
-use crate::wake::{Bell, Slot, Wake};
+use crate::wake::{Slot, TaskWaker, Wake};
 use bcast_core::{Call, NoMemory, Reply, SendError, SendPoll};
 use futures::Future;
 use futures::task::{Context, Poll};
@@ -25,7 +25,7 @@ pub struct Send<'a, T: Clone, P: Port<T, Slot<A>>, A: Allocator = Global> {
     place: Option<usize>,
     // Until the output.
     msg: Option<T>,
-    bell: Bell<A>,
+    waker: TaskWaker<A>,
 }
 
 impl<T: Clone, P: Port<T, Slot<A>>, A: Allocator + Copy> Sender<T, P, A> {
@@ -87,7 +87,7 @@ impl<T: Clone, P: Port<T, Slot<A>>, A: Allocator + Copy> Sender<T, P, A> {
                 sender: self,
                 place: Some(place),
                 msg: Some(msg),
-                bell: Bell::new(self.alloc),
+                waker: TaskWaker::new(self.alloc),
             }),
             Err(_) => Err(NoMemory(msg)),
         }
@@ -98,13 +98,15 @@ impl<T: Clone, P: Port<T, Slot<A>>, A: Allocator> Send<'_, T, P, A> {
     // Gives up a send that was never polled.
     fn cancel(self) -> T
         requires { IsSome self.msg }
-        ensures { Some result ≡ self.entry.msg }
+        ensures back { Some result ≡ self.entry.msg }
+        ensures ended { IfSome self.entry.place (λ place.
+            P.gave self.entry.sender.now.port (Call.EndSend place) Reply.EndSend) }
     {
         let Send {
             sender,
             place,
             msg,
-            bell: _,
+            waker: _,
         } = self;
         sender.end_send(place);
         match msg {
@@ -116,7 +118,9 @@ impl<T: Clone, P: Port<T, Slot<A>>, A: Allocator> Send<'_, T, P, A> {
 
 impl<T: Clone, P: Port<T, Slot<A>>, A: Allocator> Sender<T, P, A> {
     // A send that has its place still gives it up.
-    fn end_send(&self, place: Option<usize>) {
+    fn end_send(&self, place: Option<usize>)
+        ensures { IfSome place (λ place. P.gave self.now.port (Call.EndSend place) Reply.EndSend) }
+    {
         if let Some(place) = place {
             self.port.ask(Call::EndSend(place), Wake::none());
         }
@@ -124,12 +128,15 @@ impl<T: Clone, P: Port<T, Slot<A>>, A: Allocator> Sender<T, P, A> {
 }
 
 impl<T: Clone, P: Port<T, Slot<A>>, A: Allocator> Drop for Send<'_, T, P, A> {
-    fn drop(self) {
+    fn drop(self)
+        ensures { IfSome self.entry.place (λ place.
+            P.gave self.entry.sender.now.port (Call.EndSend place) Reply.EndSend) }
+    {
         let Send {
             sender,
             place,
             msg: _,
-            bell: _,
+            waker: _,
         } = self;
         sender.end_send(place);
     }
@@ -157,13 +164,15 @@ impl<T: Clone, P: Port<T, Slot<A>>, A: Allocator + Copy> Future for Send<'_, T, 
             (λ _. (self.new.place ≡ None) × (self.new.msg ≡ None))) }
         ensures refused { IfReady result (λ out. IfErr out
             (λ _. (self.new.place ≡ self.old.place) × (self.new.msg ≡ None))) }
+        ensures memory { IfReady result (λ out. IfErr out
+            (λ _. self.new.waker.is_refused ≡ true)) }
         ensures waits { OnPending result
             (MustWait P.gave self.old.sender.now.port self.old.place self.old.msg) }
         ensures unchanged { OnPending result
             ((self.new.place ≡ self.old.place) × (self.new.msg ≡ self.old.msg)) }
         ensures port { self.new.sender.now.port ≡ self.old.sender.now.port }
     {
-        let wake = self.bell.listen(cx);
+        let wake = self.waker.register(cx);
         let Some(place) = self.place else {
             return Poll::Pending;
         };

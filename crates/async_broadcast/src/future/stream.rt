@@ -1,5 +1,5 @@
 //! A receiver as a stream of its messages.
-ghost use Rattle.std.specs.Prelude.{◌≡◌, ⊤, None, Ok, IfSome, OnSome, []};
+ghost use Rattle.std.specs.Prelude.{◌≡◌, ◌⊎◌, ⊤, true, None, Ok, Err, IfErr, IfSome, OnSome, []};
 ghost use Rattle.futures.specs.Task.{Covers, Keeps};
 ghost use Rattle.futures.specs.Poll.{IfReady, OnPending};
 ghost use Rattle.futures.specs.Runs.{After, Within};
@@ -34,10 +34,13 @@ impl<T: Clone, P: Port<T, Slot<A>>, A: Allocator + Copy> Stream for Receiver<T, 
 
         ensures waits { OnPending result (P.gave self.old.port (Call.PollNext self.old.key)
             (Reply.PollNext (Ok Poll.Pending))) }
+        ensures refused { IfReady result (λ next. IfSome next (λ item. IfErr item (λ error.
+            (self.new.waker.is_refused ≡ true)
+            ⊎ P.gave self.old.port (Call.PollNext self.old.key) (Reply.PollNext (Err error))))) }
         ensures port { self.new.port ≡ self.old.port }
         ensures key { self.new.key ≡ self.old.key }
     {
-        let Some(wake) = self.bell.listen(cx) else {
+        let Some(wake) = self.waker.register(cx) else {
             return Poll::Ready(Some(Err(AllocError)));
         };
         let Reply::PollNext(answer) = self.port.ask(Call::PollNext(self.key), wake) else {

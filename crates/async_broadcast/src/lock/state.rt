@@ -1,15 +1,17 @@
 //! What the lock guards: the channel, and whether threads wait there.
 ghost use Rattle.bcast_model.specs.Next.{HasPositiveCapacity};
-ghost use Rattle.std.specs.Prelude.{◌≡◌, IfOk};
+ghost use Rattle.std.specs.Prelude.{◌≡◌, ◌<◌, ◌||◌, true, false, IfOk};
 ghost use Rattle.bcast_model.specs.Control.{is_ready};
 ghost use Rattle.bcast_model.specs.View.{is_full};
 ghost use Rattle.bcast_model.specs.Answers.{Answers, IsPossible};
+ghost use Rattle.bcast_core.specs.Snapshot.{Shows};
 ghost use Rattle.async_broadcast.specs.Kinds.{IsOfKind};
 ghost use Rattle.async_broadcast.specs.Snapshots.{ShowsSomeState};
 
 use crate::wake::{Slot, Wake};
 use bcast_core::{Call, Inner, Reply, Snapshot, step};
 use std::alloc::{AllocError, Allocator};
+use std::sync::Condvar;
 
 #[derive(Drop)]
 pub(super) struct State<T: Clone, A: Allocator> {
@@ -28,14 +30,27 @@ pub(super) struct State<T: Clone, A: Allocator> {
 ///
 /// The one that is woken wakes the next after its own call, so that few threads want the lock at
 /// once.
-#[derive(Drop)]
 pub(super) struct Woken {
-    pub(super) sender: bool,
-    pub(super) receiver: bool,
+    sender: bool,
+    receiver: bool,
 }
 
 impl Woken {
-    fn nobody() -> Self {
+    /// Wakes them. Best once the lock is free.
+    #[inline(always)]
+    pub(super) fn wake(self, ready: &Condvar, news: &Condvar) {
+        let Woken { sender, receiver } = self;
+        if sender {
+            ready.notify_one();
+        }
+        if receiver {
+            news.notify_one();
+        }
+    }
+
+    fn nobody() -> Self
+        ensures { result ≡ record { sender = false; receiver = false } }
+    {
         Woken {
             sender: false,
             receiver: false,
@@ -62,6 +77,16 @@ impl<T: Clone, A: Allocator + Copy> State<T, A> {
         ensures answers { Answers T.is_clone self.old.inner call result.0 self.new.inner }
         ensures possible { IsPossible T.is_clone call result.0 }
         ensures kind { IsOfKind call result.0 }
+        // Where sends are ready and a thread waits to send, one was woken that hasn't tried yet.
+        ensures sends { is_ready self.new.inner.control (is_full self.new.inner) ≡ true
+            → 0 < self.new.senders → self.new.is_sender_woken ≡ true }
+        // The same for a thread that has something to receive.
+        ensures receives { 0 < self.new.due_receivers → self.new.is_receiver_woken ≡ true }
+        // What is noted as woken is what the answer says to wake.
+        ensures noted_sender { self.new.is_sender_woken
+            ≡ (result.1.sender || self.old.is_sender_woken) }
+        ensures noted_receiver { self.new.is_receiver_woken
+            ≡ (result.1.receiver || self.old.is_receiver_woken) }
     {
         if self.senders == 0 && self.idle_receivers == 0 && self.due_receivers == 0 {
             let reply = self.make(call, wake);
@@ -76,6 +101,7 @@ impl<T: Clone, A: Allocator + Copy> State<T, A> {
         ensures answers { Answers T.is_clone self.old.inner call result self.new.inner }
         ensures possible { IsPossible T.is_clone call result }
         ensures kind { IsOfKind call result }
+        ensures threads { self.new ≡ record self.old { inner = self.new.inner } }
     {
         step(&mut self.inner, call, wake)
     }
@@ -87,6 +113,13 @@ impl<T: Clone, A: Allocator + Copy> State<T, A> {
         ensures answers { Answers T.is_clone self.old.inner call result.0 self.new.inner }
         ensures possible { IsPossible T.is_clone call result.0 }
         ensures kind { IsOfKind call result.0 }
+        ensures sends { is_ready self.new.inner.control (is_full self.new.inner) ≡ true
+            → 0 < self.new.senders → self.new.is_sender_woken ≡ true }
+        ensures receives { 0 < self.new.due_receivers → self.new.is_receiver_woken ≡ true }
+        ensures noted_sender { self.new.is_sender_woken
+            ≡ (result.1.sender || self.old.is_sender_woken) }
+        ensures noted_receiver { self.new.is_receiver_woken
+            ≡ (result.1.receiver || self.old.is_receiver_woken) }
     {
         let known = self.news();
         let reply = self.make(call, wake);
@@ -96,7 +129,14 @@ impl<T: Clone, A: Allocator + Copy> State<T, A> {
 
     // `known` is the news before the call.
     fn whom_to_wake(&mut self, known: (u64, bool)) -> Woken
-        ensures { self.new.inner ≡ self.old.inner }
+        ensures same { self.new.inner ≡ self.old.inner }
+        ensures sends { is_ready self.new.inner.control (is_full self.new.inner) ≡ true
+            → 0 < self.new.senders → self.new.is_sender_woken ≡ true }
+        ensures receives { 0 < self.new.due_receivers → self.new.is_receiver_woken ≡ true }
+        ensures noted_sender { self.new.is_sender_woken
+            ≡ (result.sender || self.old.is_sender_woken) }
+        ensures noted_receiver { self.new.is_receiver_woken
+            ≡ (result.receiver || self.old.is_receiver_woken) }
     {
         let newly_due = if self.news() == known {
             0
@@ -114,7 +154,8 @@ impl<T: Clone, A: Allocator + Copy> State<T, A> {
 
     /// What is seen of the channel.
     pub(super) fn snapshot(&self, alloc: A) -> Result<Snapshot<T, A>, AllocError>
-        ensures { IfOk result (λ snapshot. ShowsSomeState T.is_clone snapshot) }
+        ensures shows { IfOk result (λ snapshot. Shows T.is_clone snapshot self.now.inner) }
+        ensures valid { IfOk result (λ snapshot. ShowsSomeState T.is_clone snapshot) }
     {
         self.inner.known();
         let snapshot = self.inner.snapshot(alloc)?;
@@ -127,7 +168,9 @@ impl<T: Clone, A: Allocator + Copy> State<T, A> {
     }
 
     /// A thread has waited to send, and tries again.
-    pub(super) fn try_to_send(&mut self) {
+    pub(super) fn try_to_send(&mut self)
+        ensures { self.new.is_sender_woken ≡ false }
+    {
         self.senders = self.senders.wrapping_sub(1);
         self.is_sender_woken = false;
     }
@@ -139,7 +182,9 @@ impl<T: Clone, A: Allocator + Copy> State<T, A> {
     }
 
     /// A thread that began to wait when it knew this much has waited, and tries again.
-    pub(super) fn try_to_receive(&mut self, known: (u64, bool)) {
+    pub(super) fn try_to_receive(&mut self, known: (u64, bool))
+        ensures { self.new.is_receiver_woken ≡ false }
+    {
         if self.news() == known {
             self.idle_receivers = self.idle_receivers.wrapping_sub(1);
         } else {
