@@ -2,9 +2,10 @@
 ghost use Rattle.std.specs.Prelude.{◌≡◌, Ok, Err, IfOk, IfErr, ◌⊎◌};
 ghost use Rattle.async_broadcast.specs.Ports.{IsSame};
 
-use crate::port::{Port, ask};
+use crate::asked;
+use crate::port::Port;
 use crate::receiver::Receiver;
-use crate::wake::{Slot, Wake};
+use crate::wake::Slot;
 use bcast_core::{Call, HandleError, Reply};
 use std::alloc::{Allocator, Global};
 use std::marker::PhantomData;
@@ -28,8 +29,6 @@ impl<T: Clone, P: Port<T, Slot<A>>, A: Allocator + Copy> InactiveReceiver<T, P, 
     /// `DropInactive`.
     ///
     /// Handles that are made by it take their memory from `alloc`.
-    ///
-    /// Source: this crate's own.
     pub fn over(port: P, alloc: A) -> Self
         ensures { result.port ≡ port }
     {
@@ -64,7 +63,7 @@ impl<T: Clone, P: Port<T, Slot<A>>, A: Allocator + Copy> InactiveReceiver<T, P, 
         ensures refused { IfErr result (λ back. (back.0 ≡ self)
             × P.gave self.port Call.Activate (Reply.Activate (Err back.1))) }
     {
-        match ask!(self.port, Activate) {
+        match asked::activate::<T, Slot<A>, P>(&self.port) {
             Ok(key) => {
                 let InactiveReceiver {
                     port,
@@ -103,7 +102,7 @@ impl<T: Clone, P: Port<T, Slot<A>>, A: Allocator + Copy> InactiveReceiver<T, P, 
             ⊎ P.gave self.now.port Call.ActivateCloned (Reply.ActivateCloned (Err error))) }
     {
         let port = self.port.same().ok_or(HandleError::Memory)?;
-        match ask!(self.port, ActivateCloned) {
+        match asked::activate_cloned::<T, Slot<A>, P>(&self.port) {
             Ok(key) => Ok(Receiver::over(port, key, self.alloc)),
             Err(error) => Err(error),
         }
@@ -135,7 +134,7 @@ impl<T: Clone, P: Port<T, Slot<A>>, A: Allocator + Copy> InactiveReceiver<T, P, 
             ⊎ P.gave self.now.port Call.CloneInactive (Reply.CloneInactive (Err error))) }
     {
         let port = self.port.same().ok_or(HandleError::Memory)?;
-        match ask!(self.port, CloneInactive) {
+        match asked::clone_inactive::<T, Slot<A>, P>(&self.port) {
             Ok(()) => Ok(InactiveReceiver::over(port, self.alloc)),
             Err(error) => Err(error),
         }
@@ -146,7 +145,7 @@ impl<T: Clone, P: Port<T, Slot<A>>, A: Allocator> Drop for InactiveReceiver<T, P
     fn drop(self)
         ensures { P.gave self.port Call.DropInactive Reply.DropInactive }
     {
-        self.port.ask(Call::DropInactive, Wake::none());
+        asked::drop_inactive::<T, Slot<A>, P>(&self.port);
         let InactiveReceiver {
             port: _,
             alloc: _,

@@ -18,6 +18,7 @@
 //! ```
 #![tactic(auto)]
 
+mod asked;
 mod future;
 mod inactive;
 mod lock;

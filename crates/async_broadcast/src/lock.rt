@@ -26,8 +26,6 @@ mod state;
 ///
 /// A message is cloned and dropped, and a waker is dropped, while the lock is held: none of these
 /// may use a handle of the same channel, which would wait for the lock for ever.
-///
-/// Source: this crate's own.
 pub struct Lock<T: Clone, R: Wait + Clone, A: Allocator = Global> {
     channel: Arc<Channel<T, A>, A>,
     rt: R,

@@ -13,8 +13,6 @@ use bcast_core::{Call, Reply};
 /// the port gave to the call that the handle's method names. `Lock` is the port of a channel that
 /// `broadcast` made. `S` is where its wakes keep a task's waker: `Slot`, unless memory comes from
 /// another allocator than `Global`.
-///
-/// Source: this crate's own.
 pub trait Port<T: Clone, S>: Sized + Drop {
     ghost use Rattle.std.specs.Prelude.{ℕ};
     ghost use Rattle.bcast_model.specs.declared.run.Call.{Call};
@@ -47,21 +45,3 @@ pub trait Port<T: Clone, S>: Sized + Drop {
     ghost of_kind: { (port : Self) (call : Call T) (reply : Reply T)
         → gave port call reply → IsOfKind call reply };
 }
-
-/// Asks a call that never waits, and reads the answer from the reply of its name.
-macro_rules! ask {
-    ($port:expr, $call:ident) => {
-        match $port.ask(Call::$call, Wake::none()) {
-            Reply::$call(answer) => answer,
-            _ => unreachable!(),
-        }
-    };
-    ($port:expr, $call:ident($argument:expr)) => {
-        match $port.ask(Call::$call($argument), Wake::none()) {
-            Reply::$call(answer) => answer,
-            _ => unreachable!(),
-        }
-    };
-}
-
-pub(crate) use ask;

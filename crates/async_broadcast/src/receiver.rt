@@ -2,10 +2,11 @@
 ghost use Rattle.std.specs.Prelude.{◌≡◌, Ok, Err, IfOk, IfErr, ◌⊎◌};
 ghost use Rattle.async_broadcast.specs.Ports.{IsSame, as_try_recv};
 
+use crate::asked;
 use crate::inactive::InactiveReceiver;
-use crate::port::{Port, ask};
+use crate::port::Port;
 use crate::sender::Sender;
-use crate::wake::{Slot, TaskWaker, Wake};
+use crate::wake::{Slot, TaskWaker};
 use bcast_core::{Call, HandleError, RecvError, Reply, TryRecvError};
 use std::alloc::{AllocError, Allocator, Global};
 use std::marker::PhantomData;
@@ -41,8 +42,6 @@ impl<T: Clone, P: Port<T, Slot<A>>, A: Allocator + Copy> Receiver<T, P, A> {
     /// `DropReceiver`.
     ///
     /// Futures and handles that are made by it take their memory from `alloc`.
-    ///
-    /// Source: this crate's own.
     pub fn over(port: P, key: usize, alloc: A) -> Self
         ensures { (result.port ≡ port) × (result.key ≡ key) }
     {
@@ -80,7 +79,7 @@ impl<T: Clone, P: Port<T, Slot<A>>, A: Allocator + Copy> Receiver<T, P, A> {
         ensures asked { P.gave self.old.port (Call.TryRecv self.old.key) (Reply.TryRecv result) }
         ensures same { self.new ≡ self.old }
     {
-        ask!(self.port, TryRecv(self.key))
+        asked::try_recv::<T, Slot<A>, P>(&self.port, self.key)
     }
 
     /// Receives the next message, and blocks the thread while there is none and the channel is
@@ -136,7 +135,7 @@ impl<T: Clone, P: Port<T, Slot<A>>, A: Allocator + Copy> Receiver<T, P, A> {
     pub fn is_terminated(&self) -> bool
         ensures { P.gave self.now.port Call.IsTerminated (Reply.IsTerminated result) }
     {
-        ask!(self.port, IsTerminated)
+        asked::is_terminated::<T, Slot<A>, P>(&self.port)
     }
 
     /// Makes another active receiver, which has the same messages still to read.
@@ -163,7 +162,7 @@ impl<T: Clone, P: Port<T, Slot<A>>, A: Allocator + Copy> Receiver<T, P, A> {
             (Reply.CloneReceiver (Err error))) }
     {
         let port = self.port.same().ok_or(HandleError::Memory)?;
-        match ask!(self.port, CloneReceiver(self.key)) {
+        match asked::clone_receiver::<T, Slot<A>, P>(&self.port, self.key) {
             Ok(key) => Ok(Receiver::over(port, key, self.waker.alloc())),
             Err(error) => Err(error),
         }
@@ -194,7 +193,7 @@ impl<T: Clone, P: Port<T, Slot<A>>, A: Allocator + Copy> Receiver<T, P, A> {
             ⊎ P.gave self.now.port Call.NewReceiver (Reply.NewReceiver (Err error))) }
     {
         let port = self.port.same().ok_or(HandleError::Memory)?;
-        match ask!(self.port, NewReceiver) {
+        match asked::new_receiver::<T, Slot<A>, P>(&self.port) {
             Ok(key) => Ok(Receiver::over(port, key, self.waker.alloc())),
             Err(error) => Err(error),
         }
@@ -224,7 +223,7 @@ impl<T: Clone, P: Port<T, Slot<A>>, A: Allocator + Copy> Receiver<T, P, A> {
             ⊎ P.gave self.now.port Call.NewSender (Reply.NewSender (Err error))) }
     {
         let port = self.port.same().ok_or(HandleError::Memory)?;
-        match ask!(self.port, NewSender) {
+        match asked::new_sender::<T, Slot<A>, P>(&self.port) {
             Ok(()) => Ok(Sender::over(port, self.waker.alloc())),
             Err(error) => Err(error),
         }
@@ -256,7 +255,7 @@ impl<T: Clone, P: Port<T, Slot<A>>, A: Allocator + Copy> Receiver<T, P, A> {
         ensures refused { IfErr result (λ back. (back.0 ≡ self)
             × P.gave self.port (Call.Deactivate self.key) (Reply.Deactivate (Err back.1))) }
     {
-        match ask!(self.port, Deactivate(self.key)) {
+        match asked::deactivate::<T, Slot<A>, P>(&self.port, self.key) {
             Ok(()) => {
                 let Receiver {
                     port,
@@ -275,7 +274,7 @@ impl<T: Clone, P: Port<T, Slot<A>>, A: Allocator> Drop for Receiver<T, P, A> {
     fn drop(self)
         ensures { P.gave self.port (Call.DropReceiver self.key) Reply.DropReceiver }
     {
-        self.port.ask(Call::DropReceiver(self.key), Wake::none());
+        asked::drop_receiver::<T, Slot<A>, P>(&self.port, self.key);
         let Receiver {
             port: _,
             key: _,

@@ -2,9 +2,10 @@
 ghost use Rattle.std.specs.Prelude.{◌≡◌, Ok, Err, IfOk, IfErr, ◌⊎◌};
 ghost use Rattle.async_broadcast.specs.Ports.{IsSame};
 
-use crate::port::{Port, ask};
+use crate::asked;
+use crate::port::Port;
 use crate::receiver::Receiver;
-use crate::wake::{Slot, Wake};
+use crate::wake::Slot;
 use bcast_core::{Call, HandleError, Reply, SendError, SendPoll, TrySendError};
 use std::alloc::{Allocator, Global};
 use std::marker::PhantomData;
@@ -28,8 +29,6 @@ impl<T: Clone, P: Port<T, Slot<A>>, A: Allocator + Copy> Sender<T, P, A> {
     /// A sender over this port, whose channel has counted it: its drop asks `DropSender`.
     ///
     /// Futures and handles that are made by it take their memory from `alloc`.
-    ///
-    /// Source: this crate's own.
     pub fn over(port: P, alloc: A) -> Self
         ensures { result.port ≡ port }
     {
@@ -67,7 +66,7 @@ impl<T: Clone, P: Port<T, Slot<A>>, A: Allocator + Copy> Sender<T, P, A> {
     pub fn try_broadcast(&self, msg: T) -> Result<Option<T>, TrySendError<T>>
         ensures { P.gave self.now.port (Call.TryBroadcast msg) (Reply.TryBroadcast result) }
     {
-        ask!(self.port, TryBroadcast(msg))
+        asked::try_broadcast::<T, Slot<A>, P>(&self.port, msg)
     }
 
     /// Sends a message, and blocks the thread while the channel has no room for it, or, with
@@ -128,7 +127,7 @@ impl<T: Clone, P: Port<T, Slot<A>>, A: Allocator + Copy> Sender<T, P, A> {
             ⊎ P.gave self.now.port Call.NewSender (Reply.NewSender (Err error))) }
     {
         let port = self.port.same().ok_or(HandleError::Memory)?;
-        match ask!(self.port, NewSender) {
+        match asked::new_sender::<T, Slot<A>, P>(&self.port) {
             Ok(()) => Ok(Sender::over(port, self.alloc)),
             Err(error) => Err(error),
         }
@@ -160,7 +159,7 @@ impl<T: Clone, P: Port<T, Slot<A>>, A: Allocator + Copy> Sender<T, P, A> {
             ⊎ P.gave self.now.port Call.NewReceiver (Reply.NewReceiver (Err error))) }
     {
         let port = self.port.same().ok_or(HandleError::Memory)?;
-        match ask!(self.port, NewReceiver) {
+        match asked::new_receiver::<T, Slot<A>, P>(&self.port) {
             Ok(key) => Ok(Receiver::over(port, key, self.alloc)),
             Err(error) => Err(error),
         }
@@ -171,7 +170,7 @@ impl<T: Clone, P: Port<T, Slot<A>>, A: Allocator> Drop for Sender<T, P, A> {
     fn drop(self)
         ensures { P.gave self.port Call.DropSender Reply.DropSender }
     {
-        self.port.ask(Call::DropSender, Wake::none());
+        asked::drop_sender::<T, Slot<A>, P>(&self.port);
         let Sender {
             port: _,
             alloc: _,

@@ -18,8 +18,6 @@ impl<T: Clone, R: Wait + Clone, A: Allocator + Copy> Sender<T, Lock<T, R, A>, A>
     /// # Errors
     ///
     /// - `AllocError`: no memory for the lists, or for the clone of a message.
-    ///
-    /// Source: this crate's own.
     pub fn snapshot(&self) -> Result<Snapshot<T, A>, AllocError>
         ensures { IfOk result (λ snapshot. ShowsSomeState T.is_clone snapshot) }
     {
@@ -36,8 +34,6 @@ impl<T: Clone, R: Wait + Clone, A: Allocator + Copy> Receiver<T, Lock<T, R, A>, 
     /// # Errors
     ///
     /// - `AllocError`: no memory for the lists, or for the clone of a message.
-    ///
-    /// Source: this crate's own.
     pub fn snapshot(&self) -> Result<Snapshot<T, A>, AllocError>
         ensures { IfOk result (λ snapshot. ShowsSomeState T.is_clone snapshot) }
     {
@@ -53,8 +49,6 @@ impl<T: Clone, R: Wait + Clone, A: Allocator + Copy> InactiveReceiver<T, Lock<T,
     /// # Errors
     ///
     /// - `AllocError`: no memory for the lists, or for the clone of a message.
-    ///
-    /// Source: this crate's own.
     pub fn snapshot(&self) -> Result<Snapshot<T, A>, AllocError>
         ensures { IfOk result (λ snapshot. ShowsSomeState T.is_clone snapshot) }
     {

@@ -12,8 +12,6 @@ use std::sync::{Arc, Mutex};
 pub type Slot<A = Global> = Arc<Mutex<Option<Waker>>, A>;
 
 /// The notice of a poll: wakes the poll's task when it is told, or nobody.
-///
-/// Source: this crate's own.
 #[derive(Drop)]
 pub struct Wake<S = Slot> {
     slot: Option<S>,
@@ -21,8 +19,6 @@ pub struct Wake<S = Slot> {
 
 impl<S> Wake<S> {
     /// A notice that wakes nobody, for a call that never waits.
-    ///
-    /// Source: this crate's own.
     pub fn none() -> Self {
         Wake { slot: None }
     }

@@ -4,9 +4,10 @@ ghost use Rattle.futures.specs.Task.{Covers, IsArmed, Keeps};
 ghost use Rattle.futures.specs.Poll.{IfReady, OnPending};
 ghost use Rattle.async_broadcast.specs.Futures.{GivesReceived};
 
+use crate::asked;
 use crate::port::Port;
 use crate::receiver::Receiver;
-use crate::wake::{Slot, Wake};
+use crate::wake::Slot;
 use bcast_core::{Call, RecvError, Reply};
 use futures::Future;
 use futures::task::{Context, Poll};
@@ -97,10 +98,7 @@ impl<T: Clone, P: Port<T, Slot<A>>, A: Allocator + Copy> Receiver<T, P, A> {
         let Some(wake) = self.waker.register(cx) else {
             return Err(AllocError);
         };
-        match self.port.ask(Call::PollRecv(self.key), wake) {
-            Reply::PollRecv(answer) => answer,
-            _ => unreachable!(),
-        }
+        asked::poll_recv::<T, Slot<A>, P>(&self.port, self.key, wake)
     }
 }
 
@@ -110,9 +108,7 @@ impl<T: Clone, P: Port<T, Slot<A>>, A: Allocator> Drop for Recv<'_, T, P, A> {
             Reply.EndFuture }
     {
         let receiver = &*self.receiver;
-        receiver
-            .port
-            .ask(Call::EndFuture(receiver.key), Wake::none());
+        asked::end_future::<T, Slot<A>, P>(&receiver.port, receiver.key);
         let Recv { receiver: _ } = self;
     }
 }
@@ -145,11 +141,10 @@ impl<T: Clone, P: Port<T, Slot<A>>, A: Allocator + Copy> Future for Recv<'_, T, 
         let Some(wake) = receiver.waker.register(cx) else {
             return Poll::Ready(Err(AllocError));
         };
-        match receiver.port.ask(Call::PollFuture(receiver.key), wake) {
-            Reply::PollFuture(Ok(Poll::Ready(answer))) => Poll::Ready(Ok(answer)),
-            Reply::PollFuture(Ok(Poll::Pending)) => Poll::Pending,
-            Reply::PollFuture(Err(error)) => Poll::Ready(Err(error)),
-            _ => unreachable!(),
+        match asked::poll_future::<T, Slot<A>, P>(&receiver.port, receiver.key, wake) {
+            Ok(Poll::Ready(answer)) => Poll::Ready(Ok(answer)),
+            Ok(Poll::Pending) => Poll::Pending,
+            Err(error) => Poll::Ready(Err(error)),
         }
     }
 }

@@ -4,9 +4,10 @@ ghost use Rattle.futures.specs.Task.{Covers, Keeps};
 ghost use Rattle.futures.specs.Poll.{IfReady, OnPending};
 ghost use Rattle.async_broadcast.specs.Futures.{BeganSend, GivesSent, MustWait};
 
-use crate::port::{Port, ask};
+use crate::asked;
+use crate::port::Port;
 use crate::sender::Sender;
-use crate::wake::{Slot, TaskWaker, Wake};
+use crate::wake::{Slot, TaskWaker};
 use bcast_core::{Call, NoMemory, Reply, SendError, SendPoll};
 use futures::Future;
 use futures::task::{Context, Poll};
@@ -82,7 +83,7 @@ impl<T: Clone, P: Port<T, Slot<A>>, A: Allocator + Copy> Sender<T, P, A> {
         ensures refused { IfErr result (λ error. (error.0 ≡ msg)
             × P.gave self.now.port Call.BeginSend (Reply.BeginSend (Err alloc_error))) }
     {
-        match ask!(self.port, BeginSend) {
+        match asked::begin_send::<T, Slot<A>, P>(&self.port) {
             Ok(place) => Ok(Send {
                 sender: self,
                 place: Some(place),
@@ -122,7 +123,7 @@ impl<T: Clone, P: Port<T, Slot<A>>, A: Allocator> Sender<T, P, A> {
         ensures { IfSome place (λ place. P.gave self.now.port (Call.EndSend place) Reply.EndSend) }
     {
         if let Some(place) = place {
-            self.port.ask(Call::EndSend(place), Wake::none());
+            asked::end_send::<T, Slot<A>, P>(&self.port, place);
         }
     }
 }
@@ -183,16 +184,15 @@ impl<T: Clone, P: Port<T, Slot<A>>, A: Allocator + Copy> Future for Send<'_, T, 
             return Poll::Ready(Err(NoMemory(msg)));
         };
         let sender = self.sender;
-        match sender.port.ask(Call::PollSend(place, msg), wake) {
-            Reply::PollSend(SendPoll::Ready(answer)) => {
+        match asked::poll_send::<T, Slot<A>, P>(&sender.port, place, msg, wake) {
+            SendPoll::Ready(answer) => {
                 self.place = None;
                 Poll::Ready(Ok(answer))
             }
-            Reply::PollSend(SendPoll::Wait(msg)) => {
+            SendPoll::Wait(msg) => {
                 self.msg = Some(msg);
                 Poll::Pending
             }
-            _ => unreachable!(),
         }
     }
 }

@@ -5,6 +5,7 @@ ghost use Rattle.futures.specs.Poll.{IfReady, OnPending};
 ghost use Rattle.futures.specs.Runs.{After, Within};
 ghost use Rattle.async_broadcast.specs.Futures.{YieldsItems};
 
+use crate::asked;
 use crate::port::Port;
 use crate::receiver::Receiver;
 use crate::wake::Slot;
@@ -43,18 +44,11 @@ impl<T: Clone, P: Port<T, Slot<A>>, A: Allocator + Copy> Stream for Receiver<T, 
         let Some(wake) = self.waker.register(cx) else {
             return Poll::Ready(Some(Err(AllocError)));
         };
-        let Reply::PollNext(answer) = self.port.ask(Call::PollNext(self.key), wake) else {
-            unreachable!()
-        };
-        let Ok(answer) = answer else {
-            return Poll::Ready(Some(Err(AllocError)));
-        };
-        let Poll::Ready(next) = answer else {
-            return Poll::Pending;
-        };
-        let Some(next) = next else {
-            return Poll::Ready(None);
-        };
-        Poll::Ready(Some(Ok(next.0)))
+        match asked::poll_next::<T, Slot<A>, P>(&self.port, self.key, wake) {
+            Ok(Poll::Ready(Some(next))) => Poll::Ready(Some(Ok(next.0))),
+            Ok(Poll::Ready(None)) => Poll::Ready(None),
+            Ok(Poll::Pending) => Poll::Pending,
+            Err(error) => Poll::Ready(Some(Err(error))),
+        }
     }
 }

@@ -2,252 +2,114 @@
 ghost use Rattle.std.specs.Prelude.{◌≡◌, ◌<◌};
 
 use super::Receiver;
-use crate::port::{Port, ask};
-use crate::wake::{Slot, Wake};
+use crate::asked;
+use crate::port::Port;
+use crate::wake::Slot;
 use bcast_core::{Call, Reply};
 use std::alloc::{AllocError, Allocator};
 
 impl<T: Clone, P: Port<T, Slot<A>>, A: Allocator + Copy> Receiver<T, P, A> {
-    /// The greatest number of messages that the channel keeps at once.
-    ///
-    /// ```rust
-    /// let (sender, receiver) = broadcast::<u64, _, _>(&rt, rt.alloc(), 1)?;
-    /// assert!(rt; receiver.capacity() == 1);
-    /// ```
-    ///
-    /// Source: `Receiver::capacity` of async-broadcast 0.7.2.
+    /// As [`Sender::capacity`].
     pub fn capacity(&self) -> usize
         ensures { P.gave self.now.port Call.Capacity (Reply.Capacity result) }
     {
-        ask!(self.port, Capacity)
+        asked::capacity::<T, Slot<A>, P>(&self.port)
     }
 
-    /// Changes how many messages the channel keeps at once.
-    ///
-    /// Where more than `new_cap` are kept, the oldest are dropped, and receivers that had still to
-    /// read them see `Overflowed`, in overflow mode or not.
-    ///
-    /// # Errors
-    ///
-    /// - `AllocError`: no memory for a greater capacity than any before. Nothing changed.
-    ///
-    /// ```rust
-    /// let (sender, mut slow) = broadcast(&rt, rt.alloc(), 4)?;
-    /// let mut quick = slow.clone()?;
-    /// for msg in 1..5u64 {
-    ///     assert!(rt; sender.try_broadcast(msg).is_ok());
-    /// }
-    /// for msg in 1..4u64 {
-    ///     assert!(rt; matches!(quick.try_recv(), Ok(Ok(got)) if got == msg));
-    /// }
-    /// slow.set_capacity(2)?;
-    /// assert!(rt; matches!(slow.try_recv(), Ok(Err(TryRecvError::Overflowed(2)))));
-    /// assert!(rt; matches!(slow.try_recv(), Ok(Ok(3))));
-    /// assert!(rt; matches!(quick.try_recv(), Ok(Ok(4))));
-    /// assert!(rt; matches!(quick.try_recv(), Ok(Err(TryRecvError::Empty))));
-    /// ```
-    ///
-    /// Source: `Receiver::set_capacity` of async-broadcast 0.7.2, which never refuses.
+    /// As [`Sender::set_capacity`].
     pub fn set_capacity(&mut self, new_cap: usize) -> Result<(), AllocError>
         requires { 0 < new_cap }
         ensures asked { P.gave self.old.port (Call.SetCapacity new_cap) (Reply.SetCapacity result) }
         ensures same { self.new ≡ self.old }
     {
-        ask!(self.port, SetCapacity(new_cap))
+        asked::set_capacity::<T, Slot<A>, P>(&self.port, new_cap)
     }
 
-    /// Whether a full channel drops its oldest message to accept a new one.
-    ///
-    /// ```rust
-    /// let (sender, mut receiver) = broadcast::<u64, _, _>(&rt, rt.alloc(), 1)?;
-    /// assert!(rt; !receiver.overflow());
-    /// receiver.set_overflow(true);
-    /// assert!(rt; receiver.overflow());
-    /// ```
-    ///
-    /// Source: `Receiver::overflow` of async-broadcast 0.7.2.
+    /// As [`Sender::overflow`].
     pub fn overflow(&self) -> bool
         ensures { P.gave self.now.port Call.Overflow (Reply.Overflow result) }
     {
-        ask!(self.port, Overflow)
+        asked::overflow::<T, Slot<A>, P>(&self.port)
     }
 
-    /// Says whether a full channel drops its oldest message to accept a new one.
-    ///
-    /// ```rust
-    /// let (sender, mut receiver) = broadcast(&rt, rt.alloc(), 1)?;
-    /// receiver.set_overflow(true);
-    /// assert!(rt; matches!(sender.try_broadcast(1), Ok(None)));
-    /// assert!(rt; matches!(sender.try_broadcast(2), Ok(Some(1))));
-    /// ```
-    ///
-    /// Source: `Receiver::set_overflow` of async-broadcast 0.7.2.
+    /// As [`Sender::set_overflow`].
     pub fn set_overflow(&mut self, overflow: bool)
         ensures asked { P.gave self.old.port (Call.SetOverflow overflow) Reply.SetOverflow }
         ensures same { self.new ≡ self.old }
     {
-        self.port.ask(Call::SetOverflow(overflow), Wake::none());
+        asked::set_overflow::<T, Slot<A>, P>(&self.port, overflow)
     }
 
-    /// Whether sends that may wait do so where there is no active receiver.
-    ///
-    /// ```rust
-    /// let (sender, mut receiver) = broadcast::<u64, _, _>(&rt, rt.alloc(), 1)?;
-    /// assert!(rt; receiver.await_active());
-    /// receiver.set_await_active(false);
-    /// assert!(rt; !receiver.await_active());
-    /// ```
-    ///
-    /// Source: `Receiver::await_active` of async-broadcast 0.7.2.
+    /// As [`Sender::await_active`].
     pub fn await_active(&self) -> bool
         ensures { P.gave self.now.port Call.AwaitActive (Reply.AwaitActive result) }
     {
-        ask!(self.port, AwaitActive)
+        asked::await_active::<T, Slot<A>, P>(&self.port)
     }
 
-    /// Says whether sends that may wait do so where there is no active receiver.
-    ///
-    /// ```rust
-    /// let (sender, mut receiver) = broadcast(&rt, rt.alloc(), 1)?;
-    /// receiver.set_await_active(false);
-    /// let _inactive = receiver.deactivate().ok().ok_or("no handle")?;
-    /// assert!(rt; matches!(sender.broadcast_blocking(7), Err(SendError(7))));
-    /// ```
-    ///
-    /// Source: `Receiver::set_await_active` of async-broadcast 0.7.2.
+    /// As [`Sender::set_await_active`].
     pub fn set_await_active(&mut self, await_active: bool)
         ensures asked { P.gave self.old.port (Call.SetAwaitActive await_active)
             Reply.SetAwaitActive }
         ensures same { self.new ≡ self.old }
     {
-        self.port
-            .ask(Call::SetAwaitActive(await_active), Wake::none());
+        asked::set_await_active::<T, Slot<A>, P>(&self.port, await_active)
     }
 
-    /// Closes the channel, and answers whether it was open.
-    ///
-    /// No more messages are accepted. Those that are there can still be received.
-    ///
-    /// ```rust
-    /// let (sender, receiver) = broadcast::<u64, _, _>(&rt, rt.alloc(), 1)?;
-    /// assert!(rt; receiver.close());
-    /// assert!(rt; !receiver.close());
-    /// ```
-    ///
-    /// Source: `Receiver::close` of async-broadcast 0.7.2.
+    /// As [`Sender::close`].
     pub fn close(&self) -> bool
         ensures { P.gave self.now.port Call.Close (Reply.Close result) }
     {
-        ask!(self.port, Close)
+        asked::close::<T, Slot<A>, P>(&self.port)
     }
 
-    /// Whether the channel is closed.
-    ///
-    /// ```rust
-    /// let (sender, receiver) = broadcast::<u64, _, _>(&rt, rt.alloc(), 1)?;
-    /// assert!(rt; !receiver.is_closed());
-    /// sender.close();
-    /// assert!(rt; receiver.is_closed());
-    /// ```
-    ///
-    /// Source: `Receiver::is_closed` of async-broadcast 0.7.2.
+    /// As [`Sender::is_closed`].
     pub fn is_closed(&self) -> bool
         ensures { P.gave self.now.port Call.IsClosed (Reply.IsClosed result) }
     {
-        ask!(self.port, IsClosed)
+        asked::is_closed::<T, Slot<A>, P>(&self.port)
     }
 
-    /// Whether the channel keeps no message.
-    ///
-    /// ```rust
-    /// let (sender, receiver) = broadcast::<u64, _, _>(&rt, rt.alloc(), 1)?;
-    /// assert!(rt; receiver.is_empty());
-    /// assert!(rt; sender.try_broadcast(7).is_ok());
-    /// assert!(rt; !receiver.is_empty());
-    /// ```
-    ///
-    /// Source: `Receiver::is_empty` of async-broadcast 0.7.2.
+    /// As [`Sender::is_empty`].
     pub fn is_empty(&self) -> bool
         ensures { P.gave self.now.port Call.IsEmpty (Reply.IsEmpty result) }
     {
-        ask!(self.port, IsEmpty)
+        asked::is_empty::<T, Slot<A>, P>(&self.port)
     }
 
-    /// Whether the channel keeps as many messages as it may.
-    ///
-    /// ```rust
-    /// let (sender, receiver) = broadcast::<u64, _, _>(&rt, rt.alloc(), 1)?;
-    /// assert!(rt; !receiver.is_full());
-    /// assert!(rt; sender.try_broadcast(7).is_ok());
-    /// assert!(rt; receiver.is_full());
-    /// ```
-    ///
-    /// Source: `Receiver::is_full` of async-broadcast 0.7.2.
+    /// As [`Sender::is_full`].
     pub fn is_full(&self) -> bool
         ensures { P.gave self.now.port Call.IsFull (Reply.IsFull result) }
     {
-        ask!(self.port, IsFull)
+        asked::is_full::<T, Slot<A>, P>(&self.port)
     }
 
-    /// The number of messages that the channel keeps.
-    ///
-    /// ```rust
-    /// let (sender, receiver) = broadcast::<u64, _, _>(&rt, rt.alloc(), 1)?;
-    /// assert!(rt; sender.try_broadcast(7).is_ok());
-    /// assert!(rt; receiver.len() == 1);
-    /// ```
-    ///
-    /// Source: `Receiver::len` of async-broadcast 0.7.2.
+    /// As [`Sender::len`].
     pub fn len(&self) -> usize
         ensures { P.gave self.now.port Call.Len (Reply.Len result) }
     {
-        ask!(self.port, Len)
+        asked::len::<T, Slot<A>, P>(&self.port)
     }
 
-    /// The number of active receivers.
-    ///
-    /// ```rust
-    /// let (sender, receiver) = broadcast::<u64, _, _>(&rt, rt.alloc(), 1)?;
-    /// let other = receiver.clone()?;
-    /// assert!(rt; receiver.receiver_count() == 2);
-    /// ```
-    ///
-    /// Source: `Receiver::receiver_count` of async-broadcast 0.7.2.
+    /// As [`Sender::receiver_count`].
     pub fn receiver_count(&self) -> usize
         ensures { P.gave self.now.port Call.ReceiverCount (Reply.ReceiverCount result) }
     {
-        ask!(self.port, ReceiverCount)
+        asked::receiver_count::<T, Slot<A>, P>(&self.port)
     }
 
-    /// The number of inactive receivers.
-    ///
-    /// ```rust
-    /// let (sender, receiver) = broadcast::<u64, _, _>(&rt, rt.alloc(), 1)?;
-    /// let other = receiver.clone()?;
-    /// let _inactive = other.deactivate().ok().ok_or("no handle")?;
-    /// assert!(rt; receiver.inactive_receiver_count() == 1);
-    /// ```
-    ///
-    /// Source: `Receiver::inactive_receiver_count` of async-broadcast 0.7.2.
+    /// As [`Sender::inactive_receiver_count`].
     pub fn inactive_receiver_count(&self) -> usize
         ensures { P.gave self.now.port Call.InactiveReceiverCount
             (Reply.InactiveReceiverCount result) }
     {
-        ask!(self.port, InactiveReceiverCount)
+        asked::inactive_receiver_count::<T, Slot<A>, P>(&self.port)
     }
 
-    /// The number of senders.
-    ///
-    /// ```rust
-    /// let (sender, receiver) = broadcast::<u64, _, _>(&rt, rt.alloc(), 1)?;
-    /// let _sender = sender.clone()?;
-    /// assert!(rt; receiver.sender_count() == 2);
-    /// ```
-    ///
-    /// Source: `Receiver::sender_count` of async-broadcast 0.7.2.
+    /// As [`Sender::sender_count`].
     pub fn sender_count(&self) -> usize
         ensures { P.gave self.now.port Call.SenderCount (Reply.SenderCount result) }
     {
-        ask!(self.port, SenderCount)
+        asked::sender_count::<T, Slot<A>, P>(&self.port)
     }
 }

@@ -2,8 +2,9 @@
 ghost use Rattle.std.specs.Prelude.{◌≡◌, ◌<◌};
 
 use super::Sender;
-use crate::port::{Port, ask};
-use crate::wake::{Slot, Wake};
+use crate::asked;
+use crate::port::Port;
+use crate::wake::Slot;
 use bcast_core::{Call, Reply};
 use std::alloc::{AllocError, Allocator};
 
@@ -19,7 +20,7 @@ impl<T: Clone, P: Port<T, Slot<A>>, A: Allocator + Copy> Sender<T, P, A> {
     pub fn capacity(&self) -> usize
         ensures { P.gave self.now.port Call.Capacity (Reply.Capacity result) }
     {
-        ask!(self.port, Capacity)
+        asked::capacity::<T, Slot<A>, P>(&self.port)
     }
 
     /// Changes how many messages the channel keeps at once.
@@ -46,7 +47,7 @@ impl<T: Clone, P: Port<T, Slot<A>>, A: Allocator + Copy> Sender<T, P, A> {
         ensures asked { P.gave self.old.port (Call.SetCapacity new_cap) (Reply.SetCapacity result) }
         ensures same { self.new ≡ self.old }
     {
-        ask!(self.port, SetCapacity(new_cap))
+        asked::set_capacity::<T, Slot<A>, P>(&self.port, new_cap)
     }
 
     /// Whether a full channel drops its oldest message to accept a new one.
@@ -62,7 +63,7 @@ impl<T: Clone, P: Port<T, Slot<A>>, A: Allocator + Copy> Sender<T, P, A> {
     pub fn overflow(&self) -> bool
         ensures { P.gave self.now.port Call.Overflow (Reply.Overflow result) }
     {
-        ask!(self.port, Overflow)
+        asked::overflow::<T, Slot<A>, P>(&self.port)
     }
 
     /// Says whether a full channel drops its oldest message to accept a new one.
@@ -81,7 +82,7 @@ impl<T: Clone, P: Port<T, Slot<A>>, A: Allocator + Copy> Sender<T, P, A> {
         ensures asked { P.gave self.old.port (Call.SetOverflow overflow) Reply.SetOverflow }
         ensures same { self.new ≡ self.old }
     {
-        self.port.ask(Call::SetOverflow(overflow), Wake::none());
+        asked::set_overflow::<T, Slot<A>, P>(&self.port, overflow)
     }
 
     /// Whether sends that may wait do so where there is no active receiver.
@@ -97,7 +98,7 @@ impl<T: Clone, P: Port<T, Slot<A>>, A: Allocator + Copy> Sender<T, P, A> {
     pub fn await_active(&self) -> bool
         ensures { P.gave self.now.port Call.AwaitActive (Reply.AwaitActive result) }
     {
-        ask!(self.port, AwaitActive)
+        asked::await_active::<T, Slot<A>, P>(&self.port)
     }
 
     /// Says whether sends that may wait do so where there is no active receiver.
@@ -116,8 +117,7 @@ impl<T: Clone, P: Port<T, Slot<A>>, A: Allocator + Copy> Sender<T, P, A> {
             Reply.SetAwaitActive }
         ensures same { self.new ≡ self.old }
     {
-        self.port
-            .ask(Call::SetAwaitActive(await_active), Wake::none());
+        asked::set_await_active::<T, Slot<A>, P>(&self.port, await_active)
     }
 
     /// Closes the channel, and answers whether it was open.
@@ -134,7 +134,7 @@ impl<T: Clone, P: Port<T, Slot<A>>, A: Allocator + Copy> Sender<T, P, A> {
     pub fn close(&self) -> bool
         ensures { P.gave self.now.port Call.Close (Reply.Close result) }
     {
-        ask!(self.port, Close)
+        asked::close::<T, Slot<A>, P>(&self.port)
     }
 
     /// Whether the channel is closed.
@@ -150,7 +150,7 @@ impl<T: Clone, P: Port<T, Slot<A>>, A: Allocator + Copy> Sender<T, P, A> {
     pub fn is_closed(&self) -> bool
         ensures { P.gave self.now.port Call.IsClosed (Reply.IsClosed result) }
     {
-        ask!(self.port, IsClosed)
+        asked::is_closed::<T, Slot<A>, P>(&self.port)
     }
 
     /// Whether the channel keeps no message.
@@ -166,7 +166,7 @@ impl<T: Clone, P: Port<T, Slot<A>>, A: Allocator + Copy> Sender<T, P, A> {
     pub fn is_empty(&self) -> bool
         ensures { P.gave self.now.port Call.IsEmpty (Reply.IsEmpty result) }
     {
-        ask!(self.port, IsEmpty)
+        asked::is_empty::<T, Slot<A>, P>(&self.port)
     }
 
     /// Whether the channel keeps as many messages as it may.
@@ -182,7 +182,7 @@ impl<T: Clone, P: Port<T, Slot<A>>, A: Allocator + Copy> Sender<T, P, A> {
     pub fn is_full(&self) -> bool
         ensures { P.gave self.now.port Call.IsFull (Reply.IsFull result) }
     {
-        ask!(self.port, IsFull)
+        asked::is_full::<T, Slot<A>, P>(&self.port)
     }
 
     /// The number of messages that the channel keeps.
@@ -197,7 +197,7 @@ impl<T: Clone, P: Port<T, Slot<A>>, A: Allocator + Copy> Sender<T, P, A> {
     pub fn len(&self) -> usize
         ensures { P.gave self.now.port Call.Len (Reply.Len result) }
     {
-        ask!(self.port, Len)
+        asked::len::<T, Slot<A>, P>(&self.port)
     }
 
     /// The number of active receivers.
@@ -212,7 +212,7 @@ impl<T: Clone, P: Port<T, Slot<A>>, A: Allocator + Copy> Sender<T, P, A> {
     pub fn receiver_count(&self) -> usize
         ensures { P.gave self.now.port Call.ReceiverCount (Reply.ReceiverCount result) }
     {
-        ask!(self.port, ReceiverCount)
+        asked::receiver_count::<T, Slot<A>, P>(&self.port)
     }
 
     /// The number of inactive receivers.
@@ -228,7 +228,7 @@ impl<T: Clone, P: Port<T, Slot<A>>, A: Allocator + Copy> Sender<T, P, A> {
         ensures { P.gave self.now.port Call.InactiveReceiverCount
             (Reply.InactiveReceiverCount result) }
     {
-        ask!(self.port, InactiveReceiverCount)
+        asked::inactive_receiver_count::<T, Slot<A>, P>(&self.port)
     }
 
     /// The number of senders.
@@ -243,6 +243,6 @@ impl<T: Clone, P: Port<T, Slot<A>>, A: Allocator + Copy> Sender<T, P, A> {
     pub fn sender_count(&self) -> usize
         ensures { P.gave self.now.port Call.SenderCount (Reply.SenderCount result) }
     {
-        ask!(self.port, SenderCount)
+        asked::sender_count::<T, Slot<A>, P>(&self.port)
     }
 }
