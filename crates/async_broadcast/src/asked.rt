@@ -2,7 +2,7 @@
 ghost use Rattle.std.specs.Prelude.{◌<◌};
 ghost use Rattle.async_broadcast.specs.Kinds.{HandsBack};
 
-use crate::port::Port;
+use crate::port::Ask;
 use crate::wake::Wake;
 use bcast_core::{Call, HandleError, RecvError, Reply, SendPoll, TryRecvError, TrySendError};
 use futures::task::Poll;
@@ -40,7 +40,7 @@ macro_rules! tell {
     };
 }
 
-pub(crate) fn try_broadcast<T: Clone, S, P: Port<T, S>>(
+pub(crate) fn try_broadcast<T: Clone, S, P: Ask<T, S>>(
     port: &P,
     msg: T,
 ) -> Result<Option<T>, TrySendError<T>>
@@ -49,13 +49,13 @@ pub(crate) fn try_broadcast<T: Clone, S, P: Port<T, S>>(
     ask!(port, TryBroadcast(msg))
 }
 
-pub(crate) fn begin_send<T: Clone, S, P: Port<T, S>>(port: &P) -> Result<usize, AllocError>
+pub(crate) fn begin_send<T: Clone, S, P: Ask<T, S>>(port: &P) -> Result<usize, AllocError>
     ensures { P.gave port.now Call.BeginSend (Reply.BeginSend result) }
 {
     ask!(port, BeginSend)
 }
 
-pub(crate) fn poll_send<T: Clone, S, P: Port<T, S>>(
+pub(crate) fn poll_send<T: Clone, S, P: Ask<T, S>>(
     port: &P,
     place: usize,
     msg: T,
@@ -70,13 +70,13 @@ pub(crate) fn poll_send<T: Clone, S, P: Port<T, S>>(
     }
 }
 
-pub(crate) fn end_send<T: Clone, S, P: Port<T, S>>(port: &P, place: usize)
+pub(crate) fn end_send<T: Clone, S, P: Ask<T, S>>(port: &P, place: usize)
     ensures { P.gave port.now (Call.EndSend place) Reply.EndSend }
 {
     tell!(port, EndSend(place))
 }
 
-pub(crate) fn try_recv<T: Clone, S, P: Port<T, S>>(
+pub(crate) fn try_recv<T: Clone, S, P: Ask<T, S>>(
     port: &P,
     key: usize,
 ) -> Result<Result<T, TryRecvError>, AllocError>
@@ -85,7 +85,7 @@ pub(crate) fn try_recv<T: Clone, S, P: Port<T, S>>(
     ask!(port, TryRecv(key))
 }
 
-pub(crate) fn poll_future<T: Clone, S, P: Port<T, S>>(
+pub(crate) fn poll_future<T: Clone, S, P: Ask<T, S>>(
     port: &P,
     key: usize,
     wake: Wake<S>,
@@ -98,13 +98,13 @@ pub(crate) fn poll_future<T: Clone, S, P: Port<T, S>>(
     }
 }
 
-pub(crate) fn end_future<T: Clone, S, P: Port<T, S>>(port: &P, key: usize)
+pub(crate) fn end_future<T: Clone, S, P: Ask<T, S>>(port: &P, key: usize)
     ensures { P.gave port.now (Call.EndFuture key) Reply.EndFuture }
 {
     tell!(port, EndFuture(key))
 }
 
-pub(crate) fn poll_recv<T: Clone, S, P: Port<T, S>>(
+pub(crate) fn poll_recv<T: Clone, S, P: Ask<T, S>>(
     port: &P,
     key: usize,
     wake: Wake<S>,
@@ -117,7 +117,7 @@ pub(crate) fn poll_recv<T: Clone, S, P: Port<T, S>>(
     }
 }
 
-pub(crate) fn poll_next<T: Clone, S, P: Port<T, S>>(
+pub(crate) fn poll_next<T: Clone, S, P: Ask<T, S>>(
     port: &P,
     key: usize,
     wake: Wake<S>,
@@ -130,13 +130,13 @@ pub(crate) fn poll_next<T: Clone, S, P: Port<T, S>>(
     }
 }
 
-pub(crate) fn close<T: Clone, S, P: Port<T, S>>(port: &P) -> bool
+pub(crate) fn close<T: Clone, S, P: Ask<T, S>>(port: &P) -> bool
     ensures { P.gave port.now Call.Close (Reply.Close result) }
 {
     ask!(port, Close)
 }
 
-pub(crate) fn set_capacity<T: Clone, S, P: Port<T, S>>(
+pub(crate) fn set_capacity<T: Clone, S, P: Ask<T, S>>(
     port: &P,
     new_cap: usize,
 ) -> Result<(), AllocError>
@@ -146,58 +146,55 @@ pub(crate) fn set_capacity<T: Clone, S, P: Port<T, S>>(
     ask!(port, SetCapacity(new_cap))
 }
 
-pub(crate) fn set_overflow<T: Clone, S, P: Port<T, S>>(port: &P, overflow: bool)
+pub(crate) fn set_overflow<T: Clone, S, P: Ask<T, S>>(port: &P, overflow: bool)
     ensures { P.gave port.now (Call.SetOverflow overflow) Reply.SetOverflow }
 {
     tell!(port, SetOverflow(overflow))
 }
 
-pub(crate) fn set_await_active<T: Clone, S, P: Port<T, S>>(port: &P, await_active: bool)
+pub(crate) fn set_await_active<T: Clone, S, P: Ask<T, S>>(port: &P, await_active: bool)
     ensures { P.gave port.now (Call.SetAwaitActive await_active) Reply.SetAwaitActive }
 {
     tell!(port, SetAwaitActive(await_active))
 }
 
-pub(crate) fn new_sender<T: Clone, S, P: Port<T, S>>(port: &P) -> Result<(), HandleError>
+pub(crate) fn new_sender<T: Clone, S, P: Ask<T, S>>(port: &P) -> Result<(), HandleError>
     ensures { P.gave port.now Call.NewSender (Reply.NewSender result) }
 {
     ask!(port, NewSender)
 }
 
-pub(crate) fn clone_inactive<T: Clone, S, P: Port<T, S>>(port: &P) -> Result<(), HandleError>
+pub(crate) fn clone_inactive<T: Clone, S, P: Ask<T, S>>(port: &P) -> Result<(), HandleError>
     ensures { P.gave port.now Call.CloneInactive (Reply.CloneInactive result) }
 {
     ask!(port, CloneInactive)
 }
 
-pub(crate) fn deactivate<T: Clone, S, P: Port<T, S>>(
-    port: &P,
-    key: usize,
-) -> Result<(), HandleError>
+pub(crate) fn deactivate<T: Clone, S, P: Ask<T, S>>(port: &P, key: usize) -> Result<(), HandleError>
     ensures { P.gave port.now (Call.Deactivate key) (Reply.Deactivate result) }
 {
     ask!(port, Deactivate(key))
 }
 
-pub(crate) fn new_receiver<T: Clone, S, P: Port<T, S>>(port: &P) -> Result<usize, HandleError>
+pub(crate) fn new_receiver<T: Clone, S, P: Ask<T, S>>(port: &P) -> Result<usize, HandleError>
     ensures { P.gave port.now Call.NewReceiver (Reply.NewReceiver result) }
 {
     ask!(port, NewReceiver)
 }
 
-pub(crate) fn activate<T: Clone, S, P: Port<T, S>>(port: &P) -> Result<usize, HandleError>
+pub(crate) fn activate<T: Clone, S, P: Ask<T, S>>(port: &P) -> Result<usize, HandleError>
     ensures { P.gave port.now Call.Activate (Reply.Activate result) }
 {
     ask!(port, Activate)
 }
 
-pub(crate) fn activate_cloned<T: Clone, S, P: Port<T, S>>(port: &P) -> Result<usize, HandleError>
+pub(crate) fn activate_cloned<T: Clone, S, P: Ask<T, S>>(port: &P) -> Result<usize, HandleError>
     ensures { P.gave port.now Call.ActivateCloned (Reply.ActivateCloned result) }
 {
     ask!(port, ActivateCloned)
 }
 
-pub(crate) fn clone_receiver<T: Clone, S, P: Port<T, S>>(
+pub(crate) fn clone_receiver<T: Clone, S, P: Ask<T, S>>(
     port: &P,
     key: usize,
 ) -> Result<usize, HandleError>
@@ -206,85 +203,85 @@ pub(crate) fn clone_receiver<T: Clone, S, P: Port<T, S>>(
     ask!(port, CloneReceiver(key))
 }
 
-pub(crate) fn drop_sender<T: Clone, S, P: Port<T, S>>(port: &P)
+pub(crate) fn drop_sender<T: Clone, S, P: Ask<T, S>>(port: &P)
     ensures { P.gave port.now Call.DropSender Reply.DropSender }
 {
     tell!(port, DropSender)
 }
 
-pub(crate) fn drop_inactive<T: Clone, S, P: Port<T, S>>(port: &P)
+pub(crate) fn drop_inactive<T: Clone, S, P: Ask<T, S>>(port: &P)
     ensures { P.gave port.now Call.DropInactive Reply.DropInactive }
 {
     tell!(port, DropInactive)
 }
 
-pub(crate) fn drop_receiver<T: Clone, S, P: Port<T, S>>(port: &P, key: usize)
+pub(crate) fn drop_receiver<T: Clone, S, P: Ask<T, S>>(port: &P, key: usize)
     ensures { P.gave port.now (Call.DropReceiver key) Reply.DropReceiver }
 {
     tell!(port, DropReceiver(key))
 }
 
-pub(crate) fn overflow<T: Clone, S, P: Port<T, S>>(port: &P) -> bool
+pub(crate) fn overflow<T: Clone, S, P: Ask<T, S>>(port: &P) -> bool
     ensures { P.gave port.now Call.Overflow (Reply.Overflow result) }
 {
     ask!(port, Overflow)
 }
 
-pub(crate) fn await_active<T: Clone, S, P: Port<T, S>>(port: &P) -> bool
+pub(crate) fn await_active<T: Clone, S, P: Ask<T, S>>(port: &P) -> bool
     ensures { P.gave port.now Call.AwaitActive (Reply.AwaitActive result) }
 {
     ask!(port, AwaitActive)
 }
 
-pub(crate) fn is_empty<T: Clone, S, P: Port<T, S>>(port: &P) -> bool
+pub(crate) fn is_empty<T: Clone, S, P: Ask<T, S>>(port: &P) -> bool
     ensures { P.gave port.now Call.IsEmpty (Reply.IsEmpty result) }
 {
     ask!(port, IsEmpty)
 }
 
-pub(crate) fn is_full<T: Clone, S, P: Port<T, S>>(port: &P) -> bool
+pub(crate) fn is_full<T: Clone, S, P: Ask<T, S>>(port: &P) -> bool
     ensures { P.gave port.now Call.IsFull (Reply.IsFull result) }
 {
     ask!(port, IsFull)
 }
 
-pub(crate) fn is_closed<T: Clone, S, P: Port<T, S>>(port: &P) -> bool
+pub(crate) fn is_closed<T: Clone, S, P: Ask<T, S>>(port: &P) -> bool
     ensures { P.gave port.now Call.IsClosed (Reply.IsClosed result) }
 {
     ask!(port, IsClosed)
 }
 
-pub(crate) fn is_terminated<T: Clone, S, P: Port<T, S>>(port: &P) -> bool
+pub(crate) fn is_terminated<T: Clone, S, P: Ask<T, S>>(port: &P) -> bool
     ensures { P.gave port.now Call.IsTerminated (Reply.IsTerminated result) }
 {
     ask!(port, IsTerminated)
 }
 
-pub(crate) fn capacity<T: Clone, S, P: Port<T, S>>(port: &P) -> usize
+pub(crate) fn capacity<T: Clone, S, P: Ask<T, S>>(port: &P) -> usize
     ensures { P.gave port.now Call.Capacity (Reply.Capacity result) }
 {
     ask!(port, Capacity)
 }
 
-pub(crate) fn len<T: Clone, S, P: Port<T, S>>(port: &P) -> usize
+pub(crate) fn len<T: Clone, S, P: Ask<T, S>>(port: &P) -> usize
     ensures { P.gave port.now Call.Len (Reply.Len result) }
 {
     ask!(port, Len)
 }
 
-pub(crate) fn receiver_count<T: Clone, S, P: Port<T, S>>(port: &P) -> usize
+pub(crate) fn receiver_count<T: Clone, S, P: Ask<T, S>>(port: &P) -> usize
     ensures { P.gave port.now Call.ReceiverCount (Reply.ReceiverCount result) }
 {
     ask!(port, ReceiverCount)
 }
 
-pub(crate) fn inactive_receiver_count<T: Clone, S, P: Port<T, S>>(port: &P) -> usize
+pub(crate) fn inactive_receiver_count<T: Clone, S, P: Ask<T, S>>(port: &P) -> usize
     ensures { P.gave port.now Call.InactiveReceiverCount (Reply.InactiveReceiverCount result) }
 {
     ask!(port, InactiveReceiverCount)
 }
 
-pub(crate) fn sender_count<T: Clone, S, P: Port<T, S>>(port: &P) -> usize
+pub(crate) fn sender_count<T: Clone, S, P: Ask<T, S>>(port: &P) -> usize
     ensures { P.gave port.now Call.SenderCount (Reply.SenderCount result) }
 {
     ask!(port, SenderCount)

@@ -3,7 +3,7 @@ ghost use Rattle.std.specs.Prelude.{◌≡◌, Ok, Err, IfOk, IfErr, ◌⊎◌};
 ghost use Rattle.async_broadcast.specs.Ports.{IsSame};
 
 use crate::asked;
-use crate::port::Port;
+use crate::port::{Ask, Port};
 use crate::receiver::Receiver;
 use crate::wake::Slot;
 use bcast_core::{Call, HandleError, Reply};
@@ -17,7 +17,7 @@ mod settings;
 /// While it is there, the channel isn't closed for want of receivers. Contracts name its `port`.
 ///
 /// Source: `InactiveReceiver` of async-broadcast 0.7.2.
-pub struct InactiveReceiver<T: Clone, P: Port<T, Slot<A>>, A: Allocator = Global> {
+pub struct InactiveReceiver<T: Clone, P: Ask<T, Slot<A>>, A: Allocator = Global> {
     pub(crate) port: P,
     // For handles made here.
     pub(crate) alloc: A,
@@ -141,7 +141,7 @@ impl<T: Clone, P: Port<T, Slot<A>>, A: Allocator + Copy> InactiveReceiver<T, P, 
     }
 }
 
-impl<T: Clone, P: Port<T, Slot<A>>, A: Allocator> Drop for InactiveReceiver<T, P, A> {
+impl<T: Clone, P: Ask<T, Slot<A>>, A: Allocator> Drop for InactiveReceiver<T, P, A> {
     fn drop(self)
         ensures { P.gave self.port Call.DropInactive Reply.DropInactive }
     {

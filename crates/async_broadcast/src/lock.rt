@@ -6,7 +6,7 @@ ghost use Rattle.async_broadcast.specs.Kinds.{may_wait, is_answer};
 ghost use Rattle.async_broadcast.specs.Snapshots.{ShowsSomeState};
 ghost use Rattle.async_broadcast.specs.Channels.{channel_of};
 
-use crate::port::Port;
+use crate::port::{Ask, Port};
 use crate::receiver::Receiver;
 use crate::sender::Sender;
 use crate::wake::{Slot, Wake};
@@ -167,13 +167,10 @@ fn is_empty<T>(answer: &Result<Result<T, TryRecvError>, AllocError>) -> bool
     matches!(answer, Ok(Err(TryRecvError::Empty)))
 }
 
-impl<T: Clone, R: Wait + Clone, A: Allocator + Copy> Port<T, Slot<A>> for Lock<T, R, A> {
+impl<T: Clone, R: Wait + Clone, A: Allocator + Copy> Ask<T, Slot<A>> for Lock<T, R, A> {
     ghost use Rattle.async_broadcast.specs.OfKind.{possible};
-    ghost use Rattle.async_broadcast.specs.Channels.{channel_of};
 
     ghost gave = { λ _ call reply. IsPossible T.is_clone call reply };
-
-    ghost channel = { λ lock. channel_of lock };
 
     ghost of_kind = { λ _ call reply may. possible T.is_clone call reply may };
 
@@ -187,6 +184,12 @@ impl<T: Clone, R: Wait + Clone, A: Allocator + Copy> Port<T, Slot<A>> for Lock<T
         channel.wake(woken);
         reply
     }
+}
+
+impl<T: Clone, R: Wait + Clone, A: Allocator + Copy> Port<T, Slot<A>> for Lock<T, R, A> {
+    ghost use Rattle.async_broadcast.specs.Channels.{channel_of};
+
+    ghost channel = { λ lock. channel_of lock };
 
     fn ask_waiting(&self, call: Call<T>) -> Reply<T>
         requires { may_wait call ≡ true }

@@ -10,11 +10,12 @@ use bcast_core::{Call, Reply};
 /// The way from a handle to its channel: a call goes in, and its reply comes back.
 ///
 /// What handles and futures promise, they promise over every port: an answer is the reply that
-/// the port gave to the call that the handle's method names. `Lock` is the port of a channel that
-/// `broadcast` made. `S` is where its wakes keep a task's waker: `Slot`, unless memory comes from
-/// another allocator than `Global`.
-pub trait Port<T: Clone, S>: Sized + Drop {
-    ghost use Rattle.std.specs.Prelude.{ℕ};
+/// the port gave to the call that the handle's method names. `S` is where its wakes keep a task's
+/// waker: `Slot`, unless memory comes from another allocator than `Global`.
+///
+/// The structs of handles and of futures need this much of a port. It is small, so that proofs
+/// about several futures at once are.
+pub trait Ask<T: Clone, S>: Sized + Drop {
     ghost use Rattle.bcast_model.specs.declared.run.Call.{Call};
     ghost use Rattle.bcast_model.specs.declared.run.Reply.{Reply};
     ghost use Rattle.async_broadcast.specs.Kinds.{IsOfKind};
@@ -22,26 +23,32 @@ pub trait Port<T: Clone, S>: Sized + Drop {
     // Holds of a call and a reply that the port may give to it.
     ghost gave: { Self → Call T → Reply T → Type 0 };
 
-    // Names the channel that the port leads to.
-    ghost channel: { Self → ℕ };
-
     /// Makes one call on the channel. One of the four polls that must wait leaves `wake` there.
     fn ask(&self, call: Call<T>, wake: Wake<S>) -> Reply<T>
         requires { HasPositiveCapacity call }
         ensures { gave self.now call result };
 
+    // A reply is of its call's kind.
+    ghost of_kind: { (port : Self) (call : Call T) (reply : Reply T)
+        → gave port call reply → IsOfKind call reply };
+}
+
+/// A port that can also wait, and that handles can share. `Lock` is the port of a channel that
+/// `broadcast` made.
+pub trait Port<T: Clone, S>: Ask<T, S> {
+    ghost use Rattle.std.specs.Prelude.{ℕ};
+
+    // Names the channel that the port leads to.
+    ghost channel: { Self → ℕ };
+
     /// Makes an `AttemptSend` or a `TryRecv` again and again, and waits between, until it is
     /// answered by something other than `Wait` or `Empty`.
     fn ask_waiting(&self, call: Call<T>) -> Reply<T>
         requires { may_wait call ≡ true }
-        ensures reply { gave self.now call result }
+        ensures reply { Self.gave self.now call result }
         ensures answered { is_answer result ≡ true };
 
     /// Another port of the same channel. None: there was no memory for it.
     fn same(&self) -> Option<Self>
-        ensures { IfSome result (λ port. IsSame gave channel port self.now) };
-
-    // A reply is of its call's kind.
-    ghost of_kind: { (port : Self) (call : Call T) (reply : Reply T)
-        → gave port call reply → IsOfKind call reply };
+        ensures { IfSome result (λ port. IsSame Self.gave channel port self.now) };
 }

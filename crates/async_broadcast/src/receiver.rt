@@ -4,7 +4,7 @@ ghost use Rattle.async_broadcast.specs.Ports.{IsSame, as_try_recv};
 
 use crate::asked;
 use crate::inactive::InactiveReceiver;
-use crate::port::Port;
+use crate::port::{Ask, Port};
 use crate::sender::Sender;
 use crate::wake::{Slot, TaskWaker};
 use bcast_core::{Call, HandleError, RecvError, Reply, TryRecvError};
@@ -29,7 +29,7 @@ mod settings;
 /// ```
 ///
 /// Source: `Receiver` of async-broadcast 0.7.2.
-pub struct Receiver<T: Clone, P: Port<T, Slot<A>>, A: Allocator = Global> {
+pub struct Receiver<T: Clone, P: Ask<T, Slot<A>>, A: Allocator = Global> {
     pub(crate) port: P,
     pub(crate) key: usize,
     // Of the task that polls this receiver, as a stream or by a `Recv`.
@@ -270,7 +270,7 @@ impl<T: Clone, P: Port<T, Slot<A>>, A: Allocator + Copy> Receiver<T, P, A> {
     }
 }
 
-impl<T: Clone, P: Port<T, Slot<A>>, A: Allocator> Drop for Receiver<T, P, A> {
+impl<T: Clone, P: Ask<T, Slot<A>>, A: Allocator> Drop for Receiver<T, P, A> {
     fn drop(self)
         ensures { P.gave self.port (Call.DropReceiver self.key) Reply.DropReceiver }
     {

@@ -3,7 +3,7 @@ ghost use Rattle.std.specs.Prelude.{◌≡◌, Ok, Err, IfOk, IfErr, ◌⊎◌};
 ghost use Rattle.async_broadcast.specs.Ports.{IsSame};
 
 use crate::asked;
-use crate::port::Port;
+use crate::port::{Ask, Port};
 use crate::receiver::Receiver;
 use crate::wake::Slot;
 use bcast_core::{Call, HandleError, Reply, SendError, SendPoll, TrySendError};
@@ -18,7 +18,7 @@ mod settings;
 /// are accepted, and those that are there can still be received. Contracts name its `port`.
 ///
 /// Source: `Sender` of async-broadcast 0.7.2.
-pub struct Sender<T: Clone, P: Port<T, Slot<A>>, A: Allocator = Global> {
+pub struct Sender<T: Clone, P: Ask<T, Slot<A>>, A: Allocator = Global> {
     pub(crate) port: P,
     // For futures, and for handles made here.
     pub(crate) alloc: A,
@@ -166,7 +166,7 @@ impl<T: Clone, P: Port<T, Slot<A>>, A: Allocator + Copy> Sender<T, P, A> {
     }
 }
 
-impl<T: Clone, P: Port<T, Slot<A>>, A: Allocator> Drop for Sender<T, P, A> {
+impl<T: Clone, P: Ask<T, Slot<A>>, A: Allocator> Drop for Sender<T, P, A> {
     fn drop(self)
         ensures { P.gave self.port Call.DropSender Reply.DropSender }
     {

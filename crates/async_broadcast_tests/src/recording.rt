@@ -4,7 +4,7 @@ ghost use Rattle.bcast_model.specs.Next.{HasPositiveCapacity};
 ghost use Rattle.async_broadcast.specs.Kinds.{IsOfKind, may_wait, is_answer};
 
 use async_broadcast::{
-    Call, InactiveReceiver, Port, Receiver, Reply, SendPoll, Sender, Slot, Wake,
+    Ask, Call, InactiveReceiver, Port, Receiver, Reply, SendPoll, Sender, Slot, Wake,
 };
 use std::alloc::{AllocError, Global};
 use std::cell::Cell;
@@ -160,7 +160,7 @@ impl Log {
     }
 }
 
-impl<S: Drop> Port<u64, S> for Recording {
+impl<S: Drop> Ask<u64, S> for Recording {
     ghost use Rattle.async_broadcast.specs.Kinds.{IsOfKind};
 
     ghost gave = { λ _ call reply. IsOfKind call reply };
@@ -174,6 +174,11 @@ impl<S: Drop> Port<u64, S> for Recording {
         self.log.note(asked_of(&call));
         reply_to(self.log.manner.get(), call)
     }
+}
+
+impl<S: Drop> Port<u64, S> for Recording {
+    // No contract tells one channel from another here.
+    ghost channel = { λ _. 0 };
 
     fn ask_waiting(&self, call: Call<u64>) -> Reply<u64>
         requires { may_wait call ≡ true }

@@ -5,7 +5,7 @@ ghost use Rattle.futures.specs.Poll.{IfReady, OnPending};
 ghost use Rattle.async_broadcast.specs.Futures.{GivesReceived};
 
 use crate::asked;
-use crate::port::Port;
+use crate::port::Ask;
 use crate::receiver::Receiver;
 use crate::wake::Slot;
 use bcast_core::{Call, RecvError, Reply};
@@ -18,11 +18,11 @@ use std::alloc::{AllocError, Allocator, Global};
 /// Its output is that of `recv_blocking`. Polled again after its output it receives anew.
 ///
 /// Source: `Recv` of async-broadcast 0.7.2.
-pub struct Recv<'a, T: Clone, P: Port<T, Slot<A>>, A: Allocator = Global> {
+pub struct Recv<'a, T: Clone, P: Ask<T, Slot<A>>, A: Allocator = Global> {
     receiver: &'a mut Receiver<T, P, A>,
 }
 
-impl<T: Clone, P: Port<T, Slot<A>>, A: Allocator + Copy> Receiver<T, P, A> {
+impl<T: Clone, P: Ask<T, Slot<A>>, A: Allocator + Copy> Receiver<T, P, A> {
     /// Receives the next message in a task, by a future in a box.
     ///
     /// # Errors
@@ -102,7 +102,7 @@ impl<T: Clone, P: Port<T, Slot<A>>, A: Allocator + Copy> Receiver<T, P, A> {
     }
 }
 
-impl<T: Clone, P: Port<T, Slot<A>>, A: Allocator> Drop for Recv<'_, T, P, A> {
+impl<T: Clone, P: Ask<T, Slot<A>>, A: Allocator> Drop for Recv<'_, T, P, A> {
     fn drop(self)
         ensures { P.gave self.entry.receiver.now.port (Call.EndFuture self.entry.receiver.now.key)
             Reply.EndFuture }
@@ -113,7 +113,7 @@ impl<T: Clone, P: Port<T, Slot<A>>, A: Allocator> Drop for Recv<'_, T, P, A> {
     }
 }
 
-impl<T: Clone, P: Port<T, Slot<A>>, A: Allocator + Copy> Future for Recv<'_, T, P, A> {
+impl<T: Clone, P: Ask<T, Slot<A>>, A: Allocator + Copy> Future for Recv<'_, T, P, A> {
     type Output = Result<Result<T, RecvError>, AllocError>;
 
     ghost gives = { λ r out. GivesReceived P.gave r.receiver.now.port r.receiver.now.key out };

@@ -6,7 +6,7 @@ ghost use Rattle.futures.specs.Runs.{After, Within};
 ghost use Rattle.async_broadcast.specs.Futures.{YieldsItems};
 
 use crate::asked;
-use crate::port::Port;
+use crate::port::Ask;
 use crate::receiver::Receiver;
 use crate::wake::Slot;
 use bcast_core::{Call, Reply};
@@ -16,7 +16,7 @@ use std::alloc::{AllocError, Allocator};
 
 // Messages that were dropped are skipped. An item `Err` found no memory for a notice or a clone,
 // and changed nothing. The stream ends when every message was read and the channel is closed.
-impl<T: Clone, P: Port<T, Slot<A>>, A: Allocator + Copy> Stream for Receiver<T, P, A> {
+impl<T: Clone, P: Ask<T, Slot<A>>, A: Allocator + Copy> Stream for Receiver<T, P, A> {
     type Item = Result<T, AllocError>;
 
     ghost yields = { λ r items last. YieldsItems P.gave r.port r.key items last };

@@ -3,12 +3,12 @@ ghost use Rattle.std.specs.Prelude.{◌≡◌, ◌<◌};
 
 use super::InactiveReceiver;
 use crate::asked;
-use crate::port::Port;
+use crate::port::Ask;
 use crate::wake::Slot;
 use bcast_core::{Call, Reply};
 use std::alloc::{AllocError, Allocator};
 
-impl<T: Clone, P: Port<T, Slot<A>>, A: Allocator + Copy> InactiveReceiver<T, P, A> {
+impl<T: Clone, P: Ask<T, Slot<A>>, A: Allocator + Copy> InactiveReceiver<T, P, A> {
     /// As [`Sender::capacity`].
     pub fn capacity(&self) -> usize
         ensures { P.gave self.now.port Call.Capacity (Reply.Capacity result) }
