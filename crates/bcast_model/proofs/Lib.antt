@@ -19,6 +19,7 @@ pub mod Making
 pub mod Calls
 -- histories and what is seen of them
 pub mod Answers
+pub mod Steps
 pub mod Witness
 pub mod Opening
 -- the laws

@@ -1,146 +1,139 @@
--- A channel of capacity 1 in overflow mode: a message takes the place of the one before it.
-use Rattle.std.proofs.Common.{◌≡◌, inl, inr, ℕ, zero, suc, ◌-◌, ◌≤◌, ◌⊎◌, Bool, true, false, cond, List, [], ◌∷◌, length, max, Option, Some, None, Result, Ok, Err, nat_lt, slice_get, refl, sym, ap, ◌∙◌, subst, arith}
-use Rattle.std.proofs.lemmas.Grind.{common_steps}
+-- A channel of capacity 1 in overflow mode: what its calls leave.
+use Rattle.std.proofs.Common.{◌≡◌, inl, inr, ℕ, ◌+◌, ◌-◌, ◌≤◌, true, false, [], ◌∷◌, length, max, Option, Some, None, Result, Ok, Err, IfOk, IfErr, OnOk, refl, sym, ap, ◌∙◌, subst, arith}
 use Rattle.std.proofs.lemmas.Bool.{cases_lt}
-use Rattle.std.proofs.lemmas.List.{nil_from_length}
+use Rattle.std.proofs.lemmas.List.{drop_at, nil_from_length}
+use Rattle.std.proofs.lemmas.Grind.{common_steps}
 use Rattle.std.proofs.lemmas.Option.{none-some, same_Some}
-use Rattle.std.specs.Prelude.{IfSome, IfNone, alloc_error}
+use Rattle.std.specs.FinMap.{get, len, values}
 use Rattle.futures.specs.declared.task.Poll.{Poll}
-use Rattle.bcast_model.specs.declared.error.TryRecvError.{TryRecvError}
-use Rattle.bcast_model.specs.declared.error.TryRecvError.TheVariants as unread
-use Rattle.bcast_model.specs.declared.run.Call.{Call}
+use Rattle.bcast_model.specs.declared.error.HandleError.{HandleError}
+use Rattle.bcast_model.specs.declared.error.TrySendError.{TrySendError}
 use Rattle.bcast_model.specs.declared.run.Call.TheVariants as call
-use Rattle.bcast_model.specs.declared.run.Reply.{Reply}
 use Rattle.bcast_model.specs.declared.run.Reply.TheVariants as reply
-use Rattle.bcast_model.specs.Receiving.{found, skipped, skipped_to, next_reply, IsOwed, try_recv_reply}
-use Rattle.bcast_model.specs.Legal.{IsGiven, IsReceived, Legal}
-use Rattle.bcast_model.specs.View.{View}
+use Rattle.bcast_model.specs.Listeners.{Listeners}
+use Rattle.bcast_model.specs.History.{least}
+use Rattle.bcast_model.specs.Pair.{stream_of}
+use Rattle.bcast_model.specs.Control.{Control, with_cursor, pair_waits, pair_answered, cursor_of, accepting}
+use Rattle.bcast_model.specs.Effect.{sets}
+use Rattle.bcast_model.specs.Errors.{unsent_message}
+use Rattle.bcast_model.specs.Receiving.{receive, listens, skipped_to, is_empty_reply, try_recv_reply}
+use Rattle.bcast_model.specs.Sending.{accept}
+use Rattle.bcast_model.specs.Steps.{settle}
+use Rattle.bcast_model.specs.View.{View, is_full}
 use Rattle.bcast_model.specs.Answers.{Answers}
 use Rattle.bcast_model.specs.Laws.{IsValidView}
-use Rattle.bcast_model.specs.Control.{cursor_of}
-use Rattle.bcast_model.proofs.Views.{valid_view}
-use Rattle.bcast_model.proofs.Replies.{legal-seen}
-use Rattle.uses.specs.declared.config_watcher.Change.{Change}
-use Rattle.uses.specs.Config.{IsConfig, IsLatest, IsUpToDate, change_of}
+use Rattle.bcast_model.proofs.Cases.{receive_is, test_is}
+use Rattle.bcast_model.proofs.Least.{least-le-cursor, len_insert}
+use Rattle.bcast_core.proofs.Settle.{inserted, somebody, cursors-accepting}
+use Rattle.uses.specs.Config.{IsConfig, IsUpToDate, KeepsOthers}
+use Rattle.uses.proofs.Called.{valid, after, unchanged, on_ok}
+use Rattle.uses.proofs.Cursors.{get-insert_other}
+use Rattle.uses.proofs.Sends.{accepted}
 
 module _ {S : Type 0} where
-  -- ---- a list of one message at most
-  one_kept : (items : List S) (index : ℕ) (item : S) → length items ≤ 1 → slice_get items index ≡ Some item → (index ≡ 0) × (items ≡ item ∷ [])
-  one_kept [] index item few e = absurd (none-some item e)
-  one_kept (first ∷ []) zero item few e = (refl, ap (λ x. x ∷ []) (same_Some first item e))
-  one_kept (first ∷ []) (suc index) item few e = absurd (none-some item e)
-  one_kept (first ∷ second ∷ items) index item few e = absurd (omega arith)
+  -- nothing is set, and this watcher, if it is there, has looked at the latest settings
+  pub record Looked (v u : View S) (key : ℕ) : Type 0 where
+    pub config : IsConfig u
+    pub others : KeepsOthers v u key
+    pub seen : IsUpToDate u key
 
-  none_kept : (items : List S) (index : ℕ) → slice_get items index ≡ None → length items ≤ index
-  none_kept [] index e = omega arith
-  none_kept (first ∷ items) zero e = absurd (none-some first (sym e))
-  none_kept (first ∷ items) (suc index) e = let n = none_kept items index e in omega arith
+  -- who waits and who is told makes no difference
+  heard : (v u : View S) (key : ℕ) (c : Control) → c.cursors ≡ u.control.cursors → c.closed ≡ u.control.closed → c.capacity ≡ u.control.capacity → c.overflow ≡ u.control.overflow → Looked v u key → Looked v (record u { control = c }) key
+  heard v u key c cursors closed capacity overflow s = record {
+    config = record { capacity = capacity ∙ s.config.capacity; overflow = overflow ∙ s.config.overflow; watchers = subst (λ m. 1 ≤ len m) (sym cursors) s.config.watchers };
+    others = record { end = s.others.end; closed = closed ∙ s.others.closed; others = λ other differs. ap (λ m. get m other) cursors ∙ s.others.others other differs };
+    seen = λ n e. s.seen n (ap (λ m. get m key) (sym cursors) ∙ e);
+  }
 
-  -- ---- a receive by `poll_next` that found memory
-  -- the exact reply, or a clone in its place
-  abbrev IsAnswer : (S → S → Type 0) → Result S TryRecvError → Result S TryRecvError → Type 0
-  IsAnswer is_clone exact answer = (answer ≡ exact) ⊎ ((msg : S) × (given : S) × (exact ≡ Ok msg) × is_clone msg given × (answer ≡ Ok given))
+  module _ (v : View S) (key : ℕ) (config : IsConfig v) where
+    abbrev Leaves : Control → Type 0
+    Leaves c = Looked v (settle v (sets c)) key
 
-  polled_is : (k : ℕ) (polled : Poll (Option (S × ℕ))) (answer : Result S TryRecvError) → reply.PollNext (Ok polled) ≡ reply.PollNext (Ok (next_reply k answer)) → polled ≡ next_reply k answer
-  polled_is k polled answer e = cc
+    same_end : v.end + 0 ≡ v.end
+    same_end = omega arith
 
-  not_refused : (polled : Poll (Option (S × ℕ))) → ◌≡◌ {A = Reply S} (reply.PollNext (Ok polled)) (reply.PollNext (Err alloc_error)) → ⊥
-  not_refused polled e = cc
+    -- a watcher at the end
+    seen_at : (number : ℕ) → number ≡ v.end → Leaves (with_cursor v.control key number)
+    seen_at number at = record {
+      config = record { capacity = config.capacity; overflow = config.overflow; watchers = len_insert v.control.cursors key number };
+      others = record { end = same_end; closed = refl; others = λ other differs. get-insert_other v.control.cursors key number other differs };
+      seen = λ n e. sym (same_Some number n (sym (inserted v.control.cursors key number) ∙ e)) ∙ at ∙ sym same_end;
+    }
 
-  answered : (is_clone : S → S → Type 0) (owed : Type 0) (k : ℕ) (exact : Result S TryRecvError) (polled : Poll (Option (S × ℕ)))
-      → IsReceived is_clone owed (λ answer. reply.PollNext (Ok (next_reply k answer))) (reply.PollNext (Err alloc_error)) exact (reply.PollNext (Ok polled))
-      → (answer : Result S TryRecvError) × (polled ≡ next_reply k answer) × IsAnswer is_clone exact answer
-  answered is_clone owed k exact polled legal = elim legal [
-    | inl e ↦ (exact, polled_is k polled exact e, inl refl)
-    | inr s ↦ elim s.1 [
-      | inl clone ↦ (Ok clone.given, polled_is k polled (Ok clone.given) clone.reply, inr (clone.msg, clone.given, clone.exactly, clone.cloned, refl))
-      | inr e ↦ absurd (not_refused polled e)
-    ]
-  ]
-
-  ok_is : (msg given : S) → ◌≡◌ {A = Result S TryRecvError} (Ok msg) (Ok given) → msg ≡ given
-  ok_is msg given e = cc
-
-  given_of : (is_clone : S → S → Type 0) (msg : S) (answer : Result S TryRecvError) → IsAnswer is_clone (Ok msg) answer → (given : S) × (answer ≡ Ok given) × IsGiven is_clone msg given
-  given_of is_clone msg answer is = elim is [
-    | inl e ↦ (msg, e, inl refl)
-    | inr c ↦ (c.1, c.4, inr (subst (λ m. is_clone m c.1) (sym (ok_is msg c.0 c.2)) c.3))
-  ]
-
-  err_is : (msg : S) (error : TryRecvError) → ◌≡◌ {A = Result S TryRecvError} (Err error) (Ok msg) → ⊥
-  err_is msg error e = cc
-
-  error_of : (is_clone : S → S → Type 0) (error : TryRecvError) (answer : Result S TryRecvError) → IsAnswer is_clone (Err error) answer → answer ≡ Err error
-  error_of is_clone error answer is = elim is [ inl e ↦ e | inr c ↦ absurd (err_is c.0 error c.2) ]
-
-  -- ---- what a watcher finds
-  module _ (is_clone : S → S → Type 0) (v : View S) (key : ℕ) (config : IsConfig v) (valid : IsValidView v) where
-    abbrev pub Finds : Poll (Option (S × ℕ)) → Type 0
-    Finds polled = IfSome (change_of polled) (IsLatest is_clone v key) × IfNone (change_of polled) (IsUpToDate v key)
-
-    finds_some : (polled : Poll (Option (S × ℕ))) (change : Change S) → change_of polled ≡ Some change → IsLatest is_clone v key change → Finds polled
-    finds_some polled change e latest = subst (λ o. IfSome o (IsLatest is_clone v key) × IfNone o (IsUpToDate v key)) (sym e) (latest, tt)
-
-    finds_none : (polled : Poll (Option (S × ℕ))) → change_of polled ≡ None → IsUpToDate v key → Finds polled
-    finds_none polled e seen = subst (λ o. IfSome o (IsLatest is_clone v key) × IfNone o (IsUpToDate v key)) (sym e) (tt, seen)
-
-    no_change : (closed : Bool) (k : ℕ) → change_of (next_reply {T = S} k (Err (cond closed unread.Closed unread.Empty))) ≡ None
-    no_change true k = refl
-    no_change false k = refl
-
-    few : length v.queue ≤ 1
-    few = let fits = valid.fits in let one = config.capacity in omega arith
+    seen_same : IsUpToDate v key → Leaves v.control
+    seen_same seen = record {
+      config = record { capacity = config.capacity; overflow = config.overflow; watchers = config.watchers };
+      others = record { end = same_end; closed = refl; others = λ other differs. refl };
+      seen = λ n e. seen n e ∙ sym same_end;
+    }
 
     -- a cursor that skips to the end is there
-    pub at_end : (cursor : ℕ) → cursor_of v.control key ≡ Some cursor → v.end ≤ max cursor v.front → cursor ≡ v.end
-    at_end cursor e late =
+    pub at_end : IsValidView v → (cursor : ℕ) → cursor_of v.control key ≡ Some cursor → v.end ≤ max cursor v.front → cursor ≡ v.end
+    at_end valid cursor e late =
         let reach = valid.reach key cursor e in
+        let end = valid.end in
         elim (cases_lt v.front v.end) [
-          | inl some ↦ omega arith
-          | inr none ↦ (let caught = valid.caught_up key cursor (nil_from_length v.queue (let end = valid.end in omega arith)) e in omega arith)
+          | inl some ↦ omega (arith, some, late, reach)
+          | inr none ↦ (let caught = valid.caught_up key cursor (nil_from_length v.queue (omega (arith, none, end))) e in omega (arith, caught, reach))
         ]
 
-    exactly : (cursor : ℕ) → try_recv_reply v (Some (max cursor v.front)) ≡ found v.control.closed (slice_get v.queue (max cursor v.front - v.front))
-    exactly cursor =
-        let ahead : nat_lt (max cursor v.front) v.front ≡ false = grind (arith, common_steps) in
-        ap (λ b. cond b (Err (unread.Overflowed (v.front - max cursor v.front))) (found v.control.closed (slice_get v.queue (max cursor v.front - v.front)))) ahead
+    moved : IsValidView v → (o : Option ℕ) → cursor_of v.control key ≡ o → Leaves (receive v.front v.end v.control key (skipped_to v.front o))
+    moved valid None at = seen_same (λ n e. absurd (none-some n (sym at ∙ e)))
+    moved valid (Some n) at =
+        receive_is Leaves v.front v.end v.control key (max n v.front)
+        (λ lags. absurd (omega (arith, lags)))
+        (λ _ high. let end = valid.end in let fits = valid.fits in let one = config.capacity in seen_at (max n v.front + 1) (omega (arith, end, fits, one, high)))
+        (λ _ late. seen_same (λ m e. sym (same_Some n m (sym at ∙ e)) ∙ at_end valid n at late))
 
-    found_by : (cursor : ℕ) (polled : Poll (Option (S × ℕ))) (answer : Result S TryRecvError) (message : Option S) → cursor_of v.control key ≡ Some cursor → slice_get v.queue (max cursor v.front - v.front) ≡ message
-        → polled ≡ next_reply (v.front - cursor) answer → IsAnswer is_clone (found v.control.closed message) answer → Finds polled
-    found_by cursor polled answer (Some latest) at is e from =
-        let one = one_kept v.queue (max cursor v.front - v.front) latest few is in
-        let given = given_of is_clone latest answer from in
-        let size = ap length one.1 in
-        let first = one.0 in
-        let end = valid.end in
-        finds_some polled (record { settings = given.0; missed = v.front - cursor }) (ap change_of e ∙ ap (λ a. change_of (next_reply (v.front - cursor) a)) given.1) (record {
-          seen = cursor;
-          at = at;
-          missed = omega arith;
-          latest = latest;
-          kept = one.1;
-          given = given.2;
-        })
-    found_by cursor polled answer None at is e from =
-        let none = none_kept v.queue (max cursor v.front - v.front) is in
-        let end = valid.end in
-        finds_none polled (ap change_of e ∙ ap (λ a. change_of (next_reply (v.front - cursor) a)) (error_of is_clone (cond v.control.closed unread.Closed unread.Empty) answer from) ∙ no_change v.control.closed (v.front - cursor))
-        (λ seen f. sym (same_Some cursor seen (sym at ∙ f)) ∙ at_end cursor at (omega arith))
+  told_looked : (v u : View S) (key : ℕ) (l : Listeners ℕ) → Looked v u key → Looked v (record u { control = record u.control { waiting_sends = l } }) key
+  told_looked v u key l s = heard v u key (record u.control { waiting_sends = l }) refl refl refl refl s
 
-    found_at : (o : Option ℕ) (polled : Poll (Option (S × ℕ))) → cursor_of v.control key ≡ o
-        → IsReceived is_clone (IsOwed v key (skipped_to v.front o)) (λ answer. reply.PollNext (Ok (next_reply (skipped v.front o) answer))) (reply.PollNext (Err alloc_error)) (try_recv_reply v (skipped_to v.front o)) (reply.PollNext (Ok polled)) → Finds polled
-    found_at (Some cursor) polled at legal =
-        let a = answered is_clone (IsOwed v key (Some (max cursor v.front))) (v.front - cursor) (try_recv_reply v (Some (max cursor v.front))) polled legal in
-        found_by cursor polled a.0 (slice_get v.queue (max cursor v.front - v.front)) at refl a.1 (subst (λ exact. IsAnswer is_clone exact a.0) (exactly cursor) a.2)
-    found_at None polled at legal =
-        let a = answered is_clone (IsOwed v key None) 0 (Err unread.Closed) polled legal in
-        finds_none polled (ap change_of a.1 ∙ ap (λ r. change_of (next_reply 0 r)) (error_of is_clone unread.Closed a.0 a.2)) (λ seen f. absurd (none-some seen (sym at ∙ f)))
+  -- ---- `poll_next`
+  pub polled : {is_clone : S → S → Type 0} {v w : View S} {key : ℕ} {found : Poll (Option (S × ℕ))} → Answers is_clone v (call.PollNext key) (reply.PollNext (Ok found)) w → IsConfig v → Looked v w key
+  polled {v = v} {key = key} a config =
+      let o : Option ℕ = skipped_to v.front (cursor_of v.control key) in
+      let c : Control = receive v.front v.end v.control key o in
+      let here = moved v key config (valid a) (cursor_of v.control key) refl in
+      after a (λ u. Looked v u key) (λ u s. told_looked v u key _ s)
+      (elim (is_empty_reply (try_recv_reply v o)) as (λ b. Looked v (settle v (sets (listens c (stream_of key) b))) key) [
+        | true ↦ heard v (settle v (sets c)) key (pair_waits c (stream_of key)) refl refl refl refl here
+        | false ↦ heard v (settle v (sets c)) key (pair_answered c (stream_of key)) refl refl refl refl here
+      ])
 
-  pub looks : {is_clone : S → S → Type 0} {v w : View S} {key : ℕ} (polled : Poll (Option (S × ℕ))) → Answers is_clone v (call.PollNext key) (reply.PollNext (Ok polled)) w → (config : IsConfig v) → (valid : IsValidView v) → Finds is_clone v key config valid polled
-  looks {is_clone = is_clone} {v = v} {key = key} polled a config valid =
-      let legal : Legal is_clone v (call.PollNext key) (reply.PollNext (Ok polled)) =
-      subst (λ u. Legal is_clone u (call.PollNext key) (reply.PollNext (Ok polled))) (sym a.shown.2) ((legal-seen a.shown.0 a.shown.1 is_clone (call.PollNext key) (reply.PollNext (Ok polled))).0 (a.legal a.shown.0 a.shown.1 a.shown.2)) in
-      found_at is_clone v key config valid (cursor_of v.control key) polled refl legal
+  -- ---- `new_receiver`
+  -- a watcher more has seen the latest settings
+  pub watched : {is_clone : S → S → Type 0} {v w : View S} {key : ℕ} → Answers is_clone v call.NewReceiver (reply.NewReceiver (Ok key)) w → IsConfig v → Looked v w key × (get w.control.cursors key ≡ Some v.end)
+  watched {v = v} {key = key} a config =
+      after a (λ u. Looked v u key × (get u.control.cursors key ≡ Some v.end)) (λ u s. (told_looked v u key _ s.0, s.1)) (seen_at v key config v.end refl, inserted v.control.cursors key v.end)
 
-  pub shown_valid : {is_clone : S → S → Type 0} {v w : View S} {c : Call S} {r : Reply S} → Answers is_clone v c r w → IsValidView v
-  shown_valid a = subst IsValidView (sym a.shown.2) (valid_view a.shown.0 a.shown.1)
+  -- what it leaves, or its refusal
+  pub record Watches (v w : View S) (result : Result ℕ HandleError) : Type 0 where
+    pub config : IsConfig w
+    pub watcher : IfOk result (λ made. get w.control.cursors made ≡ Some v.end)
+    pub others : IfOk result (λ made. KeepsOthers v w made)
+
+  pub watches : {is_clone : S → S → Type 0} {v w : View S} (result : Result ℕ HandleError) → Answers is_clone v call.NewReceiver (reply.NewReceiver result) w → IsConfig v → Watches v w result
+  watches (Ok key) a config = let s = watched a config in record { config = s.0.config; watcher = s.1; others = s.0.others }
+  watches {v = v} (Err error) a config = subst (λ u. Watches v u (Err error)) (sym (unchanged a refl refl)) (record { config = config; watcher = tt; others = tt })
+
+  -- ---- `try_broadcast`
+  -- of the kept messages the last alone is left
+  pub latest : {is_clone : S → S → Type 0} {v w : View S} {msg : S} {back : Option S} → Answers is_clone v (call.TryBroadcast msg) (reply.TryBroadcast (Ok back)) w → IsConfig v → (w.queue ≡ msg ∷ []) × (w.end ≡ v.end + 1)
+  latest {v = v} {msg = msg} a config =
+      let low : ℕ = least (v.end + 1) (values (accepting v.control v.end).cursors) in
+      let watcher = somebody v.control.cursors config.watchers in
+      let reach = (valid a).reach watcher.0 watcher.1 watcher.2 in
+      let behind = least-le-cursor (v.end + 1) (accepting v.control v.end).cursors watcher.0 watcher.1 (ap (λ m. get m watcher.0) (cursors-accepting v.control v.end) ∙ watcher.2) in
+      let end = (valid a).end in
+      let fits = (valid a).fits in
+      let one = config.capacity in
+      let size : length v.queue ≡ max (max v.front (accept v msg).floor) low - v.front =
+      test_is (λ floor. length v.queue ≡ max (max v.front floor) low - v.front) (is_full v) (v.front + 1) 0
+      (λ full. let full_at : length v.queue ≡ v.control.capacity = grind (arith, common_steps, full) in omega (arith, full_at, one, end, reach, behind))
+      (λ room. let room_at : length v.queue ≡ v.control.capacity → ⊥ = grind (arith, common_steps, room) in let none : length v.queue ≡ 0 = omega (arith, fits, one, room_at) in omega (arith, none, end, reach, behind)) in
+      accepted a (λ u. (u.queue ≡ msg ∷ []) × (u.end ≡ v.end + 1)) (λ _ s. s) (drop_at v.queue (msg ∷ []) (max (max v.front (accept v msg).floor) low - v.front) size, refl)
+
+  pub set_latest : {is_clone : S → S → Type 0} {v w : View S} {msg : S} (result : Result (Option S) (TrySendError S)) (kept : Result (Unit {0}) S) → Answers is_clone v (call.TryBroadcast msg) (reply.TryBroadcast result) w → IsConfig v
+      → IfErr result (λ error. kept ≡ Err (unsent_message error)) → OnOk kept ((w.queue ≡ msg ∷ []) × (w.end ≡ v.end + 1))
+  set_latest (Ok back) kept a config err = on_ok kept (latest a config)
+  set_latest {v = v} {w = w} {msg = msg} (Err error) kept a config err = subst (λ k. OnOk k ((w.queue ≡ msg ∷ []) × (w.end ≡ v.end + 1))) (sym err) tt

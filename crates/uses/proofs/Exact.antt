@@ -1,4 +1,4 @@
--- What a receive gives, where a clone equals its original.
+-- What a receive gives, if a clone equals its original.
 use Rattle.std.proofs.Common.{◌≡◌, inl, inr, Result, Ok, Err, sym, ap, ◌∙◌}
 use Rattle.std.specs.Prelude.{alloc_error}
 use Rattle.bcast_model.specs.declared.error.TryRecvError.{TryRecvError}
@@ -15,10 +15,6 @@ module _ {T : Type 0} where
 
   pub exact_of : (is_clone : T → T → Type 0) → ClonesEqual is_clone → (owed : Type 0) (exact received : Result T TryRecvError)
       → IsReceived is_clone owed (λ answer. reply.TryRecv (Ok answer)) (reply.TryRecv (Err alloc_error)) exact (reply.TryRecv (Ok received)) → received ≡ exact
-  exact_of is_clone equal owed exact received legal = elim legal [
-    | inl e ↦ received_is received exact e
-    | inr s ↦ elim s.1 [
-      | inl clone ↦ received_is received (Ok clone.given) clone.reply ∙ ap Ok (equal clone.msg clone.given clone.cloned) ∙ sym clone.exactly
-      | inr e ↦ absurd (not_refused received e)
-    ]
-  ]
+  exact_of is_clone equal owed exact received (inl e) = received_is received exact e
+  exact_of is_clone equal owed exact received (inr (o, inl clone)) = received_is received (Ok clone.given) clone.reply ∙ ap Ok (equal clone.msg clone.given clone.cloned) ∙ sym clone.exactly
+  exact_of is_clone equal owed exact received (inr (o, inr e)) = absurd (not_refused received e)

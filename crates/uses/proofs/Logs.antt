@@ -1,40 +1,103 @@
 -- What the readers of a log are still to read.
-use Rattle.std.proofs.Common.{◌≡◌, ◌-◌, ◌≤◌, [], ◌∷◌, ◌++◌, drop, length, Option, Ok, sym, ap, ◌∙◌, subst, arith}
-use Rattle.std.proofs.lemmas.List.{drop-append-le}
+use Rattle.std.proofs.Common.{◌≡◌, ℕ, ◌+◌, ◌-◌, ◌≤◌, [], ◌∷◌, ◌++◌, drop, Option, Some, None, Ok, refl, sym, ap, ◌∙◌, subst, arith, append-nil}
+use Rattle.std.proofs.lemmas.List.{drop-drop, drop-append-le, drop_all, nil_from_length}
+use Rattle.std.proofs.lemmas.Option.{same_Some}
 use Rattle.std.specs.Prelude.{IsSome}
-use Rattle.std.specs.FinMap.{get}
+use Rattle.std.specs.FinMap.{get, empty}
 use Rattle.bcast_model.specs.declared.run.Call.TheVariants as call
 use Rattle.bcast_model.specs.declared.run.Reply.TheVariants as reply
+use Rattle.bcast_model.specs.Control.{Control, with_cursor}
+use Rattle.bcast_model.specs.Effect.{sets}
+use Rattle.bcast_model.specs.History.{opening, view_of}
+use Rattle.bcast_model.specs.Steps.{settle, with_message}
+use Rattle.bcast_model.specs.Valid.{IsValid}
 use Rattle.bcast_model.specs.View.{View}
-use Rattle.bcast_model.specs.Answers.{Answers}
+use Rattle.bcast_model.specs.Answers.{Represents, Answers}
+use Rattle.bcast_model.proofs.Cases.{accepting_is, close_is}
+use Rattle.bcast_model.proofs.Least.{least-le-cursor}
 use Rattle.bcast_model.proofs.Views.{valid_view}
-use Rattle.uses.specs.Log.{kept_from, IsReader, IsLog, KeepsReaders, AddsUnread}
-use Rattle.uses.proofs.Told.{some_of}
-use Rattle.uses.proofs.Accepted.{sent_queue, sent_front, sent_cursors, sent_overflow}
+use Rattle.bcast_core.proofs.Settle.{inserted, cursors-accepting}
+use Rattle.uses.specs.Log.{kept_from, unread, IsReader, IsLog, KeepsReaders, AddsUnread, KeepsUnread}
+use Rattle.uses.proofs.Called.{told, some_of, valid}
+use Rattle.uses.proofs.Cursors.{get-insert_other, some_insert, high_insert}
+use Rattle.uses.proofs.Sends.{put_last}
 
 module _ {T : Type 0} where
-  module _ {is_clone : T → T → Type 0} {v w : View T} {msg : T} {back : Option T} (a : Answers is_clone v (call.TryBroadcast msg) (reply.TryBroadcast (Ok back)) w) (log : IsLog v) where
-    pub written : AddsUnread v w msg
-    written reader is =
+  pub told_log : (u : View T) → IsLog u → IsLog (told u)
+  told_log u log = record { overflow = log.overflow; reach = log.reach }
+
+  -- ---- `broadcast`
+  pub new_log : (v : View T) (capacity key : ℕ) → Represents v (opening capacity 0 key) → IsValid (opening {T = T} capacity 0 key) → IsLog v × IsReader v key × (unread v key ≡ [])
+  new_log v capacity key new is_valid =
+      let u : View T = view_of (opening capacity 0 key) in
+      let view = valid_view (opening {T = T} capacity 0 key) is_valid in
+      let own : get u.control.cursors key ≡ Some 0 = inserted empty key 0 in
+      let none : u.queue ≡ [] = nil_from_length u.queue (omega (arith, view.end)) in
+      let log : IsLog u = record { overflow = refl; reach = λ reader cursor e. omega (arith, view.high) } in
+      subst (λ x. IsLog x × IsReader x key × (unread x key ≡ [])) (sym new)
+      (log, subst IsSome (sym own) refl, ap (kept_from u) own ∙ ap (drop (0 - u.front)) none ∙ drop_all (0 - u.front) [] (omega arith))
+
+  -- ---- `try_broadcast`
+  pub record Writes (v u : View T) (msg : T) : Type 0 where
+    pub log : IsLog u
+    pub added : AddsUnread v u msg
+    pub readers : KeepsReaders v u
+
+  pub writes : {is_clone : T → T → Type 0} {v w : View T} {msg : T} {back : Option T} → Answers is_clone v (call.TryBroadcast msg) (reply.TryBroadcast (Ok back)) w → IsLog v → Writes v w msg
+  writes {v = v} {msg = msg} a log = put_last a log.overflow (λ u. Writes v u msg) (λ u s. record { log = told_log u s.log; added = s.added; readers = s.readers }) (record {
+    log = record {
+      overflow = accepting_is (λ c. c.overflow ≡ v.control.overflow) v.control v.end (close_is (λ c. c.overflow ≡ v.control.overflow) _ (λ _. refl) (λ _. refl)) (λ _. refl) ∙ log.overflow;
+      reach = λ reader cursor e. log.reach reader cursor (ap (λ m. get m reader) (sym (cursors-accepting v.control v.end)) ∙ e);
+    };
+    added = λ reader is.
         let at = some_of (get v.control.cursors reader) is in
-        let view = valid_view a.shown.0 a.shown.1 in
-        let end = view.end in
-        let reach = view.reach reader at.0 (ap (λ (u : View T). get u.control.cursors reader) (sym a.shown.2) ∙ at.1) in
-        let front = ap (λ (u : View T). u.front) a.shown.2 in
-        let size = ap (λ (u : View T). length u.queue) a.shown.2 in
-        let some : at.0 - v.front ≤ length v.queue = omega (arith, end, reach, front, size) in
-        ap (λ m. kept_from w (get m reader)) (sent_cursors a) ∙ ap (kept_from w) at.1
-        ∙ ap (λ n. drop (at.0 - n) w.queue) (sent_front a log.overflow) ∙ ap (drop (at.0 - v.front)) (sent_queue a log.overflow)
-        ∙ drop-append-le (at.0 - v.front) v.queue (msg ∷ []) some ∙ sym (ap (λ o. kept_from v o ++ msg ∷ []) at.1)
+        let end = (valid a).end in
+        let reach = (valid a).reach reader at.0 at.1 in
+        ap (kept_from (with_message v msg)) (ap (λ m. get m reader) (cursors-accepting v.control v.end) ∙ at.1)
+        ∙ drop-append-le (at.0 - v.front) v.queue (msg ∷ []) (omega (arith, end, reach)) ∙ sym (ap (λ o. kept_from v o ++ msg ∷ []) at.1);
+    readers = λ reader is. subst (λ m. IsSome (get m reader)) (sym (cursors-accepting v.control v.end)) is;
+  })
 
-    pub written_log : IsLog w
-    written_log = record {
-      overflow = sent_overflow a ∙ log.overflow;
-      reach = λ reader cursor e. subst (λ n. n ≤ cursor) (sym (sent_front a log.overflow)) (log.reach reader cursor (ap (λ m. get m reader) (sym (sent_cursors a)) ∙ e));
+  -- ---- a reader reads on from this number
+  pub record ReadsFrom (v u : View T) (key number : ℕ) : Type 0 where
+    pub log : IsLog u
+    pub reader : IsReader u key
+    pub own : unread u key ≡ drop (number - v.front) v.queue
+    pub others : KeepsUnread v u key
+    pub readers : KeepsReaders v u
+
+  pub told_reads : (v u : View T) (key number : ℕ) → ReadsFrom v u key number → ReadsFrom v (told u) key number
+  told_reads v u key number s = record { log = told_log u s.log; reader = s.reader; own = s.own; others = s.others; readers = s.readers }
+
+  -- no message is accepted or dropped
+  kept_sets : (v : View T) (c : Control) (o : Option ℕ) → ((n : ℕ) → o ≡ Some n → (v.front ≤ n) × ((settle v (sets c)).front ≤ n)) → kept_from (settle v (sets c)) o ≡ kept_from v o
+  kept_sets v c None ahead = refl
+  kept_sets v c (Some n) ahead =
+      let front : ℕ = (settle v (sets c)).front in
+      let at = ahead n refl in
+      let sum : (front - v.front) + (n - front) ≡ n - v.front = omega (arith, at.0, at.1) in
+      ap (λ q. drop (n - front) (drop (front - v.front) q)) (append-nil v.queue) ∙ drop-drop (n - front) (front - v.front) v.queue ∙ ap (λ k. drop k v.queue) sum
+
+  module _ (v : View T) (key number : ℕ) (log : IsLog v) (low : v.front ≤ number) where
+    abbrev u : View T
+    u = settle v (sets (with_cursor v.control key number))
+
+    own : get u.control.cursors key ≡ Some number
+    own = inserted v.control.cursors key number
+
+    high : (reader cursor : ℕ) → get u.control.cursors reader ≡ Some cursor → u.front ≤ cursor
+    high reader cursor e =
+        let least = least-le-cursor (v.end + 0) u.control.cursors reader cursor e in
+        let past = high_insert v.control.cursors key number reader v.front cursor low (log.reach reader) e in
+        omega (arith, least, past)
+
+    pub reads_from : ReadsFrom v u key number
+    reads_from = record {
+      log = record { overflow = log.overflow; reach = high };
+      reader = subst IsSome (sym own) refl;
+      own = ap (kept_from u) own ∙ kept_sets v (with_cursor v.control key number) (Some number) (λ n e. (subst (λ k. v.front ≤ k) (same_Some number n e) low, high key n (own ∙ e)));
+      others = λ other differs.
+          let stays = get-insert_other v.control.cursors key number other differs in
+          ap (kept_from u) stays ∙ kept_sets v (with_cursor v.control key number) (get v.control.cursors other) (λ n e. (log.reach other n e, high other n (stays ∙ e)));
+      readers = λ other is. some_insert v.control.cursors key number other is;
     }
-
-    pub written_readers : KeepsReaders v w
-    written_readers reader is = subst (λ m. IsSome (get m reader)) (sym (sent_cursors a)) is
-
-  pub refused_readers : {v w : View T} → w ≡ v → KeepsReaders v w
-  refused_readers same reader is = subst (λ (u : View T). IsReader u reader) (sym same) is

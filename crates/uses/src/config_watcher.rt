@@ -48,8 +48,6 @@ impl<S: Clone> Config<S> {
     /// # Errors
     ///
     /// `AllocError`: there is no memory for the channel.
-    ///
-    /// Source: this crate's own.
     pub fn new(alloc: Global) -> Result<(Self, usize), AllocError>
         ensures unset { IfOk result (λ made. made.0.end ≡ 0) }
         ensures watcher { IfOk result (λ made. get made.0.control.cursors made.1 ≡ Some 0) }
@@ -66,8 +64,6 @@ impl<S: Clone> Config<S> {
     ///
     /// The settings come back and nothing changes: the channel is closed, since it has numbered as
     /// many settings as it can.
-    ///
-    /// Source: this crate's own.
     pub fn set(&mut self, settings: S) -> Result<(), S>
         ensures latest { OnOk result (self.new.queue ≡ settings ∷ []) }
         ensures counted { OnOk result (self.new.end ≡ self.old.end + 1) }
@@ -87,8 +83,6 @@ impl<S: Clone> Config<S> {
     /// # Errors
     ///
     /// `Memory`: there is no memory for it. Nothing changed.
-    ///
-    /// Source: this crate's own.
     pub fn watch(&mut self) -> Result<usize, HandleError>
         ensures watcher { IfOk result (λ made.
             get self.new.control.cursors made ≡ Some self.old.end) }
@@ -105,8 +99,6 @@ impl<S: Clone> Config<S> {
     ///
     /// `AllocError`: another watcher has still to look, and there is no memory for a clone of the
     /// settings. Nothing changed, so nothing that was missed goes uncounted.
-    ///
-    /// Source: this crate's own.
     pub fn look(&mut self, watcher: usize) -> Result<Option<Change<S>>, AllocError>
         ensures change { IfOk result (λ found. IfSome found (λ change.
             IsLatest S.is_clone self.old watcher change)) }
@@ -141,6 +133,3 @@ fn into_change<S: Drop>(polled: Poll<Option<(S, u64)>>) -> Option<Change<S>>
         _ => None,
     }
 }
-
-#[cfg(test)]
-mod tests;

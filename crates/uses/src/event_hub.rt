@@ -43,8 +43,6 @@ impl<E: Clone> EventHub<E> {
     /// # Errors
     ///
     /// `Memory`: there is no memory for the channel.
-    ///
-    /// Source: this crate's own.
     pub fn new(alloc: Global, capacity: usize) -> Result<Self, HandleError>
         requires { 0 < capacity }
         ensures { IfOk result (λ hub. IsOpened hub capacity) }
@@ -72,8 +70,6 @@ impl<E: Clone> EventHub<E> {
     /// - `Closed`: the hub has numbered as many events as it can.
     /// - `Inactive`: there is no subscriber.
     /// - `Full`: some subscriber is still to get the oldest of `capacity` events.
-    ///
-    /// Source: this crate's own.
     pub fn publish(&mut self, event: E) -> Result<(), TrySendError<E>>
         ensures accepted { OnOk result (self.new.queue ≡ self.old.queue ++ event ∷ []) }
         ensures counted { OnOk result (self.new.end ≡ self.old.end + 1) }
@@ -90,8 +86,6 @@ impl<E: Clone> EventHub<E> {
     /// # Errors
     ///
     /// `Memory`: there is no memory for it. Nothing changed.
-    ///
-    /// Source: this crate's own.
     pub fn subscribe(&mut self) -> Result<usize, HandleError>
         ensures { Answers NoClone self.old call.NewReceiver (reply.NewReceiver result) self.new }
     {
@@ -105,8 +99,6 @@ impl<E: Clone> EventHub<E> {
     /// Nothing changed.
     /// - `Gone`: there is no such subscriber.
     /// - `Memory`: there is no memory for the new one.
-    ///
-    /// Source: this crate's own.
     pub fn subscribe_like(&mut self, subscriber: usize) -> Result<usize, HandleError>
         ensures { Answers NoClone self.old (call.CloneReceiver subscriber)
             (reply.CloneReceiver result) self.new }
@@ -115,8 +107,6 @@ impl<E: Clone> EventHub<E> {
     }
 
     /// Takes a subscriber out. The hub stays open. An unknown key changes nothing.
-    ///
-    /// Source: this crate's own.
     pub fn unsubscribe(&mut self, subscriber: usize)
         ensures answers { Answers NoClone self.old (call.DropReceiver subscriber)
             reply.DropReceiver self.new }
@@ -131,8 +121,6 @@ impl<E: Clone> EventHub<E> {
     ///
     /// `AllocError`: the event is also for another subscriber, and its clone found no memory.
     /// Nothing changed.
-    ///
-    /// Source: this crate's own.
     pub fn next_event(&mut self, subscriber: usize) -> Result<Option<E>, AllocError>
         ensures given { IfOk result (λ found. IfSome found (IsGivenFrom E.is_clone self.old.queue)) }
         ensures answers { IfOk result (λ found.
@@ -150,6 +138,3 @@ fn into_event<E: Drop>(received: Result<E, TryRecvError>) -> Option<E>
 {
     received.ok()
 }
-
-#[cfg(test)]
-mod tests;

@@ -22,8 +22,6 @@ pub mod shutdown;
 /// # Errors
 ///
 /// `AllocError`: there is no memory for the channel, or for a clone of the text.
-///
-/// Source: this crate's own.
 pub fn send_to_two(alloc: Global, text: String) -> Result<Option<(String, String)>, AllocError>
     ensures first { IfOk result (λ some. IfSome some (λ got.
         string_bytes got.0 ≡ string_bytes text)) }
@@ -46,6 +44,3 @@ pub fn send_to_two(alloc: Global, text: String) -> Result<Option<(String, String
     };
     Ok(Some((first, second)))
 }
-
-#[cfg(test)]
-mod tests;

@@ -40,8 +40,6 @@ impl Log {
     /// # Errors
     ///
     /// `AllocError`: there is no memory for it.
-    ///
-    /// Source: this crate's own.
     pub fn new(alloc: Global, capacity: usize) -> Result<(Self, usize), AllocError>
         requires { 0 < capacity }
         ensures reader { IfOk result (λ made. IsReader made.0 made.1) }
@@ -61,8 +59,6 @@ impl Log {
     /// - `Closed`: the log has numbered as many records as it can.
     /// - `Inactive`: there is no reader, which no call here brings about.
     /// - `Full`: some reader has `capacity` records still to read.
-    ///
-    /// Source: this crate's own.
     pub fn write(&mut self, entry: u64) -> Result<(), TrySendError<u64>>
         ensures written { OnOk result (AddsUnread self.old self.new entry) }
         ensures readers { KeepsReaders self.old self.new }
@@ -81,8 +77,6 @@ impl Log {
     /// Nothing changed.
     /// - `Gone`: there is no such reader.
     /// - `Memory`: there is no memory for the new one.
-    ///
-    /// Source: this crate's own.
     pub fn add_reader(&mut self, reader: usize) -> Result<usize, HandleError>
         ensures added { IfOk result (λ made. unread self.new made ≡ unread self.old reader) }
         ensures others { IfOk result (λ made. KeepsUnread self.old self.new made) }
@@ -97,8 +91,6 @@ impl Log {
     }
 
     /// Reads a reader's next record. None: it has read all of them, or there is no such reader.
-    ///
-    /// Source: this crate's own.
     pub fn read(&mut self, reader: usize) -> Option<u64>
         ensures first { IfSome result (λ entry.
             unread self.old reader ≡ entry ∷ unread self.new reader) }
@@ -116,6 +108,3 @@ fn into_record(received: Result<Result<u64, TryRecvError>, AllocError>) -> Optio
 {
     received.ok()?.ok()
 }
-
-#[cfg(test)]
-mod tests;

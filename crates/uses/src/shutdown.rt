@@ -33,8 +33,6 @@ impl Shutdown {
     /// # Errors
     ///
     /// `AllocError`: there is no memory for the channel.
-    ///
-    /// Source: this crate's own.
     pub fn new(alloc: Global) -> Result<(Self, usize), AllocError>
         ensures holders { IfOk result (λ made. made.0.holders ≡ 1) }
         ensures worker { IfOk result (λ made. IsWorker made.0 made.1) }
@@ -50,8 +48,6 @@ impl Shutdown {
     /// Nothing changed.
     /// - `Gone`: the signal is given, since nobody holds it.
     /// - `TooMany`: the count is the greatest `usize`.
-    ///
-    /// Source: this crate's own.
     pub fn hold(&mut self) -> Result<(), HandleError>
         ensures ok { OnOk result (self.new ≡ record self.old { holders = self.old.holders + 1 }) }
         ensures err { OnErr result (self.new ≡ self.old) }
@@ -66,9 +62,7 @@ impl Shutdown {
     }
 
     /// Counts one holder less. With none left it changes nothing.
-    ///
-    /// Source: this crate's own.
-    pub fn let_go(&mut self)
+    pub fn release(&mut self)
         ensures { self.new ≡ record self.old { holders = self.old.holders - 1 } }
     {
         self.inner.drop_sender();
@@ -79,8 +73,6 @@ impl Shutdown {
     /// # Errors
     ///
     /// `Memory`: there is no memory for it. Nothing changed.
-    ///
-    /// Source: this crate's own.
     pub fn add_worker(&mut self) -> Result<usize, HandleError>
         ensures ok { IfOk result (λ worker. AddsWorker self.old self.new worker) }
         ensures err { OnErr result (self.new ≡ self.old) }
@@ -88,12 +80,10 @@ impl Shutdown {
         self.inner.new_receiver()
     }
 
-    /// Whether a worker is to stop: nobody holds the signal any more. Changes nothing.
-    ///
-    /// Source: this crate's own.
-    pub fn must_stop(&mut self, worker: usize) -> bool
+    /// Whether a worker finds that the signal is given: nobody holds it any more. Changes nothing.
+    pub fn is_given(&mut self, worker: usize) -> bool
         requires { IsWorker self.old worker }
-        ensures stop { result ≡ (self.old.holders == 0) }
+        ensures given { result ≡ (self.old.holders == 0) }
         ensures same { self.new ≡ self.old }
     {
         let answer = self.inner.try_recv(worker);
@@ -107,6 +97,3 @@ fn says_closed(answer: &Result<Result<(), TryRecvError>, AllocError>) -> bool
 {
     matches!(answer, Ok(Err(TryRecvError::Closed)))
 }
-
-#[cfg(test)]
-mod tests;

@@ -1,9 +1,9 @@
-use Rattle.uses.proofs.ConfigSets.{set_latest}
-use Rattle.uses.proofs.Sends.{stays_open}
+use Rattle.uses.proofs.Called.{on_ok_also}
+use Rattle.uses.proofs.Configs.{set_latest}
 use Rattle.uses.proofs.config_watcher.Config.set.Goals as goal
 
 pub returns-clause-latest : goal.returns-clause-latest
-returns-clause-latest g c = set_latest c.try_broadcast.result c.into_settings.result c.try_broadcast.ensures c.self.invariant c.into_settings.ensures.err
+returns-clause-latest g c = on_ok_also c.into_settings.result (λ s. s.0) (set_latest c.try_broadcast.result c.into_settings.result c.try_broadcast.ensures c.self.invariant c.into_settings.ensures.err)
 
-pub returns-clause-stays : goal.returns-clause-stays
-returns-clause-stays g c = rw (← c.self.view_is) (stays_open c.try_broadcast.result c.try_broadcast.ensures)
+pub returns-clause-counted : goal.returns-clause-counted
+returns-clause-counted g c = rw (← c.self.view_is) (on_ok_also c.into_settings.result (λ s. s.1) (set_latest c.try_broadcast.result c.into_settings.result c.try_broadcast.ensures c.self.invariant c.into_settings.ensures.err))

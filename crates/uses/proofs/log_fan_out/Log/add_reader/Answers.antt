@@ -1,5 +1,8 @@
-use Rattle.uses.proofs.LogReaders.{adds}
+use Rattle.uses.proofs.LogCalls.{adds}
 use Rattle.uses.proofs.log_fan_out.Log.add_reader.Goals as goal
+
+pub invariant_of-self : goal.invariant_of-self
+invariant_of-self c = (adds c.clone_receiver.result c.clone_receiver.ensures c.self.invariant).log
 
 pub returns-clause-added : goal.returns-clause-added
 returns-clause-added c = rw (← c.self.view_is) (adds c.clone_receiver.result c.clone_receiver.ensures c.self.invariant).added
@@ -12,15 +15,3 @@ returns-clause-reader c = (adds c.clone_receiver.result c.clone_receiver.ensures
 
 pub returns-clause-readers : goal.returns-clause-readers
 returns-clause-readers c = rw (← c.self.view_is) (adds c.clone_receiver.result c.clone_receiver.ensures c.self.invariant).readers
-
-pub returns-clause-err : goal.returns-clause-err
-returns-clause-err c = rw (← c.self.view_is) (adds c.clone_receiver.result c.clone_receiver.ensures c.self.invariant).err
-
-pub invariant_of-self : goal.invariant_of-self
-invariant_of-self c = (adds c.clone_receiver.result c.clone_receiver.ensures c.self.invariant).log
-
-pub returns-clause-gone : goal.returns-clause-gone
-returns-clause-gone c = rw (← c.self.view_is) (adds c.clone_receiver.result c.clone_receiver.ensures c.self.invariant).gone
-
-pub returns-clause-memory : goal.returns-clause-memory
-returns-clause-memory c = rw (← c.self.view_is) (adds c.clone_receiver.result c.clone_receiver.ensures c.self.invariant).memory

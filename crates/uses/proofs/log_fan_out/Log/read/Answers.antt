@@ -1,5 +1,8 @@
-use Rattle.uses.proofs.LogAnswers.{reads}
+use Rattle.uses.proofs.LogCalls.{reads}
 use Rattle.uses.proofs.log_fan_out.Log.read.Goals as goal
+
+pub invariant_of-self : goal.invariant_of-self
+invariant_of-self c = (reads (λ msg given e. e) c.try_recv.result (c.try_recv.ensures.sure (λ _. tt)) c.try_recv.ensures.answers c.self.invariant).log
 
 pub returns-clause-first : goal.returns-clause-first
 returns-clause-first c = rw (c.into_record.ensures, ← c.self.view_is) (reads (λ msg given e. e) c.try_recv.result (c.try_recv.ensures.sure (λ _. tt)) c.try_recv.ensures.answers c.self.invariant).first
@@ -12,6 +15,3 @@ returns-clause-others c = rw (← c.self.view_is) (reads (λ msg given e. e) c.t
 
 pub returns-clause-readers : goal.returns-clause-readers
 returns-clause-readers c = rw (← c.self.view_is) (reads (λ msg given e. e) c.try_recv.result (c.try_recv.ensures.sure (λ _. tt)) c.try_recv.ensures.answers c.self.invariant).readers
-
-pub invariant_of-self : goal.invariant_of-self
-invariant_of-self c = (reads (λ msg given e. e) c.try_recv.result (c.try_recv.ensures.sure (λ _. tt)) c.try_recv.ensures.answers c.self.invariant).log

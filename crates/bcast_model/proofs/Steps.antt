@@ -1,0 +1,91 @@
+-- What is seen of a channel after a call, without a hidden history.
+use Rattle.std.proofs.Common.{◌≡◌, ◌⊎◌, inl, inr, ◌<◌, ℕ, true, false, cond, arith, Bool, ◌&&◌, not, refl, sym, ap, ◌∙◌, subst}
+use Rattle.std.specs.FinMap.{len}
+use Rattle.bcast_model.specs.declared.run.Call.{Call}
+use Rattle.bcast_model.specs.declared.run.Call.TheVariants as call
+use Rattle.bcast_model.specs.declared.run.Reply.{Reply}
+use Rattle.bcast_model.specs.Control.{Control, Cursors, tell_a_sender}
+use Rattle.bcast_model.specs.Effect.{Effect, sets}
+use Rattle.bcast_model.specs.View.{View, sends_are_ready}
+use Rattle.bcast_model.specs.Legal.{Legal}
+use Rattle.bcast_model.specs.Effects.{effect, resize}
+use Rattle.bcast_model.specs.History.{History, view_of, remember}
+use Rattle.bcast_model.specs.Next.{found_no_memory, tell_if_ready, may_tell, next}
+use Rattle.bcast_model.specs.Valid.{IsValid}
+use Rattle.bcast_model.specs.Answers.{Answers}
+use Rattle.bcast_model.specs.Steps.{next_view, Steps}
+use Rattle.bcast_model.specs.Laws.{HasRange, IsValidView}
+use Rattle.bcast_model.proofs.Cases.{test_is}
+use Rattle.bcast_model.proofs.Sound.{AreSizes}
+use Rattle.bcast_model.proofs.Views.{valid_view}
+use Rattle.bcast_model.proofs.Lift.{KeepsValid, view_of-told}
+use Rattle.bcast_model.proofs.Kept.{kept_idle, keeps_sets}
+use Rattle.bcast_model.proofs.Calls.{keeps_valid}
+use Rattle.bcast_model.proofs.Answers.{cursors-next}
+
+apart : false ≡ true → ⊥
+apart e = cc
+
+module _ {T : Type 0} where
+  told_same : {A : Type 0} (f : Control → A) → ((c : Control) → f (tell_a_sender c) ≡ f c) → (may : Bool) (v : View T) → f (tell_if_ready may v).control ≡ f v.control
+  told_same f same may v = test_is (λ (w : View T). f w.control ≡ f v.control) (may && sends_are_ready v) (record v { control = tell_a_sender v.control }) v (λ _. same v.control) (λ _. refl)
+
+  -- the range that a call keeps to, where the next state is valid
+  range_of : (c : Call T) (r : Reply T) (v : View T) → found_no_memory r ≡ false → AreSizes (effect v c r).control.capacity (effect v c r).control.room (len (effect v c r).control.cursors) 0 0 0 → HasRange c (len (effect v c r).control.cursors)
+  range_of (call.SetCapacity n) r v memory s =
+      let e = ap (λ b. cond b (sets v.control) (resize v n)) memory in
+      let capacity = ap (λ (e : Effect T). e.control.capacity) e in
+      let room = ap (λ (e : Effect T). e.control.room) e in
+      (omega (arith, capacity, s.positive), omega (arith, room, s.room_fits))
+  range_of call.NewReceiver r v memory s = s.receivers_fit
+  range_of call.Activate r v memory s = s.receivers_fit
+  range_of call.ActivateCloned r v memory s = s.receivers_fit
+  range_of (call.CloneReceiver key) r v memory s = s.receivers_fit
+  range_of c r v memory s = tt
+
+  -- a call that finds no memory does nothing
+  keeps_refused : (is_clone : T → T → Type 0) (c : Call T) (r : Reply T) (v : View T) → IsValidView v → found_no_memory r ≡ true → Legal is_clone v c r → KeepsValid v (effect v c r) (may_tell v.control (sends_are_ready v) c)
+  keeps_refused is_clone (call.SetCapacity n) r v valid none legal = subst (λ e. KeepsValid v e (not (sends_are_ready v))) (sym (ap (λ b. cond b (sets v.control) (resize v n)) none)) (keeps_sets v valid v.control (kept_idle v valid))
+  keeps_refused is_clone call.NewReceiver r v valid none (inl (key, is, free)) = absurd (apart (sym (ap found_no_memory is) ∙ none))
+  keeps_refused is_clone call.NewReceiver r v valid none (inr is) = absurd (apart (sym (ap found_no_memory is) ∙ none))
+  keeps_refused is_clone call.Activate r v valid none (inl (gone, is)) = absurd (apart (sym (ap found_no_memory is) ∙ none))
+  keeps_refused is_clone call.Activate r v valid none (inr (there, inl (key, is, free))) = absurd (apart (sym (ap found_no_memory is) ∙ none))
+  keeps_refused is_clone call.Activate r v valid none (inr (there, inr is)) = absurd (apart (sym (ap found_no_memory is) ∙ none))
+  keeps_refused is_clone call.ActivateCloned r v valid none (inl (gone, is)) = absurd (apart (sym (ap found_no_memory is) ∙ none))
+  keeps_refused is_clone call.ActivateCloned r v valid none (inr (there, inl (key, is, free))) = absurd (apart (sym (ap found_no_memory is) ∙ none))
+  keeps_refused is_clone call.ActivateCloned r v valid none (inr (there, inr is)) = absurd (apart (sym (ap found_no_memory is) ∙ none))
+  keeps_refused is_clone (call.CloneReceiver key) r v valid none (inl (gone, is)) = absurd (apart (sym (ap found_no_memory is) ∙ none))
+  keeps_refused is_clone (call.CloneReceiver key) r v valid none (inr (there, inl (made, is, free))) = absurd (apart (sym (ap found_no_memory is) ∙ none))
+  keeps_refused is_clone (call.CloneReceiver key) r v valid none (inr (there, inr is)) = absurd (apart (sym (ap found_no_memory is) ∙ none))
+  keeps_refused is_clone c r v valid none legal = keeps_valid is_clone c r v valid tt legal
+
+  keeps_shown : (is_clone : T → T → Type 0) (h : History T) (c : Call T) (r : Reply T) → IsValid h → Legal is_clone (view_of h) c r → IsValid (next h c r) → KeepsValid (view_of h) (effect (view_of h) c r) (may_tell h.control (sends_are_ready (view_of h)) c)
+  keeps_shown is_clone h c r valid legal after =
+      let v : View T = view_of h in
+      let e : Effect T = effect v c r in
+      let may : Bool = may_tell h.control (sends_are_ready v) c in
+      let now : View T = view_of (remember h e) in
+      let capacity = told_same (λ c. c.capacity) (λ _. refl) may now in
+      let room = told_same (λ c. c.room) (λ _. refl) may now in
+      let count = ap (λ (cursors : Cursors). len cursors) (cursors-next h c r) in
+      let s : AreSizes e.control.capacity e.control.room (len e.control.cursors) 0 0 0 = record {
+        positive = omega (arith, capacity, after.control.capacity);
+        within = omega (arith, capacity, room, after.control.room);
+        room_fits = omega (arith, room, after.control.room_fits);
+        receivers_fit = omega (arith, count, after.control.receivers_fit);
+        senders_fit = omega arith;
+        inactive_fit = omega arith;
+        end_fits = omega arith;
+      } in
+      elim (found_no_memory r) as (λ b. found_no_memory r ≡ b → KeepsValid v e may) [
+        | true ↦ λ none. keeps_refused is_clone c r v (valid_view h valid) none legal
+        | false ↦ λ memory. keeps_valid is_clone c r v (valid_view h valid) (range_of c r v memory s) legal
+      ] refl
+
+  -- what is seen after a call follows from what was seen before it, and no history is left in it
+  pub steps : {is_clone : T → T → Type 0} {old new : View T} {c : Call T} {r : Reply T} → Answers is_clone old c r new → Steps is_clone old c r new
+  steps {is_clone = is_clone} {old = old} {new = new} {c = c} {r = r} a =
+      let s = a.shown in
+      let legal : Legal is_clone (view_of s.0) c r = subst (λ v. Legal is_clone v c r) s.2 a.legal in
+      let keeps = keeps_shown is_clone s.0 c r s.1 legal (a.valid s.0 s.1 s.2) in
+      record { legal = a.legal; next = a.represents s.0 s.1 s.2 ∙ view_of-told s.0 (effect (view_of s.0) c r) (may_tell s.0.control (sends_are_ready (view_of s.0)) c) s.1 keeps ∙ ap (λ v. next_view v c r) (sym s.2) }

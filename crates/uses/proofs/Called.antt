@@ -1,0 +1,58 @@
+-- What a call leaves of what is seen, but for who is told.
+use Rattle.std.proofs.Common.{◌≡◌, ℕ, true, false, cond, not, ◌&&◌, Option, Some, None, Result, Ok, Err, OnOk, refl, sym, ap, ◌∙◌, subst}
+use Rattle.std.specs.Prelude.{IsSome}
+use Rattle.bcast_model.specs.declared.run.Call.{Call}
+use Rattle.bcast_model.specs.declared.run.Reply.{Reply}
+use Rattle.bcast_model.specs.Control.{tell_a_sender}
+use Rattle.bcast_model.specs.Effect.{sets}
+use Rattle.bcast_model.specs.Effects.{effect}
+use Rattle.bcast_model.specs.Steps.{settle}
+use Rattle.bcast_model.specs.Next.{may_tell, tell_if_ready}
+use Rattle.bcast_model.specs.View.{View, sends_are_ready}
+use Rattle.bcast_model.specs.Answers.{Answers}
+use Rattle.bcast_model.specs.Laws.{IsValidView}
+use Rattle.bcast_model.proofs.Answers.{shown_after}
+use Rattle.bcast_model.proofs.Cases.{test_is}
+use Rattle.bcast_model.proofs.Steps.{steps}
+use Rattle.bcast_core.proofs.Does.{valid_shown}
+use Rattle.bcast_core.proofs.Settle.{settle_idle}
+
+module _ {T : Type 0} where
+  -- a sender is told
+  abbrev pub told : View T → View T
+  told v = record v { control = tell_a_sender v.control }
+
+  told_nobody : (v : View T) → tell_if_ready (not (sends_are_ready v)) v ≡ v
+  told_nobody v = elim (sends_are_ready v) as (λ b. cond (not b && b) (told v) v ≡ v) [ true ↦ refl | false ↦ refl ]
+
+  module _ {is_clone : T → T → Type 0} {v w : View T} {c : Call T} {r : Reply T} (a : Answers is_clone v c r w) where
+    pub valid : IsValidView v
+    valid = valid_shown a.shown
+
+    pub valid_after : IsValidView w
+    valid_after = valid_shown (shown_after a)
+
+    -- what telling a sender keeps holds after a call, if it holds after the call's effect
+    pub after : (P : View T → Type 0) → ((u : View T) → P u → P (told u)) → P (settle v (effect v c r)) → P w
+    after P keeps here =
+        let mid : View T = settle v (effect v c r) in
+        subst P (sym (steps a).next) (test_is P (may_tell v.control (sends_are_ready v) c && sends_are_ready mid) (told mid) mid (λ _. keeps mid here) (λ _. here))
+
+    -- a call without an effect changes nothing
+    pub unchanged : effect v c r ≡ sets v.control → may_tell v.control (sends_are_ready v) c ≡ not (sends_are_ready v) → w ≡ v
+    unchanged is may =
+        (steps a).next ∙ ap (λ b. tell_if_ready b (settle v (effect v c r))) may
+        ∙ ap (tell_if_ready (not (sends_are_ready v))) (ap (settle v) is ∙ settle_idle v valid) ∙ told_nobody v
+
+-- what holds of a call that succeeded
+pub on_ok : {A E P : Type 0} (r : Result A E) → P → OnOk r P
+on_ok (Ok x) p = p
+on_ok (Err e) p = tt
+
+pub on_ok_also : {A E P Q : Type 0} (r : Result A E) → (P → Q) → OnOk r P → OnOk r Q
+on_ok_also (Ok x) f p = f p
+on_ok_also (Err e) f p = tt
+
+pub some_of : (o : Option ℕ) → IsSome o → (n : ℕ) × (o ≡ Some n)
+some_of (Some n) is = (n, refl)
+some_of None is = cc

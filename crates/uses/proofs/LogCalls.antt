@@ -1,0 +1,131 @@
+-- A read of a log, and a reader more.
+use Rattle.std.proofs.Common.{◌≡◌, inl, inr, ℕ, ◌+◌, ◌-◌, ◌<◌, ◌≤◌, Bool, true, false, cond, [], ◌∷◌, drop, length, Option, Some, None, Result, Ok, Err, IfOk, nat_lt, refl, sym, ap, ◌∙◌, subst, arith}
+use Rattle.std.proofs.lemmas.Grind.{common_steps}
+use Rattle.std.proofs.lemmas.List.{drop_more, drop_all}
+use Rattle.std.proofs.lemmas.Option.{slice_get_cases, slice_get_past}
+use Rattle.std.specs.Prelude.{IfSome, IfNone, IsOk}
+use Rattle.std.specs.declared.alloc.AllocError.{AllocError}
+use Rattle.std.specs.FinMap.{get}
+use Rattle.bcast_model.specs.declared.error.HandleError.{HandleError}
+use Rattle.bcast_model.specs.declared.error.HandleError.TheVariants as handle
+use Rattle.bcast_model.specs.declared.error.TryRecvError.{TryRecvError}
+use Rattle.bcast_model.specs.declared.error.TryRecvError.TheVariants as unread_error
+use Rattle.bcast_model.specs.declared.run.Call.TheVariants as call
+use Rattle.bcast_model.specs.declared.run.Reply.{Reply}
+use Rattle.bcast_model.specs.declared.run.Reply.TheVariants as reply
+use Rattle.bcast_model.specs.Control.{Control, cursor_of, with_cursor}
+use Rattle.bcast_model.specs.Effect.{sets}
+use Rattle.bcast_model.specs.Handles.{clone_receiver}
+use Rattle.bcast_model.specs.Receiving.{IsOwed, found, receive, try_recv_reply}
+use Rattle.bcast_model.specs.Legal.{ClonesEqual}
+use Rattle.bcast_model.specs.Steps.{settle}
+use Rattle.bcast_model.specs.View.{View, kept_at}
+use Rattle.bcast_model.specs.Answers.{Answers}
+use Rattle.bcast_model.specs.Laws.{IsValidView}
+use Rattle.bcast_model.proofs.Cases.{receive_is}
+use Rattle.bcast_core.proofs.Settle.{settle_idle}
+use Rattle.uses.specs.Log.{kept_from, unread, record_of, IsReader, IsLog, KeepsReaders, KeepsUnread}
+use Rattle.uses.proofs.Called.{told, some_of, valid, after, unchanged}
+use Rattle.uses.proofs.Exact.{exact_of}
+use Rattle.uses.proofs.Logs.{told_log, ReadsFrom, told_reads, reads_from}
+
+nothing_added : (c : Control) (o : Option ℕ) → clone_receiver c o None ≡ c
+nothing_added c None = refl
+nothing_added c (Some cursor) = refl
+
+module _ {T : Type 0} where
+  -- ---- `try_recv`
+  -- what a read returns and leaves
+  pub record Reads (v u : View T) (key : ℕ) (o : Option T) : Type 0 where
+    pub log : IsLog u
+    pub first : IfSome o (λ item. unread v key ≡ item ∷ unread u key)
+    pub none : IfNone o (unread v key ≡ [])
+    pub others : KeepsUnread v u key
+    pub readers : KeepsReaders v u
+
+  told_read : (v u : View T) (key : ℕ) (o : Option T) → Reads v u key o → Reads v (told u) key o
+  told_read v u key o s = record { log = told_log u s.log; first = s.first; none = s.none; others = s.others; readers = s.readers }
+
+  abbrev item_of : Result T TryRecvError → Option T
+  item_of received = record_of (Ok received)
+
+  module _ (v : View T) (key : ℕ) (log : IsLog v) (valid : IsValidView v) where
+    abbrev Leaves : Option ℕ → Control → Type 0
+    Leaves cursor c = Reads v (settle v (sets c)) key (item_of (try_recv_reply v cursor))
+
+    -- nothing is read
+    reads_none : (cursor : Option ℕ) → item_of (try_recv_reply v cursor) ≡ None → unread v key ≡ [] → Leaves cursor v.control
+    reads_none cursor none empty =
+        subst (λ u. Reads v u key (item_of (try_recv_reply v cursor))) (sym (settle_idle v valid))
+        (subst (Reads v v key) (sym none) (record { log = log; first = tt; none = empty; others = λ other differs. refl; readers = λ other is. is }))
+
+    item_found : (closed : Bool) (o : Option T) → item_of (found closed o) ≡ o
+    item_found closed (Some item) = refl
+    item_found closed None = refl
+
+    item_at : (cursor : ℕ) → v.front ≤ cursor → item_of (try_recv_reply v (Some cursor)) ≡ kept_at v cursor
+    item_at cursor low =
+        let ahead : nat_lt cursor v.front ≡ false = grind (arith, common_steps, low) in
+        ap (λ b. item_of (cond b (Err (unread_error.Overflowed (v.front - cursor))) (found v.control.closed (kept_at v cursor)))) ahead ∙ item_found v.control.closed (kept_at v cursor)
+
+    -- the first of what is unread is read
+    reads_first : (cursor : ℕ) → get v.control.cursors key ≡ Some cursor → v.front ≤ cursor → cursor < v.end → Leaves (Some cursor) (with_cursor v.control key (cursor + 1))
+    reads_first cursor at low high =
+        let next = reads_from v key (cursor + 1) log (omega (arith, low)) in
+        elim (slice_get_cases v.queue (cursor - v.front)).1 [
+          | inl some ↦
+              let more : (cursor + 1) - v.front ≡ (cursor - v.front) + 1 = omega (arith, low) in
+              let first : unread v key ≡ some.0 ∷ unread (settle v (sets (with_cursor v.control key (cursor + 1)))) key =
+              ap (kept_from v) at ∙ drop_more v.queue (cursor - v.front) some.0 some.1
+              ∙ ap (λ x. x ∷ drop ((cursor - v.front) + 1) v.queue) some.3
+              ∙ ap (λ n. some.0 ∷ drop n v.queue) (sym more) ∙ ap (λ items. some.0 ∷ items) (sym next.own) in
+              subst (Reads v (settle v (sets (with_cursor v.control key (cursor + 1)))) key) (sym (item_at cursor low ∙ some.2))
+              (record { log = next.log; first = first; none = tt; others = next.others; readers = next.readers })
+          | inr past ↦ (let end = valid.end in let short = past.0 in absurd (omega (arith, end, short, high)))
+        ]
+
+    reads_at : (o : Option ℕ) → get v.control.cursors key ≡ o → Leaves o (receive v.front v.end v.control key o)
+    reads_at None at = reads_none None refl (ap (kept_from v) at)
+    reads_at (Some cursor) at =
+        let low = log.reach key cursor at in
+        receive_is (Leaves (Some cursor)) v.front v.end v.control key cursor
+        (λ lags. absurd (omega (arith, low, lags)))
+        (λ _ high. reads_first cursor at low high)
+        (λ _ late.
+        let end = valid.end in
+        let short : length v.queue ≤ cursor - v.front = omega (arith, end, late) in
+        reads_none (Some cursor) (item_at cursor low ∙ slice_get_past v.queue (cursor - v.front) short) (ap (kept_from v) at ∙ drop_all (cursor - v.front) v.queue short))
+
+  pub reads : {is_clone : T → T → Type 0} {v w : View T} {key : ℕ} → ClonesEqual is_clone → (result : Result (Result T TryRecvError) AllocError) → IsOk result
+      → Answers is_clone v (call.TryRecv key) (reply.TryRecv result) w → IsLog v → Reads v w key (record_of result)
+  reads {is_clone = is_clone} {v = v} {w = w} {key = key} equal (Ok received) sure a log =
+      let o : Option ℕ = cursor_of v.control key in
+      let exact : received ≡ try_recv_reply v o = exact_of is_clone equal (IsOwed v key o) (try_recv_reply v o) received a.legal in
+      after a (λ u. Reads v u key (item_of received)) (λ u s. told_read v u key (item_of received) s)
+      (subst (λ r. Reads v (settle v (sets (receive v.front v.end v.control key o))) key (item_of r)) (sym exact) (reads_at v key log (valid a) o refl))
+  reads equal (Err error) sure a log = absurd (let e : false ≡ true = sure in cc)
+
+  -- ---- `clone`
+  -- what a reader more, or its refusal, leaves
+  pub record Adds (v w : View T) (key : ℕ) (result : Result ℕ HandleError) : Type 0 where
+    pub log : IsLog w
+    pub added : IfOk result (λ made. unread w made ≡ unread v key)
+    pub others : IfOk result (λ made. KeepsUnread v w made)
+    pub reader : IfOk result (IsReader w)
+    pub readers : KeepsReaders v w
+
+  not_gone : (made : ℕ) → ◌≡◌ {A = Reply T} (reply.CloneReceiver (Ok made)) (reply.CloneReceiver (Err handle.Gone)) → ⊥
+  not_gone made e = cc
+
+  pub adds : {is_clone : T → T → Type 0} {v w : View T} {key : ℕ} (result : Result ℕ HandleError) → Answers is_clone v (call.CloneReceiver key) (reply.CloneReceiver result) w → IsLog v → Adds v w key result
+  adds {v = v} {w = w} {key = key} (Ok made) a log = elim a.legal [
+    | inl gone ↦ absurd (not_gone made gone.1)
+    | inr there ↦
+        let at = some_of (cursor_of v.control key) there.0 in
+        let s : ReadsFrom v w made at.0 = after a (λ u. ReadsFrom v u made at.0) (λ u s. told_reads v u made at.0 s)
+        (subst (λ o. ReadsFrom v (settle v (sets (clone_receiver v.control o (Some made)))) made at.0) (sym at.1) (reads_from v made at.0 log (log.reach key at.0 at.1))) in
+        record { log = s.log; added = s.own ∙ sym (ap (kept_from v) at.1); others = s.others; reader = s.reader; readers = s.readers }
+  ]
+  adds {v = v} {w = w} {key = key} (Err error) a log =
+      let same : w ≡ v = unchanged a (ap (λ c. sets c) (nothing_added v.control (cursor_of v.control key))) refl in
+      subst (λ u. Adds v u key (Err error)) (sym same) (record { log = log; added = tt; others = tt; reader = tt; readers = λ other is. is })
