@@ -7,5 +7,7 @@ pub mod OfKind
 pub mod Futures
 -- which channel a lock leads to
 pub mod Channels
+-- which waiting threads are woken
+pub mod Woken
 -- what is seen of a channel
 pub mod Snapshots

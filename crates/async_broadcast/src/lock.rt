@@ -10,11 +10,12 @@ use crate::port::{Ask, Port};
 use crate::receiver::Receiver;
 use crate::sender::Sender;
 use crate::wake::{Slot, Wake};
-use bcast_core::{Call, Inner, Reply, SendPoll, Snapshot, TryRecvError};
+use bcast_core::{Call, Inner, Reply, SendPoll, Snapshot, TryRecvError, TrySendError};
 use state::{State, Woken};
 use std::alloc::{AllocError, Allocator, Global};
 use std::sync::ledger::Blank;
-use std::sync::{Arc, Condvar, Mutex, Wait};
+use std::sync::{Arc, Condvar, Mutex, MutexGuard, Wait};
+use std::thread::yield_now;
 
 mod state;
 
@@ -47,6 +48,15 @@ impl<T: Clone, A: Allocator> Channel<T, A> {
     #[inline(always)]
     fn wake(&self, woken: Woken) {
         woken.wake(&self.ready, &self.news);
+    }
+
+    // Tries once before it waits, since most often the lock is free.
+    #[inline(always)]
+    fn lock(&self, rt: &impl Wait) -> MutexGuard<'_, State<T, A>> {
+        match self.state.try_lock() {
+            Some(state) => state,
+            None => self.state.lock(rt),
+        }
     }
 }
 
@@ -107,7 +117,7 @@ impl<T: Clone, R: Wait + Clone, A: Allocator + Copy> Lock<T, R, A> {
     pub(crate) fn snapshot(&self, alloc: A) -> Result<Snapshot<T, A>, AllocError>
         ensures { IfOk result (λ snapshot. ShowsSomeState T.is_clone snapshot) }
     {
-        self.channel.state.lock(&self.rt).snapshot(alloc)
+        self.channel.lock(&self.rt).snapshot(alloc)
     }
 
     fn send_waiting(&self, msg: T) -> Reply<T>
@@ -116,7 +126,8 @@ impl<T: Clone, R: Wait + Clone, A: Allocator + Copy> Lock<T, R, A> {
     {
         let channel = &*self.channel;
         let mut left = msg;
-        let mut state = channel.state.lock(&self.rt);
+        let mut has_yielded = false;
+        let mut state = channel.lock(&self.rt);
         for _ in self.rt.forever() {
             let (reply, woken) = state.step(Call::AttemptSend(left), Wake::none());
             match reply {
@@ -129,6 +140,15 @@ impl<T: Clone, R: Wait + Clone, A: Allocator + Copy> Lock<T, R, A> {
                 _ => unreachable!(),
             }
             channel.wake(woken);
+            if !has_yielded {
+                // Others may make room at once, and then nobody has to be woken.
+                has_yielded = true;
+                drop(state);
+                yield_now();
+                state = channel.lock(&self.rt);
+                continue;
+            }
+            has_yielded = false;
             state.begin_to_send();
             state = channel.ready.wait(&self.rt, state);
             state.try_to_send();
@@ -141,7 +161,8 @@ impl<T: Clone, R: Wait + Clone, A: Allocator + Copy> Lock<T, R, A> {
         ensures answered { is_answer result ≡ true }
     {
         let channel = &*self.channel;
-        let mut state = channel.state.lock(&self.rt);
+        let mut has_yielded = false;
+        let mut state = channel.lock(&self.rt);
         for _ in self.rt.forever() {
             let (reply, woken) = state.step(Call::TryRecv(key), Wake::none());
             let Reply::TryRecv(answer) = reply else {
@@ -153,6 +174,15 @@ impl<T: Clone, R: Wait + Clone, A: Allocator + Copy> Lock<T, R, A> {
                 return Reply::TryRecv(answer);
             }
             channel.wake(woken);
+            if !has_yielded {
+                // Several messages may come at once, and are then received without another wait.
+                has_yielded = true;
+                drop(state);
+                yield_now();
+                state = channel.lock(&self.rt);
+                continue;
+            }
+            has_yielded = false;
             let known = state.begin_to_receive();
             state = channel.news.wait(&self.rt, state);
             state.try_to_receive(known);
@@ -180,7 +210,12 @@ impl<T: Clone, R: Wait + Clone, A: Allocator + Copy> Ask<T, Slot<A>> for Lock<T,
         ensures { IsPossible T.is_clone call result }
     {
         let channel = &*self.channel;
-        let (reply, woken) = channel.state.lock(&self.rt).step(call, wake);
+        let mut state = channel.lock(&self.rt);
+        if state.has_no_thread() {
+            return state.make_alone(call, wake);
+        }
+        let (reply, woken) = state.step(call, wake);
+        drop(state);
         channel.wake(woken);
         reply
     }
@@ -190,6 +225,36 @@ impl<T: Clone, R: Wait + Clone, A: Allocator + Copy> Port<T, Slot<A>> for Lock<T
     ghost use Rattle.async_broadcast.specs.Channels.{channel_of};
 
     ghost channel = { λ lock. channel_of lock };
+
+    #[inline(always)]
+    fn try_broadcast(&self, msg: T) -> Result<Option<T>, TrySendError<T>>
+        ensures { IsPossible T.is_clone (Call.TryBroadcast msg) (Reply.TryBroadcast result) }
+    {
+        let channel = &*self.channel;
+        let mut state = channel.lock(&self.rt);
+        if state.has_no_thread() {
+            return state.try_broadcast_alone(msg);
+        }
+        let (answer, woken) = state.try_broadcast(msg);
+        drop(state);
+        channel.wake(woken);
+        answer
+    }
+
+    #[inline(always)]
+    fn try_recv(&self, key: usize) -> Result<Result<T, TryRecvError>, AllocError>
+        ensures { IsPossible T.is_clone (Call.TryRecv key) (Reply.TryRecv result) }
+    {
+        let channel = &*self.channel;
+        let mut state = channel.lock(&self.rt);
+        if state.has_no_thread() {
+            return state.try_recv_alone(key);
+        }
+        let (answer, woken) = state.try_recv(key);
+        drop(state);
+        channel.wake(woken);
+        answer
+    }
 
     fn ask_waiting(&self, call: Call<T>) -> Reply<T>
         requires { may_wait call ≡ true }

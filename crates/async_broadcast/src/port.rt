@@ -4,8 +4,10 @@ ghost use Rattle.bcast_model.specs.Next.{HasPositiveCapacity};
 ghost use Rattle.async_broadcast.specs.Kinds.{IsOfKind, may_wait, is_answer};
 ghost use Rattle.async_broadcast.specs.Ports.{IsSame};
 
+use crate::asked;
 use crate::wake::Wake;
-use bcast_core::{Call, Reply};
+use bcast_core::{Call, Reply, TryRecvError, TrySendError};
+use std::alloc::AllocError;
 
 /// The way from a handle to its channel: a call goes in, and its reply comes back.
 ///
@@ -40,6 +42,20 @@ pub trait Port<T: Clone, S>: Ask<T, S> {
 
     // Names the channel that the port leads to.
     ghost channel: { Self → ℕ };
+
+    /// Asks `TryBroadcast`.
+    fn try_broadcast(&self, msg: T) -> Result<Option<T>, TrySendError<T>>
+        ensures { Self.gave self.now (Call.TryBroadcast msg) (Reply.TryBroadcast result) }
+    {
+        asked::try_broadcast::<T, S, Self>(self, msg)
+    }
+
+    /// Asks `TryRecv`.
+    fn try_recv(&self, key: usize) -> Result<Result<T, TryRecvError>, AllocError>
+        ensures { Self.gave self.now (Call.TryRecv key) (Reply.TryRecv result) }
+    {
+        asked::try_recv::<T, S, Self>(self, key)
+    }
 
     /// Makes an `AttemptSend` or a `TryRecv` again and again, and waits between, until it is
     /// answered by something other than `Wait` or `Empty`.

@@ -75,11 +75,12 @@ impl<T: Clone, P: Port<T, Slot<A>>, A: Allocator + Copy> Receiver<T, P, A> {
     /// ```
     ///
     /// Source: `Receiver::try_recv` of async-broadcast 0.7.2, which never refuses for memory.
+    #[inline(always)]
     pub fn try_recv(&mut self) -> Result<Result<T, TryRecvError>, AllocError>
         ensures asked { P.gave self.old.port (Call.TryRecv self.old.key) (Reply.TryRecv result) }
         ensures same { self.new ≡ self.old }
     {
-        asked::try_recv::<T, Slot<A>, P>(&self.port, self.key)
+        self.port.try_recv(self.key)
     }
 
     /// Receives the next message, and blocks the thread while there is none and the channel is

@@ -63,10 +63,11 @@ impl<T: Clone, P: Port<T, Slot<A>>, A: Allocator + Copy> Sender<T, P, A> {
     /// ```
     ///
     /// Source: `Sender::try_broadcast` of async-broadcast 0.7.2.
+    #[inline(always)]
     pub fn try_broadcast(&self, msg: T) -> Result<Option<T>, TrySendError<T>>
         ensures { P.gave self.now.port (Call.TryBroadcast msg) (Reply.TryBroadcast result) }
     {
-        asked::try_broadcast::<T, Slot<A>, P>(&self.port, msg)
+        self.port.try_broadcast(msg)
     }
 
     /// Sends a message, and blocks the thread while the channel has no room for it, or, with

@@ -1,15 +1,16 @@
 //! What the lock guards: the channel, and whether threads wait there.
 ghost use Rattle.bcast_model.specs.Next.{HasPositiveCapacity};
-ghost use Rattle.std.specs.Prelude.{◌≡◌, ◌<◌, ◌||◌, true, false, IfOk};
+ghost use Rattle.std.specs.Prelude.{◌≡◌, true, false, IfOk};
 ghost use Rattle.bcast_model.specs.Control.{is_ready};
 ghost use Rattle.bcast_model.specs.View.{is_full};
 ghost use Rattle.bcast_model.specs.Answers.{Answers, IsPossible};
 ghost use Rattle.bcast_core.specs.Snapshot.{Shows};
 ghost use Rattle.async_broadcast.specs.Kinds.{IsOfKind};
 ghost use Rattle.async_broadcast.specs.Snapshots.{ShowsSomeState};
+ghost use Rattle.async_broadcast.specs.Woken.{HasNoThread, HasWokenSender, HasWokenReceiver, NotesSender, NotesReceiver};
 
 use crate::wake::{Slot, Wake};
-use bcast_core::{Call, Inner, Reply, Snapshot, step};
+use bcast_core::{Call, Inner, Reply, Snapshot, TryRecvError, TrySendError, step};
 use std::alloc::{AllocError, Allocator};
 use std::sync::Condvar;
 
@@ -47,15 +48,6 @@ impl Woken {
             news.notify_one();
         }
     }
-
-    fn nobody() -> Self
-        ensures { result ≡ record { sender = false; receiver = false } }
-    {
-        Woken {
-            sender: false,
-            receiver: false,
-        }
-    }
 }
 
 impl<T: Clone, A: Allocator + Copy> State<T, A> {
@@ -70,29 +62,43 @@ impl<T: Clone, A: Allocator + Copy> State<T, A> {
         }
     }
 
-    /// Makes one call, and says whom to wake after it.
+    /// Whether no thread waits.
     #[inline(always)]
+    pub(super) fn has_no_thread(&self) -> bool
+        ensures { result ≡ true → HasNoThread self.now }
+    {
+        self.senders == 0 && self.idle_receivers == 0 && self.due_receivers == 0
+    }
+
+    /// Makes one call where no thread waits.
+    #[inline(always)]
+    pub(super) fn make_alone(&mut self, call: Call<T>, wake: Wake<Slot<A>>) -> Reply<T>
+        requires capacity { HasPositiveCapacity call }
+        requires alone { HasNoThread self.old }
+        ensures answers { Answers T.is_clone self.old.inner call result self.new.inner }
+        ensures possible { IsPossible T.is_clone call result }
+        ensures kind { IsOfKind call result }
+    {
+        self.make(call, wake)
+    }
+
+    /// Makes one call, and says whom to wake after it.
+    #[inline(never)]
     pub(super) fn step(&mut self, call: Call<T>, wake: Wake<Slot<A>>) -> (Reply<T>, Woken)
         requires { HasPositiveCapacity call }
         ensures answers { Answers T.is_clone self.old.inner call result.0 self.new.inner }
         ensures possible { IsPossible T.is_clone call result.0 }
         ensures kind { IsOfKind call result.0 }
-        // Where sends are ready and a thread waits to send, one was woken that hasn't tried yet.
-        ensures sends { is_ready self.new.inner.control (is_full self.new.inner) ≡ true
-            → 0 < self.new.senders → self.new.is_sender_woken ≡ true }
-        // The same for a thread that has something to receive.
-        ensures receives { 0 < self.new.due_receivers → self.new.is_receiver_woken ≡ true }
-        // What is noted as woken is what the answer says to wake.
-        ensures noted_sender { self.new.is_sender_woken
-            ≡ (result.1.sender || self.old.is_sender_woken) }
-        ensures noted_receiver { self.new.is_receiver_woken
-            ≡ (result.1.receiver || self.old.is_receiver_woken) }
+
+        ensures sends { HasWokenSender self.new }
+        ensures receives { HasWokenReceiver self.new }
+        ensures sender { NotesSender self.old self.new result.1 }
+        ensures receiver { NotesReceiver self.old self.new result.1 }
     {
-        if self.senders == 0 && self.idle_receivers == 0 && self.due_receivers == 0 {
-            let reply = self.make(call, wake);
-            return (reply, Woken::nobody());
-        }
-        self.make_and_wake(call, wake)
+        let known = self.news();
+        let reply = self.make(call, wake);
+        let woken = self.whom_to_wake(known);
+        (reply, woken)
     }
 
     #[inline(always)]
@@ -106,37 +112,80 @@ impl<T: Clone, A: Allocator + Copy> State<T, A> {
         step(&mut self.inner, call, wake)
     }
 
-    // Where threads wait.
+    /// Sends where no thread waits.
+    #[inline(always)]
+    pub(super) fn try_broadcast_alone(&mut self, msg: T) -> Result<Option<T>, TrySendError<T>>
+        requires { HasNoThread self.old }
+        ensures answers { Answers T.is_clone self.old.inner (Call.TryBroadcast msg)
+            (Reply.TryBroadcast result) self.new.inner }
+        ensures possible { IsPossible T.is_clone (Call.TryBroadcast msg)
+            (Reply.TryBroadcast result) }
+    {
+        self.inner.try_broadcast(msg)
+    }
+
+    /// Sends, and says whom to wake after it.
     #[inline(never)]
-    fn make_and_wake(&mut self, call: Call<T>, wake: Wake<Slot<A>>) -> (Reply<T>, Woken)
-        requires { HasPositiveCapacity call }
-        ensures answers { Answers T.is_clone self.old.inner call result.0 self.new.inner }
-        ensures possible { IsPossible T.is_clone call result.0 }
-        ensures kind { IsOfKind call result.0 }
-        ensures sends { is_ready self.new.inner.control (is_full self.new.inner) ≡ true
-            → 0 < self.new.senders → self.new.is_sender_woken ≡ true }
-        ensures receives { 0 < self.new.due_receivers → self.new.is_receiver_woken ≡ true }
-        ensures noted_sender { self.new.is_sender_woken
-            ≡ (result.1.sender || self.old.is_sender_woken) }
-        ensures noted_receiver { self.new.is_receiver_woken
-            ≡ (result.1.receiver || self.old.is_receiver_woken) }
+    pub(super) fn try_broadcast(&mut self, msg: T) -> (Result<Option<T>, TrySendError<T>>, Woken)
+        ensures answers { Answers T.is_clone self.old.inner (Call.TryBroadcast msg)
+            (Reply.TryBroadcast result.0) self.new.inner }
+        ensures possible { IsPossible T.is_clone (Call.TryBroadcast msg)
+            (Reply.TryBroadcast result.0) }
+
+        ensures sends { HasWokenSender self.new }
+        ensures receives { HasWokenReceiver self.new }
+        ensures sender { NotesSender self.old self.new result.1 }
+        ensures receiver { NotesReceiver self.old self.new result.1 }
     {
         let known = self.news();
-        let reply = self.make(call, wake);
+        let answer = self.inner.try_broadcast(msg);
         let woken = self.whom_to_wake(known);
-        (reply, woken)
+        (answer, woken)
+    }
+
+    /// Receives where no thread waits.
+    #[inline(always)]
+    pub(super) fn try_recv_alone(
+        &mut self,
+        key: usize,
+    ) -> Result<Result<T, TryRecvError>, AllocError>
+        requires { HasNoThread self.old }
+        ensures answers { Answers T.is_clone self.old.inner (Call.TryRecv key)
+            (Reply.TryRecv result) self.new.inner }
+        ensures possible { IsPossible T.is_clone (Call.TryRecv key) (Reply.TryRecv result) }
+    {
+        self.inner.try_recv(key)
+    }
+
+    /// Receives, and says whom to wake after it.
+    #[inline(never)]
+    pub(super) fn try_recv(
+        &mut self,
+        key: usize,
+    ) -> (Result<Result<T, TryRecvError>, AllocError>, Woken)
+        ensures answers { Answers T.is_clone self.old.inner (Call.TryRecv key)
+            (Reply.TryRecv result.0) self.new.inner }
+        ensures possible { IsPossible T.is_clone (Call.TryRecv key) (Reply.TryRecv result.0) }
+
+        ensures sends { HasWokenSender self.new }
+        ensures receives { HasWokenReceiver self.new }
+        ensures sender { NotesSender self.old self.new result.1 }
+        ensures receiver { NotesReceiver self.old self.new result.1 }
+    {
+        let known = self.news();
+        let answer = self.inner.try_recv(key);
+        let woken = self.whom_to_wake(known);
+        (answer, woken)
     }
 
     // `known` is the news before the call.
+    #[inline(never)]
     fn whom_to_wake(&mut self, known: (u64, bool)) -> Woken
         ensures same { self.new.inner ≡ self.old.inner }
-        ensures sends { is_ready self.new.inner.control (is_full self.new.inner) ≡ true
-            → 0 < self.new.senders → self.new.is_sender_woken ≡ true }
-        ensures receives { 0 < self.new.due_receivers → self.new.is_receiver_woken ≡ true }
-        ensures noted_sender { self.new.is_sender_woken
-            ≡ (result.sender || self.old.is_sender_woken) }
-        ensures noted_receiver { self.new.is_receiver_woken
-            ≡ (result.receiver || self.old.is_receiver_woken) }
+        ensures sends { HasWokenSender self.new }
+        ensures receives { HasWokenReceiver self.new }
+        ensures sender { NotesSender self.old self.new result }
+        ensures receiver { NotesReceiver self.old self.new result }
     {
         let newly_due = if self.news() == known {
             0
