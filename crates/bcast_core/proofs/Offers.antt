@@ -1,21 +1,16 @@
 -- What an offered message does, in what is seen.
-use Rattle.std.proofs.Common.{◌≡◌, ◌+◌, ◌-◌, ◌≤◌, true, false, ◌∷◌, max, Some, None, refl, sym, ap, ◌∙◌, arith}
+use Rattle.std.proofs.Common.{◌≡◌, ◌+◌, ◌-◌, ◌≤◌, true, false, ◌∷◌, max, None, refl, sym, ap, ◌∙◌, arith}
 use Rattle.std.proofs.lemmas.Grind.{common_steps}
 use Rattle.std.specs.FinMap.{len, values}
-use Rattle.bcast_model.specs.declared.error.TrySendError.{TrySendError}
 use Rattle.bcast_model.specs.Control.{has_no_receiver, accepting}
 use Rattle.bcast_model.specs.History.{least}
 use Rattle.bcast_model.specs.View.{View, is_full}
 use Rattle.bcast_model.specs.Laws.{IsValidView}
 use Rattle.bcast_model.specs.Steps.{settle, with_message}
 use Rattle.bcast_model.specs.Sending.{accept, accept_unless, offer, refusal}
-use Rattle.bcast_core.proofs.Settle.{settle_to, settle_idle, least_raised, cursors-accepting}
+use Rattle.bcast_core.proofs.Settle.{settle_to, least_raised, cursors-accepting}
 
 module _ {T : Type 0} where
-  -- a message that is refused changes nothing
-  pub offer_refused : (v : View T) (msg : T) (error : TrySendError T) → IsValidView v → refusal v msg ≡ Some error → settle v (offer v msg) ≡ v
-  offer_refused v msg error valid is = ap (λ o. settle v (accept_unless v msg o)) is ∙ settle_idle v valid
-
   -- where somebody receives, the end may rise
   low_next : (v : View T) → IsValidView v → has_no_receiver v.control ≡ false → least (v.end + 1) (values v.control.cursors) ≤ v.front
   low_next v valid some =

@@ -61,8 +61,5 @@ module _ {T : Type 0} where
   pub shown_after : {is_clone : T → T → Type 0} {old new : View T} {c : Call T} {r : Reply T} → Answers is_clone old c r new → IsShown new
   shown_after {c = c} {r = r} a = let s = a.shown in (next s.0 c r, a.valid s.0 s.1 s.2, a.represents s.0 s.1 s.2)
 
-  pub still_shown : {is_clone : T → T → Type 0} {old new : View T} {c : Call T} {r : Reply T} → HasRange c (len new.control.cursors) → IsShown old → Steps is_clone old c r new → IsShown new
-  still_shown range shown s = shown_after (answers range shown s)
-
   pub possible : {is_clone : T → T → Type 0} {old new : View T} {c made : Call T} {r : Reply T} → c ≡ made → Answers is_clone old made r new → IsPossible is_clone c r
   possible {is_clone = is_clone} {made = made} {r = r} e a = let s = a.shown in (s.0, s.1, subst (λ c. Legal is_clone (view_of s.0) c r) (sym e) (subst (λ v. Legal is_clone v made r) s.2 a.legal))

@@ -10,7 +10,6 @@ use Rattle.bcast_model.specs.Next.{next}
 use Rattle.bcast_model.specs.View.{View}
 use Rattle.bcast_model.specs.Answers.{Answers}
 use Rattle.bcast_model.specs.Run.{IsRun}
-use Rattle.bcast_model.specs.Steps.{Steps}
 
 module _ {T : Type 0} where
   module _ (p q : T → T → Type 0) (wider : (msg given : T) → p msg given → IsGiven q msg given) where
@@ -40,13 +39,6 @@ module _ {T : Type 0} where
   -- what gives no clones is so whatever a clone is
   pub answers_any : {q : T → T → Type 0} {old new : View T} {c : Call T} {r : Reply T} → Answers NoClone old c r new → Answers q old c r new
   answers_any a = answers_wider (λ msg given none. absurd none) a
-
-  pub steps_any : {q : T → T → Type 0} {old new : View T} {c : Call T} {r : Reply T} → Steps NoClone old c r new → Steps q old c r new
-  steps_any {q = q} {old = old} {c = c} {r = r} s = record { legal = legal_wider NoClone q (λ msg given none. absurd none) old c r s.legal; next = s.next }
-
-  -- where a clone equals its original, each message that is handed out is the message itself
-  pub answers_exact : {p : T → T → Type 0} {old new : View T} {c : Call T} {r : Reply T} → ClonesEqual p → Answers p old c r new → Answers NoClone old c r new
-  answers_exact equal a = answers_wider (λ msg given cloned. inl (equal msg given cloned)) a
 
   pub legal_exact : (p : T → T → Type 0) (v : View T) (c : Call T) (r : Reply T) → ClonesEqual p → Legal p v c r → Legal NoClone v c r
   legal_exact p v c r equal legal = legal_wider p NoClone (λ msg given cloned. inl (equal msg given cloned)) v c r legal

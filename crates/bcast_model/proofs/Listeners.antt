@@ -115,9 +115,6 @@ module _ {A : Type 0} (same : A → A → Bool) (test : IsTest same) where
   ]
 
   -- ---- one is told
-  pub one_tell : (l : Listeners A) → 0 < length (tell 1 l).ids → 1 ≤ (tell 1 l).told
-  one_tell l h = omega arith
-
   pub fewer : (id : A) (l : Listeners A) → AreInOrder same l → length (consume same id l).ids ≤ length l.ids
   fewer id l o = elim (is_in same id l.ids) as (λ b. length (without same id l.ids) ≡ cond b (length l.ids - 1) (length l.ids) → length (without same id l.ids) ≤ length l.ids) [
     | true ↦ λ e. omega arith

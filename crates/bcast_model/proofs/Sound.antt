@@ -7,10 +7,10 @@ use Rattle.std.specs.Cmp.{nat_cmp_total}
 use Rattle.std.specs.FinMap.{get, insert, remove, len, get-insert, get-remove, len-remove}
 use Rattle.bcast_model.specs.Listeners.{Listeners}
 use Rattle.bcast_model.specs.Pair.{Pair}
-use Rattle.bcast_model.specs.Control.{Control, Places, closing, close, close_if_deserted, with_cursor}
+use Rattle.bcast_model.specs.Control.{Control, Places, closing, close, with_cursor}
 use Rattle.bcast_model.specs.Handles.{without_receiver}
 use Rattle.bcast_model.specs.View.{View}
-use Rattle.bcast_model.proofs.Cases.{close_is, deserted_is}
+use Rattle.bcast_model.proofs.Cases.{close_is}
 use Rattle.bcast_model.proofs.WaitingSends.{OneIsTold, AreSends, sends_all_told}
 use Rattle.bcast_model.proofs.WaitingReceives.{AreReceives, receives_all_told, receives_moved, receives_without}
 
@@ -64,9 +64,6 @@ module _ {T : Type 0} (v : View T) (end : ℕ) (c : Control) where
 
   pub sound_close : IsSound v end c → IsSound v end (close c)
   sound_close s = close_is (IsSound v end) c (λ _. s) (λ _. sound_closing s)
-
-  pub sound_deserted : IsSound v end c → IsSound v end (close_if_deserted c)
-  sound_deserted s = deserted_is (IsSound v end) c (sound_close s) (λ _. s)
 
   -- ---- cursors
   pub sound_cursor : (key cursor : ℕ) → cursor ≤ end → IsNoLower v cursor → (get c.cursors key ≡ Some end → ⊥) → len (insert c.cursors key cursor) < 2 ^ 64 → IsSound v end c → IsSound v end (with_cursor c key cursor)
