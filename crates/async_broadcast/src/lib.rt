@@ -24,7 +24,6 @@ mod inactive;
 mod lock;
 mod port;
 mod receiver;
-pub mod record;
 mod sender;
 mod snapshot;
 mod wake;

@@ -1,2 +1,5 @@
 pub mod Appends
 pub mod Notes
+pub mod Pages
+pub mod Prefixes
+pub mod Steps

@@ -6,8 +6,6 @@ use futures::task::Poll;
 use std::alloc::AllocError;
 
 /// The same call, to make it again.
-///
-/// Source: this crate's own.
 pub fn copy_of_call<T: Copy>(call: &Call<T>) -> Call<T>
     ensures { result ≡ call.now }
 {
@@ -52,8 +50,6 @@ pub fn copy_of_call<T: Copy>(call: &Call<T>) -> Call<T>
 }
 
 /// The same reply.
-///
-/// Source: this crate's own.
 pub fn copy_of_reply<T: Copy>(reply: &Reply<T>) -> Reply<T>
     ensures { result ≡ reply.now }
 {

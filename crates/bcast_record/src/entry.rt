@@ -5,8 +5,6 @@ use crate::copy::{copy_of_call, copy_of_reply};
 use bcast_core::{Call, Reply};
 
 /// What a recorder's channel was opened with.
-///
-/// Source: this crate's own.
 #[derive(Clone, Copy)]
 pub struct Opening {
     /// How many messages the channel keeps at most.
@@ -16,8 +14,6 @@ pub struct Opening {
 }
 
 /// One call on a recorder, and what it was answered.
-///
-/// Source: this crate's own.
 #[derive(Drop)]
 pub struct Entry<T> {
     /// The number of the seat that made the call.
@@ -40,8 +36,6 @@ impl<T: Copy> Entry<T> {
 }
 
 /// What the journal of a recorder notes: first what it was opened with, and then each entry.
-///
-/// Source: this crate's own.
 #[derive(Drop)]
 pub enum Note<T> {
     Opened(Opening),

@@ -6,15 +6,13 @@ ghost use Rattle.bcast_record.specs.Replay.{calls_of};
 
 use crate::copy::copy_of_call;
 use crate::entry::{Entry, Note, Opening};
+use crate::journal::{Named, Prefix};
 use crate::receipt::Receipt;
 use bcast_core::Call;
-use bcast_journal::{Named, Prefix};
 use std::alloc::{AllocError, Allocator, Global};
 use std::marker::Model;
 
 /// What a recorder stored. To a contract it is the recording.
-///
-/// Source: this crate's own.
 #[derive(Drop)]
 pub struct Finished<T, R: Named, A: Allocator = Global> {
     pub(crate) opening: Opening,
@@ -25,7 +23,7 @@ pub struct Finished<T, R: Named, A: Allocator = Global> {
 
 impl<T, R: Named, A: Allocator> Model for Finished<T, R, A> {
     ghost use Rattle.std.specs.Prelude.{◌≡◌};
-    ghost use Rattle.bcast_journal.specs.Content.{ended};
+    ghost use Rattle.bcast_record.specs.Content.{ended};
     ghost use Rattle.bcast_record.specs.Recording.{Recording, recording, notes_of};
     ghost use Rattle.bcast_record.specs.Replay.{MayRunAgain};
 
@@ -39,8 +37,6 @@ impl<T, R: Named, A: Allocator> Model for Finished<T, R, A> {
 
 impl<T: Drop, R: Named, A: Allocator> Finished<T, R, A> {
     /// What the recorder's channel was opened with.
-    ///
-    /// Source: this crate's own.
     pub fn opening(&self) -> Opening
         ensures same { result ≡ self.now.opening }
         ensures positive { 0 < result.capacity }
@@ -49,8 +45,6 @@ impl<T: Drop, R: Named, A: Allocator> Finished<T, R, A> {
     }
 
     /// All calls with their replies, in the order in which they were answered.
-    ///
-    /// Source: this crate's own.
     pub fn entries(&self) -> &[Entry<T>]
         ensures { result.now ≡ self.now.entries }
     {
@@ -59,8 +53,6 @@ impl<T: Drop, R: Named, A: Allocator> Finished<T, R, A> {
 
     /// The entry of a receipt of this recorder: with the seat's number, the call and the reply that
     /// the receipt names.
-    ///
-    /// Source: this crate's own.
     pub fn entry_of(&self, receipt: &Receipt<T, R>) -> &Entry<T>
         ensures place { slice_get self.now.entries receipt.now.place ≡ Some result.now }
         ensures entry { result.now ≡ receipt.now.entry }
@@ -77,8 +69,6 @@ impl<T: Copy, R: Named, A: Allocator + Copy> Finished<T, R, A> {
     /// # Errors
     ///
     /// - `AllocError`: no memory for the calls.
-    ///
-    /// Source: this crate's own.
     pub fn calls(&self, alloc: A) -> Result<Vec<Call<T>, A>, AllocError>
         ensures same { IfOk result (λ calls. calls.items ≡ calls_of self.now) }
         ensures positive { IfOk result (λ calls. AllByRecursion HasPositiveCapacity calls.items) }

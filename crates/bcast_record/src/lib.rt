@@ -1,13 +1,15 @@
 //! A channel that records its calls: whatever many threads asked of it is one run of the channel.
 //!
 //! A `Log` is the channel with its entries, for one thread; a `Recorder` is a log behind a lock. A
-//! caller has a `Seat`, and gets a `Receipt` for each call. Once all seats are back, `finish` hands
-//! out the entries.
+//! caller has a `Seat`, and gets a `Receipt` for each call. Once all seats are back, `finish` gives
+//! the entries, `Finished::entry_of` the entry of a receipt, and `Finished::calls` the calls, which
+//! `run` makes again.
 //!
-//! All types of one recorder carry a parameter that names it, as those of a ledger of the standard
-//! library do. A program makes, uses and ends a recorder inside a function over the parameter. The
-//! function is called at `Brand`, with a new ledger and a new journal, which the caller's
-//! `Invariants.antt` picks for the parameter:
+//! All types of one recorder carry a parameter `R` that names it, as those of a ledger of the
+//! standard library do. A program makes, uses and ends a recorder inside a function over `R: Named`,
+//! here `work`, and calls it at `Brand` of `std::marker` with `calls`, a new `Blank` of
+//! `std::sync::ledger`, and `journal`, a new `Journal`. The caller's `Invariants.antt` says that
+//! `R` names those:
 //!
 //! ```text
 //! ghosts-work-R-Ledger g a = record { name = a.calls.name; parts = a.calls.parts }
@@ -18,16 +20,21 @@
 mod copy;
 mod entry;
 mod finished;
+mod journal;
 mod log;
 mod receipt;
 mod recorder;
+mod rule;
 mod seat;
 
-pub use bcast_core::NoMemory;
-pub use bcast_journal::{Journal, Named};
+pub use bcast_core::{
+    Call, HandleError, Kind, NoMemory, RecvError, Reply, SendError, SendPoll, TryRecvError,
+    TrySendError, Waiting, run,
+};
 pub use copy::{copy_of_call, copy_of_reply};
 pub use entry::{Entry, Note, Opening};
 pub use finished::Finished;
+pub use journal::{Journal, Named};
 pub use log::Log;
 pub use receipt::Receipt;
 pub use recorder::Recorder;

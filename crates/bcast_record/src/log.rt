@@ -1,7 +1,7 @@
 //! A channel with the calls that it was asked, and its replies.
 ghost use Rattle.std.specs.Prelude.{◌≡◌, ◌+◌, ◌<◌, ◌≤◌, ◌^◌, [], ◌∷◌, ◌++◌, length, Some, IfOk, IfErr, IfSome, OnOk, vec_len, vec_capacity, slice_get};
 ghost use Rattle.std.specs.List.{sum_by};
-ghost use Rattle.bcast_journal.specs.Content.{so_far};
+ghost use Rattle.bcast_record.specs.Content.{so_far};
 ghost use Rattle.bcast_model.specs.Next.{HasPositiveCapacity};
 ghost use Rattle.bcast_record.specs.declared.entry.Note.TheVariants as note;
 ghost use Rattle.bcast_record.specs.Recording.{new_recording, with_entry, notes_of};
@@ -11,10 +11,10 @@ ghost use Rattle.bcast_record.specs.Seats.{new_seats, answered};
 use crate::copy::copy_of_call;
 use crate::entry::{Entry, Note, Opening};
 use crate::finished::Finished;
+use crate::journal::{Journal, Named, Prefix, Slot, Writer};
 use crate::receipt::Receipt;
 use crate::seat::{Seat, gather, make_seats};
 use bcast_core::{Call, Inner, NoMemory, Silent, step};
-use bcast_journal::{Journal, Named, Prefix, Slot, Writer};
 use std::alloc::{AllocError, Allocator, Global};
 use std::marker::Model;
 use std::sync::ledger::{Blank, Book, Share};
@@ -25,8 +25,6 @@ const MOST_ENTRIES: usize = 1 << 60;
 /// A channel that stores each call that it was asked, with the seat's number and its reply.
 ///
 /// To a contract it is the recording: what the channel was opened with, and the entries.
-///
-/// Source: this crate's own.
 #[derive(Drop)]
 pub struct Log<T: Copy + Clone, R: Named, A: Allocator = Global> {
     opening: Opening,
@@ -66,8 +64,6 @@ impl<T: Copy + Clone, R: Named, A: Allocator + Copy> Log<T, R, A> {
     /// # Errors
     ///
     /// - `AllocError`: no memory for the channel or the seats.
-    ///
-    /// Source: this crate's own.
     pub fn new(
         alloc: A,
         cap: usize,
@@ -111,8 +107,6 @@ impl<T: Copy + Clone, R: Named, A: Allocator + Copy> Log<T, R, A> {
     /// # Errors
     ///
     /// - `NoMemory(call)`: no memory for the entry. The call was not made: nothing changed.
-    ///
-    /// Source: this crate's own.
     pub fn step(
         &mut self,
         seat: &mut Seat<R>,
@@ -151,8 +145,6 @@ impl<T: Copy + Clone, R: Named, A: Allocator + Copy> Log<T, R, A> {
     }
 
     /// The channel, as the stored calls left it.
-    ///
-    /// Source: this crate's own.
     pub fn inner(&self) -> &Inner<T, Silent, A>
         ensures { Replays T.is_clone self.now result.now }
     {
@@ -160,8 +152,6 @@ impl<T: Copy + Clone, R: Named, A: Allocator + Copy> Log<T, R, A> {
     }
 
     /// All calls so far with their replies, in order.
-    ///
-    /// Source: this crate's own.
     pub fn entries(&self) -> &[Entry<T>]
         ensures { result.now ≡ self.now.entries }
     {

@@ -2,12 +2,10 @@
 ghost use Rattle.std.specs.Prelude.{◌≡◌};
 
 use crate::entry::{Entry, Note};
-use bcast_journal::{Named, Prefix};
+use crate::journal::{Named, Prefix};
 use std::marker::Model;
 
 /// Names an entry of a recorder. To a contract it is the entry and its place.
-///
-/// Source: this crate's own.
 #[derive(Drop)]
 pub struct Receipt<T, R: Named> {
     pub(crate) place: usize,
@@ -30,8 +28,6 @@ impl<T, R: Named> Model for Receipt<T, R> {
 
 impl<T, R: Named> Receipt<T, R> {
     /// The index of the entry among the recorder's entries.
-    ///
-    /// Source: this crate's own.
     pub fn place(&self) -> usize
         ensures { result ≡ self.now.place }
     {
@@ -39,8 +35,6 @@ impl<T, R: Named> Receipt<T, R> {
     }
 
     /// The entry: the seat's number, the call and the reply.
-    ///
-    /// Source: this crate's own.
     pub fn entry(&self) -> &Entry<T>
         ensures { result.now ≡ self.now.entry }
     {

@@ -9,11 +9,11 @@ ghost use Rattle.bcast_record.specs.Seats.{new_seats, answered};
 
 use crate::entry::{Note, Opening};
 use crate::finished::Finished;
+use crate::journal::{Journal, Named, Prefix};
 use crate::log::Log;
 use crate::receipt::Receipt;
 use crate::seat::Seat;
 use bcast_core::{Call, NoMemory};
-use bcast_journal::{Journal, Named, Prefix};
 use std::alloc::{AllocError, Allocator, Global};
 use std::marker::Model;
 use std::sync::ledger::Blank;
@@ -23,8 +23,6 @@ use std::sync::{Mutex, Wait};
 ///
 /// Whenever its lock is got, the entries are a run of the channel. To a contract it is what the
 /// channel was opened with, and how many seats were made.
-///
-/// Source: this crate's own.
 #[derive(Drop)]
 pub struct Recorder<T: Copy + Clone, R: Named, A: Allocator = Global> {
     log: Mutex<Log<T, R, A>>,
@@ -58,8 +56,6 @@ impl<T: Copy + Clone, R: Named, A: Allocator + Copy> Recorder<T, R, A> {
     /// # Errors
     ///
     /// - `AllocError`: no memory for the channel or the seats.
-    ///
-    /// Source: this crate's own.
     pub fn new(
         alloc: A,
         cap: usize,
@@ -98,8 +94,6 @@ impl<T: Copy + Clone, R: Named, A: Allocator + Copy> Recorder<T, R, A> {
     /// # Errors
     ///
     /// - `NoMemory(call)`: no memory for the entry. The call was not made.
-    ///
-    /// Source: this crate's own.
     pub fn call(
         &self,
         rt: &impl Wait,
@@ -120,8 +114,6 @@ impl<T: Copy + Clone, R: Named, A: Allocator + Copy> Recorder<T, R, A> {
     /// # Errors
     ///
     /// The recorder and the seats come back: fewer seats were given than were made.
-    ///
-    /// Source: this crate's own.
     pub fn finish(
         self,
         seats: Vec<Seat<R>, A>,

@@ -10,8 +10,6 @@ use std::sync::ledger::{Book, Ledger, Share};
 /// A place at a recorder. It makes calls, and counts those that were answered.
 ///
 /// It can't be cloned or copied. To a contract it is its number and its count.
-///
-/// Source: this crate's own.
 #[derive(Drop)]
 pub struct Seat<R: Ledger> {
     number: usize,
@@ -33,8 +31,6 @@ impl<R: Ledger> Model for Seat<R> {
 
 impl<R: Ledger> Seat<R> {
     /// The seat's number, from 0.
-    ///
-    /// Source: this crate's own.
     pub fn number(&self) -> usize
         ensures { result ≡ self.now.number }
     {
@@ -42,8 +38,6 @@ impl<R: Ledger> Seat<R> {
     }
 
     /// How many calls of the seat were answered.
-    ///
-    /// Source: this crate's own.
     pub fn count(&self) -> usize
         ensures { result ≡ self.now.count }
     {

@@ -2,8 +2,7 @@
 ghost use Rattle.std.specs.Prelude.{◌≡◌};
 
 use crate::row::{Answer, Asked, Row, placed};
-use async_broadcast::Call;
-use async_broadcast::record::{Journal, Log, Named, Note, Seat};
+use bcast_record::{Call, Journal, Log, Named, Note, Seat};
 use std::alloc::{AllocError, Global};
 use std::marker::Brand;
 use std::sync::ledger::Blank;

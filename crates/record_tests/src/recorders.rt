@@ -2,8 +2,7 @@
 ghost use Rattle.std.specs.Prelude.{◌≡◌};
 
 use crate::row::{Answer, Asked, Row, row_of};
-use async_broadcast::Call;
-use async_broadcast::record::{Finished, Journal, Named, Note, Receipt, Recorder, Seat};
+use bcast_record::{Call, Finished, Journal, Named, Note, Receipt, Recorder, Seat};
 use std::alloc::{AllocError, Global};
 use std::marker::Brand;
 use std::sync::Wait;

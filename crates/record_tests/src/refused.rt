@@ -2,8 +2,7 @@
 ghost use Rattle.std.specs.Prelude.{◌≡◌};
 
 use crate::row::{Answer, Asked, Row, placed};
-use async_broadcast::record::{Journal, Log, Named, Note, Seat};
-use async_broadcast::{Call, NoMemory};
+use bcast_record::{Call, Journal, Log, Named, NoMemory, Note, Seat};
 use linked_list_allocator::LocalHeap;
 use std::alloc::AllocError;
 use std::marker::Brand;

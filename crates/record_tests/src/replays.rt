@@ -2,8 +2,7 @@
 ghost use Rattle.std.specs.Prelude.{◌≡◌};
 
 use crate::row::answer_of;
-use async_broadcast::Call;
-use async_broadcast::record::{Finished, Journal, Named, Note, Recorder, Seat, run};
+use bcast_record::{Call, Finished, Journal, Named, Note, Recorder, Seat, run};
 use std::alloc::{AllocError, Global};
 use std::marker::Brand;
 use std::sync::Wait;

@@ -1,6 +1,5 @@
 //! What is seen of an entry, as a value that compares.
-use async_broadcast::record::{Entry, Named, Receipt};
-use async_broadcast::{Call, NoMemory, Reply, TryRecvError, TrySendError};
+use bcast_record::{Call, Entry, Named, NoMemory, Receipt, Reply, TryRecvError, TrySendError};
 
 /// A call that the tests make.
 #[derive(Clone, Copy, PartialEq, Eq)]

@@ -8,7 +8,7 @@ pub struct Keeping;
 impl<X> Rule<Option<X>, u64> for Keeping {
     ghost use Rattle.std.specs.Prelude.{[]};
     ghost use base.Fml.{ftrue};
-    ghost use Rattle.bcast_journal.specs.Book.{IsKept};
+    ghost use Rattle.bcast_record.specs.Book.{IsKept};
 
     ghost holds = { λ cells pages. IsKept cells pages };
 
@@ -36,7 +36,7 @@ impl<X> Gain<Option<X>, u64> for NoGain {
 pub struct Reserve;
 
 impl<X> Play<Option<X>, u64> for Reserve {
-    ghost use Rattle.bcast_journal.specs.Book.{Reserves};
+    ghost use Rattle.bcast_record.specs.Book.{Reserves};
 
     ghost then = { Reserves };
 }
@@ -45,7 +45,7 @@ impl<X> Play<Option<X>, u64> for Reserve {
 pub struct Write;
 
 impl<X> Play<Option<X>, u64> for Write {
-    ghost use Rattle.bcast_journal.specs.Book.{Writes};
+    ghost use Rattle.bcast_record.specs.Book.{Writes};
 
     ghost then = { Writes };
 }

@@ -1,8 +1,8 @@
 use Rattle.std.proofs.Common.{◌≡◌, false, [], ◌∷◌, ◌++◌, length, sym, ◌∙◌, ap}
-use Rattle.bcast_journal.specs.Content.{content_of, has_end, with_page}
-use Rattle.bcast_journal.proofs.Pages.{length-notes_on, content_of-push}
-use Rattle.bcast_journal.proofs.Steps.{write_moves}
-use Rattle.bcast_journal.proofs.journal.Prefix.write.Goals as goal
+use Rattle.bcast_record.specs.Content.{content_of, has_end, with_page}
+use Rattle.bcast_record.proofs.Pages.{length-notes_on, content_of-push}
+use Rattle.bcast_record.proofs.Steps.{write_moves}
+use Rattle.bcast_record.proofs.journal.Prefix.write.Goals as goal
 
 pub compare_exchange-requires : goal.compare_exchange-requires
 compare_exchange-requires g c =

@@ -1,8 +1,8 @@
 use Rattle.std.proofs.Common.{◌≡◌, true, slice_get, sym, ◌∙◌, ap, subst}
 use mathlib.Core.List.{IsPrefix}
-use Rattle.bcast_journal.specs.Content.{has_end}
-use Rattle.bcast_journal.proofs.Pages.{found_before_end}
-use Rattle.bcast_journal.proofs.journal.Prefix.compare.Goals as goal
+use Rattle.bcast_record.specs.Content.{has_end}
+use Rattle.bcast_record.proofs.Pages.{found_before_end}
+use Rattle.bcast_record.proofs.journal.Prefix.compare.Goals as goal
 
 pub returns : goal.returns
 returns g c = λ number note at.

@@ -1,7 +1,7 @@
 -- What a prefix has after one page more, and beside another prefix.
 use Rattle.std.proofs.Common.{◌≡◌, ℕ, zero, suc, true, false, Option, Some, None, List, [], ◌∷◌, ◌++◌, length, slice_get, refl, ap}
 use mathlib.Core.List.{IsPrefix}
-use Rattle.bcast_journal.specs.Content.{content_of, with_page, notes_on, has_end, ends_well}
+use Rattle.bcast_record.specs.Content.{content_of, with_page, notes_on, has_end, ends_well}
 
 module _ {X : Type 0} where
   pub ends_well-push : (pages : List (Option X)) (page : Option X) → has_end pages ≡ false → ends_well (pages ++ page ∷ []) ≡ true

@@ -1,7 +1,7 @@
 -- The book behind a journal. Its log are the journal's pages, and its cells the slots for them.
 use Rattle.std.specs.Prelude.{ℕ, suc, zero, ◌≡◌, ◌==◌, ◌≤◌, true, false, Option, List, [], ◌∷◌, ◌++◌, length, MatchBool}
 use Rattle.logbook.specs.Pages.{Cell, Step, View, Book, Named, Nib, nib, may_make, may_write}
-use Rattle.bcast_journal.specs.Content.{ends_well}
+use Rattle.bcast_record.specs.Content.{ends_well}
 
 -- so many slots, of which the first ones are written
 abbrev pub slots : ℕ → ℕ → List Cell

@@ -1,7 +1,11 @@
-//! A journal with its one writer, and its prefixes.
+//! A journal: a list that only grows, so that whoever knows a prefix of it knows it for good.
+//!
+//! A journal exists for proofs: at run time a prefix takes no memory. One writer appends notes, and
+//! may end the journal. A prefix goes to any thread; beside the prefix that has the end, what it
+//! notes stands there too, at the same place.
 ghost use Rattle.std.specs.Prelude.{◌≡◌, ℕ, ◌+◌, ◌<◌, ◌^◌, ◌++◌, ◌∷◌, [], false, true, length, Some, IfSome, slice_get};
-ghost use Rattle.bcast_journal.specs.Book.{head_of};
-ghost use Rattle.bcast_journal.specs.Content.{so_far, ended, with_page};
+ghost use Rattle.bcast_record.specs.Book.{head_of};
+ghost use Rattle.bcast_record.specs.Content.{so_far, ended, with_page};
 
 use crate::rule::{Keeping, NoGain, Reserve, Write};
 use logbook::{Offer, Pen, Seen, Start, Word};
@@ -11,8 +15,6 @@ use std::sync::ledger::Ledger;
 
 /// Names a journal in the types of all that belongs to it. A program picks the name, by `Brand`, at
 /// the call of a function over it.
-///
-/// Source: this crate's own.
 pub trait Named: Ledger {
     ghost use Rattle.logbook.specs.Pages.{Book};
 
@@ -24,8 +26,6 @@ impl Named for Brand {
 }
 
 /// A journal without notes, which has no name yet. To a contract it is its book.
-///
-/// Source: this crate's own.
 #[derive(Drop)]
 pub struct Journal<X> {
     head: Word<Option<X>, u64, Keeping>,
@@ -35,7 +35,7 @@ pub struct Journal<X> {
 impl<X> Model for Journal<X> {
     ghost use Rattle.std.specs.Prelude.{◌≡◌, []};
     ghost use Rattle.logbook.specs.Pages.{Book, book_coded};
-    ghost use Rattle.bcast_journal.specs.Book.{head_of};
+    ghost use Rattle.bcast_record.specs.Book.{head_of};
 
     ghost Value = { Book };
 
@@ -48,8 +48,6 @@ impl<X> Model for Journal<X> {
 
 impl<X: Drop> Journal<X> {
     /// A journal of its own.
-    ///
-    /// Source: this crate's own.
     pub fn new() -> Journal<X> {
         let (seen, mut first, _second) = Seen::open(Start::alone(), 0, 0);
         Journal {
@@ -61,9 +59,7 @@ impl<X: Drop> Journal<X> {
     /// The journal's writer, under the journal's name.
     ///
     /// `None` never comes: only the writer reserves slots. No clause says so.
-    ///
-    /// Source: this crate's own.
-    pub fn into_writer<J: Named>(self) -> Option<Writer<X, J>>
+    pub(crate) fn into_writer<J: Named>(self) -> Option<Writer<X, J>>
         requires { self ≡ J.book }
         ensures { IfSome result (λ writer. writer ≡ []) }
     {
@@ -78,10 +74,8 @@ impl<X: Drop> Journal<X> {
 }
 
 /// The right to write one note. To a contract it is the note's number.
-///
-/// Source: this crate's own.
 #[derive(Drop)]
-pub struct Slot<J: Named> {
+pub(crate) struct Slot<J: Named> {
     number: u64,
     pen: Pen,
     of: PhantomData<J>,
@@ -89,7 +83,7 @@ pub struct Slot<J: Named> {
 
 impl<J: Named> Model for Slot<J> {
     ghost use Rattle.std.specs.Prelude.{◌≡◌, ℕ};
-    ghost use Rattle.bcast_journal.specs.Book.{pen_at};
+    ghost use Rattle.bcast_record.specs.Book.{pen_at};
 
     ghost Value = { ℕ };
 
@@ -99,17 +93,15 @@ impl<J: Named> Model for Slot<J> {
 }
 
 /// A prefix of a journal: its first notes, and whether it has ended.
-///
-/// Source: this crate's own.
 #[derive(Drop)]
-pub struct Prefix<X, J: Named> {
+pub(crate) struct Prefix<X, J: Named> {
     seen: Seen<Option<X>, u64, Keeping>,
     of: PhantomData<J>,
 }
 
 impl<X, J: Named> Model for Prefix<X, J> {
     ghost use Rattle.std.specs.Prelude.{◌≡◌, true};
-    ghost use Rattle.bcast_journal.specs.Content.{Content, content_of, ends_well};
+    ghost use Rattle.bcast_record.specs.Content.{Content, content_of, ends_well};
 
     ghost Value = { Content X };
 
@@ -120,9 +112,7 @@ impl<X, J: Named> Model for Prefix<X, J> {
 
 impl<X: Drop, J: Named> Prefix<X, J> {
     /// The same prefix.
-    ///
-    /// Source: this crate's own.
-    pub fn same(&self) -> Prefix<X, J>
+    pub(crate) fn same(&self) -> Prefix<X, J>
         ensures { result ≡ self.now }
     {
         Prefix {
@@ -133,9 +123,7 @@ impl<X: Drop, J: Named> Prefix<X, J> {
 
     /// Compares this prefix, which has the end, with another of the same journal: what the other
     /// notes stands here too, at the same place.
-    ///
-    /// Source: this crate's own.
-    pub fn compare(&self, other: &Prefix<X, J>)
+    pub(crate) fn compare(&self, other: &Prefix<X, J>)
         requires { self.now.ended ≡ true }
         ensures { (number : ℕ) (note : X) → slice_get other.now.notes number ≡ Some note
             → slice_get self.now.notes number ≡ Some note }
@@ -195,10 +183,8 @@ impl<X: Drop, J: Named> Prefix<X, J> {
 
 /// Writes a journal: it has the slot for the next note, or for the end. To a contract it is the notes
 /// so far.
-///
-/// Source: this crate's own.
 #[derive(Drop)]
-pub struct Writer<X, J: Named> {
+pub(crate) struct Writer<X, J: Named> {
     head: Word<Option<X>, u64, Keeping>,
     slot: Slot<J>,
     prefix: Prefix<X, J>,
@@ -206,7 +192,7 @@ pub struct Writer<X, J: Named> {
 
 impl<X, J: Named> Model for Writer<X, J> {
     ghost use Rattle.std.specs.Prelude.{◌≡◌, List, false, length};
-    ghost use Rattle.bcast_journal.specs.Book.{head_of};
+    ghost use Rattle.bcast_record.specs.Book.{head_of};
 
     ghost Value = { List X };
 
@@ -221,9 +207,7 @@ impl<X: Drop, J: Named> Writer<X, J> {
     /// The slot for the note after the next.
     ///
     /// `None` never comes: only the writer reserves slots. No clause says so.
-    ///
-    /// Source: this crate's own.
-    pub fn reserve(&self) -> Option<Slot<J>>
+    pub(crate) fn reserve(&self) -> Option<Slot<J>>
         requires { length self.now < 2 ^ 61 }
         ensures { IfSome result (λ slot. slot ≡ length self.now + 1) }
     {
@@ -231,9 +215,7 @@ impl<X: Drop, J: Named> Writer<X, J> {
     }
 
     /// Appends a note. `next` is the slot for the note after it.
-    ///
-    /// Source: this crate's own.
-    pub fn append(&mut self, next: Slot<J>, note: X)
+    pub(crate) fn append(&mut self, next: Slot<J>, note: X)
         requires { next ≡ length self.old + 1 }
         ensures { self.new ≡ self.old ++ note ∷ [] }
     {
@@ -242,18 +224,14 @@ impl<X: Drop, J: Named> Writer<X, J> {
     }
 
     /// All notes so far, as a prefix.
-    ///
-    /// Source: this crate's own.
-    pub fn prefix(&self) -> Prefix<X, J>
+    pub(crate) fn prefix(&self) -> Prefix<X, J>
         ensures { result ≡ so_far self.now }
     {
         self.prefix.same()
     }
 
     /// Ends the journal. No note comes after these.
-    ///
-    /// Source: this crate's own.
-    pub fn end(self) -> Prefix<X, J>
+    pub(crate) fn end(self) -> Prefix<X, J>
         ensures { result ≡ ended self }
     {
         let Writer {

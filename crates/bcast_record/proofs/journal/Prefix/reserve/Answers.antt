@@ -1,6 +1,6 @@
 use Rattle.std.proofs.Common.{sym, ◌∙◌, ap}
-use Rattle.bcast_journal.proofs.Steps.{reserve_moves}
-use Rattle.bcast_journal.proofs.journal.Prefix.reserve.Goals as goal
+use Rattle.bcast_record.proofs.Steps.{reserve_moves}
+use Rattle.bcast_record.proofs.journal.Prefix.reserve.Goals as goal
 
 pub compare_exchange-found-requires : goal.compare_exchange-found-requires
 compare_exchange-found-requires g c =

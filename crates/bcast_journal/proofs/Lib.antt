@@ -1,3 +1,0 @@
-pub mod Pages
-pub mod Prefixes
-pub mod Steps
