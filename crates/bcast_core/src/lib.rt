@@ -10,7 +10,7 @@ mod snapshot;
 mod state;
 mod steps;
 
-pub use bcast_event::notice::{Notice, Silent};
+pub use bcast_waiting::notice::{Notice, Silent};
 pub use bcast_model::error::{
     HandleError, NoMemory, RecvError, SendError, TryRecvError, TrySendError,
 };

@@ -3,7 +3,7 @@ ghost use Rattle.std.specs.Prelude.{◌≡◌, ◌==◌, ◌^◌, ◌+◌, ◌-�
 ghost use Rattle.std.specs.FinMap.{len};
 ghost use Rattle.bcast_model.specs.History.{opening};
 
-use bcast_event::notice::Notice;
+use bcast_waiting::notice::Notice;
 use bcast_store::Store;
 use bcast_waiting::{ReceiveList, SendList};
 use std::alloc::{AllocError, Allocator, Global};

@@ -4,7 +4,7 @@ ghost use Rattle.std.specs.FinMap.{len};
 ghost use Rattle.bcast_model.specs.History.{opening};
 
 use crate::parts::Parts;
-use bcast_event::notice::Notice;
+use bcast_waiting::notice::Notice;
 use std::alloc::{AllocError, Allocator, Global};
 use std::marker::Model;
 

@@ -13,7 +13,7 @@ ghost use Rattle.bcast_model.specs.Deliveries.{AtEachPoint, AreAllExact};
 ghost use Rattle.bcast_core.specs.Sure.{is_receive_refused};
 
 use crate::state::Inner;
-use bcast_event::notice::{Notice, Silent};
+use bcast_waiting::notice::{Notice, Silent};
 use bcast_model::run::{Call, Reply};
 use std::alloc::{Allocator, Global};
 

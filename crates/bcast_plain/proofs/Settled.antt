@@ -24,7 +24,7 @@ some_entry : (es : List (ℕ × ℕ)) → 0 < length es → (key : ℕ) × (curs
 some_entry [] h = absurd (omega arith)
 some_entry (e ∷ es) h = (e.0, e.1, find_head e es)
 
--- a receiver, where there is one
+-- a receiver, if there is one
 some_cursor : (m : Cursors) → 0 < len m → (key : ℕ) × (cursor : ℕ) × (get m key ≡ Some cursor)
 some_cursor m h = let r = some_entry (entries m) (let n = len-entries m in omega (arith, n)) in (r.0, r.1, get-entries m r.0 ∙ r.2)
 

@@ -13,19 +13,15 @@ use std::marker::Model;
 mod messages;
 mod readers;
 mod receivers;
-#[cfg(test)]
-mod tests;
 
 /// The messages that a channel keeps, and the cursors of its receivers, as `bcast_store::Store`
 /// promises them, without counts.
 ///
-/// A reference to compare with: each call takes time by the number of receivers and of messages, and
-/// each receiver gets a key that none ever had.
-///
-/// Source: this crate's own.
+/// A reference to compare with: each call takes time by the number of receivers and of messages,
+/// and each receiver gets a key that none ever had.
 #[derive(Drop)]
 pub struct Store<T, A: Allocator = Global> {
-    // The number of the first message, or of the next one where there is none.
+    // The number of the first message, or of the next one if there is none.
     front: u64,
     messages: Vec<T, A>,
     // The key and the cursor of each receiver, in the order of their making.
@@ -47,7 +43,8 @@ impl<T, A: Allocator> Model for Store<T, A> {
 
     ghost view = { λ s. store_of s.front s.messages.items s.receivers.items s.room };
 
-    ghost invariant = { λ s. IsSound s.front s.messages.items s.receivers.items s.made s.room (vec_capacity s.messages) };
+    ghost invariant = { λ s. IsSound s.front s.messages.items s.receivers.items
+        s.made s.room (vec_capacity s.messages) };
 }
 
 impl<T: Drop, A: Allocator + Copy> Store<T, A> {
@@ -58,9 +55,7 @@ impl<T: Drop, A: Allocator + Copy> Store<T, A> {
     ///
     /// # Errors
     ///
-    /// - `AllocError`: there is no memory for `room` messages or for the receiver.
-    ///
-    /// Source: this crate's own.
+    /// - `AllocError`: memory is refused for `room` messages or for the receiver.
     pub fn new(alloc: A, first: u64, room: usize) -> Result<(Self, usize), AllocError>
         requires room { 0 < room }
         requires number { first + 1 < 2 ^ 64 }
@@ -85,17 +80,13 @@ impl<T: Drop, A: Allocator + Copy> Store<T, A> {
     }
 
     /// Says what holds of every store, to a proof that needs it. Does nothing.
-    ///
-    /// Source: this crate's own.
-    pub fn known(&self)
+    pub fn invariant_holds(&self)
         ensures { IsSettled self.now }
     {
         let _ = &self.front;
     }
 
-    /// The number of the first message, or of the next one where there is none.
-    ///
-    /// Source: this crate's own.
+    /// The number of the first message, or of the next one if there is none.
     pub fn front(&self) -> u64
         ensures { result ≡ self.now.front }
     {
@@ -103,8 +94,6 @@ impl<T: Drop, A: Allocator + Copy> Store<T, A> {
     }
 
     /// The number that the next message gets.
-    ///
-    /// Source: this crate's own.
     pub fn end(&self) -> u64
         ensures { result ≡ end_of self.now }
     {
@@ -112,8 +101,6 @@ impl<T: Drop, A: Allocator + Copy> Store<T, A> {
     }
 
     /// How many messages there are.
-    ///
-    /// Source: this crate's own.
     pub fn len(&self) -> usize
         ensures { result ≡ length self.now.queue }
     {
@@ -121,8 +108,6 @@ impl<T: Drop, A: Allocator + Copy> Store<T, A> {
     }
 
     /// Whether there is no message.
-    ///
-    /// Source: this crate's own.
     pub fn is_empty(&self) -> bool
         ensures { result ≡ (length self.now.queue == 0) }
     {
@@ -130,8 +115,6 @@ impl<T: Drop, A: Allocator + Copy> Store<T, A> {
     }
 
     /// How many messages fit.
-    ///
-    /// Source: this crate's own.
     pub fn room(&self) -> usize
         ensures { result ≡ self.now.room }
     {
@@ -139,8 +122,6 @@ impl<T: Drop, A: Allocator + Copy> Store<T, A> {
     }
 
     /// How many receivers there are.
-    ///
-    /// Source: this crate's own.
     pub fn receivers(&self) -> usize
         ensures { result ≡ len self.now.cursors }
     {
@@ -148,27 +129,21 @@ impl<T: Drop, A: Allocator + Copy> Store<T, A> {
     }
 
     /// Whether there is no receiver.
-    ///
-    /// Source: this crate's own.
     pub fn has_no_receiver(&self) -> bool
         ensures { result ≡ (len self.now.cursors == 0) }
     {
         self.receivers() == 0
     }
 
-    /// The cursor of the receiver `key`, or nothing where there is no such receiver.
-    ///
-    /// Source: this crate's own.
+    /// The cursor of the receiver `key`, or nothing if there is no such receiver.
     pub fn cursor(&self, key: usize) -> Option<u64>
         ensures { result ≡ get self.now.cursors key }
     {
         receivers::cursor_of(self.receivers.as_slice(), key)
     }
 
-    /// The message at `index`, or nothing where the queue ends before it. No receiver has read it
+    /// The message at `index`, or nothing if the queue ends before it. No receiver has read it
     /// by this.
-    ///
-    /// Source: this crate's own.
     pub fn get(&self, index: usize) -> Option<&T>
         ensures { option_copied result ≡ slice_get self.now.queue index }
     {
@@ -179,9 +154,7 @@ impl<T: Drop, A: Allocator + Copy> Store<T, A> {
     ///
     /// # Errors
     ///
-    /// - `AllocError`: there is no memory for the list.
-    ///
-    /// Source: this crate's own.
+    /// - `AllocError`: memory is refused for the list.
     pub fn cursors<B: Allocator>(&self, alloc: B) -> Result<Vec<(usize, u64), B>, AllocError>
         ensures { IfOk result (λ cursors. cursors.items ≡ entries self.now.cursors) }
     {

@@ -18,8 +18,6 @@ pub fn drop_messages<T: Drop, A: Allocator>(messages: &mut Vec<T, A>, count: usi
 
 impl<T: Drop, A: Allocator + Copy> Store<T, A> {
     /// Puts `msg` last, for every receiver. Takes no memory.
-    ///
-    /// Source: this crate's own.
     pub fn push(&mut self, msg: T)
         requires someone { 0 < len self.old.cursors }
         requires room { length self.old.queue < self.old.room }
@@ -29,10 +27,8 @@ impl<T: Drop, A: Allocator + Copy> Store<T, A> {
         self.messages.push_reserved(msg);
     }
 
-    /// Takes the first message out, whoever is still to read it, or gives nothing where there is
-    /// none.
-    ///
-    /// Source: this crate's own.
+    /// Takes the first message out, whoever is still to read it, or returns nothing if there
+    /// is none.
     pub fn pop(&mut self) -> Option<T>
         ensures oldest { IfSome result (λ msg. self.old.queue ≡ msg ∷ self.new.queue) }
         ensures rest { OnSome result (self.new ≡ record self.old {
@@ -52,8 +48,6 @@ impl<T: Drop, A: Allocator + Copy> Store<T, A> {
     }
 
     /// Takes the first `count` messages out, whoever is still to read them, and drops them.
-    ///
-    /// Source: this crate's own.
     pub fn drop_first(&mut self, count: usize)
         requires { count ≤ length self.old.queue }
         ensures { self.new ≡ record self.old {
@@ -69,9 +63,7 @@ impl<T: Drop, A: Allocator + Copy> Store<T, A> {
     ///
     /// # Errors
     ///
-    /// - `AllocError`: there is no memory for `room` messages. The store is unchanged.
-    ///
-    /// Source: this crate's own.
+    /// - `AllocError`: memory is refused for `room` messages. The store is unchanged.
     pub fn grow(&mut self, room: usize) -> Result<(), AllocError>
         requires { self.old.room ≤ room }
         ensures ok { OnOk result (self.new ≡ record self.old { room = room }) }

@@ -11,8 +11,6 @@ use std::alloc::{AllocError, Allocator};
 
 impl<T: Drop, A: Allocator + Copy> Store<T, A> {
     /// Lets the receiver `key`, which lags, go on at the front. Takes no memory.
-    ///
-    /// Source: this crate's own.
     pub fn skip(&mut self, key: usize)
         requires lags { IsSomeAnd (map.get self.old.cursors key) (λ c. c < self.old.front) }
         ensures { self.new ≡ record self.old {
@@ -26,10 +24,8 @@ impl<T: Drop, A: Allocator + Copy> Store<T, A> {
     ///
     /// # Errors
     ///
-    /// - `AllocError`: there is no memory for one more receiver, or no key is left. The store is
+    /// - `AllocError`: memory is refused for one more receiver, or no key is left. The store is
     ///   unchanged.
-    ///
-    /// Source: this crate's own.
     pub fn add(&mut self, cursor: u64) -> Result<usize, AllocError>
         requires { cursor ≤ end_of self.old }
         ensures free { IfOk result (λ key. map.get self.old.cursors key ≡ None) }
@@ -50,8 +46,6 @@ impl<T: Drop, A: Allocator + Copy> Store<T, A> {
 
     /// Takes the receiver `key` out, drops the messages that nobody is to read any more, and says
     /// whether there was such a receiver. Takes no memory.
-    ///
-    /// Source: this crate's own.
     pub fn remove(&mut self, key: usize) -> bool
         ensures found { result ≡ map.contains_key self.old.cursors key }
         ensures rest { self.new ≡ (if result
@@ -73,16 +67,14 @@ impl<T: Drop, A: Allocator + Copy> Store<T, A> {
 impl<T: Clone, A: Allocator + Copy> Store<T, A> {
     /// Gives the receiver `key` the message numbered `number`, and lets it go on after it.
     ///
-    /// `number` is the receiver's cursor, or the front where it lags. The message given is the message
-    /// itself, which goes, where this receiver is the last to read it, and else a clone. Takes what
-    /// memory the clone takes.
+    /// `number` is the receiver's cursor, or the front if it lags. The message given is the message
+    /// itself, which leaves the queue, if this receiver is the last to read it, and else a clone.
+    /// Takes what memory the clone takes.
     ///
     /// # Errors
     ///
-    /// - `AllocError`: another receiver is to read the message too, and there is no memory for a
+    /// - `AllocError`: another receiver is to read the message too, and memory is refused for a
     ///   clone. The store is unchanged.
-    ///
-    /// Source: this crate's own.
     pub fn read(&mut self, key: usize, number: u64) -> Result<T, AllocError>
         requires at { IsSomeAnd (map.get self.old.cursors key)
             (λ cursor. number ≡ max cursor self.old.front) }

@@ -52,7 +52,7 @@ pub above_front : (ns : List ℕ) → RisesFrom 1 ns → RisesFrom 2 (drop (pref
 above_front [] r = tt
 above_front (n ∷ ns) r = head_above n ns r (above_front ns (RisesFrom-rest 1 n ns r)) (owed_once n) refl
 
--- where the front is owed once
+-- if the front is owed once
 pub one_owed_once : (ns : List ℕ) → slice_get ns 0 ≡ Some 1 → prefix_len owed_once ns ≡ 1 + prefix_len owed_once (drop 1 ns)
 one_owed_once [] once = absurd (none-some 1 once)
 one_owed_once (n ∷ ns) once =

@@ -40,7 +40,7 @@ get_or-lowered (suc i) (n ∷ ns) (suc j) h some =
 count_cons : (n : ℕ) (ns : List ℕ) → count_by nobody (n ∷ ns) ≡ cond (eqb n 0) 1 0 + count_by nobody ns
 count_cons n ns = sum_by-cons (λ m. cond (nobody m) 1 0) n ns
 
--- where none is 0 from m on, at most m are
+-- if none is 0 from m on, at most m are
 few_gone : (m : ℕ) (ns : List ℕ) → ((i : ℕ) → m ≤ i → i < length ns → 1 ≤ get_or ns i 0) → count_by nobody ns ≤ m
 few_gone m [] some = omega arith
 few_gone zero (n ∷ ns) some =
@@ -53,7 +53,7 @@ few_gone (suc m) (n ∷ ns) some =
     let e = count_cons n ns in
     grind (arith, common_steps, r, e)
 
--- and where as many are, it is those before m
+-- and if as many are, it is those before m
 pub gone_before : (m : ℕ) (ns : List ℕ) → m ≤ count_by nobody ns → ((i : ℕ) → m ≤ i → i < length ns → 1 ≤ get_or ns i 0) → (i : ℕ) → i < m → get_or ns i 0 ≡ 0
 gone_before zero ns many some i h = absurd (omega arith)
 gone_before (suc m) [] many some i h = absurd (omega arith)

@@ -45,7 +45,7 @@ module _ {X : Type 0} where
   left_behind : (i : ℕ) (q : Queued X) → RisesFrom 1 (lowered i q.owed) → record q { owed = lowered i q.owed } ≡ left i q
   left_behind i q rises = sym (without_none (record q { owed = lowered i q.owed }) _ (none_gone 1 (lowered i q.owed) (omega arith) rises))
 
-  -- where a reader that leaves may be taken away from the index i on, and what that makes of the queue
+  -- when a reader that leaves may be taken away from the index i on, and what that makes of the queue
   pub record IsReady (q : Queued X) (i : ℕ) (p : Queued X) : Type 0 where
     pub within : i ≤ length p.messages
     pub owed : i < length p.messages → get_or (1 ∷ p.owed) i 0 < get_or p.owed i 0
@@ -87,7 +87,7 @@ pub on_err : {A E : Type 0} (r : Result A E) (P : Type 0) → P → OnErr r P
 on_err (Ok x) P p = tt
 on_err (Err e) P p = p
 
--- what is said of a clone, where there is one and where it was refused
+-- what is said of a clone, if there is one and if it was refused
 pub cloned_ok : {A : Type 0} (C : A → A → Type 0) (o : Option A) (x y : A) → o ≡ Some x → C x y → IsSomeAnd o (λ m. C m y)
 cloned_ok C o x y is clone = rw is clone
 

@@ -12,8 +12,6 @@ use std::alloc::{AllocError, Allocator, Global};
 use std::marker::Model;
 
 mod readers;
-#[cfg(test)]
-mod tests;
 
 /// A ring of messages, each with the number of readers that still owe it a read.
 ///
@@ -21,11 +19,11 @@ mod tests;
 /// message at index `i` has the number `front + i`. A count is at least 1, and at least that of the
 /// message before it. `room` is how many messages fit.
 ///
-/// Source: this crate's own, for `Inner::queue` and `Inner::head_pos` of async-broadcast 0.7.2.
+/// Source: `Inner::queue` and `Inner::head_pos` of async-broadcast 0.7.2.
 #[derive(Drop)]
 pub struct Queue<T, A: Allocator = Global> {
     ring: HeapCircularBuffer<Entry<T>, A>,
-    // The number of the first message, or of the next one where there is none.
+    // The number of the first message, or of the next one if there is none.
     front: u64,
 }
 
@@ -58,9 +56,9 @@ impl<T, A: Allocator> Queue<T, A> {
     ///
     /// # Errors
     ///
-    /// - `AllocError`: there is no memory for `room` messages.
+    /// - `AllocError`: memory is refused for `room` messages.
     ///
-    /// Source: this crate's own, for the queue that `broadcast` of async-broadcast makes.
+    /// Source: the queue that `broadcast` of async-broadcast makes.
     pub fn new(alloc: A, first: u64, room: usize) -> Result<Queue<T, A>, AllocError>
         requires { 0 < room }
         ensures { IfOk result (λ q. q ≡ queued first [] [] room) }
@@ -70,9 +68,7 @@ impl<T, A: Allocator> Queue<T, A> {
     }
 
     /// What holds of every queue, for a proof that needs it. Does nothing.
-    ///
-    /// Source: this crate's own.
-    pub fn known(&self)
+    pub fn invariant_holds(&self)
         ensures lengths { length self.now.owed ≡ length self.now.messages }
         ensures owed { All (λ n. 1 ≤ n) self.now.owed }
         ensures never_falls { IsNonDecreasing self.now.owed }
@@ -84,7 +80,7 @@ impl<T, A: Allocator> Queue<T, A> {
 
     /// How many messages there are.
     ///
-    /// Source: this crate's own, for `queue.len()` of async-broadcast.
+    /// Source: `queue.len()` of async-broadcast.
     pub fn len(&self) -> usize
         ensures { result ≡ length self.now.messages }
     {
@@ -93,16 +89,16 @@ impl<T, A: Allocator> Queue<T, A> {
 
     /// Whether there is no message.
     ///
-    /// Source: this crate's own, for `queue.is_empty()` of async-broadcast.
+    /// Source: `queue.is_empty()` of async-broadcast.
     pub fn is_empty(&self) -> bool
         ensures { IsTrue result ↔ (self.now.messages ≡ []) }
     {
         self.ring.is_empty()
     }
 
-    /// The number of the first message, or of the next one where there is none.
+    /// The number of the first message, or of the next one if there is none.
     ///
-    /// Source: this crate's own, for `head_pos` of async-broadcast.
+    /// Source: `head_pos` of async-broadcast.
     pub fn front(&self) -> u64
         ensures { result ≡ self.now.front }
     {
@@ -111,16 +107,14 @@ impl<T, A: Allocator> Queue<T, A> {
 
     /// How many messages fit.
     ///
-    /// Source: this crate's own, for `queue.capacity()` of async-broadcast.
+    /// Source: `queue.capacity()` of async-broadcast.
     pub fn room(&self) -> usize
         ensures { result ≡ self.now.room }
     {
         self.ring.capacity()
     }
 
-    /// The message at `index`, or nothing where there are not so many. It is owed as before.
-    ///
-    /// Source: this crate's own.
+    /// The message at `index`, or nothing if there are not so many. It is owed as before.
     pub fn get(&self, index: usize) -> Option<&T>
         ensures { option_copied result ≡ slice_get self.now.messages index }
     {
@@ -134,9 +128,9 @@ impl<T, A: Allocator> Queue<T, A> {
     ///
     /// # Errors
     ///
-    /// - `AllocError`: there is no memory for `room` messages. The queue is unchanged.
+    /// - `AllocError`: memory is refused for `room` messages. The queue is unchanged.
     ///
-    /// Source: this crate's own, for `queue.reserve` in `set_capacity` of async-broadcast.
+    /// Source: `queue.reserve` in `set_capacity` of async-broadcast.
     pub fn grow(&mut self, room: usize) -> Result<(), AllocError>
     where
         A: Clone,
@@ -150,7 +144,7 @@ impl<T, A: Allocator> Queue<T, A> {
 
     /// Appends `msg`, to which `owing` readers owe a read. Takes no memory.
     ///
-    /// Source: this crate's own, for `queue.push_back` in `try_broadcast` of async-broadcast.
+    /// Source: `queue.push_back` in `try_broadcast` of async-broadcast.
     #[inline(always)]
     pub fn push(&mut self, msg: T, owing: usize)
         requires fits { length self.old.messages < self.old.room }
@@ -171,9 +165,9 @@ impl<T, A: Allocator> Queue<T, A> {
         }
     }
 
-    /// Takes the first message out, whoever owes it, or gives nothing where there is none.
+    /// Takes the first message out, whoever owes it, or returns nothing if there is none.
     ///
-    /// Source: this crate's own, for `queue.pop_front` in `try_broadcast` of async-broadcast.
+    /// Source: `queue.pop_front` in `try_broadcast` of async-broadcast.
     pub fn pop(&mut self) -> Option<T>
         ensures value { result ≡ slice_get self.old.messages 0 }
         ensures some { OnSome result (self.new ≡ without 1 self.old) }

@@ -14,7 +14,7 @@ impl<T, A: Allocator> Queue<T, A> {
     ///
     /// At an `index` that is the length it changes nothing.
     ///
-    /// Source: this crate's own, for the loop over `queue` in `Receiver::clone` of async-broadcast.
+    /// Source: the loop over `queue` in `Receiver::clone` of async-broadcast.
     pub fn share(&mut self, index: usize)
         requires within { index ≤ length self.old.messages }
         requires fits { ForSome (last_item self.old.owed) (λ n. n < usize.MAX) }
@@ -84,7 +84,7 @@ impl<T: Drop, A: Allocator> Queue<T, A> {
     ///
     /// At an `index` that is the length it changes nothing.
     ///
-    /// Source: this crate's own, for the reads in `drop` of a `Receiver` of async-broadcast.
+    /// Source: the reads in `drop` of a `Receiver` of async-broadcast.
     pub fn leave(&mut self, index: usize)
         requires within { index ≤ length self.old.messages }
         requires owed { 0 < index → index < length self.old.messages
@@ -101,17 +101,17 @@ impl<T: Drop, A: Allocator> Queue<T, A> {
 }
 
 impl<T: Clone, A: Allocator> Queue<T, A> {
-    /// Gives the message at `index` to one of its readers: a clone, or, where that reader is the
+    /// Gives the message at `index` to one of its readers: a clone, or, if that reader is the
     /// last, the message itself, which is the first one, and the front moves on.
     ///
     /// Takes the memory that the clone takes. The messages that stay are unchanged.
     ///
     /// # Errors
     ///
-    /// - `AllocError`: another reader owes the message too, and there is no memory for a clone. The
+    /// - `AllocError`: another reader owes the message too, and memory is refused for a clone. The
     ///   queue is unchanged.
     ///
-    /// Source: this crate's own, for `Inner::try_recv_at` of async-broadcast.
+    /// Source: `Inner::try_recv_at` of async-broadcast.
     pub fn read(&mut self, index: usize) -> Result<T, AllocError>
         requires within { index < length self.old.messages }
         requires owed { 0 < index

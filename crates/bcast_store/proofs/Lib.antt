@@ -1,3 +1,6 @@
+-- the map of a slab, and how many of its values pass a test
+pub mod CursorEntries
+pub mod CountValues
 -- numbers, and the cursors of a map
 pub mod Least
 pub mod Owing

@@ -8,8 +8,8 @@ use Rattle.std.specs.Prelude.{T, Option, IsSomeAnd}
 use Rattle.std.specs.Ordering.{nat_cmp}
 use Rattle.std.specs.Cmp.{nat_cmp_total, unsigned_tied}
 use Rattle.std.specs.FinMap.{get, insert, remove, len, entries, entries_sorted, find, is_sorted, get-entries, len-entries, len-insert, get-insert, get-remove}
-use Rattle.bcast_cursors.specs.Counts.{passes}
-use Rattle.bcast_cursors.proofs.Counts.{one_if, count_values-insert, count_values-remove}
+use Rattle.bcast_store.specs.CountValues.{passes}
+use Rattle.bcast_store.proofs.CountValues.{one_if, count_values-insert, count_values-remove}
 use Rattle.std.specs.FinMap.Entries.{below_all}
 use Rattle.bcast_model.specs.Control.{Cursors}
 use Rattle.bcast_store.specs.Sound.{owes, owing_at}

@@ -13,7 +13,7 @@ use Rattle.bcast_store.proofs.Owing.{owing-rises, owing-moved, owing-left, reach
 use Rattle.bcast_store.proofs.Counted.{IsCounted, owed_at}
 use Rattle.bcast_store.proofs.WithCursors.{with_cursors-queue}
 
--- the receiver reads the message of this number, at this index: that at its cursor, or the oldest where it lags
+-- the receiver reads the message of this number, at this index: that at its cursor, or the oldest if it lags
 pub record IsReading {T : Type 0} (q : Queued T) (cursors : Cursors) (key number i : ℕ) : Type 0 where
   pub cursor : ℕ
   pub at : get cursors key ≡ Some cursor

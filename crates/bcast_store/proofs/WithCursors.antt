@@ -11,7 +11,7 @@ use Rattle.bcast_store.proofs.Least.{least-greatest}
 use Rattle.bcast_store.proofs.Owing.{owes_counts}
 use Rattle.bcast_store.proofs.Counted.{IsCounted, front_met}
 
--- where nobody is still to read the message before `front`, every cursor is there or past it
+-- if nobody is still to read the message before `front`, every cursor is there or past it
 passed : (cursors : Cursors) (front end : ℕ) → front ≤ end → 0 < front → owing_at cursors (front - 1) ≡ 0 → front ≤ least end (values cursors)
 passed cursors front end within some none =
     least-greatest front end cursors within (λ key cursor at. elim (cases_lt cursor front) [

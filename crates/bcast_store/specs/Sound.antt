@@ -2,7 +2,7 @@
 use Rattle.std.specs.Prelude.{◌≡◌, ℕ, ◌+◌, ◌<◌, ◌≤◌, Bool, length, Some, get_or, nat_le}
 use Rattle.std.specs.FinMap.{get}
 use Rattle.bcast_model.specs.Control.{Cursors}
-use Rattle.bcast_cursors.specs.Counts.{count_values}
+use Rattle.bcast_store.specs.CountValues.{count_values}
 use Rattle.bcast_queue.specs.Queue.{Queued}
 use Rattle.bcast_store.specs.Stored.{Stored}
 
@@ -19,7 +19,8 @@ owes number cursor = nat_le cursor number
 unfoldable pub owing_at : Cursors → ℕ → ℕ
 owing_at cursors number = count_values (owes number) cursors
 
--- each count of the queue is the number of cursors at or under its message, and none is past the end
+-- each count of the queue is the number of cursors at or under its message, and none is past
+-- the end
 pub record IsSound {T : Type 0} (q : Queued T) (cursors : Cursors) : Type 0 where
   pub owed_by : (i : ℕ) → i < length q.messages → get_or q.owed i 0 ≡ owing_at cursors (q.front + i)
   pub reach : (key cursor : ℕ) → get cursors key ≡ Some cursor → cursor ≤ q.front + length q.messages

@@ -6,7 +6,8 @@ use Rattle.bcast_model.specs.History.{least}
 use Rattle.bcast_model.specs.Control.{Cursors}
 use Rattle.bcast_model.specs.Receiving.{IsOwedElsewhere}
 
--- the number of the first kept message, the kept messages, the receivers' cursors, and how many messages fit
+-- the number of the first kept message, the kept messages, the receivers' cursors, and how many
+-- messages fit
 pub record Stored (T : Type 0) : Type 0 where
   pub front : ℕ
   pub queue : List T
@@ -37,7 +38,8 @@ module _ {T : Type 0} where
   abbrev pub IsOwed : Stored T → ℕ → ℕ → Type 0
   IsOwed s key number = IsOwedElsewhere s.front (end_of s) s.cursors key (Some number)
 
-  -- what a receiver is given for the message of this number: the message itself; or a clone, where another receiver is still to read it
+  -- what a receiver is given for the message of this number: the message itself; or a clone, if
+  -- another receiver is still to read it
   abbrev pub IsHandedOut : (T → T → Type 0) → Stored T → ℕ → ℕ → T → Type 0
   IsHandedOut is_clone s key number given =
       (slice_get s.queue (number - s.front) ≡ Some given)

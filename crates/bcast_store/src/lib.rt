@@ -7,22 +7,22 @@ ghost use Rattle.std.specs.Option.{option_copied};
 ghost use Rattle.std.specs.FinMap.{empty, entries, get, insert, len};
 ghost use Rattle.bcast_store.specs.Stored.{IsSettled, end_of};
 
-use bcast_cursors::cursors::Cursors;
+use crate::cursors::Cursors;
 use bcast_queue::Queue;
 use std::alloc::{AllocError, Allocator, Global};
 use std::marker::Model;
 
+// Public only so that tests above can call it.
+pub mod cursors;
 mod readers;
-#[cfg(test)]
-mod tests;
 
 /// The messages that a channel keeps, and the cursors of its receivers.
 ///
 /// A message number counts all messages that were ever accepted, and an index the kept ones from
-/// the front. A cursor is the number of the message that a receiver reads next. A message goes
-/// once every receiver has read it. `room` is how many messages fit.
+/// the front. A cursor is the number of the message that a receiver reads next. A message leaves
+/// the queue once every receiver has read it. `room` is how many messages fit.
 ///
-/// Source: this crate's own, for `Inner::queue` and `Receiver::pos` of async-broadcast 0.7.2.
+/// Source: `Inner::queue` and `Receiver::pos` of async-broadcast 0.7.2.
 #[derive(Drop)]
 pub struct Store<T, A: Allocator = Global> {
     // Each message with the number of receivers that are still to read it.
@@ -52,9 +52,9 @@ impl<T: Drop, A: Allocator + Copy> Store<T, A> {
     ///
     /// # Errors
     ///
-    /// - `AllocError`: there is no memory for `room` messages or for the receiver.
+    /// - `AllocError`: memory is refused for `room` messages or for the receiver.
     ///
-    /// Source: this crate's own, for the parts that `broadcast` of async-broadcast makes.
+    /// Source: the parts that `broadcast` of async-broadcast makes.
     pub fn new(alloc: A, first: u64, room: usize) -> Result<(Self, usize), AllocError>
         requires room { 0 < room }
         requires number { first + 1 < 2 ^ 64 }
@@ -72,18 +72,16 @@ impl<T: Drop, A: Allocator + Copy> Store<T, A> {
     }
 
     /// Says what holds of every store, to a proof that needs it. Does nothing.
-    ///
-    /// Source: this crate's own.
-    pub fn known(&self)
+    pub fn invariant_holds(&self)
         ensures { IsSettled self.now }
     {
-        self.queue.known();
+        self.queue.invariant_holds();
         self.cursors.len();
     }
 
-    /// The number of the first message, or of the next one where there is none.
+    /// The number of the first message, or of the next one if there is none.
     ///
-    /// Source: this crate's own, for `head_pos` of async-broadcast.
+    /// Source: `head_pos` of async-broadcast.
     pub fn front(&self) -> u64
         ensures { result ≡ self.now.front }
     {
@@ -92,17 +90,17 @@ impl<T: Drop, A: Allocator + Copy> Store<T, A> {
 
     /// The number that the next message gets.
     ///
-    /// Source: this crate's own, for `head_pos + queue.len()` of async-broadcast.
+    /// Source: `head_pos + queue.len()` of async-broadcast.
     pub fn end(&self) -> u64
         ensures { result ≡ end_of self.now }
     {
-        self.queue.known();
+        self.queue.invariant_holds();
         self.queue.front() + self.queue.len() as u64
     }
 
     /// How many messages there are.
     ///
-    /// Source: this crate's own, for `queue.len()` of async-broadcast.
+    /// Source: `queue.len()` of async-broadcast.
     pub fn len(&self) -> usize
         ensures { result ≡ length self.now.queue }
     {
@@ -111,7 +109,7 @@ impl<T: Drop, A: Allocator + Copy> Store<T, A> {
 
     /// Whether there is no message.
     ///
-    /// Source: this crate's own, for `queue.is_empty()` of async-broadcast.
+    /// Source: `queue.is_empty()` of async-broadcast.
     pub fn is_empty(&self) -> bool
         ensures { result ≡ (length self.now.queue == 0) }
     {
@@ -120,7 +118,7 @@ impl<T: Drop, A: Allocator + Copy> Store<T, A> {
 
     /// How many messages fit.
     ///
-    /// Source: this crate's own, for `queue.capacity()` of async-broadcast.
+    /// Source: `queue.capacity()` of async-broadcast.
     pub fn room(&self) -> usize
         ensures { result ≡ self.now.room }
     {
@@ -138,14 +136,14 @@ impl<T: Drop, A: Allocator + Copy> Store<T, A> {
 
     /// Whether there is no receiver.
     ///
-    /// Source: this crate's own, for `receiver_count == 0` of async-broadcast.
+    /// Source: `receiver_count == 0` of async-broadcast.
     pub fn has_no_receiver(&self) -> bool
         ensures { result ≡ (len self.now.cursors == 0) }
     {
         self.cursors.is_empty()
     }
 
-    /// The cursor of the receiver `key`, or nothing where there is no such receiver.
+    /// The cursor of the receiver `key`, or nothing if there is no such receiver.
     ///
     /// Source: `Receiver::pos` of async-broadcast.
     pub fn cursor(&self, key: usize) -> Option<u64>
@@ -154,10 +152,8 @@ impl<T: Drop, A: Allocator + Copy> Store<T, A> {
         self.cursors.get(key)
     }
 
-    /// The message at `index`, or nothing where the queue ends before it. No receiver has read it
+    /// The message at `index`, or nothing if the queue ends before it. No receiver has read it
     /// by this.
-    ///
-    /// Source: this crate's own.
     pub fn get(&self, index: usize) -> Option<&T>
         ensures { option_copied result ≡ slice_get self.now.queue index }
     {
@@ -168,9 +164,7 @@ impl<T: Drop, A: Allocator + Copy> Store<T, A> {
     ///
     /// # Errors
     ///
-    /// - `AllocError`: there is no memory for the list.
-    ///
-    /// Source: this crate's own.
+    /// - `AllocError`: memory is refused for the list.
     pub fn cursors<B: Allocator>(&self, alloc: B) -> Result<Vec<(usize, u64), B>, AllocError>
         ensures { IfOk result (λ cursors. cursors.items ≡ entries self.now.cursors) }
     {
@@ -179,7 +173,7 @@ impl<T: Drop, A: Allocator + Copy> Store<T, A> {
 
     /// Puts `msg` last, for every receiver. Takes no memory.
     ///
-    /// Source: this crate's own, for `queue.push_back` in `try_broadcast` of async-broadcast.
+    /// Source: `queue.push_back` in `try_broadcast` of async-broadcast.
     #[inline(always)]
     pub fn push(&mut self, msg: T)
         requires someone { 0 < len self.old.cursors }
@@ -187,14 +181,14 @@ impl<T: Drop, A: Allocator + Copy> Store<T, A> {
         requires number { end_of self.old + 1 < 2 ^ 64 }
         ensures { self.new ≡ record self.old { queue = self.old.queue ++ msg ∷ [] } }
     {
-        self.queue.known();
+        self.queue.invariant_holds();
         self.queue.push(msg, self.cursors.len());
     }
 
-    /// Takes the first message out, whoever is still to read it, or gives nothing where there is
-    /// none.
+    /// Takes the first message out, whoever is still to read it, or returns nothing if there
+    /// is none.
     ///
-    /// Source: this crate's own, for `queue.pop_front` in `try_broadcast` of async-broadcast.
+    /// Source: `queue.pop_front` in `try_broadcast` of async-broadcast.
     pub fn pop(&mut self) -> Option<T>
         ensures oldest { IfSome result (λ msg. self.old.queue ≡ msg ∷ self.new.queue) }
         ensures rest { OnSome result (self.new ≡ record self.old {
@@ -205,13 +199,13 @@ impl<T: Drop, A: Allocator + Copy> Store<T, A> {
         ensures empty { IfNone result (self.old.queue ≡ []) }
         ensures none { IfNone result (self.new ≡ self.old) }
     {
-        self.queue.known();
+        self.queue.invariant_holds();
         self.queue.pop()
     }
 
     /// Takes the first `count` messages out, whoever is still to read them, and drops them.
     ///
-    /// Source: this crate's own, for the loop in `set_capacity` of async-broadcast.
+    /// Source: the loop in `set_capacity` of async-broadcast.
     pub fn drop_first(&mut self, count: usize)
         requires { count ≤ length self.old.queue }
         ensures { self.new ≡ record self.old {
@@ -228,9 +222,9 @@ impl<T: Drop, A: Allocator + Copy> Store<T, A> {
     ///
     /// # Errors
     ///
-    /// - `AllocError`: there is no memory for `room` messages. The store is unchanged.
+    /// - `AllocError`: memory is refused for `room` messages. The store is unchanged.
     ///
-    /// Source: this crate's own, for `queue.reserve` in `set_capacity` of async-broadcast.
+    /// Source: `queue.reserve` in `set_capacity` of async-broadcast.
     pub fn grow(&mut self, room: usize) -> Result<(), AllocError>
         requires { self.old.room ≤ room }
         ensures ok { OnOk result (self.new ≡ record self.old { room = room }) }

@@ -10,7 +10,7 @@ use std::alloc::{AllocError, Allocator};
 impl<T: Drop, A: Allocator + Copy> Store<T, A> {
     /// Lets the receiver `key`, which lags, go on at the front. Takes no memory.
     ///
-    /// Source: this crate's own, for `Inner::try_recv_at` of async-broadcast where it overflowed.
+    /// Source: `Inner::try_recv_at` of async-broadcast when it overflowed.
     pub fn skip(&mut self, key: usize)
         requires lags { IsSomeAnd (map.get self.old.cursors key) (λ c. c < self.old.front) }
         ensures { self.new ≡ record self.old {
@@ -24,9 +24,9 @@ impl<T: Drop, A: Allocator + Copy> Store<T, A> {
     ///
     /// # Errors
     ///
-    /// - `AllocError`: there is no memory for one more receiver. The store is unchanged.
+    /// - `AllocError`: memory is refused for one more receiver. The store is unchanged.
     ///
-    /// Source: this crate's own, for `Receiver::clone` and `new_receiver` of async-broadcast.
+    /// Source: `Receiver::clone` and `new_receiver` of async-broadcast.
     pub fn add(&mut self, cursor: u64) -> Result<usize, AllocError>
         requires { cursor ≤ end_of self.old }
         ensures free { IfOk result (λ key. map.get self.old.cursors key ≡ None) }
@@ -35,7 +35,7 @@ impl<T: Drop, A: Allocator + Copy> Store<T, A> {
         }) }
         ensures err { OnErr result (self.new ≡ self.old) }
     {
-        self.queue.known();
+        self.queue.invariant_holds();
         let key = self.cursors.add(cursor)?;
         let index = cursor.saturating_sub(self.queue.front()) as usize;
         self.queue.share(index);
@@ -45,20 +45,20 @@ impl<T: Drop, A: Allocator + Copy> Store<T, A> {
     /// Takes the receiver `key` out, drops the messages that nobody is to read any more, and says
     /// whether there was such a receiver. Takes no memory.
     ///
-    /// Source: this crate's own, for `drop` of a `Receiver` of async-broadcast.
+    /// Source: `drop` of a `Receiver` of async-broadcast.
     pub fn remove(&mut self, key: usize) -> bool
         ensures found { result ≡ map.contains_key self.old.cursors key }
         ensures rest { self.new ≡ (if result
             then with_cursors self.old (map.remove self.old.cursors key)
             else self.old) }
     {
-        self.queue.known();
+        self.queue.invariant_holds();
         let Some(cursor) = self.cursors.remove(key) else {
             return false;
         };
         let index = cursor.saturating_sub(self.queue.front()) as usize;
         self.queue.leave(index);
-        self.queue.known();
+        self.queue.invariant_holds();
         true
     }
 }
@@ -66,16 +66,16 @@ impl<T: Drop, A: Allocator + Copy> Store<T, A> {
 impl<T: Clone, A: Allocator + Copy> Store<T, A> {
     /// Gives the receiver `key` the message numbered `number`, and lets it go on after it.
     ///
-    /// `number` is the receiver's cursor, or the front where it lags. The message given is the message
-    /// itself, which goes, where this receiver is the last to read it, and else a clone. Takes what
-    /// memory the clone takes.
+    /// `number` is the receiver's cursor, or the front if it lags. The message given is the message
+    /// itself, which leaves the queue, if this receiver is the last to read it, and else a clone.
+    /// Takes what memory the clone takes.
     ///
     /// # Errors
     ///
-    /// - `AllocError`: another receiver is to read the message too, and there is no memory for a
+    /// - `AllocError`: another receiver is to read the message too, and memory is refused for a
     ///   clone. The store is unchanged.
     ///
-    /// Source: this crate's own, for `Inner::try_recv_at` of async-broadcast.
+    /// Source: `Inner::try_recv_at` of async-broadcast.
     pub fn read(&mut self, key: usize, number: u64) -> Result<T, AllocError>
         requires at { IsSomeAnd (map.get self.old.cursors key)
             (λ cursor. number ≡ max cursor self.old.front) }
@@ -88,11 +88,11 @@ impl<T: Clone, A: Allocator + Copy> Store<T, A> {
         ensures owed { OnErr result (IsOwed self.old key number) }
         ensures err { OnErr result (self.new ≡ self.old) }
     {
-        self.queue.known();
+        self.queue.invariant_holds();
         let index = (number - self.queue.front()) as usize;
         let msg = self.queue.read(index)?;
         self.cursors.set(key, number + 1);
-        self.queue.known();
+        self.queue.invariant_holds();
         Ok(msg)
     }
 }

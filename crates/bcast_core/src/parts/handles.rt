@@ -3,7 +3,7 @@ ghost use Rattle.std.specs.Prelude.{◌≡◌, ◌+◌, ◌-◌, ◌^◌, ◌<�
 ghost use Rattle.std.specs.FinMap.{len, remove};
 
 use super::Parts;
-use bcast_event::notice::Notice;
+use bcast_waiting::notice::Notice;
 use bcast_model::error::HandleError;
 use bcast_model::listener::Kind;
 use std::alloc::Allocator;
@@ -35,7 +35,7 @@ impl<T: Drop, N: Notice, A: Allocator + Copy> Parts<T, N, A> {
             self.store.remove(key);
             return Err(HandleError::Memory);
         };
-        self.store.known();
+        self.store.invariant_holds();
         Ok(key)
     }
 

@@ -3,7 +3,7 @@ ghost use Rattle.std.specs.Prelude.{◌≡◌, ◌&&◌, ◌+◌, ◌<◌, true,
 ghost use Rattle.std.specs.FinMap.{get};
 
 use super::Parts;
-use bcast_event::notice::Notice;
+use bcast_waiting::notice::Notice;
 use bcast_model::listener::Kind;
 use std::alloc::{AllocError, Allocator};
 

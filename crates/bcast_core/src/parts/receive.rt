@@ -2,7 +2,7 @@
 ghost use Rattle.std.specs.Prelude.{◌≡◌, ◌⊎◌, ◌+◌, ◌<◌, max, Some, Ok, Err, IfOk, OnOk, OnErr, IsOk, IsSomeAnd, alloc_error};
 
 use super::Parts;
-use bcast_event::notice::Notice;
+use bcast_waiting::notice::Notice;
 use bcast_model::error::TryRecvError;
 use bcast_model::listener::Kind;
 use std::alloc::{AllocError, Allocator};

@@ -3,7 +3,7 @@ ghost use Rattle.std.specs.Prelude.{◌≡◌, ◌^◌, ◌+◌, ◌<◌, ◌≤
 ghost use Rattle.std.specs.FinMap.{len};
 
 use super::Parts;
-use bcast_event::notice::Notice;
+use bcast_waiting::notice::Notice;
 use bcast_model::error::{SendError, TrySendError};
 use bcast_model::run::SendPoll;
 use std::alloc::{AllocError, Allocator};

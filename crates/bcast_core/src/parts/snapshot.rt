@@ -8,7 +8,7 @@ ghost use Rattle.bcast_core.specs.Snapshot.{Shows, listeners_of};
 
 use super::Parts;
 use crate::snapshot::{Snapshot, Waiting};
-use bcast_event::notice::Notice;
+use bcast_waiting::notice::Notice;
 use bcast_model::listener::Kind;
 use bcast_store::Store;
 use std::alloc::{AllocError, Allocator};

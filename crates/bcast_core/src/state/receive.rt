@@ -5,7 +5,7 @@ ghost use Rattle.bcast_model.specs.declared.run.Call.TheVariants as call;
 ghost use Rattle.bcast_model.specs.declared.run.Reply.TheVariants as reply;
 
 use super::Inner;
-use bcast_event::notice::Notice;
+use bcast_waiting::notice::Notice;
 use bcast_model::error::TryRecvError;
 use std::alloc::{AllocError, Allocator};
 

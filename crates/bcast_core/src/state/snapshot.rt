@@ -4,7 +4,7 @@ ghost use Rattle.bcast_core.specs.Snapshot.{Shows};
 
 use super::Inner;
 use crate::snapshot::Snapshot;
-use bcast_event::notice::Notice;
+use bcast_waiting::notice::Notice;
 use std::alloc::{AllocError, Allocator};
 
 impl<T: Clone, N: Notice, A: Allocator + Copy> Inner<T, N, A> {

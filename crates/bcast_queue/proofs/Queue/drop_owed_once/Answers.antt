@@ -7,7 +7,7 @@ use Rattle.bcast_queue.specs.Queue.{without}
 use Rattle.bcast_queue.proofs.Queues.{without_popped}
 use Rattle.bcast_queue.proofs.Queue.drop_owed_once.Goals as goal
 
--- what holds where there is a first item
+-- what holds if there is a first item
 given : {A : Type 0} (xs : List A) (r : Option A) (P : Type 0) → 0 < length xs → r ≡ slice_get xs 0 → OnSome r P → P
 given [] r P some is h = absurd (omega arith)
 given (x ∷ xs) r P some is h = rw is at h

@@ -23,7 +23,7 @@ returns-in_err-msg-clause-owed g c =
 pub invariant_of-self-2 : goal.invariant_of-self-2
 invariant_of-self-2 g c =
     let r = is_reading c.self.inside.queue c.self.inside.cursors c.args.self.now c.args.key c.args.number c.front.result c.self.view_is c.front.ensures c.requires.at c.requires.below in
-    let n = c.known.ensures in
+    let n = c.invariant_holds.ensures in
     let set = c.set.ensures.there (ap is_some r.at) in
     same_sound _ _ _ _ c.in_ok-msg.ensures.ok set
     (sound_read c.self.inside.queue c.self.inside.cursors c.args.key c.args.number (c.args.number - c.front.result) c.self.invariant r (record { lengths = n.lengths; owed = n.owed }))
@@ -31,15 +31,15 @@ invariant_of-self-2 g c =
 pub returns-clause-given : goal.returns-clause-given
 returns-clause-given g c =
     let r = is_reading c.self.inside.queue c.self.inside.cursors c.args.self.now c.args.key c.args.number c.front.result c.self.view_is c.front.ensures c.requires.at c.requires.below in
-    let n = c.known.ensures in
+    let n = c.invariant_holds.ensures in
     subst (λ s. IsHandedOut g.T.Clone.is_clone s c.args.key c.args.number c.in_ok-msg.msg) c.self.view_is
     (handed_out c.self.inside.queue c.self.inside.cursors c.args.key c.args.number (c.args.number - c.front.result) c.self.invariant r g.T.Clone.is_clone c.in_ok-msg.msg (record { lengths = n.lengths; owed = n.owed }) c.in_ok-msg.ensures.moved c.in_ok-msg.ensures.cloned)
 
 pub returns-clause-ok : goal.returns-clause-ok
 returns-clause-ok g c =
     let r = is_reading c.self.inside.queue c.self.inside.cursors c.args.self.now c.args.key c.args.number c.front.result c.self.view_is c.front.ensures c.requires.at c.requires.below in
-    let n = c.known.ensures in
-    let m = c.known-2.ensures in
+    let n = c.invariant_holds.ensures in
+    let m = c.invariant_holds-2.ensures in
     let set = c.set.ensures.there (ap is_some r.at) in
     let after = subst IsCounted c.in_ok-msg.ensures.ok (record { lengths = m.lengths; owed = m.owed }) in
     same_store c.read.new.self (read_at (c.args.number - c.front.result) c.self.inside.queue) c.set.new.self (insert c.self.inside.cursors c.args.key (c.args.number + 1)) c.in_ok-msg.ensures.ok set

@@ -1,0 +1,133 @@
+//! The cursor of each receiver.
+ghost use Rattle.std.specs.Prelude.{◌≡◌, ◌==◌, ◌<◌, ◌^◌, true, false, None, IfOk, OnOk, OnErr};
+ghost use Rattle.std.specs.FinMap as map;
+ghost use Rattle.slab.specs.Slab.{entries};
+
+use slab::Slab;
+use std::alloc::{AllocError, Allocator, Global};
+use std::marker::Model;
+
+/// The receivers, each under its key: the number of the message that it reads next.
+///
+/// In async-broadcast 0.7.2 each receiver keeps its own number.
+#[derive(Drop)]
+pub struct Cursors<A: Allocator = Global> {
+    numbers: Slab<u64, A>,
+}
+
+impl<A: Allocator> Model for Cursors<A> {
+    ghost use Rattle.std.specs.Prelude.{ℕ};
+    ghost use Rattle.std.specs.Coded.{coded_ℕ};
+    ghost use Rattle.std.specs.Ordering.{nat_cmp};
+    ghost use Rattle.std.specs.FinMap.{FinMap, code};
+
+    ghost Value = { FinMap nat_cmp ℕ };
+
+    ghost coded = { code coded_ℕ coded_ℕ };
+
+    ghost use Rattle.bcast_store.specs.Cursors.{cursors_of};
+
+    ghost view = { λ c. cursors_of c.numbers };
+}
+
+impl<A: Allocator> Cursors<A> {
+    /// No receiver. Takes no memory.
+    pub fn new(alloc: A) -> Cursors<A>
+        ensures { result ≡ map.empty }
+    {
+        Cursors {
+            numbers: Slab::new(alloc),
+        }
+    }
+
+    /// Adds a receiver that reads `number` next, under a key that no receiver has. A key that was
+    /// removed may be given again.
+    ///
+    /// # Errors
+    ///
+    /// `AllocError`: memory for the receiver was refused, and nothing changed.
+    pub fn add(&mut self, number: u64) -> Result<usize, AllocError>
+        ensures fresh { IfOk result (λ key. map.get self.old key ≡ None) }
+        ensures ok { IfOk result (λ key. self.new ≡ map.insert self.old key number) }
+        ensures fits { OnOk result (map.len self.new < 2 ^ 64) }
+
+        ensures err { OnErr result (self.new ≡ self.old) }
+    {
+        self.numbers.reserve(1)?;
+        let key = self.numbers.insert_reserved(number);
+        let _len = self.numbers.len();
+        Ok(key)
+    }
+
+    /// Takes a receiver out, and returns the number that it would have read next; `None` if no
+    /// receiver has the key, which changes nothing.
+    pub fn remove(&mut self, key: usize) -> Option<u64>
+        ensures value { result ≡ map.get self.old key }
+        ensures rest { self.new ≡ map.remove self.old key }
+    {
+        self.numbers.try_remove(key)
+    }
+
+    /// The number of the message that a receiver reads next; `None` if no receiver has the key.
+    pub fn get(&self, key: usize) -> Option<u64>
+        ensures { result ≡ map.get self.now key }
+    {
+        self.numbers.get(key).copied()
+    }
+
+    /// Lets a receiver read `number` next, and returns whether a receiver has the key; else nothing
+    /// changes.
+    pub fn set(&mut self, key: usize, number: u64) -> bool
+        ensures found { result ≡ map.contains_key self.old key }
+        ensures there { map.contains_key self.old key ≡ true
+            → self.new ≡ map.insert self.old key number }
+        ensures absent { map.contains_key self.old key ≡ false
+            → self.new ≡ self.old }
+    {
+        let Some(cursor) = self.numbers.get_mut(key) else {
+            return false;
+        };
+        *cursor = number;
+        true
+    }
+
+    /// How many receivers there are.
+    pub fn len(&self) -> usize
+        ensures { result ≡ map.len self.now }
+    {
+        self.numbers.len()
+    }
+
+    /// Whether there is no receiver.
+    pub fn is_empty(&self) -> bool
+        ensures { result ≡ (map.len self.now == 0) }
+    {
+        self.numbers.is_empty()
+    }
+
+    /// The keys by rising order, each with the number that its receiver reads next.
+    ///
+    /// Takes memory for the list from `alloc`.
+    ///
+    /// # Errors
+    ///
+    /// `AllocError`: memory for the list was refused.
+    pub fn entries<B: Allocator>(&self, alloc: B) -> Result<Vec<(usize, u64), B>, AllocError>
+        ensures { IfOk result (λ entries. entries.items ≡ map.entries self.now) }
+    {
+        numbers_of(&self.numbers, alloc)
+    }
+}
+
+// The keys by rising order, each with its number.
+fn numbers_of<A: Allocator, B: Allocator>(
+    numbers: &Slab<u64, A>,
+    alloc: B,
+) -> Result<Vec<(usize, u64), B>, AllocError>
+    ensures { IfOk result (λ all. all.items ≡ entries numbers.now) }
+{
+    numbers
+        .iter()
+        .map(|(key, number)| (key, *number))
+        .collect(alloc)
+}

@@ -1,0 +1,138 @@
+-- The entries of the numbers of ids, as slots are filled and left.
+use Rattle.std.proofs.Common.{◌≡◌, ◌≢◌, ℕ, zero, suc, ◌+◌, ◌<◌, ◌≤◌, ◌==◌, Bool, true, false, ◌||◌, List, [], ◌∷◌, ◌++◌, length, get_or, set, Option, Some, None, refl, sym, ap, ◌∙◌, subst, arith, ltb, length-set}
+use Rattle.std.proofs.lemmas.Bool.{true≢false}
+use Rattle.std.proofs.lemmas.Option.{none-some, same_Some}
+use Rattle.std.proofs.lemmas.List.{get_or_append_left, get_or-set_other}
+use Rattle.std.proofs.lemmas.Grind.{get_or-set_at}
+use Rattle.std.specs.List.{AllByRecursion}
+use Rattle.bcast_model.specs.Listeners.{is_in, IsDistinct}
+use Rattle.bcast_model.proofs.Tests.{test_place}
+use Rattle.bcast_waiting.specs.Slots.{listed, has}
+use Rattle.bcast_waiting.specs.Number.{IsAt, IsIndexed}
+use Rattle.bcast_waiting.proofs.InSlots.{absent_slots}
+
+module _ {I : Type 0} where
+  -- what holds of each id that is listed holds of the id in a slot
+  pub in_slot : (P : I → Type 0) (ids : List (Option I)) (p : ℕ) (x : I) → AllByRecursion P (listed ids) → get_or ids p None ≡ Some x → P x
+  in_slot P [] p x a e = absurd (none-some x e)
+  in_slot P (None ∷ ids) zero x a e = absurd (none-some x e)
+  in_slot P (Some y ∷ ids) zero x a e = subst P (same_Some y x e) a.0
+  in_slot P (None ∷ ids) (suc p) x a e = in_slot P ids p x a e
+  in_slot P (Some y ∷ ids) (suc p) x a e = in_slot P ids p x a.1 e
+
+  -- an id in a slot was there before another one was left
+  was_there : (ids : List (Option I)) (i p : ℕ) (x : I) → get_or (set ids i None) p None ≡ Some x → get_or ids p None ≡ Some x
+  was_there [] i p x e = absurd (none-some x e)
+  was_there (slot ∷ ids) zero zero x e = absurd (none-some x e)
+  was_there (slot ∷ ids) zero (suc p) x e = e
+  was_there (slot ∷ ids) (suc i) zero x e = e
+  was_there (slot ∷ ids) (suc i) (suc p) x e = was_there ids i p x e
+
+  -- a slot that is filled last
+  pushed_at : (ids : List (Option I)) (id : I) (p : ℕ) (x : I) → get_or (ids ++ Some id ∷ []) p None ≡ Some x → length ids ≤ p → (p ≡ length ids) × (id ≡ x)
+  pushed_at [] id zero x e h = (refl, same_Some id x e)
+  pushed_at [] id (suc p) x e h = absurd (none-some x e)
+  pushed_at (slot ∷ ids) id zero x e h = absurd (omega (arith, h))
+  pushed_at (slot ∷ ids) id (suc p) x e h = let rest = pushed_at ids id p x e (omega (arith, h)) in (omega (arith, rest.0), rest.1)
+
+  module _ (same : I → I → Bool) where
+    absent_at : (id : I) (ids : List (Option I)) (p : ℕ) (x : I) → is_in same id (listed ids) ≡ false → get_or ids p None ≡ Some x → same id x ≡ false
+    absent_at id [] p x h e = absurd (none-some x e)
+    absent_at id (None ∷ ids) zero x h e = absurd (none-some x e)
+    absent_at id (None ∷ ids) (suc p) x h e = absent_at id ids p x h e
+    absent_at id (Some y ∷ ids) zero x h e = ap (same id) (sym (same_Some y x e)) ∙ elim (same id y) as (λ b. (b || is_in same id (listed ids)) ≡ false → b ≡ false) [ true ↦ λ h. h | false ↦ λ h. refl ] h
+    absent_at id (Some y ∷ ids) (suc p) x h e = absent_at id ids p x (elim (same id y) as (λ b. (b || is_in same id (listed ids)) ≡ false → is_in same id (listed ids) ≡ false) [ true ↦ λ h. absurd (true≢false h) | false ↦ λ h. h ] h) e
+
+    -- ids in two slots differ
+    apart_at : (ids : List (Option I)) (p q : ℕ) (x y : I) → IsDistinct same (listed ids) → p < q → get_or ids p None ≡ Some x → get_or ids q None ≡ Some y → same x y ≡ false
+    apart_at [] p q x y d h e f = absurd (none-some x e)
+    apart_at (slot ∷ ids) p zero x y d h e f = absurd (omega (arith, h))
+    apart_at (None ∷ ids) zero (suc q) x y d h e f = absurd (none-some x e)
+    apart_at (None ∷ ids) (suc p) (suc q) x y d h e f = apart_at ids p q x y d (omega (arith, h)) e f
+    apart_at (Some z ∷ ids) zero (suc q) x y d h e f = subst (λ z. same z y ≡ false) (same_Some z x e) (in_slot (λ other. same z other ≡ false) ids q y d.0 f)
+    apart_at (Some z ∷ ids) (suc p) (suc q) x y d h e f = apart_at ids p q x y d.1 (omega (arith, h)) e f
+
+    module _ (number : I → ℕ) (own : (x y : I) → same x y ≡ (number x == number y)) where
+      one_number : (x y : I) → same x y ≡ true → number x ≡ number y
+      one_number x y e = test_place.no (number x) (number y) (sym (own x y) ∙ e)
+
+      two_numbers : (x y : I) → same x y ≡ false → number y ≢ number x
+      two_numbers x y e n = true≢false (sym (test_place.yes (number x)) ∙ ap (λ m. number x == m) (sym n) ∙ sym (own x y) ∙ e)
+
+      -- ---- an id is found
+      module _ (ids : List (Option I)) (positions : List ℕ) (indexed : IsIndexed number ids positions) (id : I) where
+        at_slot : (p : ℕ) → has same id (get_or ids p None) ≡ true → IsAt positions (number id) p
+        at_slot p h = by_slot (get_or ids p None) refl h
+          where
+            by_slot : (slot : Option I) → get_or ids p None ≡ slot → has same id slot ≡ true → IsAt positions (number id) p
+            by_slot None e h = absurd (true≢false (sym h))
+            by_slot (Some x) e h = subst (λ n. IsAt positions n p) (sym (one_number id x h)) (indexed p x e)
+
+        pub absent_beyond : length positions ≤ number id → is_in same id (listed ids) ≡ false
+        absent_beyond past = absent_slots same id ids (λ p l. elim (has same id (get_or ids p None)) as (λ b. has same id (get_or ids p None) ≡ b → b ≡ false) [
+          | true ↦ λ h. absurd (let at = at_slot p h in omega (arith, at.within, past))
+          | false ↦ λ h. refl
+        ] refl)
+
+        pub absent_there : has same id (get_or ids (get_or positions (number id) 0) None) ≡ false → is_in same id (listed ids) ≡ false
+        absent_there none = absent_slots same id ids (λ p l. elim (has same id (get_or ids p None)) as (λ b. has same id (get_or ids p None) ≡ b → b ≡ false) [
+          | true ↦ λ h. sym h ∙ ap (λ p. has same id (get_or ids p None)) (sym (at_slot p h).at) ∙ none
+          | false ↦ λ h. refl
+        ] refl)
+
+        -- ---- an id is put last
+        pub IsIndexed-push : is_in same id (listed ids) ≡ false → number id < length positions → IsIndexed number (ids ++ Some id ∷ []) (set positions (number id) (length ids))
+        IsIndexed-push absent within p x e = elim (ltb p (length ids)) as (λ b. ltb p (length ids) ≡ b → IsAt (set positions (number id) (length ids)) (number x) p) [
+          | true ↦ λ t.
+              let less : p < length ids = grind (arith, t) in
+              let was = sym (get_or_append_left ids (Some id ∷ []) None p less) ∙ e in
+              let at = indexed p x was in
+              record {
+                within = omega (arith, at.within, length-set positions (number id) (length ids));
+                at = get_or-set_other positions (number id) (number x) (length ids) 0 (two_numbers id x (absent_at id ids p x absent was)) ∙ at.at;
+              }
+          | false ↦ λ t.
+              let past : length ids ≤ p = grind (arith, t) in
+              let last = pushed_at ids id p x e past in
+              record {
+                within = subst (λ x. number x < length (set positions (number id) (length ids))) last.1 (omega (arith, within, length-set positions (number id) (length ids)));
+                at = get_or-set_at positions (number id) (number x) (length ids) 0 (ap number (sym last.1)) within ∙ sym last.0;
+              }
+        ] refl
+
+      -- ---- entries are written one after another
+      pub entries_more : (ids : List (Option I)) (positions : List ℕ) (k : ℕ) (id : I) → IsDistinct same (listed ids) → number id < length positions → get_or ids k None ≡ Some id
+          → ((p : ℕ) (x : I) → p < k → get_or ids p None ≡ Some x → IsAt positions (number x) p)
+          → (p : ℕ) (x : I) → p < k + 1 → get_or ids p None ≡ Some x → IsAt (set positions (number id) k) (number x) p
+      entries_more ids positions k id d within e before p x h f = elim (ltb p k) as (λ b. ltb p k ≡ b → IsAt (set positions (number id) k) (number x) p) [
+        | true ↦ λ t.
+            let less : p < k = grind (arith, t) in
+            let at = before p x less f in
+            let apart = two_numbers x id (apart_at ids p k x id d less f e) in
+            record {
+              within = omega (arith, at.within, length-set positions (number id) k);
+              at = get_or-set_other positions (number id) (number x) k 0 (λ n. apart (sym n)) ∙ at.at;
+            }
+        | false ↦ λ t.
+            let here : p ≡ k = grind (arith, t, h) in
+            let one = same_Some x id (sym f ∙ ap (λ p. get_or ids p None) here ∙ e) in
+            record {
+              within = subst (λ x. number x < length (set positions (number id) k)) (sym one) (omega (arith, within, length-set positions (number id) k));
+              at = get_or-set_at positions (number id) (number x) k 0 (ap number one) within ∙ sym here;
+            }
+      ] refl
+
+  -- an empty slot has no entry
+  pub entries_same : (number : I → ℕ) (ids : List (Option I)) (positions : List ℕ) (k : ℕ) → get_or ids k None ≡ None
+      → ((p : ℕ) (x : I) → p < k → get_or ids p None ≡ Some x → IsAt positions (number x) p)
+      → (p : ℕ) (x : I) → p < k + 1 → get_or ids p None ≡ Some x → IsAt positions (number x) p
+  entries_same number ids positions k e before p x h f = elim (ltb p k) as (λ b. ltb p k ≡ b → IsAt positions (number x) p) [
+    | true ↦ λ t. before p x (grind (arith, t)) f
+    | false ↦ λ t.
+        let here : p ≡ k = grind (arith, t, h) in
+        absurd (none-some x (sym e ∙ ap (λ p. get_or ids p None) (sym here) ∙ f))
+  ] refl
+
+  -- ---- a slot is left
+  pub IsIndexed-left : (number : I → ℕ) (ids : List (Option I)) (positions : List ℕ) (i : ℕ) → IsIndexed number ids positions → IsIndexed number (set ids i None) positions
+  IsIndexed-left number ids positions i indexed p x e = indexed p x (was_there ids i p x e)

@@ -1,0 +1,102 @@
+-- The set of the keys of a slab, after a change of one slot.
+use Rattle.std.proofs.Common.{◌≡◌, ℕ, zero, suc, ◌+◌, ◌<◌, Bool, true, false, cond, not, eqb, nat_eq, List, [], ◌∷◌, length, map, get_or, Option, Some, None, is_some, refl, sym, ap, ◌∙◌, zero-add, arith, eqb-true}
+use Rattle.std.specs.Prelude.{◌||◌, ◌&&◌}
+use Rattle.std.specs.List.{list_any}
+use Rattle.std.specs.Ordering.{nat_cmp, eq_by_cmp}
+use Rattle.std.specs.Cmp.{nat_cmp_total, unsigned_tied}
+use Rattle.std.specs.FinMap.{nat_cmp-IsAntisymmetric}
+use Rattle.std.specs.FinSet as set
+use Rattle.std.specs.FinSet.{contains-from_list_nat, contains-insert, contains-remove, same_set, len-insert, len-empty}
+use Rattle.std.proofs.lemmas.List.{length-map}
+use Rattle.slab.specs.Slab.{Slab, get, slab_len, entries, entries_from, Updates}
+use Rattle.slab.proofs.SlabLemmas.{length-entries}
+use Rattle.bcast_waiting.specs.Keys.{key_of, keys_in}
+
+eqb_apart : (a b : ℕ) → a ≡ b → eqb a b ≡ false → ⊥
+eqb_apart a b e differ = grind (arith, e, differ)
+
+abbrev is_among : ℕ → List ℕ → Bool
+is_among q keys = list_any (λ y. nat_eq y q) keys
+
+module _ {V : Type 0} where
+  abbrev keys_from : ℕ → List (Option V) → List ℕ
+  keys_from key slots = map key_of (entries_from key slots)
+
+  among_below : (q key : ℕ) (slots : List (Option V)) → q < key → is_among q (keys_from key slots) ≡ false
+  among_below q key [] h = refl
+  among_below q key (None ∷ rest) h = among_below q (key + 1) rest (omega arith)
+  among_below q key (Some v ∷ rest) h =
+      let apart : nat_eq key q ≡ false = grind (arith, h) in
+      ap (λ b. b || is_among q (keys_from (key + 1) rest)) apart ∙ among_below q (key + 1) rest (omega arith)
+
+  among_at : (key at : ℕ) (slots : List (Option V)) → is_among (key + at) (keys_from key slots) ≡ is_some (get_or slots at None)
+  among_at key at [] = refl
+  among_at key zero (None ∷ rest) = among_below (key + 0) (key + 1) rest (omega arith)
+  among_at key (suc at) (None ∷ rest) =
+      let shift : key + suc at ≡ key + 1 + at = omega arith in
+      ap (λ q. is_among q (keys_from (key + 1) rest)) shift ∙ among_at (key + 1) at rest
+  among_at key zero (Some v ∷ rest) =
+      let same : nat_eq key (key + 0) ≡ true = grind arith in
+      ap (λ b. b || is_among (key + 0) (keys_from (key + 1) rest)) same
+  among_at key (suc at) (Some v ∷ rest) =
+      let shift : key + suc at ≡ key + 1 + at = omega arith in
+      let apart : nat_eq key (key + suc at) ≡ false = grind arith in
+      ap (λ b. b || is_among (key + suc at) (keys_from (key + 1) rest)) apart
+      ∙ ap (λ q. is_among q (keys_from (key + 1) rest)) shift ∙ among_at (key + 1) at rest
+
+  pub contains-keys_in : (s : Slab V) (q : ℕ) → set.contains (keys_in s) q ≡ is_some (get s q)
+  contains-keys_in s q =
+      contains-from_list_nat (keys_from 0 s.slots) q
+      ∙ ap (λ k. is_among k (keys_from 0 s.slots)) (sym (zero-add q))
+      ∙ among_at 0 q s.slots
+
+  -- after a change of one slot
+  seen_at : (old new : Slab V) (key : ℕ) (slot : Option V) → Updates old new key slot → (q : ℕ) → set.contains (keys_in new) q ≡ cond (eq_by_cmp nat_cmp q key) (is_some slot) (set.contains (keys_in old) q)
+  seen_at old new key slot updates q =
+      contains-keys_in new q
+      ∙ at (eqb q key) refl
+      ∙ ap (λ b. cond b (is_some slot) (is_some (get old q))) (sym (unsigned_tied q key))
+      ∙ ap (cond (eq_by_cmp nat_cmp q key) (is_some slot)) (sym (contains-keys_in old q))
+    where
+      at : (b : Bool) → eqb q key ≡ b → is_some (get new q) ≡ cond b (is_some slot) (is_some (get old q))
+      at true is = ap (λ k. is_some (get new k)) (eqb-true q key is) ∙ ap is_some updates.changed
+      at false is = ap is_some (updates.others q (λ e. eqb_apart q key e is))
+
+  -- a filled slot puts its key into the set
+  pub keys_in-filled : (old new : Slab V) (key : ℕ) (v : V) → Updates old new key (Some v) → keys_in new ≡ set.insert (keys_in old) key
+  keys_in-filled old new key v updates =
+      same_set nat_cmp_total nat_cmp-IsAntisymmetric _ _ (λ q.
+      seen_at old new key (Some v) updates q
+      ∙ by_key (eq_by_cmp nat_cmp q key) (set.contains (keys_in old) q)
+      ∙ sym (contains-insert nat_cmp_total (keys_in old) key q))
+    where
+      by_key : (e x : Bool) → cond e true x ≡ (e || x)
+      by_key true x = refl
+      by_key false x = refl
+
+  -- and an emptied one takes it out
+  pub keys_in-emptied : (old new : Slab V) (key : ℕ) → Updates old new key None → keys_in new ≡ set.remove (keys_in old) key
+  keys_in-emptied old new key updates =
+      same_set nat_cmp_total nat_cmp-IsAntisymmetric _ _ (λ q.
+      seen_at old new key None updates q
+      ∙ by_key (eq_by_cmp nat_cmp q key) (set.contains (keys_in old) q)
+      ∙ sym (contains-remove nat_cmp_total (keys_in old) key q))
+    where
+      by_key : (e x : Bool) → cond e false x ≡ (not e && x)
+      by_key true x = refl
+      by_key false x = refl
+
+  len-from_list : (key : ℕ) (slots : List (Option V)) → set.len (set.from_list {R = nat_cmp} (keys_from key slots)) ≡ length (keys_from key slots)
+  len-from_list key [] = len-empty nat_cmp
+  len-from_list key (None ∷ rest) = len-from_list (key + 1) rest
+  len-from_list key (Some v ∷ rest) =
+      let later = len-from_list (key + 1) rest in
+      let fresh : set.contains (set.from_list {R = nat_cmp} (keys_from (key + 1) rest)) key ≡ false =
+      contains-from_list_nat (keys_from (key + 1) rest) key ∙ among_below key (key + 1) rest (omega arith) in
+      len-insert nat_cmp_total (set.from_list (keys_from (key + 1) rest)) key
+      ∙ ap (λ b. cond b (set.len (set.from_list {R = nat_cmp} (keys_from (key + 1) rest))) (set.len (set.from_list {R = nat_cmp} (keys_from (key + 1) rest)) + 1)) fresh
+      ∙ omega (arith, later)
+
+  -- as many keys as filled slots
+  pub len-keys_in : (s : Slab V) → set.len (keys_in s) ≡ slab_len s
+  len-keys_in s = len-from_list 0 s.slots ∙ length-map (entries s) key_of ∙ length-entries s

@@ -1,0 +1,266 @@
+//! The listeners in the order of registering, of which a front part is told.
+ghost use Rattle.std.specs.Prelude.{◌≡◌, ◌<◌, ◌≤◌, true, false, OnOk, IfOk, IsOk, length};
+ghost use Rattle.bcast_model.specs.Listeners.{no_listeners, tell, tell_all, join, consume, abandon, wait_again, is_in, untold_ids, AreInOrder};
+ghost use Rattle.bcast_waiting.specs.Event.{is_told};
+
+use crate::indexed::Indexed;
+use crate::notice::Notice;
+use crate::slots::Slots;
+use std::alloc::{AllocError, Allocator, Global};
+use std::marker::Model;
+
+/// The listeners in the order of registering, each with its id and its notice. The told ones are a
+/// front part. Nobody is listed twice.
+///
+/// A call for one listener takes constant time, amortised over the calls, in whatever order they
+/// leave. Each is found by the number of its id ([`Indexed`]).
+///
+/// Source: `event_listener::Event`, as async-broadcast 0.7.2 uses it.
+#[derive(Drop)]
+pub struct Event<I: Copy + Eq + Indexed, N: Notice, A: Allocator = Global> {
+    slots: Slots<I, N, A>,
+    // How many listeners are listed.
+    len: usize,
+    // How many listeners, from the front on, are told.
+    told: usize,
+    // The told ones are those in the slots below this position.
+    told_end: usize,
+}
+
+impl<I: Copy + Eq + Indexed, N: Notice, A: Allocator> Model for Event<I, N, A> {
+    ghost use Rattle.bcast_waiting.specs.Event.{Event as Listed, event_code};
+
+    ghost Value = { Listed I };
+
+    ghost coded = { event_code I.code };
+
+    ghost use Rattle.bcast_waiting.specs.EventInvariant.{listeners_of, IsKept};
+
+    ghost view = { λ e. record {
+      listeners = listeners_of e.slots.ids e.told;
+      room = e.slots.room;
+    } };
+
+    ghost invariant = { λ e. IsKept I.eq I.number e.slots e.len e.told e.told_end };
+}
+
+impl<I: Copy + Eq + Indexed, N: Notice, A: Allocator + Copy> Event<I, N, A> {
+    /// An event that nobody waits for. Takes no memory.
+    ///
+    /// Source: `Event::new`.
+    pub fn new(alloc: A) -> Event<I, N, A>
+        ensures { result.listeners ≡ no_listeners }
+    {
+        Event {
+            slots: Slots::new(alloc),
+            len: 0,
+            told: 0,
+            told_end: 0,
+        }
+    }
+}
+
+impl<I: Copy + Eq + Indexed, N: Notice, A: Allocator> Event<I, N, A> {
+    /// What always holds: nobody is listed twice, no more are told than are listed, and no more are
+    /// listed than there is room for.
+    ///
+    /// Changes nothing.
+    pub fn invariant_holds(&self)
+        ensures in_order { AreInOrder I.eq self.now.listeners }
+        ensures fits { length self.now.listeners.ids ≤ self.now.room }
+    {
+        let _slots = &self.slots;
+    }
+
+    /// How many listeners are listed.
+    pub fn len(&self) -> usize
+        ensures { result ≡ length self.now.listeners.ids }
+    {
+        self.len
+    }
+
+    /// The ids of the listeners, from the front.
+    ///
+    /// Takes memory for the list from `alloc`. Changes nothing.
+    ///
+    /// # Errors
+    ///
+    /// `AllocError`: memory for the list was refused.
+    pub fn ids<B: Allocator>(&self, alloc: B) -> Result<Vec<I, B>, AllocError>
+        ensures { IfOk result (λ ids. ids.items ≡ self.now.listeners.ids) }
+    {
+        self.slots.ids(alloc)
+    }
+
+    /// How many listeners, from the front, are told.
+    pub fn told(&self) -> usize
+        ensures { result ≡ self.now.listeners.told }
+    {
+        self.told
+    }
+
+    /// Makes room for a listener, and for each whose id has a smaller number. The listeners stay as
+    /// they are, and the room doesn't fall.
+    ///
+    /// Takes memory for twice as many, so that the places of those that leave are cleared rarely.
+    ///
+    /// # Errors
+    ///
+    /// `AllocError`: there was no room for it, and memory for more was refused.
+    pub fn reserve_for(&mut self, id: I) -> Result<(), AllocError>
+        ensures ok { OnOk result (I.number id < self.new.room) }
+        ensures succeeds { I.number id < self.old.room → IsOk result }
+
+        ensures listeners { self.new.listeners ≡ self.old.listeners }
+        ensures room { self.old.room ≤ self.new.room }
+    {
+        let _room = self.slots.room();
+        let Some(room) = id.index().checked_add(1) else {
+            return Err(AllocError);
+        };
+        self.slots.reserve(room)
+    }
+
+    /// Whether a listener is told, if it is listed.
+    ///
+    /// Takes constant time. Changes nothing.
+    ///
+    /// Source: a poll of an `EventListener`.
+    pub fn is_told(&self, id: I) -> Option<bool>
+        ensures { result ≡ is_told I.eq id self.now.listeners }
+    {
+        let Some(position) = self.slots.find(id) else {
+            return None;
+        };
+        Some(position < self.told_end)
+    }
+
+    /// Whether a listener is listed and not told.
+    ///
+    /// Takes constant time. Changes nothing.
+    ///
+    /// Source: a poll of an `EventListener` that stays pending.
+    pub fn is_untold(&self, id: I) -> bool
+        ensures { result ≡ is_in I.eq id (untold_ids self.now.listeners) }
+    {
+        self.invariant_holds();
+        match self.is_told(id) {
+            Some(told) => !told,
+            None => false,
+        }
+    }
+
+    /// Lists a listener, last and untold. Takes no memory, and constant time, amortised.
+    ///
+    /// Source: `Event::listen`.
+    pub fn join(&mut self, id: I, notice: N)
+        requires absent { is_in I.eq id self.old.listeners.ids ≡ false }
+        requires room { I.number id < self.old.room }
+        ensures { self.new ≡ record self.old { listeners = join id self.old.listeners } }
+    {
+        self.told_end = self
+            .slots
+            .compact_if_sparse(self.len, self.told, self.told_end);
+        self.slots.push(id, notice);
+        let _room = self.slots.room();
+        self.len += 1;
+    }
+
+    /// Tells the first `count` listeners. The notice of each that was not told yet is called, once
+    /// and front first.
+    ///
+    /// Takes time for those that were not told yet alone, amortised.
+    ///
+    /// Source: `Event::notify`.
+    pub fn tell(&mut self, count: usize)
+        ensures { self.new ≡ record self.old { listeners = tell count self.old.listeners } }
+    {
+        let end = count.min(self.len);
+        if self.told < end {
+            self.told_end = self.slots.tell(self.told_end, end - self.told);
+            self.told = end;
+        }
+    }
+
+    /// Tells every listener, as [`Event::tell`] does.
+    ///
+    /// Source: `Event::notify(usize::MAX)`.
+    #[inline(always)]
+    pub fn tell_all(&mut self)
+        ensures { self.new ≡ record self.old { listeners = tell_all self.old.listeners } }
+    {
+        let len = self.len;
+        self.tell(len);
+    }
+
+    /// Takes out a listener that got what it waited for, and returns whether it was told;
+    /// `None` if it is not listed, which changes nothing.
+    ///
+    /// Takes constant time.
+    ///
+    /// Source: a listener of `Event` that ends as notified.
+    pub fn consume(&mut self, id: I) -> Option<bool>
+        ensures told { result ≡ is_told I.eq id self.old.listeners }
+        ensures rest { self.new
+            ≡ record self.old { listeners = consume I.eq id self.old.listeners } }
+    {
+        let Some(position) = self.slots.find(id) else {
+            return None;
+        };
+        self.slots.clear_at(position);
+        self.len -= 1;
+        if position < self.told_end {
+            self.told -= 1;
+            Some(true)
+        } else {
+            Some(false)
+        }
+    }
+
+    /// Takes out a listener that gave up. If it was told, the first of the others is told in
+    /// its place, unless it is told already. If it is not listed, nothing changes.
+    ///
+    /// Takes constant time, amortised.
+    ///
+    /// Source: the drop of an `EventListener`.
+    pub fn abandon(&mut self, id: I)
+        ensures { self.new ≡ record self.old { listeners = abandon I.eq id self.old.listeners } }
+    {
+        if let Some(true) = self.consume(id) {
+            self.tell(1);
+        }
+    }
+
+    /// Lists a listener that must wait. One that is listed and not told keeps its position and gets
+    /// the new notice; any other is listed last and untold, and taken out first if it was listed.
+    ///
+    /// Takes no memory, and constant time, amortised.
+    ///
+    /// Source: a future of async-broadcast that polls its listener again.
+    pub fn wait_again(&mut self, id: I, notice: N)
+        requires room { I.number id < self.old.room }
+        ensures { self.new ≡ record self.old { listeners = wait_again I.eq id self.old.listeners } }
+    {
+        if self.is_untold(id) {
+            self.renew(id, notice);
+        } else {
+            self.consume(id);
+            self.join(id, notice);
+        }
+    }
+
+    /// Gives a listener that is not told another notice. It keeps its position.
+    ///
+    /// Takes constant time.
+    ///
+    /// Source: a poll of an `EventListener` with another waker.
+    pub fn renew(&mut self, id: I, notice: N)
+        requires { is_in I.eq id (untold_ids self.old.listeners) ≡ true }
+        ensures { self.new ≡ self.old }
+    {
+        let Some(position) = self.slots.find(id) else {
+            unreachable!()
+        };
+        self.slots.renew(position, notice);
+    }
+}

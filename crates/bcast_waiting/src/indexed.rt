@@ -1,0 +1,46 @@
+//! A small number of an id, under which it is kept where its listener is.
+ghost use Rattle.std.specs.Prelude.{◌≡◌, ℕ, ◌-◌, ◌^◌, ◌==◌, min, refl};
+
+use bcast_model::listener::Kind;
+
+/// An id that has a number of its own.
+///
+/// A list has one entry for each number below its room, so the numbers of ids that are in use together
+/// are to be small.
+pub trait Indexed: Eq {
+    ghost number: { Self → ℕ };
+
+    /// The number of the id, or the greatest `usize`, which is below no room, if it doesn't fit.
+    fn index(self) -> usize
+        ensures { result ≡ min (number self) (2 ^ 64 - 1) };
+
+    ghost own: { (x y : Self) → Self.eq x y ≡ (number x == number y) };
+}
+
+impl Indexed for usize {
+    ghost number = { λ place. place };
+
+    ghost own = { λ x y. refl };
+
+    fn index(self) -> usize {
+        self
+    }
+}
+
+// A receiver's key has two numbers, one for each kind.
+impl Indexed for (usize, Kind) {
+    ghost use Rattle.bcast_waiting.specs.Number.{pair_number};
+    ghost use Rattle.bcast_waiting.specs.PairNumbers.{pair_number-own};
+
+    ghost number = { pair_number };
+
+    ghost own = { pair_number-own };
+
+    fn index(self) -> usize {
+        let kind = match self.1 {
+            Kind::Stream => 0,
+            Kind::Future => 1,
+        };
+        self.0.saturating_mul(2).saturating_add(kind)
+    }
+}

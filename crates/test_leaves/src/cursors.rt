@@ -1,0 +1,61 @@
+//! Keys and numbers of a few receivers.
+use bcast_store::cursors::Cursors;
+use std::alloc::{AllocError, Global};
+use std::test::Fail;
+
+// A call, and what it must return.
+#[derive(Clone, Copy)]
+enum Step {
+    Add(u64, usize),
+    Set(usize, u64, bool),
+    Get(usize, Option<u64>),
+    Remove(usize, Option<u64>),
+    Len(usize),
+    IsEmpty(bool),
+}
+
+const STEPS: &[Step] = &[
+    Step::IsEmpty(true),
+    Step::Add(5, 0),
+    Step::Add(8, 1),
+    Step::Set(0, 6, true),
+    Step::Get(0, Some(6)),
+    Step::Get(1, Some(8)),
+    Step::Get(usize::MAX, None),
+    Step::Len(2),
+    Step::Remove(0, Some(6)),
+    Step::Set(0, 7, false),
+    Step::Get(0, None),
+    Step::Len(1),
+    Step::Add(9, 0),
+    Step::Len(2),
+    Step::IsEmpty(false),
+];
+
+// Makes the call. Whether it returns what it must.
+fn is_right(cursors: &mut Cursors, step: Step) -> Result<bool, AllocError> {
+    match step {
+        Step::Add(number, key) => Ok(cursors.add(number)? == key),
+        Step::Set(key, number, is_there) => Ok(cursors.set(key, number) == is_there),
+        Step::Get(key, number) => Ok(cursors.get(key) == number),
+        Step::Remove(key, number) => Ok(cursors.remove(key) == number),
+        Step::Len(len) => Ok(cursors.len() == len),
+        Step::IsEmpty(is_empty) => Ok(cursors.is_empty() == is_empty),
+    }
+}
+
+#[test]
+fn numbers_stand_under_their_keys(rt: HostRuntime) -> Result<(), Fail> {
+    let mut cursors = Cursors::new(rt.alloc());
+    for (index, step) in STEPS.iter().enumerate() {
+        assert!(rt; is_right(&mut cursors, *step)?, "step {index}");
+    }
+    assert!(rt; has_entries(&cursors, rt.alloc())?);
+    Ok(())
+}
+
+// Whether the entries are those after the last step.
+fn has_entries(cursors: &Cursors, alloc: Global) -> Result<bool, AllocError> {
+    let entries = cursors.entries(alloc)?;
+    Ok(entries.as_slice() == [(0, 9), (1, 8)].as_slice())
+}

@@ -1,0 +1,235 @@
+//! Which notices are called, how often and in which order, and what a refusal of memory leaves.
+use bcast_model::listener::Kind;
+use bcast_waiting::event::Event;
+use bcast_waiting::notice::{Notice, Silent};
+use linked_list_allocator::LocalHeap;
+use std::alloc::{AllocError, Allocator, Global};
+use std::cell::Cell;
+use std::test::Fail;
+
+type Id = (usize, Kind);
+
+// Appends its digit to the digits that the test reads.
+#[derive(Drop)]
+struct Noted<'a> {
+    digit: u64,
+    told: &'a Cell<u64>,
+}
+
+impl Notice for Noted<'_> {
+    fn tell(&self) {
+        let told = self.told.get();
+        self.told
+            .set(told.wrapping_mul(10).wrapping_add(self.digit));
+    }
+}
+
+// A call, and what it must return or leave.
+#[derive(Clone, Copy)]
+enum Step {
+    // Waits, with a notice of this digit.
+    Wait(Id, u64),
+    Renew(Id, u64),
+    Tell(usize),
+    TellAll,
+    Consume(Id, Option<bool>),
+    Abandon(Id),
+    IsTold(Id, Option<bool>),
+    // The digits of the notices that were called, in their order.
+    Called(u64),
+    Told(usize),
+    Len(usize),
+}
+
+const STREAM: Id = (0, Kind::Stream);
+
+const FUTURE: Id = (0, Kind::Future);
+
+const FAR: Id = (9, Kind::Stream);
+
+const OTHER: Id = (1, Kind::Stream);
+
+const FRONT_FIRST: &[Step] = &[
+    Step::Wait(STREAM, 1),
+    Step::Wait(FUTURE, 2),
+    Step::Wait(FAR, 3),
+    Step::Tell(2),
+    Step::Tell(2),
+    Step::Called(12),
+    Step::IsTold(FUTURE, Some(true)),
+    Step::IsTold(FAR, Some(false)),
+    Step::IsTold(OTHER, None),
+    Step::TellAll,
+    Step::TellAll,
+    Step::Called(123),
+];
+
+const GIVES_UP: &[Step] = &[
+    Step::Wait(STREAM, 1),
+    Step::Wait(FUTURE, 2),
+    Step::Wait(FAR, 3),
+    Step::Tell(1),
+    Step::Abandon(FAR),
+    Step::Called(1),
+    Step::Abandon(STREAM),
+    Step::Called(12),
+    Step::Consume(FUTURE, Some(true)),
+    Step::Consume(FUTURE, None),
+    Step::Len(0),
+];
+
+const RENEWED: &[Step] = &[
+    Step::Wait(STREAM, 1),
+    Step::Wait(FUTURE, 2),
+    Step::Renew(STREAM, 3),
+    Step::Wait(FUTURE, 4),
+    Step::Tell(1),
+    Step::Called(3),
+    Step::Wait(STREAM, 5),
+    Step::TellAll,
+    Step::Called(345),
+    Step::Told(2),
+    Step::Len(2),
+];
+
+const ANY_ORDER: &[Step] = &[
+    Step::Wait(STREAM, 1),
+    Step::Wait(FUTURE, 2),
+    Step::Wait(FAR, 3),
+    Step::Wait(OTHER, 4),
+    Step::Tell(2),
+    Step::Abandon(OTHER),
+    Step::Abandon(FUTURE),
+    Step::Consume(STREAM, Some(true)),
+    Step::IsTold(FAR, Some(false)),
+    Step::Wait(FUTURE, 5),
+    Step::Wait(STREAM, 6),
+    Step::TellAll,
+    Step::Called(12356),
+    Step::IsTold(FAR, Some(true)),
+    Step::Consume(FAR, Some(true)),
+    Step::Len(2),
+];
+
+// Lists a listener that must wait.
+fn wait<N: Notice, A: Allocator>(
+    event: &mut Event<Id, N, A>,
+    id: Id,
+    notice: N,
+) -> Result<bool, AllocError> {
+    event.reserve_for(id)?;
+    event.wait_again(id, notice);
+    Ok(event.is_untold(id))
+}
+
+// Gives a listener another notice, if it is not told.
+fn renew<N: Notice, A: Allocator>(event: &mut Event<Id, N, A>, id: Id, notice: N) -> bool {
+    let is_untold = event.is_untold(id);
+    if is_untold {
+        event.renew(id, notice);
+    }
+    is_untold
+}
+
+// Takes a listener out that gave up. Whether it is gone.
+fn abandon<N: Notice, A: Allocator>(event: &mut Event<Id, N, A>, id: Id) -> bool {
+    event.abandon(id);
+    event.is_told(id).is_none()
+}
+
+// Makes the call. Whether it returns what it must.
+fn is_right<'a>(
+    event: &mut Event<Id, Noted<'a>>,
+    told: &'a Cell<u64>,
+    step: Step,
+) -> Result<bool, AllocError> {
+    match step {
+        Step::Wait(id, digit) => wait(event, id, Noted { digit, told }),
+        Step::Renew(id, digit) => Ok(renew(event, id, Noted { digit, told })),
+        Step::Tell(count) => {
+            event.tell(count);
+            Ok(event.told() >= count)
+        }
+        Step::TellAll => {
+            event.tell_all();
+            Ok(event.told() == event.len())
+        }
+        Step::Consume(id, was_told) => Ok(event.consume(id) == was_told),
+        Step::Abandon(id) => Ok(abandon(event, id)),
+        Step::IsTold(id, is_told) => Ok(event.is_told(id) == is_told),
+        Step::Called(digits) => Ok(told.get() == digits),
+        Step::Told(count) => Ok(event.told() == count),
+        Step::Len(len) => Ok(event.len() == len),
+    }
+}
+
+// The index of the first step that returns something else.
+fn first_wrong(alloc: Global, steps: &[Step]) -> Result<Option<usize>, AllocError> {
+    let told = Cell::new(0);
+    let mut event = Event::new(alloc);
+    for (index, step) in steps.iter().enumerate() {
+        if !is_right(&mut event, &told, *step)? {
+            return Ok(Some(index));
+        }
+    }
+    Ok(None)
+}
+
+#[test]
+fn notices_are_called_in_their_order(rt: HostRuntime) -> Result<(), Fail> {
+    let tables = [
+        (
+            "each newly told one is called once, front first",
+            FRONT_FIRST,
+        ),
+        ("a told one that gives up tells the next", GIVES_UP),
+        ("the new notice is called", RENEWED),
+        ("listeners leave in any order", ANY_ORDER),
+    ];
+    for (name, steps) in tables {
+        assert_eq!(rt; first_wrong(rt.alloc(), steps)?, None, "{name}");
+    }
+    Ok(())
+}
+
+// The ids from the front, after some that waited.
+fn ids_of_three<A: Allocator + Copy>(alloc: A) -> Result<Vec<Id, A>, AllocError> {
+    let mut event = Event::new(alloc);
+    wait(&mut event, STREAM, Silent)?;
+    wait(&mut event, FUTURE, Silent)?;
+    wait(&mut event, FAR, Silent)?;
+    event.tell(1);
+    wait(&mut event, STREAM, Silent)?;
+    event.ids(alloc)
+}
+
+#[test]
+fn who_was_told_waits_again_last(rt: HostRuntime) -> Result<(), Fail> {
+    assert!(rt; ids_of_three(rt.alloc())?.as_slice() == [FUTURE, FAR, STREAM].as_slice());
+    Ok(())
+}
+
+// Whether a list stays as it is when memory for a greater id is refused, and finds it for one more.
+fn stays<A: Allocator + Copy>(alloc: A, refused: Id) -> Result<bool, AllocError> {
+    let mut event = Event::new(alloc);
+    wait(&mut event, STREAM, Silent)?;
+    event.tell(1);
+    wait(&mut event, FUTURE, Silent)?;
+    let is_refused = event.reserve_for(refused).is_err();
+    let stays = event.is_told(STREAM) == Some(true) && event.is_untold(FUTURE) && event.len() == 2;
+    Ok(is_refused && stays && wait(&mut event, OTHER, Silent)?)
+}
+
+#[test]
+fn a_refused_reserve_changes_nothing(rt: HostRuntime) -> Result<(), Fail> {
+    let heap = LocalHeap::new(rt.alloc(), 1 << 12)?;
+    assert!(rt;
+        stays(&heap, (1 << 12, Kind::Stream))?,
+        "more than the heap has"
+    );
+    assert!(rt;
+        stays(&heap, (usize::MAX, Kind::Future))?,
+        "a number that doesn't fit"
+    );
+    Ok(())
+}

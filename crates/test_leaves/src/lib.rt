@@ -1,0 +1,15 @@
+//! Tests of the leaves over their public surface: tables of steps, and lists of calls.
+#![tactic(auto)]
+
+#[cfg(test)]
+mod cursors;
+#[cfg(test)]
+mod event;
+#[cfg(test)]
+mod places;
+#[cfg(test)]
+mod receives;
+#[cfg(test)]
+mod sends;
+#[cfg(test)]
+mod store;

@@ -1,0 +1,86 @@
+//! The store's calls.
+use super::{Seen, Tried};
+use bcast_store::Store;
+use std::alloc::{AllocError, Global};
+
+impl Tried for Store<u8> {
+    fn seen(&self) -> Seen {
+        Seen {
+            front: self.front(),
+            end: self.end(),
+            len: self.len(),
+            is_empty: self.is_empty(),
+            room: self.room(),
+            receivers: self.receivers(),
+            has_no_receiver: self.has_no_receiver(),
+        }
+    }
+
+    fn message(&self, index: usize) -> Option<u8> {
+        self.get(index).copied()
+    }
+
+    fn cursor_of(&self, key: usize) -> Option<u64> {
+        self.cursor(key)
+    }
+
+    fn entries(&self, alloc: Global) -> Result<Vec<(usize, u64)>, AllocError> {
+        self.cursors(alloc)
+    }
+
+    fn try_push(&mut self, msg: u8) {
+        if !self.has_no_receiver() && self.len() < self.room() && self.end() < u64::MAX {
+            self.push(msg);
+        }
+    }
+
+    fn try_pop(&mut self) -> Option<u8> {
+        self.pop()
+    }
+
+    fn try_drop_first(&mut self) {
+        if self.len() > 0 {
+            self.drop_first(1);
+        }
+    }
+
+    fn try_grow(&mut self) -> Result<(), AllocError> {
+        let room = self.room();
+        if room >= 4 {
+            return Ok(());
+        }
+        self.grow(room + 1)
+    }
+
+    fn try_add(&mut self, cursor: u64) -> Result<Option<usize>, AllocError> {
+        if cursor > self.end() {
+            return Ok(None);
+        }
+        let key = self.add(cursor)?;
+        Ok(Some(key))
+    }
+
+    fn try_remove(&mut self, key: usize) -> bool {
+        self.remove(key)
+    }
+
+    fn try_skip(&mut self, key: usize) {
+        if let Some(cursor) = self.cursor(key)
+            && cursor < self.front()
+        {
+            self.skip(key);
+        }
+    }
+
+    fn try_read(&mut self, key: usize) -> Result<Option<u8>, AllocError> {
+        let Some(cursor) = self.cursor(key) else {
+            return Ok(None);
+        };
+        let number = cursor.max(self.front());
+        if number >= self.end() {
+            return Ok(None);
+        }
+        let msg = self.read(key, number)?;
+        Ok(Some(msg))
+    }
+}

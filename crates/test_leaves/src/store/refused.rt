@@ -1,0 +1,156 @@
+//! The calls that take memory while it is refused.
+use bcast_store::Store;
+use linked_list_allocator::LocalHeap;
+use std::alloc::{AllocError, Allocator};
+use std::test::Fail;
+
+// A message that takes memory.
+trait Text: Clone + Drop {
+    fn is_whole(&self) -> bool;
+}
+
+#[derive(Drop)]
+struct Message<'a> {
+    bytes: Vec<u8, &'a LocalHeap>,
+}
+
+impl<'a> Clone for Message<'a> {
+    fn clone(&self) -> Result<Message<'a>, AllocError> {
+        let bytes = self.bytes.clone()?;
+        Ok(Message { bytes })
+    }
+}
+
+const TEXT: [u8; 24] = *b"a message of some length";
+
+impl Text for Message<'_> {
+    fn is_whole(&self) -> bool {
+        self.bytes.as_slice() == TEXT.as_slice()
+    }
+}
+
+// Which calls were refused their memory, and whether each left the store as it must.
+#[derive(Clone, Copy, PartialEq, Eq)]
+struct Refused {
+    new: bool,
+    grow: bool,
+    read: bool,
+    is_right: bool,
+}
+
+fn push<T: Drop, A: Allocator + Copy>(store: &mut Store<T, A>, msg: T) {
+    if !store.has_no_receiver() && store.len() < store.room() && store.end() < u64::MAX {
+        store.push(msg);
+    }
+}
+
+fn add<T: Drop, A: Allocator + Copy>(
+    store: &mut Store<T, A>,
+    cursor: u64,
+) -> Result<usize, AllocError> {
+    if cursor > store.end() {
+        return Err(AllocError);
+    }
+    store.add(cursor)
+}
+
+// Whether more room was refused, if it is as great as it must be then.
+fn grow<T: Drop, A: Allocator + Copy>(store: &mut Store<T, A>) -> Option<bool> {
+    if store.room() > 9 {
+        return None;
+    }
+    let is_refused = store.grow(9).is_err();
+    let room = if is_refused { 1 } else { 9 };
+    if store.room() == room {
+        Some(is_refused)
+    } else {
+        None
+    }
+}
+
+// Whether a receiver is given a message, and it is whole.
+fn reads<T: Text, A: Allocator + Copy>(store: &mut Store<T, A>, key: usize) -> Option<bool> {
+    let number = store.cursor(key)?.max(store.front());
+    if number >= store.end() {
+        return None;
+    }
+    Some(store.read(key, number).ok()?.is_whole())
+}
+
+// Two receivers read a message, with what memory there is.
+fn two_read<T: Text, A: Allocator + Copy>(alloc: A, msg: T) -> Result<Refused, AllocError> {
+    let Ok((mut store, first)) = Store::new(alloc, 7, 1) else {
+        return Ok(Refused {
+            new: true,
+            grow: false,
+            read: false,
+            is_right: true,
+        });
+    };
+    push(&mut store, msg);
+    let second = add(&mut store, 7)?;
+    let grow = grow(&mut store);
+    let read = reads(&mut store, first);
+    let mut is_right = grow.is_some() && read != Some(false) && store.len() == 1;
+    if read.is_none() {
+        is_right &= store.cursor(first) == Some(7);
+        store.remove(first);
+    }
+    // The last reader takes no memory.
+    is_right &= reads(&mut store, second) == Some(true) && store.front() == 8;
+    Ok(Refused {
+        new: false,
+        grow: grow == Some(true),
+        read: read.is_none(),
+        is_right,
+    })
+}
+
+// As above, on a heap of this size; none where the heap doesn't even have the message.
+fn run(heap: &LocalHeap) -> Result<Refused, AllocError> {
+    let bytes = Vec::from_slice(heap, TEXT.as_slice())?;
+    two_read(heap, Message { bytes })
+}
+
+#[test]
+fn refused_memory_changes_nothing(rt: HostRuntime) -> Result<(), Fail> {
+    let (mut new, mut both, mut last) = (false, false, None);
+    for size in 4..64 {
+        let heap = LocalHeap::new(rt.alloc(), size * 16)?;
+        let Ok(refused) = run(&heap) else { continue };
+        assert!(rt; refused.is_right, "{size}");
+        new |= refused.new;
+        both |= refused.grow && refused.read;
+        last = Some(refused);
+    }
+    assert!(rt; new, "new");
+    assert!(rt; both, "grow and read");
+    assert!(rt;
+        last == Some(Refused {
+            new: false,
+            grow: false,
+            read: false,
+            is_right: true
+        })
+    );
+    Ok(())
+}
+
+// How many receivers a store has when one more is refused, if it is else as it was made.
+fn refused_receiver<A: Allocator + Copy>(alloc: A) -> Result<Option<usize>, AllocError> {
+    let (mut store, _) = Store::<u8, A>::new(alloc, 7, 1)?;
+    for added in 1..64 {
+        if add(&mut store, 7).is_err() {
+            let is_same = store.receivers() == added && store.end() == 7;
+            return Ok(if is_same { Some(added) } else { None });
+        }
+    }
+    Ok(None)
+}
+
+#[test]
+fn a_refused_receiver_is_not_added(rt: HostRuntime) -> Result<(), Fail> {
+    let heap = LocalHeap::new(rt.alloc(), 512)?;
+    assert!(rt; refused_receiver(&heap)?.is_some());
+    Ok(())
+}
