@@ -4,6 +4,7 @@ use Rattle.std.proofs.lemmas.Bool.{cases_lt}
 use Rattle.std.proofs.lemmas.List.{drop_at, nil_from_length}
 use Rattle.std.proofs.lemmas.Grind.{common_steps}
 use Rattle.std.proofs.lemmas.Option.{none-some, same_Some}
+use Rattle.std.specs.declared.alloc.AllocError.{AllocError}
 use Rattle.std.specs.FinMap.{get, len, values}
 use Rattle.futures.specs.declared.task.Poll.{Poll}
 use Rattle.bcast_model.specs.declared.error.HandleError.{HandleError}
@@ -99,6 +100,9 @@ module _ {S : Type 0} where
         | true ↦ heard v (settle v (sets c)) key (pair_waits c (stream_of key)) refl refl refl refl here
         | false ↦ heard v (settle v (sets c)) key (pair_answered c (stream_of key)) refl refl refl refl here
       ])
+
+  pub poll_refused : {is_clone : S → S → Type 0} {v w : View S} {key : ℕ} {error : AllocError} → Answers is_clone v (call.PollNext key) (reply.PollNext (Err error)) w → w ≡ v
+  poll_refused a = unchanged a refl refl
 
   -- ---- `new_receiver`
   -- a watcher more has seen the latest settings

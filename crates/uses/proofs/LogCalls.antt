@@ -23,8 +23,9 @@ use Rattle.bcast_model.specs.View.{View, kept_at}
 use Rattle.bcast_model.specs.Answers.{Answers}
 use Rattle.bcast_model.specs.Laws.{IsValidView}
 use Rattle.bcast_model.proofs.Cases.{receive_is}
+use Rattle.bcast_model.proofs.Clones.{answers_exact}
 use Rattle.bcast_core.proofs.Settle.{settle_idle}
-use Rattle.uses.specs.Log.{kept_from, unread, record_of, IsReader, IsLog, KeepsReaders, KeepsUnread}
+use Rattle.uses.specs.Log.{kept_from, unread, record_of, IsReader, IsLog, IsRead, KeepsReaders, KeepsUnread}
 use Rattle.uses.proofs.Called.{told, some_of, valid, after, unchanged}
 use Rattle.uses.proofs.Exact.{exact_of}
 use Rattle.uses.proofs.Logs.{told_log, ReadsFrom, told_reads, reads_from}
@@ -104,6 +105,11 @@ module _ {T : Type 0} where
       after a (λ u. Reads v u key (item_of received)) (λ u s. told_read v u key (item_of received) s)
       (subst (λ r. Reads v (settle v (sets (receive v.front v.end v.control key o))) key (item_of r)) (sym exact) (reads_at v key log (valid a) o refl))
   reads equal (Err error) sure a log = absurd (let e : false ≡ true = sure in cc)
+
+  pub read_answers : {is_clone : T → T → Type 0} {v w : View T} {key : ℕ} → ClonesEqual is_clone → (result : Result (Result T TryRecvError) AllocError) → IsOk result
+      → Answers is_clone v (call.TryRecv key) (reply.TryRecv result) w → IsRead v key (record_of result) w
+  read_answers equal (Ok received) sure a = record { received = received; item = refl; answers = answers_exact equal a }
+  read_answers equal (Err error) sure a = absurd (let e : false ≡ true = sure in cc)
 
   -- ---- `clone`
   -- what a reader more, or its refusal, leaves

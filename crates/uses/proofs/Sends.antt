@@ -1,5 +1,5 @@
 -- A message that a channel accepts, and one that it refuses.
-use Rattle.std.proofs.Common.{◌≡◌, ◌∷◌, ◌++◌, [], ◌+◌, ◌&&◌, not, Bool, true, false, cond, Option, Some, None, Result, Ok, Err, refl, sym, ap, subst}
+use Rattle.std.proofs.Common.{◌≡◌, ◌∷◌, ◌++◌, [], ◌+◌, ◌&&◌, not, Bool, true, false, cond, Option, Some, None, Result, Ok, Err, slice_get, refl, sym, ap, ◌∙◌, subst}
 use Rattle.std.proofs.lemmas.Bool.{true≢false}
 use Rattle.std.proofs.lemmas.Option.{none-some}
 use Rattle.bcast_model.specs.declared.error.TrySendError.{TrySendError}
@@ -21,6 +21,10 @@ module _ {T : Type 0} where
   accepted_is : (back kept : Option T) (refused : Option (TrySendError T)) → Ok kept ≡ sent back refused → refused ≡ None
   accepted_is back kept (Some other) e = cc
   accepted_is back kept None e = refl
+
+  kept_is : (back kept : Option T) (refused : Option (TrySendError T)) → Ok kept ≡ sent back refused → kept ≡ back
+  kept_is back kept (Some other) e = cc
+  kept_is back kept None e = cc
 
   -- if a message is accepted without overflow, somebody receives and there is room
   room_of : (closed none full over : Bool) (x y z : TrySendError T) → over ≡ false → cond closed (Some x) (cond none (Some y) (cond (full && not over) (Some z) None)) ≡ None → (none ≡ false) × (full ≡ false)
@@ -52,3 +56,10 @@ module _ {T : Type 0} where
 
     pub sent_last : {back : Option T} → Answers is_clone v (call.TryBroadcast msg) (reply.TryBroadcast (Ok back)) w → v.control.overflow ≡ false → (w.queue ≡ v.queue ++ msg ∷ []) × (w.end ≡ v.end + 1)
     sent_last a plain = put_last a plain (λ u. (u.queue ≡ v.queue ++ msg ∷ []) × (u.end ≡ v.end + 1)) (λ _ s. s) (refl, refl)
+
+    -- and no message is handed back
+    pub sent_answers : {back : Option T} → Answers is_clone v (call.TryBroadcast msg) (reply.TryBroadcast (Ok back)) w → v.control.overflow ≡ false → Answers is_clone v (call.TryBroadcast msg) (reply.TryBroadcast (Ok None)) w
+    sent_answers {back = back} a plain =
+        let room = room_of v.control.closed (has_no_receiver v.control) (is_full v) v.control.overflow _ _ _ plain (none_refused a) in
+        let none : back ≡ None = kept_is (handed_back v) back (refusal v msg) (replied a) ∙ ap (λ b. cond b (slice_get v.queue 0) None) room.1 in
+        subst (λ o. Answers is_clone v (call.TryBroadcast msg) (reply.TryBroadcast (Ok o)) w) none a

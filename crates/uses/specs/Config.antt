@@ -1,10 +1,13 @@
 -- Settings that watchers follow: what one finds that looks late.
-use Rattle.std.specs.Prelude.{◌≡◌, ◌≢◌, ℕ, ◌+◌, ◌≤◌, true, [], ◌∷◌, Option, Some, None}
+use Rattle.std.specs.Prelude.{◌≡◌, ◌≢◌, ℕ, ◌+◌, ◌≤◌, true, [], ◌∷◌, Option, Some, None, Ok}
 use Rattle.std.specs.FinMap.{get, len}
 use Rattle.futures.specs.declared.task.Poll.{Poll}
 use Rattle.futures.specs.declared.task.Poll.TheVariants as poll
 use Rattle.bcast_model.specs.Legal.{IsGiven}
+use Rattle.bcast_model.specs.declared.run.Call.TheVariants as call
+use Rattle.bcast_model.specs.declared.run.Reply.TheVariants as reply
 use Rattle.bcast_model.specs.View.{View}
+use Rattle.bcast_model.specs.Answers.{Answers}
 use Rattle.uses.specs.declared.config_watcher.Change.{Change}
 
 module _ {S : Type 0} where
@@ -37,3 +40,11 @@ module _ {S : Type 0} where
   abbrev pub change_of : Poll (Option (S × ℕ)) → Option (Change S)
   change_of (poll.Ready (Some (settings, missed))) = Some (record { settings = settings; missed = missed })
   change_of other = None
+
+  -- `poll_next`: a reply to this watcher, read as a change or none, and all that it changes
+  pub record IsLook
+      (is_clone : S → S → Type 0) (old : View S) (watcher : ℕ) (found : Option (Change S))
+      (new : View S) : Type 0 where
+    pub polled : Poll (Option (S × ℕ))
+    pub change : found ≡ change_of polled
+    pub answers : Answers is_clone old (call.PollNext watcher) (reply.PollNext (Ok polled)) new

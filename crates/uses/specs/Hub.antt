@@ -26,7 +26,7 @@ module _ {E : Type 0} where
   event_of (Ok event) = Some event
   event_of (Err error) = None
 
-  -- `try_recv`: an answer to this subscriber, read as an event or none
+  -- `try_recv`: a reply to this subscriber, read as an event or none
   pub record IsNextEvent
       (is_clone : E → E → Type 0) (old : View E) (subscriber : ℕ) (found : Option E)
       (new : View E) : Type 0 where

@@ -1,4 +1,4 @@
--- how a send without overflow is answered
+-- what a send without overflow returns
 pub mod Sends
 -- a signal to stop
 pub mod Signal

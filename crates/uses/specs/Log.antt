@@ -3,7 +3,11 @@ use Rattle.std.specs.Prelude.{◌≡◌, ◌≢◌, ℕ, ◌-◌, ◌≤◌, fal
 use Rattle.std.specs.FinMap.{get}
 use Rattle.std.specs.declared.alloc.AllocError.{AllocError}
 use Rattle.bcast_model.specs.declared.error.TryRecvError.{TryRecvError}
+use Rattle.bcast_model.specs.declared.run.Call.TheVariants as call
+use Rattle.bcast_model.specs.declared.run.Reply.TheVariants as reply
+use Rattle.bcast_model.specs.Given.{NoClone}
 use Rattle.bcast_model.specs.View.{View}
+use Rattle.bcast_model.specs.Answers.{Answers}
 
 module _ {T : Type 0} where
   -- the kept messages from this cursor on
@@ -11,7 +15,7 @@ module _ {T : Type 0} where
   kept_from v None = []
   kept_from v (Some cursor) = drop (cursor - v.front) v.queue
 
-  -- what a reader is still to read, in the order of writing: nothing where there is no such reader
+  -- what a reader is still to read, in the order of writing: nothing if there is no such reader
   abbrev pub unread : View T → ℕ → List T
   unread v reader = kept_from v (get v.control.cursors reader)
 
@@ -39,3 +43,9 @@ module _ {T : Type 0} where
   abbrev pub record_of : Result (Result T TryRecvError) AllocError → Option T
   record_of (Ok (Ok item)) = Some item
   record_of other = None
+
+  -- `try_recv`: a reply to this reader, read as a record or none, and all that it changes
+  pub record IsRead (old : View T) (reader : ℕ) (found : Option T) (new : View T) : Type 0 where
+    pub received : Result T TryRecvError
+    pub item : found ≡ record_of (Ok received)
+    pub answers : Answers NoClone old (call.TryRecv reader) (reply.TryRecv (Ok received)) new

@@ -20,7 +20,7 @@ signal_code = code_by (ℕ × Cursors) (coded× coded_ℕ (code coded_ℕ coded_
 abbrev pub signal_of : View (Unit {0}) → Signal
 signal_of v = record { holders = v.control.senders; workers = v.control.cursors }
 
--- nothing was ever sent, and the channel is closed exactly where no sender is left
+-- nothing was ever sent, and the channel is closed exactly if no sender is left
 pub record IsSignal (v : View (Unit {0})) : Type 0 where
   pub unused : v.end ≡ 0
   pub closed : v.control.closed ≡ (v.control.senders == 0)

@@ -2,7 +2,7 @@
 ghost use Rattle.std.specs.Prelude.{◌≡◌, ◌+◌, ◌<◌, ◌^◌, [], ◌∷◌, false, Some, IfOk, IfErr, IfSome, IfNone, OnOk, OnErr, IsOk};
 ghost use Rattle.std.specs.FinMap.{get};
 ghost use Rattle.bcast_model.specs.Errors.{unsent_message};
-ghost use Rattle.uses.specs.Config.{IsLatest, IsUpToDate, KeepsOthers, change_of};
+ghost use Rattle.uses.specs.Config.{IsLatest, IsUpToDate, KeepsOthers, IsLook, change_of};
 
 use bcast_core::{HandleError, Inner, Silent, TrySendError};
 use futures::task::Poll;
@@ -78,7 +78,7 @@ impl<S: Clone> Config<S> {
         into_settings(self.inner.try_broadcast(settings))
     }
 
-    /// Adds a watcher that has seen the latest settings, and answers its key.
+    /// Adds a watcher that has seen the latest settings, and returns its key.
     ///
     /// # Errors
     ///
@@ -105,7 +105,10 @@ impl<S: Clone> Config<S> {
         ensures none { IfOk result (λ found. IfNone found (IsUpToDate self.old watcher)) }
         ensures seen { OnOk result (IsUpToDate self.new watcher) }
         ensures others { KeepsOthers self.old self.new watcher }
+        ensures answers { IfOk result (λ found. IsLook S.is_clone self.old watcher found self.new) }
         ensures err { OnErr result (self.new ≡ self.old) }
+        // If no clone fails, there is an answer.
+        ensures sure { ((settings : S) → S.is_infallible settings) → IsOk result }
     {
         Ok(into_change(self.inner.poll_next(watcher, Silent)?))
     }

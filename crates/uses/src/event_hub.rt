@@ -1,5 +1,5 @@
 //! Events for subscribers that come and go.
-ghost use Rattle.std.specs.Prelude.{◌≡◌, ◌+◌, ◌<◌, ◌≤◌, ◌∷◌, [], ◌++◌, IfOk, IfErr, IfSome, OnOk, OnErr};
+ghost use Rattle.std.specs.Prelude.{◌≡◌, ◌+◌, ◌<◌, ◌≤◌, ◌∷◌, [], ◌++◌, IfOk, IfErr, IfSome, IsOk, OnOk, OnErr};
 ghost use Rattle.bcast_model.specs.Errors.{unsent_message};
 ghost use Rattle.bcast_model.specs.History.{opening};
 ghost use Rattle.bcast_model.specs.Legal.{NoClone};
@@ -8,7 +8,7 @@ ghost use Rattle.bcast_model.specs.Answers.{Answers, Represents};
 ghost use Rattle.bcast_model.specs.declared.run.Call.TheVariants as call;
 ghost use Rattle.bcast_model.specs.declared.run.Reply.TheVariants as reply;
 ghost use Rattle.uses.specs.Hub.{IsOpened, IsNextEvent, event_of};
-ghost use Rattle.uses.specs.Sends.{send_answer};
+ghost use Rattle.uses.specs.Sends.{send_answer, send_reply};
 
 use bcast_core::{HandleError, Inner, Silent, TryRecvError, TrySendError};
 use bcast_model::laws::received_is_given;
@@ -76,12 +76,14 @@ impl<E: Clone> EventHub<E> {
         ensures back { IfErr result (λ error. unsent_message error ≡ event) }
         ensures err { OnErr result (self.new ≡ self.old) }
         ensures answer { result ≡ send_answer self.old event }
+        ensures answers { Answers NoClone self.old (call.TryBroadcast event)
+            (reply.TryBroadcast (send_reply result)) self.new }
     {
         self.inner.try_broadcast(event)?;
         Ok(())
     }
 
-    /// Adds a subscriber that gets the events to come, and answers its key.
+    /// Adds a subscriber that gets the events to come, and returns its key.
     ///
     /// # Errors
     ///
@@ -92,7 +94,7 @@ impl<E: Clone> EventHub<E> {
         self.inner.new_receiver()
     }
 
-    /// Adds a subscriber that gets what this one is still to get, and answers its key.
+    /// Adds a subscriber that gets what this one is still to get, and returns its key.
     ///
     /// # Errors
     ///
@@ -126,6 +128,8 @@ impl<E: Clone> EventHub<E> {
         ensures answers { IfOk result (λ found.
             IsNextEvent E.is_clone self.old subscriber found self.new) }
         ensures err { OnErr result (self.new ≡ self.old) }
+        // If no clone fails, there is an answer.
+        ensures sure { ((event : E) → E.is_infallible event) → IsOk result }
     {
         received_is_given::<E>();
         Ok(into_event(self.inner.try_recv(subscriber)?))

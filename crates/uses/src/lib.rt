@@ -14,7 +14,7 @@ pub mod event_hub;
 pub mod log_fan_out;
 pub mod shutdown;
 
-/// Sends a text over a new channel of capacity 1 to two receivers, and answers what each got.
+/// Sends a text over a new channel of capacity 1 to two receivers, and returns what each got.
 ///
 /// Each text that comes back has the bytes of `text`. `None` says that there was no memory for the
 /// second receiver, or that the channel refused the text or gave none.

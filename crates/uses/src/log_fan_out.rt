@@ -1,8 +1,12 @@
 //! A log whose readers agree on the order.
 ghost use Rattle.std.specs.Prelude.{◌≡◌, ◌↔◌, ◌<◌, ◌∷◌, [], false, IfOk, IfErr, IfSome, IfNone, OnOk, OnErr, IsErrOf};
 ghost use Rattle.bcast_model.specs.Errors.{unsent_message};
-ghost use Rattle.uses.specs.Sends.{send_answer};
-ghost use Rattle.uses.specs.Log.{unread, record_of, IsReader, KeepsReaders, AddsUnread, KeepsUnread};
+ghost use Rattle.bcast_model.specs.Legal.{NoClone};
+ghost use Rattle.bcast_model.specs.Answers.{Answers};
+ghost use Rattle.bcast_model.specs.declared.run.Call.TheVariants as call;
+ghost use Rattle.bcast_model.specs.declared.run.Reply.TheVariants as reply;
+ghost use Rattle.uses.specs.Sends.{send_answer, send_reply};
+ghost use Rattle.uses.specs.Log.{unread, record_of, IsReader, KeepsReaders, AddsUnread, KeepsUnread, IsRead};
 
 use bcast_core::{HandleError, Inner, Silent, TryRecvError, TrySendError};
 use std::alloc::{AllocError, Global};
@@ -65,12 +69,14 @@ impl Log {
         ensures back { IfErr result (λ error. unsent_message error ≡ entry) }
         ensures err { OnErr result (self.new ≡ self.old) }
         ensures answer { result ≡ send_answer self.old entry }
+        ensures answers { Answers NoClone self.old (call.TryBroadcast entry)
+            (reply.TryBroadcast (send_reply result)) self.new }
     {
         self.inner.try_broadcast(entry)?;
         Ok(())
     }
 
-    /// Adds a reader that reads what this one is still to read, and answers its key.
+    /// Adds a reader that reads what this one is still to read, and returns its key.
     ///
     /// # Errors
     ///
@@ -86,6 +92,8 @@ impl Log {
         ensures gone { IsErrOf result HandleError.Gone ↔ (IsReader self.old reader → ⊥) }
         ensures memory { IsReader self.old reader
             → IfErr result (λ error. error ≡ HandleError.Memory) }
+        ensures answers { Answers NoClone self.old (call.CloneReceiver reader)
+            (reply.CloneReceiver result) self.new }
     {
         self.inner.clone_receiver(reader)
     }
@@ -97,6 +105,7 @@ impl Log {
         ensures none { IfNone result (unread self.old reader ≡ []) }
         ensures others { KeepsUnread self.old self.new reader }
         ensures readers { KeepsReaders self.old self.new }
+        ensures answers { IsRead self.old reader result self.new }
     {
         into_record(self.inner.try_recv(reader))
     }

@@ -68,7 +68,7 @@ impl Shutdown {
         self.inner.drop_sender();
     }
 
-    /// Adds a worker, and answers its key.
+    /// Adds a worker, and returns its key.
     ///
     /// # Errors
     ///

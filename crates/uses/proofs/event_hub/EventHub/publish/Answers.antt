@@ -1,4 +1,4 @@
-use Rattle.uses.proofs.Sends.{sent_last}
+use Rattle.uses.proofs.Sends.{sent_last, sent_answers}
 use Rattle.uses.proofs.event_hub.EventHub.publish.Goals as goal
 
 pub returns-clause-accepted : goal.returns-clause-accepted
@@ -6,3 +6,6 @@ returns-clause-accepted g c = rw (← c.self.view_is) (sent_last c.in_ok-try_bro
 
 pub returns-clause-counted : goal.returns-clause-counted
 returns-clause-counted g c = rw (← c.self.view_is) (sent_last c.in_ok-try_broadcast.ensures c.self.invariant.overflow).1
+
+pub returns-clause-answers : goal.returns-clause-answers
+returns-clause-answers g c = rw (← c.self.view_is) (sent_answers c.in_ok-try_broadcast.ensures c.self.invariant.overflow)

@@ -1,7 +1,7 @@
 use Rattle.std.proofs.Common.{subst, sym}
 use Rattle.uses.specs.Log.{IsLog}
 use Rattle.uses.proofs.Logs.{writes}
-use Rattle.uses.proofs.Sends.{refused_send}
+use Rattle.uses.proofs.Sends.{refused_send, sent_answers}
 use Rattle.uses.proofs.log_fan_out.Log.write.Goals as goal
 
 pub invariant_of-self : goal.invariant_of-self
@@ -12,3 +12,6 @@ invariant_of-self-2 c = (writes c.in_ok-try_broadcast.ensures c.self.invariant).
 
 pub returns-clause-written : goal.returns-clause-written
 returns-clause-written c = rw (← c.self.view_is) (writes c.in_ok-try_broadcast.ensures c.self.invariant).added
+
+pub returns-clause-answers : goal.returns-clause-answers
+returns-clause-answers c = rw (← c.self.view_is) (sent_answers c.in_ok-try_broadcast.ensures c.self.invariant.overflow)

@@ -1,0 +1,111 @@
+//! Events and their subscribers.
+use bcast_core::TrySendError;
+use std::alloc::AllocError;
+use std::test::Fail;
+use uses::event_hub::EventHub;
+
+/// A call, and what comes of it. Subscribers are counted in the order of coming.
+#[derive(Clone, Copy)]
+enum Step {
+    /// The event is published.
+    Publish(u64),
+    /// The event comes back: some subscriber is behind.
+    Full(u64),
+    /// The event comes back: there is no subscriber.
+    Inactive(u64),
+    /// A subscriber is added.
+    Subscribe,
+    /// A subscriber like this one is added.
+    SubscribeLike(usize),
+    /// This subscriber is taken out.
+    Unsubscribe(usize),
+    /// This subscriber gets this event, or none.
+    Next(usize, Option<u64>),
+}
+
+const RUNS: &[(&str, &[Step])] = &[
+    (
+        "a full hub hands the event back",
+        &[
+            Step::Subscribe,
+            Step::SubscribeLike(0),
+            Step::Publish(5),
+            Step::Next(0, Some(5)),
+            Step::Full(6),
+            Step::Next(1, Some(5)),
+            Step::Next(1, None),
+            Step::Publish(6),
+        ],
+    ),
+    (
+        "a hub outlives its subscribers",
+        &[
+            Step::Subscribe,
+            Step::SubscribeLike(0),
+            Step::Unsubscribe(0),
+            Step::Unsubscribe(1),
+            Step::Inactive(5),
+            Step::Subscribe,
+            Step::Publish(6),
+            Step::Next(2, Some(6)),
+        ],
+    ),
+];
+
+/// Whether a call does what the step says. `subscribers` holds the keys.
+fn goes_so(
+    hub: &mut EventHub<u64>,
+    subscribers: &mut Vec<usize>,
+    step: Step,
+) -> Result<bool, AllocError> {
+    match step {
+        Step::Publish(event) => Ok(hub.publish(event).is_ok()),
+        Step::Full(event) => Ok(hub.publish(event) == Err(TrySendError::Full(event))),
+        Step::Inactive(event) => Ok(hub.publish(event) == Err(TrySendError::Inactive(event))),
+        Step::Subscribe => {
+            let Ok(key) = hub.subscribe() else {
+                return Ok(false);
+            };
+            subscribers.push(key)?;
+            Ok(true)
+        }
+        Step::SubscribeLike(subscriber) => {
+            let Some(like) = subscribers.get(subscriber) else {
+                return Ok(false);
+            };
+            let Ok(key) = hub.subscribe_like(*like) else {
+                return Ok(false);
+            };
+            subscribers.push(key)?;
+            Ok(true)
+        }
+        Step::Unsubscribe(subscriber) => {
+            let Some(key) = subscribers.get(subscriber) else {
+                return Ok(false);
+            };
+            hub.unsubscribe(*key);
+            Ok(true)
+        }
+        Step::Next(subscriber, event) => {
+            let Some(key) = subscribers.get(subscriber) else {
+                return Ok(false);
+            };
+            Ok(hub.next_event(*key)? == event)
+        }
+    }
+}
+
+#[test]
+fn subscribers_get_their_events(rt: HostRuntime) -> Result<(), Fail> {
+    for (name, steps) in RUNS {
+        let mut hub = EventHub::new(rt.alloc(), 1).ok().ok_or("no hub")?;
+        let mut subscribers = Vec::new(rt.alloc());
+        for (index, step) in steps.iter().enumerate() {
+            assert!(rt;
+                goes_so(&mut hub, &mut subscribers, *step)?,
+                "{name}: step {index}"
+            );
+        }
+    }
+    Ok(())
+}
