@@ -1,7 +1,0 @@
-use Rattle.record_tests.proofs.replays.calls_of_two_threads_replay.Given as goal
-
-abbrev pub ghosts-record-R-Ledger : goal.ghosts-record-R-Ledger
-ghosts-record-R-Ledger g a = record { name = a.calls.name; parts = a.calls.parts }
-
-abbrev pub ghosts-record-R-Named : goal.ghosts-record-R-Named
-ghosts-record-R-Named g a = record { book = a.journal }

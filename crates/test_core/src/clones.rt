@@ -1,0 +1,149 @@
+//! Receives whose message can't be cloned.
+ghost use Rattle.std.specs.Prelude.{IfOk};
+ghost use Rattle.bcast_model.specs.Next.{HasPositiveCapacity};
+
+use crate::channel::channel;
+use bcast_core::{Call, Inner, Reply, Silent, TryRecvError, step};
+use futures::task::Poll;
+use std::alloc::{AllocError, Global};
+use std::cell::Cell;
+use std::process::Abort;
+use std::rc::Rc;
+
+/// Whether clones are refused.
+type Refuses = Rc<Cell<bool>>;
+
+/// A message that refuses to be cloned while it is told to.
+#[derive(Drop)]
+struct Fragile {
+    number: u64,
+    refuses: Refuses,
+}
+
+impl Clone for Fragile {
+    fn clone(&self) -> Result<Fragile, AllocError> {
+        if self.refuses.get() {
+            return Err(AllocError);
+        }
+        let refuses = self.refuses.clone()?;
+        Ok(Fragile {
+            number: self.number,
+            refuses,
+        })
+    }
+}
+
+type Channel = Inner<Fragile, Silent>;
+
+/// A call, with the number of the message or the receiver's key.
+#[derive(Clone, Copy)]
+enum Step {
+    SetOverflow,
+    CloneReceiver,
+    Send(u64),
+    Receive(usize),
+    PollRecv(usize),
+    PollNext(usize),
+}
+
+/// What a reply says, a message by its number.
+#[derive(Clone, Copy, PartialEq, Eq)]
+enum Answer {
+    Done,
+    Sent,
+    Receiver(usize),
+    Message(u64),
+    Missed(u64),
+    NoMemory,
+    Other,
+}
+
+fn call_of(step: Step, refuses: &Refuses) -> Result<Call<Fragile>, AllocError>
+    ensures { IfOk result HasPositiveCapacity }
+{
+    Ok(match step {
+        Step::SetOverflow => Call::SetOverflow(true),
+        Step::CloneReceiver => Call::CloneReceiver(0),
+        Step::Send(number) => {
+            let refuses = refuses.clone()?;
+            Call::TryBroadcast(Fragile { number, refuses })
+        }
+        Step::Receive(key) => Call::TryRecv(key),
+        Step::PollRecv(key) => Call::PollRecv(key),
+        Step::PollNext(key) => Call::PollNext(key),
+    })
+}
+
+fn answer_of(reply: Reply<Fragile>) -> Answer {
+    match reply {
+        Reply::SetOverflow => Answer::Done,
+        Reply::CloneReceiver(Ok(key)) => Answer::Receiver(key),
+        Reply::TryBroadcast(Ok(_)) => Answer::Sent,
+        Reply::TryRecv(Ok(Ok(msg))) => Answer::Message(msg.number),
+        Reply::TryRecv(Ok(Err(TryRecvError::Overflowed(missed)))) => Answer::Missed(missed),
+        Reply::PollRecv(Ok(Poll::Ready(Some(Ok(msg))))) => Answer::Message(msg.number),
+        Reply::TryRecv(Err(_)) | Reply::PollRecv(Err(_)) | Reply::PollNext(Err(_)) => {
+            Answer::NoMemory
+        }
+        _ => Answer::Other,
+    }
+}
+
+/// What is played, and the calls on a new channel of capacity 1, with whether clones are refused,
+/// and the answer.
+const ROWS: &[(&str, &[(bool, Step, Answer)])] = &[
+    (
+        "a refused receive changes nothing, and the last reader gets the message itself",
+        &[
+            (true, Step::CloneReceiver, Answer::Receiver(1)),
+            (true, Step::Send(7), Answer::Sent),
+            (true, Step::Receive(0), Answer::NoMemory),
+            (false, Step::Receive(0), Answer::Message(7)),
+            (true, Step::Receive(1), Answer::Message(7)),
+        ],
+    ),
+    (
+        "a refused poll skips nothing",
+        &[
+            (true, Step::CloneReceiver, Answer::Receiver(1)),
+            (true, Step::SetOverflow, Answer::Done),
+            (true, Step::Send(1), Answer::Sent),
+            (true, Step::Send(2), Answer::Sent),
+            (true, Step::PollNext(0), Answer::NoMemory),
+            (true, Step::Receive(0), Answer::Missed(1)),
+            (true, Step::PollRecv(0), Answer::NoMemory),
+            (false, Step::PollRecv(0), Answer::Message(2)),
+        ],
+    ),
+];
+
+fn ask(inner: &mut Channel, call: Step, refuses: &Refuses) -> Result<Answer, AllocError> {
+    let call = call_of(call, refuses)?;
+    Ok(answer_of(step(inner, call, Silent)))
+}
+
+fn play(
+    rt: &impl Abort,
+    alloc: Global,
+    name: &str,
+    calls: &[(bool, Step, Answer)],
+) -> Result<(), AllocError> {
+    let refuses = Rc::new(alloc, Cell::new(true))?;
+    let mut inner = channel(rt, alloc)?;
+    for (index, (is_refused, call, answer)) in calls.iter().enumerate() {
+        refuses.set(*is_refused);
+        assert!(rt;
+            ask(&mut inner, *call, &refuses)? == *answer,
+            "{name}, call {index}"
+        );
+    }
+    Ok(())
+}
+
+#[test]
+fn refused_clones_lose_nothing(rt: HostRuntime) -> Result<(), AllocError> {
+    for (name, calls) in ROWS {
+        play(&rt, rt.alloc(), name, calls)?;
+    }
+    Ok(())
+}

@@ -1,0 +1,3 @@
+//! The errors: what they print, answer, give back and equal.
+mod texts;
+mod values;

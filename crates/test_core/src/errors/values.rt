@@ -1,0 +1,78 @@
+//! What each error answers of itself, which message it gives back, and what it equals.
+use bcast_core::{HandleError, NoMemory, RecvError, SendError, TryRecvError, TrySendError};
+use std::alloc::AllocError;
+use std::process::Abort;
+use std::string::String;
+
+/// Errors, with what they answer: full, closed, inactive.
+const SENDING: &[(TrySendError<u64>, bool, bool, bool)] = &[
+    (TrySendError::Full(1), true, false, false),
+    (TrySendError::Closed(2), false, true, false),
+    (TrySendError::Inactive(3), false, false, true),
+];
+
+/// Errors, with what they answer: empty, closed, overflowed.
+const RECEIVING: &[(TryRecvError, bool, bool, bool)] = &[
+    (TryRecvError::Empty, true, false, false),
+    (TryRecvError::Closed, false, true, false),
+    (TryRecvError::Overflowed(0), false, false, true),
+    (TryRecvError::Overflowed(2), false, false, true),
+];
+
+#[test]
+fn one_test_of_an_error_is_true(rt: HostRuntime) {
+    for (index, (error, full, closed, inactive)) in SENDING.iter().enumerate() {
+        assert!(rt; error.is_full() == *full, "{index}");
+        assert!(rt; error.is_closed() == *closed, "{index}");
+        assert!(rt; error.is_disconnected() == *inactive, "{index}");
+    }
+    for (index, (error, empty, closed, overflowed)) in RECEIVING.iter().enumerate() {
+        assert!(rt; error.is_empty() == *empty, "{index}");
+        assert!(rt; error.is_closed() == *closed, "{index}");
+        assert!(rt; error.is_overflowed() == *overflowed, "{index}");
+    }
+}
+
+#[test]
+fn messages_come_back(rt: HostRuntime) {
+    for (error, msg) in [
+        (TrySendError::Full(1), 1),
+        (TrySendError::Closed(2), 2),
+        (TrySendError::Inactive(3), 3),
+    ] {
+        assert!(rt; error.into_inner() == msg);
+    }
+    assert!(rt; SendError(4).into_inner() == 4);
+    assert!(rt; NoMemory(5).into_inner() == 5);
+}
+
+#[test]
+fn texts_come_back_from_a_clone(rt: HostRuntime) -> Result<(), AllocError> {
+    let sent = SendError(String::from_str(rt.alloc(), "to all")?);
+    assert!(rt; sent.clone()?.into_inner().as_str() == "to all");
+    assert!(rt; sent.into_inner().as_str() == "to all");
+    Ok(())
+}
+
+/// Fails the test unless a copy and a clone of the error equal it, and the other doesn't.
+fn expect_equal_to_copies<E: Copy + PartialEq>(
+    rt: &impl Abort,
+    error: E,
+    other: E,
+) -> Result<(), AllocError> {
+    let copy = error;
+    assert!(rt; error.clone()? == copy && copy == error && error != other);
+    Ok(())
+}
+
+#[test]
+fn copies_are_equal_and_others_differ(rt: HostRuntime) -> Result<(), AllocError> {
+    expect_equal_to_copies(&rt, TrySendError::Full(1), TrySendError::Full(2))?;
+    expect_equal_to_copies(&rt, TrySendError::Full(1), TrySendError::Closed(1))?;
+    expect_equal_to_copies(&rt, SendError(1), SendError(2))?;
+    expect_equal_to_copies(&rt, NoMemory(1), NoMemory(2))?;
+    expect_equal_to_copies(&rt, TryRecvError::Overflowed(0), TryRecvError::Empty)?;
+    expect_equal_to_copies(&rt, RecvError::Overflowed(1), RecvError::Overflowed(2))?;
+    expect_equal_to_copies(&rt, HandleError::Gone, HandleError::Memory)?;
+    Ok(())
+}

@@ -1,0 +1,15 @@
+//! Tests of the core, of its errors and of the recording shell, over their public surfaces.
+#![tactic(auto)]
+
+#[cfg(test)]
+mod channel;
+#[cfg(test)]
+mod clones;
+#[cfg(test)]
+mod errors;
+#[cfg(test)]
+mod memory;
+#[cfg(test)]
+mod notices;
+#[cfg(test)]
+mod record;

@@ -1,0 +1,88 @@
+//! Channels and runs over heaps of every small size.
+ghost use Rattle.std.specs.Prelude.{IfSome};
+ghost use Rattle.std.specs.List.{AllByRecursion};
+ghost use Rattle.bcast_model.specs.Next.{HasPositiveCapacity};
+
+use bcast_core::{Call, HandleError, Inner, Silent, run};
+use linked_list_allocator::LocalHeap;
+use std::alloc::Allocator;
+use std::process::Abort;
+use std::test::Fail;
+
+/// The most receivers that are made.
+const MOST: usize = 9;
+
+/// Makes receivers until there is no memory for one more, and returns how many there are.
+fn add_receivers<A: Allocator + Copy>(
+    rt: &impl Abort,
+    inner: &mut Inner<u64, Silent, A>,
+    first: usize,
+) -> usize {
+    for count in 1..MOST {
+        if let Err(error) = inner.clone_receiver(first) {
+            assert!(rt; error == HandleError::Memory);
+            assert!(rt; inner.receiver_count() == count);
+            return count;
+        }
+    }
+    MOST
+}
+
+/// How many receivers there is memory for. None: there is none for a channel.
+fn receivers<A: Allocator + Copy>(rt: &impl Abort, alloc: A) -> Option<usize> {
+    let (mut inner, first) = Inner::new(alloc, 4).ok()?;
+    Some(add_receivers(rt, &mut inner, first))
+}
+
+#[test]
+fn a_channel_and_its_receivers_are_refused_in_turn(rt: HostRuntime) -> Result<(), Fail> {
+    let mut last = None;
+    let mut is_partly_refused = false;
+    for size in 0..256 {
+        let heap = LocalHeap::new(rt.alloc(), size * 16)?;
+        last = receivers(&rt, &heap);
+        is_partly_refused |= last.is_some_and(|count| count < MOST);
+    }
+    assert!(rt; is_partly_refused, "a receiver was refused");
+    assert!(rt; last == Some(MOST));
+    Ok(())
+}
+
+/// A send and a close. None: there is no memory for them.
+fn calls<A: Allocator + Copy>(alloc: A) -> Option<Vec<Call<u64>, A>>
+    ensures { IfSome result (λ calls. AllByRecursion HasPositiveCapacity calls.items) }
+{
+    let mut calls = Vec::with_capacity(alloc, 2).ok()?;
+    calls.push_reserved(Call::TryBroadcast(7));
+    calls.push_reserved(Call::Close);
+    Some(calls)
+}
+
+/// Whether a run of the two calls found memory. If it didn't, they came back.
+fn runs<A: Allocator + Copy>(rt: &impl Abort, alloc: A) -> Option<bool> {
+    match run(alloc, 1, 0, calls(alloc)?) {
+        Ok((inner, _, replies)) => {
+            assert!(rt; inner.is_closed());
+            assert!(rt; replies.len() == 2);
+            Some(true)
+        }
+        Err(calls) => {
+            assert!(rt; matches!(calls.as_slice(), [Call::TryBroadcast(7), Call::Close]));
+            Some(false)
+        }
+    }
+}
+
+#[test]
+fn a_refused_run_hands_its_calls_back(rt: HostRuntime) -> Result<(), Fail> {
+    let mut last = None;
+    let mut is_refused = false;
+    for size in 0..256 {
+        let heap = LocalHeap::new(rt.alloc(), size * 16)?;
+        last = runs(&rt, &heap);
+        is_refused |= last == Some(false);
+    }
+    assert!(rt; is_refused, "a run was refused");
+    assert!(rt; last == Some(true));
+    Ok(())
+}

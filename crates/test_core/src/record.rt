@@ -1,0 +1,5 @@
+//! Logs and recorders.
+mod entries;
+mod logs;
+mod recorders;
+mod replays;
