@@ -1,7 +1,7 @@
 //! What a recorder stores.
 ghost use Rattle.std.specs.Prelude.{◌≡◌};
 
-use crate::copy::{copy_of_call, copy_of_reply};
+use crate::copy::copy_of_reply;
 use bcast_core::{Call, Reply};
 
 /// What a recorder's channel was opened with.
@@ -29,7 +29,7 @@ impl<T: Copy> Entry<T> {
     {
         Entry {
             seat: self.seat,
-            call: copy_of_call(&self.call),
+            call: self.call,
             reply: copy_of_reply(&self.reply),
         }
     }

@@ -4,7 +4,6 @@ ghost use Rattle.std.specs.List.{AllByRecursion};
 ghost use Rattle.bcast_model.specs.Next.{HasPositiveCapacity};
 ghost use Rattle.bcast_record.specs.Replay.{calls_of};
 
-use crate::copy::copy_of_call;
 use crate::entry::{Entry, Note, Opening};
 use crate::journal::{Named, Prefix};
 use crate::receipt::Receipt;
@@ -84,8 +83,5 @@ fn copies<T: Copy, A: Allocator + Copy>(
 ) -> Result<Vec<Call<T>, A>, AllocError>
     ensures { IfOk result (λ calls. calls.items ≡ map (λ entry. entry.call) entries.now) }
 {
-    entries
-        .iter()
-        .map(|entry| copy_of_call(&entry.call))
-        .collect(alloc)
+    entries.iter().map(|entry| entry.call).collect(alloc)
 }

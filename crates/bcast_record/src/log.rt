@@ -8,7 +8,6 @@ ghost use Rattle.bcast_record.specs.Recording.{new_recording, with_entry, notes_
 ghost use Rattle.bcast_record.specs.Replay.{IsRecordedRun, Replays};
 ghost use Rattle.bcast_record.specs.Seats.{new_seats, answered};
 
-use crate::copy::copy_of_call;
 use crate::entry::{Entry, Note, Opening};
 use crate::finished::Finished;
 use crate::journal::{Journal, Named, Prefix, Slot, Writer};
@@ -128,7 +127,7 @@ impl<T: Copy + Clone, R: Named, A: Allocator + Copy> Log<T, R, A> {
             return Err(NoMemory(call));
         };
         let place = self.entries.len();
-        let reply = step(&mut self.inner, copy_of_call(&call), Silent);
+        let reply = step(&mut self.inner, call, Silent);
         let entry = Entry {
             seat: seat.number(),
             call,

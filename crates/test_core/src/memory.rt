@@ -61,9 +61,9 @@ fn calls<A: Allocator + Copy>(alloc: A) -> Option<Vec<Call<u64>, A>>
 /// Whether a run of the two calls found memory. If it didn't, they came back.
 fn runs<A: Allocator + Copy>(rt: &impl Abort, alloc: A) -> Option<bool> {
     match run(alloc, 1, 0, calls(alloc)?) {
-        Ok((inner, _, replies)) => {
-            assert!(rt; inner.is_closed());
-            assert!(rt; replies.len() == 2);
+        Ok(made) => {
+            assert!(rt; made.channel.is_closed());
+            assert!(rt; made.replies.len() == 2);
             Some(true)
         }
         Err(calls) => {

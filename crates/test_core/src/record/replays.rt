@@ -1,7 +1,6 @@
 //! Two threads over one recorder, whose calls are made again on one thread.
 ghost use Rattle.std.specs.Prelude.{◌≡◌};
 
-use super::entries::answer_of;
 use bcast_core::{Call, run};
 use bcast_record::{Finished, Journal, Named, Note, Recorder, Seat};
 use std::alloc::{AllocError, Global};
@@ -31,15 +30,15 @@ fn ask<R: Named>(
 /// Whether the calls, made again on one thread, get the replies that were stored.
 fn replays<R: Named>(alloc: Global, finished: &Finished<u64, R>) -> Result<bool, AllocError> {
     let calls = finished.calls(alloc)?;
-    let Ok((_, _, replies)) = run(alloc, finished.opening().capacity, 0, calls) else {
+    let Ok(made) = run(alloc, finished.opening().capacity, 0, calls) else {
         return Err(AllocError);
     };
-    for (entry, reply) in finished.entries().iter().zip(&replies) {
-        if answer_of(&entry.reply) != answer_of(reply) {
+    for (entry, reply) in finished.entries().iter().zip(&made.replies) {
+        if entry.reply != *reply {
             return Ok(false);
         }
     }
-    Ok(replies.len() == finished.entries().len())
+    Ok(made.replies.len() == finished.entries().len())
 }
 
 /// Two threads ask one recorder, and one thread makes their calls again.

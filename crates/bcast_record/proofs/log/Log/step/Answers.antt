@@ -1,4 +1,4 @@
-use Rattle.std.proofs.Common.{◌≡◌, [], ◌∷◌, ◌++◌, Some, suc, length, slice_get, sym, ap, subst, ◌∙◌, arith}
+use Rattle.std.proofs.Common.{◌≡◌, [], ◌∷◌, ◌++◌, Some, suc, length, slice_get, refl, sym, ap, subst, ◌∙◌, arith}
 use Rattle.bcast_record.specs.declared.entry.Entry.{Entry}
 use Rattle.bcast_record.specs.declared.entry.Note.TheVariants as note
 use Rattle.bcast_record.specs.Recording.{recording, notes_of}
@@ -42,8 +42,8 @@ invariant_of-self-2 g c =
     let entry : Entry g.row.T.Denot = record { seat = c.number.result; call = c.args.call; reply = c.step-reply.result } in
     let pushed : c.push_reserved.new.self.items ≡ entries ++ entry ∷ [] =
     c.push_reserved.ensures.items ∙ (λ i. c.room.ensures.items i ++ c.copied-2.ensures i ∷ []) in (
-      replays_push g.T.Clone.is_clone opening entries c.push_reserved.new.self.items c.self.inside.inner c.step-reply.new.inner entry c.copy_of_call.result
-          pushed c.copy_of_call.ensures before.0 c.step-reply.ensures.answers,
+      replays_push g.T.Clone.is_clone opening entries c.push_reserved.new.self.items c.self.inside.inner c.step-reply.new.inner entry c.args.call
+          pushed refl before.0 c.step-reply.ensures.answers,
       c.append.ensures ∙ (λ i. before.1 i ++ note.Answered (c.copied.ensures i) ∷ []) ∙ sym (notes_of-push opening entries entry) ∙ ap (notes_of opening) (sym pushed),
       omega (arith, c.add_call.ensures.calls, before.2, c.push_reserved.ensures.len, c.room.ensures.len),
       before.3,
@@ -55,6 +55,6 @@ returns-clause-run g c =
     let opening = c.self.inside.opening in
     let entries = c.self.inside.entries.items in
     let entry : Entry g.row.T.Denot = record { seat = c.number.result; call = c.args.call; reply = c.step-reply.result } in
-    (replays_push g.T.Clone.is_clone opening entries c.push_reserved.new.self.items c.self.inside.inner c.step-reply.new.inner entry c.copy_of_call.result
+    (replays_push g.T.Clone.is_clone opening entries c.push_reserved.new.self.items c.self.inside.inner c.step-reply.new.inner entry c.args.call
     (c.push_reserved.ensures.items ∙ (λ i. c.room.ensures.items i ++ c.copied-2.ensures i ∷ []))
-    c.copy_of_call.ensures c.self.invariant.0 c.step-reply.ensures.answers).run
+    refl c.self.invariant.0 c.step-reply.ensures.answers).run
