@@ -1,2 +1,16 @@
 -- how a run ends
 pub mod Ending
+-- scripts: arguments, lines and the names in them, what a line does to the channel, and its answer
+pub mod ScriptCommand
+pub mod Name
+pub mod ScriptLine
+pub mod ScriptCall
+pub mod ScriptAnswer
+-- traces: the lines, the calls that they name, and what is written of a reply
+pub mod Opening
+pub mod TraceCall
+pub mod TraceLine
+pub mod TraceReply
+-- threads: what receivers saw, and what a run prints
+pub mod Order
+pub mod Outcome

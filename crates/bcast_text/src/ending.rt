@@ -1,8 +1,20 @@
 //! How a run of a program ends: its text on standard error, and its exit status.
 ghost use Rattle.std.specs.Prelude.{◌≡◌};
+ghost use Rattle.std.specs.Process.{exit_status};
 ghost use Rattle.bcast_text.specs.Ending.{status_of};
 
+use crate::{script, trace};
 use std::fmt;
+use std::process::ExitCode;
+
+/// A program whose runs end so.
+#[derive(Clone, Copy, Debug, PartialEq, Eq)]
+pub enum Program {
+    /// `bcast`
+    Bcast,
+    /// `replay`
+    Replay,
+}
 
 /// How a run ended.
 #[derive(Clone, Copy, Debug, PartialEq, Eq)]
@@ -11,6 +23,8 @@ pub enum Ending {
     Done,
     /// The receivers of a run of threads did not all see one order.
     Differ,
+    /// The arguments ask for nothing that this program does.
+    WrongArguments(Program),
     /// The line of this number, counted from 1, is no call. The lines before it were run.
     NotACall(u64),
     /// There was no memory.
@@ -25,15 +39,13 @@ pub enum Ending {
 
 impl Ending {
     /// The exit status of a program that ended so.
-    ///
-    /// Source: this crate's own.
     pub fn status(self) -> u8
         ensures { result ≡ status_of self }
     {
         match self {
             Ending::Done => 0,
             Ending::Differ => 1,
-            Ending::NotACall(_) => 2,
+            Ending::WrongArguments(_) | Ending::NotACall(_) => 2,
             Ending::NoMemory | Ending::NoThread => 3,
             Ending::InputFailed | Ending::OutputFailed => 4,
         }
@@ -49,6 +61,8 @@ impl fmt::Display for Ending {
     fn fmt<W: fmt::Write>(&self, f: &mut fmt::Formatter<W>) -> fmt::Result {
         match self {
             Ending::Done | Ending::Differ => Ok(()),
+            Ending::WrongArguments(Program::Bcast) => f.write_str(script::command::USAGE),
+            Ending::WrongArguments(Program::Replay) => f.write_str(trace::command::USAGE),
             Ending::NotACall(line) => write!(f, "line {line}: not a call"),
             Ending::NoMemory => f.write_str("out of memory"),
             Ending::NoThread => f.write_str("no thread"),
@@ -58,16 +72,14 @@ impl fmt::Display for Ending {
     }
 }
 
-/// Prints how the run ended on standard error, and answers the exit status.
+/// Prints how the run ended on standard error, and returns the exit status.
 ///
 /// `Done` and `Differ` print nothing there: their text is the output.
-///
-/// Source: this crate's own.
-pub fn report(rt: &impl Eprint, ending: Ending) -> u8
-    ensures { result ≡ status_of ending }
+pub fn report(rt: &impl Eprint, ending: Ending) -> ExitCode
+    ensures { exit_status result ≡ status_of ending }
 {
     if ending != Ending::Done && ending != Ending::Differ {
         let _ = eprintln!(rt; "{ending}");
     }
-    ending.status()
+    ExitCode::from(ending.status())
 }

@@ -1,7 +1,11 @@
-//! What the programs share: lines of an input, the numbers in them, and how a run ends.
+//! What the programs read and print: arguments, lines, numbers, calls, replies, and how a run ends.
 #![tactic(auto)]
 
+pub mod arguments;
 pub mod ending;
-pub mod engine;
+pub mod input;
 pub mod lines;
 pub mod number;
+pub mod script;
+pub mod threads;
+pub mod trace;

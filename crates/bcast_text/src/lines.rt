@@ -31,8 +31,6 @@ impl<R: Read + Drop, A: Allocator + Clone> Lines<R, A> {
     /// # Errors
     ///
     /// - `AllocError`: there is no memory for a line and what is read ahead.
-    ///
-    /// Source: this crate's own.
     pub fn new(alloc: A, input: R, longest: u32) -> Result<Self, AllocError> {
         let text = Vec::with_capacity(alloc.clone()?, longest as usize + 1)?;
         match BufReader::new(alloc, input) {
@@ -46,15 +44,11 @@ impl<R: Read + Drop, A: Allocator + Clone> Lines<R, A> {
     }
 
     /// The line that `next` found, without its LF.
-    ///
-    /// Source: this crate's own.
     pub fn text(&self) -> &[u8] {
         self.text.as_slice()
     }
 
     /// Whether the whole next line is in memory already, so that `next` will not read.
-    ///
-    /// Source: this crate's own.
     pub fn is_ahead(&self) -> bool {
         self.input.buffer().contains(&b'\n')
     }
@@ -64,8 +58,6 @@ impl<R: Read + Drop, A: Allocator + Clone> Lines<R, A> {
     /// # Errors
     ///
     /// - The error of a read that failed.
-    ///
-    /// Source: this crate's own.
     pub fn next(&mut self) -> io::Result<Found> {
         self.text.clear();
         let most = self.longest as u64 + 1;

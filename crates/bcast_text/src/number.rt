@@ -3,8 +3,6 @@ ghost use Rattle.std.specs.Prelude.{◌≡◌, ◌≢◌, ◌<◌, ◌^◌, ℕ,
 ghost use Rattle.std.specs.Fmt.{decimal};
 
 /// The number that `word` spells: decimal, without sign or leading zeros, and at most `u64::MAX`.
-///
-/// Source: this crate's own.
 #[tactic(auto, using(crate::proofs::Numbers::parsed_is_spelt, crate::proofs::Numbers::no_plus, crate::proofs::Numbers::no_leading_zero, std::proofs::lemmas::Fmt::decimal_nonempty))]
 pub fn number(word: &str) -> Option<u64>
     ensures spelt { IfSome result (λ n. word.now ≡ decimal n) }
@@ -18,8 +16,6 @@ pub fn number(word: &str) -> Option<u64>
 }
 
 /// The number from 1 on that `word` spells, as `number` reads it.
-///
-/// Source: this crate's own.
 #[tactic(auto, using(std::proofs::lemmas::Fmt::decimal_injective))]
 pub fn positive(word: &str) -> Option<u64>
     ensures spelt { IfSome result (λ n. word.now ≡ decimal n) }

@@ -1,10 +1,9 @@
 //! Senders and receivers in threads of their own, and whether all receivers saw one order.
 #![tactic(auto)]
 
-mod engine;
 mod fault;
-mod order;
+pub mod plan;
 mod started;
-mod work;
+pub mod work;
 
-pub use engine::threads;
+pub use plan::threads;

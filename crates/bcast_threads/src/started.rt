@@ -1,5 +1,6 @@
 //! The threads of a run: started over one channel, and joined.
 use crate::fault::Fault;
+use crate::plan::Plan;
 use crate::work::{List, Receiving, Sending, receive_all, send_all};
 use async_broadcast::broadcast;
 use std::alloc::{AllocError, Global};
@@ -9,17 +10,6 @@ use std::thread::{Builder, JoinHandle, Threads};
 /// How many messages the channel keeps at once.
 const CAPACITY: usize = 16;
 
-/// What a run is made of.
-#[derive(Clone, Copy, Debug, PartialEq, Eq)]
-pub(crate) struct Plan {
-    pub(crate) senders: u64,
-    pub(crate) receivers: u64,
-    /// How many messages each sender sends.
-    pub(crate) messages: u64,
-    /// The bytes of each thread's stack.
-    pub(crate) stack: usize,
-}
-
 /// The threads that were started.
 #[derive(Drop)]
 struct Started {
@@ -27,7 +17,7 @@ struct Started {
     receivers: Vec<JoinHandle<List>>,
 }
 
-/// Runs the plan's threads to their end, and answers what each receiver received.
+/// Runs the plan's threads to their end, and returns what each receiver received.
 ///
 /// # Errors
 ///
@@ -51,7 +41,7 @@ pub(crate) fn lists_of<R: Threads + Wait + Clone + Send + 'static>(
 }
 
 impl Started {
-    /// Starts the plan's threads. Where that fails, it closes their channel.
+    /// Starts the plan's threads. If that fails, it closes their channel.
     fn start<R: Threads + Wait + Clone + Send + 'static>(
         &mut self,
         rt: &R,
@@ -115,7 +105,7 @@ impl Started {
         Ok(self.senders.push(thread)?)
     }
 
-    /// Waits for all threads, and answers what each receiver received.
+    /// Waits for all threads, and returns what each receiver received.
     fn join<R: Threads>(self, rt: &R, alloc: Global) -> Result<Vec<Vec<u64>>, AllocError> {
         let Started { senders, receivers } = self;
         for sender in senders {

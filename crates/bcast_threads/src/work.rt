@@ -4,16 +4,16 @@ use std::alloc::{AllocError, Allocator, Global};
 use std::sync::Wait;
 
 /// The sender of a thread.
-pub(crate) type Sending<R> = Sender<u64, Lock<u64, R>>;
+pub type Sending<R> = Sender<u64, Lock<u64, R>>;
 
 /// The receiver of a thread.
-pub(crate) type Receiving<R> = Receiver<u64, Lock<u64, R>>;
+pub type Receiving<R> = Receiver<u64, Lock<u64, R>>;
 
 /// What a receiver received, in order.
-pub(crate) type List<A = Global> = Result<Vec<u64, A>, AllocError>;
+pub type List<A = Global> = Result<Vec<u64, A>, AllocError>;
 
 /// Sends `count` numbers from `first` on, in rising order, unless the channel is closed before.
-pub(crate) fn send_all<R: Wait + Clone>(sender: Sending<R>, first: u64, count: u64) {
+pub fn send_all<R: Wait + Clone>(sender: Sending<R>, first: u64, count: u64) {
     for msg in first..first.saturating_add(count) {
         if sender.broadcast_blocking(msg).is_err() {
             break;
@@ -21,12 +21,9 @@ pub(crate) fn send_all<R: Wait + Clone>(sender: Sending<R>, first: u64, count: u
     }
 }
 
-/// What the receiver receives until the channel is closed. Where there is no memory for it, the
+/// What the receiver receives until the channel is closed. If there is no memory for it, the
 /// channel is closed.
-pub(crate) fn receive_all<R: Wait + Clone, A: Allocator>(
-    alloc: A,
-    mut receiver: Receiving<R>,
-) -> List<A> {
+pub fn receive_all<R: Wait + Clone, A: Allocator>(alloc: A, mut receiver: Receiving<R>) -> List<A> {
     let list = received(alloc, &mut receiver);
     if list.is_err() {
         receiver.close();
@@ -44,6 +41,3 @@ fn received<R: Wait + Clone, A: Allocator>(alloc: A, receiver: &mut Receiving<R>
     }
     Ok(list)
 }
-
-#[cfg(test)]
-mod tests;

@@ -2,48 +2,28 @@
 //! with the replies and views that the channel gives.
 #![tactic(auto)]
 
-mod arguments;
-mod call;
-mod calls;
-mod line;
-mod list;
-mod opening;
-mod play;
-mod reply;
-mod trace;
-mod usage;
-mod view;
-
-use bcast_text::ending::{Ending, report};
-use play::play;
-use std::env;
+use bcast_play::{list, trace};
+use bcast_text::arguments::arguments;
+use bcast_text::ending::{Ending, Program, report};
+use bcast_text::trace::command::Command;
+use std::alloc::AllocError;
 use std::process::ExitCode;
-use usage::command;
 
 fn main(rt: HostRuntime) -> ExitCode {
-    ExitCode::from(run(rt))
+    let ending = match command(rt) {
+        Ok(Command::Trace) => trace(rt.alloc(), rt.stdin(), rt.stdout()),
+        Ok(Command::List) => list(rt.alloc(), rt.stdin(), rt.stdout()),
+        Err(ending) => ending,
+    };
+    report(&rt, ending)
 }
 
-/// Does what the arguments say, and answers the exit status.
-fn run(rt: HostRuntime) -> u8 {
-    let Ok(words) = env::args(&rt) else {
-        return report(&rt, Ending::NoMemory);
+/// What the arguments ask for, or how the run ends at once.
+fn command(rt: HostRuntime) -> Result<Command, Ending> {
+    let words = match arguments(&rt) {
+        Ok(Some(words)) => words,
+        Ok(None) => return Err(Ending::WrongArguments(Program::Replay)),
+        Err(AllocError) => return Err(Ending::NoMemory),
     };
-    let words: Result<Vec<String>, _> = words.skip(1).collect(rt.alloc());
-    let Ok(words) = words else {
-        return report(&rt, Ending::NoMemory);
-    };
-    match command(words.as_slice()) {
-        Some(command) => {
-            let ending = play(command, rt.alloc(), rt.stdin(), rt.stdout());
-            report(&rt, ending)
-        }
-        None => {
-            let _ = eprintln!(rt; "usage: replay trace | replay list");
-            2
-        }
-    }
+    Command::from_words(words.as_slice()).ok_or(Ending::WrongArguments(Program::Replay))
 }
-
-#[cfg(test)]
-mod tests;

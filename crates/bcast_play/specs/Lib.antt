@@ -1,0 +1,2 @@
+-- lists of calls
+pub mod Positive

@@ -1,0 +1,91 @@
+//! The calls of a trace played as one list.
+use crate::calls::Calls;
+use bcast_core::run;
+use bcast_text::ending::Ending;
+use bcast_text::input::{Fault, RunLine, run_lines};
+use bcast_text::trace::line::{LONGEST, Line, read_line};
+use bcast_text::trace::opening::{Opening, read_opening};
+use bcast_text::trace::reply::write_answer;
+use std::alloc::Allocator;
+use std::io::{BufWriter, Read, Write};
+
+/// The channel of a trace, and its calls, of which none is made yet.
+#[derive(Drop)]
+pub struct Collector<A: Allocator> {
+    alloc: A,
+    opening: Option<Opening>,
+    calls: Calls<A>,
+}
+
+impl<A: Allocator + Copy> Collector<A> {
+    /// A collector before line 1.
+    pub fn new(alloc: A) -> Self {
+        Collector {
+            alloc,
+            opening: None,
+            calls: Calls::new(alloc),
+        }
+    }
+
+    /// Makes the calls as one list, and writes line 1 and each call with its reply.
+    ///
+    /// # Errors
+    ///
+    /// - `NotACall`: line 1 was not read.
+    /// - `NoMemory`: there is no memory for the channel or for the replies. No call was made.
+    /// - `OutputFailed`: a write failed.
+    pub fn play<W: Write>(self, output: &mut W) -> Result<(), Fault> {
+        let opening = self.opening.ok_or(Fault::NotACall)?;
+        let Calls { list, texts } = self.calls;
+        let made = run(self.alloc, opening.capacity, opening.first, list);
+        let Ok((_, _, replies)) = made else {
+            return Err(Fault::NoMemory);
+        };
+        writeln!(output, "open {} {}", opening.capacity, opening.first)?;
+        for (text, reply) in texts.iter().zip(&replies) {
+            write_answer(text.as_str(), reply, output)?;
+        }
+        Ok(())
+    }
+}
+
+impl<A: Allocator + Copy> RunLine for Collector<A> {
+    fn run_line<W: Write>(&mut self, line: &str, _output: &mut W) -> Result<(), Fault> {
+        if self.opening.is_none() {
+            self.opening = Some(read_opening(line).ok_or(Fault::NotACall)?);
+            return Ok(());
+        }
+        match read_line(line).ok_or(Fault::NotACall)? {
+            Line::View => {}
+            Line::Call(text, call) => self.calls.push(self.alloc, text, call)?,
+        }
+        Ok(())
+    }
+}
+
+/// Plays the calls of the trace that `input` holds as one list, once all of it is read, and writes
+/// line 1 and each call with the reply that `run` gives. Nothing is written if a line is out of
+/// form.
+///
+/// Takes memory for the calls, their texts and their replies.
+pub fn list<A: Allocator + Copy, R: Read + Drop, W: Write + Drop>(
+    alloc: A,
+    input: R,
+    mut output: W,
+) -> Ending {
+    let mut collector = Collector::new(alloc);
+    let ending = run_lines(alloc, input, LONGEST, &mut output, &mut collector);
+    if ending != Ending::Done {
+        return ending;
+    }
+    let Ok(mut output) = BufWriter::new(alloc, output) else {
+        return Ending::NoMemory;
+    };
+    let played = collector.play(&mut output);
+    match (output.flush(), played) {
+        (_, Err(Fault::NotACall)) => Ending::NotACall(1),
+        (_, Err(Fault::NoMemory)) => Ending::NoMemory,
+        (Err(_), _) | (_, Err(Fault::OutputFailed)) => Ending::OutputFailed,
+        (Ok(()), Ok(())) => Ending::Done,
+    }
+}

@@ -1,0 +1,48 @@
+//! The run of a script.
+use crate::channel::Channel;
+use bcast_text::ending::Ending;
+use bcast_text::input::{Fault, RunLine, run_lines};
+use bcast_text::script::line::{Line, read_line};
+use std::alloc::Allocator;
+use std::io::{Read, Write};
+
+/// The most bytes that a line may have, its LF aside.
+const LONGEST: u32 = 200;
+
+/// A script that is being run. Line 1 makes the channel.
+#[derive(Drop)]
+struct Session<A: Allocator> {
+    alloc: A,
+    channel: Option<Channel<A>>,
+}
+
+impl<A: Allocator + Copy> RunLine for Session<A> {
+    fn run_line<W: Write>(&mut self, line: &str, output: &mut W) -> Result<(), Fault> {
+        let line = read_line(line).ok_or(Fault::NotACall)?;
+        match (&mut self.channel, line) {
+            (Some(channel), line) => channel.run(self.alloc, line, output),
+            (None, Line::Cap(capacity)) => {
+                self.channel = Some(Channel::open(self.alloc, capacity as usize)?);
+                output.write_all(b"ok\n")?;
+                Ok(())
+            }
+            (None, _) => Err(Fault::NotACall),
+        }
+    }
+}
+
+/// Runs the script that `input` holds, line by line, and writes an answer to each line.
+///
+/// The answers are written before each read that may wait for more input. The first line that is
+/// no call ends the run.
+pub fn script<A: Allocator + Copy, R: Read + Drop, W: Write + Drop>(
+    alloc: A,
+    input: R,
+    output: W,
+) -> Ending {
+    let mut session = Session {
+        alloc,
+        channel: None,
+    };
+    run_lines(alloc, input, LONGEST, output, &mut session)
+}

@@ -1,0 +1,101 @@
+-- Marks at the places of numbers.
+use Rattle.std.proofs.Common.{arith, ◌≡◌, ◌↔◌, ◌⊎◌, inl, inr, ℕ, suc, zero, ◌<◌, ◌≤◌, List, [], ◌∷◌, Bool, true, false, length, take, replicate, slice_set, refl, sym, ◌∙◌, ⊎_elim}
+use Rattle.std.specs.Prelude.{fold, All, Contains, IsTrue, IfOk, Result, Ok, Err, map}
+use Rattle.std.proofs.lemmas.List.{length-set, get_or-set_other, get_or-replicate, length-replicate, take_all}
+use Rattle.std.proofs.lemmas.List.Elements.{All-get_or, All-from_get_or, All-map}
+use Rattle.std.proofs.lemmas.Bool.{true≢false}
+use Rattle.std.proofs.lemmas.Grind.{get_or-set_at}
+use Rattle.std.proofs.lemmas.Bool.Decides.{eqb_tells}
+use Rattle.bcast_text.specs.Order.{IsMarked, HoldsEachOnce, IsOneOrder}
+
+-- marks after one more number
+abbrev pub with_mark : List Bool → ℕ → List Bool
+with_mark marks n = slice_set marks n true
+
+pub length_marked : (list : List ℕ) (marks : List Bool) → length (fold with_mark marks list) ≡ length marks
+length_marked [] marks = refl
+length_marked (x ∷ xs) marks = length_marked xs (with_mark marks x) ∙ length-set marks x true
+
+stays : (marks : List Bool) (x n : ℕ) → n < length marks → IsMarked marks n → IsMarked (with_mark marks x) n
+stays marks x n within m =
+    ⊎_elim (λ same. get_or-set_at marks x n true false same.1 (rw (← same.1) within))
+    (λ other. get_or-set_other marks x n true false other.1 ∙ m) (eqb_tells n x)
+
+was : (marks : List Bool) (x n : ℕ) → IsMarked (with_mark marks x) n → IsMarked marks n ⊎ (n ≡ x)
+was marks x n m =
+    ⊎_elim (λ same. inr same.1) (λ other. inl (sym (get_or-set_other marks x n true false other.1) ∙ m)) (eqb_tells n x)
+
+marked_if : (list : List ℕ) (marks : List Bool) (n : ℕ) → n < length marks → IsMarked marks n ⊎ Contains list n → IsMarked (fold with_mark marks list) n
+marked_if [] marks n within (inl m) = m
+marked_if [] marks n within (inr (k, below, is)) = absurd (omega (arith, below))
+marked_if (x ∷ xs) marks n within (inl m) =
+    marked_if xs (with_mark marks x) n (rw (length-set marks x true) within) (inl (stays marks x n within m))
+marked_if (x ∷ xs) marks n within (inr (zero, below, is)) =
+    marked_if xs (with_mark marks x) n (rw (length-set marks x true) within) (inl (get_or-set_at marks x n true false (sym is) (rw is within)))
+marked_if (x ∷ xs) marks n within (inr (suc k, below, is)) =
+    marked_if xs (with_mark marks x) n (rw (length-set marks x true) within) (inr (k, omega (arith, below), is))
+
+if_marked : (list : List ℕ) (marks : List Bool) (n : ℕ) → IsMarked (fold with_mark marks list) n → IsMarked marks n ⊎ Contains list n
+if_marked [] marks n m = inl m
+if_marked (x ∷ xs) marks n m = go (if_marked xs (with_mark marks x) n m)
+  where
+    one : IsMarked marks n ⊎ (n ≡ x) → IsMarked marks n ⊎ Contains (x ∷ xs) n
+    one (inl before) = inl before
+    one (inr same) = inr (zero, omega arith, sym same)
+
+    go : IsMarked (with_mark marks x) n ⊎ Contains xs n → IsMarked marks n ⊎ Contains (x ∷ xs) n
+    go (inl now) = one (was marks x n now)
+    go (inr (k, below, is)) = inr (suc k, omega (arith, below), is)
+
+-- a place is marked where it was, or where its number is in the list
+pub marked : (list : List ℕ) (marks : List Bool) (n : ℕ) → n < length marks → IsMarked (fold with_mark marks list) n ↔ (IsMarked marks n ⊎ Contains list n)
+marked list marks n within = (if_marked list marks n, marked_if list marks n within)
+
+pub marked_whole : (list : List ℕ) (marks now : List Bool) (i : ℕ) → length list ≤ i → now ≡ fold with_mark marks (take i list)
+    → (n : ℕ) → n < length marks → IsMarked now n ↔ (IsMarked marks n ⊎ Contains list n)
+marked_whole list marks now i past is n within = rw (is, take_all i list past) (marked list marks n within)
+
+-- where all are marked after the list, each number was marked before or stands in the list
+pub every : (list : List ℕ) (before now : List Bool) (all : Bool) → length now ≡ length before
+    → ((n : ℕ) → n < length before → IsMarked now n ↔ (IsMarked before n ⊎ Contains list n))
+    → (IsTrue all ↔ All (λ is_held. is_held ≡ true) now)
+    → IsTrue all ↔ ((n : ℕ) → n < length before → IsMarked before n ⊎ Contains list n)
+every list before now all long marks tells = (
+  λ each n below. (marks n below).0 (All-get_or (λ is_held. is_held ≡ true) now n false (rw long below) (tells.0 each)),
+  λ each. tells.1 (All-from_get_or (λ is_held. is_held ≡ true) now false (λ n within. (marks n (rw (← long) within)).1 (each n (rw (← long) within)))),
+)
+
+-- a list of count numbers in which each number below count stands
+pub each_once : (list : List ℕ) (count : ℕ) (all : Bool) → length list ≡ count
+    → (IsTrue all ↔ ((n : ℕ) → n < length (replicate count false) → IsMarked (replicate count false) n ⊎ Contains list n))
+    → IsTrue all ↔ HoldsEachOnce list count
+each_once list count all long tells = (λ each. (long, to each), λ holds. tells.1 (λ n below. inr (holds.1 n (rw (← room) below))))
+  where
+    room : length (replicate count false) ≡ count
+    room = length-replicate count false
+
+    only : (n : ℕ) → n < count → IsMarked (replicate count false) n ⊎ Contains list n → Contains list n
+    only n below (inl m) = absurd (true≢false (sym m ∙ get_or-replicate count n false false below))
+    only n below (inr stands) = stands
+
+    to : IsTrue all → (n : ℕ) → n < count → Contains list n
+    to each n below = only n below (tells.0 each n (rw room below))
+
+module _ {V : Type 0} (items : V → List ℕ) (first : List ℕ) (others : List V) (count : ℕ) where
+  -- where all lists are the first one, that one decides
+  pub one_order : {E : Type 0} → All (λ v. items v ≡ first) others → (r : Result Bool E)
+      → IfOk r (λ answer. IsTrue answer ↔ HoldsEachOnce first count)
+      → IfOk r (λ answer. IsTrue answer ↔ IsOneOrder (first ∷ map items others) count)
+  one_order same (Ok answer) once = (λ is. (All-map (λ list. list ≡ first) items others same, once.0 is), λ one. once.1 one.1)
+  one_order same (Err error) once = once
+
+  of_map : (vs : List V) → All (λ list. list ≡ first) (map items vs) → All (λ v. items v ≡ first) vs
+  of_map [] same k d below = absurd (omega (arith, below))
+  of_map (v ∷ vs) same zero d below = same zero first (omega arith)
+  of_map (v ∷ vs) same (suc k) d below = of_map vs (λ i e within. same (suc i) e (omega (arith, within))) k d (omega (arith, below))
+
+  -- where one is another list, there is no one order
+  pub no_order : (equal : Bool) → (IsTrue equal ↔ All (λ v. items v ≡ first) others) → equal ≡ false
+      → IsTrue false ↔ IsOneOrder (first ∷ map items others) count
+  no_order equal tells not =
+      (λ never. absurd (true≢false (sym never)), λ one. absurd (true≢false (sym (tells.1 (of_map others one.0)) ∙ not)))

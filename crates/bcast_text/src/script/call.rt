@@ -1,0 +1,119 @@
+//! The calls that lines ask for, and what their replies do to the names of receivers.
+ghost use Rattle.std.specs.Prelude.{◌≡◌, ℕ, List, Some, None, OnOk, IfSome};
+ghost use Rattle.std.specs.Map.{update};
+ghost use Rattle.std.specs.Str.{bytes_eq};
+ghost use Rattle.std.specs.BTreeMap.{get_by_text};
+ghost use Rattle.bcast_model.specs.Next.{HasPositiveCapacity};
+ghost use Rattle.bcast_text.specs.ScriptLine.{IsInForm};
+ghost use Rattle.bcast_text.specs.ScriptCall.{call_of, names_after, unless_used};
+
+use crate::script::line::Line;
+use bcast_model::run::{Call, Reply};
+use std::alloc::{AllocError, Allocator};
+use std::collections::BTreeMap;
+
+/// The key of each receiver, by its name.
+pub type Names<A> = BTreeMap<String<A>, usize, A>;
+
+/// The key of the receiver with this name.
+fn key_by<A: Allocator>(names: &Names<A>, name: &str) -> Option<usize>
+    ensures { result ≡ get_by_text names.now name.now }
+{
+    names.get(name).copied()
+}
+
+/// What is asked for under a new name: nothing if the name is in use.
+fn under<A: Allocator>(names: &Names<A>, new: &str, call: Option<Call<u64>>) -> Option<Call<u64>>
+    ensures { result ≡ unless_used (get_by_text names.now) new.now call }
+{
+    if names.contains_key(new) { None } else { call }
+}
+
+/// The call that `line` asks for. None: it makes a channel, a name in it isn't in use that must be,
+/// or the new name is in use already.
+pub fn call_by<A: Allocator>(names: &Names<A>, line: Line<'_>) -> Option<Call<u64>>
+    requires { IsInForm line }
+    ensures call { result ≡ call_of (get_by_text names.now) line.entry }
+    ensures positive { IfSome result HasPositiveCapacity }
+{
+    match line {
+        Line::Cap(_) => None,
+        Line::Send(msg) => Some(Call::TryBroadcast(msg)),
+        Line::Recv(name) => Some(Call::TryRecv(key_by(names, name)?)),
+        Line::Clone(name, new) => {
+            let key = key_by(names, name);
+            under(names, new, key.map(Call::CloneReceiver))
+        }
+        Line::New(new) => under(names, new, Some(Call::NewReceiver)),
+        Line::Drop(name) => Some(Call::DropReceiver(key_by(names, name)?)),
+        Line::NewSender => Some(Call::NewSender),
+        Line::DropSender => Some(Call::DropSender),
+        Line::Close => Some(Call::Close),
+        Line::Capacity(n) => Some(Call::SetCapacity(n as usize)),
+        Line::Overflow(on) => Some(Call::SetOverflow(on)),
+        Line::Await(on) => Some(Call::SetAwaitActive(on)),
+        Line::Deactivate(name) => Some(Call::Deactivate(key_by(names, name)?)),
+        Line::Activate(new) => under(names, new, Some(Call::Activate)),
+        Line::DropInactive => Some(Call::DropInactive),
+        Line::Len => Some(Call::Len),
+    }
+}
+
+/// Gives the receiver with this key a new name.
+fn name_receiver<A: Allocator + Copy>(
+    alloc: A,
+    names: &mut Names<A>,
+    new: &str,
+    key: usize,
+) -> Result<(), AllocError>
+    ensures ok { OnOk result ((name : List ℕ) → get_by_text names.new name
+        ≡ update bytes_eq (get_by_text names.old) new.now (Some key) name) }
+{
+    let text = String::from_str(alloc, new)?;
+    let Ok(_) = names.insert(text, key) else {
+        return Err(AllocError);
+    };
+    Ok(())
+}
+
+/// Frees a name.
+fn free<A: Allocator>(names: &mut Names<A>, name: &str)
+    ensures { (other : List ℕ) → get_by_text names.new other
+        ≡ update bytes_eq (get_by_text names.old) name.now None other }
+{
+    names.remove(name);
+}
+
+/// Gives the receiver that `reply` made its name, or frees the name of the one that left.
+///
+/// Takes memory for a new name.
+///
+/// # Errors
+///
+/// - `AllocError`: there is no memory for the name.
+pub fn record<A: Allocator + Copy>(
+    alloc: A,
+    names: &mut Names<A>,
+    line: Line<'_>,
+    reply: &Reply<u64>,
+) -> Result<(), AllocError>
+    ensures ok { OnOk result ((name : List ℕ) → get_by_text names.new name
+        ≡ names_after (get_by_text names.old) line.entry reply.now name) }
+{
+    match (line, reply) {
+        (Line::Clone(_, new), Reply::CloneReceiver(Ok(key))) => {
+            name_receiver(alloc, names, new, *key)
+        }
+        (Line::New(new), Reply::NewReceiver(Ok(key))) => name_receiver(alloc, names, new, *key),
+        (Line::Activate(new), Reply::Activate(Ok(key))) => name_receiver(alloc, names, new, *key),
+        (Line::Drop(name), _) => {
+            free(names, name);
+            Ok(())
+        }
+        (Line::Deactivate(name), Reply::Deactivate(Ok(()))) => {
+            free(names, name);
+            Ok(())
+        }
+        _ => Ok(()),
+    }
+}

@@ -1,0 +1,127 @@
+//! What a line of a script says.
+ghost use Rattle.std.specs.Prelude.{◌≡◌, IfSome, ◌++◌, ◌∷◌, codes};
+ghost use Rattle.bcast_text.specs.Name.{IsName};
+ghost use Rattle.bcast_text.specs.ScriptLine.{flag_text, text_of, IsInForm};
+
+use crate::number::{number, positive};
+use crate::script::name::is_name;
+
+/// A line of a script: a command and its arguments, a number or a receiver's name.
+#[derive(Clone, Copy, Debug, PartialEq, Eq)]
+pub enum Line<'a> {
+    /// `cap N`: make the channel.
+    Cap(u64),
+    /// `send V`
+    Send(u64),
+    /// `recv R`
+    Recv(&'a str),
+    /// `clone R Q`: Q becomes the name of a clone of R.
+    Clone(&'a str, &'a str),
+    /// `new Q`
+    New(&'a str),
+    /// `drop R`
+    Drop(&'a str),
+    /// `newsender`
+    NewSender,
+    /// `dropsender`
+    DropSender,
+    /// `close`
+    Close,
+    /// `capacity N`
+    Capacity(u64),
+    /// `overflow on`, `overflow off`
+    Overflow(bool),
+    /// `await on`, `await off`
+    Await(bool),
+    /// `deactivate R`
+    Deactivate(&'a str),
+    /// `activate Q`
+    Activate(&'a str),
+    /// `dropinactive`
+    DropInactive,
+    /// `len`
+    Len,
+}
+
+/// The line that `text` is. None: it is no line of a script.
+///
+/// `text` has no LF. Whether the names are in use is not looked at here.
+pub fn read_line(text: &str) -> Option<Line<'_>>
+    ensures text { IfSome result (λ line. text.now ≡ text_of line) }
+    ensures form { IfSome result IsInForm }
+{
+    match text.split_once(' ') {
+        Some((first, rest)) => with_arguments(first, rest),
+        None => alone(text),
+    }
+}
+
+/// A command without arguments.
+fn alone<'a>(text: &str) -> Option<Line<'a>>
+    ensures text { IfSome result (λ line. text.now ≡ text_of line) }
+    ensures form { IfSome result IsInForm }
+{
+    match text {
+        "newsender" => Some(Line::NewSender),
+        "dropsender" => Some(Line::DropSender),
+        "close" => Some(Line::Close),
+        "dropinactive" => Some(Line::DropInactive),
+        "len" => Some(Line::Len),
+        _ => None,
+    }
+}
+
+/// A command with arguments: its first word, and what follows the first space.
+fn with_arguments<'a>(first: &str, rest: &'a str) -> Option<Line<'a>>
+    ensures text { IfSome result (λ line. first.now ++ 32 ∷ rest.now ≡ text_of line) }
+    ensures form { IfSome result IsInForm }
+{
+    match first {
+        "cap" => Some(Line::Cap(positive(rest)?)),
+        "send" => Some(Line::Send(number(rest)?)),
+        "capacity" => Some(Line::Capacity(positive(rest)?)),
+        "overflow" => Some(Line::Overflow(flag(rest)?)),
+        "await" => Some(Line::Await(flag(rest)?)),
+        "clone" => two_names(rest),
+        _ if is_name(rest) => with_name(first, rest),
+        _ => None,
+    }
+}
+
+/// A command with one name.
+fn with_name<'a>(first: &str, name: &'a str) -> Option<Line<'a>>
+    requires { IsName name.now }
+    ensures text { IfSome result (λ line. first.now ++ 32 ∷ name.now ≡ text_of line) }
+    ensures form { IfSome result IsInForm }
+{
+    match first {
+        "recv" => Some(Line::Recv(name)),
+        "new" => Some(Line::New(name)),
+        "drop" => Some(Line::Drop(name)),
+        "deactivate" => Some(Line::Deactivate(name)),
+        "activate" => Some(Line::Activate(name)),
+        _ => None,
+    }
+}
+
+/// The arguments of `clone`.
+fn two_names(names: &str) -> Option<Line<'_>>
+    ensures text { IfSome result (λ line. codes "clone " ++ names.now ≡ text_of line) }
+    ensures form { IfSome result IsInForm }
+{
+    match names.split_once(' ') {
+        Some((name, new)) if is_name(name) && is_name(new) => Some(Line::Clone(name, new)),
+        _ => None,
+    }
+}
+
+/// The argument of a setting.
+fn flag(word: &str) -> Option<bool>
+    ensures { IfSome result (λ on. word.now ≡ flag_text on) }
+{
+    match word {
+        "on" => Some(true),
+        "off" => Some(false),
+        _ => None,
+    }
+}

@@ -1,0 +1,42 @@
+//! The lines of a trace.
+ghost use Rattle.std.specs.Prelude.{IfSome};
+ghost use Rattle.bcast_text.specs.TraceLine.{IsBeforeArrow, ReadsAs, IsInForm};
+
+use crate::trace::call::read_call;
+use bcast_model::run::Call;
+
+/// The most bytes that a line may have, its LF aside.
+pub const LONGEST: u32 = 1 << 20;
+
+/// What a line after the first asks for.
+#[derive(Drop)]
+pub enum Line<'a> {
+    /// The view.
+    View,
+    /// A call, after its text.
+    Call(&'a str, Call<u64>),
+}
+
+/// What `line` asks for. None: neither the view nor a call.
+///
+/// What follows `=` or ` -> ` is not read.
+pub fn read_line(line: &str) -> Option<Line<'_>>
+    ensures text { IfSome result (ReadsAs line.now) }
+    ensures form { IfSome result IsInForm }
+{
+    if line.starts_with('=') {
+        return Some(Line::View);
+    }
+    let text = before_arrow(line);
+    Some(Line::Call(text, read_call(text)?))
+}
+
+/// The line up to ` -> `, or the whole of it.
+fn before_arrow(line: &str) -> &str
+    ensures { IsBeforeArrow result.now line.now }
+{
+    match line.split_once(" -> ") {
+        Some((text, _)) => text,
+        None => line,
+    }
+}

@@ -1,8 +1,0 @@
--- The marks so far.
-use Rattle.std.proofs.Common.{◌≡◌, take}
-use Rattle.std.specs.Prelude.{fold}
-use Rattle.bcast_threads.proofs.Marks.{with_mark}
-use Rattle.bcast_threads.proofs.order.mark_all.Given as goal
-
-abbrev pub invariant-loop-number : goal.invariant-loop-number
-invariant-loop-number l = l.held ≡ fold with_mark l.initial.held (take l.number-index l.list)

@@ -1,0 +1,77 @@
+//! How many threads are run, and the run of them.
+ghost use Rattle.std.specs.Prelude.{◌<◌, ◌≤◌, ◌*◌};
+ghost use Rattle.bcast_text.specs.Outcome.{IsEnding};
+
+use crate::fault::Fault;
+use crate::started::lists_of;
+use bcast_text::ending::Ending;
+use bcast_text::threads::outcome::print_seen;
+use std::alloc::Global;
+use std::io::Write;
+use std::sync::Wait;
+use std::thread::Threads;
+
+/// The bytes of a thread's stack.
+const STACK: usize = 1 << 18;
+
+/// What a run is made of.
+#[derive(Clone, Copy, Debug, PartialEq, Eq)]
+pub struct Plan {
+    /// How many threads send.
+    pub senders: u64,
+    /// How many threads receive.
+    pub receivers: u64,
+    /// How many messages each sender sends.
+    pub messages: u64,
+    /// The bytes of each thread's stack.
+    pub stack: usize,
+}
+
+/// Lets `s` threads send `m` numbers each over one channel to `r` threads, and says on `output`
+/// whether all receivers saw one order: the same numbers, each of the `s * m` once.
+///
+/// Sender number i, from 0 on, sends the `m` numbers from `i * m` on in rising order. All receivers
+/// are made before a thread starts.
+///
+/// Ends as `Done` or `Differ` by what was seen; `NoThread` if a thread could not be started,
+/// `NoMemory` if one had no memory: every started thread has ended then too, and nothing was
+/// written; and `OutputFailed` if the write failed.
+pub fn threads<R: Threads + Wait + Clone + Send + 'static, W: Write + Drop>(
+    rt: &R,
+    alloc: Global,
+    s: u64,
+    r: u64,
+    m: u64,
+    output: W,
+) -> Ending
+    requires senders { (0 < s) × (s ≤ 64) }
+    requires receivers { (0 < r) × (r ≤ 64) }
+    requires messages { (0 < m) × (m ≤ 100000) }
+    ensures { IsEnding result }
+{
+    let plan = Plan {
+        senders: s,
+        receivers: r,
+        messages: m,
+        stack: STACK,
+    };
+    run(rt, alloc, plan, output)
+}
+
+/// Runs the threads of `plan`, as `threads` does.
+pub fn run<R: Threads + Wait + Clone + Send + 'static, W: Write + Drop>(
+    rt: &R,
+    alloc: Global,
+    plan: Plan,
+    mut output: W,
+) -> Ending
+    requires { plan.senders * plan.messages ≤ 6400000 }
+    ensures { IsEnding result }
+{
+    let total = plan.senders * plan.messages;
+    match lists_of(rt, alloc, plan) {
+        Err(Fault::NoMemory) => Ending::NoMemory,
+        Err(Fault::NoThread) => Ending::NoThread,
+        Ok(lists) => print_seen(alloc, lists.as_slice(), total, &mut output),
+    }
+}

@@ -1,0 +1,115 @@
+//! The cases of standard input.
+use crate::arguments;
+use crate::failing::{cut_after_each_byte, each_read_and_write_fails, too_little_memory};
+use crate::play::{Played, Player, in_pieces, play};
+use crate::refused::refused_lines;
+use bcast_text::ending::Ending;
+use std::alloc::Global;
+use std::io;
+use std::io::Write;
+
+/// Runs a case: the first line has its kind and its name.
+pub fn run<W: Write>(alloc: Global, case: &str, output: &mut W) -> io::Result<()> {
+    let (head, body) = case.split_once('\n').unwrap_or((case, ""));
+    let (kind, name) = head.split_once(' ').unwrap_or((head, ""));
+    writeln!(output, "# {head}")?;
+    match kind {
+        "script" => script_case(alloc, body, output),
+        "trace" => trace_case(alloc, body, output),
+        "failing" => failing_case(alloc, name, body, output),
+        "refused" => refused_lines(alloc, name, body, output),
+        "bcast" => arguments::bcast(alloc, body, output),
+        "replay" => arguments::replay(alloc, body, output),
+        _ => output.write_all(b"no such kind of case\n"),
+    }
+}
+
+/// Writes what a script writes, and how it ends.
+fn script_case<W: Write>(alloc: Global, text: &str, output: &mut W) -> io::Result<()> {
+    let played = play(
+        alloc,
+        alloc,
+        Player::Script,
+        text.as_bytes(),
+        in_pieces(8192),
+    );
+    output.write_all(played.wrote.as_slice())?;
+    writeln!(output, "-- {:?}", played.ending)?;
+    write_other_ways(alloc, Player::Script, text, &played, output)
+}
+
+/// Writes what a trace writes, and how it ends; and whether the list of its calls does the same,
+/// but for the views.
+fn trace_case<W: Write>(alloc: Global, text: &str, output: &mut W) -> io::Result<()> {
+    let played = play(
+        alloc,
+        alloc,
+        Player::Trace,
+        text.as_bytes(),
+        in_pieces(8192),
+    );
+    output.write_all(played.wrote.as_slice())?;
+    writeln!(output, "-- {:?}", played.ending)?;
+    write_other_ways(alloc, Player::Trace, text, &played, output)?;
+    let listed = play(alloc, alloc, Player::List, text.as_bytes(), in_pieces(7));
+    if listed.is(played.ending, listed_from(alloc, &played)?.as_slice()) {
+        return output.write_all(b"-- the list: the same without views\n");
+    }
+    listed.describe("the list", output)
+}
+
+/// What `replay list` writes if `replay trace` wrote this: the lines that are no views, or nothing
+/// if a line was no call.
+pub fn listed_from(alloc: Global, traced: &Played) -> io::Result<Vec<u8>> {
+    let mut kept = Vec::new(alloc);
+    if traced.ending == Ending::Done {
+        for line in traced
+            .wrote
+            .as_slice()
+            .split_inclusive(|byte| *byte == b'\n')
+        {
+            if line.first() != Some(&b'=') {
+                kept.extend_from_slice(line)?;
+            }
+        }
+    }
+    Ok(kept)
+}
+
+/// Plays `text` in small pieces, and without its last LF. Writes a line for each way that ends otherwise
+/// than `played`, or writes something else.
+fn write_other_ways<W: Write>(
+    alloc: Global,
+    player: Player,
+    text: &str,
+    played: &Played,
+    output: &mut W,
+) -> io::Result<()> {
+    let cut = text.strip_suffix('\n').unwrap_or(text);
+    for (name, text, given) in [
+        ("in pieces of 1", text, 1),
+        ("in pieces of 2", text, 2),
+        ("in pieces of 7", text, 7),
+        ("without the last LF", cut, 7),
+    ] {
+        let other = play(alloc, alloc, player, text.as_bytes(), in_pieces(given));
+        if !other.is(played.ending, played.wrote.as_slice()) {
+            other.describe(name, output)?;
+        }
+    }
+    Ok(())
+}
+
+/// Plays a script, or else a trace, with reads, writes and requests for memory that fail in turn.
+fn failing_case<W: Write>(alloc: Global, name: &str, text: &str, output: &mut W) -> io::Result<()> {
+    if name == "script" {
+        cut_after_each_byte(alloc, text, output)?;
+        each_read_and_write_fails(alloc, Player::Script, text, output)?;
+        return too_little_memory(alloc, Player::Script, text, output);
+    }
+    for player in [Player::Trace, Player::List] {
+        each_read_and_write_fails(alloc, player, text, output)?;
+        too_little_memory(alloc, player, text, output)?;
+    }
+    Ok(())
+}

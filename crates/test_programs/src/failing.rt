@@ -1,0 +1,108 @@
+//! Reads, writes and requests for memory that fail, each in turn.
+use crate::play::{Played, Player, Way, in_pieces, play};
+use bcast_text::ending::Ending;
+use linked_list_allocator::LocalHeap;
+use std::alloc::Global;
+use std::io;
+use std::io::Write;
+
+/// Plays `text` with ever more reads, and with ever more writes, until none fails.
+pub fn each_read_and_write_fails<W: Write>(
+    alloc: Global,
+    player: Player,
+    text: &str,
+    output: &mut W,
+) -> io::Result<()> {
+    each_call_fails(alloc, player, text, 7, Ending::InputFailed, output)?;
+    each_call_fails(alloc, player, text, 7, Ending::OutputFailed, output)?;
+    each_call_fails(alloc, player, text, 8192, Ending::OutputFailed, output)
+}
+
+/// Plays `text` with ever more calls before one fails, which must end it as `failure`.
+fn each_call_fails<W: Write>(
+    alloc: Global,
+    player: Player,
+    text: &str,
+    given: usize,
+    failure: Ending,
+    output: &mut W,
+) -> io::Result<()> {
+    let whole = play(alloc, alloc, player, text.as_bytes(), in_pieces(given));
+    for calls in 0..1000 {
+        let mut way = in_pieces(given);
+        if failure == Ending::InputFailed {
+            way.reads = calls;
+        } else {
+            way.writes = calls;
+        }
+        let played = play(alloc, alloc, player, text.as_bytes(), way);
+        if write_unless_failed(&played, &whole, failure, output)? {
+            return write_count(player, failure, calls > 9, output);
+        }
+    }
+    output.write_all(b"it never ends\n")
+}
+
+/// Plays `text` over ever larger heaps until there is memory for it.
+pub fn too_little_memory<W: Write>(
+    alloc: Global,
+    player: Player,
+    text: &str,
+    output: &mut W,
+) -> io::Result<()> {
+    // What a line of the greatest length takes.
+    let least = match player {
+        Player::Script => 0,
+        Player::Trace | Player::List => 1 << 20,
+    };
+    let whole = play(alloc, alloc, player, text.as_bytes(), in_pieces(7));
+    for amount in 1..4096 {
+        let heap = LocalHeap::new(alloc, least + 16 * amount)?;
+        let played = play(alloc, &heap, player, text.as_bytes(), in_pieces(7));
+        if write_unless_failed(&played, &whole, Ending::NoMemory, output)? {
+            return write_count(player, Ending::NoMemory, amount > 1000, output);
+        }
+    }
+    output.write_all(b"it never ends\n")
+}
+
+/// Whether `played` is the same as `whole`. If it is something else than a failure after the same
+/// output, that is written.
+fn write_unless_failed<W: Write>(
+    played: &Played,
+    whole: &Played,
+    failure: Ending,
+    output: &mut W,
+) -> io::Result<bool> {
+    if played.is(whole.ending, whole.wrote.as_slice()) {
+        return Ok(true);
+    }
+    if played.ending != failure || !whole.wrote.as_slice().starts_with(played.wrote.as_slice()) {
+        played.describe("it fails as", output)?;
+    }
+    Ok(false)
+}
+
+fn write_count<W: Write>(
+    player: Player,
+    failure: Ending,
+    is_often: bool,
+    output: &mut W,
+) -> io::Result<()> {
+    let count = if is_often { "often" } else { "seldom" };
+    writeln!(output, "{player:?}: {failure:?} {count}, and then none")
+}
+
+/// Plays the beginnings of a script. Each ends at its end, or in the line that is cut.
+pub fn cut_after_each_byte<W: Write>(alloc: Global, text: &str, output: &mut W) -> io::Result<()> {
+    let bytes = text.as_bytes();
+    for cut in 0..bytes.len() {
+        let beginning = &bytes[..cut];
+        let played = play(alloc, alloc, Player::Script, beginning, in_pieces(7));
+        let lines = beginning.iter().filter(|byte| **byte == b'\n').count() as u64;
+        if played.ending != Ending::Done && played.ending != Ending::NotACall(lines + 1) {
+            played.describe("a beginning", output)?;
+        }
+    }
+    output.write_all(b"cut after each byte\n")
+}

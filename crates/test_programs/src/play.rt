@@ -1,0 +1,93 @@
+//! A text played in one way.
+use crate::streams::{Pieces, Taker};
+use bcast_play::{list, script, trace};
+use bcast_text::ending::Ending;
+use std::alloc::{Allocator, Global};
+use std::io::Write;
+use std::{io, str};
+
+/// What plays a text.
+#[derive(Clone, Copy, Debug, PartialEq, Eq)]
+pub enum Player {
+    /// `bcast script`
+    Script,
+    /// `replay trace`
+    Trace,
+    /// `replay list`
+    List,
+}
+
+/// How a text is given, and how what is written is taken.
+#[derive(Clone, Copy)]
+pub struct Way {
+    /// How many bytes a read gives at most.
+    pub given: usize,
+    /// How many bytes a write takes at most.
+    pub taken: usize,
+    /// How many reads there are before one fails.
+    pub reads: u64,
+    /// How many writes there are before one fails.
+    pub writes: u64,
+}
+
+/// In pieces of `given` bytes, and nothing fails.
+pub fn in_pieces(given: usize) -> Way {
+    Way {
+        given,
+        taken: 3,
+        reads: u64::MAX,
+        writes: u64::MAX,
+    }
+}
+
+/// How a text ended, and what was written.
+#[derive(Drop)]
+pub struct Played {
+    pub ending: Ending,
+    pub wrote: Vec<u8>,
+    /// How many writes were left before one fails.
+    pub writes: u64,
+}
+
+/// Plays `text` with memory of `alloc`, and takes what is written into `memory`.
+pub fn play<A: Allocator + Copy>(
+    memory: Global,
+    alloc: A,
+    player: Player,
+    text: &[u8],
+    way: Way,
+) -> Played {
+    let reader = Pieces {
+        bytes: text,
+        piece: way.given,
+        calls: way.reads,
+    };
+    let mut writer = Taker {
+        taken: Vec::new(memory),
+        piece: way.taken,
+        calls: way.writes,
+    };
+    let ending = match player {
+        Player::Script => script(alloc, reader, &mut writer),
+        Player::Trace => trace(alloc, reader, &mut writer),
+        Player::List => list(alloc, reader, &mut writer),
+    };
+    Played {
+        ending,
+        wrote: writer.taken,
+        writes: writer.calls,
+    }
+}
+
+impl Played {
+    /// Whether it ended so, and wrote this.
+    pub fn is(&self, ending: Ending, wrote: &[u8]) -> bool {
+        self.ending == ending && self.wrote.as_slice() == wrote
+    }
+
+    /// Writes on one line what it wrote, and how it ended.
+    pub fn describe<W: Write>(&self, name: &str, output: &mut W) -> io::Result<()> {
+        let wrote = str::from_utf8(self.wrote.as_slice()).unwrap_or("bytes that are no text");
+        writeln!(output, "-- {name}: {:?} after {wrote:?}", self.ending)
+    }
+}

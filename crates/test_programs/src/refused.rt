@@ -1,0 +1,58 @@
+//! Lines that are no calls.
+use crate::play::{Player, in_pieces, play};
+use std::alloc::Global;
+use std::io;
+use std::io::Write;
+
+/// Plays each of `lines` as the line after `first`, and alone if there is no `first`.
+///
+/// `first` is the program and its first line, as `script cap 2`, or `trace` alone.
+pub fn refused_lines<W: Write>(
+    alloc: Global,
+    first: &str,
+    lines: &str,
+    output: &mut W,
+) -> io::Result<()> {
+    let (program, first) = first.split_once(' ').unwrap_or((first, ""));
+    for line in lines.lines() {
+        if program == "script" {
+            refused(alloc, Player::Script, first, line, output)?;
+        } else {
+            refused(alloc, Player::Trace, first, line, output)?;
+            refused(alloc, Player::List, first, line, output)?;
+        }
+    }
+    Ok(())
+}
+
+/// Plays `first` and `line`, with and without a last LF, and writes what came of it.
+pub fn refused<W: Write>(
+    alloc: Global,
+    player: Player,
+    first: &str,
+    line: &str,
+    output: &mut W,
+) -> io::Result<()> {
+    let mut text = String::from_str(alloc, first)?;
+    if !first.is_empty() {
+        text.push_str("\n")?;
+    }
+    text.push_str(line)?;
+    let cut = play(alloc, alloc, player, text.as_str().as_bytes(), in_pieces(7));
+    text.push_str("\n")?;
+    let whole = play(alloc, alloc, player, text.as_str().as_bytes(), in_pieces(7));
+    write!(output, "{line:?} ")?;
+    whole.describe(name_of(player), output)?;
+    if !cut.is(whole.ending, whole.wrote.as_slice()) {
+        cut.describe("without a last LF", output)?;
+    }
+    Ok(())
+}
+
+fn name_of(player: Player) -> &'static str {
+    match player {
+        Player::Script => "script",
+        Player::Trace => "trace",
+        Player::List => "list",
+    }
+}

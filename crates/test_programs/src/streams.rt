@@ -1,0 +1,45 @@
+//! Readers and writers in memory, which fail once they are told to.
+use std::io;
+use std::io::{ErrorKind, Read, Write};
+
+/// Gives at most `piece` bytes at a call, and fails once `calls` calls were made.
+#[derive(Drop)]
+pub struct Pieces<'a> {
+    pub bytes: &'a [u8],
+    pub piece: usize,
+    pub calls: u64,
+}
+
+impl<'a> Read for Pieces<'a> {
+    fn read(&mut self, buf: &mut [u8]) -> io::Result<usize> {
+        if self.calls == 0 {
+            return Err(io::Error::from(ErrorKind::Other));
+        }
+        self.calls -= 1;
+        let most = self.piece.min(buf.len());
+        self.bytes.read(&mut buf[..most])
+    }
+}
+
+/// Takes at most `piece` bytes at a call, and fails once `calls` calls were made.
+#[derive(Drop)]
+pub struct Taker {
+    pub taken: Vec<u8>,
+    pub piece: usize,
+    pub calls: u64,
+}
+
+impl Write for Taker {
+    fn write(&mut self, buf: &[u8]) -> io::Result<usize> {
+        if self.calls == 0 {
+            return Err(io::Error::from(ErrorKind::Other));
+        }
+        self.calls -= 1;
+        let most = self.piece.min(buf.len());
+        self.taken.write(&buf[..most])
+    }
+
+    fn flush(&mut self) -> io::Result<()> {
+        Ok(())
+    }
+}

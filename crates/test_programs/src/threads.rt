@@ -1,0 +1,123 @@
+//! Runs of threads.
+use crate::streams::Taker;
+use async_broadcast::broadcast;
+use bcast_text::ending::Ending;
+use bcast_text::threads::outcome::print_seen;
+use bcast_threads::plan::{Plan, run as run_plan, threads};
+use bcast_threads::work::{receive_all, send_all};
+use linked_list_allocator::LocalHeap;
+use std::alloc::{AllocError, Global};
+use std::io;
+use std::io::Write;
+use std::sync::Wait;
+use std::thread::Threads;
+
+/// Runs threads, and writes what is printed and how it ends.
+pub fn run<R: Threads + Wait + Clone + Send + 'static, W: Write>(
+    rt: &R,
+    alloc: Global,
+    output: &mut W,
+) -> io::Result<()> {
+    output.write_all(b"# threads\n")?;
+    let mut printed = Vec::new(alloc);
+    let ending = threads(rt, alloc, 2, 3, 100, &mut printed);
+    output.write_all(printed.as_slice())?;
+    writeln!(output, "-- {ending:?}")?;
+    let mut printed = Vec::new(alloc);
+    let ending = threads(rt, alloc, 1, 1, 1, &mut printed);
+    output.write_all(printed.as_slice())?;
+    writeln!(output, "-- {ending:?}")?;
+    no_thread(rt, alloc, output)?;
+    write_fails(rt, alloc, output)?;
+    compared(alloc, output)?;
+    no_memory_closes(rt, alloc, output)?;
+    closed_ends_sender(rt, alloc, output)
+}
+
+/// A stack of this size is not to be had.
+fn no_thread<R: Threads + Wait + Clone + Send + 'static, W: Write>(
+    rt: &R,
+    alloc: Global,
+    output: &mut W,
+) -> io::Result<()> {
+    let plan = Plan {
+        senders: 2,
+        receivers: 2,
+        messages: 10,
+        stack: 1 << 50,
+    };
+    let mut printed = Vec::new(alloc);
+    let ending = run_plan(rt, alloc, plan, &mut printed);
+    writeln!(output, "-- {ending:?} after {} bytes", printed.len())
+}
+
+/// Takes 20 bytes at a call, and fails after ever more calls.
+fn write_fails<R: Threads + Wait + Clone + Send + 'static, W: Write>(
+    rt: &R,
+    alloc: Global,
+    output: &mut W,
+) -> io::Result<()> {
+    for calls in [0, 1, 2, 100] {
+        let taker = Taker {
+            taken: Vec::new(alloc),
+            piece: 20,
+            calls,
+        };
+        let ending = threads(rt, alloc, 1, 2, 3, taker);
+        writeln!(output, "-- {ending:?} after {calls} writes")?;
+    }
+    Ok(())
+}
+
+/// What receivers saw, and what is printed of it.
+fn compared<W: Write>(alloc: Global, output: &mut W) -> io::Result<()> {
+    for (first, second) in [
+        ([0, 1, 2], [0, 1, 2]),
+        ([1, 0, 2], [1, 0, 2]),
+        ([0, 1, 2], [1, 0, 2]),
+        ([0, 1, 1], [0, 1, 1]),
+        ([0, 1, 3], [0, 1, 3]),
+    ] {
+        let mut lists = Vec::new(alloc);
+        lists.push(list_of(alloc, first)?)?;
+        lists.push(list_of(alloc, second)?)?;
+        let ending = print_seen(alloc, lists.as_slice(), 3, output);
+        writeln!(output, "-- {ending:?} of {first:?} and {second:?}")?;
+    }
+    Ok(())
+}
+
+fn list_of(alloc: Global, numbers: [u64; 3]) -> Result<Vec<u64>, AllocError> {
+    let mut list = Vec::new(alloc);
+    list.extend_from_slice(&numbers)?;
+    Ok(list)
+}
+
+/// A receiver that finds no memory closes the channel.
+fn no_memory_closes<R: Wait + Clone, W: Write>(
+    rt: &R,
+    alloc: Global,
+    output: &mut W,
+) -> io::Result<()> {
+    let heap = LocalHeap::new(alloc, 64)?;
+    let (sender, receiver) = broadcast(rt.clone()?, alloc, 100)?;
+    for msg in 0..100u64 {
+        if sender.try_broadcast(msg).is_err() {
+            output.write_all(b"not sent\n")?;
+        }
+    }
+    let is_err = receive_all(&heap, receiver).is_err();
+    writeln!(output, "no memory {is_err}, closed {}", sender.is_closed())
+}
+
+/// A sender ends on a closed channel.
+fn closed_ends_sender<R: Wait + Clone, W: Write>(
+    rt: &R,
+    alloc: Global,
+    output: &mut W,
+) -> io::Result<()> {
+    let (sender, receiver) = broadcast(rt.clone()?, alloc, 1)?;
+    receiver.close();
+    send_all(sender, 0, 100);
+    writeln!(output, "closed, and {} sent", receiver.len())
+}

@@ -1,0 +1,93 @@
+//! Lines that a text file does not show, and when answers are written.
+use crate::play::{Player, Way, in_pieces, play};
+use crate::refused::refused;
+use std::alloc::Global;
+use std::io;
+use std::io::Write;
+
+/// A program, its first line, and a line after it that is no call.
+const UNSEEN: &[(Player, &str, &str)] = &[
+    (Player::Script, "cap 2", "len\r"),
+    (Player::Script, "cap 2", "\u{0}"),
+    (Player::Script, "cap 2", "\u{feff}len"),
+    (Player::Trace, "", "open\t1 0"),
+    (Player::List, "", "open\t1 0"),
+    (Player::Trace, "", "open 1 0\r"),
+    (Player::List, "", "open 1 0\r"),
+    (Player::Trace, "open 2 0", "Close\r"),
+    (Player::List, "open 2 0", "Close\r"),
+    (Player::Trace, "open 2 0", "\u{feff}Len"),
+    (Player::List, "open 2 0", "\u{feff}Len"),
+];
+
+/// Plays all of them.
+pub fn run<W: Write>(alloc: Global, output: &mut W) -> io::Result<()> {
+    output.write_all(b"# lines that a text file does not show\n")?;
+    for (player, first, line) in UNSEEN {
+        refused(alloc, *player, first, line, output)?;
+    }
+    no_text(alloc, Player::Script, b"cap 2\nlen\xff\n", output)?;
+    no_text(alloc, Player::Trace, b"open 2 0\nLen -> \xff\n", output)?;
+    output.write_all(b"# lines of the greatest length, and one byte more\n")?;
+    long_line(alloc, Player::Script, "cap 2\n", "a", 201, output)?;
+    for player in [Player::Trace, Player::List] {
+        long_line(alloc, player, "open 2 0\n", "=", 1 << 20, output)?;
+        long_line(alloc, player, "open 2 0\n", "=", (1 << 20) + 1, output)?;
+    }
+    output.write_all(b"# how often answers are written\n")?;
+    for given in [6, 8192] {
+        writes(alloc, given, output)?;
+    }
+    Ok(())
+}
+
+/// Plays bytes that are no UTF-8 text.
+fn no_text<W: Write>(alloc: Global, player: Player, text: &[u8], output: &mut W) -> io::Result<()> {
+    let played = play(alloc, alloc, player, text, in_pieces(7));
+    played.describe("bytes that are no text", output)
+}
+
+/// Plays `first`, and a line of `count` times `byte`.
+fn long_line<W: Write>(
+    alloc: Global,
+    player: Player,
+    first: &str,
+    byte: &str,
+    count: usize,
+    output: &mut W,
+) -> io::Result<()> {
+    let mut text = String::from_str(alloc, first)?;
+    for _ in 0..count {
+        text.push_str(byte)?;
+    }
+    let played = play(
+        alloc,
+        alloc,
+        player,
+        text.as_str().as_bytes(),
+        in_pieces(8192),
+    );
+    write!(output, "{player:?} {count} ")?;
+    // A view is long, and what it shows is told by other cases.
+    if played.wrote.len() > first.len() {
+        return writeln!(output, "-- {:?} after a view", played.ending);
+    }
+    played.describe("bytes", output)
+}
+
+/// Plays three lines of six bytes, and writes how many writes were made for their answers.
+fn writes<W: Write>(alloc: Global, given: usize, output: &mut W) -> io::Result<()> {
+    let way = Way {
+        given,
+        taken: 100,
+        reads: u64::MAX,
+        writes: 100,
+    };
+    let played = play(alloc, alloc, Player::Script, b"cap 1\nclose\nclose\n", way);
+    let made = 100u64.saturating_sub(played.writes);
+    writeln!(
+        output,
+        "in pieces of {given}: {made} -- {:?}",
+        played.ending
+    )
+}
