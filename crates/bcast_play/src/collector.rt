@@ -37,12 +37,11 @@ impl<A: Allocator + Copy> Collector<A> {
     pub fn play<W: Write>(self, output: &mut W) -> Result<(), Fault> {
         let opening = self.opening.ok_or(Fault::NotACall)?;
         let Calls { list, texts } = self.calls;
-        let made = run(self.alloc, opening.capacity, opening.first, list);
-        let Ok((_, _, replies)) = made else {
+        let Ok(made) = run(self.alloc, opening.capacity, opening.first, list) else {
             return Err(Fault::NoMemory);
         };
         writeln!(output, "open {} {}", opening.capacity, opening.first)?;
-        for (text, reply) in texts.iter().zip(&replies) {
+        for (text, reply) in texts.iter().zip(&made.replies) {
             write_answer(text.as_str(), reply, output)?;
         }
         Ok(())
