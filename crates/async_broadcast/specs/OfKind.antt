@@ -11,7 +11,7 @@ use Rattle.bcast_model.specs.declared.run.Reply.TheVariants as reply
 use Rattle.bcast_model.specs.Control.{Cursors, has_no_receiver, has_place}
 use Rattle.bcast_model.specs.View.{View}
 use Rattle.bcast_model.specs.History.{view_of}
-use Rattle.bcast_model.specs.Sending.{attempted, attempt_send_reply}
+use Rattle.bcast_model.specs.Sending.{reply_to_attempt, attempt_send_reply}
 use Rattle.bcast_model.specs.Legal.{Legal, IsReceived, IsMade, IsMadeFrom}
 use Rattle.bcast_model.specs.Answers.{IsPossible}
 use Rattle.async_broadcast.specs.Kinds.{IsA, HandsBack, IsOfKind}
@@ -19,7 +19,7 @@ use Rattle.async_broadcast.specs.Kinds.{IsA, HandsBack, IsOfKind}
 module _ {T : Type 0} where
   -- a send that must wait hands its message back, whatever the channel is
   attempted-back : (closed deserted full await : Bool) (back : Option T) (msg : T)
-      → HandsBack msg (attempted await back (if closed then Some (unsent.Closed msg) else (if deserted then Some (unsent.Inactive msg) else (if full then Some (unsent.Full msg) else None))))
+      → HandsBack msg (reply_to_attempt await back (if closed then Some (unsent.Closed msg) else (if deserted then Some (unsent.Inactive msg) else (if full then Some (unsent.Full msg) else None))))
   attempted-back true deserted full await back msg = tt
   attempted-back false true full true back msg = refl
   attempted-back false true full false back msg = tt

@@ -4,7 +4,7 @@ use Rattle.bcast_model.specs.declared.error.TrySendError.TheVariants as unsent
 use Rattle.bcast_model.specs.declared.run.SendPoll.{SendPoll}
 use Rattle.bcast_model.specs.declared.run.SendPoll.TheVariants as send
 use Rattle.bcast_model.specs.Control.{has_no_receiver, has_place, place_answered, place_waits}
-use Rattle.bcast_model.specs.Sending.{attempted, accept_unless, answered, offer, refusal, attempt_send_reply, poll_send, handed_back}
+use Rattle.bcast_model.specs.Sending.{reply_to_attempt, accept_unless, with_place_answered, offer, refusal, attempt_send_reply, poll_send, handed_back}
 use Rattle.bcast_model.specs.View.{View, is_full, sends_are_ready}
 use Rattle.bcast_model.specs.Laws.{IsValidView}
 use Rattle.bcast_model.specs.Effect.{sets}
@@ -25,7 +25,7 @@ module _ {T : Type 0} where
   waits (send.Wait msg) = true
 
   attempted_waits : (msg : T) (back : Option T) (closed nobody await_active overflow full : Bool)
-      → waits (attempted await_active back (cond closed (Some (unsent.Closed msg)) (cond nobody (Some (unsent.Inactive msg)) (cond (full && not overflow) (Some (unsent.Full msg)) None))))
+      → waits (reply_to_attempt await_active back (cond closed (Some (unsent.Closed msg)) (cond nobody (Some (unsent.Inactive msg)) (cond (full && not overflow) (Some (unsent.Full msg)) None))))
       ≡ not (closed || (not nobody && (overflow || not full)) || (nobody && not await_active))
   attempted_waits msg back true nobody await_active overflow full = refl
   attempted_waits msg back false true true overflow full = refl
@@ -40,7 +40,7 @@ module _ {T : Type 0} where
   waits_unless_ready v msg = attempted_waits msg (handed_back v) v.control.closed (has_no_receiver v.control) v.control.await_active v.control.overflow (is_full v)
 
   pub is_refused : (v : View T) (msg again : T) → attempt_send_reply v msg ≡ send.Wait again → settle v (offer v msg) ≡ settle v (sets v.control)
-  is_refused v msg again is = elim (refusal v msg) as (λ o. attempted v.control.await_active (handed_back v) o ≡ send.Wait again → settle v (accept_unless v msg o) ≡ settle v (sets v.control)) [
+  is_refused v msg again is = elim (refusal v msg) as (λ o. reply_to_attempt v.control.await_active (handed_back v) o ≡ send.Wait again → settle v (accept_unless v msg o) ≡ settle v (sets v.control)) [
     | Some error ↦ λ _. refl
     | None ↦ λ e. (let w = ap waits e in cc)
   ] is
@@ -51,8 +51,8 @@ module _ {T : Type 0} where
   poll_answered v mid new place msg answer there is mid_is new_is =
       let ready = not_false (sends_are_ready v) (sym (ap waits is) ∙ waits_unless_ready v msg) in
       new_is ∙ ap (λ (x : View T). record x { control = place_answered x.control place }) mid_is
-      ∙ sym (ap (λ b. settle v (cond b (cond (sends_are_ready v) (answered (offer v msg) place) (sets (place_waits v.control place))) (sets v.control))) there
-      ∙ ap (λ b. settle v (cond b (answered (offer v msg) place) (sets (place_waits v.control place)))) ready)
+      ∙ sym (ap (λ b. settle v (cond b (cond (sends_are_ready v) (with_place_answered (offer v msg) place) (sets (place_waits v.control place))) (sets v.control))) there
+      ∙ ap (λ b. settle v (cond b (with_place_answered (offer v msg) place) (sets (place_waits v.control place)))) ready)
 
   -- a poll that is not waits
   pub poll_waits : (v mid new : View T) (place : ℕ) (msg again : T) → IsValidView v → has_place v.control place ≡ true → attempt_send_reply v msg ≡ send.Wait again
@@ -62,5 +62,5 @@ module _ {T : Type 0} where
       let same : mid ≡ v = mid_is ∙ is_refused v msg again is ∙ settle_idle v valid in
       new_is ∙ ap (λ (x : View T). record x { control = place_waits x.control place }) same
       ∙ sym (settle_stays v (place_waits v.control place) valid.low)
-      ∙ sym (ap (λ b. settle v (cond b (cond (sends_are_ready v) (answered (offer v msg) place) (sets (place_waits v.control place))) (sets v.control))) there
-      ∙ ap (λ b. settle v (cond b (answered (offer v msg) place) (sets (place_waits v.control place)))) ready)
+      ∙ sym (ap (λ b. settle v (cond b (cond (sends_are_ready v) (with_place_answered (offer v msg) place) (sets (place_waits v.control place))) (sets v.control))) there
+      ∙ ap (λ b. settle v (cond b (with_place_answered (offer v msg) place) (sets (place_waits v.control place)))) ready)

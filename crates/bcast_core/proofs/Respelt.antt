@@ -7,7 +7,7 @@ use Rattle.bcast_model.specs.declared.run.Call.{Call}
 use Rattle.bcast_model.specs.declared.run.Call.TheVariants as call
 use Rattle.bcast_model.specs.declared.run.Reply.{Reply}
 use Rattle.bcast_model.specs.declared.run.Reply.TheVariants as reply
-use Rattle.bcast_model.specs.Pair.{Pair}
+use Rattle.bcast_model.specs.ListenerId.{Pair}
 use Rattle.bcast_model.specs.Receiving.{receive, poll_receive, try_recv_reply, IsOwed}
 use Rattle.bcast_model.specs.Legal.{IsReceived, Legal}
 use Rattle.bcast_model.specs.View.{View}

@@ -1,6 +1,6 @@
 -- how the state of a channel is put together
 pub mod Parts
 -- which replies are those of a receive that found no memory
-pub mod Sure
+pub mod InfallibleClones
 -- what a snapshot of a channel says
 pub mod Snapshot

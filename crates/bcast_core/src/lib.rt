@@ -10,12 +10,12 @@ mod snapshot;
 mod state;
 mod steps;
 
-pub use bcast_waiting::notice::{Notice, Silent};
 pub use bcast_model::error::{
     HandleError, NoMemory, RecvError, SendError, TryRecvError, TrySendError,
 };
 pub use bcast_model::listener::Kind;
 pub use bcast_model::run::{Call, Reply, SendPoll};
+pub use bcast_waiting::notice::{Notice, Silent};
 pub use snapshot::{Snapshot, Waiting};
 pub use state::Inner;
 pub use steps::{Ran, run, step};

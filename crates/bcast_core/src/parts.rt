@@ -3,8 +3,8 @@ ghost use Rattle.std.specs.Prelude.{◌≡◌, ◌==◌, ◌^◌, ◌+◌, ◌-�
 ghost use Rattle.std.specs.FinMap.{len};
 ghost use Rattle.bcast_model.specs.History.{opening};
 
-use bcast_waiting::notice::Notice;
 use bcast_store::Store;
+use bcast_waiting::notice::Notice;
 use bcast_waiting::{ReceiveList, SendList};
 use std::alloc::{AllocError, Allocator, Global};
 use std::marker::Model;
@@ -33,7 +33,7 @@ pub struct Parts<T, N: Notice, A: Allocator = Global> {
 
 impl<T, N: Notice, A: Allocator> Model for Parts<T, N, A> {
     ghost use Rattle.bcast_model.specs.View.{View};
-    ghost use Rattle.bcast_model.specs.Codes.{view_code};
+    ghost use Rattle.bcast_model.specs.Encodings.{view_code};
     ghost use Rattle.bcast_core.specs.Parts.{seen_of, control_of};
 
     ghost Value = { View T };

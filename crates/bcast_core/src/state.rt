@@ -28,7 +28,7 @@ pub struct Inner<T, N: Notice, A: Allocator = Global> {
 
 impl<T, N: Notice, A: Allocator> Model for Inner<T, N, A> {
     ghost use Rattle.bcast_model.specs.View.{View};
-    ghost use Rattle.bcast_model.specs.Codes.{view_code};
+    ghost use Rattle.bcast_model.specs.Encodings.{view_code};
     ghost use Rattle.bcast_model.specs.Answers.{IsShown};
 
     ghost Value = { View T };

@@ -7,14 +7,14 @@ ghost use Rattle.bcast_model.specs.History.{opening};
 ghost use Rattle.bcast_model.specs.Run.{IsRun, end_of_run};
 ghost use Rattle.bcast_model.specs.Valid.{IsValid};
 ghost use Rattle.bcast_model.specs.Legal.{NoClone, ClonesEqual};
-ghost use Rattle.bcast_model.specs.Tiling.{dropped_in};
+ghost use Rattle.bcast_model.specs.Missed.{dropped_in};
 ghost use Rattle.std.specs.List.Sorted.{IsStrictlyIncreasing};
 ghost use Rattle.bcast_model.specs.Deliveries.{AtEachPoint, AreAllExact};
-ghost use Rattle.bcast_core.specs.Sure.{is_receive_refused};
+ghost use Rattle.bcast_core.specs.InfallibleClones.{is_receive_refused};
 
 use crate::state::Inner;
-use bcast_waiting::notice::{Notice, Silent};
 use bcast_model::run::{Call, Reply};
+use bcast_waiting::notice::{Notice, Silent};
 use std::alloc::{Allocator, Global};
 
 /// Makes the one state call that `call` names, and returns its reply.

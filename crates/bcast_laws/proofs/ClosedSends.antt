@@ -8,7 +8,7 @@ use Rattle.bcast_model.specs.declared.run.Reply.{Reply}
 use Rattle.bcast_model.specs.declared.run.Reply.TheVariants as reply
 use Rattle.bcast_model.specs.Control.{has_no_receiver, has_place}
 use Rattle.bcast_model.specs.View.{View, is_full}
-use Rattle.bcast_model.specs.Sending.{refusal, sent, attempted, handed_back, attempt_send_reply}
+use Rattle.bcast_model.specs.Sending.{refusal, reply_to_try, reply_to_attempt, handed_back, attempt_send_reply}
 use Rattle.bcast_model.specs.Legal.{Legal}
 use Rattle.bcast_laws.proofs.Closing.{IsClosed}
 
@@ -20,11 +20,11 @@ module _ {T : Type 0} where
   refuses v msg is = test_closed v.control.closed (cond (has_no_receiver v.control) (Some (unsent.Inactive msg)) (cond (is_full v && not v.control.overflow) (Some (unsent.Full msg)) None)) msg is
 
   attempt_closed : (v : View T) (msg : T) → IsClosed v.control → attempt_send_reply v msg ≡ send.Ready (Err (record { 0 = msg }))
-  attempt_closed v msg is = ap (attempted v.control.await_active (handed_back v)) (refuses v msg is)
+  attempt_closed v msg is = ap (reply_to_attempt v.control.await_active (handed_back v)) (refuses v msg is)
 
   module _ (is_clone : T → T → Type 0) (v : View T) (msg : T) (r : Reply T) (is : IsClosed v.control) where
     pub try_refused : Legal is_clone v (call.TryBroadcast msg) r → r ≡ reply.TryBroadcast (Err (unsent.Closed msg))
-    try_refused legal = legal ∙ ap (λ error. reply.TryBroadcast (sent (handed_back v) error)) (refuses v msg is)
+    try_refused legal = legal ∙ ap (λ error. reply.TryBroadcast (reply_to_try (handed_back v) error)) (refuses v msg is)
 
     pub attempt_refused : Legal is_clone v (call.AttemptSend msg) r → r ≡ reply.AttemptSend (send.Ready (Err (record { 0 = msg })))
     attempt_refused legal = legal ∙ ap reply.AttemptSend (attempt_closed v msg is)

@@ -5,15 +5,15 @@ use Rattle.bcast_model.specs.declared.error.TryRecvError.{TryRecvError}
 use Rattle.bcast_model.specs.declared.run.Call.{Call}
 use Rattle.bcast_model.specs.declared.run.Call.TheVariants as call
 use Rattle.bcast_model.specs.declared.run.Reply.{Reply}
-use Rattle.bcast_model.specs.Pair.{Pair, stream_of, future_of}
+use Rattle.bcast_model.specs.ListenerId.{Pair, stream_of, future_of}
 use Rattle.bcast_model.specs.Control.{Control, tell_receivers, close, close_if_deserted, accepting, has_place, place_waits, pair_waits, pair_answered, cursor_of}
 use Rattle.bcast_model.specs.View.{View, sends_are_ready}
 use Rattle.bcast_model.specs.Effect.{Effect, sets}
-use Rattle.bcast_model.specs.Sending.{refusal, accept_unless, offer, answered, poll_send}
+use Rattle.bcast_model.specs.Sending.{refusal, accept_unless, offer, with_place_answered, poll_send}
 use Rattle.bcast_model.specs.Receiving.{receive, listens, skipped_to, poll_receive, is_empty_reply, try_recv_reply}
 use Rattle.bcast_model.specs.Effects.{resize, set_unless_refused, effect}
 use Rattle.bcast_model.specs.History.{History, view_of, remember}
-use Rattle.bcast_model.specs.Next.{found_no_memory, chosen, may_tell, next}
+use Rattle.bcast_model.specs.Next.{found_no_memory, chosen_id, may_tell, next}
 use Rattle.bcast_model.specs.Handles.{has_next, begin_send, new_receiver, activate, clone_receiver, new_sender, clone_inactive, without_receiver, drop_receiver, deactivate, drop_sender, drop_inactive}
 use Rattle.bcast_model.specs.Run.{end_of_run}
 use Rattle.bcast_model.proofs.Cases.{test_is, close_is, deserted_is, accepting_is, receive_is, tell_is}
@@ -90,8 +90,8 @@ module _ {T : Type 0} where
   poll_send_stays : (v : View T) (place : ℕ) (msg : T) → IsClosed v.control → IsClosed (poll_send v place msg).control
   poll_send_stays v place msg is =
       let waits : Effect T = sets (place_waits v.control place) in
-      test_is Closed (has_place v.control place) (cond (sends_are_ready v) (answered (offer v msg) place) waits) (sets v.control)
-      (λ _. test_is Closed (sends_are_ready v) (answered (offer v msg) place) waits (λ _. offer_stays v msg is) (λ _. is)) (λ _. is)
+      test_is Closed (has_place v.control place) (cond (sends_are_ready v) (with_place_answered (offer v msg) place) waits) (sets v.control)
+      (λ _. test_is Closed (sends_are_ready v) (with_place_answered (offer v msg) place) waits (λ _. offer_stays v msg is) (λ _. is)) (λ _. is)
 
   unless_stays : (v : View T) (e : Effect T) (r : Reply T) → IsClosed v.control → IsClosed e.control → IsClosed (cond (found_no_memory r) (sets v.control) e).control
   unless_stays v e r is then = test_is Closed (found_no_memory r) (sets v.control) e (λ _. is) (λ _. then)
@@ -105,7 +105,7 @@ module _ {T : Type 0} where
   effect_stays : (v : View T) (c : Call T) (r : Reply T) → IsClosed v.control → IsClosed (effect v c r).control
   effect_stays v (call.TryBroadcast msg) r is = offer_stays v msg is
   effect_stays v (call.AttemptSend msg) r is = offer_stays v msg is
-  effect_stays v call.BeginSend r is = begin_stays v.control is (chosen r)
+  effect_stays v call.BeginSend r is = begin_stays v.control is (chosen_id r)
   effect_stays v (call.PollSend place msg) r is = poll_send_stays v place msg is
   effect_stays v (call.TryRecv key) r is = unless_stays v (sets (receive v.front v.end v.control key (cursor_of v.control key))) r is (receive_stays v.control is v.front v.end key (cursor_of v.control key))
   effect_stays v (call.PollFuture key) r is = poll_stays v r (future_of key) (cursor_of v.control key) (try_recv_reply v (cursor_of v.control key)) is
@@ -116,10 +116,10 @@ module _ {T : Type 0} where
   effect_stays v call.NewSender r is = new_sender_stays v.control is
   effect_stays v call.CloneInactive r is = clone_inactive_stays v.control is
   effect_stays v (call.Deactivate key) r is = deactivate_stays v.control key (cursor_of v.control key) is
-  effect_stays v call.NewReceiver r is = new_receiver_stays v.control is v.end (chosen r)
-  effect_stays v call.Activate r is = activate_stays v.control is v.end (chosen r)
-  effect_stays v call.ActivateCloned r is = new_receiver_stays v.control is v.end (chosen r)
-  effect_stays v (call.CloneReceiver key) r is = clone_stays v.control is (cursor_of v.control key) (chosen r)
+  effect_stays v call.NewReceiver r is = new_receiver_stays v.control is v.end (chosen_id r)
+  effect_stays v call.Activate r is = activate_stays v.control is v.end (chosen_id r)
+  effect_stays v call.ActivateCloned r is = new_receiver_stays v.control is v.end (chosen_id r)
+  effect_stays v (call.CloneReceiver key) r is = clone_stays v.control is (cursor_of v.control key) (chosen_id r)
   effect_stays v call.DropSender r is = drop_sender_stays v.control is
   effect_stays v call.DropInactive r is = drop_inactive_stays v.control is
   effect_stays v (call.DropReceiver key) r is = dropped_stays v.control key (cursor_of v.control key) is

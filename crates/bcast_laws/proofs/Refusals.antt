@@ -13,9 +13,9 @@ use Rattle.bcast_model.specs.declared.run.Reply.TheVariants as reply
 use Rattle.bcast_model.specs.Control.{Control, tell_a_sender, closing, with_cursor, cursor_of}
 use Rattle.bcast_model.specs.View.{View, kept_at, sends_are_ready}
 use Rattle.bcast_model.specs.Effect.{Effect, sets}
-use Rattle.bcast_model.specs.Sending.{refusal, sent, attempted, handed_back, accept_unless}
-use Rattle.bcast_model.specs.Receiving.{receive, found, skipped, skipped_to, future_reply, stream_reply, next_reply, try_recv_reply, IsOwed}
-use Rattle.bcast_model.specs.Legal.{Legal, IsReceived, raised}
+use Rattle.bcast_model.specs.Sending.{refusal, reply_to_try, reply_to_attempt, handed_back, accept_unless}
+use Rattle.bcast_model.specs.Receiving.{receive, recv_answer, skipped_count, skipped_to, future_reply, stream_reply, next_reply, try_recv_reply, IsOwed}
+use Rattle.bcast_model.specs.Legal.{Legal, IsReceived, count_reply}
 use Rattle.bcast_model.specs.Effects.{set_unless_refused, effect}
 use Rattle.bcast_model.specs.History.{History, view_of, remember, with_control}
 use Rattle.bcast_model.specs.Next.{found_no_memory, tell_if_ready, end_call, may_tell, next}
@@ -41,7 +41,7 @@ same_cloned T true has c more e = refl
 same_cloned T false true c more e = apart e
 same_cloned T false false c more e = refl
 
-same_deactivated : (T : Type 0) (c : Control) (key : ℕ) (cursor : Option ℕ) → is_refused {T = T} (reply.Deactivate (raised (is_some cursor) c.inactive)) ≡ true → deactivate c key cursor ≡ c
+same_deactivated : (T : Type 0) (c : Control) (key : ℕ) (cursor : Option ℕ) → is_refused {T = T} (reply.Deactivate (count_reply (is_some cursor) c.inactive)) ≡ true → deactivate c key cursor ≡ c
 same_deactivated T c key None e = refl
 same_deactivated T c key (Some cursor) e =
     elim (has_next c.inactive) as (λ b. is_refused {T = T} (reply.Deactivate (cond b (Ok tt) (Err handle.TooMany))) ≡ true → cond b (record (without_receiver c key) { inactive = c.inactive + 1 }) c ≡ c) [
@@ -60,16 +60,16 @@ quiet false x y = refl
 
 module _ {T : Type 0} where
   -- ---- sends
-  same_try : (v : View T) (msg : T) (back : Option T) (error : Option (TrySendError T)) → is_refused (reply.TryBroadcast (sent back error)) ≡ true → accept_unless v msg error ≡ sets v.control
+  same_try : (v : View T) (msg : T) (back : Option T) (error : Option (TrySendError T)) → is_refused (reply.TryBroadcast (reply_to_try back error)) ≡ true → accept_unless v msg error ≡ sets v.control
   same_try v msg back None e = apart e
   same_try v msg back (Some error) e = refl
 
-  same_attempt : (v : View T) (msg : T) (await : Bool) (back : Option T) (error : Option (TrySendError T)) → is_refused (reply.AttemptSend (attempted await back error)) ≡ true → accept_unless v msg error ≡ sets v.control
+  same_attempt : (v : View T) (msg : T) (await : Bool) (back : Option T) (error : Option (TrySendError T)) → is_refused (reply.AttemptSend (reply_to_attempt await back error)) ≡ true → accept_unless v msg error ≡ sets v.control
   same_attempt v msg await back None e = apart e
   same_attempt v msg await back (Some error) e = refl
 
   -- ---- receives
-  same_found : (v : View T) (key cursor : ℕ) (o : Option T) → v.end ≡ v.front + length v.queue → v.front ≤ cursor → kept_at v cursor ≡ o → is_refused {T = T} (reply.TryRecv (Ok (found v.control.closed o))) ≡ true
+  same_found : (v : View T) (key cursor : ℕ) (o : Option T) → v.end ≡ v.front + length v.queue → v.front ≤ cursor → kept_at v cursor ≡ o → is_refused {T = T} (reply.TryRecv (Ok (recv_answer v.control.closed o))) ≡ true
       → cond (nat_lt cursor v.end) (with_cursor v.control key (cursor + 1)) v.control ≡ v.control
   same_found v key cursor (Some msg) size low is e = apart e
   same_found v key cursor None size low is e =
@@ -81,7 +81,7 @@ module _ {T : Type 0} where
   same_receive v key None valid e = refl
   same_receive v key (Some cursor) valid e =
       elim (nat_lt cursor v.front) as (λ b. nat_lt cursor v.front ≡ b
-      → is_refused (reply.TryRecv (Ok (cond b (Err (unread.Overflowed (v.front - cursor))) (found v.control.closed (kept_at v cursor))))) ≡ true
+      → is_refused (reply.TryRecv (Ok (cond b (Err (unread.Overflowed (v.front - cursor))) (recv_answer v.control.closed (kept_at v cursor))))) ≡ true
       → cond b (with_cursor v.control key v.front) (cond (nat_lt cursor v.end) (with_cursor v.control key (cursor + 1)) v.control) ≡ v.control) [
         | true ↦ λ t e. apart e
         | false ↦ λ t e. same_found v key cursor (kept_at v cursor) valid.end (grind (arith, common_steps, t)) refl e
@@ -118,7 +118,7 @@ module _ {T : Type 0} where
       same_received is_clone (IsOwed v key (cursor_of v.control key)) (λ answer. reply.PollRecv (Ok (stream_reply answer))) (reply.PollRecv (Err alloc_error)) (try_recv_reply v (cursor_of v.control key)) v _ r (λ refuses. apart refuses) (λ msg. refl) refl legal e
   same_effect is_clone v (call.PollNext key) r valid legal e =
       let cursor : Option ℕ = skipped_to v.front (cursor_of v.control key) in
-      same_received is_clone (IsOwed v key cursor) (λ answer. reply.PollNext (Ok (next_reply (skipped v.front (cursor_of v.control key)) answer))) (reply.PollNext (Err alloc_error)) (try_recv_reply v cursor) v _ r (λ refuses. apart refuses) (λ msg. refl) refl legal e
+      same_received is_clone (IsOwed v key cursor) (λ answer. reply.PollNext (Ok (next_reply (skipped_count v.front (cursor_of v.control key)) answer))) (reply.PollNext (Err alloc_error)) (try_recv_reply v cursor) v _ r (λ refuses. apart refuses) (λ msg. refl) refl legal e
   same_effect is_clone v call.Close r valid legal e = ap (λ b. sets (cond b v.control (closing v.control))) (not_not v.control.closed (sym (ap is_refused legal) ∙ e))
   same_effect is_clone v (call.SetCapacity n) r valid (inl is) e = apart (sym (ap is_refused is) ∙ e)
   same_effect is_clone v (call.SetCapacity n) r valid (inr (is, more)) e = rw is refl

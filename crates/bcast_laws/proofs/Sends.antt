@@ -11,7 +11,7 @@ use Rattle.bcast_model.specs.declared.run.Reply.TheVariants as reply
 use Rattle.bcast_model.specs.Control.{has_no_receiver, has_place, place_waits}
 use Rattle.bcast_model.specs.View.{View, is_full, sends_are_ready}
 use Rattle.bcast_model.specs.Effect.{Effect, sets}
-use Rattle.bcast_model.specs.Sending.{refusal, sent, attempted, handed_back, attempt_send_reply, accept_unless, offer, answered, poll_send}
+use Rattle.bcast_model.specs.Sending.{refusal, reply_to_try, reply_to_attempt, handed_back, attempt_send_reply, accept_unless, offer, with_place_answered, poll_send}
 use Rattle.bcast_model.specs.Effects.{effect}
 use Rattle.bcast_model.specs.Replies.{found_no_memory}
 use Rattle.bcast_model.specs.History.{History, view_of}
@@ -39,11 +39,11 @@ module _ {T : Type 0} where
   none_added true = refl
   none_added false = refl
 
-  adds_try : (v : View T) (msg : T) (back : Option T) (error : Option (TrySendError T)) → (accept_unless v msg error).accepted ≡ added (is_accepted (reply.TryBroadcast (sent back error))) (Some msg)
+  adds_try : (v : View T) (msg : T) (back : Option T) (error : Option (TrySendError T)) → (accept_unless v msg error).accepted ≡ added (is_accepted (reply.TryBroadcast (reply_to_try back error))) (Some msg)
   adds_try v msg back None = refl
   adds_try v msg back (Some error) = refl
 
-  adds_attempt : (v : View T) (msg : T) (await : Bool) (back : Option T) (error : Option (TrySendError T)) → (accept_unless v msg error).accepted ≡ added (is_accepted (reply.AttemptSend (attempted await back error))) (Some msg)
+  adds_attempt : (v : View T) (msg : T) (await : Bool) (back : Option T) (error : Option (TrySendError T)) → (accept_unless v msg error).accepted ≡ added (is_accepted (reply.AttemptSend (reply_to_attempt await back error))) (Some msg)
   adds_attempt v msg await back None = refl
   adds_attempt v msg await back (Some (unsent.Closed m)) = refl
   adds_attempt v msg true back (Some (unsent.Inactive m)) = refl
@@ -66,10 +66,10 @@ module _ {T : Type 0} where
       let answer : SendPoll T = attempt_send_reply v msg in
       rw legal
       (elim (has_place v.control place) as (λ b. has_place v.control place ≡ b
-      → (cond b (cond (sends_are_ready v) (answered (offer v msg) place) (sets (place_waits v.control place))) (sets v.control)).accepted
+      → (cond b (cond (sends_are_ready v) (with_place_answered (offer v msg) place) (sets (place_waits v.control place))) (sets v.control)).accepted
       ≡ added (is_accepted (reply.PollSend (cond b answer (send.Wait msg)))) (Some msg)) [
         | true ↦ λ known. elim (sends_are_ready v) as (λ b. sends_are_ready v ≡ b
-            → (cond b (answered (offer v msg) place) (sets (place_waits v.control place))).accepted ≡ added (is_accepted (reply.PollSend answer)) (Some msg)) [
+            → (cond b (with_place_answered (offer v msg) place) (sets (place_waits v.control place))).accepted ≡ added (is_accepted (reply.PollSend answer)) (Some msg)) [
               | true ↦ λ _. adds_attempt v msg v.control.await_active (handed_back v) (refusal v msg) ∙ ap (λ b. added b (Some msg)) (sym (as_attempt answer))
               | false ↦ λ ready.
                   let waits : must_wait (reply.PollSend answer) ≡ true = send_waits_unready is_clone v place msg (reply.PollSend answer) known (sym (ap (λ b. reply.PollSend (cond b answer (send.Wait msg))) known)) ∙ ap not ready in
@@ -100,15 +100,15 @@ module _ {T : Type 0} where
   nothing_added is_clone h c r legal refused = ap (◌++◌ h.accepted) (adds is_clone (view_of h) c r legal ∙ ap (λ b. added b (sent_by c)) refused) ∙ append-nil h.accepted
 
   -- ---- what comes back, by: closed, no receiver, full without overflow, and whether sends await a receiver
-  returns_try : (closed none full : Bool) (back : Option T) (msg : T) → is_accepted (reply.TryBroadcast (sent back (cond closed (Some (unsent.Closed msg)) (cond none (Some (unsent.Inactive msg)) (cond full (Some (unsent.Full msg)) None))))) ≡ false
-      → returned_by (reply.TryBroadcast (sent back (cond closed (Some (unsent.Closed msg)) (cond none (Some (unsent.Inactive msg)) (cond full (Some (unsent.Full msg)) None))))) ≡ Some msg
+  returns_try : (closed none full : Bool) (back : Option T) (msg : T) → is_accepted (reply.TryBroadcast (reply_to_try back (cond closed (Some (unsent.Closed msg)) (cond none (Some (unsent.Inactive msg)) (cond full (Some (unsent.Full msg)) None))))) ≡ false
+      → returned_by (reply.TryBroadcast (reply_to_try back (cond closed (Some (unsent.Closed msg)) (cond none (Some (unsent.Inactive msg)) (cond full (Some (unsent.Full msg)) None))))) ≡ Some msg
   returns_try true none full back msg e = refl
   returns_try false true full back msg e = refl
   returns_try false false true back msg e = refl
   returns_try false false false back msg e = apart (sym e)
 
-  returns_attempt : (closed none full await : Bool) (back : Option T) (msg : T) → is_accepted (reply.AttemptSend (attempted await back (cond closed (Some (unsent.Closed msg)) (cond none (Some (unsent.Inactive msg)) (cond full (Some (unsent.Full msg)) None))))) ≡ false
-      → returned_by (reply.AttemptSend (attempted await back (cond closed (Some (unsent.Closed msg)) (cond none (Some (unsent.Inactive msg)) (cond full (Some (unsent.Full msg)) None))))) ≡ Some msg
+  returns_attempt : (closed none full await : Bool) (back : Option T) (msg : T) → is_accepted (reply.AttemptSend (reply_to_attempt await back (cond closed (Some (unsent.Closed msg)) (cond none (Some (unsent.Inactive msg)) (cond full (Some (unsent.Full msg)) None))))) ≡ false
+      → returned_by (reply.AttemptSend (reply_to_attempt await back (cond closed (Some (unsent.Closed msg)) (cond none (Some (unsent.Inactive msg)) (cond full (Some (unsent.Full msg)) None))))) ≡ Some msg
   returns_attempt true none full await back msg e = refl
   returns_attempt false true full true back msg e = refl
   returns_attempt false true full false back msg e = refl

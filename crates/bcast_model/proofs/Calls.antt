@@ -5,11 +5,11 @@ use Rattle.bcast_model.specs.declared.run.Call.{Call}
 use Rattle.bcast_model.specs.declared.run.Call.TheVariants as call
 use Rattle.bcast_model.specs.declared.run.Reply.{Reply}
 use Rattle.bcast_model.specs.declared.run.Reply.TheVariants as reply
-use Rattle.bcast_model.specs.Pair.{stream_of, future_of}
-use Rattle.bcast_model.specs.Control.{Control, close, place_dropped, pair_dropped, cursor_of}
+use Rattle.bcast_model.specs.ListenerId.{stream_of, future_of}
+use Rattle.bcast_model.specs.Control.{Control, close, place_ended, pair_ended, cursor_of}
 use Rattle.bcast_model.specs.Handles.{begin_send, new_receiver, activate, clone_receiver, new_sender, clone_inactive, drop_receiver, deactivate, drop_sender, drop_inactive}
 use Rattle.bcast_model.specs.Receiving.{receive, skipped_to, poll_receive, try_recv_reply}
-use Rattle.bcast_model.specs.Next.{found_no_memory, chosen, may_tell}
+use Rattle.bcast_model.specs.Next.{found_no_memory, chosen_id, may_tell}
 use Rattle.bcast_model.specs.View.{View, sends_are_ready}
 use Rattle.bcast_model.specs.Legal.{Legal}
 use Rattle.bcast_model.specs.Effect.{sets}
@@ -27,13 +27,13 @@ module _ {T : Type 0} (is_clone : T → T → Type 0) where
   pub keeps_valid : (c : Call T) (r : Reply T) (v : View T) → IsValidView v → HasRange c (len (effect v c r).control.cursors) → Legal is_clone v c r → KeepsValid v (effect v c r) (may_tell v.control (sends_are_ready v) c)
   keeps_valid (call.TryBroadcast msg) r v valid range legal = keeps_offer v valid msg
   keeps_valid (call.AttemptSend msg) r v valid range legal = keeps_offer v valid msg
-  keeps_valid call.BeginSend r v valid range legal = keeps_sets v valid (begin_send v.control (chosen r)) (kept_begin_send v valid (chosen r))
+  keeps_valid call.BeginSend r v valid range legal = keeps_sets v valid (begin_send v.control (chosen_id r)) (kept_begin_send v valid (chosen_id r))
   keeps_valid (call.PollSend place msg) r v valid range legal = keeps_poll_send v valid place msg
-  keeps_valid (call.EndSend place) r v valid range legal = keeps_sets v valid (place_dropped v.control place) (kept_end_send v valid place)
+  keeps_valid (call.EndSend place) r v valid range legal = keeps_sets v valid (place_ended v.control place) (kept_end_send v valid place)
   keeps_valid (call.TryRecv key) r v valid range legal = keeps_unless v valid r (receive v.front v.end v.control key (cursor_of v.control key)) (kept_receive v valid key (cursor_of v.control key) refl)
   keeps_valid (call.PollFuture key) r v valid range legal =
       keeps_unless v valid r (poll_receive v.front v.end v.control (future_of key) (cursor_of v.control key) (try_recv_reply v (cursor_of v.control key))) (kept_poll v valid (future_of key) (cursor_of v.control key) refl)
-  keeps_valid (call.EndFuture key) r v valid range legal = keeps_sets v valid (pair_dropped v.control (future_of key)) (kept_pair_dropped v valid (future_of key))
+  keeps_valid (call.EndFuture key) r v valid range legal = keeps_sets v valid (pair_ended v.control (future_of key)) (kept_pair_dropped v valid (future_of key))
   keeps_valid (call.PollRecv key) r v valid range legal =
       keeps_unless v valid r (poll_receive v.front v.end v.control (stream_of key) (cursor_of v.control key) (try_recv_reply v (cursor_of v.control key))) (kept_poll v valid (stream_of key) (cursor_of v.control key) refl)
   keeps_valid (call.PollNext key) r v valid range legal =
@@ -48,13 +48,13 @@ module _ {T : Type 0} (is_clone : T → T → Type 0) where
   keeps_valid call.NewSender r v valid range legal = keeps_sets v valid (new_sender v.control) (kept_new_sender v valid)
   keeps_valid call.CloneInactive r v valid range legal = keeps_sets v valid (clone_inactive v.control) (kept_clone_inactive v valid)
   keeps_valid (call.Deactivate key) r v valid range legal = keeps_sets v valid (deactivate v.control key (cursor_of v.control key)) (kept_deactivate v valid key (cursor_of v.control key))
-  keeps_valid call.NewReceiver r v valid range legal = keeps_sets v valid (new_receiver v.control v.end (chosen r))
+  keeps_valid call.NewReceiver r v valid range legal = keeps_sets v valid (new_receiver v.control v.end (chosen_id r))
       (kept_made v valid (new_receiver v.control v.end) true reply.NewReceiver r (λ _. refl) (λ _. refl) (inr (refl, legal)) (kept_new_receiver v valid) refl range)
-  keeps_valid call.Activate r v valid range legal = keeps_sets v valid (activate v.control v.end (chosen r))
+  keeps_valid call.Activate r v valid range legal = keeps_sets v valid (activate v.control v.end (chosen_id r))
       (kept_made v valid (activate v.control v.end) (not (v.control.inactive == 0)) reply.Activate r (λ _. refl) (λ _. refl) legal (kept_activate v valid) refl range)
-  keeps_valid call.ActivateCloned r v valid range legal = keeps_sets v valid (new_receiver v.control v.end (chosen r))
+  keeps_valid call.ActivateCloned r v valid range legal = keeps_sets v valid (new_receiver v.control v.end (chosen_id r))
       (kept_made v valid (new_receiver v.control v.end) (not (v.control.inactive == 0)) reply.ActivateCloned r (λ _. refl) (λ _. refl) legal (kept_new_receiver v valid) refl range)
-  keeps_valid (call.CloneReceiver key) r v valid range legal = keeps_sets v valid (clone_receiver v.control (cursor_of v.control key) (chosen r))
+  keeps_valid (call.CloneReceiver key) r v valid range legal = keeps_sets v valid (clone_receiver v.control (cursor_of v.control key) (chosen_id r))
       (kept_made v valid (clone_receiver v.control (cursor_of v.control key)) (is_some (cursor_of v.control key)) reply.CloneReceiver r (λ _. refl) (λ _. refl) legal (λ made. kept_clone_receiver v valid key (cursor_of v.control key) made refl) (uncloned v.control (cursor_of v.control key)) range)
     where
       uncloned : (c : Control) (cursor : Option ℕ) → clone_receiver c cursor None ≡ c

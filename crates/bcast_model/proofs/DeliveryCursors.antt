@@ -7,15 +7,15 @@ use Rattle.bcast_model.specs.declared.error.TryRecvError.{TryRecvError}
 use Rattle.bcast_model.specs.declared.run.Call.{Call}
 use Rattle.bcast_model.specs.declared.run.Call.TheVariants as call
 use Rattle.bcast_model.specs.declared.run.Reply.{Reply}
-use Rattle.bcast_model.specs.Pair.{Pair, stream_of, future_of}
+use Rattle.bcast_model.specs.ListenerId.{Pair, stream_of, future_of}
 use Rattle.bcast_model.specs.Control.{Control, close_if_deserted, has_place, with_cursor, place_waits, cursor_of}
 use Rattle.bcast_model.specs.View.{View, sends_are_ready}
 use Rattle.bcast_model.specs.Effect.{Effect, sets}
-use Rattle.bcast_model.specs.Sending.{refusal, accept_unless, offer, answered, poll_send}
+use Rattle.bcast_model.specs.Sending.{refusal, accept_unless, offer, with_place_answered, poll_send}
 use Rattle.bcast_model.specs.Receiving.{receive, skipped_to, poll_receive, is_empty_reply, try_recv_reply}
 use Rattle.bcast_model.specs.Legal.{Legal}
 use Rattle.bcast_model.specs.Effects.{resize, set_unless_refused, effect}
-use Rattle.bcast_model.specs.Replies.{found_no_memory, chosen}
+use Rattle.bcast_model.specs.Replies.{found_no_memory, chosen_id}
 use Rattle.bcast_model.specs.Handles.{has_next, drop_receiver, deactivate, drop_sender, drop_inactive, new_sender, clone_inactive, without_receiver, clone_receiver}
 use Rattle.bcast_model.specs.Effects.{resize}
 use Rattle.bcast_model.specs.Deliveries.{receives_for}
@@ -83,8 +83,8 @@ module _ {T : Type 0} where
 
   cursors-poll_send : (v : View T) (place : ℕ) (msg : T) → (poll_send v place msg).control.cursors ≡ v.control.cursors
   cursors-poll_send v place msg =
-      test_is (λ (e : Effect T). e.control.cursors ≡ v.control.cursors) (has_place v.control place) (cond (sends_are_ready v) (answered (offer v msg) place) (sets (place_waits v.control place))) (sets v.control)
-      (λ _. test_is (λ (e : Effect T). e.control.cursors ≡ v.control.cursors) (sends_are_ready v) (answered (offer v msg) place) (sets (place_waits v.control place)) (λ _. cursors-offer v msg) (λ _. refl))
+      test_is (λ (e : Effect T). e.control.cursors ≡ v.control.cursors) (has_place v.control place) (cond (sends_are_ready v) (with_place_answered (offer v msg) place) (sets (place_waits v.control place))) (sets v.control)
+      (λ _. test_is (λ (e : Effect T). e.control.cursors ≡ v.control.cursors) (sends_are_ready v) (with_place_answered (offer v msg) place) (sets (place_waits v.control place)) (λ _. cursors-offer v msg) (λ _. refl))
       (λ _. refl)
 
   -- the change that a call makes
@@ -103,7 +103,7 @@ module _ {T : Type 0} where
   pub changes : (is_clone : T → T → Type 0) (v : View T) (c : Call T) (r : Reply T) → Legal is_clone v c r → Changes v c (effect v c r).control
   changes is_clone v (call.TryBroadcast msg) r legal = stay (cursors-offer v msg)
   changes is_clone v (call.AttemptSend msg) r legal = stay (cursors-offer v msg)
-  changes is_clone v call.BeginSend r legal = stay (cursors-begin_send v.control (chosen r))
+  changes is_clone v call.BeginSend r legal = stay (cursors-begin_send v.control (chosen_id r))
   changes is_clone v (call.PollSend place msg) r legal = stay (cursors-poll_send v place msg)
   changes is_clone v (call.TryRecv key) r legal =
       unless v (sets (receive v.front v.end v.control key (cursor_of v.control key))) (call.TryRecv key) r (rise_at _ _ _ v.control key (cursor_of v.control key) (same_key key) refl)

@@ -5,7 +5,7 @@ use Rattle.std.proofs.lemmas.Option.{none-some, same_Some}
 use Rattle.std.specs.Cmp.{nat_cmp_total, unsigned_tied}
 use Rattle.std.specs.Ordering.{nat_cmp, eq_by_cmp}
 use Rattle.std.specs.FinMap.{get, insert, remove, get-insert, get-remove}
-use Rattle.bcast_model.specs.Pair.{Pair}
+use Rattle.bcast_model.specs.ListenerId.{Pair}
 use Rattle.bcast_model.specs.Control.{Control, Cursors, close, close_if_deserted, is_deserted, accepting, last_end, tell_receivers}
 use Rattle.bcast_model.specs.Receiving.{listens}
 use Rattle.bcast_model.specs.Handles.{begin_send}

@@ -9,10 +9,10 @@ use Rattle.bcast_model.specs.declared.run.Call.{Call}
 use Rattle.bcast_model.specs.declared.run.Call.TheVariants as call
 use Rattle.bcast_model.specs.declared.run.Reply.{Reply}
 use Rattle.bcast_model.specs.declared.run.Reply.TheVariants as reply
-use Rattle.bcast_model.specs.Pair.{stream_of, future_of}
+use Rattle.bcast_model.specs.ListenerId.{stream_of, future_of}
 use Rattle.bcast_model.specs.Control.{Cursors, cursor_of}
 use Rattle.bcast_model.specs.History.{History, view_of, front_number, end_number}
-use Rattle.bcast_model.specs.Receiving.{receive, found, received, try_recv_reply, is_empty_reply, skipped, skipped_to, future_reply, stream_reply, next_reply, IsOwed}
+use Rattle.bcast_model.specs.Receiving.{receive, recv_answer, recv_answer_at, try_recv_reply, is_empty_reply, skipped_count, skipped_to, future_reply, stream_reply, next_reply, IsOwed}
 use Rattle.bcast_model.specs.Legal.{Legal, IsReceived}
 use Rattle.bcast_model.specs.View.{kept_at}
 use Rattle.bcast_model.specs.Effects.{effect}
@@ -56,12 +56,12 @@ module _ {T : Type 0} where
   given_by-next skips (Err unread.Closed) reached = refl
 
   -- from the front on nothing is missed
-  found_reached : (closed : Bool) (o : Option T) (n : ℕ) → found closed o ≡ Err (unread.Overflowed n) → ⊥
+  found_reached : (closed : Bool) (o : Option T) (n : ℕ) → recv_answer closed o ≡ Err (unread.Overflowed n) → ⊥
   found_reached closed (Some msg) n e = cc
   found_reached true None n e = cc
   found_reached false None n e = cc
 
-  received_reached : (closed : Bool) (front : ℕ) (message : ℕ → Option T) (cursor n : ℕ) → front ≤ cursor → received closed front message (Some cursor) ≡ Err (unread.Overflowed n) → ⊥
+  received_reached : (closed : Bool) (front : ℕ) (message : ℕ → Option T) (cursor n : ℕ) → front ≤ cursor → recv_answer_at closed front message (Some cursor) ≡ Err (unread.Overflowed n) → ⊥
   received_reached closed front message cursor n low e =
       let past : nat_lt cursor front ≡ false = grind (arith, common_steps, low) in
       found_reached closed (message cursor) n (rw past at e)
@@ -106,7 +106,7 @@ module _ {T : Type 0} where
       let front = front_number h in
       let skips = front_number h - cursor in
       let at : skipped_to front (cursor_of h.control key) ≡ Some (cursor + skips) = ap (skipped_to front) is ∙ ap Some (omega arith) in
-      let by : skipped front (cursor_of h.control key) ≡ skips = ap (skipped front) is in
+      let by : skipped_count front (cursor_of h.control key) ≡ skips = ap (skipped_count front) is in
       let past : front_number h ≤ cursor + skips = omega arith in
       gives_reply is_clone h key cursor skips (λ r. (effect (view_of h) (call.PollNext key) r).control.cursors) (receive front (end_number h) h.control key (Some (cursor + skips))).cursors
       (IsOwed (view_of h) key (Some (cursor + skips))) (λ answer. reply.PollNext (Ok (next_reply skips answer))) (reply.PollNext (Err alloc_error)) (try_recv_reply (view_of h) (Some (cursor + skips))) r is
@@ -114,7 +114,7 @@ module _ {T : Type 0} where
       (λ answer given. given_by-next skips answer (answer_reached is_clone _ answer (λ n e. received_reached h.control.closed front (kept_at (view_of h)) (cursor + skips) n past e) given)) refl
       (λ answer given. gives_answer h key cursor skips answer low is (elim (skipping cursor front) [ inl e ↦ inl e | inr e ↦ inr e ]) given)
       (subst (λ n. IsReceived is_clone (IsOwed (view_of h) key (Some (cursor + skips))) (λ answer. reply.PollNext (Ok (next_reply n answer))) (reply.PollNext (Err alloc_error)) (try_recv_reply (view_of h) (Some (cursor + skips))) r) by
-      (subst (λ o. IsReceived is_clone (IsOwed (view_of h) key o) (λ answer. reply.PollNext (Ok (next_reply (skipped front (cursor_of h.control key)) answer))) (reply.PollNext (Err alloc_error)) (try_recv_reply (view_of h) o) r) at legal))
+      (subst (λ o. IsReceived is_clone (IsOwed (view_of h) key o) (λ answer. reply.PollNext (Ok (next_reply (skipped_count front (cursor_of h.control key)) answer))) (reply.PollNext (Err alloc_error)) (try_recv_reply (view_of h) o) r) at legal))
 
   gives_received : (is_clone : T → T → Type 0) (h : History T) (key cursor : ℕ) (c : Call T) (r : Reply T) → h.first ≤ h.floor → cursor_of h.control key ≡ Some cursor → receives_for key c ≡ true → Legal is_clone (view_of h) c r
       → Gives is_clone h key cursor (effect (view_of h) c r).control.cursors (given_by r)

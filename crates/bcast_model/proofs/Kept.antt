@@ -3,7 +3,7 @@ use Rattle.std.proofs.Common.{◌≡◌, inl, inr, ℕ, ◌+◌, ◌^◌, ◌<�
 use Rattle.std.proofs.lemmas.Grind.{common_steps}
 use Rattle.std.specs.FinMap.{get, insert, len}
 use Rattle.bcast_model.specs.Listeners.{Listeners, untold_ids}
-use Rattle.bcast_model.specs.Pair.{Pair}
+use Rattle.bcast_model.specs.ListenerId.{Pair}
 use Rattle.bcast_model.specs.Control.{Control, Places, is_ready, close, close_if_deserted, with_cursor}
 use Rattle.bcast_model.specs.Valid.{WouldWait}
 use Rattle.bcast_model.specs.View.{View, sends_are_ready}

@@ -2,8 +2,8 @@
 use Rattle.std.proofs.Common.{ℕ, ◌+◌, ◌-◌, ◌^◌, ◌<◌, ◌≤◌, ◌==◌, Option, Some, None, arith}
 use Rattle.std.proofs.lemmas.Grind.{common_steps}
 use Rattle.bcast_model.specs.Listeners.{abandon}
-use Rattle.bcast_model.specs.Pair.{Pair, same_pair}
-use Rattle.bcast_model.specs.Control.{Control, close_if_deserted, pair_dropped}
+use Rattle.bcast_model.specs.ListenerId.{Pair, same_pair}
+use Rattle.bcast_model.specs.Control.{Control, close_if_deserted, pair_ended}
 use Rattle.bcast_model.specs.Handles.{has_next, without_receiver, drop_receiver, deactivate, drop_sender, drop_inactive}
 use Rattle.bcast_model.specs.View.{View}
 use Rattle.bcast_model.specs.Laws.{IsValidView}
@@ -13,7 +13,7 @@ use Rattle.bcast_model.proofs.Sound.{IsSound, IsKept, sound_without, sound_count
 use Rattle.bcast_model.proofs.Kept.{kept_idle, kept_deserted, kept_receives}
 
 module _ {T : Type 0} (v : View T) (valid : IsValidView v) where
-  pub kept_pair_dropped : (pair : Pair) → IsKept v (pair_dropped v.control pair)
+  pub kept_pair_dropped : (pair : Pair) → IsKept v (pair_ended v.control pair)
   kept_pair_dropped pair =
       let idle = kept_idle v valid in
       kept_receives v v.control (abandon same_pair pair v.control.waiting_receives) (receives_abandoned v.control.cursors v.control.closed v.end v.control.waiting_receives pair idle.sound.receives) idle

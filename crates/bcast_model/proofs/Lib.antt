@@ -24,7 +24,7 @@ pub mod Witness
 pub mod Opening
 -- the laws
 pub mod Clones
-pub mod Given
+pub mod ReceiveReplies
 pub mod Polls
 pub mod ListLaws
 -- what a run gives its receivers

@@ -10,7 +10,7 @@ use Rattle.bcast_model.specs.Control.{Control, Cursors, with_cursor}
 use Rattle.bcast_model.specs.Handles.{has_next, new_receiver, activate, clone_receiver, new_sender, clone_inactive}
 use Rattle.bcast_model.specs.History.{least}
 use Rattle.bcast_model.specs.Legal.{IsMadeFrom}
-use Rattle.bcast_model.specs.Next.{chosen}
+use Rattle.bcast_model.specs.Next.{chosen_id}
 use Rattle.bcast_model.specs.View.{View, sends_are_ready}
 use Rattle.bcast_model.specs.Effects.{resize}
 use Rattle.bcast_model.specs.Laws.{IsValidView}
@@ -23,13 +23,13 @@ use Rattle.bcast_model.proofs.Kept.{not_not, kept_idle, kept_cursor, kept_counts
 module _ {T : Type 0} where
   -- a reply that gives a key gives one that was free
   pub made_is : (P : Option ℕ → Type 0) (there : Bool) (cursors : Cursors) (spelt : Result ℕ HandleError → Reply T) (r : Reply T)
-      → ((key : ℕ) → chosen (spelt (Ok key)) ≡ Some key) → ((error : HandleError) → chosen (spelt (Err error)) ≡ None) → IsMadeFrom there cursors spelt r
-      → ((key : ℕ) → get cursors key ≡ None → P (Some key)) → P None → P (chosen r)
+      → ((key : ℕ) → chosen_id (spelt (Ok key)) ≡ Some key) → ((error : HandleError) → chosen_id (spelt (Err error)) ≡ None) → IsMadeFrom there cursors spelt r
+      → ((key : ℕ) → get cursors key ≡ None → P (Some key)) → P None → P (chosen_id r)
   made_is P there cursors spelt r given none legal made refused = elim legal [
-    | inl gone ↦ subst (λ (r : Reply T). P (chosen r)) (sym gone.1) (subst P (sym (none handle.Gone)) refused)
+    | inl gone ↦ subst (λ (r : Reply T). P (chosen_id r)) (sym gone.1) (subst P (sym (none handle.Gone)) refused)
     | inr m ↦ elim m.1 [
-      | inl some ↦ subst (λ (r : Reply T). P (chosen r)) (sym some.1) (subst P (sym (given some.0)) (made some.0 some.2))
-      | inr e ↦ subst (λ (r : Reply T). P (chosen r)) (sym e) (subst P (sym (none handle.Memory)) refused)
+      | inl some ↦ subst (λ (r : Reply T). P (chosen_id r)) (sym some.1) (subst P (sym (given some.0)) (made some.0 some.2))
+      | inr e ↦ subst (λ (r : Reply T). P (chosen_id r)) (sym e) (subst P (sym (none handle.Memory)) refused)
     ]
   ]
 
@@ -53,9 +53,9 @@ module _ {T : Type 0} where
 
     -- the key that a reply gives was free, and the count of receivers fits where one was made
     pub kept_made : (of : Option ℕ → Control) (there : Bool) (spelt : Result ℕ HandleError → Reply T) (r : Reply T)
-        → ((key : ℕ) → chosen (spelt (Ok key)) ≡ Some key) → ((error : HandleError) → chosen (spelt (Err error)) ≡ None) → IsMadeFrom there v.control.cursors spelt r
+        → ((key : ℕ) → chosen_id (spelt (Ok key)) ≡ Some key) → ((error : HandleError) → chosen_id (spelt (Err error)) ≡ None) → IsMadeFrom there v.control.cursors spelt r
         → ((key : ℕ) → get v.control.cursors key ≡ None → len (of (Some key)).cursors < 2 ^ 64 → IsKept v (of (Some key))) → of None ≡ v.control
-        → len (of (chosen r)).cursors < 2 ^ 64 → IsKept v (of (chosen r))
+        → len (of (chosen_id r)).cursors < 2 ^ 64 → IsKept v (of (chosen_id r))
     kept_made of there spelt r given none legal made idle = made_is (λ o. len (of o).cursors < 2 ^ 64 → IsKept v (of o)) there v.control.cursors spelt r given none legal made (λ _. subst (IsKept v) (sym idle) (kept_idle v valid))
 
     -- ---- senders and inactive receivers

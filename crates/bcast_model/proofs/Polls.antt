@@ -13,8 +13,8 @@ use Rattle.bcast_model.specs.declared.run.Reply.{Reply}
 use Rattle.bcast_model.specs.declared.run.Reply.TheVariants as reply
 use Rattle.bcast_model.specs.Control.{has_place, has_no_receiver, cursor_of}
 use Rattle.bcast_model.specs.View.{is_full, sends_are_ready, View}
-use Rattle.bcast_model.specs.Sending.{refusal, sent, attempted, handed_back, attempt_send_reply, try_broadcast_reply}
-use Rattle.bcast_model.specs.Receiving.{is_empty_reply, skipped, skipped_to, future_reply, stream_reply, next_reply, try_recv_reply, IsOwed}
+use Rattle.bcast_model.specs.Sending.{refusal, reply_to_try, reply_to_attempt, handed_back, attempt_send_reply, try_broadcast_reply}
+use Rattle.bcast_model.specs.Receiving.{is_empty_reply, skipped_count, skipped_to, future_reply, stream_reply, next_reply, try_recv_reply, IsOwed}
 use Rattle.bcast_model.specs.Legal.{Legal, IsReceived}
 use Rattle.bcast_model.specs.Next.{found_no_memory}
 use Rattle.bcast_model.specs.Laws.{IsValidView, must_wait, is_wait_reply}
@@ -23,7 +23,7 @@ use Rattle.bcast_model.proofs.Receives.{empty_at}
 
 module _ {T : Type 0} where
   -- ---- sends
-  send_waits : (await_active : Bool) (back : Option T) (error : Option (TrySendError T)) → must_wait (reply.PollSend (attempted await_active back error)) ≡ is_wait_reply await_active (sent back error)
+  send_waits : (await_active : Bool) (back : Option T) (error : Option (TrySendError T)) → must_wait (reply.PollSend (reply_to_attempt await_active back error)) ≡ is_wait_reply await_active (reply_to_try back error)
   send_waits await_active back None = refl
   send_waits await_active back (Some (unsent.Full msg)) = refl
   send_waits await_active back (Some (unsent.Closed msg)) = refl
@@ -32,7 +32,7 @@ module _ {T : Type 0} where
 
   -- by: closed, no receiver, overflow, full, sends await a receiver
   unready_waits : (closed none overflow full await_active : Bool) (back : Option T) (msg : T)
-      → must_wait (reply.PollSend (attempted await_active back (cond closed (Some (unsent.Closed msg)) (cond none (Some (unsent.Inactive msg)) (cond (full && not overflow) (Some (unsent.Full msg)) None)))))
+      → must_wait (reply.PollSend (reply_to_attempt await_active back (cond closed (Some (unsent.Closed msg)) (cond none (Some (unsent.Inactive msg)) (cond (full && not overflow) (Some (unsent.Full msg)) None)))))
       ≡ not (closed || (not none && (overflow || not full)) || (none && not await_active))
   unready_waits true none overflow full await_active back msg = refl
   unready_waits false true overflow full true back msg = refl
@@ -108,5 +108,5 @@ module _ {T : Type 0} where
     pub next_waits_empty : IsValidView v → Legal is_clone v (call.PollNext key) r → must_wait r ≡ is_empty_reply (try_recv_reply v (cursor_of v.control key))
     next_waits_empty valid legal =
         let cursor : Option ℕ = skipped_to v.front (cursor_of v.control key) in
-        received_waits is_clone (IsOwed v key cursor) (λ answer. reply.PollNext (Ok (next_reply (skipped v.front (cursor_of v.control key)) answer))) (reply.PollNext (Err alloc_error)) (try_recv_reply v cursor) r (next_waits (skipped v.front (cursor_of v.control key))) refl memory legal
+        received_waits is_clone (IsOwed v key cursor) (λ answer. reply.PollNext (Ok (next_reply (skipped_count v.front (cursor_of v.control key)) answer))) (reply.PollNext (Err alloc_error)) (try_recv_reply v cursor) r (next_waits (skipped_count v.front (cursor_of v.control key))) refl memory legal
         ∙ skip_same v key (cursor_of v.control key) valid refl

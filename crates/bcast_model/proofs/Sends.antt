@@ -5,10 +5,10 @@ use Rattle.std.specs.FinMap.{len, values}
 use Rattle.std.specs.FinSet as set
 use Rattle.bcast_model.specs.declared.error.TrySendError.TheVariants as unsent
 use Rattle.bcast_model.specs.Listeners.{consume, abandon, wait_again}
-use Rattle.bcast_model.specs.Pair.{same_place}
-use Rattle.bcast_model.specs.Control.{Control, has_no_receiver, tell_receivers, close, accepting, has_place, place_dropped, place_waits}
+use Rattle.bcast_model.specs.ListenerId.{same_place}
+use Rattle.bcast_model.specs.Control.{Control, has_no_receiver, tell_receivers, close, accepting, has_place, place_ended, place_waits}
 use Rattle.bcast_model.specs.Handles.{begin_send}
-use Rattle.bcast_model.specs.Sending.{refusal, accept, accept_unless, offer, answered, poll_send}
+use Rattle.bcast_model.specs.Sending.{refusal, accept, accept_unless, offer, with_place_answered, poll_send}
 use Rattle.bcast_model.specs.History.{least}
 use Rattle.bcast_model.specs.View.{View, is_full, sends_are_ready}
 use Rattle.bcast_model.specs.Effect.{sets}
@@ -96,7 +96,7 @@ module _ {T : Type 0} where
     kept_begin_send None = kept_idle v valid
     kept_begin_send (Some place) = let idle = kept_idle v valid in kept_sends v v.control v.control.waiting_sends (set.insert v.control.places place) (sends_inserted v.control.places place v.control.waiting_sends idle.sound.sends) (λ one. one) idle
 
-    pub kept_end_send : (place : ℕ) → IsKept v (place_dropped v.control place)
+    pub kept_end_send : (place : ℕ) → IsKept v (place_ended v.control place)
     kept_end_send place =
         let idle = kept_idle v valid in
         let s = idle.sound.sends in
@@ -104,7 +104,7 @@ module _ {T : Type 0} where
         (one_abandon same_place test_place place v.control.waiting_sends s.in_order) idle
 
     -- a send that is answered waits no more
-    keeps_answered : (place : ℕ) (msg : T) → KeepsValid v (answered (offer v msg) place) true
+    keeps_answered : (place : ℕ) (msg : T) → KeepsValid v (with_place_answered (offer v msg) place) true
     keeps_answered place msg =
         let f = keeps_offer msg in
         let e = offer v msg in
@@ -119,8 +119,8 @@ module _ {T : Type 0} where
     pub keeps_poll_send : (place : ℕ) (msg : T) → KeepsValid v (poll_send v place msg) (has_place v.control place && sends_are_ready v)
     keeps_poll_send place msg =
         let s = (kept_idle v valid).sound.sends in
-        elim (has_place v.control place) as (λ b. has_place v.control place ≡ b → KeepsValid v (cond b (cond (sends_are_ready v) (answered (offer v msg) place) (sets (place_waits v.control place))) (sets v.control)) (b && sends_are_ready v)) [
-          | true ↦ λ h. elim (sends_are_ready v) as (λ b. sends_are_ready v ≡ b → KeepsValid v (cond b (answered (offer v msg) place) (sets (place_waits v.control place))) b) [
+        elim (has_place v.control place) as (λ b. has_place v.control place ≡ b → KeepsValid v (cond b (cond (sends_are_ready v) (with_place_answered (offer v msg) place) (sets (place_waits v.control place))) (sets v.control)) (b && sends_are_ready v)) [
+          | true ↦ λ h. elim (sends_are_ready v) as (λ b. sends_are_ready v ≡ b → KeepsValid v (cond b (with_place_answered (offer v msg) place) (sets (place_waits v.control place))) b) [
             | true ↦ λ _. keeps_answered place msg
             | false ↦ λ e. keeps_waits v valid (wait_again same_place place v.control.waiting_sends) false (sends_waiting v.control.places place v.control.waiting_sends h s) (λ ready. cc)
           ] refl

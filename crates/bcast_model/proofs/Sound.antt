@@ -6,7 +6,7 @@ use Rattle.std.specs.Ordering.{nat_cmp, eq_by_cmp}
 use Rattle.std.specs.Cmp.{nat_cmp_total}
 use Rattle.std.specs.FinMap.{get, insert, remove, len, get-insert, get-remove, len-remove}
 use Rattle.bcast_model.specs.Listeners.{Listeners}
-use Rattle.bcast_model.specs.Pair.{Pair}
+use Rattle.bcast_model.specs.ListenerId.{Pair}
 use Rattle.bcast_model.specs.Control.{Control, Places, closing, close, with_cursor}
 use Rattle.bcast_model.specs.Handles.{without_receiver}
 use Rattle.bcast_model.specs.View.{View}

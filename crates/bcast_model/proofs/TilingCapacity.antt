@@ -4,15 +4,15 @@ use Rattle.bcast_model.specs.declared.error.TrySendError.{TrySendError}
 use Rattle.bcast_model.specs.declared.run.Call.{Call}
 use Rattle.bcast_model.specs.declared.run.Call.TheVariants as call
 use Rattle.bcast_model.specs.declared.run.Reply.{Reply}
-use Rattle.bcast_model.specs.Pair.{Pair, stream_of, future_of}
+use Rattle.bcast_model.specs.ListenerId.{Pair, stream_of, future_of}
 use Rattle.bcast_model.specs.Control.{Control, close, closing, close_if_deserted, is_deserted, accepting, has_place, last_end, tell_receivers, with_cursor, place_waits, cursor_of}
 use Rattle.bcast_model.specs.View.{View, sends_are_ready}
 use Rattle.bcast_model.specs.Effect.{Effect, sets}
-use Rattle.bcast_model.specs.Sending.{refusal, accept_unless, offer, answered, poll_send}
+use Rattle.bcast_model.specs.Sending.{refusal, accept_unless, offer, with_place_answered, poll_send}
 use Rattle.bcast_model.specs.Receiving.{receive, listens, skipped_to, is_empty_reply, try_recv_reply}
 use Rattle.bcast_model.specs.Effects.{resize, set_unless_refused, effect}
 use Rattle.bcast_model.specs.History.{History, view_of, remember}
-use Rattle.bcast_model.specs.Next.{HasPositiveCapacity, chosen, found_no_memory, may_tell, next}
+use Rattle.bcast_model.specs.Next.{HasPositiveCapacity, chosen_id, found_no_memory, may_tell, next}
 use Rattle.bcast_model.proofs.Cases.{test_is, tell_is}
 use Rattle.bcast_model.specs.Handles.{begin_send, new_receiver, activate, clone_receiver, new_sender, clone_inactive, has_next, drop_receiver, deactivate, drop_sender, drop_inactive, without_receiver}
 
@@ -87,8 +87,8 @@ module _ {T : Type 0} where
 
   capacity-poll_send : (v : View T) (place : ℕ) (msg : T) → (poll_send v place msg).control.capacity ≡ v.control.capacity
   capacity-poll_send v place msg =
-      test_is (λ (e : Effect T). e.control.capacity ≡ v.control.capacity) (has_place v.control place) (cond (sends_are_ready v) (answered (offer v msg) place) (sets (place_waits v.control place))) (sets v.control)
-      (λ _. test_is (λ (e : Effect T). e.control.capacity ≡ v.control.capacity) (sends_are_ready v) (answered (offer v msg) place) (sets (place_waits v.control place)) (λ _. capacity-send v msg (refusal v msg)) (λ _. refl))
+      test_is (λ (e : Effect T). e.control.capacity ≡ v.control.capacity) (has_place v.control place) (cond (sends_are_ready v) (with_place_answered (offer v msg) place) (sets (place_waits v.control place))) (sets v.control)
+      (λ _. test_is (λ (e : Effect T). e.control.capacity ≡ v.control.capacity) (sends_are_ready v) (with_place_answered (offer v msg) place) (sets (place_waits v.control place)) (λ _. capacity-send v msg (refusal v msg)) (λ _. refl))
       (λ _. refl)
 
   capacity-unless : (v : View T) (control : Control) (b : Bool) → control.capacity ≡ v.control.capacity → (cond b (sets {T = T} v.control) (sets control)).control.capacity ≡ v.control.capacity
@@ -104,7 +104,7 @@ module _ {T : Type 0} where
   capacity-effect : (v : View T) (c : Call T) (r : Reply T) → HasPositiveCapacity c → 1 ≤ v.control.capacity → 1 ≤ (effect v c r).control.capacity
   capacity-effect v (call.TryBroadcast msg) r allowed positive = stays_positive _ _ (capacity-send v msg (refusal v msg)) positive
   capacity-effect v (call.AttemptSend msg) r allowed positive = stays_positive _ _ (capacity-send v msg (refusal v msg)) positive
-  capacity-effect v call.BeginSend r allowed positive = stays_positive _ _ (capacity-begin_send v.control (chosen r)) positive
+  capacity-effect v call.BeginSend r allowed positive = stays_positive _ _ (capacity-begin_send v.control (chosen_id r)) positive
   capacity-effect v (call.PollSend place msg) r allowed positive = stays_positive _ _ (capacity-poll_send v place msg) positive
   capacity-effect v (call.TryRecv key) r allowed positive =
       stays_positive _ _ (capacity-unless v _ (found_no_memory r) (capacity-receive v.front v.end v.control key (cursor_of v.control key))) positive
@@ -121,10 +121,10 @@ module _ {T : Type 0} where
   capacity-effect v call.NewSender r allowed positive = stays_positive _ _ (capacity-new_sender v.control) positive
   capacity-effect v call.CloneInactive r allowed positive = stays_positive _ _ (capacity-clone_inactive v.control) positive
   capacity-effect v (call.Deactivate key) r allowed positive = stays_positive _ _ (capacity-deactivate v.control key (cursor_of v.control key)) positive
-  capacity-effect v call.NewReceiver r allowed positive = stays_positive _ _ (capacity-new_receiver v.control v.end (chosen r)) positive
-  capacity-effect v call.Activate r allowed positive = stays_positive _ _ (capacity-activate v.control v.end (chosen r)) positive
-  capacity-effect v call.ActivateCloned r allowed positive = stays_positive _ _ (capacity-new_receiver v.control v.end (chosen r)) positive
-  capacity-effect v (call.CloneReceiver key) r allowed positive = stays_positive _ _ (capacity-clone_receiver v.control (cursor_of v.control key) (chosen r)) positive
+  capacity-effect v call.NewReceiver r allowed positive = stays_positive _ _ (capacity-new_receiver v.control v.end (chosen_id r)) positive
+  capacity-effect v call.Activate r allowed positive = stays_positive _ _ (capacity-activate v.control v.end (chosen_id r)) positive
+  capacity-effect v call.ActivateCloned r allowed positive = stays_positive _ _ (capacity-new_receiver v.control v.end (chosen_id r)) positive
+  capacity-effect v (call.CloneReceiver key) r allowed positive = stays_positive _ _ (capacity-clone_receiver v.control (cursor_of v.control key) (chosen_id r)) positive
   capacity-effect v call.DropSender r allowed positive = stays_positive _ _ (capacity-drop_sender v.control) positive
   capacity-effect v call.DropInactive r allowed positive = stays_positive _ _ (capacity-drop_inactive v.control) positive
   capacity-effect v (call.DropReceiver key) r allowed positive = stays_positive _ _ (capacity-drop_receiver v.control key (cursor_of v.control key)) positive

@@ -12,7 +12,7 @@ use Rattle.bcast_model.specs.Legal.{Legal}
 use Rattle.bcast_model.specs.Effects.{resize, effect}
 use Rattle.bcast_model.specs.History.{History, view_of, front_number, end_number, queue_of}
 use Rattle.bcast_model.specs.Replies.{found_no_memory}
-use Rattle.bcast_model.specs.Tiling.{dropped_by}
+use Rattle.bcast_model.specs.Missed.{dropped_by}
 use Rattle.bcast_model.proofs.TilingFront.{IsBounded, length-queue}
 use Rattle.bcast_model.proofs.TilingSends.{FloorChange, stays, passes, hands_back-sent, hands_back-attempted, floor-send, floor-poll_send}
 

@@ -13,7 +13,7 @@ use Rattle.bcast_model.specs.Next.{HasPositiveCapacity, next}
 use Rattle.bcast_model.specs.Valid.{IsValid}
 use Rattle.bcast_model.specs.Run.{IsRun, end_of_run}
 use Rattle.bcast_model.specs.Deliveries.{given_to, deliveries_of}
-use Rattle.bcast_model.specs.Tiling.{dropped_by, dropped_in, WasDropped, TellsDropped, Tiles}
+use Rattle.bcast_model.specs.Missed.{dropped_by, dropped_in, WasDropped, TellsDropped, Tiles}
 use Rattle.bcast_model.proofs.DeliveryLists.{in_parts}
 use Rattle.bcast_model.proofs.DeliverySteps.{gives_call}
 use Rattle.bcast_model.proofs.TilingFront.{IsBounded, bounded_valid}

@@ -12,7 +12,7 @@ use Rattle.bcast_model.specs.Legal.{Legal}
 use Rattle.bcast_model.specs.Next.{HasPositiveCapacity, next}
 use Rattle.bcast_model.specs.Run.{IsRun, end_of_run}
 use Rattle.bcast_model.specs.Deliveries.{given_to}
-use Rattle.bcast_model.specs.Tiling.{dropped_by, dropped_in, WasDropped}
+use Rattle.bcast_model.specs.Missed.{dropped_by, dropped_in, WasDropped}
 use Rattle.bcast_model.proofs.Views.{floor_under}
 use Rattle.bcast_model.proofs.DeliverySteps.{gives_call}
 use Rattle.bcast_model.proofs.TilingFront.{IsBounded, front-le-cursor}

@@ -11,9 +11,9 @@ use Rattle.bcast_model.specs.declared.run.Reply.TheVariants as reply
 use Rattle.bcast_model.specs.Control.{has_no_receiver, accepting, has_place, place_waits}
 use Rattle.bcast_model.specs.View.{View, is_full, sends_are_ready}
 use Rattle.bcast_model.specs.Effect.{Effect, sets}
-use Rattle.bcast_model.specs.Sending.{refusal, sent, attempted, handed_back, attempt_send_reply, accept_unless, offer, answered, poll_send}
+use Rattle.bcast_model.specs.Sending.{refusal, reply_to_try, reply_to_attempt, handed_back, attempt_send_reply, accept_unless, offer, with_place_answered, poll_send}
 use Rattle.bcast_model.specs.History.{History, view_of, front_number, end_number, queue_of}
-use Rattle.bcast_model.specs.Tiling.{hands_back, dropped_by_send}
+use Rattle.bcast_model.specs.Missed.{hands_back, dropped_by_send}
 use Rattle.bcast_model.proofs.DeliveryMaps.{cursors-accepting}
 use Rattle.bcast_model.proofs.DeliveryLists.{past_end}
 use Rattle.bcast_model.proofs.TilingFront.{IsBounded, front-le-end}
@@ -40,13 +40,13 @@ module _ {T : Type 0} where
   hands back None = is_some back
   hands back (Some error) = false
 
-  pub hands_back-sent : (back : Option T) (error : Option (TrySendError T)) → hands_back (reply.TryBroadcast (sent back error)) ≡ hands back error
+  pub hands_back-sent : (back : Option T) (error : Option (TrySendError T)) → hands_back (reply.TryBroadcast (reply_to_try back error)) ≡ hands back error
   unfolding hands
   hands_back-sent None None = refl
   hands_back-sent (Some msg) None = refl
   hands_back-sent back (Some error) = refl
 
-  pub hands_back-attempted : (await : Bool) (back : Option T) (error : Option (TrySendError T)) → hands_back (reply.AttemptSend (attempted await back error)) ≡ hands back error
+  pub hands_back-attempted : (await : Bool) (back : Option T) (error : Option (TrySendError T)) → hands_back (reply.AttemptSend (reply_to_attempt await back error)) ≡ hands back error
   unfolding hands
   hands_back-attempted await None None = refl
   hands_back-attempted await (Some msg) None = refl
@@ -55,7 +55,7 @@ module _ {T : Type 0} where
   hands_back-attempted false back (Some (unsent.Inactive msg)) = refl
   hands_back-attempted await back (Some (unsent.Full msg)) = refl
 
-  hands_back-poll_send : (await : Bool) (back : Option T) (error : Option (TrySendError T)) → hands_back (reply.PollSend (attempted await back error)) ≡ hands back error
+  hands_back-poll_send : (await : Bool) (back : Option T) (error : Option (TrySendError T)) → hands_back (reply.PollSend (reply_to_attempt await back error)) ≡ hands back error
   unfolding hands
   hands_back-poll_send await None None = refl
   hands_back-poll_send await (Some msg) None = refl
@@ -91,7 +91,7 @@ module _ {T : Type 0} where
   not_handed v msg None ready is = absurd (unready v.control.closed (has_no_receiver v.control) (is_full v) v.control.overflow v.control.await_active (unsent.Closed msg) (unsent.Inactive msg) (unsent.Full msg) ready is)
   not_handed v msg (Some error) ready is = refl
 
-  answered_same : (h : History T) (e : Effect T) (place : ℕ) (dropped : List ℕ) → FloorChange h e dropped → FloorChange h (answered e place) dropped
+  answered_same : (h : History T) (e : Effect T) (place : ℕ) (dropped : List ℕ) → FloorChange h e dropped → FloorChange h (with_place_answered e place) dropped
   answered_same h e place dropped (stays floor none) = stays floor none
   answered_same h e place dropped (passes count cursors floor within is) = passes count cursors floor within is
 
@@ -101,12 +101,12 @@ module _ {T : Type 0} where
       let error : Option (TrySendError T) = refusal v msg in
       rw legal
       (elim (has_place h.control place) as (λ b. FloorChange h
-      (cond b (cond (sends_are_ready v) (answered (offer v msg) place) (sets (place_waits h.control place))) (sets h.control))
+      (cond b (cond (sends_are_ready v) (with_place_answered (offer v msg) place) (sets (place_waits h.control place))) (sets h.control))
       (dropped_by_send h (reply.PollSend (cond b (attempt_send_reply v msg) (send.Wait msg))))) [
         | true ↦
             rw (hands_back-poll_send h.control.await_active (handed_back v) error)
             (elim (sends_are_ready v) as (λ b. sends_are_ready v ≡ b → FloorChange h
-            (cond b (answered (offer v msg) place) (sets (place_waits h.control place))) (cond (hands (handed_back v) error) (front_number h ∷ []) [])) [
+            (cond b (with_place_answered (offer v msg) place) (sets (place_waits h.control place))) (cond (hands (handed_back v) error) (front_number h ∷ []) [])) [
               | true ↦ λ ready. answered_same h (offer v msg) place _ (floor-send h msg error bounded)
               | false ↦ λ ready. let none : hands (handed_back v) error ≡ false = not_handed v msg error ready refl in rw none (stays refl refl)
             ] refl)

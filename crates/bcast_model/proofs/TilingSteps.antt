@@ -10,7 +10,7 @@ use Rattle.bcast_model.specs.Legal.{Legal}
 use Rattle.bcast_model.specs.Effects.{effect}
 use Rattle.bcast_model.specs.Next.{HasPositiveCapacity, next}
 use Rattle.bcast_model.specs.Deliveries.{receives_for}
-use Rattle.bcast_model.specs.Tiling.{dropped_by}
+use Rattle.bcast_model.specs.Missed.{dropped_by}
 use Rattle.bcast_model.proofs.Views.{floor_under}
 use Rattle.bcast_model.proofs.Answers.{cursors-next}
 use Rattle.bcast_model.proofs.DeliveryMaps.{came_from}

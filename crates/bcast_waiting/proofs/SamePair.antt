@@ -4,7 +4,7 @@ use Rattle.bcast_model.specs.declared.listener.Kind.{Kind}
 use Rattle.bcast_model.specs.declared.listener.Kind.TheVariants as kind
 use Rattle.bcast_model.specs.contracts.listener.KindPartialEq.TheImpl.{ghosts}
 use Rattle.bcast_model.specs.Listeners.{Listeners}
-use Rattle.bcast_model.specs.Pair.{Pair, same_kind, same_pair}
+use Rattle.bcast_model.specs.ListenerId.{Pair, same_kind, same_pair}
 use Rattle.bcast_waiting.specs.Event.{Event}
 use Rattle.bcast_waiting.specs.Lists.{Receives}
 

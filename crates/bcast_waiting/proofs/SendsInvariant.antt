@@ -7,7 +7,7 @@ use Rattle.std.specs.Cmp.{nat_cmp_total, unsigned_tied}
 use Rattle.std.specs.FinSet as set
 use Rattle.std.specs.List.{AllByRecursion}
 use Rattle.bcast_model.specs.Listeners.{Listeners, AreInOrder, no_listeners, without, tell, consume, abandon, wait_again}
-use Rattle.bcast_model.specs.Pair.{same_place}
+use Rattle.bcast_model.specs.ListenerId.{same_place}
 use Rattle.bcast_model.specs.Control.{Places as Used}
 use Rattle.bcast_model.proofs.Tests.{test_place}
 use Rattle.bcast_model.proofs.WaitingSends.{HasPlace, AreSends, sends_told, sends_inserted, sends_consumed, sends_abandoned, sends_waiting}

@@ -3,7 +3,7 @@ use Rattle.std.specs.Prelude.{◌≡◌, ℕ, ◌<◌, true}
 use Rattle.std.specs.FinSet as set
 use Rattle.std.specs.List.{AllByRecursion}
 use Rattle.bcast_model.specs.Listeners.{AreInOrder}
-use Rattle.bcast_model.specs.Pair.{same_place}
+use Rattle.bcast_model.specs.ListenerId.{same_place}
 use Rattle.bcast_model.specs.Control.{Places as Used}
 use Rattle.bcast_waiting.specs.Event.{Event}
 use Rattle.bcast_waiting.specs.Lists.{Sends}

@@ -47,7 +47,7 @@ fn make(receives: &mut ReceiveList<Silent>, call: Call) -> Result<bool, AllocErr
         Call::Wait(key, kind) => return wait(receives, key, kind),
         Call::TellAll => receives.tell_all(),
         Call::Answered(key, kind) => receives.answered(key, kind),
-        Call::GiveUp(key, kind) => receives.give_up(key, kind),
+        Call::GiveUp(key, kind) => receives.ended(key, kind),
     }
     Ok(true)
 }

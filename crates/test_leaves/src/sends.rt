@@ -53,7 +53,7 @@ fn make(sends: &mut SendList<Silent>, call: Call) -> Result<(), AllocError> {
         Call::TellOne => sends.tell_one(),
         Call::TellAll => sends.tell_all(),
         Call::Answered(place) => sends.answered(place),
-        Call::GiveUp(place) => sends.give_up(place),
+        Call::GiveUp(place) => sends.ended(place),
     }
     Ok(())
 }

@@ -13,7 +13,7 @@ use Rattle.bcast_model.specs.declared.run.Call.TheVariants as call
 use Rattle.bcast_model.specs.declared.run.Reply.TheVariants as reply
 use Rattle.bcast_model.specs.Listeners.{Listeners}
 use Rattle.bcast_model.specs.History.{least}
-use Rattle.bcast_model.specs.Pair.{stream_of}
+use Rattle.bcast_model.specs.ListenerId.{stream_of}
 use Rattle.bcast_model.specs.Control.{Control, with_cursor, pair_waits, pair_answered, cursor_of, accepting}
 use Rattle.bcast_model.specs.Effect.{sets}
 use Rattle.bcast_model.specs.Errors.{unsent_message}

@@ -6,7 +6,7 @@ use Rattle.bcast_model.specs.declared.error.TrySendError.{TrySendError}
 use Rattle.bcast_model.specs.declared.run.Call.TheVariants as call
 use Rattle.bcast_model.specs.declared.run.Reply.TheVariants as reply
 use Rattle.bcast_model.specs.Control.{has_no_receiver}
-use Rattle.bcast_model.specs.Sending.{refusal, sent, handed_back, try_broadcast_reply, accept, accept_unless}
+use Rattle.bcast_model.specs.Sending.{refusal, reply_to_try, handed_back, try_broadcast_reply, accept, accept_unless}
 use Rattle.bcast_model.specs.Steps.{settle, with_message}
 use Rattle.bcast_model.specs.View.{View, is_full}
 use Rattle.bcast_model.specs.Answers.{Answers}
@@ -14,15 +14,15 @@ use Rattle.bcast_core.proofs.Offers.{offer_accepted}
 use Rattle.uses.proofs.Called.{told, valid, after, unchanged}
 
 module _ {T : Type 0} where
-  refused_is : (back : Option T) (error : TrySendError T) (refused : Option (TrySendError T)) → Err error ≡ sent back refused → refused ≡ Some error
+  refused_is : (back : Option T) (error : TrySendError T) (refused : Option (TrySendError T)) → Err error ≡ reply_to_try back refused → refused ≡ Some error
   refused_is back error (Some other) e = cc
   refused_is back error None e = cc
 
-  accepted_is : (back kept : Option T) (refused : Option (TrySendError T)) → Ok kept ≡ sent back refused → refused ≡ None
+  accepted_is : (back kept : Option T) (refused : Option (TrySendError T)) → Ok kept ≡ reply_to_try back refused → refused ≡ None
   accepted_is back kept (Some other) e = cc
   accepted_is back kept None e = refl
 
-  kept_is : (back kept : Option T) (refused : Option (TrySendError T)) → Ok kept ≡ sent back refused → kept ≡ back
+  kept_is : (back kept : Option T) (refused : Option (TrySendError T)) → Ok kept ≡ reply_to_try back refused → kept ≡ back
   kept_is back kept (Some other) e = cc
   kept_is back kept None e = cc
 

@@ -21,7 +21,7 @@ pub struct Config<S> {
 
 impl<S> Model for Config<S> {
     ghost use Rattle.bcast_model.specs.View.{View};
-    ghost use Rattle.bcast_model.specs.Codes.{view_code};
+    ghost use Rattle.bcast_model.specs.Encodings.{view_code};
     ghost use Rattle.uses.specs.Config.{IsConfig};
 
     ghost Value = { View S };

@@ -25,7 +25,7 @@ pub struct EventHub<E> {
 
 impl<E> Model for EventHub<E> {
     ghost use Rattle.bcast_model.specs.View.{View};
-    ghost use Rattle.bcast_model.specs.Codes.{view_code};
+    ghost use Rattle.bcast_model.specs.Encodings.{view_code};
     ghost use Rattle.uses.specs.Hub.{IsHub};
 
     ghost Value = { View E };

@@ -23,7 +23,7 @@ pub struct Log {
 
 impl Model for Log {
     ghost use Rattle.bcast_model.specs.View.{View};
-    ghost use Rattle.bcast_model.specs.Codes.{view_code};
+    ghost use Rattle.bcast_model.specs.Encodings.{view_code};
     ghost use Rattle.uses.specs.Log.{IsLog};
     ghost use Rattle.std.specs.Prelude.{ℕ};
     ghost use Rattle.std.specs.Coded.{coded_ℕ};

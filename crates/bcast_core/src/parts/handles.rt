@@ -3,9 +3,9 @@ ghost use Rattle.std.specs.Prelude.{◌≡◌, ◌+◌, ◌-◌, ◌^◌, ◌<�
 ghost use Rattle.std.specs.FinMap.{len, remove};
 
 use super::Parts;
-use bcast_waiting::notice::Notice;
 use bcast_model::error::HandleError;
 use bcast_model::listener::Kind;
+use bcast_waiting::notice::Notice;
 use std::alloc::Allocator;
 
 impl<T: Drop, N: Notice, A: Allocator + Copy> Parts<T, N, A> {
@@ -54,8 +54,8 @@ impl<T: Drop, N: Notice, A: Allocator + Copy> Parts<T, N, A> {
         requires there { is_some (cursor_of self.old.control key) ≡ true }
         ensures { self.new ≡ settle self.old (sets (without_receiver self.old.control key)) }
     {
-        self.pair_dropped(key, Kind::Stream);
-        self.pair_dropped(key, Kind::Future);
+        self.pair_ended(key, Kind::Stream);
+        self.pair_ended(key, Kind::Future);
         self.remove_cursor(key);
     }
 

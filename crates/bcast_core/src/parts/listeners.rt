@@ -3,14 +3,14 @@ ghost use Rattle.std.specs.Prelude.{◌≡◌, ◌&&◌, ◌+◌, ◌<◌, true,
 ghost use Rattle.std.specs.FinMap.{get};
 
 use super::Parts;
-use bcast_waiting::notice::Notice;
 use bcast_model::listener::Kind;
+use bcast_waiting::notice::Notice;
 use std::alloc::{AllocError, Allocator};
 
 impl<T: Drop, N: Notice, A: Allocator + Copy> Parts<T, N, A> {
     ghost use Rattle.bcast_model.specs.Laws.{IsValidView};
     ghost use Rattle.bcast_model.specs.View.{sends_are_ready};
-    ghost use Rattle.bcast_model.specs.Control.{has_place, with_place, place_answered, place_dropped, place_waits, pair_waits, pair_answered, pair_dropped};
+    ghost use Rattle.bcast_model.specs.Control.{has_place, with_place, place_answered, place_ended, place_waits, pair_waits, pair_answered, pair_ended};
 
     /// Whether a pending send has this place.
     pub fn has_place(&self, place: usize) -> bool
@@ -52,10 +52,10 @@ impl<T: Drop, N: Notice, A: Allocator + Copy> Parts<T, N, A> {
     }
 
     /// The send of this place is dropped. What it was told is passed on.
-    pub fn place_dropped(&mut self, place: usize)
-        ensures { self.new ≡ record self.old { control = place_dropped self.old.control place } }
+    pub fn place_ended(&mut self, place: usize)
+        ensures { self.new ≡ record self.old { control = place_ended self.old.control place } }
     {
-        self.sends.give_up(place);
+        self.sends.ended(place);
     }
 
     /// A receiver's listener waits, untold.
@@ -76,10 +76,10 @@ impl<T: Drop, N: Notice, A: Allocator + Copy> Parts<T, N, A> {
     }
 
     /// A receiver's listener is dropped. What it was told is passed on.
-    pub fn pair_dropped(&mut self, key: usize, kind: Kind)
+    pub fn pair_ended(&mut self, key: usize, kind: Kind)
         ensures { self.new
-            ≡ record self.old { control = pair_dropped self.old.control (key, kind) } }
+            ≡ record self.old { control = pair_ended self.old.control (key, kind) } }
     {
-        self.receives.give_up(key, kind);
+        self.receives.ended(key, kind);
     }
 }

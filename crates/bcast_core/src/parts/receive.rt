@@ -2,15 +2,15 @@
 ghost use Rattle.std.specs.Prelude.{◌≡◌, ◌⊎◌, ◌+◌, ◌<◌, max, Some, Ok, Err, IfOk, OnOk, OnErr, IsOk, IsSomeAnd, alloc_error};
 
 use super::Parts;
-use bcast_waiting::notice::Notice;
 use bcast_model::error::TryRecvError;
 use bcast_model::listener::Kind;
+use bcast_waiting::notice::Notice;
 use std::alloc::{AllocError, Allocator};
 
 impl<T: Clone, N: Notice, A: Allocator + Copy> Parts<T, N, A> {
     ghost use Rattle.bcast_model.specs.Laws.{IsValidView};
     ghost use Rattle.bcast_model.specs.Legal.{IsReceivedBy};
-    ghost use Rattle.bcast_model.specs.Receiving.{receive, poll_receive, skipped, skipped_to};
+    ghost use Rattle.bcast_model.specs.Receiving.{receive, poll_receive, skipped_count, skipped_to};
     ghost use Rattle.bcast_model.specs.Steps.{settle};
     ghost use Rattle.bcast_model.specs.Effect.{sets};
     ghost use Rattle.bcast_model.specs.Control.{cursor_of};
@@ -92,7 +92,7 @@ impl<T: Clone, N: Notice, A: Allocator + Copy> Parts<T, N, A> {
     /// Where the receiver reads on that skips what it missed, and how many messages those are.
     pub fn skipped_to(&self, key: usize) -> (Option<u64>, u64)
         ensures at { result.0 ≡ skipped_to self.now.front (cursor_of self.now.control key) }
-        ensures skips { result.1 ≡ skipped self.now.front (cursor_of self.now.control key) }
+        ensures skips { result.1 ≡ skipped_count self.now.front (cursor_of self.now.control key) }
     {
         let front = self.front();
         match self.cursor(key) {

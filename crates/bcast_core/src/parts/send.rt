@@ -3,9 +3,9 @@ ghost use Rattle.std.specs.Prelude.{◌≡◌, ◌^◌, ◌+◌, ◌<◌, ◌≤
 ghost use Rattle.std.specs.FinMap.{len};
 
 use super::Parts;
-use bcast_waiting::notice::Notice;
 use bcast_model::error::{SendError, TrySendError};
 use bcast_model::run::SendPoll;
+use bcast_waiting::notice::Notice;
 use std::alloc::{AllocError, Allocator};
 
 impl<T: Drop, N: Notice, A: Allocator + Copy> Parts<T, N, A> {

@@ -8,9 +8,9 @@ ghost use Rattle.bcast_core.specs.Snapshot.{Shows, listeners_of};
 
 use super::Parts;
 use crate::snapshot::{Snapshot, Waiting};
-use bcast_waiting::notice::Notice;
 use bcast_model::listener::Kind;
 use bcast_store::Store;
+use bcast_waiting::notice::Notice;
 use std::alloc::{AllocError, Allocator};
 
 impl<T: Clone, N: Notice, A: Allocator + Copy> Parts<T, N, A> {

@@ -7,9 +7,9 @@ ghost use Rattle.bcast_model.specs.declared.run.Call.TheVariants as call;
 ghost use Rattle.bcast_model.specs.declared.run.Reply.TheVariants as reply;
 
 use super::Inner;
-use bcast_waiting::notice::Notice;
 use bcast_model::error::{RecvError, TryRecvError};
 use bcast_model::listener::Kind;
+use bcast_waiting::notice::Notice;
 use futures::task::Poll;
 use std::alloc::{AllocError, Allocator};
 
@@ -138,7 +138,7 @@ impl<T: Drop, N: Notice, A: Allocator + Copy> Inner<T, N, A> {
         ensures { Answers NoClone self.old (call.EndFuture key) reply.EndFuture self.new }
     {
         let was_blocked = !self.parts.is_ready();
-        self.parts.pair_dropped(key, Kind::Future);
+        self.parts.pair_ended(key, Kind::Future);
         self.parts.tell_if_ready(was_blocked);
     }
 }

@@ -5,9 +5,9 @@ ghost use Rattle.bcast_model.specs.declared.run.Call.TheVariants as call;
 ghost use Rattle.bcast_model.specs.declared.run.Reply.TheVariants as reply;
 
 use super::Inner;
-use bcast_waiting::notice::Notice;
 use bcast_model::error::TrySendError;
 use bcast_model::run::SendPoll;
+use bcast_waiting::notice::Notice;
 use std::alloc::{AllocError, Allocator};
 
 impl<T: Drop, N: Notice, A: Allocator + Copy> Inner<T, N, A> {
@@ -93,7 +93,7 @@ impl<T: Drop, N: Notice, A: Allocator + Copy> Inner<T, N, A> {
         ensures { Answers NoClone self.old (call.EndSend place) reply.EndSend self.new }
     {
         let was_blocked = !self.parts.is_ready();
-        self.parts.place_dropped(place);
+        self.parts.place_ended(place);
         self.parts.tell_if_ready(was_blocked);
     }
 }

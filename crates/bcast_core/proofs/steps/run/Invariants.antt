@@ -5,7 +5,7 @@ use Rattle.bcast_model.specs.History.{opening}
 use Rattle.bcast_model.specs.Valid.{IsValid}
 use Rattle.bcast_model.specs.Answers.{Represents}
 use Rattle.bcast_model.specs.Run.{IsRun, end_of_run}
-use Rattle.bcast_core.specs.Sure.{is_receive_refused}
+use Rattle.bcast_core.specs.InfallibleClones.{is_receive_refused}
 use Rattle.bcast_core.proofs.steps.run.Given as goal
 
 abbrev pub invariant-loop-call : goal.invariant-loop-call

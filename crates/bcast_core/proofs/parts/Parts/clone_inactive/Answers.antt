@@ -1,7 +1,7 @@
 use Rattle.std.proofs.Common.{◌+◌, ◌||◌, not, cond, refl, sym, ap, ◌∙◌}
 use Rattle.bcast_model.specs.declared.run.Reply.TheVariants as reply
 use Rattle.bcast_model.specs.Handles.{has_next}
-use Rattle.bcast_model.specs.Legal.{raised}
+use Rattle.bcast_model.specs.Legal.{count_reply}
 use Rattle.bcast_model.specs.Effect.{sets}
 use Rattle.bcast_core.proofs.Does.{does_sets, does_nothing}
 use Rattle.bcast_core.proofs.Making.{none_left, some_left, at_most, below_most}
@@ -10,7 +10,7 @@ use Rattle.bcast_core.proofs.parts.Parts.clone_inactive.Goals as goal
 pub returns-then-inactive-eq0 : goal.returns-then-inactive-eq0
 returns-then-inactive-eq0 g c =
     let none = none_left c.args.self.now.control.inactive (sym c.inactive.ensures ∙ c.if-inactive-eq0.true) in
-    does_nothing c.requires (ap (λ b. reply.CloneInactive (raised (not b) c.args.self.now.control.inactive)) (sym none))
+    does_nothing c.requires (ap (λ b. reply.CloneInactive (count_reply (not b) c.args.self.now.control.inactive)) (sym none))
     (ap (λ b. sets (cond (b || not (has_next c.args.self.now.control.inactive)) c.args.self.now.control (record c.args.self.now.control { inactive = c.args.self.now.control.inactive + 1 }))) none) refl
 
 pub returns-then-inactive-eq18446744073709551615 : goal.returns-then-inactive-eq18446744073709551615

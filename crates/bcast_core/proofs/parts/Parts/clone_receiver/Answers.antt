@@ -1,7 +1,7 @@
 use Rattle.std.proofs.Common.{inl, inr, Some, None, is_some, refl, sym, ap, ◌∙◌}
 use Rattle.bcast_model.specs.declared.run.Reply.TheVariants as reply
 use Rattle.bcast_model.specs.Handles.{clone_receiver}
-use Rattle.bcast_model.specs.Next.{chosen}
+use Rattle.bcast_model.specs.Next.{chosen_id}
 use Rattle.bcast_model.specs.Effect.{sets}
 use Rattle.bcast_model.specs.Control.{cursor_of}
 use Rattle.bcast_core.proofs.Does.{does_nothing}
@@ -18,7 +18,7 @@ returns-clause-does g c =
     let at = sym c.cursor.ensures ∙ c.in-Some.is in
     record {
       legal = inr (ap is_some at, is_made c.args.self.now.control.cursors reply.CloneReceiver c.add_receiver.result c.add_receiver.ensures.free c.add_receiver.ensures.memory);
-      effect = made_effect c.args.self.now c.add_receiver.new.self (λ r. clone_receiver c.args.self.now.control (cursor_of c.args.self.now.control c.args.key) (chosen {T = g.row.T.Denot} (reply.CloneReceiver r))) c.in-Some.cursor c.add_receiver.result c.requires
+      effect = made_effect c.args.self.now c.add_receiver.new.self (λ r. clone_receiver c.args.self.now.control (cursor_of c.args.self.now.control c.args.key) (chosen_id {T = g.row.T.Denot} (reply.CloneReceiver r))) c.in-Some.cursor c.add_receiver.result c.requires
           (λ key. ap (λ o. clone_receiver c.args.self.now.control o (Some key)) at) (λ e. ap (λ o. clone_receiver c.args.self.now.control o None) at) c.add_receiver.ensures.ok c.add_receiver.ensures.err;
     }
 

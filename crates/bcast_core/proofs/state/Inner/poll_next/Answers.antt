@@ -2,7 +2,7 @@ use Rattle.std.proofs.Common.{Ok, IfOk, not, refl, ap, subst, ◌≡◌}
 use Rattle.bcast_model.specs.declared.listener.Kind.TheVariants as kind
 use Rattle.bcast_model.specs.declared.run.Call.TheVariants as call
 use Rattle.bcast_model.specs.declared.run.Reply.TheVariants as reply
-use Rattle.bcast_model.specs.Receiving.{next_reply, skipped, skipped_to}
+use Rattle.bcast_model.specs.Receiving.{next_reply, skipped_count, skipped_to}
 use Rattle.bcast_model.specs.Control.{cursor_of}
 use Rattle.bcast_model.proofs.Answers.{answers_as, shown_after}
 use Rattle.bcast_core.proofs.Does.{valid_shown, told}
@@ -16,7 +16,7 @@ pub returns-clause-answers : goal.returns-clause-answers
 returns-clause-answers g c =
     answers_as c.self.view_is tt c.self.invariant (told (not c.is_ready-was_blocked.result) (ap not c.is_ready-was_blocked.ensures)
     (does_spelt c.self.inside.parts c.poll-received.new.self (call.PollNext c.args.key) (c.args.key, kind.Stream) (skipped_to c.self.inside.parts.front (cursor_of c.self.inside.parts.control c.args.key)) c.skipped_to-at.result.0
-    (next_reply (skipped c.self.inside.parts.front (cursor_of c.self.inside.parts.control c.args.key))) reply.PollNext c.poll-received.result c.next_reply.result (valid_shown c.self.invariant) c.skipped_to-at.ensures.at
+    (next_reply (skipped_count c.self.inside.parts.front (cursor_of c.self.inside.parts.control c.args.key))) reply.PollNext c.poll-received.result c.next_reply.result (valid_shown c.self.invariant) c.skipped_to-at.ensures.at
     c.poll-received.ensures.reply c.poll-received.ensures.ok c.poll-received.ensures.err (subst (λ n. IfOk c.poll-received.result (λ answer. c.next_reply.result ≡ Ok (next_reply n answer))) c.skipped_to-at.ensures.skips c.next_reply.ensures.ok) c.next_reply.ensures.err (λ r legal. legal) (λ a. refl) refl) c.tell_if_ready.ensures)
 
 pub invariant_of-self : goal.invariant_of-self
