@@ -5,7 +5,7 @@ use Rattle.std.specs.Option.{ForSome}
 use Rattle.std.specs.List.Sorted.{IsNonDecreasing}
 use Rattle.circular_buffer.specs.Buffer.{last_item}
 use Rattle.bcast_queue.specs.Entries.{RisesFrom}
-use Rattle.bcast_queue.specs.Queue.{raised, lowered}
+use Rattle.bcast_queue.specs.Queue.{one_more_from, one_fewer_from}
 
 pub RisesFrom-weaker : (a b : ℕ) (ns : List ℕ) → a ≤ b → RisesFrom b ns → RisesFrom a ns
 RisesFrom-weaker a b [] h r = tt
@@ -69,10 +69,10 @@ all_raised : (low : ℕ) (ns : List ℕ) → RisesFrom low ns → RisesFrom (low
 all_raised low [] r = tt
 all_raised low (n ∷ ns) r = (omega (arith, r.0), all_raised n ns r.1)
 
-pub RisesFrom-raised : (low i : ℕ) (ns : List ℕ) → RisesFrom low ns → RisesFrom low (raised i ns)
-RisesFrom-raised low zero ns r = RisesFrom-weaker low (low + 1) _ (omega arith) (all_raised low ns r)
-RisesFrom-raised low (suc i) [] r = tt
-RisesFrom-raised low (suc i) (n ∷ ns) r = (r.0, RisesFrom-raised n i ns r.1)
+pub RisesFrom-one_more_from : (low i : ℕ) (ns : List ℕ) → RisesFrom low ns → RisesFrom low (one_more_from i ns)
+RisesFrom-one_more_from low zero ns r = RisesFrom-weaker low (low + 1) _ (omega arith) (all_raised low ns r)
+RisesFrom-one_more_from low (suc i) [] r = tt
+RisesFrom-one_more_from low (suc i) (n ∷ ns) r = (r.0, RisesFrom-one_more_from n i ns r.1)
 
 pub all_lowered : (low : ℕ) (ns : List ℕ) → RisesFrom (low + 1) ns → RisesFrom low (map (λ n. n - 1) ns)
 all_lowered low [] r = tt
@@ -81,13 +81,13 @@ all_lowered low (n ∷ ns) r =
     (omega (arith, r.0), all_lowered (n - 1) ns (subst (λ m. RisesFrom m ns) more r.1))
 
 -- the count at i is above the one before it, or above `low` at the front
-pub RisesFrom-lowered : (low i : ℕ) (ns : List ℕ) → RisesFrom low ns → (i < length ns → get_or (low ∷ ns) i 0 < get_or ns i 0) → RisesFrom low (lowered i ns)
-RisesFrom-lowered low zero [] r more = tt
-RisesFrom-lowered low zero (n ∷ ns) r more =
+pub RisesFrom-one_fewer_from : (low i : ℕ) (ns : List ℕ) → RisesFrom low ns → (i < length ns → get_or (low ∷ ns) i 0 < get_or ns i 0) → RisesFrom low (one_fewer_from i ns)
+RisesFrom-one_fewer_from low zero [] r more = tt
+RisesFrom-one_fewer_from low zero (n ∷ ns) r more =
     let above : low < n = more (omega arith) in
     all_lowered low (n ∷ ns) (omega arith, r.1)
-RisesFrom-lowered low (suc i) [] r more = tt
-RisesFrom-lowered low (suc i) (n ∷ ns) r more = (r.0, RisesFrom-lowered n i ns r.1 (λ h. more (omega arith)))
+RisesFrom-one_fewer_from low (suc i) [] r more = tt
+RisesFrom-one_fewer_from low (suc i) (n ∷ ns) r more = (r.0, RisesFrom-one_fewer_from n i ns r.1 (λ h. more (omega arith)))
 
 pub RisesFrom-set : (low i : ℕ) (ns : List ℕ) → RisesFrom low ns → i < length ns → get_or (low ∷ ns) i 0 < get_or ns i 0 → RisesFrom low (set ns i (get_or ns i 0 - 1))
 RisesFrom-set low i [] r h more = absurd (omega arith)

@@ -3,38 +3,38 @@ use Rattle.std.proofs.Common.{◌≡◌, ℕ, zero, suc, ◌+◌, ◌-◌, ◌<�
 use Rattle.std.proofs.lemmas.Grind.{common_steps}
 use Rattle.std.proofs.lemmas.List.{length-map, get_or-map}
 use Rattle.std.proofs.lemmas.List.Sums.{sum_by-cons}
-use Rattle.bcast_queue.specs.Queue.{raised, lowered}
+use Rattle.bcast_queue.specs.Queue.{one_more_from, one_fewer_from}
 use Rattle.bcast_queue.proofs.Front.{nobody}
 
-pub length-raised : (i : ℕ) (ns : List ℕ) → length (raised i ns) ≡ length ns
-length-raised zero ns = length-map ns (λ n. n + 1)
-length-raised (suc i) [] = refl
-length-raised (suc i) (n ∷ ns) = ap suc (length-raised i ns)
+pub length-one_more_from : (i : ℕ) (ns : List ℕ) → length (one_more_from i ns) ≡ length ns
+length-one_more_from zero ns = length-map ns (λ n. n + 1)
+length-one_more_from (suc i) [] = refl
+length-one_more_from (suc i) (n ∷ ns) = ap suc (length-one_more_from i ns)
 
-pub length-lowered : (i : ℕ) (ns : List ℕ) → length (lowered i ns) ≡ length ns
-length-lowered zero ns = length-map ns (λ n. n - 1)
-length-lowered (suc i) [] = refl
-length-lowered (suc i) (n ∷ ns) = ap suc (length-lowered i ns)
+pub length-one_fewer_from : (i : ℕ) (ns : List ℕ) → length (one_fewer_from i ns) ≡ length ns
+length-one_fewer_from zero ns = length-map ns (λ n. n - 1)
+length-one_fewer_from (suc i) [] = refl
+length-one_fewer_from (suc i) (n ∷ ns) = ap suc (length-one_fewer_from i ns)
 
-pub get_or-raised : (i : ℕ) (ns : List ℕ) (j : ℕ) → j < length ns → get_or (raised i ns) j 0 ≡ get_or ns j 0 + cond (nat_le i j) 1 0
-get_or-raised zero ns j h =
+pub get_or-one_more_from : (i : ℕ) (ns : List ℕ) (j : ℕ) → j < length ns → get_or (one_more_from i ns) j 0 ≡ get_or ns j 0 + cond (nat_le i j) 1 0
+get_or-one_more_from zero ns j h =
     let e = get_or-map (λ n. n + 1) ns j 0 0 h in
     grind (arith, common_steps, e)
-get_or-raised (suc i) [] j h = absurd (omega arith)
-get_or-raised (suc i) (n ∷ ns) zero h = grind (arith, common_steps)
-get_or-raised (suc i) (n ∷ ns) (suc j) h =
-    let e = get_or-raised i ns j (omega arith) in
+get_or-one_more_from (suc i) [] j h = absurd (omega arith)
+get_or-one_more_from (suc i) (n ∷ ns) zero h = grind (arith, common_steps)
+get_or-one_more_from (suc i) (n ∷ ns) (suc j) h =
+    let e = get_or-one_more_from i ns j (omega arith) in
     grind (arith, common_steps, e)
 
-pub get_or-lowered : (i : ℕ) (ns : List ℕ) (j : ℕ) → j < length ns → (i ≤ j → 1 ≤ get_or ns j 0) → get_or (lowered i ns) j 0 + cond (nat_le i j) 1 0 ≡ get_or ns j 0
-get_or-lowered zero ns j h some =
+pub get_or-one_fewer_from : (i : ℕ) (ns : List ℕ) (j : ℕ) → j < length ns → (i ≤ j → 1 ≤ get_or ns j 0) → get_or (one_fewer_from i ns) j 0 + cond (nat_le i j) 1 0 ≡ get_or ns j 0
+get_or-one_fewer_from zero ns j h some =
     let e = get_or-map (λ n. n - 1) ns j 0 0 h in
     let s = some (omega arith) in
     grind (arith, common_steps, e, s)
-get_or-lowered (suc i) [] j h some = absurd (omega arith)
-get_or-lowered (suc i) (n ∷ ns) zero h some = grind (arith, common_steps)
-get_or-lowered (suc i) (n ∷ ns) (suc j) h some =
-    let e = get_or-lowered i ns j (omega arith) (λ l. some (omega arith)) in
+get_or-one_fewer_from (suc i) [] j h some = absurd (omega arith)
+get_or-one_fewer_from (suc i) (n ∷ ns) zero h some = grind (arith, common_steps)
+get_or-one_fewer_from (suc i) (n ∷ ns) (suc j) h some =
+    let e = get_or-one_fewer_from i ns j (omega arith) (λ l. some (omega arith)) in
     grind (arith, common_steps, e)
 
 count_cons : (n : ℕ) (ns : List ℕ) → count_by nobody (n ∷ ns) ≡ cond (eqb n 0) 1 0 + count_by nobody ns

@@ -7,8 +7,8 @@ use Rattle.std.specs.Result.{OnErr, IfOk, IsErr}
 use Rattle.std.proofs.lemmas.List.{drop-drop, drop-map}
 use Rattle.std.proofs.lemmas.Result.{IfOk-from_err}
 use Rattle.bcast_queue.specs.Entries.{RisesFrom}
-use Rattle.bcast_queue.specs.Queue.{lowered, Queued, without, left, read_at}
-use Rattle.bcast_queue.proofs.Owed.{at_least, RisesFrom-lowered}
+use Rattle.bcast_queue.specs.Queue.{one_fewer_from, Queued, without, without_reader, read_at}
+use Rattle.bcast_queue.proofs.Owed.{at_least, RisesFrom-one_fewer_from}
 use Rattle.bcast_queue.proofs.Front.{owed_once, one_owed_once, gone_is_front, none_gone, above_front, above_behind}
 use Rattle.bcast_queue.proofs.Rings.{same_queue, IsQueue}
 
@@ -32,24 +32,24 @@ module _ {X : Type 0} where
   without_popped q p r popped once is = ap (λ (o : Queued X). without (prefix_len owed_once o.owed) o) popped ∙ without_once q once ∙ is
 
   -- no reader is left at the front but those who owe more
-  left_front : (q : Queued X) → RisesFrom 1 q.owed → (let k = prefix_len owed_once q.owed in record (without k q) { owed = lowered 0 (drop k q.owed) } ≡ left 0 q)
+  left_front : (q : Queued X) → RisesFrom 1 q.owed → (let k = prefix_len owed_once q.owed in record (without k q) { owed = one_fewer_from 0 (drop k q.owed) } ≡ without_reader 0 q)
   left_front q rises =
       let k = prefix_len owed_once q.owed in
-      let gone : count_by (λ n. eqb n 0) (lowered 0 q.owed) ≡ k = gone_is_front q.owed rises in
-      same_queue (q.front + k) (q.front + count_by (λ n. eqb n 0) (lowered 0 q.owed)) _ _ _ _ q.room q.room
+      let gone : count_by (λ n. eqb n 0) (one_fewer_from 0 q.owed) ≡ k = gone_is_front q.owed rises in
+      same_queue (q.front + k) (q.front + count_by (λ n. eqb n 0) (one_fewer_from 0 q.owed)) _ _ _ _ q.room q.room
       (ap (λ n. q.front + n) (sym gone))
       (ap (λ n. drop n q.messages) (sym gone))
-      (sym (drop-map (λ n. n - 1) k q.owed) ∙ ap (λ n. drop n (lowered 0 q.owed)) (sym gone))
+      (sym (drop-map (λ n. n - 1) k q.owed) ∙ ap (λ n. drop n (one_fewer_from 0 q.owed)) (sym gone))
       refl
 
-  left_behind : (i : ℕ) (q : Queued X) → RisesFrom 1 (lowered i q.owed) → record q { owed = lowered i q.owed } ≡ left i q
-  left_behind i q rises = sym (without_none (record q { owed = lowered i q.owed }) _ (none_gone 1 (lowered i q.owed) (omega arith) rises))
+  left_behind : (i : ℕ) (q : Queued X) → RisesFrom 1 (one_fewer_from i q.owed) → record q { owed = one_fewer_from i q.owed } ≡ without_reader i q
+  left_behind i q rises = sym (without_none (record q { owed = one_fewer_from i q.owed }) _ (none_gone 1 (one_fewer_from i q.owed) (omega arith) rises))
 
   -- when a reader that leaves may be taken away from the index i on, and what that makes of the queue
   pub record IsReady (q : Queued X) (i : ℕ) (p : Queued X) : Type 0 where
     pub within : i ≤ length p.messages
     pub owed : i < length p.messages → get_or (1 ∷ p.owed) i 0 < get_or p.owed i 0
-    pub becomes : record p { owed = lowered i p.owed } ≡ left i q
+    pub becomes : record p { owed = one_fewer_from i p.owed } ≡ without_reader i q
 
   pub IsReady-front : (q p : Queued X) (i : ℕ) → IsQueue q → i ≡ 0 → p ≡ without (prefix_len owed_once q.owed) q → IsReady q i p
   IsReady-front q p i is first gone =
@@ -69,10 +69,10 @@ module _ {X : Type 0} where
       (record {
         within = within;
         owed = λ h. above (omega (arith, h, is.lengths));
-        becomes = left_behind i q (RisesFrom-lowered 1 i q.owed is.rises above);
+        becomes = left_behind i q (RisesFrom-one_fewer_from 1 i q.owed is.rises above);
       })
 
-  pub left_of_ready : (q p new : Queued X) (i : ℕ) → IsReady q i p → new ≡ record p { owed = lowered i p.owed } → new ≡ left i q
+  pub left_of_ready : (q p new : Queued X) (i : ℕ) → IsReady q i p → new ≡ record p { owed = one_fewer_from i p.owed } → new ≡ without_reader i q
   left_of_ready q p new i ready lower = lower ∙ ready.becomes
 
   pub read_last : (q : Queued X) (i : ℕ) → get_or q.owed i 0 ≡ 1 → without 1 q ≡ read_at i q

@@ -7,8 +7,8 @@ use Rattle.std.proofs.lemmas.Option.{slice_get-map, get_or_from_slice_get}
 use Rattle.circular_buffer.specs.Buffer.{Buffer}
 use Rattle.bcast_queue.specs.declared.Entry.{Entry}
 use Rattle.bcast_queue.specs.Entries.{message_of, owed_of, IsSound, queue_of, RisesFrom}
-use Rattle.bcast_queue.specs.Queue.{raised, lowered, queued, Queued, shared}
-use Rattle.bcast_queue.proofs.Owed.{at_least, RisesFrom-raised}
+use Rattle.bcast_queue.specs.Queue.{one_more_from, one_fewer_from, queue_with, Queued, with_reader}
+use Rattle.bcast_queue.proofs.Owed.{at_least, RisesFrom-one_more_from}
 use Rattle.bcast_queue.proofs.Part.{changed_from, length-changed_from, map_kept, map_changed}
 
 module _ {X : Type 0} where
@@ -20,8 +20,8 @@ module _ {X : Type 0} where
   abbrev pub fewer : Entry X → Entry X
   fewer e = record e { owed = e.owed - 1 }
 
-  pub same_queue : (a b : ℕ) (xs ys : List X) (ms ns : List ℕ) (r s : ℕ) → a ≡ b → xs ≡ ys → ms ≡ ns → r ≡ s → queued a xs ms r ≡ queued b ys ns s
-  same_queue a b xs ys ms ns r s front messages owed room = λ i. queued (front i) (messages i) (owed i) (room i)
+  pub same_queue : (a b : ℕ) (xs ys : List X) (ms ns : List ℕ) (r s : ℕ) → a ≡ b → xs ≡ ys → ms ≡ ns → r ≡ s → queue_with a xs ms r ≡ queue_with b ys ns s
+  same_queue a b xs ys ms ns r s front messages owed room = λ i. queue_with (front i) (messages i) (owed i) (room i)
 
   pub IsSound-changed : (front : ℕ) (es fs : List (Entry X)) → IsSound front es → RisesFrom 1 (map owed_of fs) → length fs ≡ length es → IsSound front fs
   IsSound-changed front es fs sound rises same = record { rises = rises; numbered = omega (arith, sound.numbered, same) }
@@ -29,31 +29,31 @@ module _ {X : Type 0} where
   messages-more : (i : ℕ) (es : List (Entry X)) → map message_of (take i es ++ map more (drop i es)) ≡ map message_of es
   messages-more i es = map_kept message_of more (λ e. refl) i es
 
-  owed-more : (i : ℕ) (es : List (Entry X)) → map owed_of (take i es ++ map more (drop i es)) ≡ raised i (map owed_of es)
+  owed-more : (i : ℕ) (es : List (Entry X)) → map owed_of (take i es ++ map more (drop i es)) ≡ one_more_from i (map owed_of es)
   owed-more i es = map_changed owed_of more (λ n. n + 1) (λ e. refl) i es
 
   messages-fewer : (i : ℕ) (es : List (Entry X)) → map message_of (take i es ++ map fewer (drop i es)) ≡ map message_of es
   messages-fewer i es = map_kept message_of fewer (λ e. refl) i es
 
-  owed-fewer : (i : ℕ) (es : List (Entry X)) → map owed_of (take i es ++ map fewer (drop i es)) ≡ lowered i (map owed_of es)
+  owed-fewer : (i : ℕ) (es : List (Entry X)) → map owed_of (take i es ++ map fewer (drop i es)) ≡ one_fewer_from i (map owed_of es)
   owed-fewer i es = map_changed owed_of fewer (λ n. n - 1) (λ e. refl) i es
 
   -- a reader comes
   pub IsSound-more : (front i : ℕ) (ring now : Buffer (Entry X)) → now ≡ changed_from more i ring → IsSound front ring.items → IsSound front now.items
   IsSound-more front i ring now is sound =
-      let rises = RisesFrom-raised 1 i (map owed_of ring.items) sound.rises in
+      let rises = RisesFrom-one_more_from 1 i (map owed_of ring.items) sound.rises in
       rw is (IsSound-changed front ring.items _ sound (rw (owed-more i ring.items) rises) (length-changed_from more i ring))
 
-  pub queue_of-more : (front i : ℕ) (ring now : Buffer (Entry X)) → now ≡ changed_from more i ring → queue_of front now ≡ shared i (queue_of front ring)
+  pub queue_of-more : (front i : ℕ) (ring now : Buffer (Entry X)) → now ≡ changed_from more i ring → queue_of front now ≡ with_reader i (queue_of front ring)
   queue_of-more front i ring now is =
       ap (queue_of front) is ∙ same_queue front front _ _ _ _ _ _ refl (messages-more i ring.items) (owed-more i ring.items) refl
 
   -- a reader goes
-  pub IsSound-fewer : (front i : ℕ) (ring now : Buffer (Entry X)) → now ≡ changed_from fewer i ring → IsSound front ring.items → RisesFrom 1 (lowered i (map owed_of ring.items)) → IsSound front now.items
+  pub IsSound-fewer : (front i : ℕ) (ring now : Buffer (Entry X)) → now ≡ changed_from fewer i ring → IsSound front ring.items → RisesFrom 1 (one_fewer_from i (map owed_of ring.items)) → IsSound front now.items
   IsSound-fewer front i ring now is sound rises =
       rw is (IsSound-changed front ring.items _ sound (rw (owed-fewer i ring.items) rises) (length-changed_from fewer i ring))
 
-  pub queue_of-fewer : (front i : ℕ) (ring now : Buffer (Entry X)) → now ≡ changed_from fewer i ring → queue_of front now ≡ queued front (map message_of ring.items) (lowered i (map owed_of ring.items)) ring.capacity
+  pub queue_of-fewer : (front i : ℕ) (ring now : Buffer (Entry X)) → now ≡ changed_from fewer i ring → queue_of front now ≡ queue_with front (map message_of ring.items) (one_fewer_from i (map owed_of ring.items)) ring.capacity
   queue_of-fewer front i ring now is =
       ap (queue_of front) is ∙ same_queue front front _ _ _ _ _ _ refl (messages-fewer i ring.items) (owed-fewer i ring.items) refl
 

@@ -2,7 +2,7 @@
 use Rattle.std.specs.Prelude.{ℕ, ◌+◌, ◌<◌, ◌≤◌, ◌^◌, List, [], ◌∷◌, map, length}
 use Rattle.circular_buffer.specs.Buffer.{Buffer}
 use Rattle.bcast_queue.specs.declared.Entry.{Entry}
-use Rattle.bcast_queue.specs.Queue.{Queued, queued}
+use Rattle.bcast_queue.specs.Queue.{Queued, queue_with}
 
 -- each count is at least the one before it, and the first at least `low`
 abbrev pub RisesFrom : ℕ → List ℕ → Type 0
@@ -21,7 +21,7 @@ module _ {X : Type 0} where
   -- the queue whose first message has this number, and whose entries are in this ring
   abbrev pub queue_of : ℕ → Buffer (Entry X) → Queued X
   queue_of front ring =
-      queued front (map message_of ring.items) (map owed_of ring.items) ring.capacity
+      queue_with front (map message_of ring.items) (map owed_of ring.items) ring.capacity
 
   -- some reader owes each message, no later one is owed by fewer, and each has a number
   pub record IsSound (front : ℕ) (es : List (Entry X)) : Type 0 where

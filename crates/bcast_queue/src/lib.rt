@@ -5,7 +5,7 @@ ghost use Rattle.std.specs.Prelude.{◌≡◌, ◌+◌, ◌^◌, ◌<◌, ◌≤
 ghost use Rattle.std.specs.Prelude.{slice_get, IsTrue, IfOk, IfNone, OnOk, OnErr, OnSome};
 ghost use Rattle.std.specs.List.Sorted.{IsNonDecreasing};
 ghost use Rattle.std.specs.Option.{ForSome, option_copied};
-ghost use Rattle.bcast_queue.specs.Queue.{last_item, queued, without};
+ghost use Rattle.bcast_queue.specs.Queue.{last_item, queue_with, without};
 
 use circular_buffer::HeapCircularBuffer;
 use std::alloc::{AllocError, Allocator, Global};
@@ -35,11 +35,11 @@ struct Entry<T> {
 }
 
 impl<T, A: Allocator> Model for Queue<T, A> {
-    ghost use Rattle.bcast_queue.specs.Queue.{Queued, queued_code};
+    ghost use Rattle.bcast_queue.specs.Queue.{Queued, queue_code};
 
     ghost Value = { Queued T };
 
-    ghost coded = { queued_code T.code };
+    ghost coded = { queue_code T.code };
 
     ghost use Rattle.bcast_queue.specs.Entries.{queue_of, IsSound};
 
@@ -61,7 +61,7 @@ impl<T, A: Allocator> Queue<T, A> {
     /// Source: the queue that `broadcast` of async-broadcast makes.
     pub fn new(alloc: A, first: u64, room: usize) -> Result<Queue<T, A>, AllocError>
         requires { 0 < room }
-        ensures { IfOk result (λ q. q ≡ queued first [] [] room) }
+        ensures { IfOk result (λ q. q ≡ queue_with first [] [] room) }
     {
         let ring = HeapCircularBuffer::with_capacity(alloc, room)?;
         Ok(Queue { ring, front: first })

@@ -4,7 +4,7 @@ ghost use Rattle.std.specs.Prelude.{slice_set, slice_index, IfOk, IsOk, OnOk, On
 ghost use Rattle.std.specs.List.{prefix_len};
 ghost use Rattle.std.specs.Option.{ForSome, IsSomeAnd};
 ghost use Rattle.std.specs.Result.{IsOkAnd};
-ghost use Rattle.bcast_queue.specs.Queue.{last_item, without, shared, lowered, left, read_at};
+ghost use Rattle.bcast_queue.specs.Queue.{last_item, without, with_reader, one_fewer_from, without_reader, read_at};
 
 use crate::Queue;
 use std::alloc::{AllocError, Allocator};
@@ -18,7 +18,7 @@ impl<T, A: Allocator> Queue<T, A> {
     pub fn share(&mut self, index: usize)
         requires within { index ≤ length self.old.messages }
         requires fits { ForSome (last_item self.old.owed) (λ n. n < usize.MAX) }
-        ensures { self.new ≡ shared index self.old }
+        ensures { self.new ≡ with_reader index self.old }
     {
         for at in index..self.ring.len() {
             let Some(entry) = self.ring.get_mut(at) else {
@@ -47,7 +47,7 @@ impl<T, A: Allocator> Queue<T, A> {
         requires within { index ≤ length self.old.messages }
         requires owed { index < length self.old.messages
             → slice_index (1 ∷ self.old.owed) index < slice_index self.old.owed index }
-        ensures { self.new ≡ record self.old { owed = lowered index self.old.owed } }
+        ensures { self.new ≡ record self.old { owed = one_fewer_from index self.old.owed } }
     {
         for at in index..self.ring.len() {
             let Some(entry) = self.ring.get_mut(at) else {
@@ -89,7 +89,7 @@ impl<T: Drop, A: Allocator> Queue<T, A> {
         requires within { index ≤ length self.old.messages }
         requires owed { 0 < index → index < length self.old.messages
             → slice_index self.old.owed (index - 1) < slice_index self.old.owed index }
-        ensures { self.new ≡ left index self.old }
+        ensures { self.new ≡ without_reader index self.old }
     {
         // Names a field, so that the proof knows what holds of every queue.
         let _ = &self.ring;

@@ -1,15 +1,14 @@
--- The counts go on with the messages: one comes, and the first one goes.
-use Rattle.std.proofs.Common.{◌≡◌, ℕ, ◌+◌, ◌-◌, ◌<◌, ◌≤◌, [], ◌∷◌, ◌++◌, length, sym, ap, ◌∙◌, subst, arith, length-drop, length-append}
+-- The counts of a new store, and after a message came.
+use Rattle.std.proofs.Common.{◌≡◌, ℕ, ◌+◌, ◌-◌, ◌<◌, ◌≤◌, [], ◌∷◌, ◌++◌, length, sym, ◌∙◌, subst, arith, length-append}
 use Rattle.std.proofs.lemmas.Grind.{common_steps}
-use Rattle.std.proofs.lemmas.List.{get_or-drop}
 use Rattle.std.proofs.lemmas.Option.{none-some, slice_get_within, get_or_from_slice_get}
 use Rattle.std.specs.Prelude.{Result, Ok, Err, OnErr}
 use Rattle.std.specs.Option.{ForSome}
 use Rattle.std.specs.Ordering.{nat_cmp}
 use Rattle.std.specs.FinMap.{len, empty, insert, get-empty}
 use Rattle.bcast_model.specs.Control.{Cursors}
-use Rattle.bcast_queue.specs.Queue.{last_item, Queued, queued, without}
-use Rattle.bcast_store.specs.Sound.{IsSound, store_of, owing_at}
+use Rattle.bcast_queue.specs.Queue.{last_item, Queued, queue_with}
+use Rattle.bcast_store.specs.Sound.{IsSound, store_of}
 use Rattle.bcast_store.proofs.Owing.{all_owe, few_owe, reached}
 
 module _ {T : Type 0} where
@@ -42,23 +41,11 @@ module _ {T : Type 0} where
       }
 
   -- one receiver, and no message
-  pub sound_new : (first key room : ℕ) → IsSound {T = T} (queued first [] [] room) (insert empty key first)
+  pub sound_new : (first key room : ℕ) → IsSound {T = T} (queue_with first [] [] room) (insert empty key first)
   sound_new first key room =
       record {
         owed_by = λ i h. absurd (omega arith);
         reach = λ other cursor at. reached (first + 0) empty key first other cursor (λ r e f. absurd (none-some e (sym (get-empty nat_cmp r) ∙ f))) (omega arith) at;
-      }
-
-  -- ---- messages
-  pub sound_pop : (q : Queued T) (cursors : Cursors) → IsSound q cursors → 0 < length q.messages → IsSound (without 1 q) cursors
-  sound_pop q cursors s some =
-      let size = length-drop 1 q.messages in
-      record {
-        owed_by = λ i h.
-            let a = s.owed_by (1 + i) (omega (arith, size)) in
-            let e : q.front + (1 + i) ≡ (q.front + 1) + i = omega arith in
-            get_or-drop 1 q.owed i 0 ∙ a ∙ ap (owing_at cursors) e;
-        reach = λ key cursor at. let l = s.reach key cursor at in omega (arith, size);
       }
 
 pub on_err : {A E : Type 0} (r : Result A E) (P : Type 0) → P → OnErr r P

@@ -6,11 +6,11 @@ use Rattle.std.specs.FinMap.{nat_cmp-IsAntisymmetric}
 use Rattle.std.specs.Cmp.{nat_cmp_total, unsigned_tied}
 use Rattle.std.specs.FinSet as set
 use Rattle.std.specs.List.{AllByRecursion}
-use Rattle.bcast_model.specs.Listeners.{Listeners, AreInOrder, no_listeners, without, tell, consume, abandon, wait_again}
+use Rattle.bcast_model.specs.Listeners.{Listeners, AreInOrder, no_listeners, without, consume, abandon, wait_again}
 use Rattle.bcast_model.specs.ListenerId.{same_place}
 use Rattle.bcast_model.specs.Control.{Places as Used}
 use Rattle.bcast_model.proofs.Tests.{test_place}
-use Rattle.bcast_model.proofs.WaitingSends.{HasPlace, AreSends, sends_told, sends_inserted, sends_consumed, sends_abandoned, sends_waiting}
+use Rattle.bcast_model.proofs.WaitingSends.{HasPlace, AreSends, sends_inserted, sends_consumed, sends_abandoned, sends_waiting}
 use Rattle.bcast_waiting.specs.Event.{Event}
 use Rattle.bcast_waiting.specs.Lists.{Sends}
 use Rattle.bcast_waiting.specs.SendsInvariant.{IsSound, sends_of}
@@ -67,9 +67,6 @@ given_back change place p q e f now seen without is =
     ∙ ap (λ (s : Sends). record { places = set.remove s.places place; waiting = change s.waiting }) seen
 
 module _ (used : Used) (e : Event ℕ) (s : IsSound used e) where
-  pub sound_tell : (n : ℕ) → IsSound used (record e { listeners = tell n e.listeners })
-  sound_tell n = sound_of used (record e { listeners = tell n e.listeners }) (sends_told used n e.listeners (sends_in used e s)) s.room
-
   pub sound_wait : (place : ℕ) → HasPlace used place → IsSound used (record e { listeners = wait_again same_place place e.listeners })
   sound_wait place h = sound_of used (record e { listeners = wait_again same_place place e.listeners }) (sends_waiting used place e.listeners h (sends_in used e s)) s.room
 

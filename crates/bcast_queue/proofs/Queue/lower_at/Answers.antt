@@ -3,7 +3,7 @@ use Rattle.std.proofs.Common.{◌≡◌, ◌-◌, get_or, Some, map, set, ap, sy
 use Rattle.std.specs.Option.{option_copied_mut}
 use Rattle.std.specs.Prelude.{slice_get}
 use Rattle.std.proofs.lemmas.List.{length-map, length-set}
-use Rattle.bcast_queue.specs.Queue.{queued}
+use Rattle.bcast_queue.specs.Queue.{queue_with}
 use Rattle.bcast_queue.specs.Entries.{owed_of, message_of}
 use Rattle.bcast_queue.proofs.Owed.{RisesFrom-set}
 use Rattle.bcast_queue.proofs.Rings.{same_queue, IsSound-changed, messages-set, owed-set}
@@ -28,4 +28,4 @@ returns g c =
     (messages-set items c.args.index c.in-Some.entry.now (read g c))
     (owed-set items c.args.index c.in-Some.entry.now (read g c))
     refl
-    ∙ ap (λ q. queued q.front q.messages (set q.owed c.args.index (get_or q.owed c.args.index 0 - 1)) q.room) c.self.view_is
+    ∙ ap (λ q. queue_with q.front q.messages (set q.owed c.args.index (get_or q.owed c.args.index 0 - 1)) q.room) c.self.view_is

@@ -3,9 +3,9 @@ use Rattle.std.proofs.Common.{◌≡◌, ◌<◌, Some, length, get_or, map, ap,
 use Rattle.std.specs.Option.{option_copied_mut}
 use Rattle.std.specs.Prelude.{slice_get}
 use Rattle.std.proofs.lemmas.List.{length-map, get_or-map}
-use Rattle.bcast_queue.specs.Queue.{lowered, queued}
+use Rattle.bcast_queue.specs.Queue.{one_fewer_from, queue_with}
 use Rattle.bcast_queue.specs.Entries.{message_of, owed_of, queue_of}
-use Rattle.bcast_queue.proofs.Owed.{at_least, RisesFrom-lowered}
+use Rattle.bcast_queue.proofs.Owed.{at_least, RisesFrom-one_fewer_from}
 use Rattle.bcast_queue.proofs.Part.{changed_from, changed-start, changed-get, changed-read, changed-next, changed-end}
 use Rattle.bcast_queue.proofs.Rings.{fewer, IsSound-fewer, queue_of-fewer}
 use Rattle.bcast_queue.proofs.Queue.lower_from.Goals as goal
@@ -45,11 +45,11 @@ pub invariant_of-self : goal.invariant_of-self
 invariant_of-self g c =
     let items = c.self.inside.ring.items in
     let above = rw (← c.self.view_is) at c.requires.owed in
-    let rises = RisesFrom-lowered 1 c.args.index (map owed_of items) c.self.invariant.rises (λ h. above (omega (arith, h, length-map items owed_of, length-map items message_of))) in
+    let rises = RisesFrom-one_fewer_from 1 c.args.index (map owed_of items) c.self.invariant.rises (λ h. above (omega (arith, h, length-map items owed_of, length-map items message_of))) in
     rw c.loop-at.invariant.front (IsSound-fewer _ c.args.index c.self.inside.ring _ (end g c) c.self.invariant rises)
 
 pub returns : goal.returns
 returns g c =
     ap (λ front. queue_of front c.loop-at.self-inside.ring) c.loop-at.invariant.front
     ∙ queue_of-fewer _ c.args.index c.self.inside.ring _ (end g c)
-    ∙ ap (λ q. queued q.front q.messages (lowered c.args.index q.owed) q.room) c.self.view_is
+    ∙ ap (λ q. queue_with q.front q.messages (one_fewer_from c.args.index q.owed) q.room) c.self.view_is

@@ -3,7 +3,7 @@ use Rattle.std.proofs.Common.{◌≡◌, ◌<◌, Some, length, get_or, map, ap,
 use Rattle.std.specs.Option.{option_copied_mut}
 use Rattle.std.specs.Prelude.{slice_get}
 use Rattle.std.proofs.lemmas.List.{length-map, get_or-map}
-use Rattle.bcast_queue.specs.Queue.{shared}
+use Rattle.bcast_queue.specs.Queue.{with_reader}
 use Rattle.bcast_queue.specs.Entries.{owed_of, queue_of}
 use Rattle.bcast_queue.proofs.Owed.{at_most}
 use Rattle.bcast_queue.proofs.Part.{changed_from, changed-start, changed-get, changed-read, changed-next, changed-end}
@@ -49,4 +49,4 @@ pub returns : goal.returns
 returns g c =
     ap (λ front. queue_of front c.loop-at.self-inside.ring) c.loop-at.invariant.front
     ∙ queue_of-more _ c.args.index c.self.inside.ring _ (end g c)
-    ∙ ap (shared c.args.index) c.self.view_is
+    ∙ ap (with_reader c.args.index) c.self.view_is
