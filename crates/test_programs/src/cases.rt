@@ -76,8 +76,8 @@ pub fn listed_from(alloc: Global, traced: &Played) -> io::Result<Vec<u8>> {
     Ok(kept)
 }
 
-/// Plays `text` in small pieces, and without its last LF. Writes a line for each way that ends otherwise
-/// than `played`, or writes something else.
+/// Plays `text` in small pieces, and without its last LF. Writes a line for each way that ends
+/// otherwise than `played`, or writes something else.
 fn write_other_ways<W: Write>(
     alloc: Global,
     player: Player,
