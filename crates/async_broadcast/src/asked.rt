@@ -24,8 +24,8 @@ macro_rules! ask {
     };
 }
 
-/// Asks a call that never waits, and whose reply says nothing.
-macro_rules! tell {
+/// Makes a call that never waits, and whose reply says nothing.
+macro_rules! make {
     ($port:expr, $call:ident) => {
         match $port.ask(Call::$call, Wake::none()) {
             Reply::$call => {}
@@ -73,7 +73,7 @@ pub(crate) fn poll_send<T: Clone, S, P: Ask<T, S>>(
 pub(crate) fn end_send<T: Clone, S, P: Ask<T, S>>(port: &P, place: usize)
     ensures { P.gave port.now (Call.EndSend place) Reply.EndSend }
 {
-    tell!(port, EndSend(place))
+    make!(port, EndSend(place))
 }
 
 pub(crate) fn try_recv<T: Clone, S, P: Ask<T, S>>(
@@ -101,7 +101,7 @@ pub(crate) fn poll_future<T: Clone, S, P: Ask<T, S>>(
 pub(crate) fn end_future<T: Clone, S, P: Ask<T, S>>(port: &P, key: usize)
     ensures { P.gave port.now (Call.EndFuture key) Reply.EndFuture }
 {
-    tell!(port, EndFuture(key))
+    make!(port, EndFuture(key))
 }
 
 pub(crate) fn poll_recv<T: Clone, S, P: Ask<T, S>>(
@@ -149,13 +149,13 @@ pub(crate) fn set_capacity<T: Clone, S, P: Ask<T, S>>(
 pub(crate) fn set_overflow<T: Clone, S, P: Ask<T, S>>(port: &P, overflow: bool)
     ensures { P.gave port.now (Call.SetOverflow overflow) Reply.SetOverflow }
 {
-    tell!(port, SetOverflow(overflow))
+    make!(port, SetOverflow(overflow))
 }
 
 pub(crate) fn set_await_active<T: Clone, S, P: Ask<T, S>>(port: &P, await_active: bool)
     ensures { P.gave port.now (Call.SetAwaitActive await_active) Reply.SetAwaitActive }
 {
-    tell!(port, SetAwaitActive(await_active))
+    make!(port, SetAwaitActive(await_active))
 }
 
 pub(crate) fn new_sender<T: Clone, S, P: Ask<T, S>>(port: &P) -> Result<(), HandleError>
@@ -206,19 +206,19 @@ pub(crate) fn clone_receiver<T: Clone, S, P: Ask<T, S>>(
 pub(crate) fn drop_sender<T: Clone, S, P: Ask<T, S>>(port: &P)
     ensures { P.gave port.now Call.DropSender Reply.DropSender }
 {
-    tell!(port, DropSender)
+    make!(port, DropSender)
 }
 
 pub(crate) fn drop_inactive<T: Clone, S, P: Ask<T, S>>(port: &P)
     ensures { P.gave port.now Call.DropInactive Reply.DropInactive }
 {
-    tell!(port, DropInactive)
+    make!(port, DropInactive)
 }
 
 pub(crate) fn drop_receiver<T: Clone, S, P: Ask<T, S>>(port: &P, key: usize)
     ensures { P.gave port.now (Call.DropReceiver key) Reply.DropReceiver }
 {
-    tell!(port, DropReceiver(key))
+    make!(port, DropReceiver(key))
 }
 
 pub(crate) fn overflow<T: Clone, S, P: Ask<T, S>>(port: &P) -> bool
