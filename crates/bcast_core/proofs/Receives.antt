@@ -9,7 +9,7 @@ use Rattle.bcast_model.specs.declared.run.Reply.{Reply}
 use Rattle.bcast_model.specs.declared.run.Reply.TheVariants as reply
 use Rattle.bcast_model.specs.ListenerId.{Pair}
 use Rattle.bcast_model.specs.Control.{Control, pair_waits, cursor_of}
-use Rattle.bcast_model.specs.Receiving.{recv_answer, receive, skipped_to, is_empty_reply, listens, poll_receive, try_recv_reply}
+use Rattle.bcast_model.specs.Receiving.{recv_reply, receive, skipped_to, is_empty_reply, listens, poll_receive, try_recv_reply}
 use Rattle.bcast_model.specs.Legal.{IsReceived}
 use Rattle.bcast_model.specs.View.{View, kept_at}
 use Rattle.bcast_model.specs.Laws.{IsValidView}
@@ -37,7 +37,7 @@ module _ {T : Type 0} where
   empty_exactly exact answer (inr (o, inl clone)) = ap (λ r. is_empty_reply (answer_of exact r)) clone.reply ∙ sym (ap is_empty_reply clone.exactly)
   empty_exactly exact answer (inr (o, inr is)) = ap (λ r. is_empty_reply (answer_of exact r)) is
 
-  found_none : (closed : Bool) (o : Option T) → is_empty_reply (recv_answer closed o) ≡ true → o ≡ None
+  found_none : (closed : Bool) (o : Option T) → is_empty_reply (recv_reply closed o) ≡ true → o ≡ None
   found_none closed None e = refl
   found_none closed (Some msg) e = cc
 
@@ -47,7 +47,7 @@ module _ {T : Type 0} where
   -- a receive that finds nothing is at the end
   pub empty_at : (v : View T) (at : Option ℕ) → IsValidView v → is_empty_reply (try_recv_reply v at) ≡ true → (cursor : ℕ) × (at ≡ Some cursor) × (v.front ≤ cursor) × (v.end ≤ cursor)
   empty_at v None valid e = cc
-  empty_at v (Some cursor) valid e = elim (nat_lt cursor v.front) as (λ b. nat_lt cursor v.front ≡ b → is_empty_reply (cond b (Err (unread.Overflowed (v.front - cursor))) (recv_answer v.control.closed (kept_at v cursor))) ≡ true → (c : ℕ) × (Some cursor ≡ Some c) × (v.front ≤ c) × (v.end ≤ c)) [
+  empty_at v (Some cursor) valid e = elim (nat_lt cursor v.front) as (λ b. nat_lt cursor v.front ≡ b → is_empty_reply (cond b (Err (unread.Overflowed (v.front - cursor))) (recv_reply v.control.closed (kept_at v cursor))) ≡ true → (c : ℕ) × (Some cursor ≡ Some c) × (v.front ≤ c) × (v.end ≤ c)) [
     | true ↦ λ _ e. cc
     | false ↦ λ t e.
         let none = found_none v.control.closed (kept_at v cursor) e in

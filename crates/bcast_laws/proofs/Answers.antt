@@ -12,7 +12,7 @@ use Rattle.bcast_model.specs.ListenerId.{Pair, stream_of, future_of}
 use Rattle.bcast_model.specs.Control.{Control, pair_waits, pair_answered, cursor_of}
 use Rattle.bcast_model.specs.View.{View, kept_at, sends_are_ready}
 use Rattle.bcast_model.specs.Effect.{Effect, sets}
-use Rattle.bcast_model.specs.Receiving.{receive, listens, skipped_to, poll_receive, is_empty_reply, recv_answer, try_recv_reply}
+use Rattle.bcast_model.specs.Receiving.{receive, listens, skipped_to, poll_receive, is_empty_reply, recv_reply, try_recv_reply}
 use Rattle.bcast_model.specs.Effects.{set_unless_refused, effect}
 use Rattle.bcast_model.specs.History.{History, view_of, remember, front_number, numbered}
 use Rattle.bcast_model.specs.Next.{found_no_memory, may_tell, next}
@@ -42,13 +42,13 @@ module _ {T : Type 0} where
   lagging_answer : (v : View T) (cursor : ℕ) → cursor < v.front → try_recv_reply v (Some cursor) ≡ Err (unread.Overflowed (v.front - cursor))
   lagging_answer v cursor lags =
       let test : nat_lt cursor v.front ≡ true = grind (arith, common_steps, lags) in
-      ap (λ b. cond b (Err (unread.Overflowed (v.front - cursor))) (recv_answer v.control.closed (kept_at v cursor))) test
+      ap (λ b. cond b (Err (unread.Overflowed (v.front - cursor))) (recv_reply v.control.closed (kept_at v cursor))) test
 
-  passed_answer : (h : History T) (cursor : ℕ) → h.first ≤ h.floor → front_number h ≤ cursor → try_recv_reply (view_of h) (Some cursor) ≡ recv_answer h.control.closed (numbered h cursor)
+  passed_answer : (h : History T) (cursor : ℕ) → h.first ≤ h.floor → front_number h ≤ cursor → try_recv_reply (view_of h) (Some cursor) ≡ recv_reply h.control.closed (numbered h cursor)
   passed_answer h cursor low passed =
       let test : nat_lt cursor (front_number h) ≡ false = grind (arith, common_steps, passed) in
-      ap (λ b. cond b (Err (unread.Overflowed (front_number h - cursor))) (recv_answer h.control.closed (kept_at (view_of h) cursor))) test
-      ∙ ap (recv_answer h.control.closed) (sym (numbered-queue h cursor (first_under h low) passed))
+      ap (λ b. cond b (Err (unread.Overflowed (front_number h - cursor))) (recv_reply h.control.closed (kept_at (view_of h) cursor))) test
+      ∙ ap (recv_reply h.control.closed) (sym (numbered-queue h cursor (first_under h low) passed))
 
   module _ (h other : History T) (key : ℕ) (low : h.first ≤ h.floor) (shared : ShareMessages h other) where
     same_number : (n : ℕ) → numbered other n ≡ numbered h n
@@ -67,7 +67,7 @@ module _ {T : Type 0} where
               let same : front_number other ≡ front_number h = omega (arith, floor, there, here, lags) in
               lagging_answer (view_of other) cursor (omega (arith, floor, lags)) ∙ ap (λ n. Err (unread.Overflowed (n - cursor))) same ∙ sym (lagging_answer (view_of h) cursor (omega (arith, lags)))
           | inr passed ↦
-              let same : recv_answer other.control.closed (numbered other cursor) ≡ recv_answer h.control.closed (numbered h cursor) = λ i. recv_answer (shared.closed i) (same_number cursor i) in
+              let same : recv_reply other.control.closed (numbered other cursor) ≡ recv_reply h.control.closed (numbered h cursor) = λ i. recv_reply (shared.closed i) (same_number cursor i) in
               passed_answer other cursor (omega (arith, floor, first, low)) (omega (arith, floor, there, passed)) ∙ same ∙ sym (passed_answer h cursor low (omega (arith, here, passed)))
         ]
 

@@ -11,7 +11,7 @@ use Rattle.bcast_model.specs.declared.run.Reply.TheVariants as reply
 use Rattle.bcast_model.specs.Control.{with_cursor, cursor_of}
 use Rattle.bcast_model.specs.View.{View, kept_at, sends_are_ready}
 use Rattle.bcast_model.specs.Effect.{sets}
-use Rattle.bcast_model.specs.Receiving.{receive, recv_answer, try_recv_reply}
+use Rattle.bcast_model.specs.Receiving.{receive, recv_reply, try_recv_reply}
 use Rattle.bcast_model.specs.Effects.{effect}
 use Rattle.bcast_model.specs.History.{History, view_of, remember, front_number, end_number, queue_of}
 use Rattle.bcast_model.specs.Next.{may_tell, next}
@@ -23,7 +23,7 @@ use Rattle.bcast_model.proofs.DeliveryMaps.{inserted}
 use Rattle.bcast_model.proofs.TilingFront.{front-le-cursor}
 
 module _ {T : Type 0} where
-  missed : (closed : Bool) (o : Option T) (n : ℕ) → ◌≡◌ {A = Result T TryRecvError} (recv_answer closed o) (Err (unread.Overflowed n)) → ⊥
+  missed : (closed : Bool) (o : Option T) (n : ℕ) → ◌≡◌ {A = Result T TryRecvError} (recv_reply closed o) (Err (unread.Overflowed n)) → ⊥
   missed closed (Some msg) n e = cc
   missed true None n e = cc
   missed false None n e = cc
@@ -41,12 +41,12 @@ module _ {T : Type 0} where
   lags_at : (v : View T) (key n : ℕ) (cursor : Option ℕ) → cursor_of v.control key ≡ cursor → try_recv_reply v cursor ≡ Err (unread.Overflowed n) → Lags v key n
   lags_at v key n None at e = absurd (missed true None n e)
   lags_at v key n (Some cursor) at e =
-      elim (nat_lt cursor v.front) as (λ b. nat_lt cursor v.front ≡ b → cond b (Err (unread.Overflowed (v.front - cursor))) (recv_answer v.control.closed (kept_at v cursor)) ≡ Err (unread.Overflowed n) → Lags v key n) [
+      elim (nat_lt cursor v.front) as (λ b. nat_lt cursor v.front ≡ b → cond b (Err (unread.Overflowed (v.front - cursor))) (recv_reply v.control.closed (kept_at v cursor)) ≡ Err (unread.Overflowed n) → Lags v key n) [
         | true ↦ λ t e. record { cursor = cursor; at = at; low = grind (arith, common_steps, t); count = same_count (v.front - cursor) n e }
         | false ↦ λ t e. absurd (missed v.control.closed (kept_at v cursor) n e)
       ] refl e
 
-  finds : (closed : Bool) (items : List T) (index : ℕ) (o : Option T) → index < length items → slice_get items index ≡ o → IsOk (recv_answer closed o)
+  finds : (closed : Bool) (items : List T) (index : ℕ) (o : Option T) → index < length items → slice_get items index ≡ o → IsOk (recv_reply closed o)
   finds closed items index (Some msg) within is = refl
   finds closed items index None within is = let past = past_end items index is in absurd (omega (arith, past, within))
 
@@ -68,7 +68,7 @@ module _ {T : Type 0} where
         let low = valid.floor_low in
         let there : front_number h - front_number left_at_front < length (queue_of left_at_front) = omega (arith, size, all, within, under, low) in
         subst (λ o. IsOk (try_recv_reply (view_of left_at_front) o)) (sym at)
-        (subst (λ b. IsOk (cond b (Err (unread.Overflowed (front_number left_at_front - front_number h))) (recv_answer h.control.closed (kept_at (view_of left_at_front) (front_number h))))) (sym here)
+        (subst (λ b. IsOk (cond b (Err (unread.Overflowed (front_number left_at_front - front_number h))) (recv_reply h.control.closed (kept_at (view_of left_at_front) (front_number h))))) (sym here)
         (finds h.control.closed (queue_of left_at_front) (front_number h - front_number left_at_front) (kept_at (view_of left_at_front) (front_number h)) there refl))
 
     finds_next : (n : ℕ) → Lags (view_of h) key n → Finds (next h (call.TryRecv key) (reply.TryRecv (Ok (Err (unread.Overflowed n)))))
@@ -80,8 +80,8 @@ module _ {T : Type 0} where
         let is : receive (front_number h) (end_number h) h.control key (cursor_of h.control key) ≡ with_cursor h.control key (front_number h) =
         ap (receive (front_number h) (end_number h) h.control key) lags.at
         ∙ ap (λ b. cond b (with_cursor h.control key (front_number h)) (cond (nat_lt lags.cursor (end_number h)) (with_cursor h.control key (lags.cursor + 1)) h.control)) test in
-        let recv_answer = subst Finds (sym (ap (λ c. remember h (sets c)) is)) (finds_at_front (lagging (view_of h) (valid_view h valid) key lags.cursor lags.at lags.low)) in
-        tell_is Finds (may_tell h.control (sends_are_ready (view_of h)) asked) (remember h (effect (view_of h) asked r)) (λ _. recv_answer) (λ _. recv_answer)
+        let recv_reply = subst Finds (sym (ap (λ c. remember h (sets c)) is)) (finds_at_front (lagging (view_of h) (valid_view h valid) key lags.cursor lags.at lags.low)) in
+        tell_is Finds (may_tell h.control (sends_are_ready (view_of h)) asked) (remember h (effect (view_of h) asked r)) (λ _. recv_reply) (λ _. recv_reply)
 
   pub missed_finds : (h : History T) (key n : ℕ) → IsValid h → try_recv_reply (view_of h) (cursor_of h.control key) ≡ Err (unread.Overflowed n)
       → let after = next h (call.TryRecv key) (reply.TryRecv (Ok (Err (unread.Overflowed n)))) in (1 ≤ n) × IsOk (try_recv_reply (view_of after) (cursor_of after.control key))

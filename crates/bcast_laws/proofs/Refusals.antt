@@ -14,7 +14,7 @@ use Rattle.bcast_model.specs.Control.{Control, tell_a_sender, closing, with_curs
 use Rattle.bcast_model.specs.View.{View, kept_at, sends_are_ready}
 use Rattle.bcast_model.specs.Effect.{Effect, sets}
 use Rattle.bcast_model.specs.Sending.{refusal, reply_to_try, reply_to_attempt, handed_back, accept_unless}
-use Rattle.bcast_model.specs.Receiving.{receive, recv_answer, skipped_count, skipped_to, future_reply, stream_reply, next_reply, try_recv_reply, IsOwed}
+use Rattle.bcast_model.specs.Receiving.{receive, recv_reply, skipped_count, skipped_to, future_reply, stream_reply, next_reply, try_recv_reply, IsOwed}
 use Rattle.bcast_model.specs.Legal.{Legal, IsReceived, count_reply}
 use Rattle.bcast_model.specs.Effects.{set_unless_refused, effect}
 use Rattle.bcast_model.specs.History.{History, view_of, remember, with_control}
@@ -69,7 +69,7 @@ module _ {T : Type 0} where
   same_attempt v msg await back (Some error) e = refl
 
   -- ---- receives
-  same_found : (v : View T) (key cursor : ℕ) (o : Option T) → v.end ≡ v.front + length v.queue → v.front ≤ cursor → kept_at v cursor ≡ o → is_refused {T = T} (reply.TryRecv (Ok (recv_answer v.control.closed o))) ≡ true
+  same_found : (v : View T) (key cursor : ℕ) (o : Option T) → v.end ≡ v.front + length v.queue → v.front ≤ cursor → kept_at v cursor ≡ o → is_refused {T = T} (reply.TryRecv (Ok (recv_reply v.control.closed o))) ≡ true
       → cond (nat_lt cursor v.end) (with_cursor v.control key (cursor + 1)) v.control ≡ v.control
   same_found v key cursor (Some msg) size low is e = apart e
   same_found v key cursor None size low is e =
@@ -81,7 +81,7 @@ module _ {T : Type 0} where
   same_receive v key None valid e = refl
   same_receive v key (Some cursor) valid e =
       elim (nat_lt cursor v.front) as (λ b. nat_lt cursor v.front ≡ b
-      → is_refused (reply.TryRecv (Ok (cond b (Err (unread.Overflowed (v.front - cursor))) (recv_answer v.control.closed (kept_at v cursor))))) ≡ true
+      → is_refused (reply.TryRecv (Ok (cond b (Err (unread.Overflowed (v.front - cursor))) (recv_reply v.control.closed (kept_at v cursor))))) ≡ true
       → cond b (with_cursor v.control key v.front) (cond (nat_lt cursor v.end) (with_cursor v.control key (cursor + 1)) v.control) ≡ v.control) [
         | true ↦ λ t e. apart e
         | false ↦ λ t e. same_found v key cursor (kept_at v cursor) valid.end (grind (arith, common_steps, t)) refl e

@@ -11,7 +11,7 @@ use Rattle.bcast_model.specs.declared.run.Reply.TheVariants as reply
 use Rattle.bcast_model.specs.Control.{cursor_of}
 use Rattle.bcast_model.specs.View.{View, kept_at}
 use Rattle.bcast_model.specs.Valid.{IsValidView}
-use Rattle.bcast_model.specs.Receiving.{IsOwed, recv_answer, skipped_count, skipped_to, future_reply, stream_reply, next_reply, try_recv_reply}
+use Rattle.bcast_model.specs.Receiving.{IsOwed, recv_reply, skipped_count, skipped_to, future_reply, stream_reply, next_reply, try_recv_reply}
 use Rattle.bcast_model.specs.Legal.{Legal, IsReceived}
 use Rattle.bcast_laws.specs.Closing.{AnswersClosed}
 use Rattle.bcast_laws.proofs.Kept.{empty}
@@ -27,8 +27,8 @@ module _ {T : Type 0} where
   closed_at : (v : View T) (cursor : ℕ) → IsValidView v → v.control.closed ≡ true → v.end ≤ cursor → try_recv_reply v (Some cursor) ≡ Err unread.Closed
   closed_at v cursor valid closed past =
       let here : nat_lt cursor v.front ≡ false = (let high = valid.high in grind (arith, common_steps, high, past)) in
-      ap (λ b. cond b (Err (unread.Overflowed (v.front - cursor))) (recv_answer v.control.closed (kept_at v cursor))) here
-      ∙ ap (recv_answer v.control.closed) (slice_get_past v.queue (cursor - v.front) (omega (arith, past, valid.end)))
+      ap (λ b. cond b (Err (unread.Overflowed (v.front - cursor))) (recv_reply v.control.closed (kept_at v cursor))) here
+      ∙ ap (recv_reply v.control.closed) (slice_get_past v.queue (cursor - v.front) (omega (arith, past, valid.end)))
       ∙ ap (λ b. Err (cond b unread.Closed unread.Empty)) closed
 
   record IsTerminated (v : View T) : Type 0 where

@@ -10,7 +10,7 @@ use Rattle.bcast_model.specs.declared.error.TryRecvError.TheVariants as unread
 use Rattle.bcast_model.specs.Control.{Cursors, with_cursor, cursor_of}
 use Rattle.bcast_model.specs.History.{History, view_of, front_number, end_number, numbered}
 use Rattle.bcast_model.specs.View.{kept_at}
-use Rattle.bcast_model.specs.Receiving.{receive, recv_answer, try_recv_reply}
+use Rattle.bcast_model.specs.Receiving.{receive, recv_reply, try_recv_reply}
 use Rattle.bcast_model.specs.Legal.{IsGiven}
 use Rattle.bcast_model.proofs.Views.{numbered-queue, first_under}
 use Rattle.bcast_model.proofs.DeliveryMaps.{inserted}
@@ -85,7 +85,7 @@ module _ {T : Type 0} where
   same_Ok : (x y : T) → ◌≡◌ {A = Result T TryRecvError} (Ok x) (Ok y) → x ≡ y
   same_Ok x y e = cc
 
-  nothing_found : (skips : ℕ) (closed : Bool) → entries_of skips (recv_answer closed None) ≡ []
+  nothing_found : (skips : ℕ) (closed : Bool) → entries_of skips (recv_reply closed None) ≡ []
   nothing_found skips true = refl
   nothing_found skips false = refl
 
@@ -104,7 +104,7 @@ module _ {T : Type 0} where
       grind (arith, common_steps, within, low)
 
   gives_found : {is_clone : T → T → Type 0} (h : History T) (key cursor skips : ℕ) (answer : Result T TryRecvError) (o : Option T) → h.first ≤ h.floor → cursor_of h.control key ≡ Some cursor
-      → front_number h ≤ cursor + skips → (skips ≡ 0) ⊎ (cursor + skips ≡ front_number h) → numbered h (cursor + skips) ≡ o → IsAnswer is_clone (recv_answer h.control.closed o) answer
+      → front_number h ≤ cursor + skips → (skips ≡ 0) ⊎ (cursor + skips ≡ front_number h) → numbered h (cursor + skips) ≡ o → IsAnswer is_clone (recv_reply h.control.closed o) answer
       → Gives is_clone h key cursor (cond (nat_lt (cursor + skips) (end_number h)) (with_cursor h.control key (cursor + skips + 1)) h.control).cursors (entries_of skips answer)
   gives_found {is_clone = is_clone} h key cursor skips answer None low is from exact there (inl e) =
       let past : nat_lt (cursor + skips) (end_number h) ≡ false = numbered_past h (cursor + skips) (omega arith) there in
@@ -122,7 +122,7 @@ module _ {T : Type 0} where
       → Gives is_clone h key cursor (receive (front_number h) (end_number h) h.control key (Some (cursor + skips))).cursors (entries_of skips answer)
   gives_answer {is_clone = is_clone} h key cursor skips answer low is exact given =
       elim (nat_lt (cursor + skips) (front_number h)) as (λ b. nat_lt (cursor + skips) (front_number h) ≡ b
-      → IsAnswer is_clone (cond b (Err (unread.Overflowed (front_number h - (cursor + skips)))) (recv_answer h.control.closed (kept_at (view_of h) (cursor + skips)))) answer
+      → IsAnswer is_clone (cond b (Err (unread.Overflowed (front_number h - (cursor + skips)))) (recv_reply h.control.closed (kept_at (view_of h) (cursor + skips)))) answer
       → Gives is_clone h key cursor (cond b (with_cursor h.control key (front_number h)) (cond (nat_lt (cursor + skips) (end_number h)) (with_cursor h.control key (cursor + skips + 1)) h.control)).cursors (entries_of skips answer)) [
         | true ↦ λ t given.
             let lags : cursor + skips < front_number h = grind (arith, common_steps, t) in

@@ -12,7 +12,7 @@ use Rattle.bcast_model.specs.declared.run.Reply.TheVariants as reply
 use Rattle.bcast_model.specs.ListenerId.{stream_of, future_of}
 use Rattle.bcast_model.specs.Control.{Cursors, cursor_of}
 use Rattle.bcast_model.specs.History.{History, view_of, front_number, end_number}
-use Rattle.bcast_model.specs.Receiving.{receive, recv_answer, recv_answer_at, try_recv_reply, is_empty_reply, skipped_count, skipped_to, future_reply, stream_reply, next_reply, IsOwed}
+use Rattle.bcast_model.specs.Receiving.{receive, recv_reply, recv_reply_at, try_recv_reply, is_empty_reply, skipped_count, skipped_to, future_reply, stream_reply, next_reply, IsOwed}
 use Rattle.bcast_model.specs.Legal.{Legal, IsReceived}
 use Rattle.bcast_model.specs.View.{kept_at}
 use Rattle.bcast_model.specs.Effects.{effect}
@@ -56,12 +56,12 @@ module _ {T : Type 0} where
   given_by-next skips (Err unread.Closed) reached = refl
 
   -- from the front on nothing is missed
-  found_reached : (closed : Bool) (o : Option T) (n : ℕ) → recv_answer closed o ≡ Err (unread.Overflowed n) → ⊥
+  found_reached : (closed : Bool) (o : Option T) (n : ℕ) → recv_reply closed o ≡ Err (unread.Overflowed n) → ⊥
   found_reached closed (Some msg) n e = cc
   found_reached true None n e = cc
   found_reached false None n e = cc
 
-  received_reached : (closed : Bool) (front : ℕ) (message : ℕ → Option T) (cursor n : ℕ) → front ≤ cursor → recv_answer_at closed front message (Some cursor) ≡ Err (unread.Overflowed n) → ⊥
+  received_reached : (closed : Bool) (front : ℕ) (message : ℕ → Option T) (cursor n : ℕ) → front ≤ cursor → recv_reply_at closed front message (Some cursor) ≡ Err (unread.Overflowed n) → ⊥
   received_reached closed front message cursor n low e =
       let past : nat_lt cursor front ≡ false = grind (arith, common_steps, low) in
       found_reached closed (message cursor) n (rw past at e)

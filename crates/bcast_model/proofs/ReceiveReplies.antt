@@ -7,20 +7,20 @@ use Rattle.bcast_model.specs.declared.error.TryRecvError.TheVariants as unread
 use Rattle.bcast_model.specs.declared.run.Call.TheVariants as call
 use Rattle.bcast_model.specs.declared.run.Reply.{Reply}
 use Rattle.bcast_model.specs.declared.run.Reply.TheVariants as reply
-use Rattle.bcast_model.specs.Receiving.{recv_answer, skipped_count, skipped_to, future_reply, stream_reply, next_reply, IsOwed, try_recv_reply}
+use Rattle.bcast_model.specs.Receiving.{recv_reply, skipped_count, skipped_to, future_reply, stream_reply, next_reply, IsOwed, try_recv_reply}
 use Rattle.bcast_model.specs.Legal.{IsGiven, IsReceived, Legal}
 use Rattle.bcast_model.specs.View.{View}
 use Rattle.bcast_model.specs.Control.{cursor_of}
 use Rattle.bcast_model.specs.Laws.{IsGivenFrom}
 
 module _ {T : Type 0} where
-  found_message : (closed : Bool) (o : Option T) (msg : T) → recv_answer closed o ≡ Ok msg → o ≡ Some msg
+  found_message : (closed : Bool) (o : Option T) (msg : T) → recv_reply closed o ≡ Ok msg → o ≡ Some msg
   found_message closed (Some other) msg e = cc
   found_message closed None msg e = cc
 
   kept_message : (v : View T) (cursor : Option ℕ) (msg : T) → try_recv_reply v cursor ≡ Ok msg → (index : ℕ) × (slice_get v.queue index ≡ Some msg)
   kept_message v None msg e = cc
-  kept_message v (Some cursor) msg e = elim (nat_lt cursor v.front) as (λ b. cond b (Err (unread.Overflowed (v.front - cursor))) (recv_answer v.control.closed (slice_get v.queue (cursor - v.front))) ≡ Ok msg → (index : ℕ) × (slice_get v.queue index ≡ Some msg)) [
+  kept_message v (Some cursor) msg e = elim (nat_lt cursor v.front) as (λ b. cond b (Err (unread.Overflowed (v.front - cursor))) (recv_reply v.control.closed (slice_get v.queue (cursor - v.front))) ≡ Ok msg → (index : ℕ) × (slice_get v.queue index ≡ Some msg)) [
     | true ↦ λ e. cc
     | false ↦ λ e. (cursor - v.front, found_message v.control.closed (slice_get v.queue (cursor - v.front)) msg e)
   ] e

@@ -10,7 +10,7 @@ use Rattle.bcast_model.specs.declared.run.Reply.{Reply}
 use Rattle.bcast_model.specs.Listeners.{consume, wait_again}
 use Rattle.bcast_model.specs.ListenerId.{Pair, same_pair}
 use Rattle.bcast_model.specs.Control.{Control, Cursors, with_cursor}
-use Rattle.bcast_model.specs.Receiving.{receive, listens, skipped_to, recv_answer, is_empty_reply, poll_receive, try_recv_reply}
+use Rattle.bcast_model.specs.Receiving.{receive, listens, skipped_to, recv_reply, is_empty_reply, poll_receive, try_recv_reply}
 use Rattle.bcast_model.specs.Next.{found_no_memory}
 use Rattle.bcast_model.specs.View.{View, sends_are_ready}
 use Rattle.bcast_model.specs.Effect.{sets}
@@ -39,13 +39,13 @@ pub record IsEmptyAt {T : Type 0} (v : View T) (cursor : ℕ) : Type 0 where
   pub is_open : v.control.closed ≡ false
 
 module _ {T : Type 0} where
-  found_none : (closed : Bool) (o : Option T) → is_empty_reply (recv_answer closed o) ≡ true → (o ≡ None) × (closed ≡ false)
+  found_none : (closed : Bool) (o : Option T) → is_empty_reply (recv_reply closed o) ≡ true → (o ≡ None) × (closed ≡ false)
   found_none closed (Some msg) e = cc
   found_none true None e = cc
   found_none false None e = (refl, refl)
 
   pub empty_at : (v : View T) (cursor : ℕ) → is_empty_reply (try_recv_reply v (Some cursor)) ≡ true → IsEmptyAt v cursor
-  empty_at v cursor e = elim (nat_lt cursor v.front) as (λ b. nat_lt cursor v.front ≡ b → is_empty_reply (cond b (Err (unread.Overflowed (v.front - cursor))) (recv_answer v.control.closed (slice_get v.queue (cursor - v.front)))) ≡ true → IsEmptyAt v cursor) [
+  empty_at v cursor e = elim (nat_lt cursor v.front) as (λ b. nat_lt cursor v.front ≡ b → is_empty_reply (cond b (Err (unread.Overflowed (v.front - cursor))) (recv_reply v.control.closed (slice_get v.queue (cursor - v.front)))) ≡ true → IsEmptyAt v cursor) [
     | true ↦ λ t e. cc
     | false ↦ λ t e. (let f = found_none v.control.closed (slice_get v.queue (cursor - v.front)) e in record { kept = grind (arith, common_steps, t); read = past_end v.queue (cursor - v.front) f.0; is_open = f.1 })
   ] refl e

@@ -16,7 +16,7 @@ use Rattle.bcast_model.specs.declared.run.Reply.TheVariants as reply
 use Rattle.bcast_model.specs.Control.{Control, cursor_of, with_cursor}
 use Rattle.bcast_model.specs.Effect.{sets}
 use Rattle.bcast_model.specs.Handles.{clone_receiver}
-use Rattle.bcast_model.specs.Receiving.{IsOwed, recv_answer, receive, try_recv_reply}
+use Rattle.bcast_model.specs.Receiving.{IsOwed, recv_reply, receive, try_recv_reply}
 use Rattle.bcast_model.specs.Legal.{ClonesEqual}
 use Rattle.bcast_model.specs.Steps.{settle}
 use Rattle.bcast_model.specs.View.{View, kept_at}
@@ -60,14 +60,14 @@ module _ {T : Type 0} where
         subst (λ u. Reads v u key (item_of (try_recv_reply v cursor))) (sym (settle_idle v valid))
         (subst (Reads v v key) (sym none) (record { log = log; first = tt; none = empty; others = λ other differs. refl; readers = λ other is. is }))
 
-    item_found : (closed : Bool) (o : Option T) → item_of (recv_answer closed o) ≡ o
+    item_found : (closed : Bool) (o : Option T) → item_of (recv_reply closed o) ≡ o
     item_found closed (Some item) = refl
     item_found closed None = refl
 
     item_at : (cursor : ℕ) → v.front ≤ cursor → item_of (try_recv_reply v (Some cursor)) ≡ kept_at v cursor
     item_at cursor low =
         let ahead : nat_lt cursor v.front ≡ false = grind (arith, common_steps, low) in
-        ap (λ b. item_of (cond b (Err (unread_error.Overflowed (v.front - cursor))) (recv_answer v.control.closed (kept_at v cursor)))) ahead ∙ item_found v.control.closed (kept_at v cursor)
+        ap (λ b. item_of (cond b (Err (unread_error.Overflowed (v.front - cursor))) (recv_reply v.control.closed (kept_at v cursor)))) ahead ∙ item_found v.control.closed (kept_at v cursor)
 
     -- the first of what is unread is read
     reads_first : (cursor : ℕ) → get v.control.cursors key ≡ Some cursor → v.front ≤ cursor → cursor < v.end → Leaves (Some cursor) (with_cursor v.control key (cursor + 1))

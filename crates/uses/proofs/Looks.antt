@@ -10,7 +10,7 @@ use Rattle.bcast_model.specs.declared.run.Call.TheVariants as call
 use Rattle.bcast_model.specs.declared.run.Reply.{Reply}
 use Rattle.bcast_model.specs.declared.run.Reply.TheVariants as reply
 use Rattle.bcast_model.specs.Control.{cursor_of}
-use Rattle.bcast_model.specs.Receiving.{recv_answer, skipped_count, skipped_to, next_reply, IsOwed, try_recv_reply}
+use Rattle.bcast_model.specs.Receiving.{recv_reply, skipped_count, skipped_to, next_reply, IsOwed, try_recv_reply}
 use Rattle.bcast_model.specs.Legal.{IsGiven, IsReceived}
 use Rattle.bcast_model.specs.View.{View, kept_at}
 use Rattle.bcast_model.specs.Answers.{Answers}
@@ -70,13 +70,13 @@ module _ {S : Type 0} where
     no_change true k = refl
     no_change false k = refl
 
-    exactly : (cursor : ℕ) → try_recv_reply v (Some (max cursor v.front)) ≡ recv_answer v.control.closed (kept_at v (max cursor v.front))
+    exactly : (cursor : ℕ) → try_recv_reply v (Some (max cursor v.front)) ≡ recv_reply v.control.closed (kept_at v (max cursor v.front))
     exactly cursor =
         let ahead : nat_lt (max cursor v.front) v.front ≡ false = grind (arith, common_steps) in
-        ap (λ b. cond b (Err (unread.Overflowed (v.front - max cursor v.front))) (recv_answer v.control.closed (kept_at v (max cursor v.front)))) ahead
+        ap (λ b. cond b (Err (unread.Overflowed (v.front - max cursor v.front))) (recv_reply v.control.closed (kept_at v (max cursor v.front)))) ahead
 
     found_by : (cursor : ℕ) (polled : Poll (Option (S × ℕ))) (answer : Result S TryRecvError) (message : Option S) → cursor_of v.control key ≡ Some cursor → kept_at v (max cursor v.front) ≡ message
-        → polled ≡ next_reply (v.front - cursor) answer → IsAnswer is_clone (recv_answer v.control.closed message) answer → Finds polled
+        → polled ≡ next_reply (v.front - cursor) answer → IsAnswer is_clone (recv_reply v.control.closed message) answer → Finds polled
     found_by cursor polled answer (Some latest) at is e from =
         let fits = valid.fits in
         let room = config.capacity in

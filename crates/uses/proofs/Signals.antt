@@ -12,7 +12,7 @@ use Rattle.bcast_model.specs.declared.run.Reply.TheVariants as reply
 use Rattle.bcast_model.specs.Control.{cursor_of}
 use Rattle.bcast_model.specs.Effect.{sets}
 use Rattle.bcast_model.specs.Effects.{effect}
-use Rattle.bcast_model.specs.Receiving.{recv_answer, receive, try_recv_reply}
+use Rattle.bcast_model.specs.Receiving.{recv_reply, receive, try_recv_reply}
 use Rattle.bcast_model.specs.View.{View}
 use Rattle.bcast_model.specs.Answers.{Answers}
 use Rattle.bcast_model.specs.Laws.{IsValidView}
@@ -25,7 +25,7 @@ use Rattle.uses.proofs.Cursors.{some_insert}
 abbrev Nothing : Type 0
 Nothing = Unit {0}
 
-closed_found : (closed : Bool) → is_closed_reply (Ok (recv_answer {T = Nothing} closed None)) ≡ closed
+closed_found : (closed : Bool) → is_closed_reply (Ok (recv_reply {T = Nothing} closed None)) ≡ closed
 closed_found true = refl
 closed_found false = refl
 

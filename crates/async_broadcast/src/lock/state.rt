@@ -206,7 +206,7 @@ impl<T: Clone, A: Allocator + Copy> State<T, A> {
         ensures shows { IfOk result (λ snapshot. Shows T.is_clone snapshot self.now.inner) }
         ensures valid { IfOk result (λ snapshot. ShowsSomeState T.is_clone snapshot) }
     {
-        self.inner.known();
+        self.inner.invariant_holds();
         let snapshot = self.inner.snapshot(alloc)?;
         Ok(snapshot)
     }
