@@ -74,13 +74,13 @@ fn call_of(step: Step, refuses: &Refuses) -> Result<Call<Fragile>, AllocError>
     })
 }
 
-fn answer_of(reply: Reply<Fragile>) -> Answer {
+fn answer_of(reply: &Reply<Fragile>) -> Answer {
     match reply {
         Reply::SetOverflow => Answer::Done,
-        Reply::CloneReceiver(Ok(key)) => Answer::Receiver(key),
+        Reply::CloneReceiver(Ok(key)) => Answer::Receiver(*key),
         Reply::TryBroadcast(Ok(_)) => Answer::Sent,
         Reply::TryRecv(Ok(Ok(msg))) => Answer::Message(msg.number),
-        Reply::TryRecv(Ok(Err(TryRecvError::Overflowed(missed)))) => Answer::Missed(missed),
+        Reply::TryRecv(Ok(Err(TryRecvError::Overflowed(missed)))) => Answer::Missed(*missed),
         Reply::PollRecv(Ok(Poll::Ready(Some(Ok(msg))))) => Answer::Message(msg.number),
         Reply::TryRecv(Err(_)) | Reply::PollRecv(Err(_)) | Reply::PollNext(Err(_)) => {
             Answer::NoMemory
@@ -119,7 +119,7 @@ const ROWS: &[(&str, &[(bool, Step, Answer)])] = &[
 
 fn ask(inner: &mut Channel, call: Step, refuses: &Refuses) -> Result<Answer, AllocError> {
     let call = call_of(call, refuses)?;
-    Ok(answer_of(step(inner, call, Silent)))
+    Ok(answer_of(&step(inner, call, Silent)))
 }
 
 fn play(

@@ -1,8 +1,4 @@
 //! Channels and runs over heaps of every small size.
-ghost use Rattle.std.specs.Prelude.{IfSome};
-ghost use Rattle.std.specs.List.{AllByRecursion};
-ghost use Rattle.bcast_model.specs.Next.{HasPositiveCapacity};
-
 use bcast_core::{Call, HandleError, Inner, Silent, run};
 use linked_list_allocator::LocalHeap;
 use std::alloc::Allocator;
@@ -48,19 +44,11 @@ fn a_channel_and_its_receivers_are_refused_in_turn(rt: HostRuntime) -> Result<()
     Ok(())
 }
 
-/// A send and a close. None: there is no memory for them.
-fn calls<A: Allocator + Copy>(alloc: A) -> Option<Vec<Call<u64>, A>>
-    ensures { IfSome result (λ calls. AllByRecursion HasPositiveCapacity calls.items) }
-{
-    let mut calls = Vec::with_capacity(alloc, 2).ok()?;
-    calls.push_reserved(Call::TryBroadcast(7));
-    calls.push_reserved(Call::Close);
-    Some(calls)
-}
-
-/// Whether a run of the two calls found memory. If it didn't, they came back.
+/// Whether a run of two calls found memory. If it didn't, they came back. None: there is no memory
+/// for the calls.
 fn runs<A: Allocator + Copy>(rt: &impl Abort, alloc: A) -> Option<bool> {
-    match run(alloc, 1, 0, calls(alloc)?) {
+    let calls = vec![in alloc; Call::TryBroadcast(7), Call::Close].ok()?;
+    match run(alloc, 1, 0, calls) {
         Ok(made) => {
             assert!(rt; made.channel.is_closed());
             assert!(rt; made.replies.len() == 2);

@@ -19,14 +19,14 @@ fn stores<R: Named, A: Allocator + Copy>(
     call: Step,
     place: usize,
 ) -> bool {
-    match log.step(seat, call.call()) {
+    let made = log.step(seat, call.call());
+    let is_stored = match &made {
         Ok(receipt) => {
-            receipt.place() == place
-                && call.is_stored(seat.number(), receipt.entry())
-                && log.entries().len() == place + 1
+            receipt.place() == place && call.is_stored(seat.number(), receipt.entry())
         }
         Err(_) => false,
-    }
+    };
+    is_stored && log.entries().len() == place + 1
 }
 
 /// Whether a new log stores all calls, and their seats count them.
@@ -62,12 +62,12 @@ fn a_log_stores_each_call_with_its_reply(rt: HostRuntime) -> Result<(), AllocErr
 
 /// Whether the call comes back, and the log and the seat are as new.
 fn refuses<R: Named, A: Allocator + Copy>(log: &mut Log<u64, R, A>, seat: &mut Seat<R>) -> bool {
-    match log.step(seat, Step::Send.call()) {
+    let made = log.step(seat, Step::Send.call());
+    let is_back = match &made {
         Ok(_) => false,
-        Err(NoMemory(call)) => {
-            Step::Send.is(&call) && seat.count() == 0 && log.entries().is_empty()
-        }
-    }
+        Err(NoMemory(call)) => Step::Send.is(call),
+    };
+    is_back && seat.count() == 0 && log.entries().is_empty()
 }
 
 /// Whether a new log hands a call back while its heap is full, and makes it once there is memory.
