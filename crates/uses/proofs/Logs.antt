@@ -27,36 +27,29 @@ module _ {T : Type 0} where
   told_log u log = record { overflow = log.overflow; reach = log.reach }
 
   -- ---- `broadcast`
-  pub new_log : (v : View T) (capacity key : ℕ) → Represents v (opening capacity 0 key) → IsValid (opening {T = T} capacity 0 key) → IsLog v × IsReader v key × (unread v key ≡ [])
+  pub new_log : (v : View T) (capacity key : ℕ) → Represents v (opening capacity 0 key) → IsValid (opening {T = T} capacity 0 key) → IsReader v key × (unread v key ≡ [])
   new_log v capacity key new is_valid =
       let u : View T = view_of (opening capacity 0 key) in
       let view = valid_view (opening {T = T} capacity 0 key) is_valid in
       let own : get u.control.cursors key ≡ Some 0 = inserted empty key 0 in
       let none : u.queue ≡ [] = nil_from_length u.queue (omega (arith, view.end)) in
-      let log : IsLog u = record { overflow = refl; reach = λ reader cursor e. omega (arith, view.high) } in
-      subst (λ x. IsLog x × IsReader x key × (unread x key ≡ [])) (sym new)
-      (log, subst IsSome (sym own) refl, ap (kept_from u) own ∙ ap (drop (0 - u.front)) none ∙ drop_all (0 - u.front) [] (omega arith))
+      subst (λ x. IsReader x key × (unread x key ≡ [])) (sym new)
+      (subst IsSome (sym own) refl, ap (kept_from u) own ∙ ap (drop (0 - u.front)) none ∙ drop_all (0 - u.front) [] (omega arith))
 
   -- ---- `try_broadcast`
-  pub record Writes (v u : View T) (msg : T) : Type 0 where
-    pub log : IsLog u
-    pub added : AddsUnread v u msg
-    pub readers : KeepsReaders v u
-
-  pub writes : {is_clone : T → T → Type 0} {v w : View T} {msg : T} {back : Option T} → Answers is_clone v (call.TryBroadcast msg) (reply.TryBroadcast (Ok back)) w → IsLog v → Writes v w msg
-  writes {v = v} {msg = msg} a log = put_last a log.overflow (λ u. Writes v u msg) (λ u s. record { log = told_log u s.log; added = s.added; readers = s.readers }) (record {
-    log = record {
+  pub writes : {is_clone : T → T → Type 0} {v w : View T} {msg : T} {back : Option T} → Answers is_clone v (call.TryBroadcast msg) (reply.TryBroadcast (Ok back)) w → IsLog v → IsLog w × AddsUnread v w msg
+  writes {v = v} {msg = msg} a log = put_last a log.overflow (λ u. IsLog u × AddsUnread v u msg) (λ u s. (told_log u s.0, s.1)) (
+    record {
       overflow = accepting_is (λ c. c.overflow ≡ v.control.overflow) v.control v.end (close_is (λ c. c.overflow ≡ v.control.overflow) _ (λ _. refl) (λ _. refl)) (λ _. refl) ∙ log.overflow;
       reach = λ reader cursor e. log.reach reader cursor (ap (λ m. get m reader) (sym (cursors-accepting v.control v.end)) ∙ e);
-    };
-    added = λ reader is.
+    },
+    λ reader is.
         let at = some_of (get v.control.cursors reader) is in
         let end = (valid a).end in
         let reach = (valid a).reach reader at.0 at.1 in
         ap (kept_from (with_message v msg)) (ap (λ m. get m reader) (cursors-accepting v.control v.end) ∙ at.1)
-        ∙ drop-append-le (at.0 - v.front) v.queue (msg ∷ []) (omega (arith, end, reach)) ∙ sym (ap (λ o. kept_from v o ++ msg ∷ []) at.1);
-    readers = λ reader is. subst (λ m. IsSome (get m reader)) (sym (cursors-accepting v.control v.end)) is;
-  })
+        ∙ drop-append-le (at.0 - v.front) v.queue (msg ∷ []) (omega (arith, end, reach)) ∙ sym (ap (λ o. kept_from v o ++ msg ∷ []) at.1),
+  )
 
   -- ---- a reader reads on from this number
   pub record ReadsFrom (v u : View T) (key number : ℕ) : Type 0 where

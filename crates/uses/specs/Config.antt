@@ -17,8 +17,10 @@ module _ {S : Type 0} where
     pub overflow : v.control.overflow ≡ true
     pub watchers : 1 ≤ len v.control.cursors
 
-  -- `poll_next`: the latest settings or a clone of them, and the count of those set between the watcher's last look and them
-  pub record IsLatest (is_clone : S → S → Type 0) (v : View S) (watcher : ℕ) (change : Change S) : Type 0 where
+  -- `poll_next`: the latest settings or a clone of them, and the count of those set between the
+  -- watcher's last look and them
+  pub record IsLatest
+      (is_clone : S → S → Type 0) (v : View S) (watcher : ℕ) (change : Change S) : Type 0 where
     pub seen : ℕ
     pub at : get v.control.cursors watcher ≡ Some seen
     pub missed : seen + change.missed + 1 ≡ v.end
@@ -34,11 +36,13 @@ module _ {S : Type 0} where
   pub record KeepsOthers (old new : View S) (watcher : ℕ) : Type 0 where
     pub end : new.end ≡ old.end
     pub closed : new.control.closed ≡ old.control.closed
-    pub others : (key : ℕ) → key ≢ watcher → get new.control.cursors key ≡ get old.control.cursors key
+    pub others : (key : ℕ) → key ≢ watcher
+        → get new.control.cursors key ≡ get old.control.cursors key
 
   -- `poll_next`: what the stream gives, if anything
   abbrev pub change_of : Poll (Option (S × ℕ)) → Option (Change S)
-  change_of (poll.Ready (Some (settings, missed))) = Some (record { settings = settings; missed = missed })
+  change_of (poll.Ready (Some (settings, missed))) =
+      Some (record { settings = settings; missed = missed })
   change_of other = None
 
   -- `poll_next`: a reply to this watcher, read as a change or none, and all that it changes

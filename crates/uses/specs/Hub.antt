@@ -8,7 +8,8 @@ use Rattle.bcast_model.specs.View.{View}
 use Rattle.bcast_model.specs.Answers.{Answers}
 
 module _ {E : Type 0} where
-  -- a full hub refuses, and the hub itself keeps the channel open by a sender and an inactive receiver
+  -- a full hub refuses, and the hub itself keeps the channel open by a sender and an inactive
+  -- receiver
   pub record IsHub (v : View E) : Type 0 where
     pub overflow : v.control.overflow ≡ false
     pub sender : 1 ≤ v.control.senders

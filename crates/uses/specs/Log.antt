@@ -25,7 +25,8 @@ module _ {T : Type 0} where
   -- a full log refuses, so nobody misses a record
   pub record IsLog (v : View T) : Type 0 where
     pub overflow : v.control.overflow ≡ false
-    pub reach : (reader cursor : ℕ) → get v.control.cursors reader ≡ Some cursor → v.front ≤ cursor
+    pub reach : (reader cursor : ℕ) → get v.control.cursors reader ≡ Some cursor
+        → v.front ≤ cursor
 
   -- who reads goes on reading
   abbrev pub KeepsReaders : View T → View T → Type 0
@@ -33,11 +34,13 @@ module _ {T : Type 0} where
 
   -- `try_broadcast`: one record more, the last for every reader
   abbrev pub AddsUnread : View T → View T → T → Type 0
-  AddsUnread old new added = (reader : ℕ) → IsReader old reader → unread new reader ≡ unread old reader ++ added ∷ []
+  AddsUnread old new added =
+      (reader : ℕ) → IsReader old reader → unread new reader ≡ unread old reader ++ added ∷ []
 
   -- what the other readers are still to read stays
   abbrev pub KeepsUnread : View T → View T → ℕ → Type 0
-  KeepsUnread old new reader = (other : ℕ) → other ≢ reader → unread new other ≡ unread old other
+  KeepsUnread old new reader =
+      (other : ℕ) → other ≢ reader → unread new other ≡ unread old other
 
   -- `try_recv`: the message that it gives, if any
   abbrev pub record_of : Result (Result T TryRecvError) AllocError → Option T

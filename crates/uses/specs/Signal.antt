@@ -15,7 +15,9 @@ pub record Signal : Type 0 where
 
 -- how a signal is stored
 abbrev pub signal_code : Coded Signal
-signal_code = code_by (ℕ × Cursors) (coded× coded_ℕ (code coded_ℕ coded_ℕ)) (λ s. (s.holders, s.workers)) (λ p. record { holders = p.0; workers = p.1 }) (λ _. refl)
+signal_code =
+    code_by (ℕ × Cursors) (coded× coded_ℕ (code coded_ℕ coded_ℕ))
+    (λ s. (s.holders, s.workers)) (λ p. record { holders = p.0; workers = p.1 }) (λ _. refl)
 
 abbrev pub signal_of : View (Unit {0}) → Signal
 signal_of v = record { holders = v.control.senders; workers = v.control.cursors }

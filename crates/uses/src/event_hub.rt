@@ -124,7 +124,8 @@ impl<E: Clone> EventHub<E> {
     /// `AllocError`: the event is also for another subscriber, and its clone found no memory.
     /// Nothing changed.
     pub fn next_event(&mut self, subscriber: usize) -> Result<Option<E>, AllocError>
-        ensures given { IfOk result (λ found. IfSome found (IsGivenFrom E.is_clone self.old.queue)) }
+        ensures given { IfOk result (λ found.
+            IfSome found (IsGivenFrom E.is_clone self.old.queue)) }
         ensures answers { IfOk result (λ found.
             IsNextEvent E.is_clone self.old subscriber found self.new) }
         ensures err { OnErr result (self.new ≡ self.old) }

@@ -8,10 +8,10 @@ pub invariant_of-self : goal.invariant_of-self
 invariant_of-self c = subst IsLog (sym (refused_send c.in_err-try_broadcast.ensures)) c.self.invariant
 
 pub invariant_of-self-2 : goal.invariant_of-self-2
-invariant_of-self-2 c = (writes c.in_ok-try_broadcast.ensures c.self.invariant).log
+invariant_of-self-2 c = (writes c.in_ok-try_broadcast.ensures c.self.invariant).0
 
 pub returns-clause-written : goal.returns-clause-written
-returns-clause-written c = rw (← c.self.view_is) (writes c.in_ok-try_broadcast.ensures c.self.invariant).added
+returns-clause-written c = rw (← c.self.view_is) (writes c.in_ok-try_broadcast.ensures c.self.invariant).1
 
 pub returns-clause-answers : goal.returns-clause-answers
 returns-clause-answers c = rw (← c.self.view_is) (sent_answers c.in_ok-try_broadcast.ensures c.self.invariant.overflow)
