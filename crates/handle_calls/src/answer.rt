@@ -1,0 +1,93 @@
+//! What calls on handles answered, as values that print.
+use crate::seen::Seen;
+use async_broadcast::{HandleError, RecvError, SendError, TryRecvError, TrySendError};
+use std::alloc::AllocError;
+
+/// What a call was answered.
+#[derive(Clone, Copy, Debug)]
+pub enum Answer {
+    Accepted,
+    /// Accepted, and this message was dropped for it.
+    Dropped(u64),
+    Full(u64),
+    Closed(u64),
+    Inactive(u64),
+    /// Refused to a send that may wait.
+    Refused(u64),
+    Message(u64),
+    Overflowed(u64),
+    Empty,
+    /// The channel is closed, and nothing is left to receive.
+    Ended,
+    Pending,
+    /// No memory for a send, which hands back this message.
+    Unsent(u64),
+    NoMemory,
+    TooMany,
+    Gone,
+    /// The number of the handle that was made.
+    Made(usize),
+    Count(usize),
+    Is(bool),
+    /// What all handles see.
+    All(Seen),
+    /// Handles of one channel see it differently.
+    Differs,
+    Done,
+}
+
+impl Answer {
+    fn accepted(oldest: Option<u64>) -> Self {
+        match oldest {
+            None => Answer::Accepted,
+            Some(oldest) => Answer::Dropped(oldest),
+        }
+    }
+
+    /// The answer of `try_broadcast`.
+    pub fn of_try_send(answer: Result<Option<u64>, TrySendError<u64>>) -> Self {
+        match answer {
+            Ok(oldest) => Answer::accepted(oldest),
+            Err(TrySendError::Full(back)) => Answer::Full(back),
+            Err(TrySendError::Closed(back)) => Answer::Closed(back),
+            Err(TrySendError::Inactive(back)) => Answer::Inactive(back),
+        }
+    }
+
+    /// The answer of a send that may wait.
+    pub fn of_send(answer: Result<Option<u64>, SendError<u64>>) -> Self {
+        match answer {
+            Ok(oldest) => Answer::accepted(oldest),
+            Err(SendError(back)) => Answer::Refused(back),
+        }
+    }
+
+    /// The answer of `try_recv`.
+    pub fn of_try_recv(answer: Result<Result<u64, TryRecvError>, AllocError>) -> Self {
+        match answer {
+            Ok(Ok(msg)) => Answer::Message(msg),
+            Ok(Err(TryRecvError::Overflowed(n))) => Answer::Overflowed(n),
+            Ok(Err(TryRecvError::Empty)) => Answer::Empty,
+            Ok(Err(TryRecvError::Closed)) => Answer::Ended,
+            Err(_) => Answer::NoMemory,
+        }
+    }
+
+    /// The answer of a receive that may wait.
+    pub fn of_recv(answer: Result<u64, RecvError>) -> Self {
+        match answer {
+            Ok(msg) => Answer::Message(msg),
+            Err(RecvError::Overflowed(n)) => Answer::Overflowed(n),
+            Err(RecvError::Closed) => Answer::Ended,
+        }
+    }
+
+    /// The answer of a handle that was not made.
+    pub fn of_error(error: HandleError) -> Self {
+        match error {
+            HandleError::Memory => Answer::NoMemory,
+            HandleError::TooMany => Answer::TooMany,
+            HandleError::Gone => Answer::Gone,
+        }
+    }
+}

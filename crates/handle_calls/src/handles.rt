@@ -1,0 +1,67 @@
+//! The handles of one channel, each under its number.
+use crate::answer::Answer;
+use async_broadcast::{HandleError, InactiveReceiver, Port, Receiver, Sender, Slot};
+use bcast_text::engine::Fault;
+use std::alloc::{Allocator, Global};
+
+/// The handles of one channel, each kind numbered in the order of making. A handle that left leaves
+/// its number empty.
+#[derive(Drop)]
+pub struct Handles<P: Port<u64, Slot<A>>, A: Allocator> {
+    pub senders: Vec<Option<Sender<u64, P, A>>>,
+    pub receivers: Vec<Option<Receiver<u64, P, A>>>,
+    pub inactive: Vec<Option<InactiveReceiver<u64, P, A>>>,
+}
+
+/// Puts a handle under the next number.
+fn add<H: Drop>(list: &mut Vec<Option<H>>, made: H) -> Result<Answer, Fault> {
+    let number = list.len();
+    match list.push(Some(made)) {
+        Ok(()) => Ok(Answer::Made(number)),
+        Err(_) => Err(Fault::NoMemory),
+    }
+}
+
+impl<P: Port<u64, Slot<A>>, A: Allocator + Copy> Handles<P, A> {
+    /// No handles yet.
+    pub fn new(alloc: Global) -> Self {
+        Handles {
+            senders: Vec::new(alloc),
+            receivers: Vec::new(alloc),
+            inactive: Vec::new(alloc),
+        }
+    }
+
+    /// Keeps a sender that was made, or says why there is none.
+    pub fn add_sender(
+        &mut self,
+        made: Result<Sender<u64, P, A>, HandleError>,
+    ) -> Result<Answer, Fault> {
+        match made {
+            Ok(made) => add(&mut self.senders, made),
+            Err(error) => Ok(Answer::of_error(error)),
+        }
+    }
+
+    /// Keeps a receiver that was made, or says why there is none.
+    pub fn add_receiver(
+        &mut self,
+        made: Result<Receiver<u64, P, A>, HandleError>,
+    ) -> Result<Answer, Fault> {
+        match made {
+            Ok(made) => add(&mut self.receivers, made),
+            Err(error) => Ok(Answer::of_error(error)),
+        }
+    }
+
+    /// Keeps an inactive receiver that was made, or says why there is none.
+    pub fn add_inactive(
+        &mut self,
+        made: Result<InactiveReceiver<u64, P, A>, HandleError>,
+    ) -> Result<Answer, Fault> {
+        match made {
+            Ok(made) => add(&mut self.inactive, made),
+            Err(error) => Ok(Answer::of_error(error)),
+        }
+    }
+}

@@ -1,0 +1,168 @@
+//! Futures that are held between lines: sends, and one receive.
+use crate::answer::Answer;
+use async_broadcast::{NoMemory, Port, Receiver, Recv, Send, Sender, Slot};
+use bcast_text::engine::Fault;
+use futures::task::Poll;
+use futures::test::MockTask;
+use std::alloc::{AllocError, Allocator, Global};
+
+/// The handles that stand apart to make futures.
+#[derive(Drop)]
+pub struct Makers<P: Port<u64, Slot<A>>, A: Allocator> {
+    pub sender: Option<Sender<u64, P, A>>,
+    pub receiver: Option<Receiver<u64, P, A>>,
+}
+
+#[derive(Drop)]
+enum HeldSend<'a, P: Port<u64, Slot<A>>, A: Allocator> {
+    Plain(Send<'a, u64, P, A>),
+    Boxed(Box<Send<'a, u64, P, A>, A>),
+}
+
+#[derive(Drop)]
+enum HeldRecv<'a, P: Port<u64, Slot<A>>, A: Allocator> {
+    Plain(Recv<'a, u64, P, A>),
+    Boxed(Box<Recv<'a, u64, P, A>, A>),
+}
+
+/// The futures of one channel. Sends are numbered in the order of making. A future that was dropped
+/// leaves its number empty.
+#[derive(Drop)]
+pub struct Held<'a, P: Port<u64, Slot<A>>, A: Allocator> {
+    sender: Option<&'a Sender<u64, P, A>>,
+    // Lent to the receive, once.
+    receiver: Option<&'a mut Receiver<u64, P, A>>,
+    sends: Vec<Option<HeldSend<'a, P, A>>>,
+    // At most one.
+    recvs: Vec<HeldRecv<'a, P, A>>,
+}
+
+/// What the poll of a send answered.
+type SendPoll = Poll<Result<Result<Option<u64>, async_broadcast::SendError<u64>>, NoMemory<u64>>>;
+
+/// What the poll of a receive answered.
+type RecvPoll = Poll<Result<Result<u64, async_broadcast::RecvError>, AllocError>>;
+
+// The answer of a poll of a send.
+fn of_send_poll(polled: SendPoll) -> Answer {
+    match polled {
+        Poll::Ready(Ok(answer)) => Answer::of_send(answer),
+        Poll::Ready(Err(NoMemory(back))) => Answer::Unsent(back),
+        Poll::Pending => Answer::Pending,
+    }
+}
+
+/// The answer of a poll of a receive.
+pub fn of_recv_poll(polled: RecvPoll) -> Answer {
+    match polled {
+        Poll::Ready(Ok(answer)) => Answer::of_recv(answer),
+        Poll::Ready(Err(_)) => Answer::NoMemory,
+        Poll::Pending => Answer::Pending,
+    }
+}
+
+impl<'a, P: Port<u64, Slot<A>>, A: Allocator + Copy> Held<'a, P, A> {
+    /// No futures yet. They are made by these handles.
+    pub fn new(alloc: Global, makers: &'a mut Makers<P, A>) -> Self {
+        Held {
+            sender: makers.sender.as_ref(),
+            receiver: makers.receiver.as_mut(),
+            sends: Vec::new(alloc),
+            recvs: Vec::new(alloc),
+        }
+    }
+
+    /// Begins a send of this message, or drops the send of this number.
+    pub fn ask_send(
+        &mut self,
+        index: usize,
+        method: &str,
+        msg: Option<u64>,
+    ) -> Result<Answer, Fault> {
+        match (method, msg) {
+            ("begin", Some(msg)) => self.begin_send(msg),
+            ("begin_boxed", Some(msg)) => self.begin_boxed_send(msg),
+            ("drop", None) => self.drop_send(index).ok_or(Fault::NotACall),
+            _ => Err(Fault::NotACall),
+        }
+    }
+
+    /// Begins or drops the receive.
+    pub fn ask_recv(&mut self, method: &str) -> Option<Answer> {
+        match method {
+            "begin" => self.begin_recv(),
+            "begin_boxed" => self.begin_boxed_recv(),
+            "drop" => {
+                self.recvs.pop()?;
+                Some(Answer::Done)
+            }
+            _ => None,
+        }
+    }
+
+    fn begin_send(&mut self, msg: u64) -> Result<Answer, Fault> {
+        let sender = self.sender.ok_or(Fault::NotACall)?;
+        match sender.broadcast_direct(msg) {
+            Ok(send) => self.hold(HeldSend::Plain(send)),
+            Err(NoMemory(back)) => Ok(Answer::Unsent(back)),
+        }
+    }
+
+    fn begin_boxed_send(&mut self, msg: u64) -> Result<Answer, Fault> {
+        let sender = self.sender.ok_or(Fault::NotACall)?;
+        match sender.broadcast(msg) {
+            Ok(send) => self.hold(HeldSend::Boxed(send)),
+            Err(NoMemory(back)) => Ok(Answer::Unsent(back)),
+        }
+    }
+
+    fn hold(&mut self, send: HeldSend<'a, P, A>) -> Result<Answer, Fault> {
+        let number = self.sends.len();
+        match self.sends.push(Some(send)) {
+            Ok(()) => Ok(Answer::Made(number)),
+            Err(_) => Err(Fault::NoMemory),
+        }
+    }
+
+    /// Polls the send of this number.
+    pub fn poll_send(&mut self, index: usize, task: &MockTask) -> Option<Answer> {
+        match self.sends.get_mut(index) {
+            Some(Some(HeldSend::Plain(send))) => Some(of_send_poll(task.poll(send))),
+            Some(Some(HeldSend::Boxed(send))) => Some(of_send_poll(task.poll(&mut **send))),
+            _ => None,
+        }
+    }
+
+    fn drop_send(&mut self, index: usize) -> Option<Answer> {
+        let slot = self.sends.get_mut(index)?;
+        *slot = None;
+        Some(Answer::Done)
+    }
+
+    fn begin_recv(&mut self) -> Option<Answer> {
+        let receiver = self.receiver.take()?;
+        self.recvs
+            .push(HeldRecv::Plain(receiver.recv_direct()))
+            .ok()?;
+        Some(Answer::Made(0))
+    }
+
+    fn begin_boxed_recv(&mut self) -> Option<Answer> {
+        let receiver = self.receiver.take()?;
+        match receiver.recv() {
+            Ok(recv) => {
+                self.recvs.push(HeldRecv::Boxed(recv)).ok()?;
+                Some(Answer::Made(0))
+            }
+            Err(_) => Some(Answer::NoMemory),
+        }
+    }
+
+    /// Polls the receive.
+    pub fn poll_recv(&mut self, task: &MockTask) -> Option<Answer> {
+        match self.recvs.last_mut()? {
+            HeldRecv::Plain(recv) => Some(of_recv_poll(task.poll(recv))),
+            HeldRecv::Boxed(recv) => Some(of_recv_poll(task.poll(&mut **recv))),
+        }
+    }
+}

@@ -1,0 +1,120 @@
+//! What a line of a script says.
+ghost use Rattle.std.specs.Prelude.{◌<◌};
+
+use bcast_text::number::number;
+
+/// The most bytes that a line may have, its LF aside.
+pub const LONGEST: u32 = 200;
+
+/// Of what a call is made.
+#[derive(Clone, Copy)]
+pub enum Subject {
+    Sender,
+    Receiver,
+    Inactive,
+    Send,
+    Recv,
+    Task,
+    Handles,
+    Port,
+}
+
+/// The call that a line asks for.
+#[derive(Clone, Copy)]
+pub struct Request<'a> {
+    pub subject: Subject,
+    pub index: usize,
+    pub method: &'a str,
+    pub argument: Option<u64>,
+}
+
+/// Which futures of a channel are held between lines.
+#[derive(Clone, Copy)]
+pub enum Futures {
+    Nothing,
+    Sends,
+    Receive,
+}
+
+/// How many messages a channel keeps at most.
+#[derive(Clone, Copy)]
+pub struct Capacity {
+    pub count: usize,
+    ghost positive: { 0 < count },
+}
+
+impl Capacity {
+    /// None: the number is 0.
+    pub fn new(number: u64) -> Option<Self> {
+        if number == 0 {
+            return None;
+        }
+        let count = number as usize;
+        Some(Capacity { count })
+    }
+}
+
+/// The handles that a script goes on with.
+#[derive(Clone, Copy)]
+pub enum Opening {
+    /// Those of a channel.
+    Channel(Capacity, Futures),
+    /// Handles over recording ports.
+    Recorded,
+    /// The same, which find no memory.
+    WithoutMemory,
+}
+
+/// The opening that `text` is.
+pub fn read_opening(text: &str) -> Option<Opening> {
+    match text {
+        "records" => return Some(Opening::Recorded),
+        "no_memory" => return Some(Opening::WithoutMemory),
+        _ => {}
+    }
+    let (word, capacity) = text.split_once(' ')?;
+    let futures = match word {
+        "open" => Futures::Nothing,
+        "sends" => Futures::Sends,
+        "receives" => Futures::Receive,
+        _ => return None,
+    };
+    let capacity = Capacity::new(number(capacity)?)?;
+    Some(Opening::Channel(capacity, futures))
+}
+
+fn subject_of(word: &str) -> Option<Subject> {
+    match word {
+        "sender" => Some(Subject::Sender),
+        "receiver" => Some(Subject::Receiver),
+        "inactive" => Some(Subject::Inactive),
+        "send" => Some(Subject::Send),
+        "recv" => Some(Subject::Recv),
+        "task" => Some(Subject::Task),
+        "handles" => Some(Subject::Handles),
+        "port" => Some(Subject::Port),
+        _ => None,
+    }
+}
+
+/// The request that `text` is: `SUBJECT INDEX METHOD [ARGUMENT]`.
+pub fn read_request(text: &str) -> Option<Request<'_>> {
+    let (word, rest) = text.split_once(' ')?;
+    let subject = subject_of(word)?;
+    let (index, rest) = rest.split_once(' ')?;
+    let index = number(index)? as usize;
+    match rest.split_once(' ') {
+        None => Some(Request {
+            subject,
+            index,
+            method: rest,
+            argument: None,
+        }),
+        Some((method, argument)) => Some(Request {
+            subject,
+            index,
+            method,
+            argument: Some(number(argument)?),
+        }),
+    }
+}

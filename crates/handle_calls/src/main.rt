@@ -1,0 +1,38 @@
+//! The program `handle_calls`: plays a script of calls on the handles of channels, and writes each
+//! line with its answer.
+//!
+//! A script opens channels, one after the other:
+//!
+//! - `open N`: a channel of capacity N, with `sender 0` and `receiver 0`.
+//! - `sends N`, `receives N`: also a sender, or a clone of the receiver, that stands apart and
+//!   makes the futures that are held between lines.
+//! - `records`, `no_memory`: no channel, but ports that record what they are asked; one handle of
+//!   each kind, and both that stand apart. After `no_memory` they find none.
+//!
+//! Every other line is `SUBJECT INDEX METHOD`, or has an argument as well. The subjects `sender`,
+//! `receiver` and `inactive` are numbered in the order of making; `send` and `recv` are the held
+//! futures; `task` is one of four that poll; `handles` asks all handles alike, and `port` sets how
+//! recording ports reply. A line that begins with `#` is written back.
+#![tactic(auto)]
+
+mod answer;
+mod handles;
+mod held;
+mod inactive;
+mod line;
+mod receiver;
+mod recording;
+mod script;
+mod seen;
+mod sender;
+mod session;
+mod settings;
+
+use bcast_text::ending::report;
+use script::play;
+use std::process::ExitCode;
+
+fn main(rt: HostRuntime) -> ExitCode {
+    let ending = play(&rt, rt.alloc(), rt.stdin(), rt.stdout());
+    ExitCode::from(report(&rt, ending))
+}

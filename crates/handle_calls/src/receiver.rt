@@ -1,0 +1,136 @@
+//! Calls on receivers.
+use crate::answer::Answer;
+use crate::handles::Handles;
+use crate::held::of_recv_poll;
+use crate::settings::{of_receiver, setting_of};
+use async_broadcast::{Port, Receiver, Slot};
+use bcast_text::engine::Fault;
+use futures::StreamExt;
+use futures::task::Poll;
+use futures::test::MockTask;
+use std::alloc::Allocator;
+
+/// Receives at once, or asks for a setting.
+fn answer<P: Port<u64, Slot<A>>, A: Allocator + Copy>(
+    receiver: &mut Receiver<u64, P, A>,
+    method: &str,
+    argument: Option<u64>,
+) -> Option<Answer> {
+    match (method, argument) {
+        ("try_recv", None) => Some(Answer::of_try_recv(receiver.try_recv())),
+        ("recv_blocking", None) => Some(received(receiver)),
+        ("is_terminated", None) => Some(Answer::Is(receiver.is_terminated())),
+        _ => Some(of_receiver(receiver, setting_of(method, argument)?)),
+    }
+}
+
+fn received<P: Port<u64, Slot<A>>, A: Allocator + Copy>(
+    receiver: &mut Receiver<u64, P, A>,
+) -> Answer {
+    match receiver.recv_blocking() {
+        Ok(answer) => Answer::of_recv(answer),
+        Err(_) => Answer::NoMemory,
+    }
+}
+
+fn poll_recv<P: Port<u64, Slot<A>>, A: Allocator + Copy>(
+    task: &MockTask,
+    receiver: &mut Receiver<u64, P, A>,
+) -> Answer {
+    match task.enter(|cx| receiver.poll_recv(cx)) {
+        Ok(Poll::Ready(Some(answer))) => Answer::of_recv(answer),
+        Ok(Poll::Ready(None)) => Answer::Ended,
+        Ok(Poll::Pending) => Answer::Pending,
+        Err(_) => Answer::NoMemory,
+    }
+}
+
+fn poll_next<P: Port<u64, Slot<A>>, A: Allocator + Copy>(
+    task: &MockTask,
+    receiver: &mut Receiver<u64, P, A>,
+) -> Answer {
+    match task.poll(&mut receiver.next()) {
+        Poll::Ready(Some(Ok(msg))) => Answer::Message(msg),
+        Poll::Ready(Some(Err(_))) => Answer::NoMemory,
+        Poll::Ready(None) => Answer::Ended,
+        Poll::Pending => Answer::Pending,
+    }
+}
+
+// A future of its own for one poll, which is dropped then.
+fn poll_future<P: Port<u64, Slot<A>>, A: Allocator + Copy>(
+    task: &MockTask,
+    receiver: &mut Receiver<u64, P, A>,
+) -> Answer {
+    of_recv_poll(task.poll(&mut receiver.recv_direct()))
+}
+
+impl<P: Port<u64, Slot<A>>, A: Allocator + Copy> Handles<P, A> {
+    /// Makes a call on the receiver of this number.
+    pub fn by_receiver(
+        &mut self,
+        index: usize,
+        method: &str,
+        argument: Option<u64>,
+    ) -> Result<Answer, Fault> {
+        let Some(Some(receiver)) = self.receivers.get_mut(index) else {
+            return Err(Fault::NotACall);
+        };
+        match method {
+            "clone" => {
+                let made = receiver.clone();
+                self.add_receiver(made)
+            }
+            "new_receiver" => {
+                let made = receiver.new_receiver();
+                self.add_receiver(made)
+            }
+            "new_sender" => {
+                let made = receiver.new_sender();
+                self.add_sender(made)
+            }
+            "deactivate" => self.deactivate(index),
+            "drop" => self.drop_receiver(index),
+            _ => answer(receiver, method, argument).ok_or(Fault::NotACall),
+        }
+    }
+
+    /// Polls the receiver of this number in a task.
+    pub fn poll_receiver(&mut self, index: usize, method: &str, task: &MockTask) -> Option<Answer> {
+        let Some(Some(receiver)) = self.receivers.get_mut(index) else {
+            return None;
+        };
+        match method {
+            "poll_recv" => Some(poll_recv(task, receiver)),
+            "poll_next" => Some(poll_next(task, receiver)),
+            "poll_future" => Some(poll_future(task, receiver)),
+            _ => None,
+        }
+    }
+
+    fn deactivate(&mut self, index: usize) -> Result<Answer, Fault> {
+        let Some(slot) = self.receivers.get_mut(index) else {
+            return Err(Fault::NotACall);
+        };
+        let Some(receiver) = slot.take() else {
+            return Err(Fault::NotACall);
+        };
+        match receiver.deactivate() {
+            Ok(made) => self.add_inactive(Ok(made)),
+            Err((back, error)) => {
+                *slot = Some(back);
+                Ok(Answer::of_error(error))
+            }
+        }
+    }
+
+    fn drop_receiver(&mut self, index: usize) -> Result<Answer, Fault> {
+        match self.receivers.get_mut(index) {
+            Some(slot) => {
+                *slot = None;
+                Ok(Answer::Done)
+            }
+            None => Err(Fault::NotACall),
+        }
+    }
+}

@@ -1,0 +1,123 @@
+//! Ports that record what they are asked, and reply as a script sets.
+ghost use Rattle.std.specs.Prelude.{◌≡◌, true};
+ghost use Rattle.bcast_model.specs.Next.{HasPositiveCapacity};
+ghost use Rattle.async_broadcast.specs.Kinds.{IsOfKind, may_wait, is_answer};
+
+use async_broadcast::{Call, Port, Reply, Wake};
+use replies::{Outcome, reply_to, waited_reply_to};
+use std::alloc::{AllocError, Global};
+use std::cell::Cell;
+use std::rc::Rc;
+
+mod call;
+mod replies;
+
+pub use call::CallName;
+
+/// What ports were asked since the last look: nothing, one call, or so many, the last of which is
+/// named.
+#[derive(Clone, Copy, PartialEq, Eq, Debug)]
+pub enum Record {
+    Nothing,
+    Once(CallName),
+    Times(u64, CallName),
+}
+
+#[derive(Drop)]
+struct State {
+    record: Cell<Record>,
+    outcome: Cell<Outcome>,
+    has_others: Cell<bool>,
+}
+
+/// What recording ports share.
+#[derive(Drop)]
+pub struct Recorder {
+    state: Rc<State>,
+}
+
+/// A port that records each call, and replies to it by itself.
+#[derive(Drop)]
+pub struct RecordingPort {
+    state: Rc<State>,
+}
+
+impl Recorder {
+    /// Nothing recorded yet. Ports grant what they are asked.
+    pub fn new(alloc: Global) -> Result<Self, AllocError> {
+        let state = State {
+            record: Cell::new(Record::Nothing),
+            outcome: Cell::new(Outcome::Grant),
+            has_others: Cell::new(true),
+        };
+        let state = Rc::new(alloc, state)?;
+        Ok(Recorder { state })
+    }
+
+    /// A port whose calls are recorded here.
+    pub fn port(&self) -> Result<RecordingPort, AllocError> {
+        let state = self.state.clone()?;
+        Ok(RecordingPort { state })
+    }
+
+    /// Sets how the ports reply from now on, or that there is no memory for another port. False:
+    /// this is no such word.
+    pub fn set(&self, word: &str) -> bool {
+        match word {
+            "grants" => self.state.outcome.set(Outcome::Grant),
+            "refuses" => self.state.outcome.set(Outcome::Refuse),
+            "waits" => self.state.outcome.set(Outcome::Wait),
+            "has_no_other" => self.state.has_others.set(false),
+            _ => return false,
+        }
+        true
+    }
+
+    /// What was asked since the last look.
+    pub fn look(&self) -> Record {
+        self.state.record.replace(Record::Nothing)
+    }
+}
+
+impl State {
+    fn record(&self, call: CallName) {
+        self.record.set(match self.record.get() {
+            Record::Nothing => Record::Once(call),
+            Record::Once(_) => Record::Times(2, call),
+            Record::Times(count, _) => Record::Times(count.wrapping_add(1), call),
+        });
+    }
+}
+
+impl<S: Drop> Port<u64, S> for RecordingPort {
+    ghost use Rattle.async_broadcast.specs.Kinds.{IsOfKind};
+
+    ghost gave = { λ _ call reply. IsOfKind call reply };
+
+    ghost of_kind = { λ _ call reply gave. gave };
+
+    fn ask(&self, call: Call<u64>, _wake: Wake<S>) -> Reply<u64>
+        requires { HasPositiveCapacity call }
+        ensures { IsOfKind call result }
+    {
+        self.state.record(CallName::of(&call));
+        reply_to(self.state.outcome.get(), call)
+    }
+
+    fn ask_waiting(&self, call: Call<u64>) -> Reply<u64>
+        requires { may_wait call ≡ true }
+        ensures reply { IsOfKind call result }
+        ensures answered { is_answer result ≡ true }
+    {
+        self.state.record(CallName::of(&call));
+        waited_reply_to(self.state.outcome.get(), call)
+    }
+
+    fn same(&self) -> Option<Self> {
+        if !self.state.has_others.get() {
+            return None;
+        }
+        let state = self.state.clone().ok()?;
+        Some(RecordingPort { state })
+    }
+}

@@ -1,0 +1,75 @@
+//! What all handles say of their channel.
+use crate::answer::Answer;
+use crate::handles::Handles;
+use async_broadcast::{Port, Slot};
+use std::alloc::Allocator;
+
+/// The answers of the ten calls that each handle has, and that change nothing.
+#[derive(Clone, Copy, Debug, PartialEq, Eq)]
+pub struct Seen {
+    pub capacity: usize,
+    pub len: usize,
+    pub receivers: usize,
+    pub inactive: usize,
+    pub senders: usize,
+    pub overflow: bool,
+    pub await_active: bool,
+    pub is_empty: bool,
+    pub is_full: bool,
+    pub is_closed: bool,
+}
+
+macro_rules! seen_by {
+    ($handle:expr) => {
+        Seen {
+            capacity: $handle.capacity(),
+            len: $handle.len(),
+            receivers: $handle.receiver_count(),
+            inactive: $handle.inactive_receiver_count(),
+            senders: $handle.sender_count(),
+            overflow: $handle.overflow(),
+            await_active: $handle.await_active(),
+            is_empty: $handle.is_empty(),
+            is_full: $handle.is_full(),
+            is_closed: $handle.is_closed(),
+        }
+    };
+}
+
+/// What the handles so far have seen: nothing, the same, or not the same.
+#[derive(Clone, Copy)]
+struct Agreed(Answer);
+
+impl Agreed {
+    fn add(&mut self, seen: Seen) {
+        let before = self.0;
+        self.0 = match before {
+            Answer::Done => Answer::All(seen),
+            Answer::All(before) if before == seen => Answer::All(seen),
+            _ => Answer::Differs,
+        };
+    }
+}
+
+impl<P: Port<u64, Slot<A>>, A: Allocator + Copy> Handles<P, A> {
+    /// What each handle sees of the channel, or that they don't all see the same.
+    pub fn seen(&self) -> Answer {
+        let mut agreed = Agreed(Answer::Done);
+        for sender in &self.senders {
+            if let Some(sender) = sender {
+                agreed.add(seen_by!(sender));
+            }
+        }
+        for receiver in &self.receivers {
+            if let Some(receiver) = receiver {
+                agreed.add(seen_by!(receiver));
+            }
+        }
+        for inactive in &self.inactive {
+            if let Some(inactive) = inactive {
+                agreed.add(seen_by!(inactive));
+            }
+        }
+        agreed.0
+    }
+}

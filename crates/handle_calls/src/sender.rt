@@ -1,0 +1,56 @@
+//! Calls on senders.
+use crate::answer::Answer;
+use crate::handles::Handles;
+use crate::settings::{of_sender, setting_of};
+use async_broadcast::{Port, Sender, Slot};
+use bcast_text::engine::Fault;
+use std::alloc::Allocator;
+
+/// Sends, or asks for a setting.
+fn answer<P: Port<u64, Slot<A>>, A: Allocator + Copy>(
+    sender: &mut Sender<u64, P, A>,
+    method: &str,
+    argument: Option<u64>,
+) -> Option<Answer> {
+    match (method, argument) {
+        ("try_broadcast", Some(msg)) => Some(Answer::of_try_send(sender.try_broadcast(msg))),
+        ("broadcast_blocking", Some(msg)) => Some(Answer::of_send(sender.broadcast_blocking(msg))),
+        _ => Some(of_sender(sender, setting_of(method, argument)?)),
+    }
+}
+
+impl<P: Port<u64, Slot<A>>, A: Allocator + Copy> Handles<P, A> {
+    /// Makes a call on the sender of this number.
+    pub fn by_sender(
+        &mut self,
+        index: usize,
+        method: &str,
+        argument: Option<u64>,
+    ) -> Result<Answer, Fault> {
+        let Some(Some(sender)) = self.senders.get_mut(index) else {
+            return Err(Fault::NotACall);
+        };
+        match method {
+            "clone" => {
+                let made = sender.clone();
+                self.add_sender(made)
+            }
+            "new_receiver" => {
+                let made = sender.new_receiver();
+                self.add_receiver(made)
+            }
+            "drop" => self.drop_sender(index),
+            _ => answer(sender, method, argument).ok_or(Fault::NotACall),
+        }
+    }
+
+    fn drop_sender(&mut self, index: usize) -> Result<Answer, Fault> {
+        match self.senders.get_mut(index) {
+            Some(slot) => {
+                *slot = None;
+                Ok(Answer::Done)
+            }
+            None => Err(Fault::NotACall),
+        }
+    }
+}

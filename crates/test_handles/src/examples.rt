@@ -1,0 +1,13 @@
+//! The examples that stand in the documentation of `async_broadcast`.
+//!
+//! Each file here has those of the files of `async_broadcast/src` that its first line names. A test
+//! makes the channel of an example, as the example's first line does, and calls a function with the
+//! example's other lines. Those are over any port, so that their proofs name no lock.
+mod broadcast_and_errors;
+mod in_tasks;
+mod inactive;
+mod inactive_settings;
+mod receiver;
+mod receiver_settings;
+mod sender;
+mod sender_settings;

@@ -1,0 +1,11 @@
+//! Tests of `async_broadcast` by threads that wait for one another, and the README's example.
+#![tactic(auto)]
+
+#[cfg(test)]
+mod handshake;
+#[cfg(test)]
+mod readme;
+#[cfg(test)]
+mod steps;
+#[cfg(test)]
+mod waiting;
