@@ -1,4 +1,4 @@
-//! Three sends that wait, from their places to the last answer.
+//! Three sends that wait, from their places to the last that is answered.
 use bcast_waiting::SendList;
 use bcast_waiting::notice::Silent;
 use std::alloc::{AllocError, Global};

@@ -106,7 +106,7 @@ fn two_read<T: Text, A: Allocator + Copy>(alloc: A, msg: T) -> Result<Refused, A
     })
 }
 
-// As above, on a heap of this size; none where the heap doesn't even have the message.
+// As above, on a heap; an error if it doesn't even have room for the message.
 fn run(heap: &LocalHeap) -> Result<Refused, AllocError> {
     let bytes = Vec::from_slice(heap, TEXT.as_slice())?;
     two_read(heap, Message { bytes })

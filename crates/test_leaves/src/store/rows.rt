@@ -127,9 +127,11 @@ fn first_wrong<S: Tried>(
 fn run(rt: &impl Abort, alloc: Global, front: u64, rows: &[Row]) -> Result<(), AllocError> {
     assert!(rt; front < 9);
     let (fast, key) = Store::new(alloc, front, 2)?;
+    assert_eq!(rt; fast.room(), 2);
     let fast = Played::new(alloc, fast, key)?;
     assert_eq!(rt; first_wrong(fast, alloc, rows)?, None);
     let (slow, key) = Plain::new(alloc, front, 2)?;
+    assert_eq!(rt; slow.room(), 2);
     let slow = Played::new(alloc, slow, key)?;
     assert_eq!(rt; first_wrong(slow, alloc, rows)?, None);
     Ok(())
