@@ -93,7 +93,7 @@ fn list_of(alloc: Global, numbers: [u64; 3]) -> Result<Vec<u64>, AllocError> {
     Ok(list)
 }
 
-/// A receiver that finds no memory closes the channel.
+/// A receiver that finds no memory closes the channel, whatever other receivers there are.
 fn no_memory_closes<R: Wait + Clone, W: Write>(
     rt: &R,
     alloc: Global,
@@ -106,8 +106,16 @@ fn no_memory_closes<R: Wait + Clone, W: Write>(
             output.write_all(b"not sent\n")?;
         }
     }
+    let Ok(other) = receiver.clone() else {
+        return output.write_all(b"no clone\n");
+    };
     let is_err = receive_all(&heap, receiver).is_err();
-    writeln!(output, "no memory {is_err}, closed {}", sender.is_closed())
+    let is_closed = sender.is_closed();
+    writeln!(
+        output,
+        "no memory {is_err}, closed {is_closed}, kept {}",
+        other.len()
+    )
 }
 
 /// A sender ends on a closed channel.
