@@ -38,7 +38,7 @@ impl Step {
             }
     }
 
-    /// Whether the entry is of this call, made by this seat, with the reply of a call that succeeds.
+    /// Whether the entry is of this call, which this seat made and which succeeded.
     pub(crate) fn is_stored(self, seat: usize, entry: &Entry<u64>) -> bool {
         self.is(&entry.call) && self.succeeds(&entry.reply) && entry.seat == seat
     }
