@@ -3,7 +3,7 @@ ghost use Rattle.std.specs.Prelude.{◌≡◌, true};
 ghost use Rattle.bcast_model.specs.Next.{HasPositiveCapacity};
 ghost use Rattle.async_broadcast.specs.Kinds.{IsOfKind, may_wait, is_answer};
 
-use async_broadcast::{Call, Port, Reply, Wake};
+use async_broadcast::{Ask, Call, Port, Reply, Wake};
 use replies::{Outcome, reply_to, waited_reply_to};
 use std::alloc::{AllocError, Global};
 use std::cell::Cell;
@@ -89,7 +89,7 @@ impl State {
     }
 }
 
-impl<S: Drop> Port<u64, S> for RecordingPort {
+impl<S: Drop> Ask<u64, S> for RecordingPort {
     ghost use Rattle.async_broadcast.specs.Kinds.{IsOfKind};
 
     ghost gave = { λ _ call reply. IsOfKind call reply };
@@ -103,6 +103,11 @@ impl<S: Drop> Port<u64, S> for RecordingPort {
         self.state.record(CallName::of(&call));
         reply_to(self.state.outcome.get(), call)
     }
+}
+
+impl<S: Drop> Port<u64, S> for RecordingPort {
+    // All ports of one record: no contract tells channels apart here.
+    ghost channel = { λ _. 0 };
 
     fn ask_waiting(&self, call: Call<u64>) -> Reply<u64>
         requires { may_wait call ≡ true }
