@@ -6,8 +6,6 @@
 mod broadcast_and_errors;
 mod in_tasks;
 mod inactive;
-mod inactive_settings;
 mod receiver;
-mod receiver_settings;
 mod sender;
 mod sender_settings;
