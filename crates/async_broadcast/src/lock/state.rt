@@ -78,6 +78,7 @@ impl<T: Clone, A: Allocator + Copy> State<T, A> {
         ensures answers { Answers T.is_clone self.old.inner call result self.new.inner }
         ensures possible { IsPossible T.is_clone call result }
         ensures kind { IsOfKind call result }
+        ensures threads { self.new ≡ record self.old { inner = self.new.inner } }
     {
         self.make(call, wake)
     }
@@ -120,6 +121,7 @@ impl<T: Clone, A: Allocator + Copy> State<T, A> {
             (Reply.TryBroadcast result) self.new.inner }
         ensures possible { IsPossible T.is_clone (Call.TryBroadcast msg)
             (Reply.TryBroadcast result) }
+        ensures threads { self.new ≡ record self.old { inner = self.new.inner } }
     {
         self.inner.try_broadcast(msg)
     }
@@ -153,6 +155,7 @@ impl<T: Clone, A: Allocator + Copy> State<T, A> {
         ensures answers { Answers T.is_clone self.old.inner (Call.TryRecv key)
             (Reply.TryRecv result) self.new.inner }
         ensures possible { IsPossible T.is_clone (Call.TryRecv key) (Reply.TryRecv result) }
+        ensures threads { self.new ≡ record self.old { inner = self.new.inner } }
     {
         self.inner.try_recv(key)
     }
