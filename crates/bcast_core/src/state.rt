@@ -15,8 +15,8 @@ mod send;
 mod settings;
 mod snapshot;
 
-/// The state of a broadcast channel: its messages, the receivers' cursors, the counts of senders and
-/// inactive receivers, the settings, and who waits.
+/// The state of a broadcast channel: its messages, the receivers' cursors, the counts of senders
+/// and inactive receivers, the settings, and who waits.
 ///
 /// One call on it is one atomic event; a lock round it makes a channel for many threads. A receiver
 /// is named by its key, and a pending send by its place: a key or place may be given again after

@@ -146,8 +146,8 @@ pub fn run<T: Clone, A: Allocator + Copy>(
         (end_of_run (opening cap first made.first_key) calls.items made.replies.items)) }
     ensures valid { IfOk result (λ made. IsValid
         (end_of_run (opening cap first made.first_key) calls.items made.replies.items)) }
-    // Every receiver was given the accepted messages from its start to its cursor, in order, and told
-    // how many it missed.
+    // Every receiver was given the accepted messages from its start to its cursor, in order, and
+    // told how many it missed.
     ensures deliveries { IfOk result (λ made. AtEachPoint (AreAllExact T.is_clone)
         (opening cap first made.first_key) calls.items made.replies.items) }
     // No message was dropped twice.

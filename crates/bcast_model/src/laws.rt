@@ -12,7 +12,8 @@ pub fn next_is_valid<T: Clone>()
     ensures { NextIsValid T.is_clone }
 {}
 
-/// Law: what is seen of a channel is seen of some valid state exactly where its own parts fit together.
+/// Law: what is seen of a channel is seen of some valid state exactly where its own parts fit
+/// together.
 pub fn views_are_shown<T>()
     ensures { ViewsAreShown T }
 {}
@@ -32,7 +33,8 @@ pub fn polls_wait_where_tries_find_nothing<T: Clone>()
     ensures { PollsWaitWhereTriesFindNothing T.is_clone }
 {}
 
-/// Law: the lists of who waits. No id stands twice, no more are told than wait, and each keeps its position.
+/// Law: the lists of who waits. No id stands twice, no more are told than wait, and each keeps its
+/// position.
 pub fn lists_stay_in_order<A>()
     ensures { ListsStayInOrder A }
 {}

@@ -181,8 +181,8 @@ impl<X: Drop, J: Named> Prefix<X, J> {
     }
 }
 
-/// Writes a journal: it has the slot for the next note, or for the end. To a contract it is the notes
-/// so far.
+/// Writes a journal: it has the slot for the next note, or for the end. To a contract it is the
+/// notes so far.
 #[derive(Drop)]
 pub(crate) struct Writer<X, J: Named> {
     head: Word<Option<X>, u64, Keeping>,

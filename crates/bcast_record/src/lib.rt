@@ -6,8 +6,8 @@
 //! `run` makes again.
 //!
 //! All types of one recorder carry a parameter `R` that names it, as those of a ledger of the
-//! standard library do. A program makes, uses and ends a recorder inside a function over `R: Named`,
-//! here `work`, and calls it at `Brand` of `std::marker` with `calls`, a new `Blank` of
+//! standard library do. A program makes, uses and ends a recorder inside a function over `R:
+//! Named`, here `work`, and calls it at `Brand` of `std::marker` with `calls`, a new `Blank` of
 //! `std::sync::ledger`, and `journal`, a new `Journal`. The caller's `Invariants.antt` says that
 //! `R` names those:
 //!

@@ -57,8 +57,8 @@ impl<T: Copy + Clone, R: Named, A: Allocator + Copy> Log<T, R, A> {
     ///
     /// The channel is as `Inner::new` makes it. The seats are numbered from 0.
     ///
-    /// `calls` is a new ledger, with a part for each seat and one more, and `journal` a new journal:
-    /// those that the parameter `R` names.
+    /// `calls` is a new ledger, with a part for each seat and one more, and `journal` a new
+    /// journal: those that the parameter `R` names.
     ///
     /// # Errors
     ///
@@ -172,8 +172,8 @@ impl<T: Copy + Clone, R: Named, A: Allocator + Copy> Log<T, R, A> {
     ) -> Finished<T, R, A>
         requires { R.parts ≤ vec_len seats + 1 }
         ensures same { result ≡ self }
-        ensures opening { (opening : Opening) → slice_get known.now.notes 0 ≡ Some (note.Opened opening)
-            → result.opening ≡ opening }
+        ensures opening { (opening : Opening)
+            → slice_get known.now.notes 0 ≡ Some (note.Opened opening) → result.opening ≡ opening }
         ensures run { IsRecordedRun T.is_clone result }
         ensures count { length result.entries ≡ sum_by (λ s. s.count) seats.items }
     {

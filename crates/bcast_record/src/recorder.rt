@@ -50,8 +50,8 @@ impl<T: Copy + Clone, R: Named, A: Allocator + Copy> Recorder<T, R, A> {
     ///
     /// The channel is as `Inner::new` makes it. The seats are numbered from 0.
     ///
-    /// `calls` is a new ledger, with a part for each seat and one more, and `journal` a new journal:
-    /// those that the parameter `R` names.
+    /// `calls` is a new ledger, with a part for each seat and one more, and `journal` a new
+    /// journal: those that the parameter `R` names.
     ///
     /// # Errors
     ///

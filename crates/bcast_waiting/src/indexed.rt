@@ -5,8 +5,8 @@ use bcast_model::listener::Kind;
 
 /// An id that has a number of its own.
 ///
-/// A list has one entry for each number below its room, so the numbers of ids that are in use together
-/// are to be small.
+/// A list has one entry for each number below its room, so the numbers of ids that are in use
+/// together are to be small.
 pub trait Indexed: Eq {
     ghost number: { Self → ℕ };
 

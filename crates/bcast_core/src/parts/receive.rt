@@ -30,7 +30,8 @@ impl<T: Clone, N: Notice, A: Allocator + Copy> Parts<T, N, A> {
         self.store.skip(key);
     }
 
-    // Gives a receiver the message of this number, which is the greater of its cursor and the front.
+    // Gives a receiver the message of this number, which is the greater of its cursor and the
+    // front.
     #[inline(always)]
     fn read(&mut self, key: usize, number: u64) -> Result<T, AllocError>
         requires at { IsSomeAnd (cursor_of self.old.control key)
@@ -50,7 +51,8 @@ impl<T: Clone, N: Notice, A: Allocator + Copy> Parts<T, N, A> {
 
     /// Gives a receiver the message of this number, or says why there is none.
     ///
-    /// `at` is the receiver's cursor, or the greater of it and the front where what it missed is skipped.
+    /// `at` is the receiver's cursor, or the greater of it and the front where what it missed is
+    /// skipped.
     #[inline(always)]
     pub fn receive(
         &mut self,

@@ -29,7 +29,8 @@ impl<T: Drop, N: Notice, A: Allocator + Copy> Parts<T, N, A> {
         oldest
     }
 
-    // Puts a message last, for every receiver, all of whom are told. The last number closes the channel.
+    // Puts a message last, for every receiver, all of whom are told. The last number closes the
+    // channel.
     #[inline(always)]
     fn accept(&mut self, msg: T)
         requires someone { 0 < len self.old.control.cursors }

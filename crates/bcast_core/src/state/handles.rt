@@ -16,7 +16,8 @@ impl<T: Drop, N: Notice, A: Allocator + Copy> Inner<T, N, A> {
     ///
     /// `TooMany`: the count is the greatest `usize`. Nothing changed.
     ///
-    /// Source: `Sender::clone` and `new_sender` of async-broadcast; the refusal is this crate's own.
+    /// Source: `Sender::clone` and `new_sender` of async-broadcast; the refusal is this crate's
+    /// own.
     pub fn new_sender(&mut self) -> Result<(), HandleError>
         ensures { Answers NoClone self.old call.NewSender (reply.NewSender result) self.new }
     {
@@ -161,8 +162,8 @@ impl<T: Drop, N: Notice, A: Allocator + Copy> Inner<T, N, A> {
     }
 
     /// Takes the receiver of this key out: its stream and its future wait no more, and the messages
-    /// that nobody else is to read go. Where neither an active nor an inactive receiver is left, the
-    /// channel is closed. An unknown key changes nothing.
+    /// that nobody else is to read go. Where neither an active nor an inactive receiver is left,
+    /// the channel is closed. An unknown key changes nothing.
     ///
     /// Source: the drop of `Receiver` of async-broadcast.
     pub fn drop_receiver(&mut self, key: usize)

@@ -108,8 +108,8 @@ impl<T: Clone, N: Notice, A: Allocator + Copy> Inner<T, N, A> {
         stream_reply(received)
     }
 
-    /// The same, but what the receiver missed is skipped in this call: the number beside the message
-    /// says how many messages those were.
+    /// The same, but what the receiver missed is skipped in this call: the number beside the
+    /// message says how many messages those were.
     ///
     /// # Errors
     ///

@@ -40,8 +40,8 @@ impl<T: Drop, N: Notice, A: Allocator + Copy> Inner<T, N, A> {
     ///
     /// `Ready(Ok(..))` is an acceptance. `Ready(Err(SendError(msg)))` says that the channel is
     /// closed, or that there is no active receiver and `await_active` is off. `Wait(msg)` says that
-    /// the channel is full, or that there is no active receiver while `await_active` is on. Takes no
-    /// memory.
+    /// the channel is full, or that there is no active receiver while `await_active` is on. Takes
+    /// no memory.
     ///
     /// Source: the poll of `Send` of async-broadcast, without its listener.
     pub fn attempt_send(&mut self, msg: T) -> SendPoll<T>
