@@ -232,7 +232,7 @@ impl<T: Clone, P: Port<T, Slot<A>>, A: Allocator + Copy> Receiver<T, P, A> {
 
     /// Turns the receiver into an inactive one, which receives nothing and keeps the channel open.
     ///
-    /// What it had still to read is dropped where nobody else has to read it.
+    /// What it had still to read is dropped if nobody else has to read it.
     ///
     /// # Errors
     ///

@@ -5,7 +5,7 @@ use std::alloc::{Allocator, Global};
 /// What is seen of a channel between two calls, with a clone of each message that it keeps.
 #[derive(Drop)]
 pub struct Snapshot<T, A: Allocator = Global> {
-    /// The number of the first kept message, or of the next one where none is kept.
+    /// The number of the first kept message, or of the next one if none is kept.
     pub front: u64,
     /// A clone of each kept message, from the front.
     pub queue: Vec<T, A>,
@@ -21,7 +21,7 @@ pub struct Snapshot<T, A: Allocator = Global> {
     pub closed: bool,
     /// Whether a full channel drops its oldest message for a new one.
     pub overflow: bool,
-    /// Whether sends wait where there is no active receiver.
+    /// Whether sends wait while there is no active receiver.
     pub await_active: bool,
     /// How many messages the channel keeps at most.
     pub capacity: usize,

@@ -51,7 +51,7 @@ impl<T: Drop, N: Notice, A: Allocator + Copy> Inner<T, N, A> {
     ///
     /// # Errors
     ///
-    /// `AllocError`: there is no memory for `cap` messages, or for the receiver.
+    /// `AllocError`: memory for `cap` messages or for the receiver was refused.
     ///
     /// Source: `broadcast` of async-broadcast.
     pub fn new(alloc: A, cap: usize) -> Result<(Self, usize), AllocError>
@@ -62,11 +62,11 @@ impl<T: Drop, N: Notice, A: Allocator + Copy> Inner<T, N, A> {
         Self::starting_at(alloc, cap, 0)
     }
 
-    /// The same, where the first message gets the number `first`.
+    /// The same, but the first message gets the number `first`.
     ///
     /// # Errors
     ///
-    /// `AllocError`: there is no memory for `cap` messages, or for the receiver.
+    /// `AllocError`: memory for `cap` messages or for the receiver was refused.
     pub fn starting_at(alloc: A, cap: usize, first: u64) -> Result<(Self, usize), AllocError>
         requires capacity { 0 < cap }
         requires number { first + 1 < 2 ^ 64 }
@@ -91,7 +91,7 @@ impl<T: Drop, N: Notice, A: Allocator + Copy> Inner<T, N, A> {
         self.parts.overflow()
     }
 
-    /// Whether sends wait where there is no active receiver.
+    /// Whether sends wait while there is no active receiver.
     pub fn await_active(&self) -> bool
         ensures { result ≡ self.now.control.await_active }
     {

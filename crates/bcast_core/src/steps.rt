@@ -36,7 +36,7 @@ pub fn step<T: Clone, N: Notice, A: Allocator + Copy>(
     make_call(inner, call, notice)
 }
 
-// The same. That the reply is possible follows from what it answers.
+// The same. That the reply is possible follows from `answers`.
 #[inline(always)]
 fn make_call<T: Clone, N: Notice, A: Allocator + Copy>(
     inner: &mut Inner<T, N, A>,

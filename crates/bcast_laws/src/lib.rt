@@ -13,7 +13,7 @@ pub fn refused_changes_nothing<T: Clone>()
     ensures { RefusedChangesNothing T.is_clone }
 {}
 
-/// Law: a call adds its message where it answers that the message was accepted, else it adds none.
+/// Law: a call adds its message if its reply says that it was accepted, else it adds none.
 pub fn only_accepted_is_added<T: Clone>()
     ensures { OnlyAcceptedIsAdded T.is_clone }
 {}
@@ -28,12 +28,12 @@ pub fn stays_closed<T: Clone>()
     ensures { StaysClosed T.is_clone }
 {}
 
-/// Law: where `is_terminated` answers true, each receive answers that the channel is closed.
+/// Law: if `is_terminated` is true, each receive says that the channel is closed.
 pub fn terminated_gives_nothing<T: Clone>()
     ensures { TerminatedGivesNothing T.is_clone }
 {}
 
-/// Law: a channel keeps at most as many messages as its capacity, and none where nobody receives.
+/// Law: a channel keeps at most as many messages as its capacity, and none if nobody receives.
 pub fn keeps_at_most_capacity<T: Clone>()
     ensures { KeepsAtMostCapacity T.is_clone }
 {}

@@ -12,13 +12,13 @@ pub fn next_is_valid<T: Clone>()
     ensures { NextIsValid T.is_clone }
 {}
 
-/// Law: what is seen of a channel is seen of some valid state exactly where its own parts fit
+/// Law: what is seen of a channel is seen of some valid state exactly if its own parts fit
 /// together.
 pub fn views_are_shown<T>()
     ensures { ViewsAreShown T }
 {}
 
-/// Law: where a clone equals its original, a receive gives the accepted message to the letter.
+/// Law: if a clone equals its original, a receive gives the accepted message to the letter.
 pub fn replies_are_exact<T: Clone>()
     ensures { RepliesAreExact T.is_clone }
 {}
@@ -28,7 +28,7 @@ pub fn received_is_given<T: Clone>()
     ensures { ReceivedIsGiven T.is_clone }
 {}
 
-/// Law: a poll waits exactly where the try of the same name finds nothing to answer.
+/// Law: a poll waits exactly if the try of the same name finds nothing to answer.
 pub fn polls_wait_where_tries_find_nothing<T: Clone>()
     ensures { PollsWaitWhereTriesFindNothing T.is_clone }
 {}

@@ -6,7 +6,7 @@ use std::alloc::AllocError;
 /// What a send that may wait was answered.
 #[derive(Clone, Copy, PartialEq, Drop)]
 pub enum SendPoll<T> {
-    /// The message was accepted, and the oldest one is handed back where overflow dropped it;
+    /// The message was accepted, and the oldest one is handed back if overflow dropped it;
     /// or the message comes back, since nobody can receive it.
     Ready(Result<Option<T>, SendError<T>>),
     /// The send must wait. The message comes back.

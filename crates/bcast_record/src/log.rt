@@ -100,7 +100,7 @@ impl<T: Copy + Clone, R: Named, A: Allocator + Copy> Log<T, R, A> {
 
     /// Makes one call on the channel, for a seat of this log, and stores it with its reply.
     ///
-    /// The seat then counts one call more. A new capacity must be positive. Where the channel
+    /// The seat then counts one call more. A new capacity must be positive. If the channel
     /// itself finds no memory, that is a reply, and stored like any other.
     ///
     /// # Errors

@@ -120,7 +120,7 @@ impl<T: Copy + Clone, R: Named, A: Allocator + Copy> Recorder<T, R, A> {
     ) -> Result<Finished<T, R, A>, (Self, Vec<Seat<R>, A>)>
         // The entries are a run of the channel, as many as the seats' counts together.
         ensures run { IfOk result (λ finished. IsRecordedRun T.is_clone finished) }
-        // Where a clone equals its original, the replies are the machine's to the letter.
+        // If a clone equals its original, the replies are the machine's to the letter.
         ensures exact { ClonesEqual T.is_clone
             → IfOk result (λ finished. IsRecordedRun NoClone finished) }
         ensures opening { IfOk result (λ finished. finished.opening ≡ self.opening) }

@@ -70,7 +70,7 @@ impl<T: Clone, A: Allocator + Copy> State<T, A> {
         self.senders == 0 && self.idle_receivers == 0 && self.due_receivers == 0
     }
 
-    /// Makes one call where no thread waits.
+    /// Makes one call while no thread waits.
     #[inline(always)]
     pub(super) fn make_alone(&mut self, call: Call<T>, wake: Wake<Slot<A>>) -> Reply<T>
         requires capacity { HasPositiveCapacity call }
@@ -113,7 +113,7 @@ impl<T: Clone, A: Allocator + Copy> State<T, A> {
         step(&mut self.inner, call, wake)
     }
 
-    /// Sends where no thread waits.
+    /// Sends while no thread waits.
     #[inline(always)]
     pub(super) fn try_broadcast_alone(&mut self, msg: T) -> Result<Option<T>, TrySendError<T>>
         requires { HasNoThread self.old }
@@ -145,7 +145,7 @@ impl<T: Clone, A: Allocator + Copy> State<T, A> {
         (answer, woken)
     }
 
-    /// Receives where no thread waits.
+    /// Receives while no thread waits.
     #[inline(always)]
     pub(super) fn try_recv_alone(
         &mut self,

@@ -25,7 +25,7 @@ impl<T: Clone, P: Ask<T, Slot<A>>, A: Allocator + Copy> Sender<T, P, A> {
 
     /// Changes how many messages the channel keeps at once.
     ///
-    /// Where more than `new_cap` are kept, the oldest are dropped, and receivers that had still to
+    /// If more than `new_cap` are kept, the oldest are dropped, and receivers that had still to
     /// read them see `Overflowed`, in overflow mode or not.
     ///
     /// # Errors
@@ -85,7 +85,7 @@ impl<T: Clone, P: Ask<T, Slot<A>>, A: Allocator + Copy> Sender<T, P, A> {
         asked::set_overflow::<T, Slot<A>, P>(&self.port, overflow)
     }
 
-    /// Whether sends that may wait do so where there is no active receiver.
+    /// Whether sends that may wait do so while there is no active receiver.
     ///
     /// ```rust
     /// let (mut sender, receiver) = broadcast::<u64, _, _>(&rt, rt.alloc(), 1)?;
@@ -101,7 +101,7 @@ impl<T: Clone, P: Ask<T, Slot<A>>, A: Allocator + Copy> Sender<T, P, A> {
         asked::await_active::<T, Slot<A>, P>(&self.port)
     }
 
-    /// Says whether sends that may wait do so where there is no active receiver.
+    /// Says whether sends that may wait do so while there is no active receiver.
     ///
     /// ```rust
     /// let (mut sender, receiver) = broadcast(&rt, rt.alloc(), 1)?;
@@ -120,7 +120,7 @@ impl<T: Clone, P: Ask<T, Slot<A>>, A: Allocator + Copy> Sender<T, P, A> {
         asked::set_await_active::<T, Slot<A>, P>(&self.port, await_active)
     }
 
-    /// Closes the channel, and answers whether it was open.
+    /// Closes the channel, and returns whether it was open.
     ///
     /// No more messages are accepted. Those that are there can still be received.
     ///

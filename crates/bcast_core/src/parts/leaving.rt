@@ -1,4 +1,4 @@
-//! The calls by which a handle goes, but for telling a sender.
+//! The calls that drop a handle, without telling a sender.
 ghost use Rattle.bcast_model.specs.Legal.{NoClone};
 ghost use Rattle.bcast_model.specs.Laws.{IsValidView};
 ghost use Rattle.bcast_core.specs.Parts.{Does};

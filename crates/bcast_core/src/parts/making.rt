@@ -1,4 +1,4 @@
-//! The calls that make a handle, but for telling a sender.
+//! The calls that make a handle, without telling a sender.
 ghost use Rattle.std.specs.Prelude.{◌^◌, ◌<◌};
 ghost use Rattle.std.specs.FinMap.{len};
 ghost use Rattle.bcast_model.specs.Legal.{NoClone};

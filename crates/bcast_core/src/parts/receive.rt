@@ -51,7 +51,7 @@ impl<T: Clone, N: Notice, A: Allocator + Copy> Parts<T, N, A> {
 
     /// Gives a receiver the message of this number, or says why there is none.
     ///
-    /// `at` is the receiver's cursor, or the greater of it and the front where what it missed is
+    /// `at` is the receiver's cursor, or the greater of it and the front if what it missed is
     /// skipped.
     #[inline(always)]
     pub fn receive(
@@ -103,7 +103,7 @@ impl<T: Clone, N: Notice, A: Allocator + Copy> Parts<T, N, A> {
         }
     }
 
-    /// The same for a listener that waits where there is nothing.
+    /// The same for a listener that waits if there is nothing.
     pub fn poll(
         &mut self,
         key: usize,

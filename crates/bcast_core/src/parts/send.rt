@@ -115,7 +115,7 @@ impl<T: Drop, N: Notice, A: Allocator + Copy> Parts<T, N, A> {
         }
     }
 
-    /// Sets the capacity. Where fewer messages fit than are kept, the oldest are dropped.
+    /// Sets the capacity. If fewer messages fit than are kept, the oldest are dropped.
     pub fn set_capacity(&mut self, n: usize) -> Result<(), AllocError>
         requires valid { IsValidView self.old }
         requires positive { 1 ≤ n }

@@ -1,4 +1,4 @@
-//! Handles that are made, and handles that go.
+//! Handles that are made, and handles that are dropped.
 ghost use Rattle.bcast_model.specs.Legal.{NoClone};
 ghost use Rattle.bcast_model.specs.Answers.{Answers};
 ghost use Rattle.bcast_model.specs.declared.run.Call.TheVariants as call;
@@ -66,11 +66,11 @@ impl<T: Drop, N: Notice, A: Allocator + Copy> Inner<T, N, A> {
         made
     }
 
-    /// Adds a receiver that reads the messages to come, and answers its key.
+    /// Adds a receiver that reads the messages to come, and returns its key.
     ///
     /// # Errors
     ///
-    /// `Memory`: there is no memory for it. Nothing changed.
+    /// `Memory`: memory for it was refused. Nothing changed.
     ///
     /// Source: `new_receiver` of async-broadcast.
     pub fn new_receiver(&mut self) -> Result<usize, HandleError>
@@ -88,7 +88,7 @@ impl<T: Drop, N: Notice, A: Allocator + Copy> Inner<T, N, A> {
     ///
     /// Nothing changed.
     /// - `Gone`: there is no inactive receiver.
-    /// - `Memory`: there is no memory for the receiver.
+    /// - `Memory`: memory for the receiver was refused.
     ///
     /// Source: `InactiveReceiver::activate` of async-broadcast.
     pub fn activate(&mut self) -> Result<usize, HandleError>
@@ -106,7 +106,7 @@ impl<T: Drop, N: Notice, A: Allocator + Copy> Inner<T, N, A> {
     ///
     /// Nothing changed.
     /// - `Gone`: there is no inactive receiver.
-    /// - `Memory`: there is no memory for the receiver.
+    /// - `Memory`: memory for the receiver was refused.
     ///
     /// Source: `InactiveReceiver::activate_cloned` of async-broadcast.
     pub fn activate_cloned(&mut self) -> Result<usize, HandleError>
@@ -125,7 +125,7 @@ impl<T: Drop, N: Notice, A: Allocator + Copy> Inner<T, N, A> {
     ///
     /// Nothing changed.
     /// - `Gone`: there is no such receiver.
-    /// - `Memory`: there is no memory for the new one.
+    /// - `Memory`: memory for the new one was refused.
     ///
     /// Source: `Receiver::clone` of async-broadcast.
     pub fn clone_receiver(&mut self, key: usize) -> Result<usize, HandleError>
@@ -149,7 +149,7 @@ impl<T: Drop, N: Notice, A: Allocator + Copy> Inner<T, N, A> {
         self.parts.tell_if_ready(was_blocked);
     }
 
-    /// Counts one inactive receiver less. Where neither an inactive nor an active one is left, the
+    /// Counts one inactive receiver less. If neither an inactive nor an active one is left, the
     /// channel is closed. With none left it changes nothing.
     ///
     /// Source: the drop of `InactiveReceiver` of async-broadcast.
@@ -162,7 +162,7 @@ impl<T: Drop, N: Notice, A: Allocator + Copy> Inner<T, N, A> {
     }
 
     /// Takes the receiver of this key out: its stream and its future wait no more, and the messages
-    /// that nobody else is to read go. Where neither an active nor an inactive receiver is left,
+    /// that nobody else is to read go. If neither an active nor an inactive receiver is left,
     /// the channel is closed. An unknown key changes nothing.
     ///
     /// Source: the drop of `Receiver` of async-broadcast.

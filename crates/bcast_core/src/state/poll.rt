@@ -1,4 +1,4 @@
-//! Receiving by a future or a stream, which wait where there is nothing.
+//! Receiving by a future or a stream, which wait if there is nothing.
 ghost use Rattle.std.specs.Prelude.{◌≡◌, Ok, Err, IfOk, IfErr, IsOk};
 ghost use Rattle.bcast_model.specs.Legal.{NoClone};
 ghost use Rattle.bcast_model.specs.Answers.{Answers};
@@ -43,7 +43,7 @@ fn stream_reply<T: Drop>(
     }
 }
 
-// The same as the answer of `poll_next`, where so many messages were skipped.
+// The same as the answer of `poll_next`, if so many messages were skipped.
 fn next_reply<T: Drop>(
     skips: u64,
     received: Result<Result<T, TryRecvError>, AllocError>,
@@ -60,7 +60,7 @@ fn next_reply<T: Drop>(
 }
 
 impl<T: Clone, N: Notice, A: Allocator + Copy> Inner<T, N, A> {
-    /// Receives as `try_recv` does, by a future. Where there is nothing it waits: `notice` is told
+    /// Receives as `try_recv` does, by a future. If there is nothing it waits: `notice` is told
     /// once it is to be polled again.
     ///
     /// # Errors
@@ -85,7 +85,7 @@ impl<T: Clone, N: Notice, A: Allocator + Copy> Inner<T, N, A> {
     }
 
     /// Receives as `try_recv` does, by the stream. `Ready(None)` says that everything was read and
-    /// the channel is closed. Where there is nothing it waits, as `poll_future` does.
+    /// the channel is closed. If there is nothing it waits, as `poll_future` does.
     ///
     /// # Errors
     ///

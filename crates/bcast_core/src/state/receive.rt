@@ -10,7 +10,7 @@ use bcast_waiting::notice::Notice;
 use std::alloc::{AllocError, Allocator};
 
 impl<T: Clone, N: Notice, A: Allocator + Copy> Inner<T, N, A> {
-    /// Gives the receiver of this key its next message: the message itself, or a clone of it where
+    /// Gives the receiver of this key its next message: the message itself, or a clone of it if
     /// another receiver is still to read it.
     ///
     /// # Errors
@@ -29,7 +29,7 @@ impl<T: Clone, N: Notice, A: Allocator + Copy> Inner<T, N, A> {
     pub fn try_recv(&mut self, key: usize) -> Result<Result<T, TryRecvError>, AllocError>
         ensures answers { Answers T.is_clone self.old (call.TryRecv key) (reply.TryRecv result)
             self.new }
-        // Where no clone fails, there is an answer.
+        // If no clone fails, there is a message.
         ensures sure { ((msg : T) → T.is_infallible msg) → IsOk result }
     {
         let was_blocked = !self.parts.is_ready();

@@ -58,7 +58,7 @@ impl<T: Drop, N: Notice, A: Allocator + Copy> Inner<T, N, A> {
     ///
     /// # Errors
     ///
-    /// `AllocError`: there is no memory for it, and nothing changed.
+    /// `AllocError`: memory for it was refused, and nothing changed.
     pub fn begin_send(&mut self) -> Result<usize, AllocError>
         ensures { Answers NoClone self.old call.BeginSend (reply.BeginSend result) self.new }
     {
@@ -71,7 +71,7 @@ impl<T: Drop, N: Notice, A: Allocator + Copy> Inner<T, N, A> {
     /// Tries the pending send of this place: it is answered as by `attempt_send`, and the place is
     /// free from then on; or it waits, and `notice` is told once it is to be polled again.
     ///
-    /// A place that is not in use changes nothing and is answered `Wait(msg)`. Where the send is
+    /// A place that is not in use changes nothing and gets `Wait(msg)`. If the send is
     /// answered and sends are still ready, the next one that waits is told. Takes no memory.
     ///
     /// Source: the poll of `Send` of async-broadcast; who is told next is this crate's own.

@@ -10,7 +10,7 @@ use bcast_waiting::notice::Notice;
 use std::alloc::{AllocError, Allocator};
 
 impl<T: Drop, N: Notice, A: Allocator + Copy> Inner<T, N, A> {
-    /// Closes the channel, and answers whether it was open. All that wait are told.
+    /// Closes the channel, and returns whether it was open. All that wait are told.
     ///
     /// It never opens again. Messages that are kept can still be received. Takes no memory.
     ///
@@ -25,12 +25,12 @@ impl<T: Drop, N: Notice, A: Allocator + Copy> Inner<T, N, A> {
         was_open
     }
 
-    /// Sets the capacity. Where fewer messages fit than are kept, the oldest are dropped, without
+    /// Sets the capacity. If fewer messages fit than are kept, the oldest are dropped, without
     /// overflow mode too.
     ///
     /// # Errors
     ///
-    /// `AllocError`: `n` is above every capacity so far, and there is no memory for it. Nothing
+    /// `AllocError`: `n` is above every capacity so far, and memory for it was refused. Nothing
     /// changed.
     ///
     /// Source: `set_capacity` of async-broadcast.
@@ -56,7 +56,7 @@ impl<T: Drop, N: Notice, A: Allocator + Copy> Inner<T, N, A> {
         self.parts.tell_if_ready(was_blocked);
     }
 
-    /// Sets whether sends wait where there is no active receiver.
+    /// Sets whether sends wait while there is no active receiver.
     ///
     /// Source: `set_await_active` of async-broadcast.
     pub fn set_await_active(&mut self, on: bool)

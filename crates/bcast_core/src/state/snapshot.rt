@@ -14,7 +14,7 @@ impl<T: Clone, N: Notice, A: Allocator + Copy> Inner<T, N, A> {
     ///
     /// # Errors
     ///
-    /// `AllocError`: there is no memory for the lists, or for the clone of a message.
+    /// `AllocError`: memory for the lists, or for the clone of a message, was refused.
     pub fn snapshot<B: Allocator + Copy>(&self, alloc: B) -> Result<Snapshot<T, B>, AllocError>
         ensures { IfOk result (λ snapshot. Shows T.is_clone snapshot self.now) }
     {
