@@ -8,6 +8,9 @@ ghost use Rattle.bcast_laws.specs.Closing.{StaysClosed, TerminatedGivesNothing};
 ghost use Rattle.bcast_laws.specs.Receives.{KeepsAtMostCapacity, MissedThenGiven, ReadsByOwnCursor, ClonesAnswerAlike};
 ghost use Rattle.bcast_laws.specs.Order.{RunsHaveOneOrder};
 
+pub mod deliveries;
+pub mod states;
+
 /// Law: a refused call leaves the channel as it was, and a refused send hands back its message.
 pub fn refused_changes_nothing<T: Clone>()
     ensures { RefusedChangesNothing T.is_clone }

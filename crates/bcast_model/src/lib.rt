@@ -1,8 +1,6 @@
 //! What a broadcast channel does, by its calls: the definitions that the code is proved against.
 #![tactic(auto)]
 
-pub mod deliveries;
 pub mod error;
-pub mod laws;
 pub mod listener;
 pub mod run;

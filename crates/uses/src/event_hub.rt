@@ -11,7 +11,7 @@ ghost use Rattle.uses.specs.Hub.{IsOpened, IsNextEvent, event_of};
 ghost use Rattle.uses.specs.Sends.{send_answer, send_reply};
 
 use bcast_core::{HandleError, Inner, Silent, TryRecvError, TrySendError};
-use bcast_model::laws::received_is_given;
+use bcast_laws::states::received_is_given;
 use std::alloc::{AllocError, Global};
 use std::marker::Model;
 

@@ -5,7 +5,7 @@
 ghost use Rattle.std.specs.Prelude.{◌≡◌, IfOk, IfSome, string_bytes};
 
 use bcast_core::{Inner, Silent};
-use bcast_model::laws::received_is_given;
+use bcast_laws::states::received_is_given;
 use std::alloc::{AllocError, Global};
 use std::string::String;
 

@@ -1,6 +1,6 @@
 -- Each poll against its try.
 use Rattle.bcast_model.proofs.Polls.{send_waits_full, send_waits_unready, future_waits_empty, recv_waits_empty, next_waits_empty}
-use Rattle.bcast_model.proofs.laws.polls_wait_where_tries_find_nothing.Goals as goal
+use Rattle.bcast_laws.proofs.states.polls_wait_where_tries_find_nothing.Goals as goal
 
 pub returns : goal.returns
 returns g _ = record {

@@ -1,4 +1,4 @@
-//! What follows from the definitions alone.
+//! What holds of each state, each reply and each list: laws of the definitions.
 ghost use Rattle.bcast_model.specs.Laws.{OpeningIsValid, NextIsValid, ViewsAreShown, RepliesAreExact, ReceivedIsGiven, PollsWaitWhereTriesFindNothing};
 ghost use Rattle.bcast_model.specs.ListLaws.{ListsStayInOrder};
 

@@ -1,6 +1,6 @@
 -- What fits together is shown, and the other way round.
 use Rattle.bcast_model.proofs.Witness.{views_shown}
-use Rattle.bcast_model.proofs.laws.views_are_shown.Goals as goal
+use Rattle.bcast_laws.proofs.states.views_are_shown.Goals as goal
 
 pub returns : goal.returns
 returns g _ = λ v. views_shown v
