@@ -40,6 +40,10 @@ module _ {T : Type 0} where
   pub answers_any : {q : T → T → Type 0} {old new : View T} {c : Call T} {r : Reply T} → Answers NoClone old c r new → Answers q old c r new
   answers_any a = answers_wider (λ msg given none. absurd none) a
 
+  -- where a clone equals its original, each message that is handed out is the message itself
+  pub answers_exact : {p : T → T → Type 0} {old new : View T} {c : Call T} {r : Reply T} → ClonesEqual p → Answers p old c r new → Answers NoClone old c r new
+  answers_exact equal a = answers_wider (λ msg given cloned. inl (equal msg given cloned)) a
+
   pub legal_exact : (p : T → T → Type 0) (v : View T) (c : Call T) (r : Reply T) → ClonesEqual p → Legal p v c r → Legal NoClone v c r
   legal_exact p v c r equal legal = legal_wider p NoClone (λ msg given cloned. inl (equal msg given cloned)) v c r legal
 
