@@ -1,7 +1,7 @@
 //! The handles of one channel, each under its number.
 use crate::answer::Answer;
 use async_broadcast::{HandleError, InactiveReceiver, Port, Receiver, Sender, Slot};
-use bcast_text::engine::Fault;
+use bcast_text::input::Fault;
 use std::alloc::{Allocator, Global};
 
 /// The handles of one channel, each kind numbered in the order of making. A handle that left leaves

@@ -1,7 +1,7 @@
 //! Futures that are held between lines: sends, and one receive.
 use crate::answer::Answer;
 use async_broadcast::{NoMemory, Port, Receiver, Recv, Send, Sender, Slot};
-use bcast_text::engine::Fault;
+use bcast_text::input::Fault;
 use futures::task::Poll;
 use futures::test::MockTask;
 use std::alloc::{AllocError, Allocator, Global};

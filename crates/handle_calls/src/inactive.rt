@@ -3,7 +3,7 @@ use crate::answer::Answer;
 use crate::handles::Handles;
 use crate::settings::{of_inactive, setting_of};
 use async_broadcast::{Port, Slot};
-use bcast_text::engine::Fault;
+use bcast_text::input::Fault;
 use std::alloc::Allocator;
 
 impl<P: Port<u64, Slot<A>>, A: Allocator + Copy> Handles<P, A> {

@@ -4,7 +4,7 @@ use crate::handles::Handles;
 use crate::held::of_recv_poll;
 use crate::settings::{of_receiver, setting_of};
 use async_broadcast::{Port, Receiver, Slot};
-use bcast_text::engine::Fault;
+use bcast_text::input::Fault;
 use futures::StreamExt;
 use futures::task::Poll;
 use futures::test::MockTask;

@@ -5,7 +5,7 @@ use crate::recording::Recorder;
 use crate::session::{ChannelPorts, Ports, Session, tasks_of};
 use async_broadcast::{InactiveReceiver, Port, Receiver, Sender, Slot, broadcast};
 use bcast_text::ending::Ending;
-use bcast_text::engine::Fault;
+use bcast_text::input::Fault;
 use bcast_text::lines::{Found, Lines};
 use futures::test::MockTask;
 use linked_list_allocator::LocalHeap;

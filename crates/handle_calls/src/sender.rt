@@ -3,7 +3,7 @@ use crate::answer::Answer;
 use crate::handles::Handles;
 use crate::settings::{of_sender, setting_of};
 use async_broadcast::{Port, Sender, Slot};
-use bcast_text::engine::Fault;
+use bcast_text::input::Fault;
 use std::alloc::Allocator;
 
 /// Sends, or asks for a setting.

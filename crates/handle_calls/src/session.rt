@@ -5,7 +5,7 @@ use crate::held::Held;
 use crate::line::{Request, Subject};
 use crate::recording::Recorder;
 use async_broadcast::{Port, Slot};
-use bcast_text::engine::Fault;
+use bcast_text::input::Fault;
 use futures::test::MockTask;
 use std::alloc::{AllocGlobal, Allocator, Global};
 use std::io;
