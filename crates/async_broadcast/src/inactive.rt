@@ -5,7 +5,7 @@ ghost use Rattle.async_broadcast.specs.Ports.{IsSame};
 use crate::asked;
 use crate::port::{Ask, Port};
 use crate::receiver::Receiver;
-use crate::wake::Slot;
+use crate::wake::WakerSlot;
 use bcast_core::{Call, HandleError, Reply};
 use std::alloc::{Allocator, Global};
 use std::marker::PhantomData;
@@ -17,14 +17,14 @@ mod settings;
 /// While it is there, the channel isn't closed for want of receivers. Contracts name its `port`.
 ///
 /// Source: `InactiveReceiver` of async-broadcast 0.7.2.
-pub struct InactiveReceiver<T: Clone, P: Ask<T, Slot<A>>, A: Allocator = Global> {
+pub struct InactiveReceiver<T: Clone, P: Ask<T, WakerSlot<A>>, A: Allocator = Global> {
     pub(crate) port: P,
     // For handles made here.
     pub(crate) alloc: A,
     messages: PhantomData<T>,
 }
 
-impl<T: Clone, P: Port<T, Slot<A>>, A: Allocator + Copy> InactiveReceiver<T, P, A> {
+impl<T: Clone, P: Port<T, WakerSlot<A>>, A: Allocator + Copy> InactiveReceiver<T, P, A> {
     /// An inactive receiver over this port, whose channel has counted it: its drop asks
     /// `DropInactive`.
     ///
@@ -63,7 +63,7 @@ impl<T: Clone, P: Port<T, Slot<A>>, A: Allocator + Copy> InactiveReceiver<T, P, 
         ensures refused { IfErr result (λ back. (back.0 ≡ self)
             × P.gave self.port Call.Activate (Reply.Activate (Err back.1))) }
     {
-        match asked::activate::<T, Slot<A>, P>(&self.port) {
+        match asked::activate::<T, WakerSlot<A>, P>(&self.port) {
             Ok(key) => {
                 let InactiveReceiver {
                     port,
@@ -102,7 +102,7 @@ impl<T: Clone, P: Port<T, Slot<A>>, A: Allocator + Copy> InactiveReceiver<T, P, 
             ⊎ P.gave self.now.port Call.ActivateCloned (Reply.ActivateCloned (Err error))) }
     {
         let port = self.port.same().ok_or(HandleError::Memory)?;
-        match asked::activate_cloned::<T, Slot<A>, P>(&self.port) {
+        match asked::activate_cloned::<T, WakerSlot<A>, P>(&self.port) {
             Ok(key) => Ok(Receiver::over(port, key, self.alloc)),
             Err(error) => Err(error),
         }
@@ -134,18 +134,18 @@ impl<T: Clone, P: Port<T, Slot<A>>, A: Allocator + Copy> InactiveReceiver<T, P, 
             ⊎ P.gave self.now.port Call.CloneInactive (Reply.CloneInactive (Err error))) }
     {
         let port = self.port.same().ok_or(HandleError::Memory)?;
-        match asked::clone_inactive::<T, Slot<A>, P>(&self.port) {
+        match asked::clone_inactive::<T, WakerSlot<A>, P>(&self.port) {
             Ok(()) => Ok(InactiveReceiver::over(port, self.alloc)),
             Err(error) => Err(error),
         }
     }
 }
 
-impl<T: Clone, P: Ask<T, Slot<A>>, A: Allocator> Drop for InactiveReceiver<T, P, A> {
+impl<T: Clone, P: Ask<T, WakerSlot<A>>, A: Allocator> Drop for InactiveReceiver<T, P, A> {
     fn drop(self)
         ensures { P.gave self.port Call.DropInactive Reply.DropInactive }
     {
-        asked::drop_inactive::<T, Slot<A>, P>(&self.port);
+        asked::drop_inactive::<T, WakerSlot<A>, P>(&self.port);
         let InactiveReceiver {
             port: _,
             alloc: _,

@@ -38,4 +38,4 @@ pub use lock::{Ends, Lock, broadcast};
 pub use port::{Ask, Port};
 pub use receiver::Receiver;
 pub use sender::Sender;
-pub use wake::{Slot, Wake};
+pub use wake::{Wake, WakerSlot};

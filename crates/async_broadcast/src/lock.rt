@@ -9,7 +9,7 @@ ghost use Rattle.async_broadcast.specs.Channels.{channel_of};
 use crate::port::{Ask, Port};
 use crate::receiver::Receiver;
 use crate::sender::Sender;
-use crate::wake::{Slot, Wake};
+use crate::wake::{Wake, WakerSlot};
 use bcast_core::{Call, Inner, Reply, SendPoll, Snapshot, TryRecvError, TrySendError};
 use state::{State, Woken};
 use std::alloc::{AllocError, Allocator, Global};
@@ -197,7 +197,7 @@ fn is_empty<T>(answer: &Result<Result<T, TryRecvError>, AllocError>) -> bool
     matches!(answer, Ok(Err(TryRecvError::Empty)))
 }
 
-impl<T: Clone, R: Wait + Clone, A: Allocator + Copy> Ask<T, Slot<A>> for Lock<T, R, A> {
+impl<T: Clone, R: Wait + Clone, A: Allocator + Copy> Ask<T, WakerSlot<A>> for Lock<T, R, A> {
     ghost use Rattle.async_broadcast.specs.OfKind.{possible};
 
     ghost gave = { λ _ call reply. IsPossible T.is_clone call reply };
@@ -205,7 +205,7 @@ impl<T: Clone, R: Wait + Clone, A: Allocator + Copy> Ask<T, Slot<A>> for Lock<T,
     ghost of_kind = { λ _ call reply may. possible T.is_clone call reply may };
 
     #[inline(always)]
-    fn ask(&self, call: Call<T>, wake: Wake<Slot<A>>) -> Reply<T>
+    fn ask(&self, call: Call<T>, wake: Wake<WakerSlot<A>>) -> Reply<T>
         requires { HasPositiveCapacity call }
         ensures { IsPossible T.is_clone call result }
     {
@@ -221,7 +221,7 @@ impl<T: Clone, R: Wait + Clone, A: Allocator + Copy> Ask<T, Slot<A>> for Lock<T,
     }
 }
 
-impl<T: Clone, R: Wait + Clone, A: Allocator + Copy> Port<T, Slot<A>> for Lock<T, R, A> {
+impl<T: Clone, R: Wait + Clone, A: Allocator + Copy> Port<T, WakerSlot<A>> for Lock<T, R, A> {
     ghost use Rattle.async_broadcast.specs.Channels.{channel_of};
 
     ghost channel = { λ lock. channel_of lock };

@@ -13,7 +13,7 @@ use std::alloc::AllocError;
 ///
 /// What handles and futures promise, they promise over every port: an answer is the reply that
 /// the port gave to the call that the handle's method names. `S` is where its wakes keep a task's
-/// waker: `Slot`, unless memory comes from another allocator than `Global`.
+/// waker: `WakerSlot`, unless memory comes from another allocator than `Global`.
 ///
 /// The structs of handles and of futures need this much of a port. It is small, so that proofs
 /// about several futures at once are.

@@ -6,7 +6,7 @@ use crate::asked;
 use crate::inactive::InactiveReceiver;
 use crate::port::{Ask, Port};
 use crate::sender::Sender;
-use crate::wake::{Slot, TaskWaker};
+use crate::wake::{TaskWaker, WakerSlot};
 use bcast_core::{Call, HandleError, RecvError, Reply, TryRecvError};
 use std::alloc::{AllocError, Allocator, Global};
 use std::marker::PhantomData;
@@ -29,7 +29,7 @@ mod settings;
 /// ```
 ///
 /// Source: `Receiver` of async-broadcast 0.7.2.
-pub struct Receiver<T: Clone, P: Ask<T, Slot<A>>, A: Allocator = Global> {
+pub struct Receiver<T: Clone, P: Ask<T, WakerSlot<A>>, A: Allocator = Global> {
     pub(crate) port: P,
     pub(crate) key: usize,
     // Of the task that polls this receiver, as a stream or by a `Recv`.
@@ -37,7 +37,7 @@ pub struct Receiver<T: Clone, P: Ask<T, Slot<A>>, A: Allocator = Global> {
     messages: PhantomData<T>,
 }
 
-impl<T: Clone, P: Port<T, Slot<A>>, A: Allocator + Copy> Receiver<T, P, A> {
+impl<T: Clone, P: Port<T, WakerSlot<A>>, A: Allocator + Copy> Receiver<T, P, A> {
     /// A receiver over this port, whose channel has its cursor under this key: its drop asks
     /// `DropReceiver`.
     ///
@@ -136,7 +136,7 @@ impl<T: Clone, P: Port<T, Slot<A>>, A: Allocator + Copy> Receiver<T, P, A> {
     pub fn is_terminated(&self) -> bool
         ensures { P.gave self.now.port Call.IsTerminated (Reply.IsTerminated result) }
     {
-        asked::is_terminated::<T, Slot<A>, P>(&self.port)
+        asked::is_terminated::<T, WakerSlot<A>, P>(&self.port)
     }
 
     /// Makes another active receiver, which has the same messages still to read.
@@ -163,7 +163,7 @@ impl<T: Clone, P: Port<T, Slot<A>>, A: Allocator + Copy> Receiver<T, P, A> {
             (Reply.CloneReceiver (Err error))) }
     {
         let port = self.port.same().ok_or(HandleError::Memory)?;
-        match asked::clone_receiver::<T, Slot<A>, P>(&self.port, self.key) {
+        match asked::clone_receiver::<T, WakerSlot<A>, P>(&self.port, self.key) {
             Ok(key) => Ok(Receiver::over(port, key, self.waker.alloc())),
             Err(error) => Err(error),
         }
@@ -194,7 +194,7 @@ impl<T: Clone, P: Port<T, Slot<A>>, A: Allocator + Copy> Receiver<T, P, A> {
             ⊎ P.gave self.now.port Call.NewReceiver (Reply.NewReceiver (Err error))) }
     {
         let port = self.port.same().ok_or(HandleError::Memory)?;
-        match asked::new_receiver::<T, Slot<A>, P>(&self.port) {
+        match asked::new_receiver::<T, WakerSlot<A>, P>(&self.port) {
             Ok(key) => Ok(Receiver::over(port, key, self.waker.alloc())),
             Err(error) => Err(error),
         }
@@ -224,7 +224,7 @@ impl<T: Clone, P: Port<T, Slot<A>>, A: Allocator + Copy> Receiver<T, P, A> {
             ⊎ P.gave self.now.port Call.NewSender (Reply.NewSender (Err error))) }
     {
         let port = self.port.same().ok_or(HandleError::Memory)?;
-        match asked::new_sender::<T, Slot<A>, P>(&self.port) {
+        match asked::new_sender::<T, WakerSlot<A>, P>(&self.port) {
             Ok(()) => Ok(Sender::over(port, self.waker.alloc())),
             Err(error) => Err(error),
         }
@@ -256,7 +256,7 @@ impl<T: Clone, P: Port<T, Slot<A>>, A: Allocator + Copy> Receiver<T, P, A> {
         ensures refused { IfErr result (λ back. (back.0 ≡ self)
             × P.gave self.port (Call.Deactivate self.key) (Reply.Deactivate (Err back.1))) }
     {
-        match asked::deactivate::<T, Slot<A>, P>(&self.port, self.key) {
+        match asked::deactivate::<T, WakerSlot<A>, P>(&self.port, self.key) {
             Ok(()) => {
                 let Receiver {
                     port,
@@ -271,11 +271,11 @@ impl<T: Clone, P: Port<T, Slot<A>>, A: Allocator + Copy> Receiver<T, P, A> {
     }
 }
 
-impl<T: Clone, P: Ask<T, Slot<A>>, A: Allocator> Drop for Receiver<T, P, A> {
+impl<T: Clone, P: Ask<T, WakerSlot<A>>, A: Allocator> Drop for Receiver<T, P, A> {
     fn drop(self)
         ensures { P.gave self.port (Call.DropReceiver self.key) Reply.DropReceiver }
     {
-        asked::drop_receiver::<T, Slot<A>, P>(&self.port, self.key);
+        asked::drop_receiver::<T, WakerSlot<A>, P>(&self.port, self.key);
         let Receiver {
             port: _,
             key: _,

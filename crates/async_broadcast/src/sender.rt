@@ -5,7 +5,7 @@ ghost use Rattle.async_broadcast.specs.Ports.{IsSame};
 use crate::asked;
 use crate::port::{Ask, Port};
 use crate::receiver::Receiver;
-use crate::wake::Slot;
+use crate::wake::WakerSlot;
 use bcast_core::{Call, HandleError, Reply, SendError, SendPoll, TrySendError};
 use std::alloc::{Allocator, Global};
 use std::marker::PhantomData;
@@ -18,14 +18,14 @@ mod settings;
 /// are accepted, and those that are there can still be received. Contracts name its `port`.
 ///
 /// Source: `Sender` of async-broadcast 0.7.2.
-pub struct Sender<T: Clone, P: Ask<T, Slot<A>>, A: Allocator = Global> {
+pub struct Sender<T: Clone, P: Ask<T, WakerSlot<A>>, A: Allocator = Global> {
     pub(crate) port: P,
     // For futures, and for handles made here.
     pub(crate) alloc: A,
     messages: PhantomData<T>,
 }
 
-impl<T: Clone, P: Port<T, Slot<A>>, A: Allocator + Copy> Sender<T, P, A> {
+impl<T: Clone, P: Port<T, WakerSlot<A>>, A: Allocator + Copy> Sender<T, P, A> {
     /// A sender over this port, whose channel has counted it: its drop asks `DropSender`.
     ///
     /// Futures and handles that are made by it take their memory from `alloc`.
@@ -128,7 +128,7 @@ impl<T: Clone, P: Port<T, Slot<A>>, A: Allocator + Copy> Sender<T, P, A> {
             ⊎ P.gave self.now.port Call.NewSender (Reply.NewSender (Err error))) }
     {
         let port = self.port.same().ok_or(HandleError::Memory)?;
-        match asked::new_sender::<T, Slot<A>, P>(&self.port) {
+        match asked::new_sender::<T, WakerSlot<A>, P>(&self.port) {
             Ok(()) => Ok(Sender::over(port, self.alloc)),
             Err(error) => Err(error),
         }
@@ -160,18 +160,18 @@ impl<T: Clone, P: Port<T, Slot<A>>, A: Allocator + Copy> Sender<T, P, A> {
             ⊎ P.gave self.now.port Call.NewReceiver (Reply.NewReceiver (Err error))) }
     {
         let port = self.port.same().ok_or(HandleError::Memory)?;
-        match asked::new_receiver::<T, Slot<A>, P>(&self.port) {
+        match asked::new_receiver::<T, WakerSlot<A>, P>(&self.port) {
             Ok(key) => Ok(Receiver::over(port, key, self.alloc)),
             Err(error) => Err(error),
         }
     }
 }
 
-impl<T: Clone, P: Ask<T, Slot<A>>, A: Allocator> Drop for Sender<T, P, A> {
+impl<T: Clone, P: Ask<T, WakerSlot<A>>, A: Allocator> Drop for Sender<T, P, A> {
     fn drop(self)
         ensures { P.gave self.port Call.DropSender Reply.DropSender }
     {
-        asked::drop_sender::<T, Slot<A>, P>(&self.port);
+        asked::drop_sender::<T, WakerSlot<A>, P>(&self.port);
         let Sender {
             port: _,
             alloc: _,

@@ -9,11 +9,11 @@ use std::alloc::{Allocator, Global};
 use std::sync::{Arc, Mutex};
 
 /// Where a task's waker is kept between the polls of a future or a receiver.
-pub type Slot<A = Global> = Arc<Mutex<Option<Waker>>, A>;
+pub type WakerSlot<A = Global> = Arc<Mutex<Option<Waker>>, A>;
 
 /// The notice of a poll: wakes the poll's task when it is told, or nobody.
 #[derive(Drop)]
-pub struct Wake<S = Slot> {
+pub struct Wake<S = WakerSlot> {
     slot: Option<S>,
 }
 
@@ -24,7 +24,7 @@ impl<S> Wake<S> {
     }
 }
 
-impl<A: Allocator> Notice for Wake<Slot<A>> {
+impl<A: Allocator> Notice for Wake<WakerSlot<A>> {
     fn tell(&self) {
         if let Some(slot) = &self.slot {
             if let Some(mut waker) = lock(&**slot) {
@@ -42,7 +42,7 @@ pub(crate) struct TaskWaker<A: Allocator> {
     source: Source,
     alloc: A,
     // Made by the first poll, and then kept: dropped with a waker in it, it wakes the task.
-    slot: Option<Slot<A>>,
+    slot: Option<WakerSlot<A>>,
     // Whether the last poll found no memory for a notice.
     is_refused: bool,
 }
@@ -62,7 +62,7 @@ impl<A: Allocator + Copy> TaskWaker<A> {
     }
 
     /// Registers the poll's task, and makes a notice for it. None: there was no memory for one.
-    pub(crate) fn register(&mut self, cx: &mut Context<'_>) -> Option<Wake<Slot<A>>>
+    pub(crate) fn register(&mut self, cx: &mut Context<'_>) -> Option<Wake<WakerSlot<A>>>
         ensures slot { IsSome self.old.slot → self.new.slot ≡ self.old.slot }
         ensures refused { self.new.is_refused ≡ is_none result }
         ensures registered { IsArmed cx.new }
@@ -73,7 +73,7 @@ impl<A: Allocator + Copy> TaskWaker<A> {
         notice
     }
 
-    fn notice(&mut self, cx: &mut Context<'_>) -> Option<Wake<Slot<A>>>
+    fn notice(&mut self, cx: &mut Context<'_>) -> Option<Wake<WakerSlot<A>>>
         ensures slot { IsSome self.old.slot → self.new.slot ≡ self.old.slot }
         ensures registered { IsArmed cx.new }
         ensures kept { Keeps cx.old cx.new }
@@ -91,10 +91,10 @@ impl<A: Allocator + Copy> TaskWaker<A> {
 
 // A context that finds no memory for a waker leaves none, and has its task polled again.
 fn notice_in<A: Allocator + Copy>(
-    slot: &Slot<A>,
+    slot: &WakerSlot<A>,
     source: &Source,
     cx: &mut Context<'_>,
-) -> Option<Wake<Slot<A>>>
+) -> Option<Wake<WakerSlot<A>>>
     ensures registered { IsArmed cx.new }
     ensures kept { Keeps cx.old cx.new }
 {

@@ -1,5 +1,6 @@
 -- sends, and what is refused
 pub mod Sends
+pub mod RefusedHandles
 pub mod Refusals
 -- receivers, and the messages that are kept
 pub mod Kept

@@ -1,11 +1,10 @@
 -- A refused call changes nothing.
-use Rattle.std.proofs.Common.{◌≡◌, inl, inr, ℕ, ◌+◌, ◌-◌, ◌≤◌, ◌==◌, ◌&&◌, ◌||◌, not, Bool, true, false, cond, length, max, Option, Some, None, Result, Ok, Err, nat_lt, refl, sym, ap, ◌∙◌, arith, append-nil}
+use Rattle.std.proofs.Common.{◌≡◌, inl, inr, ℕ, ◌+◌, ◌-◌, ◌≤◌, ◌==◌, ◌&&◌, not, Bool, true, false, cond, length, max, Option, Some, None, Result, Ok, Err, nat_lt, refl, sym, ap, ◌∙◌, arith, append-nil}
 use Rattle.std.proofs.lemmas.Grind.{common_steps}
-use Rattle.std.specs.Prelude.{is_some, alloc_error}
+use Rattle.std.specs.Prelude.{alloc_error}
 use Rattle.bcast_model.specs.declared.error.TrySendError.{TrySendError}
 use Rattle.bcast_model.specs.declared.error.TryRecvError.{TryRecvError}
 use Rattle.bcast_model.specs.declared.error.TryRecvError.TheVariants as unread
-use Rattle.bcast_model.specs.declared.error.HandleError.TheVariants as handle
 use Rattle.bcast_model.specs.declared.run.Call.{Call}
 use Rattle.bcast_model.specs.declared.run.Call.TheVariants as call
 use Rattle.bcast_model.specs.declared.run.Reply.{Reply}
@@ -15,43 +14,22 @@ use Rattle.bcast_model.specs.View.{View, kept_at, sends_are_ready}
 use Rattle.bcast_model.specs.Effect.{Effect, sets}
 use Rattle.bcast_model.specs.Sending.{refusal, reply_to_try, reply_to_attempt, handed_back, accept_unless}
 use Rattle.bcast_model.specs.Receiving.{receive, recv_reply, skipped_count, skipped_to, future_reply, stream_reply, next_reply, try_recv_reply, IsOwed}
-use Rattle.bcast_model.specs.Legal.{Legal, IsReceived, count_reply}
+use Rattle.bcast_model.specs.Legal.{Legal, IsReceived}
 use Rattle.bcast_model.specs.Effects.{set_unless_refused, effect}
 use Rattle.bcast_model.specs.History.{History, view_of, remember, with_control}
 use Rattle.bcast_model.specs.Next.{found_no_memory, tell_if_ready, end_call, may_tell, next}
 use Rattle.bcast_model.specs.Valid.{IsValid, IsValidView}
 use Rattle.bcast_model.proofs.Views.{valid_view}
 use Rattle.bcast_model.proofs.DeliveryLists.{past_end}
-use Rattle.bcast_model.specs.Handles.{has_next, clone_receiver, deactivate, without_receiver}
+use Rattle.bcast_model.specs.Handles.{has_next}
 use Rattle.bcast_model.proofs.Cases.{test_is}
 use Rattle.bcast_laws.specs.Sends.{is_refused}
 use Rattle.bcast_laws.proofs.Sends.{apart}
+use Rattle.bcast_laws.proofs.RefusedHandles.{uncloned, same_cloned, same_deactivated, same_sender}
 
 not_not : (b : Bool) → not (not b) ≡ true → b ≡ true
 not_not true e = refl
 not_not false e = apart e
-
-uncloned : (c : Control) (cursor : Option ℕ) → clone_receiver c cursor None ≡ c
-uncloned c None = refl
-uncloned c (Some cursor) = refl
-
--- ---- handles
-same_cloned : (T : Type 0) (none has : Bool) (c more : Control) → is_refused {T = T} (reply.CloneInactive (cond (not none) (cond has (Ok tt) (Err handle.TooMany)) (Err handle.Gone))) ≡ true → cond (none || not has) c more ≡ c
-same_cloned T true has c more e = refl
-same_cloned T false true c more e = apart e
-same_cloned T false false c more e = refl
-
-same_deactivated : (T : Type 0) (c : Control) (key : ℕ) (cursor : Option ℕ) → is_refused {T = T} (reply.Deactivate (count_reply (is_some cursor) c.inactive)) ≡ true → deactivate c key cursor ≡ c
-same_deactivated T c key None e = refl
-same_deactivated T c key (Some cursor) e =
-    elim (has_next c.inactive) as (λ b. is_refused {T = T} (reply.Deactivate (cond b (Ok tt) (Err handle.TooMany))) ≡ true → cond b (record (without_receiver c key) { inactive = c.inactive + 1 }) c ≡ c) [
-      | true ↦ λ e. apart e
-      | false ↦ λ e. refl
-    ] e
-
-same_sender : (T : Type 0) (c more : Control) (has : Bool) → is_refused {T = T} (reply.NewSender (cond has (Ok tt) (Err handle.TooMany))) ≡ true → cond has more c ≡ c
-same_sender T c more true e = apart e
-same_sender T c more false e = refl
 
 -- what is told only where sends were not ready
 quiet : {A : Type 0} (b : Bool) (x y : A) → cond (not b && b) x y ≡ y

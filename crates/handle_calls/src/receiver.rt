@@ -3,7 +3,7 @@ use crate::answer::Answer;
 use crate::handles::Handles;
 use crate::held::of_recv_poll;
 use crate::settings::{of_receiver, setting_of};
-use async_broadcast::{Port, Receiver, Slot};
+use async_broadcast::{Port, Receiver, WakerSlot};
 use bcast_text::input::Fault;
 use futures::StreamExt;
 use futures::task::Poll;
@@ -11,7 +11,7 @@ use futures::test::MockTask;
 use std::alloc::Allocator;
 
 /// Receives at once, or asks for a setting.
-fn answer<P: Port<u64, Slot<A>>, A: Allocator + Copy>(
+fn answer<P: Port<u64, WakerSlot<A>>, A: Allocator + Copy>(
     receiver: &mut Receiver<u64, P, A>,
     method: &str,
     argument: Option<u64>,
@@ -24,7 +24,7 @@ fn answer<P: Port<u64, Slot<A>>, A: Allocator + Copy>(
     }
 }
 
-fn received<P: Port<u64, Slot<A>>, A: Allocator + Copy>(
+fn received<P: Port<u64, WakerSlot<A>>, A: Allocator + Copy>(
     receiver: &mut Receiver<u64, P, A>,
 ) -> Answer {
     match receiver.recv_blocking() {
@@ -33,7 +33,7 @@ fn received<P: Port<u64, Slot<A>>, A: Allocator + Copy>(
     }
 }
 
-fn poll_recv<P: Port<u64, Slot<A>>, A: Allocator + Copy>(
+fn poll_recv<P: Port<u64, WakerSlot<A>>, A: Allocator + Copy>(
     task: &MockTask,
     receiver: &mut Receiver<u64, P, A>,
 ) -> Answer {
@@ -45,7 +45,7 @@ fn poll_recv<P: Port<u64, Slot<A>>, A: Allocator + Copy>(
     }
 }
 
-fn poll_next<P: Port<u64, Slot<A>>, A: Allocator + Copy>(
+fn poll_next<P: Port<u64, WakerSlot<A>>, A: Allocator + Copy>(
     task: &MockTask,
     receiver: &mut Receiver<u64, P, A>,
 ) -> Answer {
@@ -58,14 +58,14 @@ fn poll_next<P: Port<u64, Slot<A>>, A: Allocator + Copy>(
 }
 
 // A future of its own for one poll, which is dropped then.
-fn poll_future<P: Port<u64, Slot<A>>, A: Allocator + Copy>(
+fn poll_future<P: Port<u64, WakerSlot<A>>, A: Allocator + Copy>(
     task: &MockTask,
     receiver: &mut Receiver<u64, P, A>,
 ) -> Answer {
     of_recv_poll(task.poll(&mut receiver.recv_direct()))
 }
 
-impl<P: Port<u64, Slot<A>>, A: Allocator + Copy> Handles<P, A> {
+impl<P: Port<u64, WakerSlot<A>>, A: Allocator + Copy> Handles<P, A> {
     /// Makes a call on the receiver of this number.
     pub fn by_receiver(
         &mut self,

@@ -3,7 +3,7 @@ use crate::held::{Held, Makers};
 use crate::line::{Capacity, Futures, LONGEST, Opening, read_opening, read_request};
 use crate::recording::Recorder;
 use crate::session::{ChannelPorts, Ports, Session, tasks_of};
-use async_broadcast::{InactiveReceiver, Port, Receiver, Sender, Slot, broadcast};
+use async_broadcast::{InactiveReceiver, Port, Receiver, Sender, WakerSlot, broadcast};
 use bcast_text::ending::Ending;
 use bcast_text::input::Fault;
 use bcast_text::lines::{Found, Lines};
@@ -39,7 +39,7 @@ impl<R: Read + Drop> Script<R> {
 }
 
 /// Plays lines up to the next opening. None: up to the end.
-fn play_lines<S: Ports, P: Port<u64, Slot<A>>, A: Allocator + Copy, R: Read + Drop, W: Write>(
+fn play_lines<S: Ports, P: Port<u64, WakerSlot<A>>, A: Allocator + Copy, R: Read + Drop, W: Write>(
     ports: &S,
     session: &mut Session<P, A>,
     held: &mut Held<'_, P, A>,

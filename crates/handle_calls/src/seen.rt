@@ -1,7 +1,7 @@
 //! What all handles say of their channel.
 use crate::answer::Answer;
 use crate::handles::Handles;
-use async_broadcast::{Port, Slot};
+use async_broadcast::{Port, WakerSlot};
 use std::alloc::Allocator;
 
 /// The answers of the ten calls that each handle has, and that change nothing.
@@ -51,7 +51,7 @@ impl Agreed {
     }
 }
 
-impl<P: Port<u64, Slot<A>>, A: Allocator + Copy> Handles<P, A> {
+impl<P: Port<u64, WakerSlot<A>>, A: Allocator + Copy> Handles<P, A> {
     /// What each handle sees of the channel, or that they don't all see the same.
     pub fn seen(&self) -> Answer {
         let mut agreed = Agreed(Answer::Done);

@@ -2,12 +2,12 @@
 use crate::answer::Answer;
 use crate::handles::Handles;
 use crate::settings::{of_sender, setting_of};
-use async_broadcast::{Port, Sender, Slot};
+use async_broadcast::{Port, Sender, WakerSlot};
 use bcast_text::input::Fault;
 use std::alloc::Allocator;
 
 /// Sends, or asks for a setting.
-fn answer<P: Port<u64, Slot<A>>, A: Allocator + Copy>(
+fn answer<P: Port<u64, WakerSlot<A>>, A: Allocator + Copy>(
     sender: &mut Sender<u64, P, A>,
     method: &str,
     argument: Option<u64>,
@@ -19,7 +19,7 @@ fn answer<P: Port<u64, Slot<A>>, A: Allocator + Copy>(
     }
 }
 
-impl<P: Port<u64, Slot<A>>, A: Allocator + Copy> Handles<P, A> {
+impl<P: Port<u64, WakerSlot<A>>, A: Allocator + Copy> Handles<P, A> {
     /// Makes a call on the sender of this number.
     pub fn by_sender(
         &mut self,

@@ -1,7 +1,7 @@
 //! What every handle says of its channel and sets there.
 use crate::answer::Answer;
 use crate::line::Capacity;
-use async_broadcast::{InactiveReceiver, Port, Receiver, Sender, Slot};
+use async_broadcast::{InactiveReceiver, Port, Receiver, Sender, WakerSlot};
 use std::alloc::{AllocError, Allocator};
 
 /// A call that every handle has.
@@ -92,7 +92,7 @@ macro_rules! ask_setting {
 }
 
 /// Makes the call by a sender.
-pub fn of_sender<P: Port<u64, Slot<A>>, A: Allocator + Copy>(
+pub fn of_sender<P: Port<u64, WakerSlot<A>>, A: Allocator + Copy>(
     handle: &mut Sender<u64, P, A>,
     setting: Setting,
 ) -> Answer {
@@ -100,7 +100,7 @@ pub fn of_sender<P: Port<u64, Slot<A>>, A: Allocator + Copy>(
 }
 
 /// Makes the call by a receiver.
-pub fn of_receiver<P: Port<u64, Slot<A>>, A: Allocator + Copy>(
+pub fn of_receiver<P: Port<u64, WakerSlot<A>>, A: Allocator + Copy>(
     handle: &mut Receiver<u64, P, A>,
     setting: Setting,
 ) -> Answer {
@@ -108,7 +108,7 @@ pub fn of_receiver<P: Port<u64, Slot<A>>, A: Allocator + Copy>(
 }
 
 /// Makes the call by an inactive receiver.
-pub fn of_inactive<P: Port<u64, Slot<A>>, A: Allocator + Copy>(
+pub fn of_inactive<P: Port<u64, WakerSlot<A>>, A: Allocator + Copy>(
     handle: &mut InactiveReceiver<u64, P, A>,
     setting: Setting,
 ) -> Answer {

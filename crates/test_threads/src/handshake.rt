@@ -1,6 +1,6 @@
 //! Two threads that answer each other over two channels.
 use crate::steps::{Receiving, Sending, reaches};
-use async_broadcast::{Port, Slot, broadcast};
+use async_broadcast::{Port, WakerSlot, broadcast};
 use std::alloc::AllocError;
 use std::process::Abort;
 use std::sync::Arc;
@@ -27,7 +27,7 @@ fn handshake(rt: HostRuntime) -> Result<(), Fail> {
 }
 
 // Sends each number, and waits for it to come back.
-fn ask<P: Port<u64, Slot>>(
+fn ask<P: Port<u64, WakerSlot>>(
     rt: &impl Abort,
     numbers: Sending<P>,
     mut answers: Receiving<P>,
@@ -41,7 +41,7 @@ fn ask<P: Port<u64, Slot>>(
 }
 
 // Waits for each number, and sends it back.
-fn answer<P: Port<u64, Slot>>(
+fn answer<P: Port<u64, WakerSlot>>(
     rt: &impl Abort,
     answers: Sending<P>,
     mut numbers: Receiving<P>,
@@ -54,14 +54,14 @@ fn answer<P: Port<u64, Slot>>(
     finished.fetch_add(1, Ordering::SeqCst);
 }
 
-fn send<P: Port<u64, Slot>>(rt: &impl Abort, sender: &Sending<P>, number: u64) {
+fn send<P: Port<u64, WakerSlot>>(rt: &impl Abort, sender: &Sending<P>, number: u64) {
     assert!(rt;
         sender.broadcast_blocking(number).is_ok(),
         "{number} is sent"
     );
 }
 
-fn receive<P: Port<u64, Slot>>(rt: &impl Abort, receiver: &mut Receiving<P>, number: u64) {
+fn receive<P: Port<u64, WakerSlot>>(rt: &impl Abort, receiver: &mut Receiving<P>, number: u64) {
     let received = receiver.recv_blocking();
     assert!(rt;
         matches!(received, Ok(Ok(got)) if got == number),

@@ -1,6 +1,6 @@
 //! Threads that sleep in a call until another thread makes one.
 use crate::steps::{Receiving, Sending, pause, reaches};
-use async_broadcast::{Port, RecvError, SendError, Slot, broadcast};
+use async_broadcast::{Port, RecvError, SendError, WakerSlot, broadcast};
 use std::process::Abort;
 use std::sync::Arc;
 use std::sync::atomic::{AtomicU64, Ordering};
@@ -29,7 +29,7 @@ fn receivers_go_on_where_a_thread_sends_or_closes(rt: HostRuntime) -> Result<(),
 }
 
 // Counts a step before each call and after the last.
-fn receive_to_the_end<P: Port<u64, Slot>>(
+fn receive_to_the_end<P: Port<u64, WakerSlot>>(
     rt: &impl Abort,
     mut receiver: Receiving<P>,
     steps: &AtomicU64,
@@ -66,7 +66,11 @@ fn a_sender_goes_on_where_a_thread_receives_or_closes(rt: HostRuntime) -> Result
 }
 
 // Counts a step before each call that must wait, and after the last.
-fn send_to_the_end<P: Port<u64, Slot>>(rt: &impl Abort, sender: Sending<P>, steps: &AtomicU64) {
+fn send_to_the_end<P: Port<u64, WakerSlot>>(
+    rt: &impl Abort,
+    sender: Sending<P>,
+    steps: &AtomicU64,
+) {
     assert!(rt; sender.broadcast_blocking(1).is_ok(), "there is room");
     steps.fetch_add(1, Ordering::SeqCst);
     assert!(rt; sender.broadcast_blocking(2).is_ok());

@@ -7,7 +7,7 @@ ghost use Rattle.async_broadcast.specs.Futures.{GivesReceived};
 use crate::asked;
 use crate::port::Ask;
 use crate::receiver::Receiver;
-use crate::wake::Slot;
+use crate::wake::WakerSlot;
 use bcast_core::{Call, RecvError, Reply};
 use futures::Future;
 use futures::task::{Context, Poll};
@@ -18,11 +18,11 @@ use std::alloc::{AllocError, Allocator, Global};
 /// Its output is that of `recv_blocking`. Polled again after its output it receives anew.
 ///
 /// Source: `Recv` of async-broadcast 0.7.2.
-pub struct Recv<'a, T: Clone, P: Ask<T, Slot<A>>, A: Allocator = Global> {
+pub struct Recv<'a, T: Clone, P: Ask<T, WakerSlot<A>>, A: Allocator = Global> {
     receiver: &'a mut Receiver<T, P, A>,
 }
 
-impl<T: Clone, P: Ask<T, Slot<A>>, A: Allocator + Copy> Receiver<T, P, A> {
+impl<T: Clone, P: Ask<T, WakerSlot<A>>, A: Allocator + Copy> Receiver<T, P, A> {
     /// Receives the next message in a task, by a future in a box.
     ///
     /// # Errors
@@ -98,22 +98,22 @@ impl<T: Clone, P: Ask<T, Slot<A>>, A: Allocator + Copy> Receiver<T, P, A> {
         let Some(wake) = self.waker.register(cx) else {
             return Err(AllocError);
         };
-        asked::poll_recv::<T, Slot<A>, P>(&self.port, self.key, wake)
+        asked::poll_recv::<T, WakerSlot<A>, P>(&self.port, self.key, wake)
     }
 }
 
-impl<T: Clone, P: Ask<T, Slot<A>>, A: Allocator> Drop for Recv<'_, T, P, A> {
+impl<T: Clone, P: Ask<T, WakerSlot<A>>, A: Allocator> Drop for Recv<'_, T, P, A> {
     fn drop(self)
         ensures { P.gave self.entry.receiver.now.port (Call.EndFuture self.entry.receiver.now.key)
             Reply.EndFuture }
     {
         let receiver = &*self.receiver;
-        asked::end_future::<T, Slot<A>, P>(&receiver.port, receiver.key);
+        asked::end_future::<T, WakerSlot<A>, P>(&receiver.port, receiver.key);
         let Recv { receiver: _ } = self;
     }
 }
 
-impl<T: Clone, P: Ask<T, Slot<A>>, A: Allocator + Copy> Future for Recv<'_, T, P, A> {
+impl<T: Clone, P: Ask<T, WakerSlot<A>>, A: Allocator + Copy> Future for Recv<'_, T, P, A> {
     type Output = Result<Result<T, RecvError>, AllocError>;
 
     ghost gives = { λ r out. GivesReceived P.gave r.receiver.now.port r.receiver.now.key out };
@@ -141,7 +141,7 @@ impl<T: Clone, P: Ask<T, Slot<A>>, A: Allocator + Copy> Future for Recv<'_, T, P
         let Some(wake) = receiver.waker.register(cx) else {
             return Poll::Ready(Err(AllocError));
         };
-        match asked::poll_future::<T, Slot<A>, P>(&receiver.port, receiver.key, wake) {
+        match asked::poll_future::<T, WakerSlot<A>, P>(&receiver.port, receiver.key, wake) {
             Ok(Poll::Ready(answer)) => Poll::Ready(Ok(answer)),
             Ok(Poll::Pending) => Poll::Pending,
             Err(error) => Poll::Ready(Err(error)),

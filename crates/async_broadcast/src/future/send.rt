@@ -7,7 +7,7 @@ ghost use Rattle.async_broadcast.specs.Futures.{BeganSend, GivesSent, MustWait};
 use crate::asked;
 use crate::port::Ask;
 use crate::sender::Sender;
-use crate::wake::{Slot, TaskWaker};
+use crate::wake::{TaskWaker, WakerSlot};
 use bcast_core::{Call, NoMemory, Reply, SendError, SendPoll};
 use futures::Future;
 use futures::task::{Context, Poll};
@@ -20,7 +20,7 @@ use std::alloc::{Allocator, Global};
 /// before, it sends nothing.
 ///
 /// Source: `Send` of async-broadcast 0.7.2, which panics when polled again.
-pub struct Send<'a, T: Clone, P: Ask<T, Slot<A>>, A: Allocator = Global> {
+pub struct Send<'a, T: Clone, P: Ask<T, WakerSlot<A>>, A: Allocator = Global> {
     sender: &'a Sender<T, P, A>,
     // Where the channel lists this send while it waits.
     place: Option<usize>,
@@ -29,7 +29,7 @@ pub struct Send<'a, T: Clone, P: Ask<T, Slot<A>>, A: Allocator = Global> {
     waker: TaskWaker<A>,
 }
 
-impl<T: Clone, P: Ask<T, Slot<A>>, A: Allocator + Copy> Sender<T, P, A> {
+impl<T: Clone, P: Ask<T, WakerSlot<A>>, A: Allocator + Copy> Sender<T, P, A> {
     /// Makes a send of this message, in a box. It sends nothing before it is polled.
     ///
     /// # Errors
@@ -83,7 +83,7 @@ impl<T: Clone, P: Ask<T, Slot<A>>, A: Allocator + Copy> Sender<T, P, A> {
         ensures refused { IfErr result (λ error. (error.0 ≡ msg)
             × P.gave self.now.port Call.BeginSend (Reply.BeginSend (Err alloc_error))) }
     {
-        match asked::begin_send::<T, Slot<A>, P>(&self.port) {
+        match asked::begin_send::<T, WakerSlot<A>, P>(&self.port) {
             Ok(place) => Ok(Send {
                 sender: self,
                 place: Some(place),
@@ -95,7 +95,7 @@ impl<T: Clone, P: Ask<T, Slot<A>>, A: Allocator + Copy> Sender<T, P, A> {
     }
 }
 
-impl<T: Clone, P: Ask<T, Slot<A>>, A: Allocator> Send<'_, T, P, A> {
+impl<T: Clone, P: Ask<T, WakerSlot<A>>, A: Allocator> Send<'_, T, P, A> {
     // Gives up a send that was never polled.
     fn cancel(self) -> T
         requires { IsSome self.msg }
@@ -117,18 +117,18 @@ impl<T: Clone, P: Ask<T, Slot<A>>, A: Allocator> Send<'_, T, P, A> {
     }
 }
 
-impl<T: Clone, P: Ask<T, Slot<A>>, A: Allocator> Sender<T, P, A> {
+impl<T: Clone, P: Ask<T, WakerSlot<A>>, A: Allocator> Sender<T, P, A> {
     // A send that has its place still gives it up.
     fn end_send(&self, place: Option<usize>)
         ensures { IfSome place (λ place. P.gave self.now.port (Call.EndSend place) Reply.EndSend) }
     {
         if let Some(place) = place {
-            asked::end_send::<T, Slot<A>, P>(&self.port, place);
+            asked::end_send::<T, WakerSlot<A>, P>(&self.port, place);
         }
     }
 }
 
-impl<T: Clone, P: Ask<T, Slot<A>>, A: Allocator> Drop for Send<'_, T, P, A> {
+impl<T: Clone, P: Ask<T, WakerSlot<A>>, A: Allocator> Drop for Send<'_, T, P, A> {
     fn drop(self)
         ensures { IfSome self.entry.place (λ place.
             P.gave self.entry.sender.now.port (Call.EndSend place) Reply.EndSend) }
@@ -143,7 +143,7 @@ impl<T: Clone, P: Ask<T, Slot<A>>, A: Allocator> Drop for Send<'_, T, P, A> {
     }
 }
 
-impl<T: Clone, P: Ask<T, Slot<A>>, A: Allocator + Copy> Future for Send<'_, T, P, A> {
+impl<T: Clone, P: Ask<T, WakerSlot<A>>, A: Allocator + Copy> Future for Send<'_, T, P, A> {
     type Output = Result<Result<Option<T>, SendError<T>>, NoMemory<T>>;
 
     ghost gives = { λ s out. GivesSent P.gave s.sender.now.port s.place s.msg out };
@@ -184,7 +184,7 @@ impl<T: Clone, P: Ask<T, Slot<A>>, A: Allocator + Copy> Future for Send<'_, T, P
             return Poll::Ready(Err(NoMemory(msg)));
         };
         let sender = self.sender;
-        match asked::poll_send::<T, Slot<A>, P>(&sender.port, place, msg, wake) {
+        match asked::poll_send::<T, WakerSlot<A>, P>(&sender.port, place, msg, wake) {
             SendPoll::Ready(answer) => {
                 self.place = None;
                 Poll::Ready(Ok(answer))

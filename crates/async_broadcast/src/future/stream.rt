@@ -8,7 +8,7 @@ ghost use Rattle.async_broadcast.specs.Futures.{YieldsItems};
 use crate::asked;
 use crate::port::Ask;
 use crate::receiver::Receiver;
-use crate::wake::Slot;
+use crate::wake::WakerSlot;
 use bcast_core::{Call, Reply};
 use futures::Stream;
 use futures::task::{Context, Poll};
@@ -16,7 +16,7 @@ use std::alloc::{AllocError, Allocator};
 
 // Messages that were dropped are skipped. An item `Err` found no memory for a notice or a clone,
 // and changed nothing. The stream ends when every message was read and the channel is closed.
-impl<T: Clone, P: Ask<T, Slot<A>>, A: Allocator + Copy> Stream for Receiver<T, P, A> {
+impl<T: Clone, P: Ask<T, WakerSlot<A>>, A: Allocator + Copy> Stream for Receiver<T, P, A> {
     type Item = Result<T, AllocError>;
 
     ghost yields = { λ r items last. YieldsItems P.gave r.port r.key items last };
@@ -44,7 +44,7 @@ impl<T: Clone, P: Ask<T, Slot<A>>, A: Allocator + Copy> Stream for Receiver<T, P
         let Some(wake) = self.waker.register(cx) else {
             return Poll::Ready(Some(Err(AllocError)));
         };
-        match asked::poll_next::<T, Slot<A>, P>(&self.port, self.key, wake) {
+        match asked::poll_next::<T, WakerSlot<A>, P>(&self.port, self.key, wake) {
             Ok(Poll::Ready(Some(next))) => Poll::Ready(Some(Ok(next.0))),
             Ok(Poll::Ready(None)) => Poll::Ready(None),
             Ok(Poll::Pending) => Poll::Pending,

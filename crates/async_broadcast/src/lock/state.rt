@@ -9,14 +9,14 @@ ghost use Rattle.async_broadcast.specs.Kinds.{IsOfKind};
 ghost use Rattle.async_broadcast.specs.Snapshots.{ShowsSomeState};
 ghost use Rattle.async_broadcast.specs.Woken.{HasNoThread, HasWokenSender, HasWokenReceiver, NotesSender, NotesReceiver};
 
-use crate::wake::{Slot, Wake};
+use crate::wake::{Wake, WakerSlot};
 use bcast_core::{Call, Inner, Reply, Snapshot, TryRecvError, TrySendError, step};
 use std::alloc::{AllocError, Allocator};
 use std::sync::Condvar;
 
 #[derive(Drop)]
 pub(super) struct State<T: Clone, A: Allocator> {
-    inner: Inner<T, Wake<Slot<A>>, A>,
+    inner: Inner<T, Wake<WakerSlot<A>>, A>,
     // How many threads wait to send, and whether one of them was woken and hasn't tried yet.
     senders: u64,
     is_sender_woken: bool,
@@ -51,7 +51,7 @@ impl Woken {
 }
 
 impl<T: Clone, A: Allocator + Copy> State<T, A> {
-    pub(super) fn new(inner: Inner<T, Wake<Slot<A>>, A>) -> Self {
+    pub(super) fn new(inner: Inner<T, Wake<WakerSlot<A>>, A>) -> Self {
         State {
             inner,
             senders: 0,
@@ -72,7 +72,7 @@ impl<T: Clone, A: Allocator + Copy> State<T, A> {
 
     /// Makes one call while no thread waits.
     #[inline(always)]
-    pub(super) fn make_alone(&mut self, call: Call<T>, wake: Wake<Slot<A>>) -> Reply<T>
+    pub(super) fn make_alone(&mut self, call: Call<T>, wake: Wake<WakerSlot<A>>) -> Reply<T>
         requires capacity { HasPositiveCapacity call }
         requires alone { HasNoThread self.old }
         ensures answers { Answers T.is_clone self.old.inner call result self.new.inner }
@@ -85,7 +85,7 @@ impl<T: Clone, A: Allocator + Copy> State<T, A> {
 
     /// Makes one call, and says whom to wake after it.
     #[inline(never)]
-    pub(super) fn step(&mut self, call: Call<T>, wake: Wake<Slot<A>>) -> (Reply<T>, Woken)
+    pub(super) fn step(&mut self, call: Call<T>, wake: Wake<WakerSlot<A>>) -> (Reply<T>, Woken)
         requires { HasPositiveCapacity call }
         ensures answers { Answers T.is_clone self.old.inner call result.0 self.new.inner }
         ensures possible { IsPossible T.is_clone call result.0 }
@@ -103,7 +103,7 @@ impl<T: Clone, A: Allocator + Copy> State<T, A> {
     }
 
     #[inline(always)]
-    fn make(&mut self, call: Call<T>, wake: Wake<Slot<A>>) -> Reply<T>
+    fn make(&mut self, call: Call<T>, wake: Wake<WakerSlot<A>>) -> Reply<T>
         requires { HasPositiveCapacity call }
         ensures answers { Answers T.is_clone self.old.inner call result self.new.inner }
         ensures possible { IsPossible T.is_clone call result }

@@ -4,11 +4,11 @@ ghost use Rattle.std.specs.Prelude.{◌≡◌, ◌<◌};
 use super::Sender;
 use crate::asked;
 use crate::port::Ask;
-use crate::wake::Slot;
+use crate::wake::WakerSlot;
 use bcast_core::{Call, Reply};
 use std::alloc::{AllocError, Allocator};
 
-impl<T: Clone, P: Ask<T, Slot<A>>, A: Allocator + Copy> Sender<T, P, A> {
+impl<T: Clone, P: Ask<T, WakerSlot<A>>, A: Allocator + Copy> Sender<T, P, A> {
     /// The greatest number of messages that the channel keeps at once.
     ///
     /// ```rust
@@ -20,7 +20,7 @@ impl<T: Clone, P: Ask<T, Slot<A>>, A: Allocator + Copy> Sender<T, P, A> {
     pub fn capacity(&self) -> usize
         ensures { P.gave self.now.port Call.Capacity (Reply.Capacity result) }
     {
-        asked::capacity::<T, Slot<A>, P>(&self.port)
+        asked::capacity::<T, WakerSlot<A>, P>(&self.port)
     }
 
     /// Changes how many messages the channel keeps at once.
@@ -47,7 +47,7 @@ impl<T: Clone, P: Ask<T, Slot<A>>, A: Allocator + Copy> Sender<T, P, A> {
         ensures asked { P.gave self.old.port (Call.SetCapacity new_cap) (Reply.SetCapacity result) }
         ensures same { self.new ≡ self.old }
     {
-        asked::set_capacity::<T, Slot<A>, P>(&self.port, new_cap)
+        asked::set_capacity::<T, WakerSlot<A>, P>(&self.port, new_cap)
     }
 
     /// Whether a full channel drops its oldest message to accept a new one.
@@ -63,7 +63,7 @@ impl<T: Clone, P: Ask<T, Slot<A>>, A: Allocator + Copy> Sender<T, P, A> {
     pub fn overflow(&self) -> bool
         ensures { P.gave self.now.port Call.Overflow (Reply.Overflow result) }
     {
-        asked::overflow::<T, Slot<A>, P>(&self.port)
+        asked::overflow::<T, WakerSlot<A>, P>(&self.port)
     }
 
     /// Says whether a full channel drops its oldest message to accept a new one.
@@ -82,7 +82,7 @@ impl<T: Clone, P: Ask<T, Slot<A>>, A: Allocator + Copy> Sender<T, P, A> {
         ensures asked { P.gave self.old.port (Call.SetOverflow overflow) Reply.SetOverflow }
         ensures same { self.new ≡ self.old }
     {
-        asked::set_overflow::<T, Slot<A>, P>(&self.port, overflow)
+        asked::set_overflow::<T, WakerSlot<A>, P>(&self.port, overflow)
     }
 
     /// Whether sends that may wait do so while there is no active receiver.
@@ -98,7 +98,7 @@ impl<T: Clone, P: Ask<T, Slot<A>>, A: Allocator + Copy> Sender<T, P, A> {
     pub fn await_active(&self) -> bool
         ensures { P.gave self.now.port Call.AwaitActive (Reply.AwaitActive result) }
     {
-        asked::await_active::<T, Slot<A>, P>(&self.port)
+        asked::await_active::<T, WakerSlot<A>, P>(&self.port)
     }
 
     /// Says whether sends that may wait do so while there is no active receiver.
@@ -117,7 +117,7 @@ impl<T: Clone, P: Ask<T, Slot<A>>, A: Allocator + Copy> Sender<T, P, A> {
             Reply.SetAwaitActive }
         ensures same { self.new ≡ self.old }
     {
-        asked::set_await_active::<T, Slot<A>, P>(&self.port, await_active)
+        asked::set_await_active::<T, WakerSlot<A>, P>(&self.port, await_active)
     }
 
     /// Closes the channel, and returns whether it was open.
@@ -134,7 +134,7 @@ impl<T: Clone, P: Ask<T, Slot<A>>, A: Allocator + Copy> Sender<T, P, A> {
     pub fn close(&self) -> bool
         ensures { P.gave self.now.port Call.Close (Reply.Close result) }
     {
-        asked::close::<T, Slot<A>, P>(&self.port)
+        asked::close::<T, WakerSlot<A>, P>(&self.port)
     }
 
     /// Whether the channel is closed.
@@ -150,7 +150,7 @@ impl<T: Clone, P: Ask<T, Slot<A>>, A: Allocator + Copy> Sender<T, P, A> {
     pub fn is_closed(&self) -> bool
         ensures { P.gave self.now.port Call.IsClosed (Reply.IsClosed result) }
     {
-        asked::is_closed::<T, Slot<A>, P>(&self.port)
+        asked::is_closed::<T, WakerSlot<A>, P>(&self.port)
     }
 
     /// Whether the channel keeps no message.
@@ -166,7 +166,7 @@ impl<T: Clone, P: Ask<T, Slot<A>>, A: Allocator + Copy> Sender<T, P, A> {
     pub fn is_empty(&self) -> bool
         ensures { P.gave self.now.port Call.IsEmpty (Reply.IsEmpty result) }
     {
-        asked::is_empty::<T, Slot<A>, P>(&self.port)
+        asked::is_empty::<T, WakerSlot<A>, P>(&self.port)
     }
 
     /// Whether the channel keeps as many messages as it may.
@@ -182,7 +182,7 @@ impl<T: Clone, P: Ask<T, Slot<A>>, A: Allocator + Copy> Sender<T, P, A> {
     pub fn is_full(&self) -> bool
         ensures { P.gave self.now.port Call.IsFull (Reply.IsFull result) }
     {
-        asked::is_full::<T, Slot<A>, P>(&self.port)
+        asked::is_full::<T, WakerSlot<A>, P>(&self.port)
     }
 
     /// The number of messages that the channel keeps.
@@ -197,7 +197,7 @@ impl<T: Clone, P: Ask<T, Slot<A>>, A: Allocator + Copy> Sender<T, P, A> {
     pub fn len(&self) -> usize
         ensures { P.gave self.now.port Call.Len (Reply.Len result) }
     {
-        asked::len::<T, Slot<A>, P>(&self.port)
+        asked::len::<T, WakerSlot<A>, P>(&self.port)
     }
 
     /// The number of active receivers.
@@ -212,7 +212,7 @@ impl<T: Clone, P: Ask<T, Slot<A>>, A: Allocator + Copy> Sender<T, P, A> {
     pub fn receiver_count(&self) -> usize
         ensures { P.gave self.now.port Call.ReceiverCount (Reply.ReceiverCount result) }
     {
-        asked::receiver_count::<T, Slot<A>, P>(&self.port)
+        asked::receiver_count::<T, WakerSlot<A>, P>(&self.port)
     }
 
     /// The number of inactive receivers.
@@ -228,7 +228,7 @@ impl<T: Clone, P: Ask<T, Slot<A>>, A: Allocator + Copy> Sender<T, P, A> {
         ensures { P.gave self.now.port Call.InactiveReceiverCount
             (Reply.InactiveReceiverCount result) }
     {
-        asked::inactive_receiver_count::<T, Slot<A>, P>(&self.port)
+        asked::inactive_receiver_count::<T, WakerSlot<A>, P>(&self.port)
     }
 
     /// The number of senders.
@@ -243,6 +243,6 @@ impl<T: Clone, P: Ask<T, Slot<A>>, A: Allocator + Copy> Sender<T, P, A> {
     pub fn sender_count(&self) -> usize
         ensures { P.gave self.now.port Call.SenderCount (Reply.SenderCount result) }
     {
-        asked::sender_count::<T, Slot<A>, P>(&self.port)
+        asked::sender_count::<T, WakerSlot<A>, P>(&self.port)
     }
 }

@@ -1,6 +1,6 @@
 //! Of `lock.rt` and `lib.rt`.
 use async_broadcast::{
-    NoMemory, Port, Receiver, Sender, Slot, TryRecvError, TrySendError, broadcast,
+    NoMemory, Port, Receiver, Sender, TryRecvError, TrySendError, WakerSlot, broadcast,
 };
 use futures::StreamExt;
 use futures::executor::block_on;
@@ -17,7 +17,7 @@ fn a_channel_of_two(rt: HostRuntime) -> Result<(), Fail> {
     plays_two(&rt, sender, one)
 }
 
-fn plays_two<R: Abort + Wait + RandomSource + AllocGlobal, P: Port<u64, Slot>>(
+fn plays_two<R: Abort + Wait + RandomSource + AllocGlobal, P: Port<u64, WakerSlot>>(
     rt: &R,
     sender: Sender<u64, P>,
     mut one: Receiver<u64, P>,
@@ -45,7 +45,7 @@ fn errors(rt: HostRuntime) -> Result<(), Fail> {
     refuses(&rt, sender, receiver)
 }
 
-fn refuses<P: Port<u64, Slot>>(
+fn refuses<P: Port<u64, WakerSlot>>(
     rt: &impl Abort,
     sender: Sender<u64, P>,
     mut receiver: Receiver<u64, P>,

@@ -1,6 +1,6 @@
 //! Of `future/send.rt` and `future/recv.rt`.
 use async_broadcast::{
-    Port, Receiver, RecvError, SendError, Sender, Slot, TryRecvError, broadcast,
+    Port, Receiver, RecvError, SendError, Sender, TryRecvError, WakerSlot, broadcast,
 };
 use futures::executor::block_on;
 use futures::task::Poll;
@@ -21,7 +21,7 @@ fn sends(rt: HostRuntime) -> Result<(), Fail> {
     sends_directly(&rt, sender, receiver)
 }
 
-fn sends_in_a_box<R: Abort + Wait + RandomSource + AllocGlobal, P: Port<u64, Slot>>(
+fn sends_in_a_box<R: Abort + Wait + RandomSource + AllocGlobal, P: Port<u64, WakerSlot>>(
     rt: &R,
     sender: Sender<u64, P>,
     mut receiver: Receiver<u64, P>,
@@ -33,7 +33,7 @@ fn sends_in_a_box<R: Abort + Wait + RandomSource + AllocGlobal, P: Port<u64, Slo
     Ok(())
 }
 
-fn sends_directly<R: Abort + Wait + RandomSource + AllocGlobal, P: Port<u64, Slot>>(
+fn sends_directly<R: Abort + Wait + RandomSource + AllocGlobal, P: Port<u64, WakerSlot>>(
     rt: &R,
     sender: Sender<u64, P>,
     receiver: Receiver<u64, P>,
@@ -58,7 +58,7 @@ fn receives(rt: HostRuntime) -> Result<(), Fail> {
     polls(&rt, sender, receiver)
 }
 
-fn receives_in_a_box<R: Abort + Wait + RandomSource + AllocGlobal, P: Port<u64, Slot>>(
+fn receives_in_a_box<R: Abort + Wait + RandomSource + AllocGlobal, P: Port<u64, WakerSlot>>(
     rt: &R,
     sender: Sender<u64, P>,
     mut receiver: Receiver<u64, P>,
@@ -68,7 +68,7 @@ fn receives_in_a_box<R: Abort + Wait + RandomSource + AllocGlobal, P: Port<u64, 
     Ok(())
 }
 
-fn receives_directly<R: Abort + Wait + RandomSource + AllocGlobal, P: Port<u64, Slot>>(
+fn receives_directly<R: Abort + Wait + RandomSource + AllocGlobal, P: Port<u64, WakerSlot>>(
     rt: &R,
     sender: Sender<u64, P>,
     mut receiver: Receiver<u64, P>,
@@ -81,7 +81,7 @@ fn receives_directly<R: Abort + Wait + RandomSource + AllocGlobal, P: Port<u64, 
     Ok(())
 }
 
-fn polls<R: Abort + RandomSource + AllocGlobal, P: Port<u64, Slot>>(
+fn polls<R: Abort + RandomSource + AllocGlobal, P: Port<u64, WakerSlot>>(
     rt: &R,
     sender: Sender<u64, P>,
     mut receiver: Receiver<u64, P>,

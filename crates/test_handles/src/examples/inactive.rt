@@ -1,5 +1,5 @@
 //! Of `inactive.rt`.
-use async_broadcast::{Port, Receiver, Sender, Slot, broadcast};
+use async_broadcast::{Port, Receiver, Sender, WakerSlot, broadcast};
 use std::process::Abort;
 use std::test::Fail;
 
@@ -13,7 +13,7 @@ fn activation(rt: HostRuntime) -> Result<(), Fail> {
     activates_clones(&rt, sender, receiver)
 }
 
-fn activates<P: Port<u64, Slot>>(
+fn activates<P: Port<u64, WakerSlot>>(
     rt: &impl Abort,
     sender: Sender<u64, P>,
     receiver: Receiver<u64, P>,
@@ -25,7 +25,7 @@ fn activates<P: Port<u64, Slot>>(
     Ok(())
 }
 
-fn activates_clones<P: Port<u64, Slot>>(
+fn activates_clones<P: Port<u64, WakerSlot>>(
     rt: &impl Abort,
     sender: Sender<u64, P>,
     receiver: Receiver<u64, P>,
@@ -46,7 +46,7 @@ fn an_inactive_receiver_keeps_it_open(rt: HostRuntime) -> Result<(), Fail> {
     keeps_it_open(&rt, sender, receiver)
 }
 
-fn keeps_it_open<P: Port<u64, Slot>>(
+fn keeps_it_open<P: Port<u64, WakerSlot>>(
     rt: &impl Abort,
     sender: Sender<u64, P>,
     receiver: Receiver<u64, P>,

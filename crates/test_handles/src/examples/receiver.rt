@@ -1,6 +1,6 @@
 //! Of `receiver.rt`.
 use async_broadcast::{
-    Port, Receiver, RecvError, Sender, Slot, TryRecvError, TrySendError, broadcast,
+    Port, Receiver, RecvError, Sender, TryRecvError, TrySendError, WakerSlot, broadcast,
 };
 use futures::StreamExt;
 use futures::executor::block_on;
@@ -17,7 +17,7 @@ fn a_stream(rt: HostRuntime) -> Result<(), Fail> {
     streams(&rt, sender, receiver)
 }
 
-fn streams<R: Abort + Wait + RandomSource + AllocGlobal, P: Port<u64, Slot>>(
+fn streams<R: Abort + Wait + RandomSource + AllocGlobal, P: Port<u64, WakerSlot>>(
     rt: &R,
     sender: Sender<u64, P>,
     mut receiver: Receiver<u64, P>,
@@ -43,7 +43,7 @@ fn receives(rt: HostRuntime) -> Result<(), Fail> {
     Ok(())
 }
 
-fn tries<P: Port<u64, Slot>>(
+fn tries<P: Port<u64, WakerSlot>>(
     rt: &impl Abort,
     sender: Sender<u64, P>,
     mut receiver: Receiver<u64, P>,
@@ -55,7 +55,7 @@ fn tries<P: Port<u64, Slot>>(
     assert!(rt; matches!(receiver.try_recv(), Ok(Err(TryRecvError::Closed))));
 }
 
-fn blocks<P: Port<u64, Slot>>(
+fn blocks<P: Port<u64, WakerSlot>>(
     rt: &impl Abort,
     sender: Sender<u64, P>,
     mut receiver: Receiver<u64, P>,
@@ -66,7 +66,7 @@ fn blocks<P: Port<u64, Slot>>(
     assert!(rt; matches!(receiver.recv_blocking(), Ok(Err(RecvError::Closed))));
 }
 
-fn sees_the_end<P: Port<u64, Slot>>(
+fn sees_the_end<P: Port<u64, WakerSlot>>(
     rt: &impl Abort,
     sender: Sender<u64, P>,
     mut receiver: Receiver<u64, P>,
@@ -91,7 +91,7 @@ fn handles_of_a_receiver(rt: HostRuntime) -> Result<(), Fail> {
     adds_a_sender(&rt, sender, receiver)
 }
 
-fn clones<P: Port<u64, Slot>>(
+fn clones<P: Port<u64, WakerSlot>>(
     rt: &impl Abort,
     sender: Sender<u64, P>,
     mut one: Receiver<u64, P>,
@@ -103,7 +103,7 @@ fn clones<P: Port<u64, Slot>>(
     Ok(())
 }
 
-fn adds_a_receiver<P: Port<u64, Slot>>(
+fn adds_a_receiver<P: Port<u64, WakerSlot>>(
     rt: &impl Abort,
     sender: Sender<u64, P>,
     one: Receiver<u64, P>,
@@ -115,7 +115,7 @@ fn adds_a_receiver<P: Port<u64, Slot>>(
     Ok(())
 }
 
-fn adds_a_sender<P: Port<u64, Slot>>(
+fn adds_a_sender<P: Port<u64, WakerSlot>>(
     rt: &impl Abort,
     sender: Sender<u64, P>,
     mut receiver: Receiver<u64, P>,
@@ -134,7 +134,7 @@ fn a_pause(rt: HostRuntime) -> Result<(), Fail> {
     pauses(&rt, sender, receiver)
 }
 
-fn pauses<P: Port<u64, Slot>>(
+fn pauses<P: Port<u64, WakerSlot>>(
     rt: &impl Abort,
     sender: Sender<u64, P>,
     receiver: Receiver<u64, P>,

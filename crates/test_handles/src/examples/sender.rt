@@ -1,6 +1,6 @@
 //! Of `sender.rt`.
 use async_broadcast::{
-    Port, Receiver, SendError, Sender, Slot, TryRecvError, TrySendError, broadcast,
+    Port, Receiver, SendError, Sender, TryRecvError, TrySendError, WakerSlot, broadcast,
 };
 use std::process::Abort;
 use std::test::Fail;
@@ -12,7 +12,7 @@ fn offers(rt: HostRuntime) -> Result<(), Fail> {
     tries(&rt, sender, receiver)
 }
 
-fn tries<P: Port<u64, Slot>>(
+fn tries<P: Port<u64, WakerSlot>>(
     rt: &impl Abort,
     sender: Sender<u64, P>,
     receiver: Receiver<u64, P>,
@@ -34,7 +34,7 @@ fn blocking_sends(rt: HostRuntime) -> Result<(), Fail> {
     Ok(())
 }
 
-fn blocks<P: Port<u64, Slot>>(
+fn blocks<P: Port<u64, WakerSlot>>(
     rt: &impl Abort,
     sender: Sender<u64, P>,
     mut receiver: Receiver<u64, P>,
@@ -57,7 +57,7 @@ fn handles_of_a_sender(rt: HostRuntime) -> Result<(), Fail> {
     adds_a_receiver(&rt, sender, one)
 }
 
-fn clones<P: Port<u64, Slot>>(
+fn clones<P: Port<u64, WakerSlot>>(
     rt: &impl Abort,
     sender: Sender<u64, P>,
     mut receiver: Receiver<u64, P>,
@@ -71,7 +71,7 @@ fn clones<P: Port<u64, Slot>>(
     Ok(())
 }
 
-fn adds_a_receiver<P: Port<u64, Slot>>(
+fn adds_a_receiver<P: Port<u64, WakerSlot>>(
     rt: &impl Abort,
     sender: Sender<u64, P>,
     mut one: Receiver<u64, P>,

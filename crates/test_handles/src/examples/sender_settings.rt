@@ -1,5 +1,5 @@
 //! Of `sender/settings.rt`.
-use async_broadcast::{Port, Receiver, SendError, Sender, Slot, TryRecvError, broadcast};
+use async_broadcast::{Port, Receiver, SendError, Sender, TryRecvError, WakerSlot, broadcast};
 use std::process::Abort;
 use std::test::Fail;
 
@@ -10,7 +10,7 @@ fn what_a_sender_says(rt: HostRuntime) -> Result<(), Fail> {
     says(&rt, sender, receiver)
 }
 
-fn says<P: Port<u64, Slot>>(
+fn says<P: Port<u64, WakerSlot>>(
     rt: &impl Abort,
     sender: Sender<u64, P>,
     receiver: Receiver<u64, P>,
@@ -44,7 +44,7 @@ fn modes_by_a_sender(rt: HostRuntime) -> Result<(), Fail> {
     Ok(())
 }
 
-fn changes_modes<P: Port<u64, Slot>>(
+fn changes_modes<P: Port<u64, WakerSlot>>(
     rt: &impl Abort,
     mut sender: Sender<u64, P>,
     receiver: Receiver<u64, P>,
@@ -59,7 +59,7 @@ fn changes_modes<P: Port<u64, Slot>>(
     assert!(rt; !sender.close());
 }
 
-fn sees_the_end<P: Port<u64, Slot>>(
+fn sees_the_end<P: Port<u64, WakerSlot>>(
     rt: &impl Abort,
     sender: Sender<u64, P>,
     receiver: Receiver<u64, P>,
@@ -82,7 +82,7 @@ fn changes_by_a_sender(rt: HostRuntime) -> Result<(), Fail> {
     awaits_nobody(&rt, sender, receiver)
 }
 
-fn shrinks<P: Port<u64, Slot>>(
+fn shrinks<P: Port<u64, WakerSlot>>(
     rt: &impl Abort,
     mut sender: Sender<u64, P>,
     mut receiver: Receiver<u64, P>,
@@ -95,7 +95,7 @@ fn shrinks<P: Port<u64, Slot>>(
     Ok(())
 }
 
-fn overflows<P: Port<u64, Slot>>(
+fn overflows<P: Port<u64, WakerSlot>>(
     rt: &impl Abort,
     mut sender: Sender<u64, P>,
     mut receiver: Receiver<u64, P>,
@@ -107,7 +107,7 @@ fn overflows<P: Port<u64, Slot>>(
     assert!(rt; matches!(receiver.try_recv(), Ok(Ok(2))));
 }
 
-fn awaits_nobody<P: Port<u64, Slot>>(
+fn awaits_nobody<P: Port<u64, WakerSlot>>(
     rt: &impl Abort,
     mut sender: Sender<u64, P>,
     receiver: Receiver<u64, P>,
