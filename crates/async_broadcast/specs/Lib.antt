@@ -5,8 +5,6 @@ pub mod Ports
 pub mod OfKind
 -- futures
 pub mod Futures
--- which channel a lock leads to
-pub mod Channels
 -- which waiting threads are woken
 pub mod Woken
 -- what is seen of a channel

@@ -1,5 +1,5 @@
 -- What handles make of ports and replies.
-use Rattle.std.specs.Prelude.{◌↔◌, ◌≡◌, ℕ, Result, Ok, Err}
+use Rattle.std.specs.Prelude.{◌↔◌, Result, Ok, Err}
 use Rattle.std.specs.declared.alloc.AllocError.{AllocError}
 use Rattle.bcast_model.specs.declared.error.RecvError.{RecvError}
 use Rattle.bcast_model.specs.declared.error.RecvError.TheVariants as unreceived
@@ -8,10 +8,10 @@ use Rattle.bcast_model.specs.declared.error.TryRecvError.TheVariants as unread
 use Rattle.bcast_model.specs.declared.run.Call.{Call}
 use Rattle.bcast_model.specs.declared.run.Reply.{Reply}
 
--- `Sender::clone` and the like: a port of the same channel, which may give just the replies that the other one may give
-pub record IsSame {T P : Type 0} (gave : P → Call T → Reply T → Type 0) (leads : P → ℕ) (port other : P) : Type 0 where
-  pub replies : (call : Call T) (reply : Reply T) → gave port call reply ↔ gave other call reply
-  pub channel : leads port ≡ leads other
+-- `Sender::clone` and the like: this port may give just the replies that the other one may give
+abbrev pub IsSame : {T P : Type 0} → (P → Call T → Reply T → Type 0) → P → P → Type 0
+IsSame {T} {P} gave port other =
+    (call : Call T) (reply : Reply T) → gave port call reply ↔ gave other call reply
 
 -- `recv_blocking`: its answer, as `try_recv` spells it
 abbrev pub as_try_recv : {T : Type 0} → Result (Result T RecvError) AllocError → Result (Result T TryRecvError) AllocError

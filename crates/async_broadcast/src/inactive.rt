@@ -95,7 +95,7 @@ impl<T: Clone, P: Port<T, WakerSlot<A>>, A: Allocator + Copy> InactiveReceiver<T
     ///
     /// Source: `InactiveReceiver::activate_cloned` of async-broadcast 0.7.2, which never refuses.
     pub fn activate_cloned(&self) -> Result<Receiver<T, P, A>, HandleError>
-        ensures channel { IfOk result (λ made. IsSame P.gave P.channel made.port self.now.port) }
+        ensures channel { IfOk result (λ made. IsSame P.gave made.port self.now.port) }
         ensures made { IfOk result (λ made. P.gave self.now.port Call.ActivateCloned
             (Reply.ActivateCloned (Ok made.key))) }
         ensures refused { IfErr result (λ error. (error ≡ HandleError.Memory)
@@ -127,7 +127,7 @@ impl<T: Clone, P: Port<T, WakerSlot<A>>, A: Allocator + Copy> InactiveReceiver<T
     ///
     /// Source: `InactiveReceiver::clone` of async-broadcast 0.7.2, which never refuses.
     pub fn clone(&self) -> Result<Self, HandleError>
-        ensures channel { IfOk result (λ made. IsSame P.gave P.channel made.port self.now.port) }
+        ensures channel { IfOk result (λ made. IsSame P.gave made.port self.now.port) }
         ensures made { IfOk result
             (λ _. P.gave self.now.port Call.CloneInactive (Reply.CloneInactive (Ok tt))) }
         ensures refused { IfErr result (λ error. (error ≡ HandleError.Memory)

@@ -4,7 +4,6 @@ ghost use Rattle.bcast_model.specs.Next.{HasPositiveCapacity};
 ghost use Rattle.bcast_model.specs.Answers.{IsPossible};
 ghost use Rattle.async_broadcast.specs.Kinds.{may_wait, is_answer};
 ghost use Rattle.async_broadcast.specs.Snapshots.{ShowsSomeState};
-ghost use Rattle.async_broadcast.specs.Channels.{channel_of};
 
 use crate::port::{Ask, Port};
 use crate::receiver::Receiver;
@@ -13,7 +12,6 @@ use crate::wake::{Wake, WakerSlot};
 use bcast_core::{Call, Inner, Reply, SendPoll, Snapshot, TryRecvError, TrySendError};
 use state::{State, Woken};
 use std::alloc::{AllocError, Allocator, Global};
-use std::sync::ledger::Blank;
 use std::sync::{Arc, Condvar, Mutex, MutexGuard, Wait};
 use std::thread::yield_now;
 
@@ -34,8 +32,6 @@ pub struct Lock<T: Clone, R: Wait + Clone, A: Allocator = Global> {
 
 #[derive(Drop)]
 struct Channel<T: Clone, A: Allocator> {
-    // Names the channel in contracts, and takes no memory.
-    name: Blank,
     state: Mutex<State<T, A>>,
     // For threads that wait to send.
     ready: Condvar,
@@ -94,11 +90,9 @@ pub fn broadcast<T: Clone, R: Wait + Clone, A: Allocator + Copy>(
     cap: usize,
 ) -> Result<Ends<T, R, A>, AllocError>
     requires { 0 < cap }
-    ensures { IfOk result (λ ends. channel_of ends.0.port ≡ channel_of ends.1.port) }
 {
     let (inner, key) = Inner::new(alloc, cap)?;
     let channel = Channel {
-        name: Blank::new(1),
         state: Mutex::new(State::new(inner)),
         ready: Condvar::new(),
         news: Condvar::new(),
@@ -222,10 +216,6 @@ impl<T: Clone, R: Wait + Clone, A: Allocator + Copy> Ask<T, WakerSlot<A>> for Lo
 }
 
 impl<T: Clone, R: Wait + Clone, A: Allocator + Copy> Port<T, WakerSlot<A>> for Lock<T, R, A> {
-    ghost use Rattle.async_broadcast.specs.Channels.{channel_of};
-
-    ghost channel = { λ lock. channel_of lock };
-
     #[inline(always)]
     fn try_broadcast(&self, msg: T) -> Result<Option<T>, TrySendError<T>>
         ensures { IsPossible T.is_clone (Call.TryBroadcast msg) (Reply.TryBroadcast result) }

@@ -38,11 +38,6 @@ pub trait Ask<T: Clone, S>: Sized + Drop {
 /// A port that can also wait, and that handles can share. `Lock` is the port of a channel that
 /// `broadcast` made.
 pub trait Port<T: Clone, S>: Ask<T, S> {
-    ghost use Rattle.std.specs.Prelude.{ℕ};
-
-    // Names the channel that the port leads to.
-    ghost channel: { Self → ℕ };
-
     /// Asks `TryBroadcast`.
     fn try_broadcast(&self, msg: T) -> Result<Option<T>, TrySendError<T>>
         ensures { Self.gave self.now (Call.TryBroadcast msg) (Reply.TryBroadcast result) }
@@ -66,5 +61,5 @@ pub trait Port<T: Clone, S>: Ask<T, S> {
 
     /// Another port of the same channel. None: there was no memory for it.
     fn same(&self) -> Option<Self>
-        ensures { IfSome result (λ port. IsSame Self.gave channel port self.now) };
+        ensures { IfSome result (λ port. IsSame Self.gave port self.now) };
 }

@@ -155,7 +155,7 @@ impl<T: Clone, P: Port<T, WakerSlot<A>>, A: Allocator + Copy> Receiver<T, P, A> 
     ///
     /// Source: `Receiver::clone` of async-broadcast 0.7.2, which never refuses.
     pub fn clone(&self) -> Result<Self, HandleError>
-        ensures channel { IfOk result (λ made. IsSame P.gave P.channel made.port self.now.port) }
+        ensures channel { IfOk result (λ made. IsSame P.gave made.port self.now.port) }
         ensures made { IfOk result (λ made. P.gave self.now.port (Call.CloneReceiver self.now.key)
             (Reply.CloneReceiver (Ok made.key))) }
         ensures refused { IfErr result (λ error. (error ≡ HandleError.Memory)
@@ -187,7 +187,7 @@ impl<T: Clone, P: Port<T, WakerSlot<A>>, A: Allocator + Copy> Receiver<T, P, A> 
     ///
     /// Source: `Receiver::new_receiver` of async-broadcast 0.7.2, which never refuses.
     pub fn new_receiver(&self) -> Result<Self, HandleError>
-        ensures channel { IfOk result (λ made. IsSame P.gave P.channel made.port self.now.port) }
+        ensures channel { IfOk result (λ made. IsSame P.gave made.port self.now.port) }
         ensures made { IfOk result
             (λ made. P.gave self.now.port Call.NewReceiver (Reply.NewReceiver (Ok made.key))) }
         ensures refused { IfErr result (λ error. (error ≡ HandleError.Memory)
@@ -217,7 +217,7 @@ impl<T: Clone, P: Port<T, WakerSlot<A>>, A: Allocator + Copy> Receiver<T, P, A> 
     ///
     /// Source: `Receiver::new_sender` of async-broadcast 0.7.2, which never refuses.
     pub fn new_sender(&self) -> Result<Sender<T, P, A>, HandleError>
-        ensures channel { IfOk result (λ made. IsSame P.gave P.channel made.port self.now.port) }
+        ensures channel { IfOk result (λ made. IsSame P.gave made.port self.now.port) }
         ensures made { IfOk result
             (λ _. P.gave self.now.port Call.NewSender (Reply.NewSender (Ok tt))) }
         ensures refused { IfErr result (λ error. (error ≡ HandleError.Memory)

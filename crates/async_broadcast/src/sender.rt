@@ -121,7 +121,7 @@ impl<T: Clone, P: Port<T, WakerSlot<A>>, A: Allocator + Copy> Sender<T, P, A> {
     ///
     /// Source: `Sender::clone` of async-broadcast 0.7.2, which never refuses.
     pub fn clone(&self) -> Result<Self, HandleError>
-        ensures channel { IfOk result (λ made. IsSame P.gave P.channel made.port self.now.port) }
+        ensures channel { IfOk result (λ made. IsSame P.gave made.port self.now.port) }
         ensures made { IfOk result
             (λ _. P.gave self.now.port Call.NewSender (Reply.NewSender (Ok tt))) }
         ensures refused { IfErr result (λ error. (error ≡ HandleError.Memory)
@@ -153,7 +153,7 @@ impl<T: Clone, P: Port<T, WakerSlot<A>>, A: Allocator + Copy> Sender<T, P, A> {
     ///
     /// Source: `Sender::new_receiver` of async-broadcast 0.7.2, which never refuses.
     pub fn new_receiver(&self) -> Result<Receiver<T, P, A>, HandleError>
-        ensures channel { IfOk result (λ made. IsSame P.gave P.channel made.port self.now.port) }
+        ensures channel { IfOk result (λ made. IsSame P.gave made.port self.now.port) }
         ensures made { IfOk result
             (λ made. P.gave self.now.port Call.NewReceiver (Reply.NewReceiver (Ok made.key))) }
         ensures refused { IfErr result (λ error. (error ≡ HandleError.Memory)

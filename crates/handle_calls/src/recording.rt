@@ -106,9 +106,6 @@ impl<S: Drop> Ask<u64, S> for RecordingPort {
 }
 
 impl<S: Drop> Port<u64, S> for RecordingPort {
-    // All ports of one record: no contract tells channels apart here.
-    ghost channel = { λ _. 0 };
-
     fn ask_waiting(&self, call: Call<u64>) -> Reply<u64>
         requires { may_wait call ≡ true }
         ensures reply { IsOfKind call result }

@@ -1,4 +1,4 @@
-//! Tests of the core, of its errors and of the recording shell, over their public surfaces.
+//! Tests of the core, of its errors and of the recording shell, by their public calls.
 #![tactic(auto)]
 
 #[cfg(test)]

@@ -34,14 +34,12 @@ no_command s r m none Script range is = absurd (omega (arith, ap length is))
 no_command s r m none (Threads a b c) range is =
     none a b c range (ap (λ ws. get_or ws 1 []) is) (ap (λ ws. get_or ws 2 []) is) (ap (λ ws. get_or ws 3 []) is)
 
--- src/usage.rt:9:1
 pub returns-in-len1 : goal.returns-in-len1
 returns-in-len1 c =
     let only : length c.args.words.now ≡ 1 = omega (arith, c.in-len1.len_at_least, c.in-len1.len_below) in
     let same = single c.args.words.now c.only-item.result only c.only-item.is in
     rw same (search rules)
 
--- src/usage.rt:13:1
 pub returns-in-len4-clause-words : goal.returns-in-len4-clause-words
 returns-in-len4-clause-words c =
     let long : length c.args.words.now ≡ 4 = omega (arith, c.in-len4.len_at_least, c.in-len4.len_below) in
@@ -49,7 +47,6 @@ returns-in-len4-clause-words c =
     let words : map string_bytes c.args.words.now ≡ codes "threads" ∷ c.as_str-in-len4.result.now ∷ c.as_str-in-len4-2.result.now ∷ c.as_str-in-len4-3.result.now ∷ [] = rw same (search rules) in
     spelt c.with_numbers.result _ _ words c.with_numbers.ensures.words
 
--- src/usage.rt:13:1
 pub returns-in-len4-clause-none : goal.returns-in-len4-clause-none
 returns-in-len4-clause-none c none asked range is =
     let long : length c.args.words.now ≡ 4 = omega (arith, c.in-len4.len_at_least, c.in-len4.len_below) in
