@@ -9,7 +9,7 @@ use Rattle.bcast_model.specs.declared.run.Reply.{Reply}
 use Rattle.bcast_model.specs.declared.run.Reply.TheVariants as reply
 use Rattle.bcast_model.specs.ListenerId.{Pair}
 use Rattle.bcast_model.specs.Control.{Control, pair_waits, cursor_of}
-use Rattle.bcast_model.specs.Receiving.{recv_reply, receive, skipped_to, is_empty_reply, listens, poll_receive, try_recv_reply}
+use Rattle.bcast_model.specs.Receiving.{recv_reply, receive, skipped_to, is_empty_reply, listens, receive_poll, try_recv_reply}
 use Rattle.bcast_model.specs.Legal.{IsReceived}
 use Rattle.bcast_model.specs.View.{View, kept_at}
 use Rattle.bcast_model.specs.Laws.{IsValidView}
@@ -74,7 +74,7 @@ module _ {T : Type 0} where
   -- so a poll only waits
   pub poll_waits : (v mid new : View T) (pair : Pair) (at : Option ℕ) → IsValidView v → is_empty_reply (try_recv_reply v at) ≡ true
       → mid ≡ settle v (sets (receive v.front v.end v.control pair.0 at)) → new ≡ record mid { control = pair_waits mid.control pair }
-      → new ≡ settle v (sets (poll_receive v.front v.end v.control pair at (try_recv_reply v at)))
+      → new ≡ settle v (sets (receive_poll v.front v.end v.control pair at (try_recv_reply v at)))
   poll_waits v mid new pair at valid e mid_is new_is =
       new_is ∙ ap (λ (x : View T). record x { control = pair_waits x.control pair }) (settle_empty v mid pair.0 at valid e mid_is)
       ∙ sym (settle_stays v (pair_waits v.control pair) valid.low)

@@ -8,7 +8,7 @@ use Rattle.bcast_model.specs.declared.run.Call.TheVariants as call
 use Rattle.bcast_model.specs.declared.run.Reply.{Reply}
 use Rattle.bcast_model.specs.declared.run.Reply.TheVariants as reply
 use Rattle.bcast_model.specs.ListenerId.{Pair}
-use Rattle.bcast_model.specs.Receiving.{receive, poll_receive, try_recv_reply, IsOwed}
+use Rattle.bcast_model.specs.Receiving.{receive, receive_poll, try_recv_reply, IsOwed}
 use Rattle.bcast_model.specs.Legal.{IsReceived, Legal}
 use Rattle.bcast_model.specs.View.{View}
 use Rattle.bcast_model.specs.Laws.{IsValidView}
@@ -54,14 +54,14 @@ module _ {T : Type 0} where
   -- a poll that was answered, or waits
   pub does_poll : {is_clone : T → T → Type 0} (v new : View T) (c : Call T) (pair : Pair) (at was : Option ℕ) (spelt : Result T TryRecvError → Reply T) (refused r : Reply T) (answer : Result T TryRecvError)
       → was ≡ at → IsTryRecv is_clone (IsOwed v pair.0 was) (try_recv_reply v was) (Ok answer)
-      → new ≡ settle v (sets (poll_receive v.front v.end v.control pair was (try_recv_reply v was))) → r ≡ spelt answer
+      → new ≡ settle v (sets (receive_poll v.front v.end v.control pair was (try_recv_reply v was))) → r ≡ spelt answer
       → (IsReceived is_clone (IsOwed v pair.0 at) spelt refused (try_recv_reply v at) (spelt answer) → Legal is_clone v c (spelt answer))
-      → effect v c (spelt answer) ≡ sets (poll_receive v.front v.end v.control pair at (try_recv_reply v at)) → Does is_clone v c r new
+      → effect v c (spelt answer) ≡ sets (receive_poll v.front v.end v.control pair at (try_recv_reply v at)) → Does is_clone v c r new
   does_poll {is_clone = is_clone} v new c pair at was spelt refused r answer same legal new_is is means effect_is =
       let exactly = subst (λ o. IsTryRecv is_clone (IsOwed v pair.0 o) (try_recv_reply v o) (Ok answer)) same legal in
       subst (λ x. Does is_clone v c x new) (sym is) (record {
         legal = means (respelt spelt refused (try_recv_reply v at) answer exactly);
-        effect = new_is ∙ ap (λ o. settle v (sets (poll_receive v.front v.end v.control pair o (try_recv_reply v o)))) same ∙ ap (settle v) (sym effect_is);
+        effect = new_is ∙ ap (λ o. settle v (sets (receive_poll v.front v.end v.control pair o (try_recv_reply v o)))) same ∙ ap (settle v) (sym effect_is);
       })
 
   -- a poll that found no memory
@@ -75,10 +75,10 @@ module _ {T : Type 0} where
   -- a poll whose answer is spelt by this word
   pub does_spelt : {is_clone : T → T → Type 0} {X : Type 0} (v new : View T) (c : Call T) (pair : Pair) (at was : Option ℕ) (word : Result T TryRecvError → X) (wrap : Result X AllocError → Reply T)
       (received : Result (Result T TryRecvError) AllocError) (spelt : Result X AllocError) → IsValidView v → was ≡ at → IsTryRecv is_clone (IsOwed v pair.0 was) (try_recv_reply v was) received
-      → OnOk received (new ≡ settle v (sets (poll_receive v.front v.end v.control pair was (try_recv_reply v was)))) → OnErr received (new ≡ v)
+      → OnOk received (new ≡ settle v (sets (receive_poll v.front v.end v.control pair was (try_recv_reply v was)))) → OnErr received (new ≡ v)
       → IfOk received (λ answer. spelt ≡ Ok (word answer)) → IfErr received (λ e. spelt ≡ Err e)
       → ((r : Reply T) → IsReceived is_clone (IsOwed v pair.0 at) (λ a. wrap (Ok (word a))) (wrap (Err alloc_error)) (try_recv_reply v at) r → Legal is_clone v c r)
-      → ((answer : Result T TryRecvError) → effect v c (wrap (Ok (word answer))) ≡ sets (poll_receive v.front v.end v.control pair at (try_recv_reply v at)))
+      → ((answer : Result T TryRecvError) → effect v c (wrap (Ok (word answer))) ≡ sets (receive_poll v.front v.end v.control pair at (try_recv_reply v at)))
       → effect v c (wrap (Err alloc_error)) ≡ sets v.control → Does is_clone v c (wrap spelt) new
   does_spelt v new c pair at was word wrap (Ok answer) spelt valid same legal ok err is_ok is_err means effect_ok effect_err =
       does_poll v new c pair at was (λ a. wrap (Ok (word a))) (wrap (Err alloc_error)) (wrap spelt) answer same legal ok (ap wrap is_ok) (means (wrap (Ok (word answer)))) (effect_ok answer)

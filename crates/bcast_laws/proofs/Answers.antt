@@ -12,15 +12,15 @@ use Rattle.bcast_model.specs.ListenerId.{Pair, stream_of, future_of}
 use Rattle.bcast_model.specs.Control.{Control, pair_waits, pair_answered, cursor_of}
 use Rattle.bcast_model.specs.View.{View, kept_at, sends_are_ready}
 use Rattle.bcast_model.specs.Effect.{Effect, sets}
-use Rattle.bcast_model.specs.Receiving.{receive, listens, skipped_to, poll_receive, is_empty_reply, recv_reply, try_recv_reply}
+use Rattle.bcast_model.specs.Receiving.{receive, listens, skipped_to, receive_poll, is_empty_reply, recv_reply, try_recv_reply}
 use Rattle.bcast_model.specs.Effects.{set_unless_refused, effect}
 use Rattle.bcast_model.specs.History.{History, view_of, remember, front_number, numbered}
-use Rattle.bcast_model.specs.Next.{found_no_memory, may_tell, next}
+use Rattle.bcast_model.specs.Next.{is_out_of_memory, may_tell, next}
 use Rattle.bcast_model.specs.Deliveries.{receives_for}
 use Rattle.bcast_model.proofs.Cases.{test_is, receive_is, tell_is}
 use Rattle.bcast_model.proofs.Views.{numbered-queue, first_under}
 use Rattle.bcast_model.proofs.DeliveryMaps.{inserted_other}
-use Rattle.bcast_model.proofs.TilingFront.{front-le-cursor}
+use Rattle.bcast_model.proofs.Front.{front-le-cursor}
 use Rattle.bcast_laws.specs.Receives.{ShareMessages}
 use Rattle.bcast_laws.proofs.Sends.{apart}
 
@@ -82,9 +82,9 @@ module _ {T : Type 0} where
     control : KeepsOther v.control key e.control
 
   leaves_unless : (v : View T) (key : ℕ) (c : Control) (r : Reply T) → KeepsOther v.control key c → LeavesOther v key (set_unless_refused r v c)
-  leaves_unless v key c r keeps = test_is (LeavesOther v key) (found_no_memory r) (sets v.control) (sets c) (λ _. record { accepted = refl; floor = refl; control = (refl, refl) }) (λ _. record { accepted = refl; floor = refl; control = keeps })
+  leaves_unless v key c r keeps = test_is (LeavesOther v key) (is_out_of_memory r) (sets v.control) (sets c) (λ _. record { accepted = refl; floor = refl; control = (refl, refl) }) (λ _. record { accepted = refl; floor = refl; control = keeps })
 
-  polled_leaves : (v : View T) (key : ℕ) (r : Reply T) (pair : Pair) (cursor : Option ℕ) (answer : Result T TryRecvError) → pair.0 ≢ key → LeavesOther v key (set_unless_refused r v (poll_receive v.front v.end v.control pair cursor answer))
+  polled_leaves : (v : View T) (key : ℕ) (r : Reply T) (pair : Pair) (cursor : Option ℕ) (answer : Result T TryRecvError) → pair.0 ≢ key → LeavesOther v key (set_unless_refused r v (receive_poll v.front v.end v.control pair cursor answer))
   polled_leaves v key r pair cursor answer differs =
       let c : Control = receive v.front v.end v.control pair.0 cursor in
       let keeps = receive_keeps v.front v.end v.control key pair.0 cursor differs in

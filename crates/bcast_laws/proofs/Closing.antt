@@ -10,10 +10,10 @@ use Rattle.bcast_model.specs.Control.{Control, tell_receivers, close, close_if_d
 use Rattle.bcast_model.specs.View.{View, sends_are_ready}
 use Rattle.bcast_model.specs.Effect.{Effect, sets}
 use Rattle.bcast_model.specs.Sending.{refusal, accept_unless, offer, with_place_answered, poll_send}
-use Rattle.bcast_model.specs.Receiving.{receive, listens, skipped_to, poll_receive, is_empty_reply, try_recv_reply}
+use Rattle.bcast_model.specs.Receiving.{receive, listens, skipped_to, receive_poll, is_empty_reply, try_recv_reply}
 use Rattle.bcast_model.specs.Effects.{resize, set_unless_refused, effect}
 use Rattle.bcast_model.specs.History.{History, view_of, remember}
-use Rattle.bcast_model.specs.Next.{found_no_memory, chosen_id, may_tell, next}
+use Rattle.bcast_model.specs.Next.{is_out_of_memory, chosen_id, may_tell, next}
 use Rattle.bcast_model.specs.Handles.{has_next, begin_send, new_receiver, activate, clone_receiver, new_sender, clone_inactive, without_receiver, drop_receiver, deactivate, drop_sender, drop_inactive}
 use Rattle.bcast_model.specs.Run.{end_of_run}
 use Rattle.bcast_model.proofs.Cases.{test_is, close_is, deserted_is, accepting_is, receive_is, tell_is}
@@ -93,10 +93,10 @@ module _ {T : Type 0} where
       test_is Closed (has_place v.control place) (cond (sends_are_ready v) (with_place_answered (offer v msg) place) waits) (sets v.control)
       (λ _. test_is Closed (sends_are_ready v) (with_place_answered (offer v msg) place) waits (λ _. offer_stays v msg is) (λ _. is)) (λ _. is)
 
-  unless_stays : (v : View T) (e : Effect T) (r : Reply T) → IsClosed v.control → IsClosed e.control → IsClosed (cond (found_no_memory r) (sets v.control) e).control
-  unless_stays v e r is then = test_is Closed (found_no_memory r) (sets v.control) e (λ _. is) (λ _. then)
+  unless_stays : (v : View T) (e : Effect T) (r : Reply T) → IsClosed v.control → IsClosed e.control → IsClosed (cond (is_out_of_memory r) (sets v.control) e).control
+  unless_stays v e r is then = test_is Closed (is_out_of_memory r) (sets v.control) e (λ _. is) (λ _. then)
 
-  poll_stays : (v : View T) (r : Reply T) (pair : Pair) (cursor : Option ℕ) (answer : Result T TryRecvError) → IsClosed v.control → IsClosed (set_unless_refused r v (poll_receive v.front v.end v.control pair cursor answer)).control
+  poll_stays : (v : View T) (r : Reply T) (pair : Pair) (cursor : Option ℕ) (answer : Result T TryRecvError) → IsClosed v.control → IsClosed (set_unless_refused r v (receive_poll v.front v.end v.control pair cursor answer)).control
   poll_stays v r pair cursor answer is =
       let c : Control = receive v.front v.end v.control pair.0 cursor in
       unless_stays v (sets (listens c pair (is_empty_reply answer))) r is (listens_stays c (receive_stays v.control is v.front v.end pair.0 cursor) pair (is_empty_reply answer))

@@ -20,7 +20,7 @@ use Rattle.bcast_model.proofs.Cases.{tell_is}
 use Rattle.bcast_model.proofs.Views.{valid_view, lagging}
 use Rattle.bcast_model.proofs.DeliveryLists.{past_end}
 use Rattle.bcast_model.proofs.DeliveryMaps.{inserted}
-use Rattle.bcast_model.proofs.TilingFront.{front-le-cursor}
+use Rattle.bcast_model.proofs.Front.{front-le-cursor}
 
 module _ {T : Type 0} where
   missed : (closed : Bool) (o : Option T) (n : ℕ) → ◌≡◌ {A = Result T TryRecvError} (recv_reply closed o) (Err (unread.Overflowed n)) → ⊥

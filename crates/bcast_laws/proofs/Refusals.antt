@@ -17,7 +17,7 @@ use Rattle.bcast_model.specs.Receiving.{receive, recv_reply, skipped_count, skip
 use Rattle.bcast_model.specs.Legal.{Legal, IsReceived}
 use Rattle.bcast_model.specs.Effects.{set_unless_refused, effect}
 use Rattle.bcast_model.specs.History.{History, view_of, remember, with_control}
-use Rattle.bcast_model.specs.Next.{found_no_memory, tell_if_ready, end_call, may_tell, next}
+use Rattle.bcast_model.specs.Next.{is_out_of_memory, tell_if_ready, end_call, may_tell, next}
 use Rattle.bcast_model.specs.Valid.{IsValid, IsValidView}
 use Rattle.bcast_model.proofs.Views.{valid_view}
 use Rattle.bcast_model.proofs.DeliveryLists.{past_end}
@@ -66,17 +66,17 @@ module _ {T : Type 0} where
       ] refl e
 
   same_unless : (v : View T) (c : Control) (r : Reply T) → c ≡ v.control → set_unless_refused r v c ≡ sets v.control
-  same_unless v c r same = test_is (λ (e : Effect T). e ≡ sets v.control) (found_no_memory r) (sets v.control) (sets c) (λ _. refl) (λ _. ap sets same)
+  same_unless v c r same = test_is (λ (e : Effect T). e ≡ sets v.control) (is_out_of_memory r) (sets v.control) (sets c) (λ _. refl) (λ _. ap sets same)
 
   -- a receive is refused where its exact answer is a refusal, or there is no memory
   same_received : (is_clone : T → T → Type 0) (owed : Type 0) (spelt : Result T TryRecvError → Reply T) (refused : Reply T) (exact : Result T TryRecvError) (v : View T) (c : Control) (r : Reply T)
-      → (is_refused (spelt exact) ≡ true → set_unless_refused r v c ≡ sets v.control) → ((msg : T) → is_refused (spelt (Ok msg)) ≡ false) → found_no_memory refused ≡ true
+      → (is_refused (spelt exact) ≡ true → set_unless_refused r v c ≡ sets v.control) → ((msg : T) → is_refused (spelt (Ok msg)) ≡ false) → is_out_of_memory refused ≡ true
       → IsReceived is_clone owed spelt refused exact r → is_refused r ≡ true → set_unless_refused r v c ≡ sets v.control
   same_received is_clone owed spelt refused exact v c r same gives memory legal e = elim legal [
     | inl is ↦ same (sym (ap is_refused is) ∙ e)
     | inr s ↦ elim s.1 [
       | inl clone ↦ apart (sym (ap is_refused clone.reply ∙ gives clone.given) ∙ e)
-      | inr is ↦ ap (λ b. cond b (sets v.control) (sets c)) (ap found_no_memory is ∙ memory)
+      | inr is ↦ ap (λ b. cond b (sets v.control) (sets c)) (ap is_out_of_memory is ∙ memory)
     ]
   ]
 

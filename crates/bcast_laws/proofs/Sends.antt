@@ -13,7 +13,7 @@ use Rattle.bcast_model.specs.View.{View, is_full, sends_are_ready}
 use Rattle.bcast_model.specs.Effect.{Effect, sets}
 use Rattle.bcast_model.specs.Sending.{refusal, reply_to_try, reply_to_attempt, handed_back, attempt_send_reply, accept_unless, offer, with_place_answered, poll_send}
 use Rattle.bcast_model.specs.Effects.{effect}
-use Rattle.bcast_model.specs.Replies.{found_no_memory}
+use Rattle.bcast_model.specs.Replies.{is_out_of_memory}
 use Rattle.bcast_model.specs.History.{History, view_of}
 use Rattle.bcast_model.specs.Next.{next}
 use Rattle.bcast_model.specs.Legal.{Legal}
@@ -78,8 +78,8 @@ module _ {T : Type 0} where
         | false ↦ λ _. refl
       ] refl)
 
-  adds_unless : (v : View T) (e : Effect T) (r : Reply T) → e.accepted ≡ [] → (cond (found_no_memory r) (sets v.control) e).accepted ≡ added (is_accepted r) None
-  adds_unless v e r same = test_is (λ (e : Effect T). e.accepted ≡ []) (found_no_memory r) (sets v.control) e (λ _. refl) (λ _. same) ∙ none_added (is_accepted r)
+  adds_unless : (v : View T) (e : Effect T) (r : Reply T) → e.accepted ≡ [] → (cond (is_out_of_memory r) (sets v.control) e).accepted ≡ added (is_accepted r) None
+  adds_unless v e r same = test_is (λ (e : Effect T). e.accepted ≡ []) (is_out_of_memory r) (sets v.control) e (λ _. refl) (λ _. same) ∙ none_added (is_accepted r)
 
   -- what a call adds
   adds : (is_clone : T → T → Type 0) (v : View T) (c : Call T) (r : Reply T) → Legal is_clone v c r → (effect v c r).accepted ≡ added (is_accepted r) (sent_by c)

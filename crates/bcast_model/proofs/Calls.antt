@@ -8,8 +8,8 @@ use Rattle.bcast_model.specs.declared.run.Reply.TheVariants as reply
 use Rattle.bcast_model.specs.ListenerId.{stream_of, future_of}
 use Rattle.bcast_model.specs.Control.{Control, close, place_ended, pair_ended, cursor_of}
 use Rattle.bcast_model.specs.Handles.{begin_send, new_receiver, activate, clone_receiver, new_sender, clone_inactive, drop_receiver, deactivate, drop_sender, drop_inactive}
-use Rattle.bcast_model.specs.Receiving.{receive, skipped_to, poll_receive, try_recv_reply}
-use Rattle.bcast_model.specs.Next.{found_no_memory, chosen_id, may_tell}
+use Rattle.bcast_model.specs.Receiving.{receive, skipped_to, receive_poll, try_recv_reply}
+use Rattle.bcast_model.specs.Next.{is_out_of_memory, chosen_id, may_tell}
 use Rattle.bcast_model.specs.View.{View, sends_are_ready}
 use Rattle.bcast_model.specs.Legal.{Legal}
 use Rattle.bcast_model.specs.Effect.{sets}
@@ -32,15 +32,15 @@ module _ {T : Type 0} (is_clone : T → T → Type 0) where
   keeps_valid (call.EndSend place) r v valid range legal = keeps_sets v valid (place_ended v.control place) (kept_end_send v valid place)
   keeps_valid (call.TryRecv key) r v valid range legal = keeps_unless v valid r (receive v.front v.end v.control key (cursor_of v.control key)) (kept_receive v valid key (cursor_of v.control key) refl)
   keeps_valid (call.PollFuture key) r v valid range legal =
-      keeps_unless v valid r (poll_receive v.front v.end v.control (future_of key) (cursor_of v.control key) (try_recv_reply v (cursor_of v.control key))) (kept_poll v valid (future_of key) (cursor_of v.control key) refl)
+      keeps_unless v valid r (receive_poll v.front v.end v.control (future_of key) (cursor_of v.control key) (try_recv_reply v (cursor_of v.control key))) (kept_poll v valid (future_of key) (cursor_of v.control key) refl)
   keeps_valid (call.EndFuture key) r v valid range legal = keeps_sets v valid (pair_ended v.control (future_of key)) (kept_pair_dropped v valid (future_of key))
   keeps_valid (call.PollRecv key) r v valid range legal =
-      keeps_unless v valid r (poll_receive v.front v.end v.control (stream_of key) (cursor_of v.control key) (try_recv_reply v (cursor_of v.control key))) (kept_poll v valid (stream_of key) (cursor_of v.control key) refl)
+      keeps_unless v valid r (receive_poll v.front v.end v.control (stream_of key) (cursor_of v.control key) (try_recv_reply v (cursor_of v.control key))) (kept_poll v valid (stream_of key) (cursor_of v.control key) refl)
   keeps_valid (call.PollNext key) r v valid range legal =
       let cursor : Option ℕ = skipped_to v.front (cursor_of v.control key) in
-      keeps_unless v valid r (poll_receive v.front v.end v.control (stream_of key) cursor (try_recv_reply v cursor)) (kept_poll_next v valid (stream_of key) (cursor_of v.control key) refl)
+      keeps_unless v valid r (receive_poll v.front v.end v.control (stream_of key) cursor (try_recv_reply v cursor)) (kept_poll_next v valid (stream_of key) (cursor_of v.control key) refl)
   keeps_valid call.Close r v valid range legal = keeps_sets v valid (close v.control) (let k = kept_idle v valid in kept_close v v.control k.sound k.fits k.told)
-  keeps_valid (call.SetCapacity n) r v valid range legal = test_is (λ e. KeepsValid v e (not (sends_are_ready v))) (found_no_memory r) (sets v.control) (resize v n)
+  keeps_valid (call.SetCapacity n) r v valid range legal = test_is (λ e. KeepsValid v e (not (sends_are_ready v))) (is_out_of_memory r) (sets v.control) (resize v n)
       (λ _. keeps_sets v valid v.control (kept_idle v valid))
       (λ _. keeps_resize v valid n range.0 range.1)
   keeps_valid (call.SetOverflow on) r v valid range legal = keeps_sets v valid (record v.control { overflow = on }) (kept_settings v valid on v.control.await_active)

@@ -12,10 +12,10 @@ use Rattle.bcast_model.specs.Control.{Control, close_if_deserted, has_place, wit
 use Rattle.bcast_model.specs.View.{View, sends_are_ready}
 use Rattle.bcast_model.specs.Effect.{Effect, sets}
 use Rattle.bcast_model.specs.Sending.{refusal, accept_unless, offer, with_place_answered, poll_send}
-use Rattle.bcast_model.specs.Receiving.{receive, skipped_to, poll_receive, is_empty_reply, try_recv_reply}
+use Rattle.bcast_model.specs.Receiving.{receive, skipped_to, receive_poll, is_empty_reply, try_recv_reply}
 use Rattle.bcast_model.specs.Legal.{Legal}
 use Rattle.bcast_model.specs.Effects.{resize, set_unless_refused, effect}
-use Rattle.bcast_model.specs.Replies.{found_no_memory, chosen_id}
+use Rattle.bcast_model.specs.Replies.{is_out_of_memory, chosen_id}
 use Rattle.bcast_model.specs.Handles.{has_next, drop_receiver, deactivate, drop_sender, drop_inactive, new_sender, clone_inactive, without_receiver, clone_receiver}
 use Rattle.bcast_model.specs.Effects.{resize}
 use Rattle.bcast_model.specs.Deliveries.{receives_for}
@@ -91,13 +91,13 @@ module _ {T : Type 0} where
   abbrev pub Changes : View T → Call T → Control → Type 0
   Changes v c new = CursorsChange v.front v.end (λ key. receives_for key c) v.control.cursors new.cursors
 
-  unless : (v : View T) (e : Effect T) (c : Call T) (r : Reply T) → Changes v c e.control → Changes v c (cond (found_no_memory r) (sets v.control) e).control
-  unless v e c r change = test_is (λ (e : Effect T). Changes v c e.control) (found_no_memory r) (sets v.control) e (λ _. stay refl) (λ _. change)
+  unless : (v : View T) (e : Effect T) (c : Call T) (r : Reply T) → Changes v c e.control → Changes v c (cond (is_out_of_memory r) (sets v.control) e).control
+  unless v e c r change = test_is (λ (e : Effect T). Changes v c e.control) (is_out_of_memory r) (sets v.control) e (λ _. stay refl) (λ _. change)
 
   polled : (v : View T) (c : Call T) (r : Reply T) (pair : Pair) (cursor : Option ℕ) (answer : Result T TryRecvError) → Changes v c (receive v.front v.end v.control pair.0 cursor)
-      → Changes v c (set_unless_refused r v (poll_receive v.front v.end v.control pair cursor answer)).control
+      → Changes v c (set_unless_refused r v (receive_poll v.front v.end v.control pair cursor answer)).control
   polled v c r pair cursor answer change =
-      unless v (sets (poll_receive v.front v.end v.control pair cursor answer)) c r
+      unless v (sets (receive_poll v.front v.end v.control pair cursor answer)) c r
       (subst (CursorsChange v.front v.end (λ key. receives_for key c) v.control.cursors) (sym (cursors-listens (receive v.front v.end v.control pair.0 cursor) pair (is_empty_reply answer))) change)
 
   pub changes : (is_clone : T → T → Type 0) (v : View T) (c : Call T) (r : Reply T) → Legal is_clone v c r → Changes v c (effect v c r).control

@@ -16,7 +16,7 @@ use Rattle.bcast_model.specs.View.{is_full, sends_are_ready, View}
 use Rattle.bcast_model.specs.Sending.{refusal, reply_to_try, reply_to_attempt, handed_back, attempt_send_reply, try_broadcast_reply}
 use Rattle.bcast_model.specs.Receiving.{is_empty_reply, skipped_count, skipped_to, future_reply, stream_reply, next_reply, try_recv_reply, IsOwed}
 use Rattle.bcast_model.specs.Legal.{Legal, IsReceived}
-use Rattle.bcast_model.specs.Next.{found_no_memory}
+use Rattle.bcast_model.specs.Next.{is_out_of_memory}
 use Rattle.bcast_model.specs.Laws.{IsValidView, must_wait, is_wait_reply}
 use Rattle.bcast_model.proofs.Views.{lagging}
 use Rattle.bcast_model.proofs.Receives.{empty_at}
@@ -54,12 +54,12 @@ module _ {T : Type 0} where
 
   -- ---- receives
   received_waits : (is_clone : T → T → Type 0) (owed : Type 0) (spelt : Result T TryRecvError → Reply T) (refused : Reply T) (exact : Result T TryRecvError) (r : Reply T)
-      → ((answer : Result T TryRecvError) → must_wait (spelt answer) ≡ is_empty_reply answer) → found_no_memory refused ≡ true → found_no_memory r ≡ false → IsReceived is_clone owed spelt refused exact r → must_wait r ≡ is_empty_reply exact
+      → ((answer : Result T TryRecvError) → must_wait (spelt answer) ≡ is_empty_reply answer) → is_out_of_memory refused ≡ true → is_out_of_memory r ≡ false → IsReceived is_clone owed spelt refused exact r → must_wait r ≡ is_empty_reply exact
   received_waits is_clone owed spelt refused exact r waits none memory legal = elim legal [
     | inl e ↦ ap must_wait e ∙ waits exact
     | inr s ↦ elim s.1 [
       | inl clone ↦ ap must_wait clone.reply ∙ waits (Ok clone.given) ∙ sym (ap is_empty_reply clone.exactly)
-      | inr e ↦ (let f = sym memory ∙ ap found_no_memory e ∙ none in absurd (apart f))
+      | inr e ↦ (let f = sym memory ∙ ap is_out_of_memory e ∙ none in absurd (apart f))
     ]
   ]
     where
@@ -98,7 +98,7 @@ module _ {T : Type 0} where
     | inr here ↦ (let same : max cursor v.front ≡ cursor = omega arith in ap (λ at. is_empty_reply (try_recv_reply v (Some at))) same)
   ]
 
-  module _ (is_clone : T → T → Type 0) (v : View T) (key : ℕ) (r : Reply T) (memory : found_no_memory r ≡ false) where
+  module _ (is_clone : T → T → Type 0) (v : View T) (key : ℕ) (r : Reply T) (memory : is_out_of_memory r ≡ false) where
     pub future_waits_empty : Legal is_clone v (call.PollFuture key) r → must_wait r ≡ is_empty_reply (try_recv_reply v (cursor_of v.control key))
     future_waits_empty legal = received_waits is_clone (IsOwed v key (cursor_of v.control key)) (λ answer. reply.PollFuture (Ok (future_reply answer))) (reply.PollFuture (Err alloc_error)) (try_recv_reply v (cursor_of v.control key)) r future_waits refl memory legal
 

@@ -10,8 +10,8 @@ use Rattle.bcast_model.specs.declared.run.Reply.{Reply}
 use Rattle.bcast_model.specs.Listeners.{consume, wait_again}
 use Rattle.bcast_model.specs.ListenerId.{Pair, same_pair}
 use Rattle.bcast_model.specs.Control.{Control, Cursors, with_cursor}
-use Rattle.bcast_model.specs.Receiving.{receive, listens, skipped_to, recv_reply, is_empty_reply, poll_receive, try_recv_reply}
-use Rattle.bcast_model.specs.Next.{found_no_memory}
+use Rattle.bcast_model.specs.Receiving.{receive, listens, skipped_to, recv_reply, is_empty_reply, receive_poll, try_recv_reply}
+use Rattle.bcast_model.specs.Next.{is_out_of_memory}
 use Rattle.bcast_model.specs.View.{View, sends_are_ready}
 use Rattle.bcast_model.specs.Effect.{sets}
 use Rattle.bcast_model.specs.Effects.{set_unless_refused}
@@ -69,7 +69,7 @@ module _ {T : Type 0} where
 
     -- who found nothing stays, and waits; anyone else waits no more
     poll_from : (pair : Pair) (cursor start : ℕ) → get v.control.cursors pair.0 ≡ Some cursor → cursor ≤ start → (v.end ≤ start → cursor ≡ v.end)
-        → IsKept v (poll_receive v.front v.end v.control pair (Some start) (try_recv_reply v (Some start)))
+        → IsKept v (receive_poll v.front v.end v.control pair (Some start) (try_recv_reply v (Some start)))
     poll_from pair cursor start e after all_read = elim (is_empty_reply (try_recv_reply v (Some start))) as (λ b. is_empty_reply (try_recv_reply v (Some start)) ≡ b → IsKept v (listens (receive v.front v.end v.control pair.0 (Some start)) pair b)) [
       | true ↦ λ none.
           let at = empty_at v start none in
@@ -91,13 +91,13 @@ module _ {T : Type 0} where
         let idle = kept_idle v valid in
         kept_receives v v.control (consume same_pair pair v.control.waiting_receives) (receives_consumed v.control.cursors v.control.closed v.end v.control.waiting_receives pair idle.sound.receives) idle
 
-    pub kept_poll : (pair : Pair) (cursor : Option ℕ) → get v.control.cursors pair.0 ≡ cursor → IsKept v (poll_receive v.front v.end v.control pair cursor (try_recv_reply v cursor))
+    pub kept_poll : (pair : Pair) (cursor : Option ℕ) → get v.control.cursors pair.0 ≡ cursor → IsKept v (receive_poll v.front v.end v.control pair cursor (try_recv_reply v cursor))
     kept_poll pair None e = poll_gone pair
     kept_poll pair (Some cursor) e = let r = valid.reach pair.0 cursor e in poll_from pair cursor cursor e (omega arith) (λ past. omega arith)
 
     -- the stream skips what was dropped, and finds a message then
     pub kept_poll_next : (pair : Pair) (cursor : Option ℕ) → get v.control.cursors pair.0 ≡ cursor
-        → IsKept v (poll_receive v.front v.end v.control pair (skipped_to v.front cursor) (try_recv_reply v (skipped_to v.front cursor)))
+        → IsKept v (receive_poll v.front v.end v.control pair (skipped_to v.front cursor) (try_recv_reply v (skipped_to v.front cursor)))
     kept_poll_next pair None e = poll_gone pair
     kept_poll_next pair (Some cursor) e =
         let r = valid.reach pair.0 cursor e in
@@ -107,4 +107,4 @@ module _ {T : Type 0} where
         ])
 
     pub keeps_unless : (r : Reply T) (c : Control) → IsKept v c → KeepsValid v (set_unless_refused r v c) (not (sends_are_ready v))
-    keeps_unless r c idle = test_is (λ e. KeepsValid v e (not (sends_are_ready v))) (found_no_memory r) (sets v.control) (sets c) (λ _. keeps_sets v valid v.control (kept_idle v valid)) (λ _. keeps_sets v valid c idle)
+    keeps_unless r c idle = test_is (λ e. KeepsValid v e (not (sends_are_ready v))) (is_out_of_memory r) (sets v.control) (sets c) (λ _. keeps_sets v valid v.control (kept_idle v valid)) (λ _. keeps_sets v valid c idle)

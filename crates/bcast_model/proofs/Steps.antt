@@ -10,7 +10,7 @@ use Rattle.bcast_model.specs.View.{View, sends_are_ready}
 use Rattle.bcast_model.specs.Legal.{Legal}
 use Rattle.bcast_model.specs.Effects.{effect, resize}
 use Rattle.bcast_model.specs.History.{History, view_of, remember}
-use Rattle.bcast_model.specs.Next.{found_no_memory, tell_if_ready, may_tell, next}
+use Rattle.bcast_model.specs.Next.{is_out_of_memory, tell_if_ready, may_tell, next}
 use Rattle.bcast_model.specs.Valid.{IsValid}
 use Rattle.bcast_model.specs.Answers.{Answers}
 use Rattle.bcast_model.specs.Steps.{next_view, Steps}
@@ -31,7 +31,7 @@ module _ {T : Type 0} where
   told_same f same may v = test_is (λ (w : View T). f w.control ≡ f v.control) (may && sends_are_ready v) (record v { control = tell_a_sender v.control }) v (λ _. same v.control) (λ _. refl)
 
   -- the range that a call keeps to, where the next state is valid
-  range_of : (c : Call T) (r : Reply T) (v : View T) → found_no_memory r ≡ false → AreSizes (effect v c r).control.capacity (effect v c r).control.room (len (effect v c r).control.cursors) 0 0 0 → HasRange c (len (effect v c r).control.cursors)
+  range_of : (c : Call T) (r : Reply T) (v : View T) → is_out_of_memory r ≡ false → AreSizes (effect v c r).control.capacity (effect v c r).control.room (len (effect v c r).control.cursors) 0 0 0 → HasRange c (len (effect v c r).control.cursors)
   range_of (call.SetCapacity n) r v memory s =
       let e = ap (λ b. cond b (sets v.control) (resize v n)) memory in
       let capacity = ap (λ (e : Effect T). e.control.capacity) e in
@@ -44,19 +44,19 @@ module _ {T : Type 0} where
   range_of c r v memory s = tt
 
   -- a call that finds no memory does nothing
-  keeps_refused : (is_clone : T → T → Type 0) (c : Call T) (r : Reply T) (v : View T) → IsValidView v → found_no_memory r ≡ true → Legal is_clone v c r → KeepsValid v (effect v c r) (may_tell v.control (sends_are_ready v) c)
+  keeps_refused : (is_clone : T → T → Type 0) (c : Call T) (r : Reply T) (v : View T) → IsValidView v → is_out_of_memory r ≡ true → Legal is_clone v c r → KeepsValid v (effect v c r) (may_tell v.control (sends_are_ready v) c)
   keeps_refused is_clone (call.SetCapacity n) r v valid none legal = subst (λ e. KeepsValid v e (not (sends_are_ready v))) (sym (ap (λ b. cond b (sets v.control) (resize v n)) none)) (keeps_sets v valid v.control (kept_idle v valid))
-  keeps_refused is_clone call.NewReceiver r v valid none (inl (key, is, free)) = absurd (apart (sym (ap found_no_memory is) ∙ none))
-  keeps_refused is_clone call.NewReceiver r v valid none (inr is) = absurd (apart (sym (ap found_no_memory is) ∙ none))
-  keeps_refused is_clone call.Activate r v valid none (inl (gone, is)) = absurd (apart (sym (ap found_no_memory is) ∙ none))
-  keeps_refused is_clone call.Activate r v valid none (inr (there, inl (key, is, free))) = absurd (apart (sym (ap found_no_memory is) ∙ none))
-  keeps_refused is_clone call.Activate r v valid none (inr (there, inr is)) = absurd (apart (sym (ap found_no_memory is) ∙ none))
-  keeps_refused is_clone call.ActivateCloned r v valid none (inl (gone, is)) = absurd (apart (sym (ap found_no_memory is) ∙ none))
-  keeps_refused is_clone call.ActivateCloned r v valid none (inr (there, inl (key, is, free))) = absurd (apart (sym (ap found_no_memory is) ∙ none))
-  keeps_refused is_clone call.ActivateCloned r v valid none (inr (there, inr is)) = absurd (apart (sym (ap found_no_memory is) ∙ none))
-  keeps_refused is_clone (call.CloneReceiver key) r v valid none (inl (gone, is)) = absurd (apart (sym (ap found_no_memory is) ∙ none))
-  keeps_refused is_clone (call.CloneReceiver key) r v valid none (inr (there, inl (made, is, free))) = absurd (apart (sym (ap found_no_memory is) ∙ none))
-  keeps_refused is_clone (call.CloneReceiver key) r v valid none (inr (there, inr is)) = absurd (apart (sym (ap found_no_memory is) ∙ none))
+  keeps_refused is_clone call.NewReceiver r v valid none (inl (key, is, free)) = absurd (apart (sym (ap is_out_of_memory is) ∙ none))
+  keeps_refused is_clone call.NewReceiver r v valid none (inr is) = absurd (apart (sym (ap is_out_of_memory is) ∙ none))
+  keeps_refused is_clone call.Activate r v valid none (inl (gone, is)) = absurd (apart (sym (ap is_out_of_memory is) ∙ none))
+  keeps_refused is_clone call.Activate r v valid none (inr (there, inl (key, is, free))) = absurd (apart (sym (ap is_out_of_memory is) ∙ none))
+  keeps_refused is_clone call.Activate r v valid none (inr (there, inr is)) = absurd (apart (sym (ap is_out_of_memory is) ∙ none))
+  keeps_refused is_clone call.ActivateCloned r v valid none (inl (gone, is)) = absurd (apart (sym (ap is_out_of_memory is) ∙ none))
+  keeps_refused is_clone call.ActivateCloned r v valid none (inr (there, inl (key, is, free))) = absurd (apart (sym (ap is_out_of_memory is) ∙ none))
+  keeps_refused is_clone call.ActivateCloned r v valid none (inr (there, inr is)) = absurd (apart (sym (ap is_out_of_memory is) ∙ none))
+  keeps_refused is_clone (call.CloneReceiver key) r v valid none (inl (gone, is)) = absurd (apart (sym (ap is_out_of_memory is) ∙ none))
+  keeps_refused is_clone (call.CloneReceiver key) r v valid none (inr (there, inl (made, is, free))) = absurd (apart (sym (ap is_out_of_memory is) ∙ none))
+  keeps_refused is_clone (call.CloneReceiver key) r v valid none (inr (there, inr is)) = absurd (apart (sym (ap is_out_of_memory is) ∙ none))
   keeps_refused is_clone c r v valid none legal = keeps_valid is_clone c r v valid tt legal
 
   keeps_shown : (is_clone : T → T → Type 0) (h : History T) (c : Call T) (r : Reply T) → IsValid h → Legal is_clone (view_of h) c r → IsValid (next h c r) → KeepsValid (view_of h) (effect (view_of h) c r) (may_tell h.control (sends_are_ready (view_of h)) c)
@@ -77,7 +77,7 @@ module _ {T : Type 0} where
         inactive_fit = omega arith;
         end_fits = omega arith;
       } in
-      elim (found_no_memory r) as (λ b. found_no_memory r ≡ b → KeepsValid v e may) [
+      elim (is_out_of_memory r) as (λ b. is_out_of_memory r ≡ b → KeepsValid v e may) [
         | true ↦ λ none. keeps_refused is_clone c r v (valid_view h valid) none legal
         | false ↦ λ memory. keeps_valid is_clone c r v (valid_view h valid) (range_of c r v memory s) legal
       ] refl

@@ -4,7 +4,7 @@ use Rattle.std.specs.Coded.{Coded, code_by, coded×, coded_ℕ, coded_list}
 use Rattle.std.specs.FinMap.{get, len, values, code}
 use Rattle.bcast_model.specs.History.{least}
 use Rattle.bcast_model.specs.Control.{Cursors}
-use Rattle.bcast_model.specs.Receiving.{IsOwedElsewhere}
+use Rattle.bcast_model.specs.Receiving.{IsUnreadByAnother}
 
 -- the number of the first kept message, the kept messages, the receivers' cursors, and how many
 -- messages fit
@@ -36,7 +36,7 @@ module _ {T : Type 0} where
 
   -- whether another receiver is still to read the message of this number
   abbrev pub IsOwed : Stored T → ℕ → ℕ → Type 0
-  IsOwed s key number = IsOwedElsewhere s.front (end_of s) s.cursors key (Some number)
+  IsOwed s key number = IsUnreadByAnother s.front (end_of s) s.cursors key (Some number)
 
   -- what a receiver is given for the message of this number: the message itself; or a clone, if
   -- another receiver is still to read it

@@ -10,7 +10,7 @@ use std::alloc::{AllocError, Allocator};
 impl<T: Clone, N: Notice, A: Allocator + Copy> Parts<T, N, A> {
     ghost use Rattle.bcast_model.specs.Laws.{IsValidView};
     ghost use Rattle.bcast_model.specs.Legal.{IsReceivedBy};
-    ghost use Rattle.bcast_model.specs.Receiving.{receive, poll_receive, skipped_count, skipped_to};
+    ghost use Rattle.bcast_model.specs.Receiving.{receive, receive_poll, skipped_count, skipped_to};
     ghost use Rattle.bcast_model.specs.Steps.{settle};
     ghost use Rattle.bcast_model.specs.Effect.{sets};
     ghost use Rattle.bcast_model.specs.Control.{cursor_of};
@@ -118,7 +118,7 @@ impl<T: Clone, N: Notice, A: Allocator + Copy> Parts<T, N, A> {
             (λ answer. reply.TryRecv (Ok answer)) (reply.TryRecv (Err alloc_error))
             (reply.TryRecv result) }
         ensures ok { OnOk result (self.new ≡ settle self.old
-            (sets (poll_receive self.old.front self.old.end self.old.control (key, kind) at
+            (sets (receive_poll self.old.front self.old.end self.old.control (key, kind) at
             (try_recv_reply self.old at)))) }
         ensures err { OnErr result (self.new ≡ self.old) }
         ensures sure { ((msg : T) → T.is_infallible msg) → IsOk result }

@@ -12,7 +12,7 @@ use Rattle.bcast_model.specs.Deliveries.{AtEachPoint, AreAllExact}
 use Rattle.bcast_model.proofs.Lists.{all_right}
 use Rattle.bcast_model.proofs.Clones.{run_exact}
 use Rattle.bcast_model.proofs.DeliveryLemmas.{deliveries_exact}
-use Rattle.bcast_model.proofs.TilingLemmas.{dropped_rise}
+use Rattle.bcast_model.proofs.MissedLemmas.{dropped_rise}
 use Rattle.bcast_core.specs.InfallibleClones.{is_receive_refused}
 use Rattle.bcast_core.proofs.Runs.{all_made, run_more, end_more}
 use Rattle.bcast_core.proofs.steps.run.Goals as goal

@@ -1,4 +1,4 @@
-use Rattle.bcast_model.proofs.TilingLemmas.{deliveries_tile}
+use Rattle.bcast_model.proofs.MissedLemmas.{deliveries_tile}
 use Rattle.bcast_laws.proofs.deliveries.deliveries_tile.Goals as goal
 
 pub returns : goal.returns

@@ -1,4 +1,4 @@
-use Rattle.bcast_model.proofs.TilingLemmas.{dropped_rise}
+use Rattle.bcast_model.proofs.MissedLemmas.{dropped_rise}
 use Rattle.bcast_laws.proofs.deliveries.dropped_numbers_rise.Goals as goal
 
 pub returns : goal.returns

@@ -1,4 +1,4 @@
-use Rattle.bcast_model.proofs.TilingLemmas.{tells_dropped}
+use Rattle.bcast_model.proofs.MissedLemmas.{tells_dropped}
 use Rattle.bcast_laws.proofs.deliveries.missed_were_dropped.Goals as goal
 
 pub returns : goal.returns

@@ -16,7 +16,7 @@ use Rattle.bcast_model.specs.History.{History, view_of, front_number, end_number
 use Rattle.bcast_model.specs.Missed.{hands_back, dropped_by_send}
 use Rattle.bcast_model.proofs.DeliveryMaps.{cursors-accepting}
 use Rattle.bcast_model.proofs.DeliveryLists.{past_end}
-use Rattle.bcast_model.proofs.TilingFront.{IsBounded, front-le-end}
+use Rattle.bcast_model.proofs.Front.{IsBounded, front-le-end}
 
 -- an effect drops no message, or so many from the front on while the receivers stay
 pub data FloorChange {T : Type 0} (h : History T) (e : Effect T) (dropped : List ℕ) : Type 0 where

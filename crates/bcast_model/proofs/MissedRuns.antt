@@ -15,9 +15,9 @@ use Rattle.bcast_model.specs.Deliveries.{given_to}
 use Rattle.bcast_model.specs.Missed.{dropped_by, dropped_in, WasDropped}
 use Rattle.bcast_model.proofs.Views.{floor_under}
 use Rattle.bcast_model.proofs.DeliverySteps.{gives_call}
-use Rattle.bcast_model.proofs.TilingFront.{IsBounded, front-le-cursor}
-use Rattle.bcast_model.proofs.TilingNumbers.{IsRising, rising_append, within_rising}
-use Rattle.bcast_model.proofs.TilingSteps.{drops_next, stood_before, bounded-next}
+use Rattle.bcast_model.proofs.Front.{IsBounded, front-le-cursor}
+use Rattle.bcast_model.proofs.RisingNumbers.{IsRising, rising_append, within_rising}
+use Rattle.bcast_model.proofs.MissedSteps.{drops_next, stood_before, bounded-next}
 
 pub joined : (Gone : ℕ → Type 0) (xs ys : List ℕ) (n : ℕ) → (Gone n ⊎ Contains xs n) ⊎ Contains ys n → Gone n ⊎ Contains (xs ++ ys) n
 joined Gone xs ys n (inl (inl gone)) = inl gone

@@ -15,11 +15,11 @@ use Rattle.bcast_model.proofs.Views.{floor_under}
 use Rattle.bcast_model.proofs.Answers.{cursors-next}
 use Rattle.bcast_model.proofs.DeliveryMaps.{came_from}
 use Rattle.bcast_model.proofs.DeliveryCursors.{changes}
-use Rattle.bcast_model.proofs.TilingFront.{IsBounded, front-le-end}
-use Rattle.bcast_model.proofs.TilingSends.{FloorChange, stays, passes}
-use Rattle.bcast_model.proofs.TilingFloor.{floor-effect}
-use Rattle.bcast_model.proofs.TilingCapacity.{capacity-next}
-use Rattle.bcast_model.proofs.TilingNumbers.{contains_range, IsRising, rising_range, rising_wider}
+use Rattle.bcast_model.proofs.Front.{IsBounded, front-le-end}
+use Rattle.bcast_model.proofs.DroppedBySends.{FloorChange, stays, passes}
+use Rattle.bcast_model.proofs.DroppedByCalls.{floor-effect}
+use Rattle.bcast_model.proofs.PositiveCapacity.{capacity-next}
+use Rattle.bcast_model.proofs.RisingNumbers.{contains_range, IsRising, rising_range, rising_wider}
 
 module _ {T : Type 0} where
   -- what a call drops: numbers from the front on, that rise up to the floor after it, and each that the floor passes

@@ -11,10 +11,10 @@ use Rattle.bcast_model.specs.Sending.{refusal, handed_back}
 use Rattle.bcast_model.specs.Legal.{Legal}
 use Rattle.bcast_model.specs.Effects.{resize, effect}
 use Rattle.bcast_model.specs.History.{History, view_of, front_number, end_number, queue_of}
-use Rattle.bcast_model.specs.Replies.{found_no_memory}
+use Rattle.bcast_model.specs.Replies.{is_out_of_memory}
 use Rattle.bcast_model.specs.Missed.{dropped_by}
-use Rattle.bcast_model.proofs.TilingFront.{IsBounded, length-queue}
-use Rattle.bcast_model.proofs.TilingSends.{FloorChange, stays, passes, hands_back-sent, hands_back-attempted, floor-send, floor-poll_send}
+use Rattle.bcast_model.proofs.Front.{IsBounded, length-queue}
+use Rattle.bcast_model.proofs.DroppedBySends.{FloorChange, stays, passes, hands_back-sent, hands_back-attempted, floor-send, floor-poll_send}
 
 module _ {T : Type 0} where
   -- ---- a smaller capacity
@@ -46,9 +46,9 @@ module _ {T : Type 0} where
   floor-effect is_clone h (call.AttemptSend msg) r bounded legal =
       rw (legal, hands_back-attempted h.control.await_active (handed_back (view_of h)) (refusal (view_of h) msg)) (floor-send h msg (refusal (view_of h) msg) bounded)
   floor-effect is_clone h (call.PollSend place msg) r bounded legal = floor-poll_send h place msg r bounded legal
-  floor-effect is_clone h (call.SetCapacity n) r bounded legal = floor-unless h (resize (view_of h) n) (found_no_memory r) (range_with_len (front_number h) (length (queue_of h) - n)) (floor-resize h n bounded)
-  floor-effect is_clone h (call.TryRecv key) r bounded legal = floor-receive h (found_no_memory r) _
-  floor-effect is_clone h (call.PollFuture key) r bounded legal = floor-receive h (found_no_memory r) _
-  floor-effect is_clone h (call.PollRecv key) r bounded legal = floor-receive h (found_no_memory r) _
-  floor-effect is_clone h (call.PollNext key) r bounded legal = floor-receive h (found_no_memory r) _
+  floor-effect is_clone h (call.SetCapacity n) r bounded legal = floor-unless h (resize (view_of h) n) (is_out_of_memory r) (range_with_len (front_number h) (length (queue_of h) - n)) (floor-resize h n bounded)
+  floor-effect is_clone h (call.TryRecv key) r bounded legal = floor-receive h (is_out_of_memory r) _
+  floor-effect is_clone h (call.PollFuture key) r bounded legal = floor-receive h (is_out_of_memory r) _
+  floor-effect is_clone h (call.PollRecv key) r bounded legal = floor-receive h (is_out_of_memory r) _
+  floor-effect is_clone h (call.PollNext key) r bounded legal = floor-receive h (is_out_of_memory r) _
   floor-effect is_clone h c r bounded legal = stays refl refl

@@ -12,7 +12,7 @@ use Rattle.bcast_model.specs.Sending.{refusal, accept_unless, offer, with_place_
 use Rattle.bcast_model.specs.Receiving.{receive, listens, skipped_to, is_empty_reply, try_recv_reply}
 use Rattle.bcast_model.specs.Effects.{resize, set_unless_refused, effect}
 use Rattle.bcast_model.specs.History.{History, view_of, remember}
-use Rattle.bcast_model.specs.Next.{HasPositiveCapacity, chosen_id, found_no_memory, may_tell, next}
+use Rattle.bcast_model.specs.Next.{HasPositiveCapacity, chosen_id, is_out_of_memory, may_tell, next}
 use Rattle.bcast_model.proofs.Cases.{test_is, tell_is}
 use Rattle.bcast_model.specs.Handles.{begin_send, new_receiver, activate, clone_receiver, new_sender, clone_inactive, has_next, drop_receiver, deactivate, drop_sender, drop_inactive, without_receiver}
 
@@ -99,7 +99,7 @@ module _ {T : Type 0} where
       → (set_unless_refused r v (listens (receive v.front v.end v.control pair.0 cursor) pair waits)).control.capacity ≡ v.control.capacity
   capacity-poll v r pair cursor waits =
       let after = receive v.front v.end v.control pair.0 cursor in
-      capacity-unless v (listens after pair waits) (found_no_memory r) (capacity-listens after pair waits ∙ capacity-receive v.front v.end v.control pair.0 cursor)
+      capacity-unless v (listens after pair waits) (is_out_of_memory r) (capacity-listens after pair waits ∙ capacity-receive v.front v.end v.control pair.0 cursor)
 
   capacity-effect : (v : View T) (c : Call T) (r : Reply T) → HasPositiveCapacity c → 1 ≤ v.control.capacity → 1 ≤ (effect v c r).control.capacity
   capacity-effect v (call.TryBroadcast msg) r allowed positive = stays_positive _ _ (capacity-send v msg (refusal v msg)) positive
@@ -107,7 +107,7 @@ module _ {T : Type 0} where
   capacity-effect v call.BeginSend r allowed positive = stays_positive _ _ (capacity-begin_send v.control (chosen_id r)) positive
   capacity-effect v (call.PollSend place msg) r allowed positive = stays_positive _ _ (capacity-poll_send v place msg) positive
   capacity-effect v (call.TryRecv key) r allowed positive =
-      stays_positive _ _ (capacity-unless v _ (found_no_memory r) (capacity-receive v.front v.end v.control key (cursor_of v.control key))) positive
+      stays_positive _ _ (capacity-unless v _ (is_out_of_memory r) (capacity-receive v.front v.end v.control key (cursor_of v.control key))) positive
   capacity-effect v (call.PollFuture key) r allowed positive =
       stays_positive _ _ (capacity-poll v r (future_of key) (cursor_of v.control key) (is_empty_reply (try_recv_reply v (cursor_of v.control key)))) positive
   capacity-effect v (call.PollRecv key) r allowed positive =
@@ -117,7 +117,7 @@ module _ {T : Type 0} where
       stays_positive _ _ (capacity-poll v r (stream_of key) cursor (is_empty_reply (try_recv_reply v cursor))) positive
   capacity-effect v call.Close r allowed positive = stays_positive _ _ (capacity-close v.control) positive
   capacity-effect v (call.SetCapacity n) r allowed positive =
-      elim (found_no_memory r) as (λ b. 1 ≤ (cond b (sets v.control) (resize v n)).control.capacity) [ true ↦ positive | false ↦ allowed ]
+      elim (is_out_of_memory r) as (λ b. 1 ≤ (cond b (sets v.control) (resize v n)).control.capacity) [ true ↦ positive | false ↦ allowed ]
   capacity-effect v call.NewSender r allowed positive = stays_positive _ _ (capacity-new_sender v.control) positive
   capacity-effect v call.CloneInactive r allowed positive = stays_positive _ _ (capacity-clone_inactive v.control) positive
   capacity-effect v (call.Deactivate key) r allowed positive = stays_positive _ _ (capacity-deactivate v.control key (cursor_of v.control key)) positive

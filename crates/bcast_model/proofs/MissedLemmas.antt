@@ -13,13 +13,13 @@ use Rattle.bcast_model.specs.Next.{HasPositiveCapacity, next}
 use Rattle.bcast_model.specs.Valid.{IsValid}
 use Rattle.bcast_model.specs.Run.{IsRun, end_of_run}
 use Rattle.bcast_model.specs.Deliveries.{given_to, deliveries_of}
-use Rattle.bcast_model.specs.Missed.{dropped_by, dropped_in, WasDropped, TellsDropped, Tiles}
+use Rattle.bcast_model.specs.Missed.{dropped_by, dropped_in, WasDropped, TellsDropped, MissesOnlyDropped}
 use Rattle.bcast_model.proofs.DeliveryLists.{in_parts}
 use Rattle.bcast_model.proofs.DeliverySteps.{gives_call}
-use Rattle.bcast_model.proofs.TilingFront.{IsBounded, bounded_valid}
-use Rattle.bcast_model.proofs.TilingNumbers.{increasing}
-use Rattle.bcast_model.proofs.TilingSteps.{drops_next, bounded-next}
-use Rattle.bcast_model.proofs.TilingRuns.{joined, bounded_run, rising_run, AreGone, gone_next, gone_from, under_floor, missed_gone, given_kept}
+use Rattle.bcast_model.proofs.Front.{IsBounded, bounded_valid}
+use Rattle.bcast_model.proofs.RisingNumbers.{increasing}
+use Rattle.bcast_model.proofs.MissedSteps.{drops_next, bounded-next}
+use Rattle.bcast_model.proofs.MissedRuns.{joined, bounded_run, rising_run, AreGone, gone_next, gone_from, under_floor, missed_gone, given_kept}
 
 module _ {T : Type 0} (is_clone : T → T → Type 0) where
   pub dropped_rise : (h : History T) (calls : List (Call T)) (replies : List (Reply T)) → IsValid h → AllByRecursion HasPositiveCapacity calls → IsRun is_clone h calls replies → IsStrictlyIncreasing (dropped_in h calls replies)
@@ -79,7 +79,7 @@ module _ {T : Type 0} (is_clone : T → T → Type 0) where
 
   pub deliveries_tile : (h : History T) (calls : List (Call T)) (replies : List (Reply T)) (key start : ℕ) (later : List (Call T)) (later_replies : List (Reply T)) → IsValid h
       → AllByRecursion HasPositiveCapacity calls → IsRun is_clone h calls replies → AllByRecursion HasPositiveCapacity later → IsRun is_clone (end_of_run h calls replies) later later_replies
-      → cursor_of (end_of_run h calls replies).control key ≡ Some start → Tiles h calls replies key start later later_replies
+      → cursor_of (end_of_run h calls replies).control key ≡ Some start → MissesOnlyDropped h calls replies key start later later_replies
   deliveries_tile h calls replies key start later later_replies valid allowed run allowed_later run_later is =
       let bounded = bounded_valid h valid in
       let now = end_of_run h calls replies in
