@@ -10,16 +10,12 @@ use Rattle.bcast_model.specs.View.{View}
 use Rattle.bcast_model.specs.Laws.{IsValidView}
 use Rattle.bcast_model.specs.Effect.{Effect, sets}
 use Rattle.bcast_model.specs.Steps.{settle}
-use Rattle.bcast_model.proofs.Cases.{close_is, deserted_is, accepting_is}
+pub use Rattle.bcast_model.proofs.Cases.{cursors-close, cursors-accepting}
+use Rattle.bcast_model.proofs.Cases.{deserted_is}
+pub use Rattle.bcast_model.proofs.DeliveryMaps.{inserted}
 use Rattle.bcast_model.proofs.Least.{least-le-cursor, least-greatest, find_head}
 
 -- ---- cursors
-pub itself : (key : ℕ) → eq_by_cmp nat_cmp key key ≡ true
-itself key = let t = unsigned_tied key key in grind (arith, common_steps, t)
-
-pub inserted : (cursors : Cursors) (key cursor : ℕ) → get (insert cursors key cursor) key ≡ Some cursor
-inserted cursors key cursor = get-insert nat_cmp_total cursors key cursor key ∙ ap (λ b. cond b (Some cursor) (get cursors key)) (itself key)
-
 -- with a cursor that is at most the front, the front stays
 pub low_inserted : (end front : ℕ) (cursors : Cursors) (key cursor : ℕ) → cursor ≤ front → least end (values (insert cursors key cursor)) ≤ front
 low_inserted end front cursors key cursor below = let own = least-le-cursor end (insert cursors key cursor) key cursor (inserted cursors key cursor) in omega (arith, own)
@@ -42,13 +38,6 @@ least_raised end cursors some reach =
     let r = reach s.0 s.1 s.2 in
     let own = least-le-cursor (end + 1) cursors s.0 s.1 s.2 in
     least-greatest (least (end + 1) (values cursors)) end cursors (omega (arith, r, own)) (λ key cursor e. least-le-cursor (end + 1) cursors key cursor e)
-
--- ---- closing and accepting leave the cursors
-pub cursors-close : (c : Control) → (close c).cursors ≡ c.cursors
-cursors-close c = close_is (λ x. x.cursors ≡ c.cursors) c (λ _. refl) (λ _. refl)
-
-pub cursors-accepting : (c : Control) (end : ℕ) → (accepting c end).cursors ≡ c.cursors
-cursors-accepting c end = accepting_is (λ x. x.cursors ≡ c.cursors) c end (cursors-close (tell_receivers c)) (λ _. refl)
 
 module _ {T : Type 0} where
   pub same_view : (a b : View T) → a.front ≡ b.front → a.queue ≡ b.queue → a.end ≡ b.end → a.control ≡ b.control → a ≡ b

@@ -12,7 +12,8 @@ use Rattle.bcast_store.specs.Stored.{Stored, end_of}
 use Rattle.bcast_waiting.specs.Lists.{Sends, Receives}
 
 -- what stands beside the messages
-abbrev pub control_of : {T : Type 0} → Stored T → Sends → Receives → ℕ → ℕ → Bool → Bool → Bool → ℕ → Control
+abbrev pub control_of : {T : Type 0} → Stored T → Sends → Receives
+    → ℕ → ℕ → Bool → Bool → Bool → ℕ → Control
 control_of store sends receives senders inactive closed overflow await_active capacity = record {
   cursors = store.cursors;
   senders = senders;
@@ -28,13 +29,20 @@ control_of store sends receives senders inactive closed overflow await_active ca
 }
 
 abbrev pub seen_of : {T : Type 0} → Stored T → Control → View T
-seen_of store control = record { front = store.front; queue = store.queue; end = end_of store; control = control }
+seen_of store control = record {
+  front = store.front;
+  queue = store.queue;
+  end = end_of store;
+  control = control;
+}
 
 -- each receiver's stream and future find room among the listeners
 abbrev pub HaveRoom : Cursors → ℕ → Type 0
 HaveRoom cursors room = (key : ℕ) → is_some (get cursors key) ≡ true → 2 * key + 1 < room
 
 -- a call and its reply, but for telling a sender
-pub record Does {T : Type 0} (is_clone : T → T → Type 0) (old : View T) (c : Call T) (r : Reply T) (new : View T) : Type 0 where
+pub record Does
+    {T : Type 0} (is_clone : T → T → Type 0) (old : View T) (c : Call T) (r : Reply T)
+    (new : View T) : Type 0 where
   pub legal : Legal is_clone old c r
   pub effect : new ≡ settle old (effect old c r)

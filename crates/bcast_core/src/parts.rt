@@ -1,5 +1,5 @@
 //! What the state of a channel consists of, and the steps that its calls are made of.
-ghost use Rattle.std.specs.Prelude.{◌≡◌, ◌==◌, ◌^◌, ◌+◌, ◌-◌, ◌<◌, ◌≤◌, false, true, length, IfOk};
+ghost use Rattle.std.specs.Prelude.{◌≡◌, ◌==◌, ◌^◌, ◌+◌, ◌-◌, ◌<◌, false, true, length, IfOk};
 ghost use Rattle.std.specs.FinMap.{len};
 ghost use Rattle.bcast_model.specs.History.{opening};
 

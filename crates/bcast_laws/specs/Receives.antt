@@ -44,7 +44,8 @@ pub record ShareMessages {T : Type 0} (h other : History T) : Type 0 where
 pub record ReadsByOwnCursor (T : Type 0) : Type 0 where
   pub own : (h other : History T) (key : ℕ) → IsValid h → ShareMessages h other
       → cursor_of other.control key ≡ cursor_of h.control key
-      → try_recv_reply (view_of other) (cursor_of other.control key) ≡ try_recv_reply (view_of h) (cursor_of h.control key)
+      → try_recv_reply (view_of other) (cursor_of other.control key)
+      ≡ try_recv_reply (view_of h) (cursor_of h.control key)
   pub others : (h : History T) (key reader : ℕ) (c : Call T) (r : Reply T) → IsValid h
       → receives_for reader c ≡ true → reader ≢ key
       → try_recv_reply (view_of (next h c r)) (cursor_of (next h c r).control key)
@@ -57,5 +58,7 @@ ClonesAnswerAlike {T} is_clone =
     → Legal is_clone (view_of h) (call.CloneReceiver key) (reply.CloneReceiver (Ok fresh))
     → let made = next h (call.CloneReceiver key) (reply.CloneReceiver (Ok fresh)) in
     let after = next made (call.TryRecv key) r in
-    (try_recv_reply (view_of made) (cursor_of made.control fresh) ≡ try_recv_reply (view_of made) (cursor_of made.control key))
-    × (try_recv_reply (view_of after) (cursor_of after.control fresh) ≡ try_recv_reply (view_of made) (cursor_of made.control key))
+    (try_recv_reply (view_of made) (cursor_of made.control fresh)
+    ≡ try_recv_reply (view_of made) (cursor_of made.control key))
+    × (try_recv_reply (view_of after) (cursor_of after.control fresh)
+    ≡ try_recv_reply (view_of made) (cursor_of made.control key))

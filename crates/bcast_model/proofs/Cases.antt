@@ -21,6 +21,23 @@ deserted_is P c gone stays = test_is P (is_deserted c) (close c) c (λ _. gone) 
 pub accepting_is : (P : Control → Type 0) (c : Control) (end : ℕ) → P (close (tell_receivers c)) → (((end + 1) == last_end) ≡ false → P (tell_receivers c)) → P (accepting c end)
 accepting_is P c end last more = test_is P ((end + 1) == last_end) (close (tell_receivers c)) (tell_receivers c) (λ _. last) more
 
+-- ---- closing and accepting leave the capacity and the cursors
+pub capacity-close : (c : Control) → (close c).capacity ≡ c.capacity
+capacity-close c = close_is (λ now. now.capacity ≡ c.capacity) c (λ _. refl) (λ _. refl)
+
+pub capacity-accepting : (c : Control) (end : ℕ) → (accepting c end).capacity ≡ c.capacity
+capacity-accepting c end = accepting_is (λ now. now.capacity ≡ c.capacity) c end (capacity-close (tell_receivers c)) (λ _. refl)
+
+pub cursors-close : (c : Control) → (close c).cursors ≡ c.cursors
+cursors-close c = close_is (λ now. now.cursors ≡ c.cursors) c (λ _. refl) (λ _. refl)
+
+pub cursors-close_if_deserted : (c : Control) → (close_if_deserted c).cursors ≡ c.cursors
+cursors-close_if_deserted c = deserted_is (λ now. now.cursors ≡ c.cursors) c (cursors-close c) (λ _. refl)
+
+pub cursors-accepting : (c : Control) (end : ℕ) → (accepting c end).cursors ≡ c.cursors
+cursors-accepting c end = accepting_is (λ now. now.cursors ≡ c.cursors) c end (cursors-close (tell_receivers c)) (λ _. refl)
+
+-- ---- receiving and telling
 -- a receive leaves who lags at the front, goes past a message, or finds none
 pub receive_is : (P : Control → Type 0) (front end : ℕ) (c : Control) (key cursor : ℕ)
     → (cursor < front → P (with_cursor c key front)) → (front ≤ cursor → cursor < end → P (with_cursor c key (cursor + 1))) → (front ≤ cursor → end ≤ cursor → P c)

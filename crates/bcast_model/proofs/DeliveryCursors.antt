@@ -19,8 +19,8 @@ use Rattle.bcast_model.specs.Replies.{is_out_of_memory, chosen_id}
 use Rattle.bcast_model.specs.Handles.{has_next, drop_receiver, deactivate, drop_sender, drop_inactive, new_sender, clone_inactive, without_receiver, clone_receiver}
 use Rattle.bcast_model.specs.Effects.{resize}
 use Rattle.bcast_model.specs.Deliveries.{receives_for}
-use Rattle.bcast_model.proofs.Cases.{test_is}
-use Rattle.bcast_model.proofs.DeliveryMaps.{CursorsChange, stay, rise, make_at_end, make_where, leave, cursors-close, cursors-close_if_deserted, cursors-accepting, cursors-listens, cursors-begin_send}
+use Rattle.bcast_model.proofs.Cases.{test_is, cursors-close, cursors-close_if_deserted, cursors-accepting}
+use Rattle.bcast_model.proofs.DeliveryMaps.{CursorsChange, stay, rise, make_at_end, make_where, leave, cursors-listens, cursors-begin_send}
 
 rise_from : (front end : ℕ) (receives : ℕ → Bool) (c : Control) (key from at : ℕ) → receives key ≡ true → get c.cursors key ≡ Some from → from ≤ at → CursorsChange front end receives c.cursors (receive front end c key (Some at)).cursors
 rise_from front end receives c key from at reads is le =

@@ -6,7 +6,7 @@ use Rattle.std.specs.Cmp.{nat_cmp_total, unsigned_tied}
 use Rattle.std.specs.Ordering.{nat_cmp, eq_by_cmp}
 use Rattle.std.specs.FinMap.{get, insert, remove, get-insert, get-remove}
 use Rattle.bcast_model.specs.ListenerId.{Pair}
-use Rattle.bcast_model.specs.Control.{Control, Cursors, close, close_if_deserted, is_deserted, accepting, last_end, tell_receivers}
+use Rattle.bcast_model.specs.Control.{Control, Cursors}
 use Rattle.bcast_model.specs.Receiving.{listens}
 use Rattle.bcast_model.specs.Handles.{begin_send}
 
@@ -35,15 +35,6 @@ got_remove m key other =
     ] there
 
 -- ---- what leaves the cursors as they are
-pub cursors-close : (c : Control) → (close c).cursors ≡ c.cursors
-cursors-close c = elim c.closed as (λ b. (cond b c (close (record c { closed = false }))).cursors ≡ c.cursors) [ true ↦ refl | false ↦ refl ]
-
-pub cursors-close_if_deserted : (c : Control) → (close_if_deserted c).cursors ≡ c.cursors
-cursors-close_if_deserted c = elim (is_deserted c) as (λ b. (cond b (close c) c).cursors ≡ c.cursors) [ true ↦ cursors-close c | false ↦ refl ]
-
-pub cursors-accepting : (c : Control) (end : ℕ) → (accepting c end).cursors ≡ c.cursors
-cursors-accepting c end = elim ((end + 1) == last_end) as (λ b. (cond b (close (tell_receivers c)) (tell_receivers c)).cursors ≡ c.cursors) [ true ↦ cursors-close (tell_receivers c) | false ↦ refl ]
-
 pub cursors-listens : (c : Control) (pair : Pair) (waits : Bool) → (listens c pair waits).cursors ≡ c.cursors
 cursors-listens c pair true = refl
 cursors-listens c pair false = refl

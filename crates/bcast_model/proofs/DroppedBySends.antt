@@ -14,7 +14,7 @@ use Rattle.bcast_model.specs.Effect.{Effect, sets}
 use Rattle.bcast_model.specs.Sending.{refusal, reply_to_try, reply_to_attempt, handed_back, attempt_send_reply, accept_unless, offer, with_place_answered, poll_send}
 use Rattle.bcast_model.specs.History.{History, view_of, front_number, end_number, queue_of}
 use Rattle.bcast_model.specs.Missed.{hands_back, dropped_by_send}
-use Rattle.bcast_model.proofs.DeliveryMaps.{cursors-accepting}
+use Rattle.bcast_model.proofs.Cases.{cursors-accepting}
 use Rattle.bcast_model.proofs.DeliveryLists.{past_end}
 use Rattle.bcast_model.proofs.Front.{IsBounded, front-le-end}
 

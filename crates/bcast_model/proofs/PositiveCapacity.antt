@@ -5,7 +5,7 @@ use Rattle.bcast_model.specs.declared.run.Call.{Call}
 use Rattle.bcast_model.specs.declared.run.Call.TheVariants as call
 use Rattle.bcast_model.specs.declared.run.Reply.{Reply}
 use Rattle.bcast_model.specs.ListenerId.{Pair, stream_of, future_of}
-use Rattle.bcast_model.specs.Control.{Control, close, closing, close_if_deserted, is_deserted, accepting, has_place, last_end, tell_receivers, with_cursor, place_waits, cursor_of}
+use Rattle.bcast_model.specs.Control.{Control, close, close_if_deserted, is_deserted, has_place, with_cursor, place_waits, cursor_of}
 use Rattle.bcast_model.specs.View.{View, sends_are_ready}
 use Rattle.bcast_model.specs.Effect.{Effect, sets}
 use Rattle.bcast_model.specs.Sending.{refusal, accept_unless, offer, with_place_answered, poll_send}
@@ -13,18 +13,12 @@ use Rattle.bcast_model.specs.Receiving.{receive, listens, skipped_to, is_empty_r
 use Rattle.bcast_model.specs.Effects.{resize, set_unless_refused, effect}
 use Rattle.bcast_model.specs.History.{History, view_of, remember}
 use Rattle.bcast_model.specs.Next.{HasPositiveCapacity, chosen_id, is_out_of_memory, may_tell, next}
-use Rattle.bcast_model.proofs.Cases.{test_is, tell_is}
+use Rattle.bcast_model.proofs.Cases.{test_is, tell_is, capacity-close, capacity-accepting}
 use Rattle.bcast_model.specs.Handles.{begin_send, new_receiver, activate, clone_receiver, new_sender, clone_inactive, has_next, drop_receiver, deactivate, drop_sender, drop_inactive, without_receiver}
 
 -- ---- what leaves it as it is
-capacity-close : (c : Control) → (close c).capacity ≡ c.capacity
-capacity-close c = elim c.closed as (λ b. (cond b c (closing c)).capacity ≡ c.capacity) [ true ↦ refl | false ↦ refl ]
-
 capacity-close_if_deserted : (c : Control) → (close_if_deserted c).capacity ≡ c.capacity
 capacity-close_if_deserted c = elim (is_deserted c) as (λ b. (cond b (close c) c).capacity ≡ c.capacity) [ true ↦ capacity-close c | false ↦ refl ]
-
-capacity-accepting : (c : Control) (end : ℕ) → (accepting c end).capacity ≡ c.capacity
-capacity-accepting c end = elim ((end + 1) == last_end) as (λ b. (cond b (close (tell_receivers c)) (tell_receivers c)).capacity ≡ c.capacity) [ true ↦ capacity-close (tell_receivers c) | false ↦ refl ]
 
 capacity-receive : (front end : ℕ) (c : Control) (key : ℕ) (cursor : Option ℕ) → (receive front end c key cursor).capacity ≡ c.capacity
 capacity-receive front end c key None = refl

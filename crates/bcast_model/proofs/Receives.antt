@@ -20,13 +20,9 @@ use Rattle.bcast_model.proofs.Cases.{test_is, receive_is}
 use Rattle.bcast_model.proofs.WaitingReceives.{receives_consumed, receives_waiting}
 use Rattle.bcast_model.proofs.Sound.{IsNoLower, IsKept}
 use Rattle.bcast_model.proofs.Views.{lagging}
+use Rattle.bcast_model.proofs.DeliveryLists.{past_end}
 use Rattle.bcast_model.proofs.Lift.{KeepsValid}
 use Rattle.bcast_model.proofs.Kept.{kept_idle, kept_receives, kept_cursor, keeps_sets}
-
-past_end : {A : Type 0} (items : List A) (n : ℕ) → slice_get items n ≡ None → length items ≤ n
-past_end [] n e = omega arith
-past_end (item ∷ items) zero e = absurd (none-some item (sym e))
-past_end (item ∷ items) (suc n) e = let r = past_end items n e in omega arith
 
 -- a receiver that moves is counted already
 same_count : (cursors : Cursors) (key cursor to : ℕ) → get cursors key ≡ Some cursor → len (insert cursors key to) ≡ len cursors

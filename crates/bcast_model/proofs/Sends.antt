@@ -13,7 +13,7 @@ use Rattle.bcast_model.specs.History.{least}
 use Rattle.bcast_model.specs.View.{View, is_full, sends_are_ready}
 use Rattle.bcast_model.specs.Effect.{sets}
 use Rattle.bcast_model.specs.Laws.{IsValidView}
-use Rattle.bcast_model.proofs.Cases.{test_is, close_is, accepting_is}
+use Rattle.bcast_model.proofs.Cases.{test_is, close_is, accepting_is, capacity-accepting}
 use Rattle.bcast_model.proofs.Listeners.{one_abandon}
 use Rattle.bcast_model.proofs.Tests.{test_place}
 use Rattle.bcast_model.proofs.WaitingSends.{OneIsTold, sends_inserted, sends_consumed, sends_abandoned, sends_waiting}
@@ -41,12 +41,6 @@ told_close c one = close_is (λ now. OneIsTold now.waiting_sends) c (λ _. one) 
 told_accepting : (c : Control) (end : ℕ) → OneIsTold c.waiting_sends → OneIsTold (accepting c end).waiting_sends
 told_accepting c end one = accepting_is (λ now. OneIsTold now.waiting_sends) c end (told_close (tell_receivers c) one) (λ _. one)
 
-capacity_close : (c : Control) → (close c).capacity ≡ c.capacity
-capacity_close c = close_is (λ now. now.capacity ≡ c.capacity) c (λ _. refl) (λ _. refl)
-
-capacity_accepting : (c : Control) (end : ℕ) → (accepting c end).capacity ≡ c.capacity
-capacity_accepting c end = accepting_is (λ now. now.capacity ≡ c.capacity) c end (capacity_close (tell_receivers c)) (λ _. refl)
-
 module _ {T : Type 0} where
   -- who waits to receive is told, and may be under the new end
   sound_accepting : (v : View T) (c : Control) (end : ℕ) → end + 1 < 2 ^ 64 → IsSound v end c → IsSound v (end + 1) (accepting c end)
@@ -72,7 +66,7 @@ module _ {T : Type 0} where
     keeps_accept msg open_now =
         let idle = kept_idle v valid in
         let below : v.end + 1 < 2 ^ 64 = valid.control.open_end open_now in
-        let same = capacity_accepting v.control v.end in
+        let same = capacity-accepting v.control v.end in
         record {
           floor = test_is (λ n. (n ≡ 0) ⊎ (n < v.end + 1)) (is_full v) (v.front + 1) 0
               (λ e. let full : length v.queue ≡ v.control.capacity = grind (arith, common_steps, e) in inr (omega (arith, full, valid.control.capacity, valid.end)))
