@@ -1,6 +1,7 @@
 //! What holds of each state, each reply and each list: laws of the definitions.
 ghost use Rattle.bcast_model.specs.Laws.{OpeningIsValid, NextIsValid, ViewsAreShown, RepliesAreExact, ReceivedIsGiven, PollsWaitWhereTriesFindNothing};
 ghost use Rattle.bcast_model.specs.ListLaws.{ListsStayInOrder};
+ghost use Rattle.bcast_model.specs.ToldPolls.{ToldPollsComeToRest};
 
 /// Law: a new channel is in a valid state.
 pub fn opening_is_valid<T>()
@@ -31,6 +32,13 @@ pub fn received_is_given<T: Clone>()
 /// Law: a poll waits exactly if the try of the same name finds nothing to answer.
 pub fn polls_wait_where_tries_find_nothing<T: Clone>()
     ensures { PollsWaitWhereTriesFindNothing T.is_clone }
+{}
+
+/// Law: told polls come to rest. If n listeners wait, then at most n (n + 1) / 2 calls in a row poll
+/// a listener that is told just before it, want of memory aside. If no listener is told, none of
+/// their polls would be answered.
+pub fn told_polls_come_to_rest<T: Clone>()
+    ensures { ToldPollsComeToRest T.is_clone }
 {}
 
 /// Law: the lists of who waits. No id stands twice, no more are told than wait, and each keeps its

@@ -33,7 +33,7 @@ module _ {T : Type 0} where
     valid-next : IsValid (next h c r)
     valid-next = valid_told h (effect (view_of h) c r) (may_tell h.control (sends_are_ready (view_of h)) c) valid keeps
 
-    view_of-next : view_of (next h c r) ≡ next_view (view_of h) c r
+    pub view_of-next : view_of (next h c r) ≡ next_view (view_of h) c r
     view_of-next = view_of-told h (effect (view_of h) c r) (may_tell h.control (sends_are_ready (view_of h)) c) valid keeps
 
   -- each legal reply leads from a valid state to a valid one

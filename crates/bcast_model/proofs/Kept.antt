@@ -85,7 +85,7 @@ module _ {T : Type 0} (v : View T) (valid : IsValidView v) where
   }
 
   -- where the cursors stay, so do the messages
-  queue_same : (c : Control) → c.cursors ≡ v.control.cursors → (settle v (sets c)).queue ≡ v.queue
+  pub queue_same : (c : Control) → c.cursors ≡ v.control.cursors → (settle v (sets c)).queue ≡ v.queue
   queue_same c e =
       let same_end : v.end + 0 ≡ v.end = omega arith in
       let front : (settle v (sets c)).front ≡ v.front = rw (same_end, e) (omega (arith, valid.low)) in

@@ -27,6 +27,9 @@ pub mod Clones
 pub mod ReceiveReplies
 pub mod Polls
 pub mod ListLaws
+pub mod Unrest
+pub mod Rest
+pub mod ToldPolls
 -- what a run gives its receivers
 pub mod DeliveryLists
 pub mod DeliveryMaps

@@ -99,6 +99,22 @@ module _ {A : Type 0} where
     ]
 
     module _ (test : IsTest same) where
+      -- an id that stands in one part of a list without doubles doesn't stand in the other
+      pub distinct_apart : (id : A) (ids others : List A) → IsDistinct same (ids ++ others) → is_in same id ids ≡ true → is_in same id others ≡ false
+      distinct_apart id [] others d h = cc
+      distinct_apart id (other ∷ ids) others d h = elim (same id other) as (λ b. same id other ≡ b → (b || is_in same id ids) ≡ true → is_in same id others ≡ false) [
+        | true ↦ λ e h. subst (λ z. is_in same z others ≡ false) (sym (test.no id other e)) (absent other others (all_right (λ z. same other z ≡ false) ids others d.0))
+        | false ↦ λ e h. distinct_apart id ids others d.1 h
+      ] refl h
+
+      -- what holds of each of a list holds of an id in it
+      pub all_in : (P : A → Type 0) (id : A) (ids : List A) → AllByRecursion P ids → is_in same id ids ≡ true → P id
+      all_in P id [] a h = cc
+      all_in P id (other ∷ ids) a h = elim (same id other) as (λ b. same id other ≡ b → (b || is_in same id ids) ≡ true → P id) [
+        | true ↦ λ e h. subst P (sym (test.no id other e)) a.0
+        | false ↦ λ e h. all_in P id ids a.1 h
+      ] refl h
+
       -- a list without doubles loses one element at most
       pub length-without : (id : A) (ids : List A) → IsDistinct same ids → length (without same id ids) ≡ cond (is_in same id ids) (length ids - 1) (length ids)
       length-without id [] d = refl

@@ -1,6 +1,7 @@
 -- What the receivers of a run miss was dropped, and what they are given was not.
-use Rattle.std.proofs.Common.{◌≡◌, ◌⊎◌, inl, inr, ℕ, ◌+◌, ◌-◌, ◌≤◌, true, false, List, [], ◌∷◌, ◌++◌, length, Some, None, slice_get, ap, arith}
+use Rattle.std.proofs.Common.{◌≡◌, ◌⊎◌, inl, inr, ℕ, ◌+◌, ◌-◌, ◌<◌, ◌≤◌, true, false, List, [], ◌∷◌, ◌++◌, length, Some, None, slice_get, ap, arith}
 use Rattle.std.proofs.lemmas.Option.{none-some}
+use Rattle.std.proofs.lemmas.List.Elements.{Contains-append_left, Contains-append_right, Contains-append_cases}
 use Rattle.std.specs.Prelude.{is_some}
 use Rattle.std.specs.List.{AllByRecursion, Contains}
 use Rattle.std.specs.List.Sorted.{IsStrictlyIncreasing}
@@ -13,11 +14,11 @@ use Rattle.bcast_model.specs.Next.{HasPositiveCapacity, next}
 use Rattle.bcast_model.specs.Valid.{IsValid}
 use Rattle.bcast_model.specs.Run.{IsRun, end_of_run}
 use Rattle.bcast_model.specs.Deliveries.{given_to, deliveries_of}
-use Rattle.bcast_model.specs.Missed.{dropped_by, dropped_in, WasDropped, TellsDropped, MissesOnlyDropped}
+use Rattle.bcast_model.specs.Missed.{dropped_by, dropped_in, WasDropped, TellsDropped, MissesOnlyDropped, MissesWhatWasDropped}
 use Rattle.bcast_model.proofs.DeliveryLists.{in_parts}
 use Rattle.bcast_model.proofs.DeliverySteps.{gives_call}
 use Rattle.bcast_model.proofs.Front.{IsBounded, bounded_valid}
-use Rattle.bcast_model.proofs.RisingNumbers.{increasing}
+use Rattle.bcast_model.proofs.RisingNumbers.{within_rising, increasing}
 use Rattle.bcast_model.proofs.MissedSteps.{drops_next, bounded-next}
 use Rattle.bcast_model.proofs.MissedRuns.{joined, bounded_run, rising_run, AreGone, gone_next, gone_from, under_floor, missed_gone, given_kept}
 
@@ -91,3 +92,38 @@ module _ {T : Type 0} (is_clone : T → T → Type 0) where
             let under = under_floor is_clone h calls replies (start + index) bounded allowed run dropped in
             omega (arith, kept, under);
       }
+
+  -- ---- from the first call on
+  in_all : (h : History T) (dropped more : List ℕ) → AreGone is_clone (λ n. Contains dropped n ⊎ Contains more n) h → AreGone is_clone (Contains (dropped ++ more)) h
+  in_all h dropped more gone = record {
+    each = λ n key cursor is low under. elim (gone.each n key cursor is low under) [
+      | inl before ↦ Contains-append_left dropped more n before
+      | inr now ↦ Contains-append_right dropped more n now
+    ];
+  }
+
+  misses_from : (dropped : List ℕ) (h : History T) (calls : List (Call T)) (replies : List (Reply T)) → IsBounded h → AllByRecursion HasPositiveCapacity calls → IsRun is_clone h calls replies
+      → AreGone is_clone (Contains dropped) h → ((n : ℕ) → Contains dropped n → n < h.floor) → MissesWhatWasDropped dropped h calls replies
+  misses_from dropped h [] replies bounded allowed run gone under = tt
+  misses_from dropped h (c ∷ calls) [] bounded allowed run gone under = tt
+  misses_from dropped h (c ∷ calls) (r ∷ replies) bounded allowed run gone under =
+      let drops = drops_next is_clone h c r bounded run.0 in
+      let rises = drops.rises in (
+        λ key cursor is. record {
+          missed = λ index e. missed_gone is_clone (Contains dropped) h key cursor index c r bounded gone is run.0 e;
+          given = λ index msg e there. (let kept = given_kept is_clone h key cursor index msg c r bounded is run.0 e in let below = under (cursor + index) there in omega (arith, kept, below));
+        },
+        misses_from (dropped ++ dropped_by h c r) (next h c r) calls replies (bounded-next is_clone h c r allowed.0 bounded run.0) allowed.1 run.1
+            (in_all (next h c r) dropped (dropped_by h c r) (gone_next is_clone (Contains dropped) h c r bounded run.0 gone))
+            (λ n there. elim (Contains-append_cases dropped (dropped_by h c r) n there) [
+              | inl before ↦ (let below = under n before in omega (arith, below, rises))
+              | inr now ↦ (within_rising h.floor (next h c r).floor n (dropped_by h c r) drops.rising now).1
+            ]),
+      )
+
+  -- where no message was dropped before a run, all that its receivers miss is dropped in it
+  pub misses_dropped : (h : History T) (calls : List (Call T)) (replies : List (Reply T)) → IsValid h → h.floor ≡ h.first → AllByRecursion HasPositiveCapacity calls → IsRun is_clone h calls replies → MissesWhatWasDropped [] h calls replies
+  misses_dropped h calls replies valid fresh allowed run =
+      misses_from [] h calls replies (bounded_valid h valid) allowed run
+      (record { each = λ n key cursor is low under. (let from = (valid.cursors key cursor is).0 in absurd (omega (arith, from, low, under, fresh))) })
+      (λ n there. absurd (let k = there.1 in omega (arith, k)))

@@ -8,6 +8,7 @@ use Rattle.bcast_model.specs.declared.error.TrySendError.TheVariants as unsent
 use Rattle.bcast_model.specs.declared.error.TryRecvError.{TryRecvError}
 use Rattle.bcast_model.specs.declared.error.TryRecvError.TheVariants as unread
 use Rattle.bcast_model.specs.declared.run.SendPoll.TheVariants as send
+use Rattle.bcast_model.specs.declared.run.Call.{Call}
 use Rattle.bcast_model.specs.declared.run.Call.TheVariants as call
 use Rattle.bcast_model.specs.declared.run.Reply.{Reply}
 use Rattle.bcast_model.specs.declared.run.Reply.TheVariants as reply
@@ -17,7 +18,7 @@ use Rattle.bcast_model.specs.Sending.{refusal, reply_to_try, reply_to_attempt, h
 use Rattle.bcast_model.specs.Receiving.{is_empty_reply, skipped_count, skipped_to, future_reply, stream_reply, next_reply, try_recv_reply, IsOwed}
 use Rattle.bcast_model.specs.Legal.{Legal, IsReceived}
 use Rattle.bcast_model.specs.Next.{is_out_of_memory}
-use Rattle.bcast_model.specs.Laws.{IsValidView, must_wait, is_wait_reply}
+use Rattle.bcast_model.specs.Laws.{IsValidView, must_wait, is_wait_reply, is_poll, try_finds_nothing}
 use Rattle.bcast_model.proofs.Views.{lagging}
 use Rattle.bcast_model.proofs.Receives.{empty_at}
 
@@ -110,3 +111,11 @@ module _ {T : Type 0} where
         let cursor : Option ℕ = skipped_to v.front (cursor_of v.control key) in
         received_waits is_clone (IsOwed v key cursor) (λ answer. reply.PollNext (Ok (next_reply (skipped_count v.front (cursor_of v.control key)) answer))) (reply.PollNext (Err alloc_error)) (try_recv_reply v cursor) r (next_waits (skipped_count v.front (cursor_of v.control key))) refl memory legal
         ∙ skip_same v key (cursor_of v.control key) valid refl
+
+  -- all of them
+  pub waits_as_its_try : (is_clone : T → T → Type 0) (v : View T) (c : Call T) (r : Reply T) → IsValidView v → Legal is_clone v c r → is_poll v.control c ≡ true → is_out_of_memory r ≡ false → must_wait r ≡ try_finds_nothing v c
+  waits_as_its_try is_clone v (call.PollSend place msg) r valid legal poll memory = send_waits_full is_clone v place msg r poll legal
+  waits_as_its_try is_clone v (call.PollFuture key) r valid legal poll memory = future_waits_empty is_clone v key r memory legal
+  waits_as_its_try is_clone v (call.PollRecv key) r valid legal poll memory = recv_waits_empty is_clone v key r memory legal
+  waits_as_its_try is_clone v (call.PollNext key) r valid legal poll memory = next_waits_empty is_clone v key r memory valid legal
+  waits_as_its_try is_clone v c r valid legal poll memory = cc

@@ -1,0 +1,130 @@
+-- Polls of told listeners come to rest.
+use Rattle.std.proofs.Common.{◌≡◌, inl, inr, ℕ, ◌+◌, ◌-◌, ◌*◌, ◌≤◌, true, false, cond, not, ◌&&◌, List, [], ◌∷◌, length, drop, max, Option, Some, None, Result, Ok, Err, nat_lt, slice_get, refl, sym, ap, ◌∙◌, subst, arith}
+use Rattle.std.proofs.lemmas.Grind.{common_steps}
+use Rattle.std.proofs.lemmas.Option.{same_Some, slice_get_past}
+use Rattle.std.specs.List.{AllByRecursion}
+use Rattle.std.specs.FinMap.{len}
+use Rattle.std.specs.Prelude.{alloc_error}
+use Rattle.bcast_model.specs.declared.error.TryRecvError.{TryRecvError}
+use Rattle.bcast_model.specs.declared.error.TryRecvError.TheVariants as unread
+use Rattle.bcast_model.specs.declared.run.Call.{Call}
+use Rattle.bcast_model.specs.declared.run.Call.TheVariants as call
+use Rattle.bcast_model.specs.declared.run.Reply.{Reply}
+use Rattle.bcast_model.specs.declared.run.Reply.TheVariants as reply
+use Rattle.bcast_model.specs.Listeners.{is_in}
+use Rattle.bcast_model.specs.ListenerId.{Pair, same_pair, same_place, stream_of, future_of}
+use Rattle.bcast_model.specs.Control.{Control, has_place, cursor_of}
+use Rattle.bcast_model.specs.View.{View, sends_are_ready}
+use Rattle.bcast_model.specs.History.{History, view_of}
+use Rattle.bcast_model.specs.Receiving.{IsOwed, try_recv_reply, skipped_to, skipped_count, future_reply, stream_reply, next_reply}
+use Rattle.bcast_model.specs.Legal.{Legal, IsReceived}
+use Rattle.bcast_model.specs.Next.{is_out_of_memory, next}
+use Rattle.bcast_model.specs.Valid.{IsValid, IsValidView, AreListed, WouldWait}
+use Rattle.bcast_model.specs.Run.{IsRun}
+use Rattle.bcast_model.specs.Laws.{HasRange, must_wait}
+use Rattle.bcast_model.specs.ToldPolls.{listener_count, told_count, polls_told, polls_listed, told_polls, ComesToRest}
+use Rattle.bcast_model.proofs.Lists.{all_in, some}
+use Rattle.bcast_model.proofs.Tests.{test_place, test_pair}
+use Rattle.bcast_model.proofs.Polls.{send_waits_unready}
+use Rattle.bcast_model.proofs.Views.{valid_view}
+use Rattle.bcast_model.proofs.Answers.{next_valid, view_of-next}
+use Rattle.bcast_model.proofs.Unrest.{unrest, triangle}
+use Rattle.bcast_model.proofs.Rest.{lowers}
+
+module _ {T : Type 0} (is_clone : T → T → Type 0) where
+  -- a poll names no capacity and makes no receiver
+  poll_range : (c : Control) (d : Call T) (receivers : ℕ) → polls_told c d ≡ true → HasRange d receivers
+  poll_range c (call.SetCapacity n) receivers told = cc
+  poll_range c call.NewReceiver receivers told = cc
+  poll_range c call.Activate receivers told = cc
+  poll_range c call.ActivateCloned receivers told = cc
+  poll_range c (call.CloneReceiver key) receivers told = cc
+  poll_range c d receivers told = tt
+
+  module _ (h : History T) (c : Call T) (r : Reply T) (valid : IsValid h) (legal : Legal is_clone (view_of h) c r) (told : polls_told h.control c ≡ true) where
+    valid_poll : IsValid (next h c r)
+    valid_poll = next_valid is_clone h c r (poll_range h.control c (len (next h c r).control.cursors) told) valid legal
+
+    lowers_next : is_out_of_memory r ≡ false → unrest (next h c r).control + 1 ≤ unrest h.control
+    lowers_next memory =
+        let e = view_of-next is_clone h c r valid (poll_range h.control c _ told) legal in
+        subst (λ (w : View T). AreListed w.control → unrest w.control + 1 ≤ unrest h.control) (sym e) (lowers (view_of h) (valid_view h valid) c r told memory) valid_poll.control.lists
+
+  -- the unrest bounds them
+  told_polls_within : (h : History T) (calls : List (Call T)) (replies : List (Reply T)) → IsValid h → IsRun is_clone h calls replies → told_polls h calls replies ≤ unrest h.control
+  told_polls_within h [] replies valid run = omega arith
+  told_polls_within h (c ∷ calls) [] valid run = omega arith
+  told_polls_within h (c ∷ calls) (r ∷ replies) valid run =
+      elim (polls_told h.control c) as (λ b. polls_told h.control c ≡ b → cond (b && not (is_out_of_memory r)) (1 + told_polls (next h c r) calls replies) 0 ≤ unrest h.control) [
+        | true ↦ λ told. elim (is_out_of_memory r) as (λ b. is_out_of_memory r ≡ b → cond (true && not b) (1 + told_polls (next h c r) calls replies) 0 ≤ unrest h.control) [
+          | true ↦ λ _. omega arith
+          | false ↦ λ memory.
+              let one = lowers_next h c r valid run.0 told memory in
+              let more = told_polls_within (next h c r) calls replies (valid_poll h c r valid run.0 told) run.1 in
+              omega (arith, one, more)
+        ] refl
+        | false ↦ λ _. omega arith
+      ] refl
+
+  few_polls : (h : History T) (calls : List (Call T)) (replies : List (Reply T)) → IsValid h → IsRun is_clone h calls replies → 2 * told_polls h calls replies ≤ listener_count h.control * (listener_count h.control + 1)
+  few_polls h calls replies valid run =
+      let within = told_polls_within h calls replies valid run in
+      let sends = valid.control.lists.sends.told in
+      let receives = valid.control.lists.receives.told in
+      subst (λ n. 2 * told_polls h calls replies ≤ n) (triangle (listener_count h.control)) (omega (arith, within, sends, receives))
+
+  -- ---- where nobody is told
+  module _ (v : View T) (valid : IsValidView v) (nobody : told_count v.control ≡ 0) where
+    asleep : (pair : Pair) → is_in same_pair pair v.control.waiting_receives.ids ≡ true → WouldWait v.control v.end pair
+    asleep pair listed =
+        let untold : v.control.waiting_receives.told ≡ 0 = omega arith in
+        all_in same_pair test_pair (WouldWait v.control v.end) pair v.control.waiting_receives.ids
+        (subst (λ n. AllByRecursion (WouldWait v.control v.end) (drop n v.control.waiting_receives.ids)) untold valid.wake_ups.receives) listed
+
+    -- who has read all of an open channel finds nothing
+    finds_nothing : (pair : Pair) → WouldWait v.control v.end pair → try_recv_reply v (Some v.end) ≡ Err unread.Empty
+    finds_nothing pair waits =
+        let here : nat_lt v.end v.front ≡ false = (let high = valid.high in grind (arith, common_steps, high)) in
+        let none : slice_get v.queue (v.end - v.front) ≡ None = slice_get_past v.queue (v.end - v.front) (omega (arith, valid.end)) in
+        let open_now = waits.is_open in
+        rw (here, none, open_now) refl
+
+    unowed : (key : ℕ) (cursor : Option ℕ) → cursor ≡ Some v.end → IsOwed v key cursor → ⊥
+    unowed key cursor at owed = let same = same_Some v.end owed.number (sym at ∙ owed.at) in let below = owed.kept.1 in omega (arith, same, below)
+
+    must_receive_wait : (key : ℕ) (cursor : Option ℕ) (spelt : Result T TryRecvError → Reply T) (refused r : Reply T) → cursor ≡ Some v.end → try_recv_reply v (Some v.end) ≡ Err unread.Empty
+        → must_wait (spelt (Err unread.Empty)) ≡ true → IsReceived is_clone (IsOwed v key cursor) spelt refused (try_recv_reply v cursor) r → must_wait r ≡ true
+    must_receive_wait key cursor spelt refused r at empty waits (inl same) = ap must_wait (same ∙ ap spelt (ap (try_recv_reply v) at ∙ empty)) ∙ waits
+    must_receive_wait key cursor spelt refused r at empty waits (inr (owed, other)) = absurd (unowed key cursor at owed)
+
+    unready : (place : ℕ) → is_in same_place place v.control.waiting_sends.ids ≡ true → not (sends_are_ready v) ≡ true
+    unready place listed =
+        let some = some same_place place v.control.waiting_sends.ids listed in
+        elim (sends_are_ready v) as (λ b. sends_are_ready v ≡ b → not b ≡ true) [
+          | true ↦ λ ready. (let one = valid.wake_ups.sends ready (omega (arith, some)) in absurd (omega (arith, one, nobody)))
+          | false ↦ λ _. refl
+        ] refl
+
+    quiet_view : (c : Call T) (r : Reply T) → polls_listed v.control c ≡ true → Legal is_clone v c r → must_wait r ≡ true
+    quiet_view (call.PollSend place msg) r listed legal =
+        let placed = all_in same_place test_place (λ other. has_place v.control other ≡ true) place v.control.waiting_sends.ids valid.control.lists.places listed in
+        send_waits_unready is_clone v place msg r placed legal ∙ unready place listed
+    quiet_view (call.PollFuture key) r listed legal =
+        let waits = asleep (future_of key) listed in
+        must_receive_wait key (cursor_of v.control key) (λ answer. reply.PollFuture (Ok (future_reply answer))) (reply.PollFuture (Err alloc_error)) r waits.at_end (finds_nothing (future_of key) waits) refl legal
+    quiet_view (call.PollRecv key) r listed legal =
+        let waits = asleep (stream_of key) listed in
+        must_receive_wait key (cursor_of v.control key) (λ answer. reply.PollRecv (Ok (stream_reply answer))) (reply.PollRecv (Err alloc_error)) r waits.at_end (finds_nothing (stream_of key) waits) refl legal
+    quiet_view (call.PollNext key) r listed legal =
+        let waits = asleep (stream_of key) listed in
+        let front : max v.end v.front ≡ v.end = omega (arith, valid.high) in
+        let skip : skipped_to v.front (cursor_of v.control key) ≡ Some v.end = ap (skipped_to v.front) waits.at_end ∙ ap (λ n. Some n) front in
+        must_receive_wait key (skipped_to v.front (cursor_of v.control key)) (λ answer. reply.PollNext (Ok (next_reply (skipped_count v.front (cursor_of v.control key)) answer))) (reply.PollNext (Err alloc_error)) r skip (finds_nothing (stream_of key) waits) refl legal
+    quiet_view c r listed legal = cc
+
+  -- both
+  pub comes_to_rest : (h : History T) (calls : List (Call T)) (replies : List (Reply T)) → IsValid h → IsRun is_clone h calls replies → ComesToRest is_clone h calls replies
+  comes_to_rest h calls replies valid run = record {
+    few = few_polls h calls replies valid run;
+    quiet = λ c r nobody listed legal. quiet_view (view_of h) (valid_view h valid) nobody c r listed legal;
+  }
