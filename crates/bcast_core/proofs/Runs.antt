@@ -1,4 +1,4 @@
--- A run that goes on by one call.
+-- A run that goes on by one call, and what holds at each point of a run.
 use Rattle.std.proofs.Common.{◌≡◌, List, [], ◌∷◌, ◌++◌, length, append-nil, refl, sym, ap, ◌∙◌}
 use Rattle.std.proofs.lemmas.List.{nil_from_length}
 use Rattle.bcast_model.specs.declared.run.Call.{Call}
@@ -6,7 +6,14 @@ use Rattle.bcast_model.specs.declared.run.Reply.{Reply}
 use Rattle.bcast_model.specs.History.{History, view_of}
 use Rattle.bcast_model.specs.Legal.{Legal}
 use Rattle.bcast_model.specs.Next.{next}
+use Rattle.bcast_model.specs.Valid.{IsValid}
 use Rattle.bcast_model.specs.Run.{IsRun, end_of_run}
+use Rattle.bcast_model.specs.Deliveries.{AtEachPoint}
+use Rattle.bcast_model.specs.Laws.{WaitsAsItsTry}
+use Rattle.bcast_model.specs.ToldPolls.{ComesToRest}
+use Rattle.bcast_model.proofs.Views.{valid_view}
+use Rattle.bcast_model.proofs.Polls.{waits_as_its_try}
+use Rattle.bcast_model.proofs.ToldPolls.{comes_to_rest}
 
 -- no call is left
 pub all_made : {X : Type 0} (made rest all : List X) → length rest ≡ 0 → made ++ rest ≡ all → made ≡ all
@@ -24,3 +31,30 @@ module _ {T : Type 0} where
   end_more is_clone h (d ∷ calls) (s ∷ replies) c r run = end_more is_clone (next h d s) calls replies c r run.1
   end_more is_clone h [] (s ∷ replies) c r run = absurd run
   end_more is_clone h (d ∷ calls) [] c r run = absurd run
+
+  -- ---- each point
+  -- the state is valid
+  abbrev pub AreValid : History T → List (Call T) → List (Reply T) → Type 0
+  AreValid = AtEachPoint (λ h calls replies. IsValid h)
+
+  module _ (is_clone : T → T → Type 0) where
+    pub valid_more : (h : History T) (calls : List (Call T)) (replies : List (Reply T)) (c : Call T) (r : Reply T) → IsRun is_clone h calls replies → AreValid h calls replies → IsValid (next (end_of_run h calls replies) c r) → AreValid h (calls ++ c ∷ []) (replies ++ r ∷ [])
+    valid_more h [] [] c r run valid last = (valid, last)
+    valid_more h (d ∷ calls) (s ∷ replies) c r run valid last = (valid.0, valid_more (next h d s) calls replies c r run.1 valid.1 last)
+    valid_more h [] (s ∷ replies) c r run valid last = absurd run
+    valid_more h (d ∷ calls) [] c r run valid last = absurd run
+
+    pub valid_end : (h : History T) (calls : List (Call T)) (replies : List (Reply T)) → IsRun is_clone h calls replies → AreValid h calls replies → IsValid (end_of_run h calls replies)
+    valid_end h [] replies run valid = valid
+    valid_end h (d ∷ calls) [] run valid = absurd run
+    valid_end h (d ∷ calls) (s ∷ replies) run valid = valid_end (next h d s) calls replies run.1 valid.1
+
+    pub polls_wait : (h : History T) (calls : List (Call T)) (replies : List (Reply T)) → IsRun is_clone h calls replies → AreValid h calls replies → AtEachPoint WaitsAsItsTry h calls replies
+    polls_wait h [] replies run valid = tt
+    polls_wait h (c ∷ calls) [] run valid = absurd run
+    polls_wait h (c ∷ calls) (r ∷ replies) run valid = (λ poll memory. waits_as_its_try is_clone (view_of h) c r (valid_view h valid.0) run.0 poll memory, polls_wait (next h c r) calls replies run.1 valid.1)
+
+    pub polls_rest : (h : History T) (calls : List (Call T)) (replies : List (Reply T)) → IsRun is_clone h calls replies → AreValid h calls replies → AtEachPoint (ComesToRest is_clone) h calls replies
+    polls_rest h [] replies run valid = comes_to_rest is_clone h [] replies valid run
+    polls_rest h (c ∷ calls) [] run valid = absurd run
+    polls_rest h (c ∷ calls) (r ∷ replies) run valid = (comes_to_rest is_clone h (c ∷ calls) (r ∷ replies) valid.0 run, polls_rest (next h c r) calls replies run.1 valid.1)

@@ -1,5 +1,5 @@
 //! Calls as data: one at a time, and a whole list.
-ghost use Rattle.std.specs.Prelude.{◌≡◌, ◌+◌, ◌^◌, ◌<◌, false, IfOk, IfErr};
+ghost use Rattle.std.specs.Prelude.{◌≡◌, ◌+◌, ◌^◌, ◌<◌, false, [], IfOk, IfErr};
 ghost use Rattle.std.specs.List.{All, AllByRecursion};
 ghost use Rattle.bcast_model.specs.Next.{HasPositiveCapacity};
 ghost use Rattle.bcast_model.specs.Answers.{Answers, IsPossible, Represents};
@@ -7,9 +7,11 @@ ghost use Rattle.bcast_model.specs.History.{opening};
 ghost use Rattle.bcast_model.specs.Run.{IsRun, end_of_run};
 ghost use Rattle.bcast_model.specs.Valid.{IsValid};
 ghost use Rattle.bcast_model.specs.Legal.{NoClone, ClonesEqual};
-ghost use Rattle.bcast_model.specs.Missed.{dropped_in};
+ghost use Rattle.bcast_model.specs.Missed.{dropped_in, MissesWhatWasDropped};
 ghost use Rattle.std.specs.List.Sorted.{IsStrictlyIncreasing};
 ghost use Rattle.bcast_model.specs.Deliveries.{AtEachPoint, AreAllExact};
+ghost use Rattle.bcast_model.specs.Laws.{WaitsAsItsTry};
+ghost use Rattle.bcast_model.specs.ToldPolls.{ComesToRest};
 ghost use Rattle.bcast_core.specs.InfallibleClones.{is_receive_refused};
 
 use crate::state::Inner;
@@ -153,6 +155,15 @@ pub fn run<T: Clone, A: Allocator + Copy>(
     // No message was dropped twice.
     ensures dropped { IfOk result (λ made. IsStrictlyIncreasing
         (dropped_in (opening cap first made.first_key) calls.items made.replies.items)) }
+    // What a receiver was told that it missed, an earlier call dropped; what it was given, none did.
+    ensures missed { IfOk result (λ made. MissesWhatWasDropped []
+        (opening cap first made.first_key) calls.items made.replies.items) }
+    // A poll waited exactly if the try of the same name found nothing, want of memory aside.
+    ensures polls { IfOk result (λ made. AtEachPoint WaitsAsItsTry
+        (opening cap first made.first_key) calls.items made.replies.items) }
+    // Polls of listeners that were told came to rest.
+    ensures rest { IfOk result (λ made. AtEachPoint (ComesToRest T.is_clone)
+        (opening cap first made.first_key) calls.items made.replies.items) }
     // If a clone equals its original, the replies are the machine's to the letter.
     ensures exact { ClonesEqual T.is_clone → IfOk result (λ made.
         IsRun NoClone (opening cap first made.first_key) calls.items made.replies.items) }

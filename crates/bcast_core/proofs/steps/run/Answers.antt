@@ -1,4 +1,4 @@
-use Rattle.std.proofs.Common.{◌≡◌, false, [], ◌∷◌, ◌++◌, length, append_assoc, sym, ap, subst, ◌∙◌, arith}
+use Rattle.std.proofs.Common.{◌≡◌, false, [], ◌∷◌, ◌++◌, length, append_assoc, refl, sym, ap, subst, ◌∙◌, arith}
 use Rattle.std.specs.Vec.Iter.{into_iter_items}
 use Rattle.std.specs.List.{All, AllByRecursion}
 use Rattle.std.proofs.lemmas.List.Elements.{All-append, All-cons, All-nil}
@@ -9,12 +9,14 @@ use Rattle.bcast_model.specs.Valid.{IsValid}
 use Rattle.bcast_model.specs.Answers.{Represents}
 use Rattle.bcast_model.specs.Run.{IsRun, end_of_run}
 use Rattle.bcast_model.specs.Deliveries.{AtEachPoint, AreAllExact}
+use Rattle.bcast_model.specs.Laws.{WaitsAsItsTry}
+use Rattle.bcast_model.specs.ToldPolls.{ComesToRest}
 use Rattle.bcast_model.proofs.Lists.{all_right}
 use Rattle.bcast_model.proofs.Clones.{run_exact}
 use Rattle.bcast_model.proofs.DeliveryLemmas.{deliveries_exact}
-use Rattle.bcast_model.proofs.MissedLemmas.{dropped_rise}
+use Rattle.bcast_model.proofs.MissedLemmas.{dropped_rise, misses_dropped}
 use Rattle.bcast_core.specs.InfallibleClones.{is_receive_refused}
-use Rattle.bcast_core.proofs.Runs.{all_made, run_more, end_more}
+use Rattle.bcast_core.proofs.Runs.{all_made, run_more, end_more, AreValid, valid_more, valid_end, polls_wait, polls_rest}
 use Rattle.bcast_core.proofs.steps.run.Goals as goal
 
 pub step-requires : goal.step-requires
@@ -29,6 +31,7 @@ loop-call-preserved g c =
     let i = c.loop-call.invariant in
     let a = c.step.ensures.answers in
     let s = c.in-Some.ensures.steps in
+    let valid = valid_end g.T.Clone.is_clone (opening c.args.cap c.args.first c.in-Ok-starting_at.first_key) c.loop-call.yielded c.loop-call.replies.items i.run i.valid in
     let on = run_more g.T.Clone.is_clone (opening c.args.cap c.args.first c.in-Ok-starting_at.first_key) c.loop-call.yielded c.loop-call.replies.items c.in-Some.call c.step.result i.run (subst (λ v. Legal g.T.Clone.is_clone v c.in-Some.call c.step.result) i.represents a.legal) in
     let e = ap (end_of_run (opening c.args.cap c.args.first c.in-Ok-starting_at.first_key) (c.loop-call.yielded ++ c.in-Some.call ∷ [])) c.push_reserved.ensures.items
     ∙ end_more g.T.Clone.is_clone (opening c.args.cap c.args.first c.in-Ok-starting_at.first_key) c.loop-call.yielded c.loop-call.replies.items c.in-Some.call c.step.result i.run in
@@ -41,8 +44,9 @@ loop-call-preserved g c =
       sure = λ f. subst (All (λ r. is_receive_refused r ≡ false)) (sym c.push_reserved.ensures.items)
           (All-append (λ r. is_receive_refused r ≡ false) c.loop-call.replies.items (c.step.result ∷ []) (i.sure f)
           (All-cons (λ r. is_receive_refused r ≡ false) c.step.result [] (c.step.ensures.sure f) (All-nil (λ r. is_receive_refused r ≡ false))));
-      represents = subst (Represents c.step.new.inner) (sym e) (a.represents _ i.valid i.represents);
-      valid = subst IsValid (sym e) (a.valid _ i.valid i.represents);
+      represents = subst (Represents c.step.new.inner) (sym e) (a.represents _ valid i.represents);
+      valid = subst (AreValid (opening c.args.cap c.args.first c.in-Ok-starting_at.first_key) (c.loop-call.yielded ++ c.in-Some.call ∷ [])) (sym c.push_reserved.ensures.items)
+          (valid_more g.T.Clone.is_clone (opening c.args.cap c.args.first c.in-Ok-starting_at.first_key) c.loop-call.yielded c.loop-call.replies.items c.in-Some.call c.step.result i.run i.valid (a.valid _ valid i.represents));
     }
 
 pub returns-clause-deliveries : goal.returns-clause-deliveries
@@ -84,4 +88,26 @@ pub returns-clause-valid : goal.returns-clause-valid
 returns-clause-valid g c =
     let i = c.loop-call.invariant in
     subst (λ calls. IsValid (end_of_run (opening c.args.cap c.args.first c.in-Ok-starting_at.first_key) calls c.loop-call.replies.items))
-    (all_made c.loop-call.yielded (into_iter_items c.loop-call.call-iterator) c.args.calls.items (omega (arith, c.in-None.ensures.steps.0, c.loop-call.call-iterator.rest.ok)) i.rest) i.valid
+    (all_made c.loop-call.yielded (into_iter_items c.loop-call.call-iterator) c.args.calls.items (omega (arith, c.in-None.ensures.steps.0, c.loop-call.call-iterator.rest.ok)) i.rest)
+    (valid_end g.T.Clone.is_clone (opening c.args.cap c.args.first c.in-Ok-starting_at.first_key) c.loop-call.yielded c.loop-call.replies.items i.run i.valid)
+
+pub returns-clause-missed : goal.returns-clause-missed
+returns-clause-missed g c =
+    let i = c.loop-call.invariant in
+    let all = all_made c.loop-call.yielded (into_iter_items c.loop-call.call-iterator) c.args.calls.items (omega (arith, c.in-None.ensures.steps.0, c.loop-call.call-iterator.rest.ok)) i.rest in
+    misses_dropped g.T.Clone.is_clone (opening c.args.cap c.args.first c.in-Ok-starting_at.first_key) c.args.calls.items c.loop-call.replies.items c.in-Ok-starting_at.ensures.valid refl c.requires.positive
+    (subst (λ calls. IsRun g.T.Clone.is_clone (opening c.args.cap c.args.first c.in-Ok-starting_at.first_key) calls c.loop-call.replies.items) all i.run)
+
+pub returns-clause-polls : goal.returns-clause-polls
+returns-clause-polls g c =
+    let i = c.loop-call.invariant in
+    subst (λ calls. AtEachPoint WaitsAsItsTry (opening c.args.cap c.args.first c.in-Ok-starting_at.first_key) calls c.loop-call.replies.items)
+    (all_made c.loop-call.yielded (into_iter_items c.loop-call.call-iterator) c.args.calls.items (omega (arith, c.in-None.ensures.steps.0, c.loop-call.call-iterator.rest.ok)) i.rest)
+    (polls_wait g.T.Clone.is_clone (opening c.args.cap c.args.first c.in-Ok-starting_at.first_key) c.loop-call.yielded c.loop-call.replies.items i.run i.valid)
+
+pub returns-clause-rest : goal.returns-clause-rest
+returns-clause-rest g c =
+    let i = c.loop-call.invariant in
+    subst (λ calls. AtEachPoint (ComesToRest g.T.Clone.is_clone) (opening c.args.cap c.args.first c.in-Ok-starting_at.first_key) calls c.loop-call.replies.items)
+    (all_made c.loop-call.yielded (into_iter_items c.loop-call.call-iterator) c.args.calls.items (omega (arith, c.in-None.ensures.steps.0, c.loop-call.call-iterator.rest.ok)) i.rest)
+    (polls_rest g.T.Clone.is_clone (opening c.args.cap c.args.first c.in-Ok-starting_at.first_key) c.loop-call.yielded c.loop-call.replies.items i.run i.valid)

@@ -2,10 +2,10 @@ use Rattle.std.proofs.Common.{◌≡◌, false, ◌+◌, ◌≤◌, ◌++◌, le
 use Rattle.std.specs.Vec.Iter.{into_iter_items}
 use Rattle.std.specs.List.{All}
 use Rattle.bcast_model.specs.History.{opening}
-use Rattle.bcast_model.specs.Valid.{IsValid}
 use Rattle.bcast_model.specs.Answers.{Represents}
 use Rattle.bcast_model.specs.Run.{IsRun, end_of_run}
 use Rattle.bcast_core.specs.InfallibleClones.{is_receive_refused}
+use Rattle.bcast_core.proofs.Runs.{AreValid}
 use Rattle.bcast_core.proofs.steps.run.Given as goal
 
 abbrev pub invariant-loop-call : goal.invariant-loop-call
@@ -17,5 +17,5 @@ invariant-loop-call g l = record {
   run : IsRun g.T.Clone.is_clone (opening l.cap l.first l.first_key) l.yielded l.replies.items;
   sure : ((msg : g.row.T.Denot) → g.T.Clone.is_infallible msg) → All (λ r. is_receive_refused r ≡ false) l.replies.items;
   represents : Represents l.channel (end_of_run (opening l.cap l.first l.first_key) l.yielded l.replies.items);
-  valid : IsValid (end_of_run (opening l.cap l.first l.first_key) l.yielded l.replies.items);
+  valid : AreValid (opening l.cap l.first l.first_key) l.yielded l.replies.items;
 }
