@@ -112,6 +112,7 @@ impl<T: Clone, A: Allocator> Queue<T, A> {
     ///   queue is unchanged.
     ///
     /// Source: `Inner::try_recv_at` of async-broadcast.
+    #[inline(always)]
     pub fn read(&mut self, index: usize) -> Result<T, AllocError>
         requires within { index < length self.old.messages }
         requires owed { 0 < index

@@ -76,6 +76,7 @@ impl<T: Clone, A: Allocator + Copy> Store<T, A> {
     ///   clone. The store is unchanged.
     ///
     /// Source: `Inner::try_recv_at` of async-broadcast.
+    #[inline(always)]
     pub fn read(&mut self, key: usize, number: u64) -> Result<T, AllocError>
         requires at { IsSomeAnd (map.get self.old.cursors key)
             (λ cursor. number ≡ max cursor self.old.front) }
