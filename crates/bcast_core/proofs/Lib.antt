@@ -11,3 +11,4 @@ pub mod Respelt
 pub mod Accessors
 pub mod Runs
 pub mod Opened
+pub mod Idle

@@ -1,5 +1,5 @@
 //! What the state of a channel consists of, and the steps that its calls are made of.
-ghost use Rattle.std.specs.Prelude.{◌≡◌, ◌==◌, ◌^◌, ◌+◌, ◌-◌, ◌<◌, false, true, length, IfOk};
+ghost use Rattle.std.specs.Prelude.{◌≡◌, ◌==◌, ◌↔◌, ◌^◌, ◌+◌, ◌-◌, ◌<◌, false, true, length, IfOk};
 ghost use Rattle.std.specs.FinMap.{len};
 ghost use Rattle.bcast_model.specs.History.{opening};
 
@@ -51,6 +51,7 @@ impl<T, N: Notice, A: Allocator> Model for Parts<T, N, A> {
 }
 
 impl<T: Drop, N: Notice, A: Allocator + Copy> Parts<T, N, A> {
+    ghost use Rattle.bcast_model.specs.Listeners.{no_listeners};
     ghost use Rattle.bcast_model.specs.History.{view_of};
     ghost use Rattle.bcast_model.specs.Control.{has_no_receiver, is_deserted, close, close_if_deserted};
     ghost use Rattle.bcast_model.specs.View.{is_full, sends_are_ready};
@@ -169,6 +170,13 @@ impl<T: Drop, N: Notice, A: Allocator + Copy> Parts<T, N, A> {
         self.closed
             || (!nobody && (self.overflow || !self.is_full()))
             || (nobody && !self.await_active)
+    }
+
+    /// Whether no send waits.
+    pub fn no_send_waits(&self) -> bool
+        ensures { (result ≡ true) ↔ (self.now.control.waiting_sends ≡ no_listeners) }
+    {
+        self.sends.is_idle()
     }
 
     /// Tells the first waiting send, if this call is to and sends are ready.

@@ -32,6 +32,20 @@ impl<T: Clone, N: Notice, A: Allocator + Copy> Inner<T, N, A> {
         // If no clone fails, there is a message.
         ensures sure { ((msg : T) → T.is_infallible msg) → IsOk result }
     {
+        if self.parts.no_send_waits() {
+            let at = self.parts.cursor(key);
+            return self.parts.receive(key, at);
+        }
+        self.receive_and_tell(key)
+    }
+
+    // The same while a send waits.
+    #[inline(never)]
+    fn receive_and_tell(&mut self, key: usize) -> Result<Result<T, TryRecvError>, AllocError>
+        ensures answers { Answers T.is_clone self.old (call.TryRecv key) (reply.TryRecv result)
+            self.new }
+        ensures sure { ((msg : T) → T.is_infallible msg) → IsOk result }
+    {
         let was_blocked = !self.parts.is_ready();
         let at = self.parts.cursor(key);
         let received = self.parts.receive(key, at);

@@ -30,6 +30,18 @@ impl<T: Drop, N: Notice, A: Allocator + Copy> Inner<T, N, A> {
         ensures { Answers NoClone self.old (call.TryBroadcast msg) (reply.TryBroadcast result)
             self.new }
     {
+        if self.parts.no_send_waits() {
+            return self.parts.offer(msg);
+        }
+        self.offer_and_tell(msg)
+    }
+
+    // The same while a send waits.
+    #[inline(never)]
+    fn offer_and_tell(&mut self, msg: T) -> Result<Option<T>, TrySendError<T>>
+        ensures { Answers NoClone self.old (call.TryBroadcast msg) (reply.TryBroadcast result)
+            self.new }
+    {
         let was_blocked = !self.parts.is_ready();
         let sent = self.parts.offer(msg);
         self.parts.tell_if_ready(was_blocked);
