@@ -12,3 +12,4 @@ pub mod Accessors
 pub mod Runs
 pub mod Opened
 pub mod Idle
+pub mod Untold

@@ -4,3 +4,5 @@ pub mod Parts
 pub mod InfallibleClones
 -- what a snapshot of a channel says
 pub mod Snapshot
+-- how often a receive poll looks for a message
+pub mod Tries

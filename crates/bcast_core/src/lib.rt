@@ -9,6 +9,7 @@ mod parts;
 mod snapshot;
 mod state;
 mod steps;
+mod tries;
 
 pub use bcast_model::error::{
     HandleError, NoMemory, RecvError, SendError, TryRecvError, TrySendError,
@@ -19,3 +20,4 @@ pub use bcast_waiting::notice::{Notice, Silent};
 pub use snapshot::{Snapshot, Waiting};
 pub use state::Inner;
 pub use steps::{Ran, run, step};
+pub use tries::Steps;

@@ -15,9 +15,12 @@ ghost use Rattle.bcast_model.specs.ToldPolls.{ComesToRest};
 ghost use Rattle.bcast_core.specs.InfallibleClones.{is_receive_refused};
 
 use crate::state::Inner;
+use crate::tries::Steps;
 use bcast_model::run::{Call, Reply};
 use bcast_waiting::notice::{Notice, Silent};
 use std::alloc::{Allocator, Global};
+use std::marker::Brand;
+use std::sync::ledger::{Blank, Ledger};
 
 /// Makes the one state call that `call` names, and returns its reply.
 ///
@@ -35,21 +38,26 @@ pub fn step<T: Clone, N: Notice, A: Allocator + Copy>(
     // If no clone fails, no receive is refused.
     ensures sure { ((msg : T) → T.is_infallible msg) → is_receive_refused result ≡ false }
 {
-    make_call(inner, call, notice)
+    make_call::<T, N, A, Brand>(inner, call, notice, Blank::new(1))
 }
 
-// The same. That the reply is possible follows from `answers`.
+// The same, with steps that nobody counts. That the reply is possible follows from `answers`.
 #[inline(always)]
-fn make_call<T: Clone, N: Notice, A: Allocator + Copy>(
+fn make_call<T: Clone, N: Notice, A: Allocator + Copy, L: Ledger>(
     inner: &mut Inner<T, N, A>,
     call: Call<T>,
     notice: N,
+    blank: Blank,
 ) -> Reply<T>
-    requires { HasPositiveCapacity call }
+    requires capacity { HasPositiveCapacity call }
+    requires name { blank.name ≡ L.name }
+    requires parts { blank.parts ≡ L.parts }
+    requires some { 0 < blank.parts }
     ensures answers { Answers T.is_clone inner.old call result inner.new }
     ensures sure { ((msg : T) → T.is_infallible msg) → is_receive_refused result ≡ false }
 {
     inner.invariant_holds();
+    let mut steps = Steps::<L>::new(blank);
     match call {
         Call::TryBroadcast(msg) => Reply::TryBroadcast(inner.try_broadcast(msg)),
         Call::AttemptSend(msg) => Reply::AttemptSend(inner.attempt_send(msg)),
@@ -60,13 +68,13 @@ fn make_call<T: Clone, N: Notice, A: Allocator + Copy>(
             Reply::EndSend
         }
         Call::TryRecv(key) => Reply::TryRecv(inner.try_recv(key)),
-        Call::PollFuture(key) => Reply::PollFuture(inner.poll_future(key, notice)),
+        Call::PollFuture(key) => Reply::PollFuture(inner.poll_future(key, notice, &mut steps)),
         Call::EndFuture(key) => {
             inner.end_future(key);
             Reply::EndFuture
         }
-        Call::PollRecv(key) => Reply::PollRecv(inner.poll_recv(key, notice)),
-        Call::PollNext(key) => Reply::PollNext(inner.poll_next(key, notice)),
+        Call::PollRecv(key) => Reply::PollRecv(inner.poll_recv(key, notice, &mut steps)),
+        Call::PollNext(key) => Reply::PollNext(inner.poll_next(key, notice, &mut steps)),
         Call::Close => Reply::Close(inner.close()),
         Call::SetCapacity(n) => Reply::SetCapacity(inner.set_capacity(n)),
         Call::SetOverflow(on) => {

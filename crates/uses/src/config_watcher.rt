@@ -1,13 +1,17 @@
 //! Settings that change, for watchers that may look late.
 ghost use Rattle.std.specs.Prelude.{◌≡◌, ◌+◌, ◌<◌, ◌^◌, [], ◌∷◌, false, Some, IfOk, IfErr, IfSome, IfNone, OnOk, OnErr, IsOk};
 ghost use Rattle.std.specs.FinMap.{get};
+ghost use Rattle.bcast_model.specs.Answers.{Answers};
 ghost use Rattle.bcast_model.specs.Errors.{unsent_message};
+ghost use Rattle.bcast_model.specs.declared.run.Call.TheVariants as call;
+ghost use Rattle.bcast_model.specs.declared.run.Reply.TheVariants as reply;
 ghost use Rattle.uses.specs.Config.{IsLatest, IsUpToDate, KeepsOthers, IsLook, change_of};
 
-use bcast_core::{HandleError, Inner, Silent, TrySendError};
+use bcast_core::{HandleError, Inner, Silent, Steps, TrySendError};
 use futures::task::Poll;
 use std::alloc::{AllocError, Global};
-use std::marker::Model;
+use std::marker::{Brand, Model};
+use std::sync::ledger::{Blank, Ledger};
 
 /// The latest settings, as a channel of capacity 1 in overflow mode: new settings take the place of
 /// those that nobody has looked at yet.
@@ -110,8 +114,25 @@ impl<S: Clone> Config<S> {
         // If no clone fails, there is an answer.
         ensures sure { ((settings : S) → S.is_infallible settings) → IsOk result }
     {
-        Ok(into_change(self.inner.poll_next(watcher, Silent)?))
+        let inner = &mut self.inner;
+        Ok(into_change(poll_next::<S, Brand>(inner, watcher, Blank::new(1))?))
     }
+}
+
+// The same poll, with steps that nobody counts.
+fn poll_next<S: Clone, L: Ledger>(
+    inner: &mut Inner<S, Silent>,
+    watcher: usize,
+    blank: Blank,
+) -> Result<Poll<Option<(S, u64)>>, AllocError>
+    requires name { blank.name ≡ L.name }
+    requires parts { blank.parts ≡ L.parts }
+    requires some { 0 < blank.parts }
+    ensures answers { Answers S.is_clone inner.old (call.PollNext watcher) (reply.PollNext result)
+        inner.new }
+    ensures sure { ((settings : S) → S.is_infallible settings) → IsOk result }
+{
+    inner.poll_next(watcher, Silent, &mut Steps::<L>::new(blank))
 }
 
 // The settings that were refused.

@@ -10,6 +10,7 @@ use std::alloc::{AllocError, Allocator};
 impl<T: Drop, N: Notice, A: Allocator + Copy> Parts<T, N, A> {
     ghost use Rattle.bcast_model.specs.Laws.{IsValidView};
     ghost use Rattle.bcast_model.specs.View.{sends_are_ready};
+    ghost use Rattle.bcast_core.specs.Tries.{is_untold};
     ghost use Rattle.bcast_model.specs.Control.{has_place, with_place, place_answered, place_ended, place_waits, pair_waits, pair_answered, pair_ended};
 
     /// Whether a pending send has this place.
@@ -65,6 +66,21 @@ impl<T: Drop, N: Notice, A: Allocator + Copy> Parts<T, N, A> {
         ensures { self.new ≡ record self.old { control = pair_waits self.old.control (key, kind) } }
     {
         self.receives.wait(key, kind, notice);
+    }
+
+    /// Whether a receiver's listener is listed and not told.
+    pub fn is_untold(&self, key: usize, kind: Kind) -> bool
+        ensures { result ≡ is_untold self.now.control (key, kind) }
+    {
+        self.receives.is_untold(key, kind)
+    }
+
+    /// A receiver's listener waits on, with another notice.
+    pub fn renew_pair(&mut self, key: usize, kind: Kind, notice: N)
+        requires { is_untold self.old.control (key, kind) ≡ true }
+        ensures { self.new ≡ self.old }
+    {
+        self.receives.renew(key, kind, notice);
     }
 
     /// A receiver's listener was answered.

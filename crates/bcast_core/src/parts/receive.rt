@@ -2,10 +2,12 @@
 ghost use Rattle.std.specs.Prelude.{◌≡◌, ◌⊎◌, ◌+◌, ◌<◌, max, Some, Ok, Err, IfOk, OnOk, OnErr, IsOk, IsSomeAnd, alloc_error};
 
 use super::Parts;
+use crate::tries::Steps;
 use bcast_model::error::TryRecvError;
 use bcast_model::listener::Kind;
 use bcast_waiting::notice::Notice;
 use std::alloc::{AllocError, Allocator};
+use std::sync::ledger::Ledger;
 
 impl<T: Clone, N: Notice, A: Allocator + Copy> Parts<T, N, A> {
     ghost use Rattle.bcast_model.specs.Laws.{IsValidView};
@@ -17,6 +19,8 @@ impl<T: Clone, N: Notice, A: Allocator + Copy> Parts<T, N, A> {
     ghost use Rattle.bcast_model.specs.View.{kept_at};
     ghost use Rattle.bcast_model.specs.Receiving.{try_recv_reply, IsOwed};
     ghost use Rattle.bcast_model.specs.Control.{with_cursor};
+    ghost use Rattle.bcast_model.specs.ListenerId.{stream_of};
+    ghost use Rattle.bcast_core.specs.Tries.{tries_of};
     ghost use Rattle.bcast_model.specs.declared.run.Reply.TheVariants as reply;
 
     // Lets a receiver that lags go on at the front.
@@ -49,15 +53,17 @@ impl<T: Clone, N: Notice, A: Allocator + Copy> Parts<T, N, A> {
         self.store.read(key, number)
     }
 
-    /// Gives a receiver the message of this number, or says why there is none.
+    /// Looks for a message: gives a receiver that of this number, or says why there is none. Each
+    /// receive that looks for one calls this, which counts one step.
     ///
     /// `at` is the receiver's cursor, or the greater of it and the front if what it missed is
     /// skipped.
     #[inline(always)]
-    pub fn receive(
+    pub fn receive<L: Ledger>(
         &mut self,
         key: usize,
         at: Option<u64>,
+        steps: &mut Steps<L>,
     ) -> Result<Result<T, TryRecvError>, AllocError>
         requires valid { IsValidView self.old }
         requires at { (at ≡ cursor_of self.old.control key)
@@ -69,7 +75,10 @@ impl<T: Clone, N: Notice, A: Allocator + Copy> Parts<T, N, A> {
             (sets (receive self.old.front self.old.end self.old.control key at))) }
         ensures err { OnErr result (self.new ≡ self.old) }
         ensures sure { ((msg : T) → T.is_infallible msg) → IsOk result }
+
+        ensures steps { steps.new ≡ steps.old + 1 }
     {
+        steps.count();
         let Some(cursor) = at else {
             return Ok(Err(TryRecvError::Closed));
         };
@@ -104,12 +113,13 @@ impl<T: Clone, N: Notice, A: Allocator + Copy> Parts<T, N, A> {
     }
 
     /// The same for a listener that waits if there is nothing.
-    pub fn poll(
+    pub fn poll<L: Ledger>(
         &mut self,
         key: usize,
         kind: Kind,
         at: Option<u64>,
         notice: N,
+        steps: &mut Steps<L>,
     ) -> Result<Result<T, TryRecvError>, AllocError>
         requires valid { IsValidView self.old }
         requires at { (at ≡ cursor_of self.old.control key)
@@ -122,8 +132,10 @@ impl<T: Clone, N: Notice, A: Allocator + Copy> Parts<T, N, A> {
             (try_recv_reply self.old at)))) }
         ensures err { OnErr result (self.new ≡ self.old) }
         ensures sure { ((msg : T) → T.is_infallible msg) → IsOk result }
+
+        ensures steps { steps.new ≡ steps.old + 1 }
     {
-        match self.receive(key, at) {
+        match self.receive(key, at, steps) {
             Ok(Err(TryRecvError::Empty)) => {
                 self.pair_waits(key, kind, notice);
                 Ok(Err(TryRecvError::Empty))
@@ -134,5 +146,35 @@ impl<T: Clone, N: Notice, A: Allocator + Copy> Parts<T, N, A> {
             }
             Err(refused) => Err(refused),
         }
+    }
+
+    /// The same for the stream. If its listener is listed and not told there is nothing, since no
+    /// wake-up is lost: it waits on, and only its notice is another one.
+    pub fn poll_stream<L: Ledger>(
+        &mut self,
+        key: usize,
+        at: Option<u64>,
+        notice: N,
+        steps: &mut Steps<L>,
+    ) -> Result<Result<T, TryRecvError>, AllocError>
+        requires valid { IsValidView self.old }
+        requires at { (at ≡ cursor_of self.old.control key)
+            ⊎ (at ≡ skipped_to self.old.front (cursor_of self.old.control key)) }
+        ensures reply { IsReceivedBy T.is_clone self.old key at
+            (λ answer. reply.TryRecv (Ok answer)) (reply.TryRecv (Err alloc_error))
+            (reply.TryRecv result) }
+        ensures ok { OnOk result (self.new ≡ settle self.old
+            (sets (poll_receive self.old.front self.old.end self.old.control (stream_of key) at
+            (try_recv_reply self.old at)))) }
+        ensures err { OnErr result (self.new ≡ self.old) }
+        ensures sure { ((msg : T) → T.is_infallible msg) → IsOk result }
+
+        ensures steps { steps.new ≡ steps.old + tries_of self.old.control (stream_of key) }
+    {
+        if self.is_untold(key, Kind::Stream) {
+            self.renew_pair(key, Kind::Stream, notice);
+            return Ok(Err(TryRecvError::Empty));
+        }
+        self.poll(key, Kind::Stream, at, notice, steps)
     }
 }

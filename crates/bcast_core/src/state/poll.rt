@@ -1,17 +1,21 @@
 //! Receiving by a future or a stream, which wait if there is nothing.
-ghost use Rattle.std.specs.Prelude.{◌≡◌, Ok, Err, IfOk, IfErr, IsOk};
+ghost use Rattle.std.specs.Prelude.{◌≡◌, ◌+◌, Ok, Err, IfOk, IfErr, IsOk};
 ghost use Rattle.bcast_model.specs.Legal.{NoClone};
 ghost use Rattle.bcast_model.specs.Answers.{Answers};
+ghost use Rattle.bcast_model.specs.ListenerId.{stream_of};
 ghost use Rattle.bcast_model.specs.Receiving;
+ghost use Rattle.bcast_core.specs.Tries.{tries_of};
 ghost use Rattle.bcast_model.specs.declared.run.Call.TheVariants as call;
 ghost use Rattle.bcast_model.specs.declared.run.Reply.TheVariants as reply;
 
 use super::Inner;
+use crate::tries::Steps;
 use bcast_model::error::{RecvError, TryRecvError};
 use bcast_model::listener::Kind;
 use bcast_waiting::notice::Notice;
 use futures::task::Poll;
 use std::alloc::{AllocError, Allocator};
+use std::sync::ledger::Ledger;
 
 // What `try_recv` answered, as a future's answer.
 fn future_reply<T: Drop>(
@@ -68,42 +72,47 @@ impl<T: Clone, N: Notice, A: Allocator + Copy> Inner<T, N, A> {
     /// `AllocError` as for `try_recv`; nothing changed.
     ///
     /// Source: the poll of `Recv` of async-broadcast.
-    pub fn poll_future(
+    pub fn poll_future<L: Ledger>(
         &mut self,
         key: usize,
         notice: N,
+        steps: &mut Steps<L>,
     ) -> Result<Poll<Result<T, RecvError>>, AllocError>
         ensures answers { Answers T.is_clone self.old (call.PollFuture key)
             (reply.PollFuture result) self.new }
         ensures sure { ((msg : T) → T.is_infallible msg) → IsOk result }
+        ensures steps { steps.new ≡ steps.old + 1 }
     {
         let was_blocked = !self.parts.is_ready();
         let at = self.parts.cursor(key);
-        let received = self.parts.poll(key, Kind::Future, at, notice);
+        let received = self.parts.poll(key, Kind::Future, at, notice, steps);
         self.parts.tell_if_ready(was_blocked);
         future_reply(received)
     }
 
     /// Receives as `try_recv` does, by the stream. `Ready(None)` says that everything was read and
-    /// the channel is closed. If there is nothing it waits, as `poll_future` does.
+    /// the channel is closed. If there is nothing it waits, as `poll_future` does. If it waits and
+    /// was not told there is nothing, so it waits on without a look.
     ///
     /// # Errors
     ///
     /// `AllocError` as for `try_recv`; nothing changed.
     ///
     /// Source: `Receiver::poll_recv` of async-broadcast.
-    pub fn poll_recv(
+    pub fn poll_recv<L: Ledger>(
         &mut self,
         key: usize,
         notice: N,
+        steps: &mut Steps<L>,
     ) -> Result<Poll<Option<Result<T, RecvError>>>, AllocError>
         ensures answers { Answers T.is_clone self.old (call.PollRecv key) (reply.PollRecv result)
             self.new }
         ensures sure { ((msg : T) → T.is_infallible msg) → IsOk result }
+        ensures steps { steps.new ≡ steps.old + tries_of self.old.control (stream_of key) }
     {
         let was_blocked = !self.parts.is_ready();
         let at = self.parts.cursor(key);
-        let received = self.parts.poll(key, Kind::Stream, at, notice);
+        let received = self.parts.poll_stream(key, at, notice, steps);
         self.parts.tell_if_ready(was_blocked);
         stream_reply(received)
     }
@@ -116,14 +125,20 @@ impl<T: Clone, N: Notice, A: Allocator + Copy> Inner<T, N, A> {
     /// `AllocError` as for `try_recv`; nothing changed, the skip among it.
     ///
     /// Source: the `Stream` of async-broadcast's `Receiver`; the number is this crate's own.
-    pub fn poll_next(&mut self, key: usize, notice: N) -> Result<Poll<Option<(T, u64)>>, AllocError>
+    pub fn poll_next<L: Ledger>(
+        &mut self,
+        key: usize,
+        notice: N,
+        steps: &mut Steps<L>,
+    ) -> Result<Poll<Option<(T, u64)>>, AllocError>
         ensures answers { Answers T.is_clone self.old (call.PollNext key) (reply.PollNext result)
             self.new }
         ensures sure { ((msg : T) → T.is_infallible msg) → IsOk result }
+        ensures steps { steps.new ≡ steps.old + tries_of self.old.control (stream_of key) }
     {
         let was_blocked = !self.parts.is_ready();
         let (at, skips) = self.parts.skipped_to(key);
-        let received = self.parts.poll(key, Kind::Stream, at, notice);
+        let received = self.parts.poll_stream(key, at, notice, steps);
         self.parts.tell_if_ready(was_blocked);
         next_reply(skips, received)
     }

@@ -1,13 +1,16 @@
 //! Receiving at once.
-ghost use Rattle.std.specs.Prelude.{IsOk};
+ghost use Rattle.std.specs.Prelude.{◌≡◌, ◌<◌, IsOk};
 ghost use Rattle.bcast_model.specs.Answers.{Answers};
 ghost use Rattle.bcast_model.specs.declared.run.Call.TheVariants as call;
 ghost use Rattle.bcast_model.specs.declared.run.Reply.TheVariants as reply;
 
 use super::Inner;
+use crate::tries::Steps;
 use bcast_model::error::TryRecvError;
 use bcast_waiting::notice::Notice;
 use std::alloc::{AllocError, Allocator};
+use std::marker::Brand;
+use std::sync::ledger::{Blank, Ledger};
 
 impl<T: Clone, N: Notice, A: Allocator + Copy> Inner<T, N, A> {
     /// Gives the receiver of this key its next message: the message itself, or a clone of it if
@@ -32,23 +35,45 @@ impl<T: Clone, N: Notice, A: Allocator + Copy> Inner<T, N, A> {
         // If no clone fails, there is a message.
         ensures sure { ((msg : T) → T.is_infallible msg) → IsOk result }
     {
+        self.try_recv_uncounted::<Brand>(key, Blank::new(1))
+    }
+
+    // The same, with steps that nobody counts.
+    #[inline(always)]
+    fn try_recv_uncounted<L: Ledger>(
+        &mut self,
+        key: usize,
+        blank: Blank,
+    ) -> Result<Result<T, TryRecvError>, AllocError>
+        requires name { blank.name ≡ L.name }
+        requires parts { blank.parts ≡ L.parts }
+        requires some { 0 < blank.parts }
+        ensures answers { Answers T.is_clone self.old (call.TryRecv key) (reply.TryRecv result)
+            self.new }
+        ensures sure { ((msg : T) → T.is_infallible msg) → IsOk result }
+    {
+        let mut steps = Steps::<L>::new(blank);
         if self.parts.no_send_waits() {
             let at = self.parts.cursor(key);
-            return self.parts.receive(key, at);
+            return self.parts.receive(key, at, &mut steps);
         }
-        self.receive_and_tell(key)
+        self.receive_and_tell(key, &mut steps)
     }
 
     // The same while a send waits.
     #[inline(never)]
-    fn receive_and_tell(&mut self, key: usize) -> Result<Result<T, TryRecvError>, AllocError>
+    fn receive_and_tell<L: Ledger>(
+        &mut self,
+        key: usize,
+        steps: &mut Steps<L>,
+    ) -> Result<Result<T, TryRecvError>, AllocError>
         ensures answers { Answers T.is_clone self.old (call.TryRecv key) (reply.TryRecv result)
             self.new }
         ensures sure { ((msg : T) → T.is_infallible msg) → IsOk result }
     {
         let was_blocked = !self.parts.is_ready();
         let at = self.parts.cursor(key);
-        let received = self.parts.receive(key, at);
+        let received = self.parts.receive(key, at, steps);
         self.parts.tell_if_ready(was_blocked);
         received
     }

@@ -13,7 +13,7 @@ use Rattle.bcast_model.proofs.Answers.{answers_as, shown_after}
 use Rattle.bcast_core.proofs.Does.{valid_shown, told}
 use Rattle.bcast_core.proofs.Idle.{told_none, receive_idle}
 use Rattle.bcast_core.proofs.Respelt.{does_receive}
-use Rattle.bcast_core.proofs.state.Inner.try_recv.Goals as goal
+use Rattle.bcast_core.proofs.state.Inner.try_recv_uncounted.Goals as goal
 
 pub receive-requires-clause-valid : goal.receive-requires-clause-valid
 receive-requires-clause-valid g c = valid_shown c.self.invariant
