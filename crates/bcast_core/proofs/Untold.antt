@@ -8,7 +8,7 @@ use Rattle.bcast_model.specs.declared.error.TryRecvError.TheVariants as unread
 use Rattle.bcast_model.specs.Listeners.{is_in, join, consume, untold_ids, IsTest}
 use Rattle.bcast_model.specs.ListenerId.{Pair, same_pair}
 use Rattle.bcast_model.specs.Control.{cursor_of}
-use Rattle.bcast_model.specs.Receiving.{recv_reply, receive, skipped_to, is_empty_reply, poll_receive, try_recv_reply}
+use Rattle.bcast_model.specs.Receiving.{recv_reply, receive, skipped_to, is_empty_reply, receive_poll, try_recv_reply}
 use Rattle.bcast_model.specs.View.{View, kept_at}
 use Rattle.bcast_model.specs.Valid.{WouldWait}
 use Rattle.bcast_model.specs.Laws.{IsValidView}
@@ -46,7 +46,7 @@ module _ {T : Type 0} where
 
   -- and changes nothing
   pub untold_stays : (v : View T) (pair : Pair) (at : Option ℕ) → IsValidView v → is_untold v.control pair ≡ true → is_empty_reply (try_recv_reply v at) ≡ true
-      → v ≡ settle v (sets (poll_receive v.front v.end v.control pair at (try_recv_reply v at)))
+      → v ≡ settle v (sets (receive_poll v.front v.end v.control pair at (try_recv_reply v at)))
   untold_stays v pair at valid untold empty =
       poll_waits v v v pair at valid empty
       (sym (ap (λ c. settle v (sets c)) (receive_empty v pair.0 at valid empty) ∙ settle_idle v valid))

@@ -164,7 +164,7 @@ impl<T: Clone, N: Notice, A: Allocator + Copy> Parts<T, N, A> {
             (λ answer. reply.TryRecv (Ok answer)) (reply.TryRecv (Err alloc_error))
             (reply.TryRecv result) }
         ensures ok { OnOk result (self.new ≡ settle self.old
-            (sets (poll_receive self.old.front self.old.end self.old.control (stream_of key) at
+            (sets (receive_poll self.old.front self.old.end self.old.control (stream_of key) at
             (try_recv_reply self.old at)))) }
         ensures err { OnErr result (self.new ≡ self.old) }
         ensures sure { ((msg : T) → T.is_infallible msg) → IsOk result }
