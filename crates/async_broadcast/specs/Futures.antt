@@ -15,31 +15,42 @@ use Rattle.bcast_model.specs.declared.run.Reply.TheVariants as reply
 module _ {T P : Type 0} (gave : P → Call T → Reply T → Type 0) (port : P) where
   -- `broadcast_direct`: the port gave a place
   abbrev pub BeganSend : Option ℕ → Type 0
-  BeganSend at = (place : ℕ) × (at ≡ Some place) × gave port call.BeginSend (reply.BeginSend (Ok place))
+  BeganSend at =
+      (place : ℕ) × (at ≡ Some place) × gave port call.BeginSend (reply.BeginSend (Ok place))
 
   -- the port gave this reply to the send's own call: of its place, and this message
   abbrev pub Polled : Option ℕ → T → Reply T → Type 0
   Polled at msg r = (place : ℕ) × (at ≡ Some place) × gave port (call.PollSend place msg) r
 
   -- `Send` is answered: by the port, or for want of memory
-  abbrev pub GivesSent : Option ℕ → Option T → Result (Result (Option T) (SendError T)) (NoMemory T) → Type 0
-  GivesSent at kept (Ok answer) = (msg : T) × (kept ≡ Some msg) × Polled at msg (reply.PollSend (send.Ready answer))
+  abbrev pub GivesSent : Option ℕ → Option T
+      → Result (Result (Option T) (SendError T)) (NoMemory T) → Type 0
+  GivesSent at kept (Ok answer) =
+      (msg : T) × (kept ≡ Some msg) × Polled at msg (reply.PollSend (send.Ready answer))
   GivesSent at kept (Err error) = kept ≡ Some error.0
 
   -- `Send` is pending: unless it was answered before, the port said that its message must wait
   abbrev pub MustWait : Option ℕ → Option T → Type 0
-  MustWait at kept = MatchOption at (Unit {0}) (λ place. MatchOption kept (Unit {0}) (λ msg. gave port (call.PollSend place msg) (reply.PollSend (send.Wait msg))))
+  MustWait at kept =
+      MatchOption at (Unit {0}) (λ place. MatchOption kept (Unit {0})
+      (λ msg. gave port (call.PollSend place msg) (reply.PollSend (send.Wait msg))))
 
   -- `Recv` is answered: by the port, or for want of memory
   abbrev pub GivesReceived : ℕ → Result (Result T RecvError) AllocError → Type 0
-  GivesReceived key out = IfOk out (λ answer. gave port (call.PollFuture key) (reply.PollFuture (Ok (poll.Ready answer))))
+  GivesReceived key out =
+      IfOk out (λ answer. gave port (call.PollFuture key)
+      (reply.PollFuture (Ok (poll.Ready answer))))
 
   -- an item of the stream: a message of the port, which counts what it skipped, or want of memory
   abbrev pub GivesItem : ℕ → Result T AllocError → Type 0
-  GivesItem key item = IfOk item (λ msg. (next : T × ℕ) × (msg ≡ next.0) × gave port (call.PollNext key) (reply.PollNext (Ok (poll.Ready (Some next)))))
+  GivesItem key item =
+      IfOk item (λ msg. (next : T × ℕ) × (msg ≡ next.0)
+      × gave port (call.PollNext key) (reply.PollNext (Ok (poll.Ready (Some next)))))
 
   -- the stream: such items, and the end that the port gave
-  abbrev pub YieldsItems : ℕ → List (Result T AllocError) → Option (Result T AllocError) → Type 0
+  abbrev pub YieldsItems : ℕ → List (Result T AllocError) → Option (Result T AllocError)
+      → Type 0
   YieldsItems key items last =
       AllByRecursion (GivesItem key) items
-      × MatchOption last (gave port (call.PollNext key) (reply.PollNext (Ok (poll.Ready None)))) (GivesItem key)
+      × MatchOption last (gave port (call.PollNext key) (reply.PollNext (Ok (poll.Ready None))))
+      (GivesItem key)

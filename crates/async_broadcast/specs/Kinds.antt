@@ -13,6 +13,11 @@ abbrev pub HandsBack : {T : Type 0} → T → SendPoll T → Type 0
 HandsBack msg (send.Wait back) = back ≡ msg
 HandsBack msg (send.Ready answer) = Unit {0}
 
+-- a reply of this variant to a send of this message, which comes back if it must wait
+abbrev pub IsAnswerTo : {T : Type 0} → T → (SendPoll T → Reply T) → Reply T → Type 0
+IsAnswerTo {T} msg variant r =
+    (answer : SendPoll T) × (r ≡ variant answer) × HandsBack msg answer
+
 -- a reply of this variant
 abbrev pub IsA : {T A : Type 0} → (A → Reply T) → Reply T → Type 0
 IsA {T} {A} variant r = (answer : A) × (r ≡ variant answer)
@@ -21,9 +26,9 @@ module _ {T : Type 0} where
   -- the reply of the call's own name
   abbrev pub IsOfKind : Call T → Reply T → Type 0
   IsOfKind (call.TryBroadcast msg) r = IsA reply.TryBroadcast r
-  IsOfKind (call.AttemptSend msg) r = (answer : SendPoll T) × (r ≡ reply.AttemptSend answer) × HandsBack msg answer
+  IsOfKind (call.AttemptSend msg) r = IsAnswerTo msg reply.AttemptSend r
   IsOfKind call.BeginSend r = IsA reply.BeginSend r
-  IsOfKind (call.PollSend place msg) r = (answer : SendPoll T) × (r ≡ reply.PollSend answer) × HandsBack msg answer
+  IsOfKind (call.PollSend place msg) r = IsAnswerTo msg reply.PollSend r
   IsOfKind (call.EndSend place) r = r ≡ reply.EndSend
   IsOfKind (call.TryRecv key) r = IsA reply.TryRecv r
   IsOfKind (call.PollFuture key) r = IsA reply.PollFuture r

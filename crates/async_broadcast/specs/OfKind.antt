@@ -19,7 +19,9 @@ use Rattle.async_broadcast.specs.Kinds.{IsA, HandsBack, IsOfKind}
 module _ {T : Type 0} where
   -- a send that must wait hands its message back, whatever the channel is
   attempted-back : (closed deserted full await : Bool) (back : Option T) (msg : T)
-      → HandsBack msg (reply_to_attempt await back (if closed then Some (unsent.Closed msg) else (if deserted then Some (unsent.Inactive msg) else (if full then Some (unsent.Full msg) else None))))
+      → HandsBack msg (reply_to_attempt await back (if closed then Some (unsent.Closed msg)
+      else (if deserted then Some (unsent.Inactive msg)
+      else (if full then Some (unsent.Full msg) else None))))
   attempted-back true deserted full await back msg = tt
   attempted-back false true full true back msg = refl
   attempted-back false true full false back msg = tt
@@ -27,32 +29,41 @@ module _ {T : Type 0} where
   attempted-back false false false await back msg = tt
 
   attempt_send-back : (v : View T) (msg : T) → HandsBack msg (attempt_send_reply v msg)
-  attempt_send-back v msg = attempted-back v.control.closed (has_no_receiver v.control) _ v.control.await_active _ msg
+  attempt_send-back v msg =
+      attempted-back v.control.closed (has_no_receiver v.control) _ v.control.await_active _ msg
 
-  poll_send-back : (there : Bool) (v : View T) (msg : T) → HandsBack msg (if there then attempt_send_reply v msg else send.Wait msg)
+  poll_send-back : (there : Bool) (v : View T) (msg : T)
+      → HandsBack msg (if there then attempt_send_reply v msg else send.Wait msg)
   poll_send-back true v msg = attempt_send-back v msg
   poll_send-back false v msg = refl
 
-  received : {A : Type 0} (is_clone : T → T → Type 0) (owed : Type 0) (variant : A → Reply T) (spell : Result T TryRecvError → A) (refused : A) (exact : Result T TryRecvError) (r : Reply T)
-      → IsReceived is_clone owed (λ answer. variant (spell answer)) (variant refused) exact r → IsA variant r
+  received : {A : Type 0} (is_clone : T → T → Type 0) (owed : Type 0) (variant : A → Reply T)
+      (spell : Result T TryRecvError → A) (refused : A) (exact : Result T TryRecvError) (r : Reply T)
+      → IsReceived is_clone owed (λ answer. variant (spell answer)) (variant refused) exact r
+      → IsA variant r
   received is_clone owed variant spell refused exact r (inl given) = (spell exact, given)
-  received is_clone owed variant spell refused exact r (inr (owes, inl clone)) = (spell (Ok clone.given), clone.reply)
+  received is_clone owed variant spell refused exact r (inr (owes, inl clone)) =
+      (spell (Ok clone.given), clone.reply)
   received is_clone owed variant spell refused exact r (inr (owes, inr none)) = (refused, none)
 
-  made : (cursors : Cursors) (variant : Result ℕ HandleError → Reply T) (r : Reply T) → IsMade cursors variant r → IsA variant r
+  made : (cursors : Cursors) (variant : Result ℕ HandleError → Reply T) (r : Reply T)
+      → IsMade cursors variant r → IsA variant r
   made cursors variant r (inl given) = (_, given.1)
   made cursors variant r (inr none) = (_, none)
 
-  made_from : (there : Bool) (cursors : Cursors) (variant : Result ℕ HandleError → Reply T) (r : Reply T) → IsMadeFrom there cursors variant r → IsA variant r
+  made_from : (there : Bool) (cursors : Cursors) (variant : Result ℕ HandleError → Reply T)
+      (r : Reply T) → IsMadeFrom there cursors variant r → IsA variant r
   made_from there cursors variant r (inl gone) = (_, gone.1)
   made_from there cursors variant r (inr given) = made cursors variant r given.1
 
-  legal : (is_clone : T → T → Type 0) (v : View T) (c : Call T) (r : Reply T) → Legal is_clone v c r → IsOfKind c r
+  legal : (is_clone : T → T → Type 0) (v : View T) (c : Call T) (r : Reply T)
+      → Legal is_clone v c r → IsOfKind c r
   legal is_clone v (call.TryBroadcast msg) r l = (_, l)
   legal is_clone v (call.AttemptSend msg) r l = (_, l, attempt_send-back v msg)
   legal is_clone v call.BeginSend r (inl given) = (_, given.1)
   legal is_clone v call.BeginSend r (inr none) = (_, none)
-  legal is_clone v (call.PollSend place msg) r l = (_, l, poll_send-back (has_place v.control place) v msg)
+  legal is_clone v (call.PollSend place msg) r l =
+      (_, l, poll_send-back (has_place v.control place) v msg)
   legal is_clone v (call.EndSend place) r l = l
   legal is_clone v (call.TryRecv key) r l = received is_clone _ reply.TryRecv _ _ _ r l
   legal is_clone v (call.PollFuture key) r l = received is_clone _ reply.PollFuture _ _ _ r l
@@ -87,5 +98,6 @@ module _ {T : Type 0} where
   legal is_clone v call.SenderCount r l = (_, l)
   legal is_clone v call.EndNumber r l = (_, l)
 
-  pub possible : (is_clone : T → T → Type 0) (c : Call T) (r : Reply T) → IsPossible is_clone c r → IsOfKind c r
+  pub possible : (is_clone : T → T → Type 0) (c : Call T) (r : Reply T)
+      → IsPossible is_clone c r → IsOfKind c r
   possible is_clone c r may = legal is_clone (view_of may.0) c r may.2

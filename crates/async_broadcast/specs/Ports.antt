@@ -14,7 +14,8 @@ IsSame {T} {P} gave port other =
     (call : Call T) (reply : Reply T) → gave port call reply ↔ gave other call reply
 
 -- `recv_blocking`: its answer, as `try_recv` spells it
-abbrev pub as_try_recv : {T : Type 0} → Result (Result T RecvError) AllocError → Result (Result T TryRecvError) AllocError
+abbrev pub as_try_recv : {T : Type 0} → Result (Result T RecvError) AllocError
+    → Result (Result T TryRecvError) AllocError
 as_try_recv (Ok (Ok msg)) = Ok (Ok msg)
 as_try_recv (Ok (Err (unreceived.Overflowed n))) = Ok (Err (unread.Overflowed n))
 as_try_recv (Ok (Err unreceived.Closed)) = Ok (Err unread.Closed)

@@ -12,7 +12,8 @@ module _ {T A : Type 0} where
 
   -- where sends are ready and a thread waits to send, one was woken that hasn't tried yet
   abbrev pub HasWokenSender : State T A → Type 0
-  HasWokenSender s = is_ready s.inner.control (is_full s.inner) ≡ true → 0 < s.senders → s.is_sender_woken ≡ true
+  HasWokenSender s =
+      is_ready s.inner.control (is_full s.inner) ≡ true → 0 < s.senders → s.is_sender_woken ≡ true
 
   -- the same for a thread that has something to receive
   abbrev pub HasWokenReceiver : State T A → Type 0

@@ -34,7 +34,7 @@ pub use bcast_core::{
 };
 pub use future::{Recv, Send};
 pub use inactive::InactiveReceiver;
-pub use lock::{Ends, Lock, broadcast};
+pub use lock::{Lock, broadcast};
 pub use port::{Ask, Port};
 pub use receiver::Receiver;
 pub use sender::Sender;

@@ -88,7 +88,7 @@ pub fn broadcast<T: Clone, R: Wait + Clone, A: Allocator + Copy>(
     rt: R,
     alloc: A,
     cap: usize,
-) -> Result<Ends<T, R, A>, AllocError>
+) -> Result<(Sender<T, Lock<T, R, A>, A>, Receiver<T, Lock<T, R, A>, A>), AllocError>
     requires { 0 < cap }
 {
     let (inner, key) = Inner::new(alloc, cap)?;
@@ -102,9 +102,6 @@ pub fn broadcast<T: Clone, R: Wait + Clone, A: Allocator + Copy>(
     let other = port.same().ok_or(AllocError)?;
     Ok((Sender::over(port, alloc), Receiver::over(other, key, alloc)))
 }
-
-/// The first sender and receiver of a channel.
-pub type Ends<T, R, A = Global> = (Sender<T, Lock<T, R, A>, A>, Receiver<T, Lock<T, R, A>, A>);
 
 impl<T: Clone, R: Wait + Clone, A: Allocator + Copy> Lock<T, R, A> {
     // For the handles' function of this name.

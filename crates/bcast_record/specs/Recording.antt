@@ -20,7 +20,8 @@ module _ {T : Type 0} where
   recording opening entries = record { opening = opening; entries = entries }
 
   abbrev pub new_recording : ℕ → ℕ → Recording T
-  new_recording capacity first_key = recording (record { capacity = capacity; first_key = first_key }) []
+  new_recording capacity first_key =
+      recording (record { capacity = capacity; first_key = first_key }) []
 
   -- one entry more
   abbrev pub with_entry : Recording T → Entry T → Recording T

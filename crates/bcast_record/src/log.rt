@@ -1,5 +1,5 @@
 //! A channel with the calls that it was asked, and its replies.
-ghost use Rattle.std.specs.Prelude.{◌≡◌, ◌+◌, ◌<◌, ◌≤◌, ◌^◌, [], ◌∷◌, ◌++◌, length, Some, IfOk, IfErr, IfSome, OnOk, vec_len, vec_capacity, slice_get};
+ghost use Rattle.std.specs.Prelude.{◌≡◌, ◌+◌, ◌<◌, ◌≤◌, ◌^◌, [], length, Some, IfOk, IfErr, IfSome, OnOk, vec_len, vec_capacity, slice_get};
 ghost use Rattle.std.specs.List.{sum_by};
 ghost use Rattle.bcast_record.specs.Content.{so_far};
 ghost use Rattle.bcast_model.specs.Next.{HasPositiveCapacity};
