@@ -26,6 +26,7 @@ mod port;
 mod receiver;
 mod sender;
 mod snapshot;
+mod text;
 mod wake;
 
 pub use bcast_core::{

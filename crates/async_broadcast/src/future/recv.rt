@@ -18,6 +18,7 @@ use std::alloc::{AllocError, Allocator, Global};
 /// Its output is that of `recv_blocking`. Polled again after its output it receives anew.
 ///
 /// Source: `Recv` of async-broadcast 0.7.2.
+#[must_use]
 pub struct Recv<'a, T: Clone, P: Ask<T, WakerSlot<A>>, A: Allocator = Global> {
     receiver: &'a mut Receiver<T, P, A>,
 }

@@ -20,6 +20,7 @@ use std::alloc::{Allocator, Global};
 /// before, it sends nothing.
 ///
 /// Source: `Send` of async-broadcast 0.7.2, which panics when polled again.
+#[must_use]
 pub struct Send<'a, T: Clone, P: Ask<T, WakerSlot<A>>, A: Allocator = Global> {
     sender: &'a Sender<T, P, A>,
     // Where the channel lists this send while it waits.
