@@ -1,5 +1,5 @@
 //! Receiving in a task, a message at a time.
-ghost use Rattle.std.specs.Prelude.{◌≡◌, ◌⊎◌, ⊤, true, Ok, Err, IfOk, IfErr};
+ghost use Rattle.std.specs.Prelude.{◌≡◌, ◌⊎◌, ⊤, true, false, Ok, Err, IfOk, IfErr};
 ghost use Rattle.futures.specs.Task.{Covers, IsArmed, Keeps};
 ghost use Rattle.futures.specs.Poll.{IfReady, OnPending};
 ghost use Rattle.async_broadcast.specs.Futures.{GivesReceived};
@@ -38,7 +38,9 @@ impl<T: Clone, P: Ask<T, WakerSlot<A>>, A: Allocator + Copy> Receiver<T, P, A> {
     ///
     /// Source: `Receiver::recv` of async-broadcast 0.7.2, which never refuses.
     pub fn recv(&mut self) -> Result<Box<Recv<'_, T, P, A>, A>, AllocError>
-        ensures { IfOk result (λ recv. recv.value.receiver.now ≡ self.old) }
+        ensures lent { IfOk result (λ recv. recv.value.receiver.now ≡ self.old) }
+        ensures same { IfOk result
+            (λ recv. recv.value.receiver.ghost_name ≡ self.entry.ghost_name) }
     {
         let alloc = self.waker.alloc();
         Ok(Box::new(alloc, self.recv_direct())?)
@@ -57,7 +59,8 @@ impl<T: Clone, P: Ask<T, WakerSlot<A>>, A: Allocator + Copy> Receiver<T, P, A> {
     ///
     /// Source: `Receiver::recv_direct` of async-broadcast 0.7.2.
     pub fn recv_direct(&mut self) -> Recv<'_, T, P, A>
-        ensures { result.receiver.now ≡ self.old }
+        ensures lent { result.receiver.now ≡ self.old }
+        ensures same { result.receiver.ghost_name ≡ self.entry.ghost_name }
     {
         Recv { receiver: self }
     }
@@ -91,6 +94,8 @@ impl<T: Clone, P: Ask<T, WakerSlot<A>>, A: Allocator + Copy> Receiver<T, P, A> {
         ensures asked { IfOk result (λ poll. P.gave self.old.port (Call.PollRecv self.old.key)
             (Reply.PollRecv (Ok poll))) }
         ensures same { (self.new.port ≡ self.old.port) × (self.new.key ≡ self.old.key) }
+        ensures notice { IfOk result (λ poll. OnPending poll
+            (self.new.waker.is_refused ≡ false)) }
         ensures refused { IfErr result (λ error. (self.new.waker.is_refused ≡ true)
             ⊎ P.gave self.old.port (Call.PollRecv self.old.key) (Reply.PollRecv (Err error))) }
         ensures registered { IsArmed cx.new }
@@ -105,8 +110,9 @@ impl<T: Clone, P: Ask<T, WakerSlot<A>>, A: Allocator + Copy> Receiver<T, P, A> {
 
 impl<T: Clone, P: Ask<T, WakerSlot<A>>, A: Allocator> Drop for Recv<'_, T, P, A> {
     fn drop(self)
-        ensures { P.gave self.entry.receiver.now.port (Call.EndFuture self.entry.receiver.now.key)
-            Reply.EndFuture }
+        ensures asked { P.gave self.entry.receiver.now.port
+            (Call.EndFuture self.entry.receiver.now.key) Reply.EndFuture }
+        ensures back { self.exit.0.now ≡ self.entry.receiver.now }
     {
         let receiver = &*self.receiver;
         asked::end_future::<T, WakerSlot<A>, P>(&receiver.port, receiver.key);
@@ -131,12 +137,14 @@ impl<T: Clone, P: Ask<T, WakerSlot<A>>, A: Allocator + Copy> Future for Recv<'_,
 
         ensures waits { OnPending result (P.gave self.old.receiver.now.port
             (Call.PollFuture self.old.receiver.now.key) (Reply.PollFuture (Ok Poll.Pending))) }
+        ensures notice { OnPending result (self.new.receiver.now.waker.is_refused ≡ false) }
         ensures refused { IfReady result (λ out. IfErr out (λ error.
             (self.new.receiver.now.waker.is_refused ≡ true)
             ⊎ P.gave self.old.receiver.now.port (Call.PollFuture self.old.receiver.now.key)
             (Reply.PollFuture (Err error)))) }
         ensures port { self.new.receiver.now.port ≡ self.old.receiver.now.port }
         ensures key { self.new.receiver.now.key ≡ self.old.receiver.now.key }
+        ensures receiver { self.new.receiver.ghost_name ≡ self.old.receiver.ghost_name }
     {
         let receiver = &mut *self.receiver;
         let Some(wake) = receiver.waker.register(cx) else {

@@ -1,5 +1,5 @@
 //! Sends that wait in a task.
-ghost use Rattle.std.specs.Prelude.{◌≡◌, ⊤, true, Some, None, Ok, Err, IfOk, IfErr, IfSome, IsSome, alloc_error};
+ghost use Rattle.std.specs.Prelude.{◌≡◌, ⊤, true, false, Some, None, Ok, Err, IfOk, IfErr, IfSome, IsSome, alloc_error};
 ghost use Rattle.futures.specs.Task.{Covers, Keeps};
 ghost use Rattle.futures.specs.Poll.{IfReady, OnPending};
 ghost use Rattle.async_broadcast.specs.Futures.{BeganSend, GivesSent, MustWait};
@@ -170,6 +170,8 @@ impl<T: Clone, P: Ask<T, WakerSlot<A>>, A: Allocator + Copy> Future for Send<'_,
             (λ _. self.new.waker.is_refused ≡ true)) }
         ensures waits { OnPending result
             (MustWait P.gave self.old.sender.now.port self.old.place self.old.msg) }
+        ensures notice { OnPending result (IsSome self.new.place → IsSome self.new.msg
+            → self.new.waker.is_refused ≡ false) }
         ensures unchanged { OnPending result
             ((self.new.place ≡ self.old.place) × (self.new.msg ≡ self.old.msg)) }
         ensures port { self.new.sender.now.port ≡ self.old.sender.now.port }

@@ -1,5 +1,5 @@
 //! A receiver as a stream of its messages.
-ghost use Rattle.std.specs.Prelude.{◌≡◌, ◌⊎◌, ⊤, true, None, Ok, Err, IfErr, IfSome, OnSome, []};
+ghost use Rattle.std.specs.Prelude.{◌≡◌, ◌⊎◌, ⊤, true, false, None, Ok, Err, IfErr, IfSome, OnSome, []};
 ghost use Rattle.futures.specs.Task.{Covers, Keeps};
 ghost use Rattle.futures.specs.Poll.{IfReady, OnPending};
 ghost use Rattle.futures.specs.Runs.{After, Within};
@@ -35,6 +35,7 @@ impl<T: Clone, P: Ask<T, WakerSlot<A>>, A: Allocator + Copy> Stream for Receiver
 
         ensures waits { OnPending result (P.gave self.old.port (Call.PollNext self.old.key)
             (Reply.PollNext (Ok Poll.Pending))) }
+        ensures notice { OnPending result (self.new.waker.is_refused ≡ false) }
         ensures refused { IfReady result (λ next. IfSome next (λ item. IfErr item (λ error.
             (self.new.waker.is_refused ≡ true)
             ⊎ P.gave self.old.port (Call.PollNext self.old.key) (Reply.PollNext (Err error))))) }
