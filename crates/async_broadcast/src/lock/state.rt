@@ -8,6 +8,7 @@ ghost use Rattle.bcast_core.specs.Snapshot.{Shows};
 ghost use Rattle.async_broadcast.specs.Kinds.{IsOfKind};
 ghost use Rattle.async_broadcast.specs.Snapshots.{ShowsSomeState};
 ghost use Rattle.async_broadcast.specs.Woken.{HasNoThread, HasWokenSender, HasWokenReceiver, NotesSender, NotesReceiver};
+ghost use Rattle.async_broadcast.specs.Woken.{MovesReceivers, EndsWait, news_of, one_more, one_less};
 
 use crate::wake::{Wake, WakerSlot};
 use bcast_core::{Call, Inner, Reply, Snapshot, TryRecvError, TrySendError, step};
@@ -95,6 +96,8 @@ impl<T: Clone, A: Allocator + Copy> State<T, A> {
         ensures receives { HasWokenReceiver self.new }
         ensures sender { NotesSender self.old self.new result.1 }
         ensures receiver { NotesReceiver self.old self.new result.1 }
+        ensures moved { MovesReceivers (news_of self.old) self.old self.new }
+        ensures senders { self.new.senders ≡ self.old.senders }
     {
         let known = self.news();
         let reply = self.make(call, wake);
@@ -138,6 +141,8 @@ impl<T: Clone, A: Allocator + Copy> State<T, A> {
         ensures receives { HasWokenReceiver self.new }
         ensures sender { NotesSender self.old self.new result.1 }
         ensures receiver { NotesReceiver self.old self.new result.1 }
+        ensures moved { MovesReceivers (news_of self.old) self.old self.new }
+        ensures senders { self.new.senders ≡ self.old.senders }
     {
         let known = self.news();
         let answer = self.inner.try_broadcast(msg);
@@ -174,6 +179,8 @@ impl<T: Clone, A: Allocator + Copy> State<T, A> {
         ensures receives { HasWokenReceiver self.new }
         ensures sender { NotesSender self.old self.new result.1 }
         ensures receiver { NotesReceiver self.old self.new result.1 }
+        ensures moved { MovesReceivers (news_of self.old) self.old self.new }
+        ensures senders { self.new.senders ≡ self.old.senders }
     {
         let known = self.news();
         let answer = self.inner.try_recv(key);
@@ -189,14 +196,13 @@ impl<T: Clone, A: Allocator + Copy> State<T, A> {
         ensures receives { HasWokenReceiver self.new }
         ensures sender { NotesSender self.old self.new result }
         ensures receiver { NotesReceiver self.old self.new result }
+        ensures moved { MovesReceivers known self.old self.new }
+        ensures senders { self.new.senders ≡ self.old.senders }
     {
-        let newly_due = if self.news() == known {
-            0
-        } else {
-            self.idle_receivers
-        };
-        self.idle_receivers = self.idle_receivers.wrapping_sub(newly_due);
-        self.due_receivers = self.due_receivers.wrapping_add(newly_due);
+        if self.news() != known {
+            self.due_receivers = self.due_receivers.wrapping_add(self.idle_receivers);
+            self.idle_receivers = 0;
+        }
         let receiver = self.due_receivers > 0 && !self.is_receiver_woken;
         self.is_receiver_woken |= receiver;
         let sender = self.senders > 0 && !self.is_sender_woken && self.sends_are_ready();
@@ -215,27 +221,37 @@ impl<T: Clone, A: Allocator + Copy> State<T, A> {
     }
 
     /// A thread is about to wait to send.
-    pub(super) fn begin_to_send(&mut self) {
+    pub(super) fn begin_to_send(&mut self)
+        ensures { self.new ≡ record self.old { senders = one_more self.old.senders } }
+    {
         self.senders = self.senders.wrapping_add(1);
     }
 
     /// A thread has waited to send, and tries again.
     pub(super) fn try_to_send(&mut self)
-        ensures { self.new.is_sender_woken ≡ false }
+        ensures { self.new ≡ record self.old {
+          senders = one_less self.old.senders;
+          is_sender_woken = false;
+        } }
     {
         self.senders = self.senders.wrapping_sub(1);
         self.is_sender_woken = false;
     }
 
-    /// A thread that has nothing to receive is about to wait for a message. Answers what it knows.
-    pub(super) fn begin_to_receive(&mut self) -> (u64, bool) {
+    /// A thread that has nothing to receive is about to wait for a message. Returns what it knows.
+    pub(super) fn begin_to_receive(&mut self) -> (u64, bool)
+        ensures known { result ≡ news_of self.old }
+        ensures idle { self.new ≡ record self.old {
+          idle_receivers = one_more self.old.idle_receivers;
+        } }
+    {
         self.idle_receivers = self.idle_receivers.wrapping_add(1);
         self.news()
     }
 
     /// A thread that began to wait when it knew this much has waited, and tries again.
     pub(super) fn try_to_receive(&mut self, known: (u64, bool))
-        ensures { self.new.is_receiver_woken ≡ false }
+        ensures { EndsWait known self.old self.new }
     {
         if self.news() == known {
             self.idle_receivers = self.idle_receivers.wrapping_sub(1);
@@ -247,7 +263,7 @@ impl<T: Clone, A: Allocator + Copy> State<T, A> {
 
     // What changes when a receiver that had read everything has something to receive.
     fn news(&self) -> (u64, bool)
-        ensures { result ≡ (self.now.inner.end, self.now.inner.control.closed) }
+        ensures { result ≡ news_of self.now }
     {
         (self.inner.end_number(), self.inner.is_closed())
     }
