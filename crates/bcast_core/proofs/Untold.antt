@@ -8,7 +8,7 @@ use Rattle.bcast_model.specs.declared.error.TryRecvError.TheVariants as unread
 use Rattle.bcast_model.specs.Listeners.{is_in, join, consume, untold_ids, IsTest}
 use Rattle.bcast_model.specs.ListenerId.{Pair, same_pair}
 use Rattle.bcast_model.specs.Control.{cursor_of}
-use Rattle.bcast_model.specs.Receiving.{recv_reply, receive, skipped_to, is_empty_reply, receive_poll, try_recv_reply}
+use Rattle.bcast_model.specs.Receiving.{skipped_to, is_empty_reply, receive_poll, try_recv_reply}
 use Rattle.bcast_model.specs.View.{View, kept_at}
 use Rattle.bcast_model.specs.Valid.{WouldWait}
 use Rattle.bcast_model.specs.Laws.{IsValidView}

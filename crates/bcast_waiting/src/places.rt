@@ -1,5 +1,5 @@
 //! The places of pending sends.
-ghost use Rattle.std.specs.Prelude.{◌≡◌, ◌<◌, ◌^◌, true, false, IfOk, OnOk, OnErr, map};
+ghost use Rattle.std.specs.Prelude.{◌≡◌, ◌<◌, ◌^◌, false, IfOk, OnOk, OnErr, map};
 ghost use Rattle.std.specs.FinSet as set;
 ghost use Rattle.bcast_waiting.specs.Keys.{key_of};
 ghost use Rattle.slab.specs.Slab.{entries};

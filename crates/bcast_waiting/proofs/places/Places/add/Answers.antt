@@ -1,5 +1,5 @@
 -- The slot of the new place is filled.
-use Rattle.std.proofs.Common.{◌≡◌, ◌<◌, ◌^◌, true, is_some, refl, sym, ap, subst, ◌∙◌}
+use Rattle.std.proofs.Common.{◌≡◌, ◌<◌, ◌^◌, is_some, sym, ap, subst, ◌∙◌}
 use Rattle.std.specs.FinSet as set
 use Rattle.bcast_waiting.specs.Keys.{keys_in}
 use Rattle.bcast_waiting.proofs.Keys.{contains-keys_in, len-keys_in, keys_in-filled}

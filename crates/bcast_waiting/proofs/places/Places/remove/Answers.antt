@@ -1,5 +1,5 @@
 -- The slot of the place is emptied.
-use Rattle.std.proofs.Common.{true, is_some, sym, ap, ◌∙◌}
+use Rattle.std.proofs.Common.{is_some, sym, ap, ◌∙◌}
 use Rattle.std.specs.FinSet as set
 use Rattle.bcast_waiting.proofs.Keys.{contains-keys_in, keys_in-emptied}
 use Rattle.bcast_waiting.proofs.places.Places.remove.Goals as goal
