@@ -142,9 +142,7 @@ fn into_settings<S: Drop>(sent: Result<Option<S>, TrySendError<S>>) -> Result<()
 {
     match sent {
         Ok(_replaced) => Ok(()),
-        Err(TrySendError::Full(back)) => Err(back),
-        Err(TrySendError::Closed(back)) => Err(back),
-        Err(TrySendError::Inactive(back)) => Err(back),
+        Err(error) => Err(error.into_inner()),
     }
 }
 

@@ -1,5 +1,5 @@
 //! Events for subscribers that come and go.
-ghost use Rattle.std.specs.Prelude.{◌≡◌, ◌+◌, ◌<◌, ◌≤◌, ◌∷◌, [], ◌++◌, IfOk, IfErr, IfSome, IsOk, OnOk, OnErr};
+ghost use Rattle.std.specs.Prelude.{◌≡◌, ◌+◌, ◌<◌, ◌∷◌, [], ◌++◌, IfOk, IfErr, IfSome, IsOk, OnOk, OnErr};
 ghost use Rattle.bcast_model.specs.Errors.{unsent_message};
 ghost use Rattle.bcast_model.specs.History.{opening};
 ghost use Rattle.bcast_model.specs.Legal.{NoClone};
