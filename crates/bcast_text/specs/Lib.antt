@@ -10,6 +10,7 @@ pub mod ScriptAnswer
 pub mod Opening
 pub mod TraceCall
 pub mod TraceLine
+pub mod TraceAnswer
 pub mod TraceReply
 -- threads: what receivers saw, and what a run prints
 pub mod Order

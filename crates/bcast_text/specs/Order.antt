@@ -1,4 +1,5 @@
--- What `bcast threads` looks for: the receivers' lists agree, and no message is lost or comes twice.
+-- What `bcast threads` looks for: the receivers' lists agree, and no message is lost or comes
+-- twice.
 use Rattle.std.specs.Prelude.{◌≡◌, ℕ, List, [], ◌∷◌, Bool, true, false, length, slice_index_or, ◌<◌, Contains, All}
 
 -- as many numbers as there are below count, and each of those: so each of them stands once

@@ -7,7 +7,8 @@ use Rattle.bcast_text.specs.declared.ending.Ending.TheVariants.{Done, Differ, No
 -- the line of a run of this many receivers and messages that all saw one order
 abbrev pub one_order_text : ℕ → ℕ → List ℕ
 one_order_text receivers messages =
-    decimal receivers ++ (codes " receivers, " ++ (decimal messages ++ codes " messages each, one order\n"))
+    decimal receivers ++ (codes " receivers, "
+    ++ (decimal messages ++ codes " messages each, one order\n"))
 
 -- the line of a run, by whether all receivers saw one order
 abbrev pub outcome_text : Bool → ℕ → ℕ → List ℕ

@@ -20,7 +20,8 @@ answer_of (reply.TryBroadcast (Err (send.Full msg))) = Some (codes "full " ++ de
 answer_of (reply.TryBroadcast (Err (send.Closed msg))) = Some (codes "closed " ++ decimal msg)
 answer_of (reply.TryBroadcast (Err (send.Inactive msg))) = Some (codes "inactive " ++ decimal msg)
 answer_of (reply.TryRecv (Ok (Ok msg))) = Some (codes "got " ++ decimal msg)
-answer_of (reply.TryRecv (Ok (Err (receive.Overflowed n)))) = Some (codes "overflowed " ++ decimal n)
+answer_of (reply.TryRecv (Ok (Err (receive.Overflowed n)))) =
+    Some (codes "overflowed " ++ decimal n)
 answer_of (reply.TryRecv (Ok (Err receive.Empty))) = Some (codes "empty")
 answer_of (reply.TryRecv (Ok (Err receive.Closed))) = Some (codes "closed")
 answer_of (reply.Close closed) = Some (bool_text closed)

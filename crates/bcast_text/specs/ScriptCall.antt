@@ -18,7 +18,8 @@ abbrev pub call_of : (List ℕ → Option ℕ) → Line → Option (Call ℕ)
 call_of key_of (line.Cap n) = None
 call_of key_of (line.Send msg) = Some (call.TryBroadcast msg)
 call_of key_of (line.Recv name) = option_map call.TryRecv (key_of name.now)
-call_of key_of (line.Clone name new) = unless_used key_of new.now (option_map call.CloneReceiver (key_of name.now))
+call_of key_of (line.Clone name new) =
+    unless_used key_of new.now (option_map call.CloneReceiver (key_of name.now))
 call_of key_of (line.New new) = unless_used key_of new.now (Some call.NewReceiver)
 call_of key_of (line.Drop name) = option_map call.DropReceiver (key_of name.now)
 call_of key_of line.NewSender = Some call.NewSender
@@ -32,12 +33,16 @@ call_of key_of (line.Activate new) = unless_used key_of new.now (Some call.Activ
 call_of key_of line.DropInactive = Some call.DropInactive
 call_of key_of line.Len = Some call.Len
 
--- the key of each name after a line's call was replied to: a receiver that was made has the new name,
--- and the name of one that left is free
+-- the key of each name after a line's call was replied to: a receiver that was made has the new
+-- name, and the name of one that left is free
 abbrev pub names_after : (List ℕ → Option ℕ) → Line → Reply ℕ → List ℕ → Option ℕ
-names_after key_of (line.Clone name new) (reply.CloneReceiver (Ok key)) = update bytes_eq key_of new.now (Some key)
-names_after key_of (line.New new) (reply.NewReceiver (Ok key)) = update bytes_eq key_of new.now (Some key)
-names_after key_of (line.Activate new) (reply.Activate (Ok key)) = update bytes_eq key_of new.now (Some key)
+names_after key_of (line.Clone name new) (reply.CloneReceiver (Ok key)) =
+    update bytes_eq key_of new.now (Some key)
+names_after key_of (line.New new) (reply.NewReceiver (Ok key)) =
+    update bytes_eq key_of new.now (Some key)
+names_after key_of (line.Activate new) (reply.Activate (Ok key)) =
+    update bytes_eq key_of new.now (Some key)
 names_after key_of (line.Drop name) replied = update bytes_eq key_of name.now None
-names_after key_of (line.Deactivate name) (reply.Deactivate (Ok done)) = update bytes_eq key_of name.now None
+names_after key_of (line.Deactivate name) (reply.Deactivate (Ok done)) =
+    update bytes_eq key_of name.now None
 names_after key_of asked replied = key_of

@@ -7,7 +7,8 @@ use Rattle.bcast_text.specs.declared.trace.line.Line.TheVariants.{View, Call}
 
 -- a text, and after it nothing, or ` -> ` and anything
 abbrev pub IsBeforeArrow : List ℕ → List ℕ → Type 0
-IsBeforeArrow text line = (line ≡ text) ⊎ ((rest : List ℕ) × (line ≡ text ++ (codes " -> " ++ rest)))
+IsBeforeArrow text line =
+    (line ≡ text) ⊎ ((rest : List ℕ) × (line ≡ text ++ (codes " -> " ++ rest)))
 
 -- the view is asked for by `=`, and a call by its text
 abbrev pub ReadsAs : List ℕ → Line → Type 0

@@ -1,8 +1,8 @@
 //! The replies of a trace, as text.
 ghost use Rattle.std.specs.Prelude.{OnOk, ◌++◌, ◌∷◌, [], codes};
 ghost use Rattle.std.specs.Io.KnownBytes.{Appends};
-ghost use Rattle.bcast_model.specs.declared.run.Reply.TheVariants as variants;
-ghost use Rattle.bcast_text.specs.TraceReply.{sent_text, send_poll_text, done_text, made_text, handle_error_text, text_of};
+ghost use Rattle.bcast_text.specs.TraceAnswer.{sent_text, send_poll_text, received_text, future_text, stream_text, next_text, done_text, made_text, handle_error_text};
+ghost use Rattle.bcast_text.specs.TraceReply.{text_of};
 
 use bcast_model::error::{HandleError, RecvError, SendError, TryRecvError, TrySendError};
 use bcast_model::run::{Reply, SendPoll};
@@ -104,7 +104,7 @@ fn received<W: Write>(
     output: &mut W,
 ) -> io::Result<()>
     ensures { OnOk result (Appends (W.contents output.old) (W.contents output.new)
-        (text_of (variants.TryRecv answer.now))) }
+        (received_text answer.now)) }
 {
     match answer {
         Ok(Ok(msg)) => write!(output, "got {msg}"),
@@ -121,7 +121,7 @@ fn future_polled<W: Write>(
     output: &mut W,
 ) -> io::Result<()>
     ensures { OnOk result (Appends (W.contents output.old) (W.contents output.new)
-        (text_of (variants.PollFuture answer.now))) }
+        (future_text answer.now)) }
 {
     match answer {
         Ok(Poll::Ready(Ok(msg))) => write!(output, "ready got {msg}"),
@@ -138,7 +138,7 @@ fn stream_polled<W: Write>(
     output: &mut W,
 ) -> io::Result<()>
     ensures { OnOk result (Appends (W.contents output.old) (W.contents output.new)
-        (text_of (variants.PollRecv answer.now))) }
+        (stream_text answer.now)) }
 {
     match answer {
         Ok(Poll::Ready(Some(Ok(msg)))) => write!(output, "ready some got {msg}"),
@@ -158,7 +158,7 @@ fn next_polled<W: Write>(
     output: &mut W,
 ) -> io::Result<()>
     ensures { OnOk result (Appends (W.contents output.old) (W.contents output.new)
-        (text_of (variants.PollNext answer.now))) }
+        (next_text answer.now)) }
 {
     match answer {
         Ok(Poll::Ready(Some((msg, skipped)))) => {
