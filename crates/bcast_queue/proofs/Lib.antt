@@ -5,9 +5,7 @@ pub mod Owed
 pub mod Front
 -- the counts of a changed queue, index by index, for the crates above
 pub mod Pointwise
--- a ring changed item by item
-pub mod Part
--- the ring behind a queue
-pub mod Rings
+-- owed counts by the counts of who reads next
+pub mod OwedBy
 -- what is seen of a queue
 pub mod Queues

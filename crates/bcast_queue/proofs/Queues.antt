@@ -1,95 +1,69 @@
 -- What the calls of a queue make of what is seen of it.
-use Rattle.std.proofs.Common.{◌≡◌, ◌≢◌, ℕ, ◌+◌, ◌-◌, ◌<◌, ◌≤◌, get_or, set, count_by, false, cond, eqb, ◌∷◌, drop, length, Option, Some, Result, Ok, Err, refl, sym, ap, ◌∙◌, arith, add-zero, eq-eqb, length-drop}
-use Rattle.std.specs.Prelude.{slice_get}
-use Rattle.std.specs.List.{prefix_len}
-use Rattle.std.specs.Option.{IsSomeAnd}
-use Rattle.std.specs.Result.{OnErr, IfOk, IsErr}
-use Rattle.std.proofs.lemmas.List.{drop-drop, drop-map}
-use Rattle.std.proofs.lemmas.Result.{IfOk-from_err}
-use Rattle.bcast_queue.specs.Entries.{RisesFrom}
-use Rattle.bcast_queue.specs.Queue.{one_fewer_from, Queued, without, without_reader, read_at}
-use Rattle.bcast_queue.proofs.Owed.{at_least, RisesFrom-one_fewer_from}
-use Rattle.bcast_queue.proofs.Front.{owed_once, one_owed_once, gone_is_front, none_gone, above_front, above_behind}
-use Rattle.bcast_queue.proofs.Rings.{same_queue, IsQueue}
+use Rattle.std.proofs.Common.{◌≡◌, ◌≢◌, ℕ, zero, suc, ◌+◌, ◌-◌, ◌<◌, ◌≤◌, get_or, set, count_by, false, cond, eqb, [], ◌∷◌, drop, length, List, refl, sym, ap, subst, ◌∙◌, arith, add-zero}
+use Rattle.std.proofs.lemmas.List.{length-map}
+use Rattle.circular_buffer.specs.Buffer.{Buffer}
+use Rattle.bcast_queue.specs.declared.Entry.{Entry}
+use Rattle.bcast_queue.specs.Queue.{one_fewer_from, Queued, queue_with, without, without_reader, read_at}
+use Rattle.bcast_queue.specs.Entries.{counts, next_of, message_of, owed_by, queue_of, IsSound}
+use Rattle.bcast_queue.proofs.Owed.{RisesFrom, at_least}
+use Rattle.bcast_queue.proofs.Front.{nobody, none_gone}
+use Rattle.bcast_queue.proofs.OwedBy.{AreUnowed, RisesFrom-owed_by, length-owed_by}
+
+-- at the end nobody leaves
+fewer_at_end : (i : ℕ) (ns : List ℕ) → length ns ≤ i → ns ≡ one_fewer_from i ns
+fewer_at_end zero [] h = refl
+fewer_at_end zero (n ∷ ns) h = absurd (omega arith)
+fewer_at_end (suc i) [] h = refl
+fewer_at_end (suc i) (n ∷ ns) h = ap (λ ms. n ∷ ms) (fewer_at_end i ns (omega arith))
+
+-- a message that one reader owes is the first
+pub once_is_first : (ns : List ℕ) (i : ℕ) → RisesFrom 1 ns → i < length ns → (0 < i → get_or ns (i - 1) 0 < get_or ns i 0) → get_or ns i 0 ≡ 1 → i ≡ 0
+once_is_first ns zero rises within before once = refl
+once_is_first ns (suc i) rises within before once =
+    let at : suc i - 1 ≡ i = omega arith in
+    let owed = at_least 1 ns rises i 0 (omega arith) in
+    absurd (omega (arith, rw at at (before (omega arith)), owed, once))
 
 module _ {X : Type 0} where
+  pub same_queue : (a b : ℕ) (xs ys : List X) (ms ns : List ℕ) (r s : ℕ) → a ≡ b → xs ≡ ys → ms ≡ ns → r ≡ s → queue_with a xs ms r ≡ queue_with b ys ns s
+  same_queue a b xs ys ms ns r s front messages owed room = λ i. queue_with (front i) (messages i) (owed i) (room i)
+
+  -- what the value says of its counts
+  pub record IsQueue (q : Queued X) : Type 0 where
+    pub rises : RisesFrom 1 q.owed
+    pub lengths : length q.owed ≡ length q.messages
+
+  pub IsQueue-seen : (front behind total room : ℕ) (ring : Buffer (Entry X)) (q : Queued X) → IsSound front behind total room ring → queue_of front ring behind room ≡ q → IsQueue q
+  IsQueue-seen front behind total room ring q sound seen =
+      subst IsQueue seen (record {
+        rises = RisesFrom-owed_by behind (counts ring) sound.counted.owed;
+        lengths = length-owed_by behind (counts ring) ∙ length-map ring.items next_of ∙ sym (length-map ring.items message_of);
+      })
+
   without_none : (q : Queued X) (n : ℕ) → n ≡ 0 → without n q ≡ q
   without_none q n is = rw (is, add-zero) refl
 
-  -- the front goes first, and then those behind it
-  without_once : (q : Queued X) → slice_get q.owed 0 ≡ Some 1 → without (prefix_len owed_once (drop 1 q.owed)) (without 1 q) ≡ without (prefix_len owed_once q.owed) q
-  without_once q once =
-      let k = prefix_len owed_once (drop 1 q.owed) in
-      let n : prefix_len owed_once q.owed ≡ 1 + k = one_owed_once q.owed once in
-      same_queue (q.front + 1 + k) (q.front + prefix_len owed_once q.owed) _ _ _ _ q.room q.room
-      (omega (arith, n))
-      (drop-drop k 1 q.messages ∙ ap (λ m. drop m q.messages) (sym n))
-      (drop-drop k 1 q.owed ∙ ap (λ m. drop m q.owed) (sym n))
+  -- a reader leaves, and each message is still owed
+  pub left_behind : (q : Queued X) (i : ℕ) (ns : List ℕ) → ns ≡ one_fewer_from i q.owed → RisesFrom 1 ns → queue_with q.front q.messages ns q.room ≡ without_reader i q
+  left_behind q i ns is rises =
+      ap (λ ms. queue_with q.front q.messages ms q.room) is
+      ∙ sym (without_none (record q { owed = one_fewer_from i q.owed }) _ (ap (count_by nobody) (sym is) ∙ none_gone 1 ns (omega arith) rises))
+
+  -- a reader leaves, and the first k messages with it
+  pub left_front : (q : Queued X) (i k : ℕ) (ns : List ℕ) → owed_by 0 ns ≡ one_fewer_from i q.owed → AreUnowed ns k → queue_with (q.front + k) (drop k q.messages) (owed_by 0 (drop k ns)) q.room ≡ without_reader i q
+  left_front q i k ns is unowed =
+      let gone : k ≡ count_by nobody (one_fewer_from i q.owed) = sym unowed.gone ∙ ap (count_by nobody) is in
+      same_queue _ _ _ _ _ _ q.room q.room
+      (ap (λ n. q.front + n) gone)
+      (ap (λ n. drop n q.messages) gone)
+      (sym unowed.owed ∙ ap (drop k) is ∙ ap (λ n. drop n (one_fewer_from i q.owed)) gone)
       refl
 
-  -- what is left to drop after one was dropped
-  pub without_popped : (q p r : Queued X) → p ≡ without 1 q → slice_get q.owed 0 ≡ Some 1 → without (prefix_len owed_once q.owed) q ≡ r → without (prefix_len owed_once p.owed) p ≡ r
-  without_popped q p r popped once is = ap (λ (o : Queued X). without (prefix_len owed_once o.owed) o) popped ∙ without_once q once ∙ is
+  pub left_at_end : (q : Queued X) (i : ℕ) → IsQueue q → length q.messages ≤ i → q ≡ without_reader i q
+  left_at_end q i is end = left_behind q i q.owed (fewer_at_end i q.owed (omega (arith, end, is.lengths))) is.rises
 
-  -- no reader is left at the front but those who owe more
-  left_front : (q : Queued X) → RisesFrom 1 q.owed → (let k = prefix_len owed_once q.owed in record (without k q) { owed = one_fewer_from 0 (drop k q.owed) } ≡ without_reader 0 q)
-  left_front q rises =
-      let k = prefix_len owed_once q.owed in
-      let gone : count_by (λ n. eqb n 0) (one_fewer_from 0 q.owed) ≡ k = gone_is_front q.owed rises in
-      same_queue (q.front + k) (q.front + count_by (λ n. eqb n 0) (one_fewer_from 0 q.owed)) _ _ _ _ q.room q.room
-      (ap (λ n. q.front + n) (sym gone))
-      (ap (λ n. drop n q.messages) (sym gone))
-      (sym (drop-map (λ n. n - 1) k q.owed) ∙ ap (λ n. drop n (one_fewer_from 0 q.owed)) (sym gone))
-      refl
-
-  left_behind : (i : ℕ) (q : Queued X) → RisesFrom 1 (one_fewer_from i q.owed) → record q { owed = one_fewer_from i q.owed } ≡ without_reader i q
-  left_behind i q rises = sym (without_none (record q { owed = one_fewer_from i q.owed }) _ (none_gone 1 (one_fewer_from i q.owed) (omega arith) rises))
-
-  -- when a reader that leaves may be taken away from the index i on, and what that makes of the queue
-  pub record IsReady (q : Queued X) (i : ℕ) (p : Queued X) : Type 0 where
-    pub within : i ≤ length p.messages
-    pub owed : i < length p.messages → get_or (1 ∷ p.owed) i 0 < get_or p.owed i 0
-    pub becomes : record p { owed = one_fewer_from i p.owed } ≡ without_reader i q
-
-  pub IsReady-front : (q p : Queued X) (i : ℕ) → IsQueue q → i ≡ 0 → p ≡ without (prefix_len owed_once q.owed) q → IsReady q i p
-  IsReady-front q p i is first gone =
-      let k = prefix_len owed_once q.owed in
-      let owed = at_least 2 (drop k q.owed) (above_front q.owed is.rises) 0 0 in
-      rw (first, gone)
-      (record {
-        within = omega arith;
-        owed = λ h. owed (omega (arith, h, length-drop k q.owed, length-drop k q.messages, is.lengths));
-        becomes = left_front q is.rises;
-      })
-
-  pub IsReady-behind : (q p : Queued X) (i : ℕ) → IsQueue q → i ≤ length q.messages → (0 < i → i < length q.messages → get_or q.owed (i - 1) 0 < get_or q.owed i 0) → i ≢ 0 → p ≡ q → IsReady q i p
-  IsReady-behind q p i is within before behind same =
-      let above = above_behind q.owed i (omega arith) (λ some h. before some (omega (arith, h, is.lengths))) in
-      rw same
-      (record {
-        within = within;
-        owed = λ h. above (omega (arith, h, is.lengths));
-        becomes = left_behind i q (RisesFrom-one_fewer_from 1 i q.owed is.rises above);
-      })
-
-  pub left_of_ready : (q p new : Queued X) (i : ℕ) → IsReady q i p → new ≡ record p { owed = one_fewer_from i p.owed } → new ≡ without_reader i q
-  left_of_ready q p new i ready lower = lower ∙ ready.becomes
-
-  pub read_last : (q : Queued X) (i : ℕ) → get_or q.owed i 0 ≡ 1 → without 1 q ≡ read_at i q
-  read_last q i once = ap (λ b. cond b (without 1 q) (record q { owed = set q.owed i (get_or q.owed i 0 - 1) })) (sym (eq-eqb _ 1 once))
-
-  pub read_clone : (q new : Queued X) (i : ℕ) → get_or q.owed i 0 ≢ 1 → new ≡ record q { owed = set q.owed i (get_or q.owed i 0 - 1) } → new ≡ read_at i q
-  read_clone q new i several lower =
+  pub read_clone : (q : Queued X) (i : ℕ) (ns : List ℕ) → get_or q.owed i 0 ≢ 1 → ns ≡ set q.owed i (get_or q.owed i 0 - 1) → queue_with q.front q.messages ns q.room ≡ read_at i q
+  read_clone q i ns several is =
       let apart : eqb (get_or q.owed i 0) 1 ≡ false = grind arith in
-      lower ∙ ap (λ b. cond b (without 1 q) (record q { owed = set q.owed i (get_or q.owed i 0 - 1) })) (sym apart)
-
-pub on_err : {A E : Type 0} (r : Result A E) (P : Type 0) → P → OnErr r P
-on_err (Ok x) P p = tt
-on_err (Err e) P p = p
-
--- what is said of a clone, if there is one and if it was refused
-pub cloned_ok : {A : Type 0} (C : A → A → Type 0) (o : Option A) (x y : A) → o ≡ Some x → C x y → IsSomeAnd o (λ m. C m y)
-cloned_ok C o x y is clone = rw is clone
-
-pub cloned_err : {A E : Type 0} (C : A → A → Type 0) (o : Option A) (x : A) (r : Result A E) → o ≡ Some x → IsErr r → IsSomeAnd o (λ m. IfOk r (C m))
-cloned_err C o x r is err = rw is (IfOk-from_err r (C x) err)
+      ap (λ ms. queue_with q.front q.messages ms q.room) is
+      ∙ ap (λ b. cond b (without 1 q) (record q { owed = set q.owed i (get_or q.owed i 0 - 1) })) (sym apart)

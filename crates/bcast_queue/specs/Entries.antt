@@ -1,29 +1,46 @@
--- Which queue the entries of a ring are, and what holds of them.
-use Rattle.std.specs.Prelude.{ℕ, ◌+◌, ◌<◌, ◌≤◌, ◌^◌, List, [], ◌∷◌, map, length}
+-- Which queue the entries of a ring are, and what holds of them. No clause cites this.
+use Rattle.std.specs.Prelude.{◌≡◌, ℕ, ◌+◌, ◌<◌, ◌≤◌, ◌^◌, List, [], ◌∷◌, map, length, sum, slice_index}
 use Rattle.circular_buffer.specs.Buffer.{Buffer}
 use Rattle.bcast_queue.specs.declared.Entry.{Entry}
 use Rattle.bcast_queue.specs.Queue.{Queued, queue_with}
 
--- each count is at least the one before it, and the first at least `low`
-abbrev pub RisesFrom : ℕ → List ℕ → Type 0
-RisesFrom low [] = Unit {0}
-RisesFrom low (n ∷ ns) = (low ≤ n) × RisesFrom n ns
+-- how many readers owe each message: those behind it, and those that read it next
+abbrev pub owed_by : ℕ → List ℕ → List ℕ
+owed_by behind [] = []
+owed_by behind (n ∷ ns) = (behind + n) ∷ owed_by (behind + n) ns
 
 module _ {X : Type 0} where
   -- the message of an entry
   abbrev pub message_of : Entry X → X
   message_of e = e.message
 
-  -- how many readers owe the message of an entry
-  abbrev pub owed_of : Entry X → ℕ
-  owed_of e = e.owed
+  -- how many owing readers read the message of an entry next
+  abbrev pub next_of : Entry X → ℕ
+  next_of e = e.next
 
-  -- the queue whose first message has this number, and whose entries are in this ring
-  abbrev pub queue_of : ℕ → Buffer (Entry X) → Queued X
-  queue_of front ring =
-      queue_with front (map message_of ring.items) (map owed_of ring.items) ring.capacity
+  -- the messages of a ring
+  abbrev pub messages : Buffer (Entry X) → List X
+  messages ring = map message_of ring.items
 
-  -- some reader owes each message, no later one is owed by fewer, and each has a number
-  pub record IsSound (front : ℕ) (es : List (Entry X)) : Type 0 where
-    pub rises : RisesFrom 1 (map owed_of es)
-    pub numbered : front + length es < 2 ^ 64
+  -- the counts of a ring
+  abbrev pub counts : Buffer (Entry X) → List ℕ
+  counts ring = map next_of ring.items
+
+  -- the queue of this front, this ring, so many owing readers behind the front, and this room
+  abbrev pub queue_of : ℕ → Buffer (Entry X) → ℕ → ℕ → Queued X
+  queue_of front ring behind room =
+      queue_with front (messages ring) (owed_by behind (counts ring)) room
+
+-- the counts of the owing readers: their sum is the total, some reader owes the first message, and
+-- none owes any where there is no message
+pub record AreCounted (behind total : ℕ) (ns : List ℕ) : Type 0 where
+  pub summed : total ≡ behind + sum ns
+  pub owed : 0 < length ns → 0 < behind + slice_index ns 0
+  pub empty : length ns ≡ 0 → total ≡ 0
+
+-- the readers are counted, each message has a number, and the ring has room for as many as is said
+pub record IsSound {X : Type 0} (front behind total room : ℕ) (ring : Buffer (Entry X)) : Type 0 where
+  pub counted : AreCounted behind total (counts ring)
+  pub numbered : front + length ring.items < 2 ^ 64
+  pub fits : length ring.items ≤ room
+  pub has_room : room ≤ ring.capacity

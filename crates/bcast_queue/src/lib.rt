@@ -7,11 +7,16 @@ ghost use Rattle.std.specs.List.Sorted.{IsNonDecreasing};
 ghost use Rattle.std.specs.Option.{ForSome, option_copied};
 ghost use Rattle.bcast_queue.specs.Queue.{last_item, queue_with, without};
 
+use crate::counts::change;
 use circular_buffer::HeapCircularBuffer;
 use std::alloc::{AllocError, Allocator, Global};
-use std::marker::Model;
+use std::marker::{Brand, Model};
+use std::sync::ledger::{Blank, Ledger};
+pub use steps::Steps;
 
+mod counts;
 mod readers;
+mod steps;
 
 /// A ring of messages, each with the number of readers that still owe it a read.
 ///
@@ -19,19 +24,28 @@ mod readers;
 /// message at index `i` has the number `front + i`. A count is at least 1, and at least that of the
 /// message before it. `room` is how many messages fit.
 ///
+/// A reader is counted once, at the message that it reads next, so that one reader more or fewer
+/// changes one count, however many messages there are.
+///
 /// Source: `Inner::queue` and `Inner::head_pos` of async-broadcast 0.7.2.
 #[derive(Drop)]
 pub struct Queue<T, A: Allocator = Global> {
     ring: HeapCircularBuffer<Entry<T>, A>,
     // The number of the first message, or of the next one if there is none.
     front: u64,
+    // How many owing readers read a message next that is gone.
+    behind: usize,
+    // How many owing readers there are.
+    total: usize,
+    // How many messages fit. The ring may have place for more.
+    room: usize,
 }
 
-// A message, and how many readers still owe it a read.
+// A message, and how many readers read it next.
 #[derive(Drop)]
 struct Entry<T> {
     message: T,
-    owed: usize,
+    next: usize,
 }
 
 impl<T, A: Allocator> Model for Queue<T, A> {
@@ -43,9 +57,9 @@ impl<T, A: Allocator> Model for Queue<T, A> {
 
     ghost use Rattle.bcast_queue.specs.Entries.{queue_of, IsSound};
 
-    ghost view = { λ q. queue_of q.front q.ring };
+    ghost view = { λ q. queue_of q.front q.ring q.behind q.room };
 
-    ghost invariant = { λ q. IsSound q.front q.ring.items };
+    ghost invariant = { λ q. IsSound q.front q.behind q.total q.room q.ring };
 }
 
 impl<T, A: Allocator> Queue<T, A> {
@@ -64,7 +78,13 @@ impl<T, A: Allocator> Queue<T, A> {
         ensures { IfOk result (λ q. q ≡ queue_with first [] [] room) }
     {
         let ring = HeapCircularBuffer::with_capacity(alloc, room)?;
-        Ok(Queue { ring, front: first })
+        Ok(Queue {
+            ring,
+            front: first,
+            behind: 0,
+            total: 0,
+            room,
+        })
     }
 
     /// What holds of every queue, for a proof that needs it. Does nothing.
@@ -111,7 +131,7 @@ impl<T, A: Allocator> Queue<T, A> {
     pub fn room(&self) -> usize
         ensures { result ≡ self.now.room }
     {
-        self.ring.capacity()
+        self.room
     }
 
     /// The message at `index`, or nothing if there are not so many. It is owed as before.
@@ -124,7 +144,10 @@ impl<T, A: Allocator> Queue<T, A> {
         }
     }
 
-    /// Makes room for `room` messages in all, and takes memory for as many. The messages stay.
+    /// Makes room for `room` messages in all. The messages stay.
+    ///
+    /// Takes memory for as many, or for twice as many as there was memory for if that is more, so
+    /// that growth in small steps moves each message seldom; for `room` if the larger is refused.
     ///
     /// # Errors
     ///
@@ -138,8 +161,9 @@ impl<T, A: Allocator> Queue<T, A> {
         ensures ok { OnOk result (self.new ≡ record self.old { room = room }) }
         ensures err { OnErr result (self.new ≡ self.old) }
     {
-        prove!(self.ring.len() <= room);
-        self.ring.resize(room)
+        make_room(&mut self.ring, room)?;
+        self.room = room;
+        Ok(())
     }
 
     /// Appends `msg`, to which `owing` readers owe a read. Takes no memory.
@@ -156,13 +180,13 @@ impl<T, A: Allocator> Queue<T, A> {
           owed = self.old.owed ++ owing ∷ [];
         } }
     {
-        match self.ring.try_push_back(Entry {
-            message: msg,
-            owed: owing,
-        }) {
+        // Whoever has read all messages reads this one next.
+        let next = owing - self.total;
+        match self.ring.try_push_back(Entry { message: msg, next }) {
             Ok(()) => {}
             Err(_) => unreachable!(),
         }
+        self.total = owing;
     }
 
     /// Takes the first message out, whoever owes it, or returns nothing if there is none.
@@ -173,8 +197,60 @@ impl<T, A: Allocator> Queue<T, A> {
         ensures some { OnSome result (self.new ≡ without 1 self.old) }
         ensures none { IfNone result (self.new ≡ self.old) }
     {
-        let entry = self.ring.pop_front()?;
+        self.pop_uncounted::<Brand>(Blank::new(1))
+    }
+
+    // As `pop`, with steps that nobody counts.
+    fn pop_uncounted<L: Ledger>(&mut self, blank: Blank) -> Option<T>
+        requires name { blank.name ≡ L.name }
+        requires parts { blank.parts ≡ L.parts }
+        requires some_parts { 0 < blank.parts }
+        ensures value { result ≡ slice_get self.old.messages 0 }
+        ensures some { OnSome result (self.new ≡ without 1 self.old) }
+        ensures none { IfNone result (self.new ≡ self.old) }
+    {
+        self.pop_in_steps(&mut Steps::<L>::new(blank))
+    }
+
+    // As `pop`, in one step.
+    fn pop_in_steps<L: Ledger>(&mut self, steps: &mut Steps<L>) -> Option<T>
+        ensures value { result ≡ slice_get self.old.messages 0 }
+        ensures some { OnSome result (self.new ≡ without 1 self.old) }
+        ensures none { IfNone result (self.new ≡ self.old) }
+        ensures steps { steps.new ≤ steps.old + 1 }
+    {
+        if self.ring.is_empty() {
+            return None;
+        }
+        let next = change(&mut self.ring, 0, 0, 0, steps);
+        let Some(entry) = self.ring.pop_front() else {
+            unreachable!()
+        };
         self.front += 1;
+        self.behind += next;
+        if self.ring.is_empty() {
+            self.behind = 0;
+            self.total = 0;
+        }
         Some(entry.message)
     }
+}
+
+// Makes room for `room` items in all, and keeps them.
+fn make_room<T, A: Allocator + Clone>(
+    ring: &mut HeapCircularBuffer<T, A>,
+    room: usize,
+) -> Result<(), AllocError>
+    ensures ok { OnOk result (room ≤ ring.new.capacity) }
+    ensures items { ring.new.items ≡ ring.old.items }
+    ensures err { OnErr result (ring.new ≡ ring.old) }
+{
+    if room <= ring.capacity() {
+        return Ok(());
+    }
+    let doubled = ring.capacity() * 2;
+    if room < doubled && ring.resize(doubled).is_ok() {
+        return Ok(());
+    }
+    ring.resize(room)
 }

@@ -15,6 +15,7 @@ use std::marker::Model;
 // Public only so that tests above can call it.
 pub mod cursors;
 mod readers;
+mod uncounted;
 
 /// The messages that a channel keeps, and the cursors of its receivers.
 ///

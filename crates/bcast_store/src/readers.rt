@@ -4,8 +4,10 @@ ghost use Rattle.std.specs.Prelude.{IfOk, IsOk, OnOk, OnErr, IsSomeAnd, max};
 ghost use Rattle.std.specs.FinMap as map;
 ghost use Rattle.bcast_store.specs.Stored.{IsHandedOut, IsOwed, end_of, with_cursors};
 
-use crate::Store;
+use crate::{Store, uncounted};
 use std::alloc::{AllocError, Allocator};
+use std::marker::Brand;
+use std::sync::ledger::Blank;
 
 impl<T: Drop, A: Allocator + Copy> Store<T, A> {
     /// Lets the receiver `key`, which lags, go on at the front. Takes no memory.
@@ -38,7 +40,7 @@ impl<T: Drop, A: Allocator + Copy> Store<T, A> {
         self.queue.invariant_holds();
         let key = self.cursors.add(cursor)?;
         let index = cursor.saturating_sub(self.queue.front()) as usize;
-        self.queue.share(index);
+        uncounted::share::<T, A, Brand>(&mut self.queue, index, Blank::new(1));
         Ok(key)
     }
 
@@ -57,7 +59,7 @@ impl<T: Drop, A: Allocator + Copy> Store<T, A> {
             return false;
         };
         let index = cursor.saturating_sub(self.queue.front()) as usize;
-        self.queue.leave(index);
+        uncounted::leave::<T, A, Brand>(&mut self.queue, index, Blank::new(1));
         self.queue.invariant_holds();
         true
     }
@@ -91,7 +93,7 @@ impl<T: Clone, A: Allocator + Copy> Store<T, A> {
     {
         self.queue.invariant_holds();
         let index = (number - self.queue.front()) as usize;
-        let msg = self.queue.read(index)?;
+        let msg = uncounted::read::<T, A, Brand>(&mut self.queue, index, Blank::new(1))?;
         self.cursors.set(key, number + 1);
         self.queue.invariant_holds();
         Ok(msg)

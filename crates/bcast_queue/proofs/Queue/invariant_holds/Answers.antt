@@ -1,9 +1,18 @@
 -- The invariant in the words of std.
+use Rattle.std.proofs.Common.{◌∙◌, sym}
+use Rattle.std.proofs.lemmas.List.{length-map}
+use Rattle.bcast_queue.specs.Entries.{counts, next_of, message_of}
 use Rattle.bcast_queue.proofs.Owed.{at_least, IsNonDecreasing-from_rises}
+use Rattle.bcast_queue.proofs.OwedBy.{RisesFrom-owed_by, length-owed_by}
 use Rattle.bcast_queue.proofs.Queue.invariant_holds.Goals as goal
 
+pub returns-clause-lengths : goal.returns-clause-lengths
+returns-clause-lengths g c =
+    let ring = c.self.inside.ring in
+    rw (← c.self.view_is) (length-owed_by c.self.inside.behind (counts ring) ∙ length-map ring.items next_of ∙ sym (length-map ring.items message_of))
+
 pub returns-clause-owed : goal.returns-clause-owed
-returns-clause-owed g c = rw (← c.self.view_is) (λ k d h. at_least 1 _ c.self.invariant.rises k d h)
+returns-clause-owed g c = rw (← c.self.view_is) (λ k d h. at_least 1 _ (RisesFrom-owed_by c.self.inside.behind (counts c.self.inside.ring) c.self.invariant.counted.owed) k d h)
 
 pub returns-clause-never_falls : goal.returns-clause-never_falls
-returns-clause-never_falls g c = rw (← c.self.view_is) (IsNonDecreasing-from_rises 1 _ c.self.invariant.rises)
+returns-clause-never_falls g c = rw (← c.self.view_is) (IsNonDecreasing-from_rises 1 _ (RisesFrom-owed_by c.self.inside.behind (counts c.self.inside.ring) c.self.invariant.counted.owed))

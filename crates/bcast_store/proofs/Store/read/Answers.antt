@@ -42,6 +42,6 @@ returns-clause-ok g c =
     let m = c.invariant_holds-2.ensures in
     let set = c.set.ensures.there (ap is_some r.at) in
     let after = subst IsCounted c.in_ok-msg.ensures.ok (record { lengths = m.lengths; owed = m.owed }) in
-    same_store c.read.new.self (read_at (c.args.number - c.front.result) c.self.inside.queue) c.set.new.self (insert c.self.inside.cursors c.args.key (c.args.number + 1)) c.in_ok-msg.ensures.ok set
+    same_store c.read.new.queue (read_at (c.args.number - c.front.result) c.self.inside.queue) c.set.new.self (insert c.self.inside.cursors c.args.key (c.args.number + 1)) c.in_ok-msg.ensures.ok set
     ∙ store_read c.self.inside.queue c.self.inside.cursors c.args.key c.args.number (c.args.number - c.front.result) c.self.invariant r (record { lengths = n.lengths; owed = n.owed }) after
     ∙ ap (λ (s : Stored g.row.T.Denot). with_cursors s (insert s.cursors c.args.key (c.args.number + 1))) c.self.view_is

@@ -1,0 +1,172 @@
+-- How many readers owe each message, when the count of one message changes.
+use Rattle.std.proofs.Common.{◌≡◌, ℕ, zero, suc, ◌+◌, ◌-◌, ◌<◌, ◌≤◌, List, [], ◌∷◌, ◌++◌, length, map, drop, get_or, set, Some, sum, refl, ap, subst, ◌∙◌, arith, cond, count_by, Bool, true, false}
+use Rattle.std.specs.List.{prefix_len}
+use Rattle.std.specs.Prelude.{slice_get}
+use Rattle.std.specs.Option.{ForSome}
+use Rattle.std.proofs.lemmas.List.Sums.{sum_by-cons}
+use Rattle.circular_buffer.specs.Buffer.{last_item}
+use Rattle.bcast_queue.specs.Queue.{one_more_from, one_fewer_from}
+use Rattle.bcast_queue.specs.Entries.{owed_by, AreCounted}
+use Rattle.bcast_queue.proofs.Owed.{RisesFrom}
+use Rattle.bcast_queue.proofs.Front.{nobody, none_gone, count_head}
+
+pub length-owed_by : (b : ℕ) (ns : List ℕ) → length (owed_by b ns) ≡ length ns
+length-owed_by b [] = refl
+length-owed_by b (n ∷ ns) = ap suc (length-owed_by (b + n) ns)
+
+rises_by : (b : ℕ) (ns : List ℕ) → RisesFrom b (owed_by b ns)
+rises_by b [] = tt
+rises_by b (n ∷ ns) = (omega arith, rises_by (b + n) ns)
+
+-- if some reader owes the first message, each message is owed, and no later one by fewer
+pub RisesFrom-owed_by : (b : ℕ) (ns : List ℕ) → (0 < length ns → 0 < b + get_or ns 0 0) → RisesFrom 1 (owed_by b ns)
+RisesFrom-owed_by b [] some = tt
+RisesFrom-owed_by b (n ∷ ns) some = (omega (arith, some (omega arith)), rises_by (b + n) ns)
+
+one_more : (b c : ℕ) (ns : List ℕ) → c ≡ b + 1 → owed_by c ns ≡ map (λ n. n + 1) (owed_by b ns)
+one_more b c [] e = refl
+one_more b c (n ∷ ns) e =
+    let head : c + n ≡ b + n + 1 = omega arith in
+    let rest = one_more (b + n) (c + n) ns head in
+    cc
+
+-- one reader fewer behind the front
+pub one_fewer : (b c : ℕ) (ns : List ℕ) → c + 1 ≡ b → owed_by c ns ≡ map (λ n. n - 1) (owed_by b ns)
+one_fewer b c [] e = refl
+one_fewer b c (n ∷ ns) e =
+    let more : c + n + 1 ≡ b + n = omega arith in
+    let head : c + n ≡ b + n - 1 = omega arith in
+    let rest = one_fewer (b + n) (c + n) ns more in
+    cc
+
+-- one reader more or fewer at an index is one more or fewer from there on
+pub owed_by-more : (b i m : ℕ) (ns : List ℕ) → i < length ns → m ≡ get_or ns i 0 + 1 → owed_by b (set ns i m) ≡ one_more_from i (owed_by b ns)
+owed_by-more b i m [] h e = absurd (omega arith)
+owed_by-more b zero m (n ∷ ns) h e =
+    let head : b + m ≡ b + n + 1 = omega arith in
+    let rest = one_more (b + n) (b + m) ns head in
+    cc
+owed_by-more b (suc i) m (n ∷ ns) h e = ap (λ xs. (b + n) ∷ xs) (owed_by-more (b + n) i m ns (omega arith) e)
+
+pub owed_by-fewer : (b i m : ℕ) (ns : List ℕ) → i < length ns → m + 1 ≡ get_or ns i 0 → owed_by b (set ns i m) ≡ one_fewer_from i (owed_by b ns)
+owed_by-fewer b i m [] h e = absurd (omega arith)
+owed_by-fewer b zero m (n ∷ ns) h e =
+    let more : b + m + 1 ≡ b + n = omega arith in
+    let head : b + m ≡ b + n - 1 = omega arith in
+    let rest = one_fewer (b + n) (b + m) ns more in
+    cc
+owed_by-fewer b (suc i) m (n ∷ ns) h e = ap (λ xs. (b + n) ∷ xs) (owed_by-fewer (b + n) i m ns (omega arith) e)
+
+pub owed_by-push : (b n : ℕ) (ns : List ℕ) → owed_by b (ns ++ n ∷ []) ≡ owed_by b ns ++ (b + sum ns + n) ∷ []
+owed_by-push b n [] = let e : b + n ≡ b + 0 + n = omega arith in ap (λ x. x ∷ []) e
+owed_by-push b n (m ∷ ns) =
+    let e : b + m + sum ns + n ≡ b + sum (m ∷ ns) + n = omega (arith, sum_by-cons (λ x. x) m ns) in
+    ap (λ xs. (b + m) ∷ xs) (owed_by-push (b + m) n ns ∙ ap (λ x. owed_by (b + m) ns ++ x ∷ []) e)
+
+-- no index is changed from the length on
+pub one_more_from-end : (i : ℕ) (ns : List ℕ) → length ns ≤ i → one_more_from i ns ≡ ns
+one_more_from-end zero [] h = refl
+one_more_from-end zero (n ∷ ns) h = absurd (omega arith)
+one_more_from-end (suc i) [] h = refl
+one_more_from-end (suc i) (n ∷ ns) h = ap (λ xs. n ∷ xs) (one_more_from-end i ns (omega arith))
+
+last_at : (b n : ℕ) (ns : List ℕ) → slice_get (owed_by b (n ∷ ns)) (length (owed_by (b + n) ns)) ≡ Some (b + sum (n ∷ ns))
+last_at b n [] = let e : b + n ≡ b + sum (n ∷ []) = omega (arith, sum_by-cons (λ x. x) n []) in ap Some e
+last_at b n (m ∷ ns) =
+    let e : b + n + sum (m ∷ ns) ≡ b + sum (n ∷ m ∷ ns) = omega (arith, sum_by-cons (λ x. x) n (m ∷ ns)) in
+    last_at (b + n) m ns ∙ ap Some e
+
+-- all owing readers owe the last message
+last-owed_by : (b n : ℕ) (ns : List ℕ) → last_item (owed_by b (n ∷ ns)) ≡ Some (b + sum (n ∷ ns))
+last-owed_by b n ns =
+    let at : suc (length (owed_by (b + n) ns)) - 1 ≡ length (owed_by (b + n) ns) = omega arith in
+    ap (slice_get (owed_by b (n ∷ ns))) at ∙ last_at b n ns
+
+pub total_le : (b t top : ℕ) (ns : List ℕ) → AreCounted b t ns → ForSome (last_item (owed_by b ns)) (λ n. n ≤ top) → t ≤ top
+total_le b t top [] counted last = omega (arith, counted.empty refl)
+total_le b t top (n ∷ ns) counted last = omega (arith, counted.summed, last (b + sum (n ∷ ns)) (last-owed_by b n ns))
+
+pub total_lt : (b t top : ℕ) (ns : List ℕ) → AreCounted b t ns → 0 < length ns → ForSome (last_item (owed_by b ns)) (λ n. n < top) → t < top
+total_lt b t top [] counted some last = absurd (omega arith)
+total_lt b t top (n ∷ ns) counted some last = omega (arith, counted.summed, last (b + sum (n ∷ ns)) (last-owed_by b n ns))
+
+-- the first message of a queue that is appended to is owed
+pub first_owed : (b t n : ℕ) (ns : List ℕ) → AreCounted b t ns → 0 < t + n → 0 < b + get_or (ns ++ n ∷ []) 0 0
+first_owed b t n [] counted some = omega (arith, counted.summed, some)
+first_owed b t n (m ∷ ns) counted some = counted.owed (omega arith)
+
+-- a message is owed by more than the one before it where somebody reads it next
+pub next_owed : (b i : ℕ) (ns : List ℕ) → suc i < length ns → get_or (owed_by b ns) (suc i) 0 ≡ get_or (owed_by b ns) i 0 + get_or ns (suc i) 0
+next_owed b i [] h = absurd (omega arith)
+next_owed b i (n ∷ []) h = absurd (omega arith)
+next_owed b zero (n ∷ m ∷ ns) h = refl
+next_owed b (suc i) (n ∷ m ∷ ns) h = next_owed (b + n) i (m ∷ ns) (omega arith)
+
+pub somebody_next : (b i : ℕ) (ns : List ℕ) → i < length ns → 0 < i → get_or (owed_by b ns) (i - 1) 0 < get_or (owed_by b ns) i 0 → 0 < get_or ns i 0
+somebody_next b zero ns within h above = absurd (omega arith)
+somebody_next b (suc i) ns within h above =
+    let at : suc i - 1 ≡ i = omega arith in
+    omega (arith, next_owed b i ns within, rw at at above)
+
+pub get_or-owed_by : (b : ℕ) (ns : List ℕ) → 0 < length ns → get_or (owed_by b ns) 0 0 ≡ b + get_or ns 0 0
+get_or-owed_by b [] h = absurd (omega arith)
+get_or-owed_by b (n ∷ ns) h = refl
+
+-- a reader that leaves behind the front leaves the first message as owed as it was
+pub first_kept : (i : ℕ) (ns : List ℕ) → 0 < i → get_or (one_fewer_from i ns) 0 0 ≡ get_or ns 0 0
+first_kept zero ns h = absurd (omega arith)
+first_kept (suc i) [] h = refl
+first_kept (suc i) (n ∷ ns) h = refl
+
+-- the first k messages are those that nobody owes, where nobody is behind the front
+pub record AreUnowed (ns : List ℕ) (k : ℕ) : Type 0 where
+  pub gone : count_by nobody (owed_by 0 ns) ≡ k
+  pub owed : drop k (owed_by 0 ns) ≡ owed_by 0 (drop k ns)
+  pub summed : sum (drop k ns) ≡ sum ns
+  pub first : 0 < length (drop k ns) → 0 < get_or (drop k ns) 0 0
+
+drop_head : (k a b : ℕ) (ns : List ℕ) → a ≡ b → drop (suc k) (a ∷ owed_by a ns) ≡ drop k (owed_by b ns)
+drop_head k a b ns same = ap (λ m. drop k (owed_by m ns)) same
+
+AreUnowed-if : (n k : ℕ) (ns : List ℕ) → AreUnowed ns k → (b : Bool) → nobody n ≡ b → AreUnowed (n ∷ ns) (cond b (1 + k) 0)
+AreUnowed-if n k ns rest true is =
+    let none : n ≡ 0 = grind (arith, is) in
+    let zeroed : 0 + n ≡ 0 = omega (arith, none) in
+    let next : suc k ≡ 1 + k = omega arith in
+    subst (AreUnowed (n ∷ ns)) next (record {
+      gone = omega (arith, count_head (0 + n) (owed_by (0 + n) ns) true (rw none refl), ap (λ m. count_by nobody (owed_by m ns)) zeroed, rest.gone);
+      owed = drop_head k (0 + n) 0 ns zeroed ∙ rest.owed;
+      summed = omega (arith, none, rest.summed, sum_by-cons (λ x. x) n ns);
+      first = rest.first;
+    })
+AreUnowed-if n k ns rest false is =
+    let some : 0 < n = grind (arith, is) in
+    record {
+      gone = none_gone 1 (owed_by 0 (n ∷ ns)) (omega arith) (RisesFrom-owed_by 0 (n ∷ ns) (λ _. omega (arith, some)));
+      owed = refl;
+      summed = refl;
+      first = λ _. some;
+    }
+
+-- it is those that nobody reads next
+pub AreUnowed-front : (ns : List ℕ) → AreUnowed ns (prefix_len nobody ns)
+AreUnowed-front [] = record { gone = refl; owed = refl; summed = refl; first = λ h. absurd (omega arith) }
+AreUnowed-front (n ∷ ns) = AreUnowed-if n (prefix_len nobody ns) ns (AreUnowed-front ns) (nobody n) refl
+
+all_back : (low : ℕ) (ns : List ℕ) → 0 < low → RisesFrom low ns → map (λ n. n + 1) (map (λ n. n - 1) ns) ≡ ns
+all_back low [] h r = refl
+all_back low (n ∷ ns) h r =
+    let head : n - 1 + 1 ≡ n = omega (arith, r.0, h) in
+    let rest = all_back n ns (omega (arith, r.0, h)) r.1 in
+    cc
+
+-- a reader that goes on from an index to the next owes the message there no more
+pub one_moves : (low i : ℕ) (ns : List ℕ) → 0 < low → RisesFrom low ns → one_more_from (suc i) (one_fewer_from i ns) ≡ set ns i (get_or ns i 0 - 1)
+one_moves low zero [] h r = refl
+one_moves low (suc i) [] h r = refl
+one_moves low zero (n ∷ ns) h r = ap (λ xs. (n - 1) ∷ xs) (all_back n ns (omega (arith, r.0, h)) r.1)
+one_moves low (suc i) (n ∷ ns) h r = ap (λ xs. n ∷ xs) (one_moves n i ns (omega (arith, r.0, h)) r.1)
+
+pub sum-none : (ns : List ℕ) → length ns ≡ 0 → sum ns ≡ 0
+sum-none [] h = refl
+sum-none (n ∷ ns) h = absurd (omega (arith, h))

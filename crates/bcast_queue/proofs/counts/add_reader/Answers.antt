@@ -1,0 +1,17 @@
+-- One count more is one reader more from there on.
+use Rattle.std.proofs.Common.{ap, sym, ◌∙◌, arith}
+use Rattle.std.proofs.lemmas.List.{length-map}
+use Rattle.bcast_queue.specs.Entries.{counts, next_of, owed_by}
+use Rattle.bcast_queue.proofs.OwedBy.{length-owed_by, owed_by-more, one_more_from-end}
+use Rattle.bcast_queue.proofs.counts.add_reader.Goals as goal
+
+pub returns-then-index-len-clause-owed : goal.returns-then-index-len-clause-owed
+returns-then-index-len-clause-owed g c =
+    let ring = c.args.ring.now in
+    ap (owed_by c.args.behind) c.change.ensures.counts
+    ∙ owed_by-more c.args.behind c.args.index c.change.result (counts ring) (omega (arith, length-map ring.items next_of)) (omega (arith, c.change.ensures.value))
+
+pub returns-else-index-len-clause-owed : goal.returns-else-index-len-clause-owed
+returns-else-index-len-clause-owed g c =
+    let ring = c.args.ring.now in
+    sym (one_more_from-end c.args.index (owed_by c.args.behind (counts ring)) (omega (arith, length-owed_by c.args.behind (counts ring), length-map ring.items next_of)))

@@ -1,0 +1,126 @@
+//! How many owing readers read each message next.
+ghost use Rattle.std.specs.Prelude.{◌≡◌, ◌+◌, ◌-◌, ◌<◌, ◌≤◌, ◌^◌, ◌==◌, drop, sum, length};
+ghost use Rattle.std.specs.Prelude.{slice_index, slice_set};
+ghost use Rattle.std.specs.List.{prefix_len};
+ghost use Rattle.bcast_queue.specs.Queue.{one_more_from, one_fewer_from};
+ghost use Rattle.bcast_queue.specs.Entries.{counts, messages, owed_by};
+
+use crate::{Entry, Steps};
+use circular_buffer::HeapCircularBuffer;
+use std::alloc::Allocator;
+use std::sync::ledger::Ledger;
+
+// Changes the count of the message at `index`, and returns what it is then. This is one step, and
+// the only way to a count of a message that is in the ring.
+#[inline(always)]
+pub(crate) fn change<T, A: Allocator, L: Ledger>(
+    ring: &mut HeapCircularBuffer<Entry<T>, A>,
+    index: usize,
+    more: usize,
+    fewer: usize,
+    steps: &mut Steps<L>,
+) -> usize
+    requires within { index < length ring.old.items }
+    requires enough { fewer ≤ slice_index (counts ring.old) index }
+    requires fits { slice_index (counts ring.old) index + more < 2 ^ 64 }
+    ensures value { result ≡ slice_index (counts ring.old) index + more - fewer }
+    ensures counts { counts ring.new ≡ slice_set (counts ring.old) index result }
+    ensures messages { messages ring.new ≡ messages ring.old }
+    ensures capacity { ring.new.capacity ≡ ring.old.capacity }
+    ensures steps { steps.new ≡ steps.old + 1 }
+{
+    let Some(entry) = ring.get_mut(index) else {
+        unreachable!()
+    };
+    entry.next = entry.next + more - fewer;
+    steps.count();
+    entry.next
+}
+
+// Adds a reader of the message at `index` and of those behind it, if there are any.
+#[inline(always)]
+pub(crate) fn add_reader<T, A: Allocator, L: Ledger>(
+    ring: &mut HeapCircularBuffer<Entry<T>, A>,
+    behind: usize,
+    total: &mut usize,
+    index: usize,
+    steps: &mut Steps<L>,
+)
+    requires summed { total.old ≡ behind + sum (counts ring.old) }
+    requires fits { index < length ring.old.items → total.old + 1 < 2 ^ 64 }
+    ensures owed { owed_by behind (counts ring.new)
+        ≡ one_more_from index (owed_by behind (counts ring.old)) }
+    ensures summed { total.new ≡ behind + sum (counts ring.new) }
+    ensures messages { messages ring.new ≡ messages ring.old }
+    ensures capacity { ring.new.capacity ≡ ring.old.capacity }
+    ensures steps { steps.new ≤ steps.old + 1 }
+{
+    if index < ring.len() {
+        change(ring, index, 1, 0, steps);
+        *total += 1;
+    }
+}
+
+// Takes a reader away from the message at `index` and from those behind it, and returns how many
+// read that message next. From the first message it takes one that is behind it, if there is one.
+#[inline(always)]
+pub(crate) fn take_reader<T, A: Allocator, L: Ledger>(
+    ring: &mut HeapCircularBuffer<Entry<T>, A>,
+    behind: &mut usize,
+    total: &mut usize,
+    index: usize,
+    steps: &mut Steps<L>,
+) -> usize
+    requires within { index < length ring.old.items }
+    requires summed { total.old ≡ behind.old + sum (counts ring.old) }
+    requires next { 0 < index → 0 < slice_index (counts ring.old) index }
+    requires first { 0 < behind.old + slice_index (counts ring.old) 0 }
+    ensures value { result ≡ slice_index (counts ring.new) index }
+    ensures owed { owed_by behind.new (counts ring.new)
+        ≡ one_fewer_from index (owed_by behind.old (counts ring.old)) }
+    ensures summed { total.new ≡ behind.new + sum (counts ring.new) }
+    ensures total { total.new + 1 ≡ total.old }
+    ensures messages { messages ring.new ≡ messages ring.old }
+    ensures capacity { ring.new.capacity ≡ ring.old.capacity }
+    ensures steps { steps.new ≡ steps.old + 1 }
+{
+    *total -= 1;
+    if index == 0 && *behind > 0 {
+        *behind -= 1;
+        change(ring, 0, 0, 0, steps)
+    } else {
+        change(ring, index, 0, 1, steps)
+    }
+}
+
+// Drops the messages at the front that nobody reads next, if nobody is behind them. `next` is how
+// many read the first message next.
+pub(crate) fn drop_unowed<T: Drop, A: Allocator, L: Ledger>(
+    ring: &mut HeapCircularBuffer<Entry<T>, A>,
+    front: &mut u64,
+    next: usize,
+    steps: &mut Steps<L>,
+)
+    requires some { 0 < length ring.old.items }
+    requires next { next ≡ slice_index (counts ring.old) 0 }
+    requires numbered { front.old + length ring.old.items < 2 ^ 64 }
+    requires fits { sum (counts ring.old) < 2 ^ 64 }
+    ensures messages { messages ring.new
+        ≡ drop (prefix_len (λ n. n == 0) (counts ring.old)) (messages ring.old) }
+    ensures counts { counts ring.new
+        ≡ drop (prefix_len (λ n. n == 0) (counts ring.old)) (counts ring.old) }
+    ensures front { front.new ≡ front.old + prefix_len (λ n. n == 0) (counts ring.old) }
+    ensures numbered { front.new + length ring.new.items < 2 ^ 64 }
+    ensures capacity { ring.new.capacity ≡ ring.old.capacity }
+    ensures steps { steps.new + length ring.new.items ≤ steps.old + length ring.old.items }
+{
+    let mut next = next;
+    while next == 0 {
+        ring.pop_front();
+        *front += 1;
+        if ring.is_empty() {
+            return;
+        }
+        next = change(ring, 0, 0, 0, steps);
+    }
+}
