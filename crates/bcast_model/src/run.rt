@@ -4,7 +4,7 @@ use futures::task::Poll;
 use std::alloc::AllocError;
 
 /// What a send that may wait was answered.
-#[derive(Clone, Copy, PartialEq, Drop)]
+#[derive(Clone, Copy, PartialEq, Debug, Drop)]
 pub enum SendPoll<T> {
     /// The message was accepted, and the oldest one is handed back if overflow dropped it;
     /// or the message comes back, since nobody can receive it.
@@ -17,7 +17,7 @@ pub enum SendPoll<T> {
 ///
 /// A `usize` is a receiver's key, in `PollSend` and `EndSend` a send's place, and in `SetCapacity`
 /// the new capacity.
-#[derive(Clone, Copy, PartialEq, Drop)]
+#[derive(Clone, Copy, PartialEq, Debug, Drop)]
 pub enum Call<T> {
     TryBroadcast(T),
     AttemptSend(T),

@@ -9,18 +9,15 @@ use std::alloc::{AllocError, Global};
 use std::cell::Cell;
 use std::rc::Rc;
 
-mod call;
 mod replies;
 
-pub use call::CallName;
-
 /// What ports were asked since the last look: nothing, one call, or so many, the last of which is
-/// named.
-#[derive(Clone, Copy, PartialEq, Eq, Debug)]
+/// kept.
+#[derive(Clone, Copy, Debug)]
 pub enum Record {
     Nothing,
-    Once(CallName),
-    Times(u64, CallName),
+    Once(Call<u64>),
+    Times(u64, Call<u64>),
 }
 
 #[derive(Drop)]
@@ -80,7 +77,7 @@ impl Recorder {
 }
 
 impl State {
-    fn record(&self, call: CallName) {
+    fn record(&self, call: Call<u64>) {
         self.record.set(match self.record.get() {
             Record::Nothing => Record::Once(call),
             Record::Once(_) => Record::Times(2, call),
@@ -100,7 +97,7 @@ impl<S: Drop> Ask<u64, S> for RecordingPort {
         requires { HasPositiveCapacity call }
         ensures { IsOfKind call result }
     {
-        self.state.record(CallName::of(&call));
+        self.state.record(call);
         reply_to(self.state.outcome.get(), call)
     }
 }
@@ -111,7 +108,7 @@ impl<S: Drop> Port<u64, S> for RecordingPort {
         ensures reply { IsOfKind call result }
         ensures answered { is_answer result ≡ true }
     {
-        self.state.record(CallName::of(&call));
+        self.state.record(call);
         waited_reply_to(self.state.outcome.get(), call)
     }
 
