@@ -21,6 +21,8 @@ struct Script<R> {
     lines: Lines<R>,
     // Of the last line that was read.
     number: u64,
+    // Whether a read failed.
+    has_failed: bool,
 }
 
 impl<R: Read + Drop> Script<R> {
@@ -33,7 +35,11 @@ impl<R: Read + Drop> Script<R> {
                 Ok(text) => Ok(Some(text)),
                 Err(_) => Err(Fault::NotACall),
             },
-            Ok(Found::TooLong) | Err(_) => Err(Fault::NotACall),
+            Ok(Found::TooLong) => Err(Fault::NotACall),
+            Err(_) => {
+                self.has_failed = true;
+                Err(Fault::NotACall)
+            }
         }
     }
 }
@@ -186,13 +192,18 @@ pub fn play<S: Wait + RandomSource + AllocGlobal, R: Read + Drop, W: Write + Dro
     let Ok(mut output) = BufWriter::new(alloc, output) else {
         return Ending::NoMemory;
     };
-    let mut script = Script { lines, number: 0 };
+    let mut script = Script {
+        lines,
+        number: 0,
+        has_failed: false,
+    };
     let ended = play_script(rt, alloc, &mut script, &mut output);
     match (output.flush(), ended) {
         (Err(_), _) => Ending::OutputFailed,
         (_, Ok(())) => Ending::Done,
         (_, Err(Fault::NoMemory)) => Ending::NoMemory,
         (_, Err(Fault::OutputFailed)) => Ending::OutputFailed,
+        (_, Err(Fault::NotACall)) if script.has_failed => Ending::InputFailed,
         (_, Err(Fault::NotACall)) => Ending::NotACall(script.number),
     }
 }
