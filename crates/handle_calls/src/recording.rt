@@ -64,6 +64,9 @@ impl Recorder {
             "grants" => self.state.outcome.set(Outcome::Grant),
             "refuses" => self.state.outcome.set(Outcome::Refuse),
             "waits" => self.state.outcome.set(Outcome::Wait),
+            "overflows" => self.state.outcome.set(Outcome::Overflow),
+            "closes" => self.state.outcome.set(Outcome::Close),
+            "is_inactive" => self.state.outcome.set(Outcome::Inactive),
             "has_no_other" => self.state.has_others.set(false),
             _ => return false,
         }

@@ -2,16 +2,27 @@
 ghost use Rattle.std.specs.Prelude.{◌≡◌, true};
 ghost use Rattle.async_broadcast.specs.Kinds.{HandsBack, IsOfKind, may_wait, is_answer};
 
-use async_broadcast::{Call, HandleError, Reply, SendError, SendPoll, TryRecvError, TrySendError};
+use async_broadcast::{
+    Call, HandleError, RecvError, Reply, SendError, SendPoll, TryRecvError, TrySendError,
+};
 use futures::task::Poll;
 use std::alloc::AllocError;
 
-/// How a port replies: with what was asked for, with a refusal, or that the poll must wait.
-#[derive(Clone, Copy)]
+/// How a port replies.
+#[derive(Clone, Copy, PartialEq)]
 pub enum Outcome {
+    /// What was asked for; a question by yes.
     Grant,
+    /// Full, no memory, too many handles; a question by no.
     Refuse,
+    /// The poll must wait.
     Wait,
+    /// A send drops a message, a receive missed some; no memory for a handle.
+    Overflow,
+    /// Closed; the handle is gone.
+    Close,
+    /// A send finds no active receiver; no memory.
+    Inactive,
 }
 
 /// The key or the place that a port gives.
@@ -20,9 +31,16 @@ const GIVEN: usize = 9;
 /// The message that a receive is given.
 const MESSAGE: u64 = 7;
 
+/// The message that was dropped for a send.
+const OLDEST: u64 = 6;
+
+/// How many messages a receive missed.
+const MISSED: u64 = 2;
+
 pub(super) fn reply_to(outcome: Outcome, call: Call<u64>) -> Reply<u64>
     ensures { IsOfKind call result }
 {
+    let yes = outcome != Outcome::Refuse;
     match call {
         Call::TryBroadcast(msg) => Reply::TryBroadcast(tried(outcome, msg)),
         Call::AttemptSend(msg) => Reply::AttemptSend(polled(outcome, msg)),
@@ -30,11 +48,11 @@ pub(super) fn reply_to(outcome: Outcome, call: Call<u64>) -> Reply<u64>
         Call::PollSend(_, msg) => Reply::PollSend(polled(outcome, msg)),
         Call::EndSend(_) => Reply::EndSend,
         Call::TryRecv(_) => Reply::TryRecv(received(outcome)),
-        Call::PollFuture(_) => Reply::PollFuture(awaited(outcome, Ok(MESSAGE))),
+        Call::PollFuture(_) => Reply::PollFuture(awaited(outcome, message(outcome))),
         Call::EndFuture(_) => Reply::EndFuture,
-        Call::PollRecv(_) => Reply::PollRecv(awaited(outcome, Some(Ok(MESSAGE)))),
-        Call::PollNext(_) => Reply::PollNext(awaited(outcome, Some((MESSAGE, 0)))),
-        Call::Close => Reply::Close(true),
+        Call::PollRecv(_) => Reply::PollRecv(awaited(outcome, item(outcome))),
+        Call::PollNext(_) => Reply::PollNext(awaited(outcome, next(outcome))),
+        Call::Close => Reply::Close(yes),
         Call::SetCapacity(_) => Reply::SetCapacity(grown(outcome)),
         Call::SetOverflow(_) => Reply::SetOverflow,
         Call::SetAwaitActive(_) => Reply::SetAwaitActive,
@@ -48,12 +66,12 @@ pub(super) fn reply_to(outcome: Outcome, call: Call<u64>) -> Reply<u64>
         Call::DropSender => Reply::DropSender,
         Call::DropInactive => Reply::DropInactive,
         Call::DropReceiver(_) => Reply::DropReceiver,
-        Call::Overflow => Reply::Overflow(true),
-        Call::AwaitActive => Reply::AwaitActive(true),
-        Call::IsEmpty => Reply::IsEmpty(true),
-        Call::IsFull => Reply::IsFull(true),
-        Call::IsClosed => Reply::IsClosed(true),
-        Call::IsTerminated => Reply::IsTerminated(true),
+        Call::Overflow => Reply::Overflow(yes),
+        Call::AwaitActive => Reply::AwaitActive(yes),
+        Call::IsEmpty => Reply::IsEmpty(yes),
+        Call::IsFull => Reply::IsFull(yes),
+        Call::IsClosed => Reply::IsClosed(yes),
+        Call::IsTerminated => Reply::IsTerminated(yes),
         Call::Capacity => Reply::Capacity(1),
         Call::Len => Reply::Len(1),
         Call::ReceiverCount => Reply::ReceiverCount(1),
@@ -70,7 +88,7 @@ pub(super) fn waited_reply_to(outcome: Outcome, call: Call<u64>) -> Reply<u64>
 {
     match call {
         Call::AttemptSend(msg) => Reply::AttemptSend(SendPoll::Ready(answered(outcome, msg))),
-        Call::TryRecv(_) => Reply::TryRecv(Ok(Ok(MESSAGE))),
+        Call::TryRecv(_) => Reply::TryRecv(waited(outcome)),
         _ => unreachable!(),
     }
 }
@@ -78,14 +96,18 @@ pub(super) fn waited_reply_to(outcome: Outcome, call: Call<u64>) -> Reply<u64>
 fn tried(outcome: Outcome, msg: u64) -> Result<Option<u64>, TrySendError<u64>> {
     match outcome {
         Outcome::Grant => Ok(None),
+        Outcome::Overflow => Ok(Some(OLDEST)),
         Outcome::Refuse | Outcome::Wait => Err(TrySendError::Full(msg)),
+        Outcome::Close => Err(TrySendError::Closed(msg)),
+        Outcome::Inactive => Err(TrySendError::Inactive(msg)),
     }
 }
 
 fn answered(outcome: Outcome, msg: u64) -> Result<Option<u64>, SendError<u64>> {
     match outcome {
         Outcome::Grant | Outcome::Wait => Ok(None),
-        Outcome::Refuse => Err(SendError(msg)),
+        Outcome::Overflow => Ok(Some(OLDEST)),
+        Outcome::Refuse | Outcome::Close | Outcome::Inactive => Err(SendError(msg)),
     }
 }
 
@@ -93,38 +115,74 @@ fn polled(outcome: Outcome, msg: u64) -> SendPoll<u64>
     ensures { HandsBack msg result }
 {
     match outcome {
-        Outcome::Grant | Outcome::Refuse => SendPoll::Ready(answered(outcome, msg)),
         Outcome::Wait => SendPoll::Wait(msg),
+        _ => SendPoll::Ready(answered(outcome, msg)),
     }
 }
 
 fn begun(outcome: Outcome) -> Result<usize, AllocError> {
     match outcome {
         Outcome::Grant | Outcome::Wait => Ok(GIVEN),
-        Outcome::Refuse => Err(AllocError),
+        _ => Err(AllocError),
     }
 }
 
 fn grown(outcome: Outcome) -> Result<(), AllocError> {
     match outcome {
         Outcome::Grant | Outcome::Wait => Ok(()),
-        Outcome::Refuse => Err(AllocError),
+        _ => Err(AllocError),
     }
 }
 
 fn received(outcome: Outcome) -> Result<Result<u64, TryRecvError>, AllocError> {
     match outcome {
-        Outcome::Grant => Ok(Ok(MESSAGE)),
-        Outcome::Refuse => Err(AllocError),
         Outcome::Wait => Ok(Err(TryRecvError::Empty)),
+        _ => waited(outcome),
+    }
+}
+
+fn waited(outcome: Outcome) -> Result<Result<u64, TryRecvError>, AllocError>
+    ensures { is_answer (Reply.TryRecv result) ≡ true }
+{
+    match outcome {
+        Outcome::Grant | Outcome::Wait => Ok(Ok(MESSAGE)),
+        Outcome::Overflow => Ok(Err(TryRecvError::Overflowed(MISSED))),
+        Outcome::Close => Ok(Err(TryRecvError::Closed)),
+        Outcome::Refuse | Outcome::Inactive => Err(AllocError),
+    }
+}
+
+// What a future is given.
+fn message(outcome: Outcome) -> Result<u64, RecvError> {
+    match outcome {
+        Outcome::Overflow => Err(RecvError::Overflowed(MISSED)),
+        Outcome::Close => Err(RecvError::Closed),
+        _ => Ok(MESSAGE),
+    }
+}
+
+// What `poll_recv` is given.
+fn item(outcome: Outcome) -> Option<Result<u64, RecvError>> {
+    match outcome {
+        Outcome::Close => None,
+        _ => Some(message(outcome)),
+    }
+}
+
+// What a stream is given, with how many messages it skipped.
+fn next(outcome: Outcome) -> Option<(u64, u64)> {
+    match outcome {
+        Outcome::Overflow => Some((MESSAGE, MISSED)),
+        Outcome::Close => None,
+        _ => Some((MESSAGE, 0)),
     }
 }
 
 fn awaited<M: Drop>(outcome: Outcome, answer: M) -> Result<Poll<M>, AllocError> {
     match outcome {
-        Outcome::Grant => Ok(Poll::Ready(answer)),
-        Outcome::Refuse => Err(AllocError),
         Outcome::Wait => Ok(Poll::Pending),
+        Outcome::Refuse | Outcome::Inactive => Err(AllocError),
+        _ => Ok(Poll::Ready(answer)),
     }
 }
 
@@ -132,5 +190,7 @@ fn made<K: Drop>(outcome: Outcome, key: K) -> Result<K, HandleError> {
     match outcome {
         Outcome::Grant | Outcome::Wait => Ok(key),
         Outcome::Refuse => Err(HandleError::TooMany),
+        Outcome::Overflow | Outcome::Inactive => Err(HandleError::Memory),
+        Outcome::Close => Err(HandleError::Gone),
     }
 }
