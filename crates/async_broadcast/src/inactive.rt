@@ -98,10 +98,13 @@ impl<T: Clone, P: Port<T, WakerSlot<A>>, A: Allocator + Copy> InactiveReceiver<T
         ensures channel { IfOk result (λ made. IsSame P.gave made.port self.now.port) }
         ensures made { IfOk result (λ made. P.gave self.now.port Call.ActivateCloned
             (Reply.ActivateCloned (Ok made.key))) }
-        ensures refused { IfErr result (λ error. (error ≡ HandleError.Memory)
+        ensures refused { IfErr result (λ error.
+            ((error ≡ HandleError.Memory) × P.lacks_memory self.now.port)
             ⊎ P.gave self.now.port Call.ActivateCloned (Reply.ActivateCloned (Err error))) }
     {
-        let port = self.port.same().ok_or(HandleError::Memory)?;
+        let Some(port) = self.port.same() else {
+            return Err(HandleError::Memory);
+        };
         match asked::activate_cloned::<T, WakerSlot<A>, P>(&self.port) {
             Ok(key) => Ok(Receiver::over(port, key, self.alloc)),
             Err(error) => Err(error),
@@ -130,10 +133,13 @@ impl<T: Clone, P: Port<T, WakerSlot<A>>, A: Allocator + Copy> InactiveReceiver<T
         ensures channel { IfOk result (λ made. IsSame P.gave made.port self.now.port) }
         ensures made { IfOk result
             (λ _. P.gave self.now.port Call.CloneInactive (Reply.CloneInactive (Ok tt))) }
-        ensures refused { IfErr result (λ error. (error ≡ HandleError.Memory)
+        ensures refused { IfErr result (λ error.
+            ((error ≡ HandleError.Memory) × P.lacks_memory self.now.port)
             ⊎ P.gave self.now.port Call.CloneInactive (Reply.CloneInactive (Err error))) }
     {
-        let port = self.port.same().ok_or(HandleError::Memory)?;
+        let Some(port) = self.port.same() else {
+            return Err(HandleError::Memory);
+        };
         match asked::clone_inactive::<T, WakerSlot<A>, P>(&self.port) {
             Ok(()) => Ok(InactiveReceiver::over(port, self.alloc)),
             Err(error) => Err(error),

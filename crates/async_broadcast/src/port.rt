@@ -1,5 +1,5 @@
 //! What a handle asks of its channel.
-ghost use Rattle.std.specs.Prelude.{◌≡◌, true, IfSome};
+ghost use Rattle.std.specs.Prelude.{◌≡◌, true, IfSome, IfNone};
 ghost use Rattle.bcast_model.specs.Next.{HasPositiveCapacity};
 ghost use Rattle.async_broadcast.specs.Kinds.{IsOfKind, may_wait, is_answer};
 ghost use Rattle.async_broadcast.specs.Ports.{IsSame};
@@ -59,7 +59,11 @@ pub trait Port<T: Clone, S>: Ask<T, S> {
         ensures reply { Self.gave self.now call result }
         ensures answered { is_answer result ≡ true };
 
+    // Holds of a port that may find no memory for another one.
+    ghost lacks_memory: { Self → Type 0 };
+
     /// Another port of the same channel. None: there was no memory for it.
     fn same(&self) -> Option<Self>
-        ensures { IfSome result (λ port. IsSame Self.gave port self.now) };
+        ensures channel { IfSome result (λ port. IsSame Self.gave port self.now) }
+        ensures refused { IfNone result (lacks_memory self.now) };
 }

@@ -158,11 +158,14 @@ impl<T: Clone, P: Port<T, WakerSlot<A>>, A: Allocator + Copy> Receiver<T, P, A> 
         ensures channel { IfOk result (λ made. IsSame P.gave made.port self.now.port) }
         ensures made { IfOk result (λ made. P.gave self.now.port (Call.CloneReceiver self.now.key)
             (Reply.CloneReceiver (Ok made.key))) }
-        ensures refused { IfErr result (λ error. (error ≡ HandleError.Memory)
+        ensures refused { IfErr result (λ error.
+            ((error ≡ HandleError.Memory) × P.lacks_memory self.now.port)
             ⊎ P.gave self.now.port (Call.CloneReceiver self.now.key)
             (Reply.CloneReceiver (Err error))) }
     {
-        let port = self.port.same().ok_or(HandleError::Memory)?;
+        let Some(port) = self.port.same() else {
+            return Err(HandleError::Memory);
+        };
         match asked::clone_receiver::<T, WakerSlot<A>, P>(&self.port, self.key) {
             Ok(key) => Ok(Receiver::over(port, key, self.waker.alloc())),
             Err(error) => Err(error),
@@ -190,10 +193,13 @@ impl<T: Clone, P: Port<T, WakerSlot<A>>, A: Allocator + Copy> Receiver<T, P, A> 
         ensures channel { IfOk result (λ made. IsSame P.gave made.port self.now.port) }
         ensures made { IfOk result
             (λ made. P.gave self.now.port Call.NewReceiver (Reply.NewReceiver (Ok made.key))) }
-        ensures refused { IfErr result (λ error. (error ≡ HandleError.Memory)
+        ensures refused { IfErr result (λ error.
+            ((error ≡ HandleError.Memory) × P.lacks_memory self.now.port)
             ⊎ P.gave self.now.port Call.NewReceiver (Reply.NewReceiver (Err error))) }
     {
-        let port = self.port.same().ok_or(HandleError::Memory)?;
+        let Some(port) = self.port.same() else {
+            return Err(HandleError::Memory);
+        };
         match asked::new_receiver::<T, WakerSlot<A>, P>(&self.port) {
             Ok(key) => Ok(Receiver::over(port, key, self.waker.alloc())),
             Err(error) => Err(error),
@@ -220,10 +226,13 @@ impl<T: Clone, P: Port<T, WakerSlot<A>>, A: Allocator + Copy> Receiver<T, P, A> 
         ensures channel { IfOk result (λ made. IsSame P.gave made.port self.now.port) }
         ensures made { IfOk result
             (λ _. P.gave self.now.port Call.NewSender (Reply.NewSender (Ok tt))) }
-        ensures refused { IfErr result (λ error. (error ≡ HandleError.Memory)
+        ensures refused { IfErr result (λ error.
+            ((error ≡ HandleError.Memory) × P.lacks_memory self.now.port)
             ⊎ P.gave self.now.port Call.NewSender (Reply.NewSender (Err error))) }
     {
-        let port = self.port.same().ok_or(HandleError::Memory)?;
+        let Some(port) = self.port.same() else {
+            return Err(HandleError::Memory);
+        };
         match asked::new_sender::<T, WakerSlot<A>, P>(&self.port) {
             Ok(()) => Ok(Sender::over(port, self.waker.alloc())),
             Err(error) => Err(error),

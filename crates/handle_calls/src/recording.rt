@@ -106,6 +106,10 @@ impl<S: Drop> Ask<u64, S> for RecordingPort {
 }
 
 impl<S: Drop> Port<u64, S> for RecordingPort {
+    ghost use Rattle.std.specs.Prelude.{⊤};
+
+    ghost lacks_memory = { λ _. ⊤ };
+
     fn ask_waiting(&self, call: Call<u64>) -> Reply<u64>
         requires { may_wait call ≡ true }
         ensures reply { IsOfKind call result }
