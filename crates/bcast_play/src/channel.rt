@@ -1,6 +1,9 @@
 //! The channel of a script, with its receivers' names.
+ghost use Rattle.std.specs.Prelude.{◌≡◌, ◌<◌, ◌⊎◌, ℕ, List, Err, IfOk, OnOk};
+ghost use Rattle.std.specs.Io.KnownBytes.{Appends};
 ghost use Rattle.bcast_text.specs.ScriptLine.{IsInForm};
-ghost use Rattle.std.specs.Prelude.{◌<◌};
+ghost use Rattle.bcast_play.specs.ScriptRun.{IsMade, IsNew};
+ghost use Rattle.bcast_play.specs.Channels.{named_of};
 
 use bcast_core::{Inner, Silent, step};
 use bcast_text::input::Fault;
@@ -25,6 +28,7 @@ impl<A: Allocator + Copy> Channel<A> {
     /// - `AllocError`: there is no memory for it.
     pub fn open(alloc: A, capacity: usize) -> Result<Self, AllocError>
         requires { 0 < capacity }
+        ensures { IfOk result (λ channel. IsNew (named_of channel) capacity) }
     {
         let (inner, key) = Inner::new(alloc, capacity)?;
         let mut names = Names::new(alloc);
@@ -44,6 +48,11 @@ impl<A: Allocator + Copy> Channel<A> {
     /// - `OutputFailed`: a write failed.
     pub fn run<W: Write>(&mut self, alloc: A, line: Line<'_>, output: &mut W) -> Result<(), Fault>
         requires { IsInForm line }
+        ensures ok { OnOk result ((answer : List ℕ)
+            × IsMade (named_of self.old) line.entry answer (named_of self.new)
+            × Appends (W.contents output.old) (W.contents output.new) answer) }
+        ensures unwritten { (result ≡ Err Fault.NotACall) ⊎ (result ≡ Err Fault.NoMemory)
+            → output.new ≡ output.old }
     {
         let call = call_by(&self.names, line).ok_or(Fault::NotACall)?;
         let reply = step(&mut self.inner, call, Silent);

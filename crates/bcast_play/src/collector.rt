@@ -49,6 +49,15 @@ impl<A: Allocator + Copy> Collector<A> {
 }
 
 impl<A: Allocator + Copy> RunLine for Collector<A> {
+    ghost use Rattle.std.specs.Prelude.{◌≡◌, []};
+
+    ghost State = { Unit {0} };
+
+    ghost state = { λ _. tt };
+
+    // Nothing is written yet.
+    ghost answers = { λ _ _ text _. text ≡ [] };
+
     fn run_line<W: Write>(&mut self, line: &str, _output: &mut W) -> Result<(), Fault> {
         if self.opening.is_none() {
             self.opening = Some(read_opening(line).ok_or(Fault::NotACall)?);
@@ -70,16 +79,16 @@ impl<A: Allocator + Copy> RunLine for Collector<A> {
 pub fn list<A: Allocator + Copy, R: Read + Drop, W: Write + Drop>(
     alloc: A,
     input: R,
-    mut output: W,
+    output: W,
 ) -> Ending {
+    let Ok(mut output) = BufWriter::new(alloc, output) else {
+        return Ending::NoMemory;
+    };
     let mut collector = Collector::new(alloc);
     let ending = run_lines(alloc, input, LONGEST, &mut output, &mut collector);
     if ending != Ending::Done {
         return ending;
     }
-    let Ok(mut output) = BufWriter::new(alloc, output) else {
-        return Ending::NoMemory;
-    };
     let played = collector.play(&mut output);
     match (output.flush(), played) {
         (_, Err(Fault::NotACall)) => Ending::NotACall(1),

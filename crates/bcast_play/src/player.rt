@@ -1,4 +1,10 @@
 //! A trace played call by call.
+ghost use Rattle.std.specs.Prelude.{◌≡◌, ◌≢◌, ◌⊎◌, ℕ, List, Option, None, Some, Err, OnOk};
+ghost use Rattle.std.specs.Io.KnownBytes.{Appends};
+ghost use Rattle.bcast_model.specs.View.{View};
+ghost use Rattle.bcast_text.specs.Run.{IsRun};
+ghost use Rattle.bcast_play.specs.TraceRun.{IsStarted, IsPlayed, IsViewed, IsTraceLine};
+
 use crate::view::write_view;
 use bcast_core::{Inner, Silent, step};
 use bcast_text::ending::Ending;
@@ -7,7 +13,7 @@ use bcast_text::trace::line::{LONGEST, Line, read_line};
 use bcast_text::trace::opening::read_opening;
 use bcast_text::trace::reply::write_answer;
 use std::alloc::Allocator;
-use std::io::{Read, Write};
+use std::io::{BufWriter, Read, Write};
 
 /// The channel of a trace, which line 1 opens.
 #[derive(Drop)]
@@ -18,12 +24,20 @@ pub struct Player<A: Allocator> {
 
 impl<A: Allocator + Copy> Player<A> {
     /// A player before line 1.
-    pub fn new(alloc: A) -> Self {
+    pub fn new(alloc: A) -> Self
+        ensures { result.inner ≡ None }
+    {
         Player { alloc, inner: None }
     }
 
     /// Makes the channel that `line` opens, and writes the line.
-    fn start<W: Write>(&mut self, line: &str, output: &mut W) -> Result<(), Fault> {
+    fn start<W: Write>(&mut self, line: &str, output: &mut W) -> Result<(), Fault>
+        ensures ok { OnOk result ((answer : List ℕ)
+            × IsTraceLine None line.now answer self.new.inner
+            × Appends (W.contents output.old) (W.contents output.new) answer) }
+        ensures unwritten { (result ≡ Err Fault.NotACall) ⊎ (result ≡ Err Fault.NoMemory)
+            → output.new ≡ output.old }
+    {
         let opening = read_opening(line).ok_or(Fault::NotACall)?;
         let (inner, _) = Inner::starting_at(self.alloc, opening.capacity, opening.first)?;
         self.inner = Some(inner);
@@ -33,6 +47,16 @@ impl<A: Allocator + Copy> Player<A> {
 }
 
 impl<A: Allocator + Copy> RunLine for Player<A> {
+    ghost use Rattle.std.specs.Prelude.{ℕ, Option};
+    ghost use Rattle.bcast_model.specs.View.{View};
+    ghost use Rattle.bcast_play.specs.TraceRun.{IsTraceLine};
+
+    ghost State = { Option (View ℕ) };
+
+    ghost state = { λ player. player.inner };
+
+    ghost answers = { IsTraceLine };
+
     fn run_line<W: Write>(&mut self, line: &str, output: &mut W) -> Result<(), Fault> {
         match &mut self.inner {
             Some(inner) => answer(self.alloc, inner, line, output),
@@ -47,11 +71,21 @@ fn answer<A: Allocator + Copy, W: Write>(
     inner: &mut Inner<u64, Silent, A>,
     line: &str,
     output: &mut W,
-) -> Result<(), Fault> {
+) -> Result<(), Fault>
+    ensures ok { OnOk result ((text : List ℕ)
+        × IsTraceLine (Some inner.old) line.now text (Some inner.new)
+        × Appends (W.contents output.old) (W.contents output.new) text) }
+    ensures unwritten { (result ≡ Err Fault.NotACall) ⊎ (result ≡ Err Fault.NoMemory)
+        → output.new ≡ output.old }
+{
     match read_line(line).ok_or(Fault::NotACall)? {
         Line::View => {
             let seen = inner.snapshot(alloc)?;
-            write_view(&seen, output)?;
+            let mut text = Vec::new(alloc);
+            let Ok(()) = write_view(&seen, &mut text) else {
+                return Err(Fault::NoMemory);
+            };
+            output.write_all(text.as_slice())?;
         }
         Line::Call(text, call) => {
             let reply = step(inner, call, Silent);
@@ -71,6 +105,21 @@ pub fn trace<A: Allocator + Copy, R: Read + Drop, W: Write + Drop>(
     input: R,
     output: W,
 ) -> Ending {
+    let Ok(mut output) = BufWriter::new(alloc, output) else {
+        return Ending::NoMemory;
+    };
+    run_trace(alloc, input, &mut output)
+}
+
+/// Plays a trace as `trace` does, and flushes `output` where that writes.
+pub fn run_trace<A: Allocator + Copy, R: Read + Drop, W: Write>(
+    alloc: A,
+    input: R,
+    output: &mut W,
+) -> Ending
+    ensures { result ≢ Ending.OutputFailed → (last : Option (View ℕ)) × IsRun IsTraceLine
+        (R.remaining input) (W.contents output.old) (W.contents output.new) None last result }
+{
     let mut player = Player::new(alloc);
     run_lines(alloc, input, LONGEST, output, &mut player)
 }

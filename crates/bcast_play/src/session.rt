@@ -1,10 +1,14 @@
 //! The run of a script.
+ghost use Rattle.std.specs.Prelude.{◌≢◌, ℕ, None, Option};
+ghost use Rattle.bcast_text.specs.Run.{IsRun};
+ghost use Rattle.bcast_play.specs.ScriptRun.{Named, IsScriptLine};
+
 use crate::channel::Channel;
 use bcast_text::ending::Ending;
 use bcast_text::input::{Fault, RunLine, run_lines};
 use bcast_text::script::line::{Line, read_line};
 use std::alloc::Allocator;
-use std::io::{Read, Write};
+use std::io::{BufWriter, Read, Write};
 
 /// The most bytes that a line may have, its LF aside.
 const LONGEST: u32 = 200;
@@ -17,6 +21,16 @@ struct Session<A: Allocator> {
 }
 
 impl<A: Allocator + Copy> RunLine for Session<A> {
+    ghost use Rattle.bcast_play.specs.ScriptRun.{Named, IsScriptLine};
+    ghost use Rattle.bcast_play.specs.Channels.{session_of};
+    ghost use Rattle.std.specs.Prelude.{Option};
+
+    ghost State = { Option Named };
+
+    ghost state = { session_of };
+
+    ghost answers = { IsScriptLine };
+
     fn run_line<W: Write>(&mut self, line: &str, output: &mut W) -> Result<(), Fault> {
         let line = read_line(line).ok_or(Fault::NotACall)?;
         match (&mut self.channel, line) {
@@ -40,6 +54,21 @@ pub fn script<A: Allocator + Copy, R: Read + Drop, W: Write + Drop>(
     input: R,
     output: W,
 ) -> Ending {
+    let Ok(mut output) = BufWriter::new(alloc, output) else {
+        return Ending::NoMemory;
+    };
+    run_script(alloc, input, &mut output)
+}
+
+/// Runs a script as `script` does, and flushes `output` where that writes.
+pub fn run_script<A: Allocator + Copy, R: Read + Drop, W: Write>(
+    alloc: A,
+    input: R,
+    output: &mut W,
+) -> Ending
+    ensures { result ≢ Ending.OutputFailed → (last : Option Named) × IsRun IsScriptLine
+        (R.remaining input) (W.contents output.old) (W.contents output.new) None last result }
+{
     let mut session = Session {
         alloc,
         channel: None,

@@ -1,4 +1,6 @@
--- how a run ends
+-- how an input is read, and how a run ends
+pub mod Lines
+pub mod Run
 pub mod Ending
 -- scripts: arguments, lines and the names in them, what a line does to the channel, and its answer
 pub mod ScriptCommand

@@ -1,4 +1,9 @@
 //! The run of a program over the lines of its input.
+ghost use Rattle.std.specs.Prelude.{◌≡◌, ◌≢◌, ◌⊎◌, ℕ, List, Err, OnOk, IfErr};
+ghost use Rattle.std.specs.Io.KnownBytes.{Appends, Keeps, IsAtEnd};
+ghost use Rattle.bcast_text.specs.Lines.{unread};
+ghost use Rattle.bcast_text.specs.Run.{Answered, IsRun, IsNumbered};
+
 use crate::ending::Ending;
 use crate::lines::{Found, Lines};
 use std::alloc::{AllocError, Allocator};
@@ -40,32 +45,57 @@ impl From<io::Error> for Fault {
 
 /// A program that is run line by line.
 pub trait RunLine {
+    // What contracts see of the program.
+    ghost State: { Type 0 };
+
+    ghost state: { Self → State };
+
+    // In the first state, the line is answered by the text, and leads to the second state.
+    ghost answers: { State → List ℕ → List ℕ → State → Type 0 };
+
     /// Runs one line, given without its LF, and writes its answer.
-    fn run_line<W: Write>(&mut self, line: &str, output: &mut W) -> Result<(), Fault>;
+    ///
+    /// # Errors
+    ///
+    /// - `NotACall`, `NoMemory`: nothing was written.
+    /// - `OutputFailed`: a write failed.
+    fn run_line<W: Write>(&mut self, line: &str, output: &mut W) -> Result<(), Fault>
+        ensures ok { OnOk result ((text : List ℕ)
+            × answers (state self.old) line.now text (state self.new)
+            × Appends (W.contents output.old) (W.contents output.new) text) }
+        ensures unwritten { (result ≡ Err Fault.NotACall) ⊎ (result ≡ Err Fault.NoMemory)
+            → output.new ≡ output.old };
 }
 
 /// Runs each line of `input`, of at most `longest` bytes, on `program`.
 ///
 /// The answers are written before each read that may wait for more input, and at the end.
-/// An input without a line has a fault in line 1.
-pub fn run_lines<A, R, W, P>(alloc: A, input: R, longest: u32, output: W, program: &mut P) -> Ending
+/// An input without a line has a fault in line 1, and line `u64::MAX` is none that is run.
+pub fn run_lines<A, R, W, P>(
+    alloc: A,
+    input: R,
+    longest: u32,
+    output: &mut W,
+    program: &mut P,
+) -> Ending
 where
     A: Allocator + Copy,
     R: Read + Drop,
-    W: Write + Drop,
+    W: Write,
     P: RunLine,
+    ensures { result ≢ Ending.OutputFailed → IsRun P.answers (R.remaining input)
+        (W.contents output.old) (W.contents output.new)
+        (P.state program.old) (P.state program.new) result }
 {
     let Ok(mut lines) = Lines::new(alloc, input, longest) else {
         return Ending::NoMemory;
     };
-    let Ok(mut output) = BufWriter::new(alloc, output) else {
-        return Ending::NoMemory;
-    };
-    let ending = each_line(&mut lines, &mut output, program);
+    let ending = each_line(&mut lines, output, program);
     match (output.flush(), ending) {
-        (Err(_), Ending::Done | Ending::NotACall(_)) => Ending::OutputFailed,
-        (_, ending) => ending,
+        (Err(_), Ending::Done | Ending::NotACall(_)) => return Ending::OutputFailed,
+        _ => {}
     }
+    ending
 }
 
 /// Runs the lines up to the first one that is not run to its end.
@@ -75,26 +105,58 @@ where
     R: Read + Drop,
     W: Write,
     P: RunLine,
+    ensures { result ≢ Ending.OutputFailed → IsRun P.answers (unread R.remaining lines.old)
+        (W.contents output.old) (W.contents output.new)
+        (P.state program.old) (P.state program.new) result }
 {
-    for number in 1..u64::MAX {
-        if !lines.is_ahead() && output.flush().is_err() {
-            return Ending::OutputFailed;
-        }
-        match lines.next() {
-            Err(_) => return Ending::InputFailed,
-            Ok(Found::End) if number > 1 => return Ending::Done,
-            Ok(Found::End | Found::TooLong) => return Ending::NotACall(number),
-            Ok(Found::Line) => {}
-        }
-        let Ok(line) = str::from_utf8(lines.text()) else {
-            return Ending::NotACall(number);
-        };
-        match program.run_line(line, output) {
-            Ok(()) => {}
-            Err(Fault::NotACall) => return Ending::NotACall(number),
-            Err(Fault::NoMemory) => return Ending::NoMemory,
-            Err(Fault::OutputFailed) => return Ending::OutputFailed,
+    let mut number = 1;
+    while number < u64::MAX {
+        match next_line(number, lines, output, program) {
+            Ok(()) => number += 1,
+            Err(ending) => return ending,
         }
     }
-    Ending::Done
+    Ending::NotACall(u64::MAX)
+}
+
+/// Runs the next line, which has this number, if there is one, or says how the run ends.
+fn next_line<A, R, W, P>(
+    number: u64,
+    lines: &mut Lines<R, A>,
+    output: &mut W,
+    program: &mut P,
+) -> Result<(), Ending>
+where
+    A: Allocator + Copy,
+    R: Read + Drop,
+    W: Write,
+    P: RunLine,
+    ensures ok { OnOk result (Answered P.answers
+        (unread R.remaining lines.old) (unread R.remaining lines.new)
+        (W.contents output.old) (W.contents output.new)
+        (P.state program.old) (P.state program.new) 1) }
+    ensures unwritten { IfErr result (λ ending. ending ≢ Ending.OutputFailed
+        → Keeps (W.contents output.old) (W.contents output.new)) }
+    ensures done { result ≡ Err Ending.Done → IsAtEnd (unread R.remaining lines.old)
+        × (program.new ≡ program.old) }
+    ensures not_a_call { IfErr result (IsNumbered number) }
+{
+    if !lines.is_ahead() && output.flush().is_err() {
+        return Err(Ending::OutputFailed);
+    }
+    match lines.next() {
+        Err(_) => return Err(Ending::InputFailed),
+        Ok(Found::End) if number > 1 => return Err(Ending::Done),
+        Ok(Found::End | Found::TooLong) => return Err(Ending::NotACall(number)),
+        Ok(Found::Line) => {}
+    }
+    let Ok(line) = str::from_utf8(lines.text()) else {
+        return Err(Ending::NotACall(number));
+    };
+    match program.run_line(line, output) {
+        Ok(()) => Ok(()),
+        Err(Fault::NotACall) => Err(Ending::NotACall(number)),
+        Err(Fault::NoMemory) => Err(Ending::NoMemory),
+        Err(Fault::OutputFailed) => Err(Ending::OutputFailed),
+    }
 }

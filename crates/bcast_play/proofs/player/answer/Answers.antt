@@ -1,0 +1,30 @@
+-- What the line was read as is done.
+use Rattle.std.proofs.Common.{rules, ◌≡◌, ◌++◌, ◌∷◌, [], codes, Some, IfSome, inl, inr, refl, subst}
+use Rattle.bcast_model.proofs.Clones.{answers_exact}
+use Rattle.bcast_text.specs.declared.trace.line.Line.TheVariants as lines
+use Rattle.bcast_text.specs.TraceLine.{ReadsAs}
+use Rattle.bcast_text.specs.TraceReply.{text_of}
+use Rattle.bcast_play.proofs.player.answer.Goals as goal
+
+pub returns-in_ok-write_all-in-View-clause-ok : goal.returns-in_ok-write_all-in-View-clause-ok
+returns-in_ok-write_all-in-View-clause-ok g c =
+    let is : c.read_line.result ≡ Some lines.View = search rules in
+    let read = subst (λ r. IfSome r (ReadsAs c.args.line.now)) is c.read_line.ensures.text in
+    (_, inr (record { rest = read.0; asked = read.1; same = refl }), c.in_ok-write_all-in-View.ensures.bytes)
+
+pub returns-in_ok-write_answer-in-Call-clause-ok : goal.returns-in_ok-write_answer-in-Call-clause-ok
+returns-in_ok-write_answer-in-Call-clause-ok g c =
+    let is : c.read_line.result ≡ Some (lines.Call c.in-Call.text c.in-Call.call) = search rules in
+    let read = subst (λ r. IfSome r (ReadsAs c.args.line.now)) is c.read_line.ensures.text in (
+      c.in-Call.text.now ++ codes " -> " ++ text_of c.step-reply.result ++ 10 ∷ [],
+      inl (record {
+        text = c.in-Call.text.now;
+        before = read.0;
+        call = c.in-Call.call;
+        spelt = read.1;
+        reply = c.step-reply.result;
+        answers = answers_exact (λ msg given e. e) c.step-reply.ensures.answers;
+        written = refl;
+      }),
+      c.in_ok-write_answer-in-Call.ensures,
+    )

@@ -1,0 +1,54 @@
+-- What a script does: its channel, and the answer to each line.
+use Rattle.std.specs.Prelude.{◌≡◌, ◌<◌, ℕ, List, [], ◌∷◌, ◌++◌, Option, Some, None, codes}
+use Rattle.std.specs.Fmt.{decimal}
+use Rattle.std.specs.Map.{update}
+use Rattle.std.specs.Str.{bytes_eq}
+use Rattle.bcast_model.specs.declared.run.Call.{Call}
+use Rattle.bcast_model.specs.declared.run.Reply.{Reply}
+use Rattle.bcast_model.specs.View.{View}
+use Rattle.bcast_model.specs.History.{opening}
+use Rattle.bcast_model.specs.Answers.{Answers, Represents}
+use Rattle.bcast_model.specs.Legal.{NoClone}
+use Rattle.bcast_text.specs.declared.script.line.Line.{Line}
+use Rattle.bcast_text.specs.ScriptLine.{text_of, IsInForm}
+use Rattle.bcast_text.specs.ScriptCall.{call_of, names_after}
+use Rattle.bcast_text.specs.ScriptAnswer.{answer_of}
+
+-- a channel whose receivers have names: what is seen of it, and the key of each name
+pub record Named : Type 0 where
+  pub view : View ℕ
+  pub key_of : List ℕ → Option ℕ
+
+-- a line's call is made, and its reply is written
+pub record IsMade (old : Named) (line : Line) (answer : List ℕ) (new : Named) : Type 0 where
+  pub call : Call ℕ
+  pub asked : call_of old.key_of line ≡ Some call
+  pub reply : Reply ℕ
+  pub answers : Answers NoClone old.view call reply new.view
+  pub names : (name : List ℕ) → new.key_of name ≡ names_after old.key_of line reply name
+  pub text : List ℕ
+  pub spelt : answer_of reply ≡ Some text
+  pub ended : answer ≡ text ++ 10 ∷ []
+
+-- a new channel of this capacity, whose one receiver is named r1
+pub record IsNew (new : Named) (capacity : ℕ) : Type 0 where
+  pub key : ℕ
+  pub opened : Represents new.view (opening capacity 0 key)
+  pub names : (name : List ℕ)
+      → new.key_of name ≡ update bytes_eq (λ _. None) (codes "r1") (Some key) name
+
+-- line 1 makes a channel
+pub record IsOpened (line answer : List ℕ) (new : Named) : Type 0 where
+  pub capacity : ℕ
+  pub positive : 0 < capacity
+  pub spelt : line ≡ codes "cap " ++ decimal capacity
+  pub made : IsNew new capacity
+  pub written : answer ≡ codes "ok\n"
+
+-- the answer to a line, before and after line 1
+abbrev pub IsScriptLine : Option Named → List ℕ → List ℕ → Option Named → Type 0
+IsScriptLine None line answer None = ⊥
+IsScriptLine None line answer (Some new) = IsOpened line answer new
+IsScriptLine (Some old) line answer None = ⊥
+IsScriptLine (Some old) line answer (Some new) =
+    (asked : Line) × (line ≡ text_of asked) × IsInForm asked × IsMade old asked answer new

@@ -1,0 +1,44 @@
+-- What a trace does that is played line by line: its channel, and what is written of each line.
+use Rattle.std.specs.Prelude.{◌≡◌, ℕ, List, [], ◌∷◌, ◌++◌, ◌⊎◌, Option, Some, None, codes}
+use Rattle.bcast_model.specs.declared.run.Call.{Call}
+use Rattle.bcast_model.specs.declared.run.Reply.{Reply}
+use Rattle.bcast_model.specs.View.{View}
+use Rattle.bcast_model.specs.History.{opening}
+use Rattle.bcast_model.specs.Answers.{Answers, Represents}
+use Rattle.bcast_model.specs.Legal.{NoClone}
+use Rattle.bcast_text.specs.Opening.{opening_text}
+use Rattle.bcast_text.specs.TraceCall as calls
+use Rattle.bcast_text.specs.TraceReply as replies
+use Rattle.bcast_text.specs.TraceLine.{IsBeforeArrow}
+
+-- line 1 makes a channel, and is written again
+pub record IsStarted (line answer : List ℕ) (new : View ℕ) : Type 0 where
+  pub capacity : ℕ
+  pub first : ℕ
+  pub key : ℕ
+  pub spelt : line ≡ opening_text capacity first
+  pub opened : Represents new (opening capacity first key)
+  pub written : answer ≡ line ++ 10 ∷ []
+
+-- a line's call is made, and written with its reply
+pub record IsPlayed (old : View ℕ) (line answer : List ℕ) (new : View ℕ) : Type 0 where
+  pub text : List ℕ
+  pub before : IsBeforeArrow text line
+  pub call : Call ℕ
+  pub spelt : text ≡ calls.text_of call
+  pub reply : Reply ℕ
+  pub answers : Answers NoClone old call reply new
+  pub written : answer ≡ text ++ codes " -> " ++ replies.text_of reply ++ 10 ∷ []
+
+-- the view is asked for, and the channel stays
+pub record IsViewed (old : View ℕ) (line : List ℕ) (new : View ℕ) : Type 0 where
+  pub rest : List ℕ
+  pub asked : line ≡ 61 ∷ rest
+  pub same : new ≡ old
+
+-- what is written of a line, before and after line 1
+abbrev pub IsTraceLine : Option (View ℕ) → List ℕ → List ℕ → Option (View ℕ) → Type 0
+IsTraceLine None line answer None = ⊥
+IsTraceLine None line answer (Some new) = IsStarted line answer new
+IsTraceLine (Some old) line answer None = ⊥
+IsTraceLine (Some old) line answer (Some new) = IsPlayed old line answer new ⊎ IsViewed old line new

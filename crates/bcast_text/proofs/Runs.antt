@@ -1,0 +1,86 @@
+-- Runs over lines, one after the other.
+use Rattle.std.proofs.Common.{◌≡◌, ℕ, ◌+◌, List, [], ◌∷◌, ◌++◌, Option, Some, None, length-append, refl, sym, ap, subst, ◌∙◌, arith, append_assoc}
+use Rattle.std.proofs.KnownBytes.{Appends-nil, Appends-trans, Appends-kept}
+use Rattle.std.specs.Io.KnownBytes.{Keeps}
+use Rattle.bcast_text.specs.Lines.{BeginsWith, ReadsLines}
+use Rattle.bcast_text.specs.Run.{AreAnswered, Answered, IsRun}
+use Rattle.bcast_text.specs.declared.ending.Ending.{Ending}
+use Rattle.bcast_text.specs.declared.ending.Ending.TheVariants.{NoMemory}
+
+begins_both : (bytes : List ℕ) (xs ys : List (List ℕ)) (mid rest : List ℕ) → BeginsWith bytes xs mid → BeginsWith mid ys rest → BeginsWith bytes (xs ++ ys) rest
+begins_both bytes [] ys mid rest same more = subst (λ b. BeginsWith b ys rest) (sym same) more
+begins_both bytes (x ∷ xs) ys mid rest (next, is, front) more = (next, is, begins_both next xs ys mid rest front more)
+
+reads_both : (a b c : Option (List ℕ)) (xs ys : List (List ℕ)) → ReadsLines a xs b → ReadsLines b ys c → ReadsLines a (xs ++ ys) c
+reads_both None b c xs ys p q = tt
+reads_both (Some x) None c xs ys p q = absurd p
+reads_both (Some x) (Some y) None xs ys p q = absurd q
+reads_both (Some x) (Some y) (Some z) xs ys p q = begins_both x xs ys y z p q
+
+reads_none : (a : Option (List ℕ)) → ReadsLines a [] a
+reads_none None = tt
+reads_none (Some x) = refl
+
+module _ {S : Type 0} (answers : S → List ℕ → List ℕ → S → Type 0) where
+  answered_both : (s t u : S) (xs ys : List (List ℕ)) (x y : List ℕ) → AreAnswered answers s xs x t → AreAnswered answers t ys y u
+      → AreAnswered answers s (xs ++ ys) (x ++ y) u
+  answered_both s t u [] ys x y (none, same) more =
+      subst (λ l. AreAnswered answers s ys (l ++ y) u) (sym none) (subst (λ r. AreAnswered answers r ys y u) same more)
+  answered_both s t u (l ∷ ls) ys x y (next, answer, rest, one, front, is) more =
+      (next, answer, rest ++ y, one, answered_both next t u ls ys rest y front more, ap (λ l. l ++ y) is ∙ append_assoc answer rest y)
+
+  -- before the first line
+  pub none_yet : (input before : Option (List ℕ)) (s : S) → Answered answers input input before before s s 0
+  none_yet input before s = record {
+    lines = [];
+    count = refl;
+    text = [];
+    read = reads_none input;
+    answered = (refl, refl);
+    written = Appends-nil before;
+  }
+
+  -- no memory for a line
+  pub no_line : (input before : Option (List ℕ)) (s : S) → IsRun answers input before before s s NoMemory
+  no_line input before s = record {
+    left = input;
+    last = s;
+    count = 0;
+    answered = none_yet input before s;
+    done = λ is. absurd (cc);
+    not_a_call = λ number is. absurd (cc);
+  }
+
+  -- one line more
+  pub one_more : {a b c x y z : Option (List ℕ)} {s t u : S} {n : ℕ} → Answered answers a b x y s t n → Answered answers b c y z t u 1
+      → (more : ℕ) → more ≡ n + 1 → Answered answers a c x z s u more
+  one_more {a} {b} {c} {x} {y} {z} {s} {t} {u} before one more is = record {
+    lines = before.lines ++ one.lines;
+    count = length-append before.lines one.lines ∙ omega (arith, before.count, one.count, is);
+    text = before.text ++ one.text;
+    read = reads_both a b c before.lines one.lines before.read one.read;
+    answered = answered_both s t u before.lines one.lines before.text one.text before.answered one.answered;
+    written = Appends-trans x y z before.text one.text before.written one.written;
+  }
+
+  -- nothing is written after it
+  pub nothing_more : {a b x y z : Option (List ℕ)} {s t : S} {n : ℕ} → Answered answers a b x y s t n → Keeps y z → Answered answers a b x z s t n
+  nothing_more {a} {b} {x} {y} {z} before same = record {
+    lines = before.lines;
+    count = before.count;
+    text = before.text;
+    read = before.read;
+    answered = before.answered;
+    written = Appends-kept x y z before.text before.written same;
+  }
+
+  -- nothing is written after the run
+  pub run_kept : {a x y z : Option (List ℕ)} {s t : S} {e : Ending} → IsRun answers a x y s t e → Keeps y z → IsRun answers a x z s t e
+  run_kept run same = record {
+    left = run.left;
+    last = run.last;
+    count = run.count;
+    answered = nothing_more run.answered same;
+    done = run.done;
+    not_a_call = run.not_a_call;
+  }

@@ -1,0 +1,10 @@
+-- Nothing is written after the last line.
+use Rattle.bcast_text.proofs.Runs.{no_line, run_kept}
+use Rattle.bcast_text.proofs.input.run_lines.Goals as goal
+
+pub returns-in_default : goal.returns-in_default
+returns-in_default g c _ = no_line g.P.RunLine.answers _ _ _
+
+pub returns : goal.returns
+returns g c written =
+    run_kept g.P.RunLine.answers (rw c.in-Ok.ensures at (c.each_line-ending.ensures written)) c.flush.ensures.bytes
