@@ -1,0 +1,4 @@
+-- maps of topics, and new topics
+pub mod Topics
+-- one exchange more
+pub mod Parts

@@ -1,0 +1,72 @@
+-- One request to a hub.
+use Rattle.std.specs.Prelude.{◌≡◌, ◌≢◌, ℕ, List, Option, Some, is_some, Ok}
+use Rattle.std.specs.HashMap.{get_by_text}
+use Rattle.bcast_model.specs.declared.run.Call.{Call}
+use Rattle.bcast_model.specs.declared.run.Call.TheVariants as call
+use Rattle.bcast_model.specs.declared.run.Reply.{Reply}
+use Rattle.bcast_model.specs.declared.run.Reply.TheVariants as reply
+use Rattle.bcast_model.specs.View.{View}
+use Rattle.bcast_model.specs.History.{opening, view_of}
+use Rattle.bcast_model.specs.Answers.{Answers}
+use Rattle.topics.specs.declared.request.Request.{Request}
+use Rattle.topics.specs.declared.request.Request.TheVariants as request
+use Rattle.topics.specs.declared.request.Answer.{Answer}
+use Rattle.topics.specs.declared.request.Answer.TheVariants as answer
+use Rattle.topics.specs.declared.hub.Hub.{Hub}
+use Rattle.topics.specs.Request.{name_of, call_of, IsAnswer}
+
+-- what is seen of the topic of this name, if it was opened
+abbrev pub topic_of : {T A : Type 0} → Hub T A → List ℕ → Option (View T)
+topic_of hub name = get_by_text hub.topics name
+
+-- `broadcast`, then `deactivate`: a channel of this capacity whose first receiver is inactive
+pub record IsNew
+    {T : Type 0} (is_clone : T → T → Type 0) (capacity : ℕ) (new : Option (View T))
+    : Type 0 where
+  pub first_key : ℕ
+  pub topic : View T
+  pub is : new ≡ Some topic
+  pub answers : Answers is_clone (view_of (opening capacity 0 first_key))
+      (call.Deactivate first_key) (reply.Deactivate (Ok tt)) topic
+
+-- the call that a request asks for, with its reply
+pub record IsCalled
+    {T : Type 0} (is_clone : T → T → Type 0) (asked : Option (Call T)) (r : Reply T)
+    (old new : Option (View T)) : Type 0 where
+  pub call : Call T
+  pub is_asked : asked ≡ Some call
+  pub before : View T
+  pub was : old ≡ Some before
+  pub after : View T
+  pub is : new ≡ Some after
+  pub answers : Answers is_clone before call r after
+
+module _ {T : Type 0} (is_clone : T → T → Type 0) where
+  -- what becomes of a topic that is to be opened, by the answer
+  abbrev pub IsOpened : ℕ → Answer T → Option (View T) → Option (View T) → Type 0
+  IsOpened capacity answer.Opened old new = IsNew is_clone capacity new
+  IsOpened capacity a old new = new ≡ old
+
+  -- what becomes of a topic on which this call is to be made, by the answer
+  abbrev pub IsCall : Option (Call T) → Answer T → Option (View T) → Option (View T) → Type 0
+  IsCall asked (answer.Done r) old new = IsCalled is_clone asked r old new
+  IsCall asked a old new = new ≡ old
+
+  -- what becomes of the topic of a request, by the answer
+  abbrev pub Changes : {A : Type 0}
+      → Request T A → Answer T → Option (View T) → Option (View T) → Type 0
+  Changes (request.Open name capacity) a old new = IsOpened capacity a old new
+  Changes r a old new = IsCall (call_of r) a old new
+
+-- the topics of all other names stay
+abbrev pub KeepsOthers : {T A : Type 0} → Hub T A → List ℕ → Hub T A → Type 0
+KeepsOthers old name new =
+    (other : List ℕ) → other ≢ name → topic_of new other ≡ topic_of old other
+
+-- one request: its answer, what becomes of its topic, and that the others stay
+pub record Asks
+    {T A : Type 0} (is_clone : T → T → Type 0) (old : Hub T A) (r : Request T A) (a : Answer T)
+    (new : Hub T A) : Type 0 where
+  pub answer : IsAnswer (is_some (topic_of old (name_of r))) r a
+  pub topic : Changes is_clone r a (topic_of old (name_of r)) (topic_of new (name_of r))
+  pub others : KeepsOthers old (name_of r) new

@@ -1,0 +1,104 @@
+//! Channels by name, and one request to them.
+ghost use Rattle.std.specs.Prelude.{◌≡◌, ◌<◌, ℕ, List, None, Some, is_some, IfOk, string_bytes};
+ghost use Rattle.bcast_model.specs.Next.{HasPositiveCapacity};
+ghost use Rattle.topics.specs.Request.{OpensPositive, IsAnswerTo};
+ghost use Rattle.topics.specs.Hub.{topic_of, Asks, IsNew, IsOpened, IsCall, KeepsOthers};
+
+use crate::name::is_name;
+use crate::request::{Answer, Request};
+use bcast_core::{Call, Inner, Silent, step};
+use std::alloc::{AllocError, Allocator, Global};
+use std::collections::HashMap;
+use std::hash::{BuildHasherDefault, FoldHasher};
+
+/// A topic's channel, under its name.
+type Topics<T, A> = HashMap<String<A>, Inner<T, Silent, A>, BuildHasherDefault<FoldHasher>, A>;
+
+/// Topics: channels that are named, and opened by request. A topic stays for good, closed or not.
+#[derive(Drop)]
+pub struct Hub<T, A: Allocator = Global> {
+    alloc: A,
+    topics: Topics<T, A>,
+}
+
+impl<T: Clone, A: Allocator + Copy> Hub<T, A> {
+    /// A hub without topics.
+    pub fn new(alloc: A) -> Self
+        ensures { (name : List ℕ) → topic_of result name ≡ None }
+    {
+        Hub {
+            alloc,
+            topics: HashMap::new(alloc),
+        }
+    }
+
+    /// Answers one request.
+    ///
+    /// A topic is opened with `Inner::new(capacity)`, whose first receiver is deactivated: so it
+    /// stays open while nobody follows it. The other requests make one call on the topic's channel.
+    pub fn ask(&mut self, request: Request<T, A>) -> Answer<T>
+        requires { OpensPositive request }
+        ensures { Asks T.is_clone self.old request result self.new }
+    {
+        if !is_name(request.name()) {
+            return Answer::BadName;
+        }
+        match request {
+            Request::Open(name, capacity) => self.open(name, capacity),
+            Request::Follow(name) => self.call(name.as_str(), Call::NewReceiver),
+            Request::Publish(name, msg) => self.call(name.as_str(), Call::TryBroadcast(msg)),
+            Request::Receive(name, key) => self.call(name.as_str(), Call::TryRecv(key)),
+            Request::Leave(name, key) => self.call(name.as_str(), Call::DropReceiver(key)),
+            Request::Close(name) => self.call(name.as_str(), Call::Close),
+        }
+    }
+
+    // Opens a topic of this name.
+    fn open(&mut self, name: String<A>, capacity: usize) -> Answer<T>
+        requires { 0 < capacity }
+        ensures answer { IsAnswerTo (is_some (topic_of self.old (string_bytes name))) None result }
+        ensures topic { IsOpened T.is_clone capacity result (topic_of self.old (string_bytes name))
+            (topic_of self.new (string_bytes name)) }
+        ensures others { KeepsOthers self.old (string_bytes name) self.new }
+    {
+        if self.topics.contains_key(name.as_str()) {
+            return Answer::Exists;
+        }
+        let Ok(topic) = new_topic(self.alloc, capacity) else {
+            return Answer::Memory;
+        };
+        match self.topics.insert(name, topic) {
+            Ok(_) => Answer::Opened,
+            Err(_) => Answer::Memory,
+        }
+    }
+
+    // Makes a call on the topic of this name.
+    fn call(&mut self, name: &str, call: Call<T>) -> Answer<T>
+        requires { HasPositiveCapacity call }
+        ensures answer { IsAnswerTo (is_some (topic_of self.old name.now)) (Some call) result }
+        ensures topic { IsCall T.is_clone (Some call) result (topic_of self.old name.now)
+            (topic_of self.new name.now) }
+        ensures others { KeepsOthers self.old name.now self.new }
+    {
+        match self.topics.get_mut(name) {
+            Some(topic) => Answer::Done(step(topic, call, Silent)),
+            None => Answer::NoTopic,
+        }
+    }
+}
+
+// A channel of this capacity whose first receiver is deactivated.
+fn new_topic<T: Clone, A: Allocator + Copy>(
+    alloc: A,
+    capacity: usize,
+) -> Result<Inner<T, Silent, A>, AllocError>
+    requires { 0 < capacity }
+    ensures { IfOk result (λ topic. IsNew T.is_clone capacity (Some topic)) }
+{
+    let (mut topic, first_key) = Inner::new(alloc, capacity)?;
+    match topic.deactivate(first_key) {
+        Ok(()) => Ok(topic),
+        Err(_) => Err(AllocError),
+    }
+}

@@ -1,0 +1,56 @@
+//! What is asked of a hub, and what it answers.
+ghost use Rattle.std.specs.Prelude.{◌≡◌};
+ghost use Rattle.topics.specs.Request.{name_of};
+
+use bcast_core::Reply;
+use std::alloc::{Allocator, Global};
+
+/// A request to a hub, about the topic of a name.
+#[derive(Drop)]
+pub enum Request<T, A: Allocator = Global> {
+    /// Opens a topic whose channel has this capacity, which must be positive.
+    Open(String<A>, usize),
+    /// Adds a receiver: `NewReceiver`.
+    Follow(String<A>),
+    /// Sends a message: `TryBroadcast`.
+    Publish(String<A>, T),
+    /// Receives the next message of the receiver of this key: `TryRecv`.
+    Receive(String<A>, usize),
+    /// Takes the receiver of this key out: `DropReceiver`.
+    Leave(String<A>, usize),
+    /// Closes the topic's channel: `Close`.
+    Close(String<A>),
+}
+
+/// What a hub answers: the first that fits.
+#[derive(PartialEq, Drop)]
+pub enum Answer<T> {
+    /// The name is none: a name has 1 to 32 lower case letters, digits and dots.
+    BadName,
+    /// To `Open`: a topic of this name was opened before.
+    Exists,
+    /// To `Open`: there was no memory for the topic. The hub is unchanged.
+    Memory,
+    /// To `Open`: the topic is open.
+    Opened,
+    /// To the others: no topic of this name was opened.
+    NoTopic,
+    /// To the others: the reply of the topic's channel to the call.
+    Done(Reply<T>),
+}
+
+impl<T, A: Allocator> Request<T, A> {
+    /// The name of the topic.
+    pub fn name(&self) -> &str
+        ensures { result.now ≡ name_of self.now }
+    {
+        match self {
+            Request::Open(name, _) => name.as_str(),
+            Request::Follow(name) => name.as_str(),
+            Request::Publish(name, _) => name.as_str(),
+            Request::Receive(name, _) => name.as_str(),
+            Request::Leave(name, _) => name.as_str(),
+            Request::Close(name) => name.as_str(),
+        }
+    }
+}
