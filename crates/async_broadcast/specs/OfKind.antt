@@ -38,7 +38,8 @@ module _ {T : Type 0} where
   poll_send-back false v msg = refl
 
   received : {A : Type 0} (is_clone : T → T → Type 0) (owed : Type 0) (variant : A → Reply T)
-      (spell : Result T TryRecvError → A) (refused : A) (exact : Result T TryRecvError) (r : Reply T)
+      (spell : Result T TryRecvError → A) (refused : A) (exact : Result T TryRecvError)
+      (r : Reply T)
       → IsReceived is_clone owed (λ answer. variant (spell answer)) (variant refused) exact r
       → IsA variant r
   received is_clone owed variant spell refused exact r (inl given) = (spell exact, given)

@@ -51,6 +51,7 @@ module _ {T A : Type 0} where
   abbrev pub EndsWait : ℕ × Bool → State T A → State T A → Type 0
   EndsWait known old new =
       (news_of old ≡ known
-      → new ≡ record old { idle_receivers = one_less old.idle_receivers; is_receiver_woken = false })
+      → new ≡ record old {
+        idle_receivers = one_less old.idle_receivers; is_receiver_woken = false })
       × ((news_of old ≡ known → ⊥)
       → new ≡ record old { due_receivers = one_less old.due_receivers; is_receiver_woken = false })

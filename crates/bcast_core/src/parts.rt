@@ -41,8 +41,8 @@ impl<T, N: Notice, A: Allocator> Model for Parts<T, N, A> {
     ghost coded = { view_code T.code };
 
     ghost view = { λ p. seen_of p.store
-        (control_of p.store p.sends p.receives p.senders p.inactive p.closed p.overflow p.await_active
-        p.capacity) };
+        (control_of p.store p.sends p.receives p.senders p.inactive p.closed p.overflow
+        p.await_active p.capacity) };
 
     ghost use Rattle.bcast_core.specs.Parts.{HaveRoom};
 

@@ -163,7 +163,8 @@ pub fn run<T: Clone, A: Allocator + Copy>(
     // No message was dropped twice.
     ensures dropped { IfOk result (λ made. IsStrictlyIncreasing
         (dropped_in (opening cap first made.first_key) calls.items made.replies.items)) }
-    // What a receiver was told that it missed, an earlier call dropped; what it was given, none did.
+    // What a receiver was told that it missed, an earlier call dropped; what it was given, none
+    // did.
     ensures missed { IfOk result (λ made. MissesWhatWasDropped []
         (opening cap first made.first_key) calls.items made.replies.items) }
     // A poll waited exactly if the try of the same name found nothing, want of memory aside.

@@ -34,9 +34,9 @@ pub fn polls_wait_where_tries_find_nothing<T: Clone>()
     ensures { PollsWaitWhereTriesFindNothing T.is_clone }
 {}
 
-/// Law: told polls come to rest. If n listeners wait, then at most n (n + 1) / 2 calls in a row poll
-/// a listener that is told just before it, want of memory aside. If no listener is told, none of
-/// their polls would be answered.
+/// Law: told polls come to rest. If n listeners wait, then at most n (n + 1) / 2 calls in a row
+/// poll a listener that is told just before it, want of memory aside. If no listener is told, none
+/// of their polls would be answered.
 pub fn told_polls_come_to_rest<T: Clone>()
     ensures { ToldPollsComeToRest T.is_clone }
 {}

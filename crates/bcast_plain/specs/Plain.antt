@@ -25,7 +25,9 @@ pub record IsMade (cursors : Cursors) (made : ℕ) : Type 0 where
   pub fits : made < 2 ^ 64
 
 -- what holds of the fields
-pub record IsSound {X : Type 0} (front : ℕ) (messages : List X) (receivers : List (ℕ × ℕ)) (made room capacity : ℕ) : Type 0 where
+pub record IsSound
+    {X : Type 0} (front : ℕ) (messages : List X) (receivers : List (ℕ × ℕ))
+    (made room capacity : ℕ) : Type 0 where
   pub rising : IsRising receivers
   pub is_made : IsMade (cursors_of receivers) made
   pub reserved : room ≤ capacity

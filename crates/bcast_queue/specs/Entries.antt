@@ -39,7 +39,8 @@ pub record AreCounted (behind total : ℕ) (ns : List ℕ) : Type 0 where
   pub empty : length ns ≡ 0 → total ≡ 0
 
 -- the readers are counted, each message has a number, and the ring has room for as many as is said
-pub record IsSound {X : Type 0} (front behind total room : ℕ) (ring : Buffer (Entry X)) : Type 0 where
+pub record IsSound {X : Type 0} (front behind total room : ℕ) (ring : Buffer (Entry X))
+    : Type 0 where
   pub counted : AreCounted behind total (counts ring)
   pub numbered : front + length ring.items < 2 ^ 64
   pub fits : length ring.items ≤ room

@@ -4,7 +4,8 @@ ghost use Rattle.std.specs.Prelude.{◌≡◌, ◌+◌, ◌<◌};
 use std::marker::Model;
 use std::sync::ledger::{Blank, Book, Ledger, Share};
 
-/// How many counts of messages were read or changed. It takes no bytes, and only `Queue` adds to it.
+/// How many counts of messages were read or changed. It takes no bytes, and only `Queue` adds to
+/// it.
 ///
 /// A caller that counts nothing calls a function over any ledger with `Blank::new(1)`, which makes
 /// its steps from that.

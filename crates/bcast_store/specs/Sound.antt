@@ -22,5 +22,6 @@ owing_at cursors number = count_values (owes number) cursors
 -- each count of the queue is the number of cursors at or under its message, and none is past
 -- the end
 pub record IsSound {T : Type 0} (q : Queued T) (cursors : Cursors) : Type 0 where
-  pub owed_by : (i : ℕ) → i < length q.messages → get_or q.owed i 0 ≡ owing_at cursors (q.front + i)
+  pub owed_by : (i : ℕ) → i < length q.messages
+      → get_or q.owed i 0 ≡ owing_at cursors (q.front + i)
   pub reach : (key cursor : ℕ) → get cursors key ≡ Some cursor → cursor ≤ q.front + length q.messages

@@ -43,7 +43,8 @@ module _ {T : Type 0} where
   abbrev pub IsHandedOut : (T → T → Type 0) → Stored T → ℕ → ℕ → T → Type 0
   IsHandedOut is_clone s key number given =
       (slice_get s.queue (number - s.front) ≡ Some given)
-      ⊎ (IsOwed s key number × IsSomeAnd (slice_get s.queue (number - s.front)) (λ msg. is_clone msg given))
+      ⊎ (IsOwed s key number
+      × IsSomeAnd (slice_get s.queue (number - s.front)) (λ msg. is_clone msg given))
 
 -- what always holds: no message is kept that nobody is to read, and nobody reads past the end
 pub record IsSettled {T : Type 0} (s : Stored T) : Type 0 where

@@ -99,8 +99,8 @@ fn ends_with_lf(text: &[u8]) -> bool
     len > 0 && text[len - 1] == b'\n'
 }
 
-/// Moves bytes of `input` into the empty `text`: those up to the first LF, that too, or all if there
-/// is none, but at most `most`.
+/// Moves bytes of `input` into the empty `text`: those up to the first LF, that too, or all if
+/// there is none, but at most `most`.
 fn read_through<B: BufRead, A: Allocator>(
     input: &mut B,
     most: usize,

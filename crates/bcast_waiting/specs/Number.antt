@@ -18,9 +18,13 @@ pub record IsAt (positions : List ℕ) (number position : ℕ) : Type 0 where
 
 -- for each id in the slots, the entry of its number is its position
 abbrev pub IsIndexed : {I : Type 0} → (I → ℕ) → List (Option I) → List ℕ → Type 0
-IsIndexed {I} number ids positions = (position : ℕ) (id : I) → get_or ids position None ≡ Some id → IsAt positions (number id) position
+IsIndexed {I} number ids positions =
+    (position : ℕ) (id : I) → get_or ids position None ≡ Some id
+    → IsAt positions (number id) position
 
 -- the entries are right, and there is memory for twice as many slots as entries
-pub record AreKept {I : Type 0} (number : I → ℕ) (ids : List (Option I)) (positions : List ℕ) (capacity : ℕ) : Type 0 where
+pub record AreKept
+    {I : Type 0} (number : I → ℕ) (ids : List (Option I)) (positions : List ℕ) (capacity : ℕ)
+    : Type 0 where
   pub indexed : IsIndexed number ids positions
   pub has_memory : 2 * length positions ≤ capacity

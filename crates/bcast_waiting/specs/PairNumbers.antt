@@ -25,10 +25,12 @@ even_odd a b = grind (arith, nat_tests)
 odd_even : (a b : ℕ) → false ≡ (2 * a + 1 == 2 * b + 0)
 odd_even a b = grind (arith, nat_tests)
 
-pub pair_number-own : (x y : ℕ × Kind) → ((x.0 == y.0) && ghosts.eq x.1 y.1) ≡ (pair_number x == pair_number y)
+pub pair_number-own : (x y : ℕ × Kind)
+    → ((x.0 == y.0) && ghosts.eq x.1 y.1) ≡ (pair_number x == pair_number y)
 pair_number-own x y = by_kinds x.1 y.1
   where
-    by_kinds : (k j : Kind) → ((x.0 == y.0) && ghosts.eq k j) ≡ (2 * x.0 + kind_number k == 2 * y.0 + kind_number j)
+    by_kinds : (k j : Kind) → ((x.0 == y.0) && ghosts.eq k j)
+        ≡ (2 * x.0 + kind_number k == 2 * y.0 + kind_number j)
     by_kinds kind.Stream kind.Stream = and_true (x.0 == y.0) ∙ twice x.0 y.0 0
     by_kinds kind.Stream kind.Future = and_false (x.0 == y.0) ∙ even_odd x.0 y.0
     by_kinds kind.Future kind.Stream = and_false (x.0 == y.0) ∙ odd_even x.0 y.0
