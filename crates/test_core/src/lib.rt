@@ -8,8 +8,12 @@ mod clones;
 #[cfg(test)]
 mod errors;
 #[cfg(test)]
+mod full_heap;
+#[cfg(test)]
 mod memory;
 #[cfg(test)]
 mod notices;
 #[cfg(test)]
 mod record;
+#[cfg(test)]
+mod told_polls;

@@ -8,6 +8,8 @@ mod event;
 #[cfg(test)]
 mod places;
 #[cfg(test)]
+mod queue;
+#[cfg(test)]
 mod receives;
 #[cfg(test)]
 mod sends;

@@ -154,3 +154,25 @@ fn a_refused_receiver_is_not_added(rt: HostRuntime) -> Result<(), Fail> {
     assert!(rt; refused_receiver(&heap)?.is_some());
     Ok(())
 }
+
+// Whether more room was refused: for four messages in place of three, and then for six.
+fn grow_twice(heap: &LocalHeap) -> Result<(bool, bool), AllocError> {
+    let (mut store, _) = Store::<u64, &LocalHeap>::new(heap, 7, 3)?;
+    Ok((store.grow(4).is_err(), store.grow(6).is_err()))
+}
+
+#[test]
+fn exact_room_if_twice_as_much_is_refused(rt: HostRuntime) -> Result<(), Fail> {
+    let (mut exact, mut twice) = (false, false);
+    for size in 4..64 {
+        let heap = LocalHeap::new(rt.alloc(), size * 16)?;
+        let Ok(refused) = grow_twice(&heap) else {
+            continue
+        };
+        exact |= refused == (false, true);
+        twice |= refused == (false, false);
+    }
+    assert!(rt; exact, "exact");
+    assert!(rt; twice, "twice");
+    Ok(())
+}
