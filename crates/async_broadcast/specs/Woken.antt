@@ -52,6 +52,8 @@ module _ {T A : Type 0} where
   EndsWait known old new =
       (news_of old ≡ known
       → new ≡ record old {
-        idle_receivers = one_less old.idle_receivers; is_receiver_woken = false })
+        idle_receivers = one_less old.idle_receivers;
+        is_receiver_woken = false;
+      })
       × ((news_of old ≡ known → ⊥)
       → new ≡ record old { due_receivers = one_less old.due_receivers; is_receiver_woken = false })
