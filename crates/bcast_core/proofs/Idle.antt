@@ -1,24 +1,15 @@
 -- If no send waits, a call tells no sender.
-use Rattle.std.proofs.Common.{◌≡◌, ℕ, ◌+◌, Bool, true, false, cond, ◌&&◌, Option, Some, None, Result, Ok, Err, OnOk, OnErr, nat_lt, refl, sym, ap, ◌∙◌}
+use Rattle.std.proofs.Common.{◌≡◌, ℕ, ◌+◌, Bool, true, false, cond, ◌&&◌, Option, Some, None, Result, Ok, Err, OnOk, OnErr, refl, sym, ap, ◌∙◌}
 use Rattle.bcast_model.specs.declared.error.TrySendError.{TrySendError}
 use Rattle.bcast_model.specs.Listeners.{no_listeners, tell, tell_all}
-use Rattle.bcast_model.specs.Control.{Control, tell_a_sender, tell_receivers, with_cursor}
+use Rattle.bcast_model.specs.Control.{Control, tell_a_sender, tell_receivers}
 use Rattle.bcast_model.specs.Effect.{sets}
 use Rattle.bcast_model.specs.Next.{tell_if_ready}
 use Rattle.bcast_model.specs.Receiving.{receive}
 use Rattle.bcast_model.specs.Sending.{offer, accept_unless, refusal}
 use Rattle.bcast_model.specs.Steps.{settle}
 use Rattle.bcast_model.specs.View.{View, sends_are_ready}
-use Rattle.bcast_model.proofs.Cases.{close_is, accepting_is}
-
--- a receive leaves the sends that wait
-receive_keeps : (front end : ℕ) (c : Control) (key : ℕ) (at : Option ℕ) → (receive front end c key at).waiting_sends ≡ c.waiting_sends
-receive_keeps front end c key None = refl
-receive_keeps front end c key (Some cursor) =
-    elim (nat_lt cursor front) as (λ b. (cond b (with_cursor c key front) (cond (nat_lt cursor end) (with_cursor c key (cursor + 1)) c)).waiting_sends ≡ c.waiting_sends) [
-      | true ↦ refl
-      | false ↦ elim (nat_lt cursor end) as (λ b. (cond b (with_cursor c key (cursor + 1)) c).waiting_sends ≡ c.waiting_sends) [ true ↦ refl | false ↦ refl ]
-    ]
+use Rattle.bcast_model.proofs.Cases.{close_is, accepting_is, waiting_sends-receive}
 
 module _ {T : Type 0} where
   -- nobody is told if nobody waits
@@ -31,7 +22,7 @@ module _ {T : Type 0} where
 
   pub receive_idle : {A B : Type 0} (old new : View T) (key : ℕ) (at : Option ℕ) (r : Result A B) → OnOk r (new ≡ settle old (sets (receive old.front old.end old.control key at))) → OnErr r (new ≡ old)
       → old.control.waiting_sends ≡ no_listeners → new.control.waiting_sends ≡ no_listeners
-  receive_idle old new key at (Ok a) ok err idle = ap (λ (v : View T). v.control.waiting_sends) ok ∙ receive_keeps old.front old.end old.control key at ∙ idle
+  receive_idle old new key at (Ok a) ok err idle = ap (λ (v : View T). v.control.waiting_sends) ok ∙ waiting_sends-receive old.front old.end old.control key at ∙ idle
   receive_idle old new key at (Err e) ok err idle = ap (λ (v : View T). v.control.waiting_sends) err ∙ idle
 
   -- a message that is accepted or refused leaves it so

@@ -1,5 +1,5 @@
 -- The conditional parts of a call, each by its cases.
-use Rattle.std.proofs.Common.{◌≡◌, ℕ, ◌+◌, ◌<◌, ◌≤◌, ◌==◌, ◌&&◌, Bool, true, false, cond, Some, nat_lt, refl, arith}
+use Rattle.std.proofs.Common.{◌≡◌, ℕ, ◌+◌, ◌<◌, ◌≤◌, ◌==◌, ◌&&◌, Bool, true, false, cond, Option, Some, None, nat_lt, refl, arith}
 use Rattle.std.proofs.lemmas.Grind.{common_steps}
 use Rattle.bcast_model.specs.Control.{Control, last_end, tell_a_sender, tell_receivers, closing, close, is_deserted, close_if_deserted, accepting, with_cursor}
 use Rattle.bcast_model.specs.History.{History, with_control, view_of}
@@ -46,6 +46,15 @@ receive_is P front end c key cursor lags takes none =
     test_is P (nat_lt cursor front) (with_cursor c key front) (cond (nat_lt cursor end) (with_cursor c key (cursor + 1)) c)
     (λ e. lags (grind (arith, common_steps, e)))
     (λ e. test_is P (nat_lt cursor end) (with_cursor c key (cursor + 1)) c (λ f. takes (grind (arith, common_steps, e)) (grind (arith, common_steps, f))) (λ f. none (grind (arith, common_steps, e)) (grind (arith, common_steps, f))))
+
+-- ---- a receive leaves both lists of who waits
+pub waiting_sends-receive : (front end : ℕ) (c : Control) (key : ℕ) (cursor : Option ℕ) → (receive front end c key cursor).waiting_sends ≡ c.waiting_sends
+waiting_sends-receive front end c key None = refl
+waiting_sends-receive front end c key (Some cursor) = receive_is (λ now. now.waiting_sends ≡ c.waiting_sends) front end c key cursor (λ _. refl) (λ _ _. refl) (λ _ _. refl)
+
+pub waiting_receives-receive : (front end : ℕ) (c : Control) (key : ℕ) (cursor : Option ℕ) → (receive front end c key cursor).waiting_receives ≡ c.waiting_receives
+waiting_receives-receive front end c key None = refl
+waiting_receives-receive front end c key (Some cursor) = receive_is (λ now. now.waiting_receives ≡ c.waiting_receives) front end c key cursor (λ _. refl) (λ _ _. refl) (λ _ _. refl)
 
 module _ {T : Type 0} where
   pub tell_is : (P : History T → Type 0) (may : Bool) (h : History T) → ((may && sends_are_ready (view_of h)) ≡ true → P (with_control h (tell_a_sender h.control))) → ((may && sends_are_ready (view_of h)) ≡ false → P h) → P (end_call may h)

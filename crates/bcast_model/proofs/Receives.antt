@@ -2,7 +2,7 @@
 use Rattle.std.proofs.Common.{◌≡◌, inl, inr, ℕ, zero, suc, ◌+◌, ◌-◌, ◌<◌, ◌≤◌, Bool, true, false, cond, not, List, [], ◌∷◌, length, max, Option, Some, None, Err, nat_lt, slice_get, refl, sym, ap, ◌∙◌, arith}
 use Rattle.std.proofs.lemmas.Grind.{common_steps}
 use Rattle.std.proofs.lemmas.Bool.{cases_lt}
-use Rattle.std.proofs.lemmas.Option.{none-some, same_Some}
+use Rattle.std.proofs.lemmas.Option.{none-some, same_Some, slice_get_past}
 use Rattle.std.specs.Cmp.{nat_cmp_total}
 use Rattle.std.specs.FinMap.{get, insert, len, len-insert}
 use Rattle.bcast_model.specs.declared.error.TryRecvError.TheVariants as unread
@@ -45,6 +45,13 @@ module _ {T : Type 0} where
     | true ↦ λ t e. cc
     | false ↦ λ t e. (let f = found_none v.control.closed (slice_get v.queue (cursor - v.front)) e in record { kept = grind (arith, common_steps, t); read = past_end v.queue (cursor - v.front) f.0; is_open = f.1 })
   ] refl e
+
+  -- who has read all of an open channel finds nothing
+  pub empty_at_end : (v : View T) → IsValidView v → v.control.closed ≡ false → try_recv_reply v (Some v.end) ≡ Err unread.Empty
+  empty_at_end v valid is_open =
+      let reached : nat_lt v.end v.front ≡ false = let high = valid.high in grind (arith, common_steps, high) in
+      let none : slice_get v.queue (v.end - v.front) ≡ None = slice_get_past v.queue (v.end - v.front) (omega (arith, valid.end)) in
+      rw (reached, none, is_open) refl
 
   module _ (v : View T) (valid : IsValidView v) where
     kept_moved : (key cursor to : ℕ) → get v.control.cursors key ≡ Some cursor → cursor < v.end → to ≤ v.end → IsNoLower v to → IsKept v (with_cursor v.control key to)

@@ -20,7 +20,7 @@ use Rattle.bcast_model.specs.ToldPolls.{listener_count, told_count, polls_told}
 use Rattle.bcast_model.proofs.Lists.{all_in}
 use Rattle.bcast_model.proofs.Listeners.{told_listed, told_some}
 use Rattle.bcast_model.proofs.Tests.{test_place, test_pair}
-use Rattle.bcast_model.proofs.Cases.{test_is, close_is, accepting_is, receive_is}
+use Rattle.bcast_model.proofs.Cases.{test_is, close_is, accepting_is, receive_is, waiting_sends-receive, waiting_receives-receive}
 use Rattle.bcast_model.proofs.Receives.{empty_at}
 use Rattle.bcast_model.proofs.Kept.{queue_same}
 use Rattle.bcast_model.proofs.Unrest.{unrest, unrest_gone, unrest_waits, one_gone, waits_last}
@@ -42,14 +42,6 @@ module _ {T : Type 0} (v : View T) (valid : IsValidView v) where
   never false = refl
 
   -- ---- receives
-  receives_stay : (key : ℕ) (cursor : Option ℕ) → (receive v.front v.end v.control key cursor).waiting_receives ≡ v.control.waiting_receives
-  receives_stay key None = refl
-  receives_stay key (Some cursor) = receive_is (λ c. c.waiting_receives ≡ v.control.waiting_receives) v.front v.end v.control key cursor (λ _. refl) (λ _ _. refl) (λ _ _. refl)
-
-  sends_stay : (key : ℕ) (cursor : Option ℕ) → (receive v.front v.end v.control key cursor).waiting_sends ≡ v.control.waiting_sends
-  sends_stay key None = refl
-  sends_stay key (Some cursor) = receive_is (λ c. c.waiting_sends ≡ v.control.waiting_sends) v.front v.end v.control key cursor (λ _. refl) (λ _ _. refl) (λ _ _. refl)
-
   -- a receive that finds nothing moves nobody
   nothing_moves : (key : ℕ) (cursor : Option ℕ) → is_empty_reply (try_recv_reply v cursor) ≡ true → receive v.front v.end v.control key cursor ≡ v.control
   nothing_moves key None e = cc
@@ -66,8 +58,8 @@ module _ {T : Type 0} (v : View T) (valid : IsValidView v) where
     receive_answered listed =
         let gone = one_gone same_pair test_pair pair v.control.waiting_receives valid.control.lists.receives told in
         let some = told_some same_pair test_pair pair v.control.waiting_receives told in
-        let receives = ap (λ (l : Listeners Pair). length (without same_pair pair l.ids)) (receives_stay pair.0 cursor) in
-        let sends = ap (λ (l : Listeners ℕ). length l.ids) (sends_stay pair.0 cursor) in
+        let receives = ap (λ (l : Listeners Pair). length (without same_pair pair l.ids)) (waiting_receives-receive v.front v.end v.control pair.0 cursor) in
+        let sends = ap (λ (l : Listeners ℕ). length l.ids) (waiting_sends-receive v.front v.end v.control pair.0 cursor) in
         lowers_gone (not (sends_are_ready v)) (settle v (sets (pair_answered (receive v.front v.end v.control pair.0 cursor) pair))) (omega (arith, gone, receives, sends)) (omega (arith, some)) listed
 
     receive_waits : unrest (tell_if_ready (not (sends_are_ready v)) (settle v (sets (pair_waits v.control pair)))).control + 1 ≤ unrest v.control

@@ -1,7 +1,6 @@
 -- Polls of told listeners come to rest.
-use Rattle.std.proofs.Common.{◌≡◌, inl, inr, ℕ, ◌+◌, ◌-◌, ◌*◌, ◌≤◌, true, false, cond, not, ◌&&◌, List, [], ◌∷◌, length, drop, max, Option, Some, None, Result, Ok, Err, nat_lt, slice_get, refl, sym, ap, ◌∙◌, subst, arith}
-use Rattle.std.proofs.lemmas.Grind.{common_steps}
-use Rattle.std.proofs.lemmas.Option.{same_Some, slice_get_past}
+use Rattle.std.proofs.Common.{◌≡◌, inl, inr, ℕ, ◌+◌, ◌-◌, ◌*◌, ◌≤◌, true, false, cond, not, ◌&&◌, List, [], ◌∷◌, length, drop, max, Option, Some, None, Result, Ok, Err, refl, sym, ap, ◌∙◌, subst, arith}
+use Rattle.std.proofs.lemmas.Option.{same_Some}
 use Rattle.std.specs.List.{AllByRecursion}
 use Rattle.std.specs.FinMap.{len}
 use Rattle.std.specs.Prelude.{alloc_error}
@@ -26,6 +25,7 @@ use Rattle.bcast_model.specs.ToldPolls.{listener_count, told_count, polls_told, 
 use Rattle.bcast_model.proofs.Lists.{all_in, some}
 use Rattle.bcast_model.proofs.Tests.{test_place, test_pair}
 use Rattle.bcast_model.proofs.Polls.{send_waits_unready}
+use Rattle.bcast_model.proofs.Receives.{empty_at_end}
 use Rattle.bcast_model.proofs.Views.{valid_view}
 use Rattle.bcast_model.proofs.Answers.{next_valid, view_of-next}
 use Rattle.bcast_model.proofs.Unrest.{unrest, triangle}
@@ -81,14 +81,6 @@ module _ {T : Type 0} (is_clone : T → T → Type 0) where
         all_in same_pair test_pair (WouldWait v.control v.end) pair v.control.waiting_receives.ids
         (subst (λ n. AllByRecursion (WouldWait v.control v.end) (drop n v.control.waiting_receives.ids)) untold valid.wake_ups.receives) listed
 
-    -- who has read all of an open channel finds nothing
-    finds_nothing : (pair : Pair) → WouldWait v.control v.end pair → try_recv_reply v (Some v.end) ≡ Err unread.Empty
-    finds_nothing pair waits =
-        let here : nat_lt v.end v.front ≡ false = (let high = valid.high in grind (arith, common_steps, high)) in
-        let none : slice_get v.queue (v.end - v.front) ≡ None = slice_get_past v.queue (v.end - v.front) (omega (arith, valid.end)) in
-        let open_now = waits.is_open in
-        rw (here, none, open_now) refl
-
     unowed : (key : ℕ) (cursor : Option ℕ) → cursor ≡ Some v.end → IsOwed v key cursor → ⊥
     unowed key cursor at owed = let same = same_Some v.end owed.number (sym at ∙ owed.at) in let below = owed.kept.1 in omega (arith, same, below)
 
@@ -111,15 +103,15 @@ module _ {T : Type 0} (is_clone : T → T → Type 0) where
         send_waits_unready is_clone v place msg r placed legal ∙ unready place listed
     quiet_view (call.PollFuture key) r listed legal =
         let waits = asleep (future_of key) listed in
-        must_receive_wait key (cursor_of v.control key) (λ answer. reply.PollFuture (Ok (future_reply answer))) (reply.PollFuture (Err alloc_error)) r waits.at_end (finds_nothing (future_of key) waits) refl legal
+        must_receive_wait key (cursor_of v.control key) (λ answer. reply.PollFuture (Ok (future_reply answer))) (reply.PollFuture (Err alloc_error)) r waits.at_end (empty_at_end v valid waits.is_open) refl legal
     quiet_view (call.PollRecv key) r listed legal =
         let waits = asleep (stream_of key) listed in
-        must_receive_wait key (cursor_of v.control key) (λ answer. reply.PollRecv (Ok (stream_reply answer))) (reply.PollRecv (Err alloc_error)) r waits.at_end (finds_nothing (stream_of key) waits) refl legal
+        must_receive_wait key (cursor_of v.control key) (λ answer. reply.PollRecv (Ok (stream_reply answer))) (reply.PollRecv (Err alloc_error)) r waits.at_end (empty_at_end v valid waits.is_open) refl legal
     quiet_view (call.PollNext key) r listed legal =
         let waits = asleep (stream_of key) listed in
         let front : max v.end v.front ≡ v.end = omega (arith, valid.high) in
         let skip : skipped_to v.front (cursor_of v.control key) ≡ Some v.end = ap (skipped_to v.front) waits.at_end ∙ ap (λ n. Some n) front in
-        must_receive_wait key (skipped_to v.front (cursor_of v.control key)) (λ answer. reply.PollNext (Ok (next_reply (skipped_count v.front (cursor_of v.control key)) answer))) (reply.PollNext (Err alloc_error)) r skip (finds_nothing (stream_of key) waits) refl legal
+        must_receive_wait key (skipped_to v.front (cursor_of v.control key)) (λ answer. reply.PollNext (Ok (next_reply (skipped_count v.front (cursor_of v.control key)) answer))) (reply.PollNext (Err alloc_error)) r skip (empty_at_end v valid waits.is_open) refl legal
     quiet_view c r listed legal = cc
 
   -- both

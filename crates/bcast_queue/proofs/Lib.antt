@@ -7,5 +7,7 @@ pub mod Front
 pub mod Pointwise
 -- owed counts by the counts of who reads next
 pub mod OwedBy
+-- the messages at the front that nobody owes
+pub mod Unowed
 -- what is seen of a queue
 pub mod Queues

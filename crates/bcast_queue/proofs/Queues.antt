@@ -7,7 +7,8 @@ use Rattle.bcast_queue.specs.Queue.{one_fewer_from, Queued, queue_with, without,
 use Rattle.bcast_queue.specs.Entries.{counts, next_of, message_of, owed_by, queue_of, IsSound}
 use Rattle.bcast_queue.proofs.Owed.{RisesFrom, at_least}
 use Rattle.bcast_queue.proofs.Front.{nobody, none_gone}
-use Rattle.bcast_queue.proofs.OwedBy.{AreUnowed, RisesFrom-owed_by, length-owed_by}
+use Rattle.bcast_queue.proofs.OwedBy.{RisesFrom-owed_by, length-owed_by}
+use Rattle.bcast_queue.proofs.Unowed.{AreUnowed}
 
 -- at the end nobody leaves
 fewer_at_end : (i : ℕ) (ns : List ℕ) → length ns ≤ i → ns ≡ one_fewer_from i ns

@@ -6,7 +6,8 @@ use Rattle.bcast_queue.specs.Queue.{one_fewer_from, queue_with}
 use Rattle.bcast_queue.specs.Entries.{counts, messages, next_of, message_of, owed_by}
 use Rattle.bcast_queue.proofs.Owed.{at_least}
 use Rattle.bcast_queue.proofs.Front.{nobody}
-use Rattle.bcast_queue.proofs.OwedBy.{AreUnowed-front, RisesFrom-owed_by, somebody_next, first_kept, get_or-owed_by, sum-none}
+use Rattle.bcast_queue.proofs.OwedBy.{RisesFrom-owed_by, somebody_next, first_kept, get_or-owed_by}
+use Rattle.bcast_queue.proofs.Unowed.{AreUnowed-front, sum-none}
 use Rattle.bcast_queue.proofs.Queues.{IsQueue-seen, left_at_end, left_behind, left_front, same_queue}
 use Rattle.bcast_queue.proofs.Queue.leave.Goals as goal
 use Rattle.bcast_queue.proofs.Queue.leave.Goals.{else-index-eq0-via-then-index-eq0+else-self-eq0, else-index-eq0-via-else-index-eq0}
