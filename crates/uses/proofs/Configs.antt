@@ -1,5 +1,5 @@
 -- A channel of capacity 1 in overflow mode: what its calls leave.
-use Rattle.std.proofs.Common.{◌≡◌, inl, inr, ℕ, ◌+◌, ◌-◌, ◌≤◌, true, false, [], ◌∷◌, length, max, Option, Some, None, Result, Ok, Err, IfOk, IfErr, OnOk, refl, sym, ap, ◌∙◌, subst, arith}
+use Rattle.std.proofs.Common.{◌≡◌, inl, inr, ℕ, ◌+◌, ◌-◌, ◌≤◌, true, false, [], ◌∷◌, length, max, Option, Some, None, Result, Ok, Err, IfOk, OnOk, refl, sym, ap, ◌∙◌, subst, arith}
 use Rattle.std.proofs.lemmas.Bool.{cases_lt}
 use Rattle.std.proofs.lemmas.List.{drop_at, nil_from_length}
 use Rattle.std.proofs.lemmas.Grind.{common_steps}
@@ -16,7 +16,6 @@ use Rattle.bcast_model.specs.History.{least}
 use Rattle.bcast_model.specs.ListenerId.{stream_of}
 use Rattle.bcast_model.specs.Control.{Control, with_cursor, pair_waits, pair_answered, cursor_of, accepting}
 use Rattle.bcast_model.specs.Effect.{sets}
-use Rattle.bcast_model.specs.Errors.{unsent_message}
 use Rattle.bcast_model.specs.Receiving.{receive, listens, skipped_to, is_empty_reply, try_recv_reply}
 use Rattle.bcast_model.specs.Sending.{accept}
 use Rattle.bcast_model.specs.Steps.{settle}
@@ -26,7 +25,7 @@ use Rattle.bcast_model.specs.Laws.{IsValidView}
 use Rattle.bcast_model.proofs.Cases.{receive_is, test_is}
 use Rattle.bcast_model.proofs.Least.{least-le-cursor, len_insert}
 use Rattle.bcast_core.proofs.Settle.{inserted, somebody, cursors-accepting}
-use Rattle.uses.specs.Config.{IsConfig, IsUpToDate, KeepsOthers}
+use Rattle.uses.specs.Config.{IsConfig, IsUpToDate, KeepsOthers, set_answer}
 use Rattle.uses.proofs.Called.{valid, after, unchanged, on_ok}
 use Rattle.uses.proofs.Cursors.{get-insert_other}
 use Rattle.uses.proofs.Sends.{accepted}
@@ -138,6 +137,6 @@ module _ {S : Type 0} where
       accepted a (λ u. (u.queue ≡ msg ∷ []) × (u.end ≡ v.end + 1)) (λ _ s. s) (drop_at v.queue (msg ∷ []) (max (max v.front (accept v msg).floor) low - v.front) size, refl)
 
   pub set_latest : {is_clone : S → S → Type 0} {v w : View S} {msg : S} (result : Result (Option S) (TrySendError S)) (kept : Result (Unit {0}) S) → Answers is_clone v (call.TryBroadcast msg) (reply.TryBroadcast result) w → IsConfig v
-      → IfErr result (λ error. kept ≡ Err (unsent_message error)) → OnOk kept ((w.queue ≡ msg ∷ []) × (w.end ≡ v.end + 1))
-  set_latest (Ok back) kept a config err = on_ok kept (latest a config)
-  set_latest {v = v} {w = w} {msg = msg} (Err error) kept a config err = subst (λ k. OnOk k ((w.queue ≡ msg ∷ []) × (w.end ≡ v.end + 1))) (sym err) tt
+      → kept ≡ set_answer result → OnOk kept ((w.queue ≡ msg ∷ []) × (w.end ≡ v.end + 1))
+  set_latest (Ok back) kept a config is = on_ok kept (latest a config)
+  set_latest {v = v} {w = w} {msg = msg} (Err error) kept a config is = subst (λ k. OnOk k ((w.queue ≡ msg ∷ []) × (w.end ≡ v.end + 1))) (sym is) tt

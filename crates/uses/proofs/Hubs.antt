@@ -13,6 +13,7 @@ use Rattle.bcast_model.specs.Control.{Control, with_cursor, cursor_of}
 use Rattle.bcast_model.specs.Effect.{sets}
 use Rattle.bcast_model.specs.Handles.{deactivate}
 use Rattle.bcast_model.specs.History.{opening, view_of}
+use Rattle.bcast_model.specs.Legal.{NoClone}
 use Rattle.bcast_model.specs.Receiving.{receive}
 use Rattle.bcast_model.specs.Steps.{settle}
 use Rattle.bcast_model.specs.View.{View}
@@ -39,7 +40,7 @@ module _ {T : Type 0} where
   told_hub u hub = record { overflow = hub.overflow; sender = hub.sender; inactive = hub.inactive }
 
   -- a new channel whose only receiver is deactivated is a new hub
-  pub opened_hub : {is_clone : T → T → Type 0} {v w : View T} {key capacity : ℕ} {u : Unit {0}} → Answers is_clone v (call.Deactivate key) (reply.Deactivate (Ok u)) w → Represents v (opening capacity 0 key) → IsHub w × IsOpened w capacity
+  pub opened_hub : {v w : View T} {key capacity : ℕ} → Answers NoClone v (call.Deactivate key) (reply.Deactivate (Ok tt)) w → Represents v (opening capacity 0 key) → IsHub w × IsOpened w capacity
   opened_hub {v = v} {w = w} {key = key} {capacity = capacity} a new =
       let first : View T = view_of (opening capacity 0 key) in
       let left : IsHub w × (w.control.capacity ≡ capacity) × (w.control.closed ≡ false) × (w.end ≡ 0) × (len w.control.cursors ≡ 0) =
@@ -49,7 +50,7 @@ module _ {T : Type 0} where
       (record { overflow = refl; sender = omega arith; inactive = omega arith }, refl, refl, refl, nobody key))) in
       let end = (valid_after a).end in
       let unused = left.3 in
-      (left.0, record { capacity = left.1; closed = left.2; queue = nil_from_length w.queue (omega (arith, end, unused)); subscribers = left.4 })
+      (left.0, record { capacity = left.1; closed = left.2; queue = nil_from_length w.queue (omega (arith, end, unused)); subscribers = left.4; made = v; first = key; opened = new; left = a })
 
   -- a receive leaves a hub a hub
   pub received_hub : {is_clone : T → T → Type 0} {v w : View T} {key : ℕ} {received : Result T TryRecvError} → Answers is_clone v (call.TryRecv key) (reply.TryRecv (Ok received)) w → IsHub v → IsHub w

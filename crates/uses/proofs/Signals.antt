@@ -20,7 +20,7 @@ use Rattle.bcast_model.proofs.Cases.{receive_is}
 use Rattle.bcast_core.proofs.Settle.{inserted}
 use Rattle.uses.specs.Signal.{signal_of, IsSignal, AddsWorker, is_closed_reply}
 use Rattle.uses.proofs.Called.{valid, after, unchanged, some_of}
-use Rattle.uses.proofs.Cursors.{some_insert}
+use Rattle.uses.proofs.Cursors.{get-insert_other, some_insert}
 
 abbrev Nothing : Type 0
 Nothing = Unit {0}
@@ -66,9 +66,10 @@ module _ {is_clone : Nothing → Nothing → Type 0} {v w : View Nothing} {key :
 
 -- a worker more
 pub added : {is_clone : Nothing → Nothing → Type 0} {v w : View Nothing} (result : Result ℕ HandleError) → Answers is_clone v call.NewReceiver (reply.NewReceiver result) w → IfOk result (AddsWorker (signal_of v) (signal_of w))
-added {v = v} (Ok key) a = after a (λ u. AddsWorker (signal_of v) (signal_of u) key) (λ u s. record { holders = s.holders; worker = s.worker; others = s.others }) (record {
+added {v = v} (Ok key) a = after a (λ u. AddsWorker (signal_of v) (signal_of u) key) (λ u s. record { holders = s.holders; worker = s.worker; others = s.others; only = s.only }) (record {
   holders = refl;
   worker = subst IsSome (sym (inserted v.control.cursors key v.end)) refl;
   others = λ other is. some_insert v.control.cursors key v.end other is;
+  only = λ other differs is. subst IsSome (get-insert_other v.control.cursors key v.end other differs) is;
 })
 added (Err error) a = tt

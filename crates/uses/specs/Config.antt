@@ -1,13 +1,16 @@
 -- Settings that watchers follow: what one finds that looks late.
-use Rattle.std.specs.Prelude.{◌≡◌, ◌≢◌, ℕ, ◌+◌, ◌≤◌, true, [], ◌∷◌, Option, Some, None, Ok}
+use Rattle.std.specs.Prelude.{◌≡◌, ◌≢◌, ℕ, ◌+◌, ◌≤◌, true, [], ◌∷◌, Option, Some, None, Result, Ok, Err}
 use Rattle.std.specs.FinMap.{get, len}
 use Rattle.futures.specs.declared.task.Poll.{Poll}
 use Rattle.futures.specs.declared.task.Poll.TheVariants as poll
-use Rattle.bcast_model.specs.Legal.{IsGiven}
+use Rattle.bcast_model.specs.declared.error.TrySendError.{TrySendError}
+use Rattle.bcast_model.specs.Errors.{unsent_message}
+use Rattle.bcast_model.specs.History.{opening}
+use Rattle.bcast_model.specs.Legal.{IsGiven, NoClone}
 use Rattle.bcast_model.specs.declared.run.Call.TheVariants as call
 use Rattle.bcast_model.specs.declared.run.Reply.TheVariants as reply
 use Rattle.bcast_model.specs.View.{View}
-use Rattle.bcast_model.specs.Answers.{Answers}
+use Rattle.bcast_model.specs.Answers.{Answers, Represents}
 use Rattle.uses.specs.declared.config_watcher.Change.{Change}
 
 module _ {S : Type 0} where
@@ -16,6 +19,24 @@ module _ {S : Type 0} where
     pub capacity : v.control.capacity ≡ 1
     pub overflow : v.control.overflow ≡ true
     pub watchers : 1 ≤ len v.control.cursors
+
+  -- a channel as `broadcast` makes it, and `set_overflow`: nothing is set, and one watches
+  pub record IsUnset (v : View S) (watcher : ℕ) : Type 0 where
+    pub made : View S
+    pub opened : Represents made (opening 1 0 watcher)
+    pub overflow : Answers NoClone made (call.SetOverflow true) reply.SetOverflow v
+
+  -- `try_broadcast`: done, or the settings that were refused
+  abbrev pub set_answer : Result (Option S) (TrySendError S) → Result (Unit {0}) S
+  set_answer (Ok replaced) = Ok tt
+  set_answer (Err error) = Err (unsent_message error)
+
+  -- `try_broadcast`: its reply, read as done or refused, and all that it changes
+  pub record IsSet
+      (old : View S) (settings : S) (result : Result (Unit {0}) S) (new : View S) : Type 0 where
+    pub sent : Result (Option S) (TrySendError S)
+    pub read : result ≡ set_answer sent
+    pub answers : Answers NoClone old (call.TryBroadcast settings) (reply.TryBroadcast sent) new
 
   -- `poll_next`: the latest settings or a clone of them, and the count of those set between the
   -- watcher's last look and them

@@ -5,7 +5,9 @@ use Rattle.bcast_model.specs.declared.error.TryRecvError.{TryRecvError}
 use Rattle.bcast_model.specs.declared.run.Call.TheVariants as call
 use Rattle.bcast_model.specs.declared.run.Reply.TheVariants as reply
 use Rattle.bcast_model.specs.View.{View}
-use Rattle.bcast_model.specs.Answers.{Answers}
+use Rattle.bcast_model.specs.History.{opening}
+use Rattle.bcast_model.specs.Legal.{NoClone}
+use Rattle.bcast_model.specs.Answers.{Answers, Represents}
 
 module _ {E : Type 0} where
   -- a full hub refuses, and the hub itself keeps the channel open by a sender and an inactive
@@ -21,6 +23,10 @@ module _ {E : Type 0} where
     pub closed : v.control.closed ≡ false
     pub queue : v.queue ≡ []
     pub subscribers : len v.control.cursors ≡ 0
+    pub made : View E
+    pub first : ℕ
+    pub opened : Represents made (opening asked 0 first)
+    pub left : Answers NoClone made (call.Deactivate first) (reply.Deactivate (Ok tt)) v
 
   -- `try_recv`: the message that it gives, if any
   abbrev pub event_of : Result E TryRecvError → Option E

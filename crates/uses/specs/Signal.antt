@@ -1,5 +1,5 @@
 -- What callers see of a signal to stop: how many hold it, and who waits for it.
-use Rattle.std.specs.Prelude.{◌≡◌, ℕ, ◌==◌, Bool, true, false, IsSome, Result, Ok, Err, refl}
+use Rattle.std.specs.Prelude.{◌≡◌, ◌≢◌, ℕ, ◌==◌, Bool, true, false, IsSome, Result, Ok, Err, refl}
 use Rattle.std.specs.declared.alloc.AllocError.{AllocError}
 use Rattle.std.specs.Coded.{Coded, code_by, coded×, coded_ℕ}
 use Rattle.std.specs.FinMap.{code, get}
@@ -31,11 +31,12 @@ pub record IsSignal (v : View (Unit {0})) : Type 0 where
 abbrev pub IsWorker : Signal → ℕ → Type 0
 IsWorker s key = IsSome (get s.workers key)
 
--- `new_receiver`: one worker more, and the others stay
+-- `new_receiver`: one worker more, and no other comes or goes
 pub record AddsWorker (old new : Signal) (added : ℕ) : Type 0 where
   pub holders : new.holders ≡ old.holders
   pub worker : IsWorker new added
   pub others : (key : ℕ) → IsWorker old key → IsWorker new key
+  pub only : (key : ℕ) → key ≢ added → IsWorker new key → IsWorker old key
 
 -- `try_recv`: whether it says that everything was read and the channel is closed
 abbrev pub is_closed_reply : Result (Result (Unit {0}) TryRecvError) AllocError → Bool

@@ -2,10 +2,10 @@
 ghost use Rattle.std.specs.Prelude.{◌≡◌, ◌+◌, ◌<◌, ◌^◌, [], ◌∷◌, false, Some, IfOk, IfErr, IfSome, IfNone, OnOk, OnErr, IsOk};
 ghost use Rattle.std.specs.FinMap.{get};
 ghost use Rattle.bcast_model.specs.Answers.{Answers};
-ghost use Rattle.bcast_model.specs.Errors.{unsent_message};
+ghost use Rattle.bcast_model.specs.Legal.{NoClone};
 ghost use Rattle.bcast_model.specs.declared.run.Call.TheVariants as call;
 ghost use Rattle.bcast_model.specs.declared.run.Reply.TheVariants as reply;
-ghost use Rattle.uses.specs.Config.{IsLatest, IsUpToDate, KeepsOthers, IsLook, change_of};
+ghost use Rattle.uses.specs.Config.{IsUnset, IsSet, IsLatest, IsUpToDate, KeepsOthers, IsLook, set_answer, change_of};
 
 use bcast_core::{HandleError, Inner, Silent, Steps, TrySendError};
 use futures::task::Poll;
@@ -53,9 +53,10 @@ impl<S: Clone> Config<S> {
     ///
     /// `AllocError`: there is no memory for the channel.
     pub fn new(alloc: Global) -> Result<(Self, usize), AllocError>
-        ensures unset { IfOk result (λ made. made.0.end ≡ 0) }
+        ensures unused { IfOk result (λ made. made.0.end ≡ 0) }
         ensures watcher { IfOk result (λ made. get made.0.control.cursors made.1 ≡ Some 0) }
         ensures is_open { IfOk result (λ made. made.0.control.closed ≡ false) }
+        ensures unset { IfOk result (λ made. IsUnset made.0 made.1) }
     {
         let (mut inner, watcher) = Inner::new(alloc, 1)?;
         inner.set_overflow(true);
@@ -78,6 +79,7 @@ impl<S: Clone> Config<S> {
         ensures is_open { self.old.control.closed ≡ false → IsOk result }
         ensures stays { self.old.control.closed ≡ false → self.old.end + 2 < 2 ^ 64
             → self.new.control.closed ≡ false }
+        ensures answers { IsSet self.old settings result self.new }
     {
         into_settings(self.inner.try_broadcast(settings))
     }
@@ -92,6 +94,8 @@ impl<S: Clone> Config<S> {
             get self.new.control.cursors made ≡ Some self.old.end) }
         ensures others { IfOk result (λ made. KeepsOthers self.old self.new made) }
         ensures err { OnErr result (self.new ≡ self.old) }
+        ensures answers { Answers NoClone self.old call.NewReceiver (reply.NewReceiver result)
+            self.new }
     {
         self.inner.new_receiver()
     }
@@ -137,8 +141,7 @@ fn poll_next<S: Clone, L: Ledger>(
 
 // The settings that were refused.
 fn into_settings<S: Drop>(sent: Result<Option<S>, TrySendError<S>>) -> Result<(), S>
-    ensures ok { OnOk sent (IsOk result) }
-    ensures err { IfErr sent (λ error. result ≡ Err (unsent_message error)) }
+    ensures { result ≡ set_answer sent }
 {
     match sent {
         Ok(_replaced) => Ok(()),

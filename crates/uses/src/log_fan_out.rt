@@ -2,7 +2,8 @@
 ghost use Rattle.std.specs.Prelude.{◌≡◌, ◌↔◌, ◌<◌, ◌∷◌, [], false, IfOk, IfErr, IfSome, IfNone, OnOk, OnErr, IsErrOf};
 ghost use Rattle.bcast_model.specs.Errors.{unsent_message};
 ghost use Rattle.bcast_model.specs.Legal.{NoClone};
-ghost use Rattle.bcast_model.specs.Answers.{Answers};
+ghost use Rattle.bcast_model.specs.History.{opening};
+ghost use Rattle.bcast_model.specs.Answers.{Answers, Represents};
 ghost use Rattle.bcast_model.specs.declared.run.Call.TheVariants as call;
 ghost use Rattle.bcast_model.specs.declared.run.Reply.TheVariants as reply;
 ghost use Rattle.uses.specs.Sends.{send_answer, send_reply};
@@ -50,6 +51,7 @@ impl Log {
         ensures empty { IfOk result (λ made. unread made.0 made.1 ≡ []) }
         ensures capacity { IfOk result (λ made. made.0.control.capacity ≡ capacity) }
         ensures is_open { IfOk result (λ made. made.0.control.closed ≡ false) }
+        ensures opened { IfOk result (λ made. Represents made.0 (opening capacity 0 made.1)) }
     {
         let (inner, reader) = Inner::new(alloc, capacity)?;
         Ok((Log { inner }, reader))

@@ -1,5 +1,6 @@
 //! A signal to stop, given by the drop of the last sender.
 ghost use Rattle.std.specs.Prelude.{◌≡◌, ◌+◌, ◌-◌, ◌==◌, ◌<◌, ◌^◌, IfOk, OnOk, OnErr, IsOk, IsErrOf};
+ghost use Rattle.std.specs.FinMap.{empty, insert};
 ghost use Rattle.uses.specs.Signal.{IsWorker, AddsWorker, is_closed_reply};
 
 use bcast_core::{HandleError, Inner, Silent, TryRecvError};
@@ -36,6 +37,7 @@ impl Shutdown {
     pub fn new(alloc: Global) -> Result<(Self, usize), AllocError>
         ensures holders { IfOk result (λ made. made.0.holders ≡ 1) }
         ensures worker { IfOk result (λ made. IsWorker made.0 made.1) }
+        ensures only { IfOk result (λ made. made.0.workers ≡ insert empty made.1 0) }
     {
         let (inner, worker) = Inner::new(alloc, 1)?;
         Ok((Shutdown { inner }, worker))
