@@ -10,10 +10,29 @@ use circular_buffer::HeapCircularBuffer;
 use std::alloc::Allocator;
 use std::sync::ledger::Ledger;
 
-// Changes the count of the message at `index`, and returns what it is then. This is one step, and
-// the only way to a count of a message that is in the ring.
+// Changes the count of an entry, and returns what it is then. This is one step, and the only way
+// to a count but where a message is made.
 #[inline(always)]
-pub(crate) fn change<T, A: Allocator, L: Ledger>(
+pub(crate) fn change<T, L: Ledger>(
+    entry: &mut Entry<T>,
+    more: usize,
+    fewer: usize,
+    steps: &mut Steps<L>,
+) -> usize
+    requires enough { fewer ≤ entry.old.next }
+    requires fits { entry.old.next + more < 2 ^ 64 }
+    ensures value { result ≡ entry.old.next + more - fewer }
+    ensures entry { entry.new ≡ record entry.old { next = result } }
+    ensures steps { steps.new ≡ steps.old + 1 }
+{
+    entry.next = entry.next + more - fewer;
+    steps.count();
+    entry.next
+}
+
+// The same for the message at `index`.
+#[inline(always)]
+pub(crate) fn change_at<T, A: Allocator, L: Ledger>(
     ring: &mut HeapCircularBuffer<Entry<T>, A>,
     index: usize,
     more: usize,
@@ -32,9 +51,25 @@ pub(crate) fn change<T, A: Allocator, L: Ledger>(
     let Some(entry) = ring.get_mut(index) else {
         unreachable!()
     };
-    entry.next = entry.next + more - fewer;
-    steps.count();
-    entry.next
+    change(entry, more, fewer, steps)
+}
+
+// How many read the message at `index` next.
+#[inline(always)]
+pub(crate) fn count_at<T, A: Allocator, L: Ledger>(
+    ring: &mut HeapCircularBuffer<Entry<T>, A>,
+    index: usize,
+    steps: &mut Steps<L>,
+) -> usize
+    requires within { index < length ring.old.items }
+    requires fits { slice_index (counts ring.old) index < 2 ^ 64 }
+    ensures value { result ≡ slice_index (counts ring.old) index }
+    ensures counts { counts ring.new ≡ counts ring.old }
+    ensures messages { messages ring.new ≡ messages ring.old }
+    ensures capacity { ring.new.capacity ≡ ring.old.capacity }
+    ensures steps { steps.new ≡ steps.old + 1 }
+{
+    change_at(ring, index, 0, 0, steps)
 }
 
 // Adds a reader of the message at `index` and of those behind it, if there are any.
@@ -56,8 +91,8 @@ pub(crate) fn add_reader<T, A: Allocator, L: Ledger>(
     ensures steps { steps.new ≤ steps.old + 1 }
 {
     if index < ring.len() {
-        change(ring, index, 1, 0, steps);
         *total += 1;
+        change_at(ring, index, 1, 0, steps);
     }
 }
 
@@ -87,9 +122,9 @@ pub(crate) fn take_reader<T, A: Allocator, L: Ledger>(
     *total -= 1;
     if index == 0 && *behind > 0 {
         *behind -= 1;
-        change(ring, 0, 0, 0, steps)
+        count_at(ring, 0, steps)
     } else {
-        change(ring, index, 0, 1, steps)
+        change_at(ring, index, 0, 1, steps)
     }
 }
 
@@ -121,6 +156,6 @@ pub(crate) fn drop_unowed<T: Drop, A: Allocator, L: Ledger>(
         if ring.is_empty() {
             return;
         }
-        next = change(ring, 0, 0, 0, steps);
+        next = count_at(ring, 0, steps);
     }
 }

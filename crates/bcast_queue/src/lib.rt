@@ -219,18 +219,14 @@ impl<T, A: Allocator> Queue<T, A> {
         ensures none { IfNone result (self.new ≡ self.old) }
         ensures steps { steps.new ≤ steps.old + 1 }
     {
-        if self.ring.is_empty() {
-            return None;
-        }
-        let next = change(&mut self.ring, 0, 0, 0, steps);
-        let Some(entry) = self.ring.pop_front() else {
-            unreachable!()
-        };
+        let mut entry = self.ring.pop_front()?;
+        let next = change(&mut entry, 0, 0, steps);
         self.front += 1;
-        self.behind += next;
         if self.ring.is_empty() {
             self.behind = 0;
             self.total = 0;
+        } else {
+            self.behind += next;
         }
         Some(entry.message)
     }

@@ -5,7 +5,7 @@ ghost use Rattle.std.specs.Option.{ForSome, IsSomeAnd};
 ghost use Rattle.std.specs.Result.{IsOkAnd};
 ghost use Rattle.bcast_queue.specs.Queue.{last_item, with_reader, without_reader, read_at};
 
-use crate::counts::{add_reader, change, drop_unowed, take_reader};
+use crate::counts::{add_reader, count_at, drop_unowed, take_reader};
 use crate::{Queue, Steps};
 use std::alloc::{AllocError, Allocator};
 use std::sync::ledger::Ledger;
@@ -69,7 +69,11 @@ impl<T: Clone, A: Allocator> Queue<T, A> {
         ensures same { self.new ≡ self.old }
         ensures steps { steps.new ≤ steps.old + 1 }
     {
-        index == 0 && self.behind + change(&mut self.ring, 0, 0, 0, steps) == 1
+        let next = count_at(&mut self.ring, index, steps);
+        if index > 0 {
+            return false;
+        }
+        self.behind + next == 1
     }
 
     // Takes a reader away from the message at `index` alone, which has another.

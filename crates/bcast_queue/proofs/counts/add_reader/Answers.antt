@@ -8,8 +8,8 @@ use Rattle.bcast_queue.proofs.counts.add_reader.Goals as goal
 pub returns-then-index-len-clause-owed : goal.returns-then-index-len-clause-owed
 returns-then-index-len-clause-owed g c =
     let ring = c.args.ring.now in
-    ap (owed_by c.args.behind) c.change.ensures.counts
-    ∙ owed_by-more c.args.behind c.args.index c.change.result (counts ring) (omega (arith, length-map ring.items next_of)) (omega (arith, c.change.ensures.value))
+    ap (owed_by c.args.behind) c.change_at.ensures.counts
+    ∙ owed_by-more c.args.behind c.args.index c.change_at.result (counts ring) (omega (arith, length-map ring.items next_of)) (omega (arith, c.change_at.ensures.value))
 
 pub returns-else-index-len-clause-owed : goal.returns-else-index-len-clause-owed
 returns-else-index-len-clause-owed g c =

@@ -1,7 +1,7 @@
 -- Each turn drops the first message, and there are fewer then.
-use Rattle.std.proofs.Common.{◌≡◌, ◌+◌, ◌<◌, length, get_or, set, drop, sum, sym, ap, ◌∙◌, arith, length-drop}
+use Rattle.std.proofs.Common.{◌≡◌, ◌+◌, ◌<◌, length, get_or, drop, sum, sym, ap, ◌∙◌, arith, length-drop}
 use Rattle.std.specs.List.{prefix_len}
-use Rattle.std.proofs.lemmas.List.{set-get_or, length-map, drop-map, drop-drop}
+use Rattle.std.proofs.lemmas.List.{length-map, drop-map, drop-drop}
 use Rattle.std.proofs.lemmas.List.Sums.{sum_by-take-drop}
 use Rattle.bcast_queue.specs.Entries.{counts, messages, next_of, message_of}
 use Rattle.bcast_queue.proofs.Front.{nobody, one_nobody}
@@ -11,14 +11,14 @@ pub loop-next-preserved : goal.loop-next-preserved
 loop-next-preserved g c =
     let q = c.loop-next.ring in
     let p = c.pop_front.new.self in
-    let t = c.change-next.new.ring in
+    let t = c.count_at-next.new.ring in
     let inv = c.loop-next.invariant in
     let rest = drop 1 (counts q) in
     let popped : counts p ≡ rest = ap counts c.pop_front.ensures.items ∙ sym (drop-map next_of 1 q.items) in
-    let value : c.change-next.result ≡ get_or (counts p) 0 0 = omega (arith, c.change-next.ensures.value) in
-    let changed : counts t ≡ counts p = c.change-next.ensures.counts ∙ ap (set (counts p) 0) value ∙ set-get_or (counts p) 0 0 in
+    let value : c.count_at-next.result ≡ get_or (counts p) 0 0 = omega (arith, c.count_at-next.ensures.value) in
+    let changed : counts t ≡ counts p = c.count_at-next.ensures.counts in
     let same : counts t ≡ rest = changed ∙ popped in
-    let kept : messages t ≡ drop 1 (messages q) = c.change-next.ensures.messages ∙ ap messages c.pop_front.ensures.items ∙ sym (drop-map message_of 1 q.items) in
+    let kept : messages t ≡ drop 1 (messages q) = c.count_at-next.ensures.messages ∙ ap messages c.pop_front.ensures.items ∙ sym (drop-map message_of 1 q.items) in
     let one : prefix_len nobody (counts q) ≡ 1 + prefix_len nobody rest =
     one_nobody (counts q) (omega (arith, inv.some, length-map q.items next_of)) (sym inv.next ∙ c.loop-next-test.true) in
     let fewer : length t.items + 1 ≡ length q.items =
@@ -38,9 +38,9 @@ loop-next-preserved g c =
           ∙ drop-drop (prefix_len nobody rest) 1 (counts q)
           ∙ ap (λ n. drop n (counts q)) (sym one)
           ∙ inv.counts_left;
-      capacity = c.change-next.ensures.capacity ∙ ap (λ b. b.capacity) c.pop_front.ensures.items ∙ inv.capacity;
+      capacity = c.count_at-next.ensures.capacity ∙ ap (λ b. b.capacity) c.pop_front.ensures.items ∙ inv.capacity;
       front = omega (arith, ap (prefix_len nobody) same, one, inv.front);
       numbered = omega (arith, fewer, inv.numbered);
       fits = omega (arith, ap sum same, sum_by-take-drop (λ x. x) (counts q) 1, inv.fits);
-      steps = omega (arith, fewer, inv.steps, c.change-next.ensures.steps);
+      steps = omega (arith, fewer, inv.steps, c.count_at-next.ensures.steps);
     }

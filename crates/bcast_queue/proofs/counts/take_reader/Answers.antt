@@ -1,6 +1,6 @@
 -- One count less is one reader fewer from there on.
-use Rattle.std.proofs.Common.{◌≡◌, ◌-◌, ◌<◌, get_or, set, ap, sym, ◌∙◌, arith}
-use Rattle.std.proofs.lemmas.List.{set-get_or, length-map}
+use Rattle.std.proofs.Common.{◌-◌, ◌<◌, get_or, ap, sym, ◌∙◌, arith}
+use Rattle.std.proofs.lemmas.List.{length-map}
 use Rattle.bcast_queue.specs.Queue.{one_fewer_from}
 use Rattle.bcast_queue.specs.Entries.{counts, owed_by, next_of}
 use Rattle.bcast_queue.proofs.OwedBy.{one_fewer, owed_by-fewer}
@@ -11,8 +11,7 @@ pub returns-then-behind-gt0-clause-owed : goal.returns-then-behind-gt0-clause-ow
 returns-then-behind-gt0-clause-owed g c =
     let ns = counts c.args.ring.now in
     let b = c.args.behind.now in
-    let same : c.change.result ≡ get_or ns 0 0 = omega (arith, c.change.ensures.value) in
-    ap (owed_by (b - 1)) (c.change.ensures.counts ∙ ap (set ns 0) same ∙ set-get_or ns 0 0)
+    ap (owed_by (b - 1)) c.count_at.ensures.counts
     ∙ one_fewer b (b - 1) ns (omega (arith, c.if-behind-gt0.true))
     ∙ ap (λ i. one_fewer_from i (owed_by b ns)) (sym c.if-index-eq0.true)
 
@@ -25,5 +24,5 @@ returns-else-index-eq0-clause-owed g c =
       | else-index-eq0-via-then-index-eq0+else-behind-gt0 w ↦ rw w.if-index-eq0.true (omega (arith, c.requires.first, w.if-behind-gt0.false))
       | else-index-eq0-via-else-index-eq0 w ↦ c.requires.next (grind (arith, w.if-index-eq0.false))
     ] in
-    ap (owed_by b) c.change-else-index-eq0.ensures.counts
-    ∙ owed_by-fewer b c.args.index c.change-else-index-eq0.result (counts ring) (omega (arith, c.requires.within, length-map ring.items next_of)) (omega (arith, c.change-else-index-eq0.ensures.value, some))
+    ap (owed_by b) c.change_at.ensures.counts
+    ∙ owed_by-fewer b c.args.index c.change_at.result (counts ring) (omega (arith, c.requires.within, length-map ring.items next_of)) (omega (arith, c.change_at.ensures.value, some))
