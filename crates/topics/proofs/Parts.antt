@@ -1,5 +1,5 @@
 -- One exchange more: what it does to each topic's part of the calls.
-use Rattle.std.proofs.Common.{◌≡◌, ℕ, List, [], ◌∷◌, ◌++◌, map, Bool, true, false, Option, None, Some, refl, sym, ap, ◌∙◌, subst, append_assoc, append-nil, length, arith}
+use Rattle.std.proofs.Common.{◌≡◌, ℕ, List, [], ◌∷◌, ◌++◌, Bool, true, false, Option, None, Some, refl, sym, ap, ◌∙◌, subst, append-nil, length}
 use Rattle.std.specs.Prelude.{is_some}
 use Rattle.std.proofs.lemmas.Option.{none-some, same_Some}
 use Rattle.std.specs.Option.{option_or}
@@ -11,15 +11,8 @@ use Rattle.bcast_model.specs.declared.run.Call.{Call}
 use Rattle.bcast_model.specs.declared.run.Call.TheVariants as call
 use Rattle.bcast_model.specs.declared.run.Reply.{Reply}
 use Rattle.bcast_model.specs.View.{View}
-use Rattle.bcast_model.specs.History.{History, opening, view_of}
-use Rattle.bcast_model.specs.Legal.{Legal}
-use Rattle.bcast_model.specs.Next.{next}
-use Rattle.bcast_model.specs.Run.{IsRun, end_of_run}
-use Rattle.bcast_model.specs.Valid.{IsValid}
+use Rattle.bcast_model.specs.History.{opening}
 use Rattle.bcast_model.specs.Answers.{Answers}
-use Rattle.bcast_model.proofs.Opening.{opening_valid}
-use Rattle.bcast_core.proofs.Does.{valid_shown}
-use Rattle.bcast_core.proofs.Runs.{run_more, end_more}
 use Rattle.topics.specs.declared.request.Request.{Request}
 use Rattle.topics.specs.declared.request.Request.TheVariants as request
 use Rattle.topics.specs.declared.request.Answer.{Answer}
@@ -28,68 +21,10 @@ use Rattle.topics.specs.declared.hub.Hub.{Hub}
 use Rattle.topics.specs.Request.{name_of, call_of, IsAnswer, IsAnswerTo}
 use Rattle.topics.specs.Hub.{topic_of, IsNew, IsCalled, IsCall, Changes, Asks}
 use Rattle.topics.specs.Part.{Exchange, Called, opens, opened_with, AreAnswers, done_by, done_on, part_of, IsRunOf, IsTopic, AreTopics}
-
-map_last : {A B : Type 0} (f : A → B) (xs : List A) (x : A) → map f (xs ++ x ∷ []) ≡ map f xs ++ f x ∷ []
-map_last f [] x = refl
-map_last f (y ∷ ys) x = ap (λ zs. f y ∷ zs) (map_last f ys x)
-
-option_or-None : {A : Type 0} (o : Option A) → option_or o None ≡ o
-option_or-None None = refl
-option_or-None (Some x) = refl
-
-module _ {T A : Type 0} where
-  -- ---- what an exchange adds at the end
-  opened_with-last : (name : List ℕ) (es : List (Exchange T A)) (r : Request T A) (a : Answer T) → opened_with name (es ++ (r, a) ∷ []) ≡ option_or (opened_with name es) (opens (bytes_eq (name_of r) name) r a)
-  opened_with-last name [] r a = option_or-None (opens (bytes_eq (name_of r) name) r a)
-  opened_with-last name ((q, b) ∷ es) r a = elim (opens (bytes_eq (name_of q) name) q b) as (λ o. option_or o (opened_with name (es ++ (r, a) ∷ [])) ≡ option_or (option_or o (opened_with name es)) (opens (bytes_eq (name_of r) name) r a)) [
-    | None ↦ opened_with-last name es r a
-    | Some capacity ↦ refl
-  ]
-
-  done_on-last : (name : List ℕ) (es : List (Exchange T A)) (r : Request T A) (a : Answer T) → done_on name (es ++ (r, a) ∷ []) ≡ done_on name es ++ done_by (bytes_eq (name_of r) name) (call_of r) a
-  done_on-last name [] r a = append-nil (done_by (bytes_eq (name_of r) name) (call_of r) a)
-  done_on-last name ((q, b) ∷ es) r a =
-      ap (λ more. done_by (bytes_eq (name_of q) name) (call_of q) b ++ more) (done_on-last name es r a)
-      ∙ sym (append_assoc (done_by (bytes_eq (name_of q) name) (call_of q) b) (done_on name es) (done_by (bytes_eq (name_of r) name) (call_of r) a))
-
-  answers_more : (before es : List (Exchange T A)) (r : Request T A) (a : Answer T) → AreAnswers before es → IsAnswer (is_some (opened_with (name_of r) (before ++ es))) r a → AreAnswers before (es ++ (r, a) ∷ [])
-  answers_more before [] r a fit last = (subst (λ es. IsAnswer (is_some (opened_with (name_of r) es)) r a) (append-nil before) last, tt)
-  answers_more before ((q, b) ∷ es) r a fit last = (fit.0, answers_more (before ++ (q, b) ∷ []) es r a fit.1 (subst (λ all. IsAnswer (is_some (opened_with (name_of r) all)) r a) (sym (append_assoc before ((q, b) ∷ []) es)) last))
+use Rattle.topics.proofs.Exchanges.{option_or-None, opened_with-last, done_on-last, answers_more, zip_last}
+use Rattle.topics.proofs.PartRuns.{run_of_more, new_run}
 
 module _ {T : Type 0} (is_clone : T → T → Type 0) where
-  -- ---- a run of one call more
-  run_of_more : {h : History T} {part : List (Called T)} {before after : View T} {c : Call T} {r : Reply T} → IsRunOf is_clone h part (Some before) → Answers is_clone before c r after → IsRunOf is_clone h (part ++ (c, r) ∷ []) (Some after)
-  run_of_more {h} {part} {before} {after} {c} {r} is a =
-      let calls : List (Call T) = map (λ p. p.0) part in
-      let replies : List (Reply T) = map (λ p. p.1) part in
-      let at : before ≡ view_of (end_of_run h calls replies) = same_Some before (view_of (end_of_run h calls replies)) is.end in
-      let ends : end_of_run h (calls ++ c ∷ []) (replies ++ r ∷ []) ≡ next (end_of_run h calls replies) c r = end_more is_clone h calls replies c r is.run in
-      let more : IsRun is_clone h (calls ++ c ∷ []) (replies ++ r ∷ []) × (Some after ≡ Some (view_of (end_of_run h (calls ++ c ∷ []) (replies ++ r ∷ [])))) × IsValid (end_of_run h (calls ++ c ∷ []) (replies ++ r ∷ [])) = (
-        run_more is_clone h calls replies c r is.run (subst (λ v. Legal is_clone v c r) at a.legal),
-        ap Some (a.represents (end_of_run h calls replies) is.valid at ∙ ap view_of (sym ends)),
-        subst IsValid (sym ends) (a.valid (end_of_run h calls replies) is.valid at),
-      ) in
-      let all : IsRun is_clone h (map (λ p. p.0) (part ++ (c, r) ∷ [])) (map (λ p. p.1) (part ++ (c, r) ∷ [])) × (Some after ≡ Some (view_of (end_of_run h (map (λ p. p.0) (part ++ (c, r) ∷ [])) (map (λ p. p.1) (part ++ (c, r) ∷ []))))) × IsValid (end_of_run h (map (λ p. p.0) (part ++ (c, r) ∷ [])) (map (λ p. p.1) (part ++ (c, r) ∷ []))) =
-      subst (λ cs. IsRun is_clone h cs (map (λ p. p.1) (part ++ (c, r) ∷ [])) × (Some after ≡ Some (view_of (end_of_run h cs (map (λ p. p.1) (part ++ (c, r) ∷ []))))) × IsValid (end_of_run h cs (map (λ p. p.1) (part ++ (c, r) ∷ [])))) (sym (map_last (λ p. p.0) part (c, r)))
-      (subst (λ rs. IsRun is_clone h (calls ++ c ∷ []) rs × (Some after ≡ Some (view_of (end_of_run h (calls ++ c ∷ []) rs))) × IsValid (end_of_run h (calls ++ c ∷ []) rs)) (sym (map_last (λ p. p.1) part (c, r))) more) in
-      record { run = all.0; end = all.1; valid = all.2 }
-
-  new_run : {capacity : ℕ} {new : Option (View T)} → IsNew is_clone capacity new → IsTopic is_clone (Some capacity) [] new
-  new_run {capacity} {new} is =
-      let valid = valid_shown is.answers.shown in
-      let fits = valid.control.room_fits in
-      let some = valid.control.capacity in
-      let h : History T = opening capacity 0 is.first_key in
-      let starts = opening_valid capacity 0 is.first_key some fits (omega arith) in (
-        is.first_key,
-        record {
-          run = (is.answers.legal, tt);
-          end = is.is ∙ ap Some (is.answers.represents h starts refl);
-          valid = is.answers.valid h starts refl;
-        },
-      )
-
-  -- ---- a topic after a request on it
   kept : (capacity : Option ℕ) (done : List (Called T)) (old new : Option (View T)) → IsTopic is_clone capacity done old → new ≡ old → IsTopic is_clone (option_or capacity None) (done ++ []) new
   kept capacity done old new topic same =
       subst (λ o. IsTopic is_clone o (done ++ []) new) (sym (option_or-None capacity))
@@ -105,7 +40,7 @@ module _ {T : Type 0} (is_clone : T → T → Type 0) where
   done_more (Some capacity) done old new c r topic is =
       let same : c ≡ is.call = same_Some c is.call is.is_asked in
       let answers : Answers is_clone is.before c r is.after = subst (λ asked. Answers is_clone is.before asked r is.after) (sym same) is.answers in
-      (topic.0, subst (IsRunOf is_clone (opening capacity 0 topic.0) (part_of topic.0 (done ++ (c, r) ∷ []))) (sym is.is) (run_of_more (subst (IsRunOf is_clone (opening capacity 0 topic.0) (part_of topic.0 done)) is.was topic.1) answers))
+      (topic.0, subst (IsRunOf is_clone (opening capacity 0 topic.0) (part_of topic.0 (done ++ (c, r) ∷ []))) (sym is.is) (run_of_more is_clone (subst (IsRunOf is_clone (opening capacity 0 topic.0) (part_of topic.0 done)) is.was topic.1) answers))
 
   called : (capacity : Option ℕ) (done : List (Called T)) (old new : Option (View T)) (c : Call T) (a : Answer T) → IsTopic is_clone capacity done old → IsCall is_clone (Some c) a old new → IsTopic is_clone (option_or capacity None) (done ++ done_by true (Some c) a) new
   called capacity done old new c (answer.Done r) topic is = done_more capacity done old new c r topic is
@@ -146,7 +81,7 @@ module _ {T A : Type 0} (is_clone : T → T → Type 0) where
   here capacity done old new (request.Close name) a topic fit is = called is_clone capacity done old new call.Close a topic is
 
   -- the topic of any name
-  topics_more : (all : List (Exchange T A)) (old new : Hub T A) (r : Request T A) (a : Answer T) → AreTopics is_clone all old → Asks is_clone old r a new → AreTopics is_clone (all ++ (r, a) ∷ []) new
+  topics_more : (all : List (Exchange T A)) (old new : Hub T A) (r : Request T A) (a : Answer T) → AreTopics is_clone all old → Asks is_clone (topic_of old) r a (topic_of new) → AreTopics is_clone (all ++ (r, a) ∷ []) new
   topics_more all old new r a topics asks = λ name.
       subst (λ o. IsTopic is_clone o (done_on name (all ++ (r, a) ∷ [])) (topic_of new name)) (sym (opened_with-last name all r a))
       (subst (λ d. IsTopic is_clone (option_or (opened_with name all) (opens (bytes_eq (name_of r) name) r a)) d (topic_of new name)) (sym (done_on-last name all r a))
@@ -158,19 +93,12 @@ module _ {T A : Type 0} (is_clone : T → T → Type 0) where
       at name false differs = kept is_clone (opened_with name all) (done_on name all) (topic_of old name) (topic_of new name) (topics name)
           (asks.others name (λ same. true≢false (sym ((bytes_decides (name_of r) name).1 (sym same)) ∙ differs)))
 
-  answer_more : (all : List (Exchange T A)) (old new : Hub T A) (r : Request T A) (a : Answer T) → AreTopics is_clone all old → Asks is_clone old r a new → AreAnswers [] all → AreAnswers [] (all ++ (r, a) ∷ [])
+  answer_more : (all : List (Exchange T A)) (old new : Hub T A) (r : Request T A) (a : Answer T) → AreTopics is_clone all old → Asks is_clone (topic_of old) r a (topic_of new) → AreAnswers [] all → AreAnswers [] (all ++ (r, a) ∷ [])
   answer_more all old new r a topics asks fit = answers_more [] all r a fit
       (subst (λ b. IsAnswer b r a) (is_open is_clone (opened_with (name_of r) all) (done_on (name_of r) all) (topic_of old (name_of r)) (topics (name_of r))) asks.answer)
 
--- ---- the exchanges of one request more
-zip_last : {X Y : Type 0} (xs : List X) (ys : List Y) (x : X) (y : Y) → length ys ≡ length xs → zip (xs ++ x ∷ []) (ys ++ y ∷ []) ≡ zip xs ys ++ (x, y) ∷ []
-zip_last [] [] x y n = refl
-zip_last [] (z ∷ ys) x y n = absurd (omega (arith, n))
-zip_last (z ∷ xs) [] x y n = absurd (omega (arith, n))
-zip_last (z ∷ xs) (w ∷ ys) x y n = ap (λ zs. (z, w) ∷ zs) (zip_last xs ys x y (omega (arith, n)))
-
 module _ {T A : Type 0} (is_clone : T → T → Type 0) (requests : List (Request T A)) (answers more : List (Answer T)) (r : Request T A) (a : Answer T) (old new : Hub T A) where
-  pub exchanged : more ≡ answers ++ a ∷ [] → length answers ≡ length requests → AreAnswers [] (zip requests answers) → AreTopics is_clone (zip requests answers) old → Asks is_clone old r a new
+  pub exchanged : more ≡ answers ++ a ∷ [] → length answers ≡ length requests → AreAnswers [] (zip requests answers) → AreTopics is_clone (zip requests answers) old → Asks is_clone (topic_of old) r a (topic_of new)
       → AreAnswers [] (zip (requests ++ r ∷ []) more) × AreTopics is_clone (zip (requests ++ r ∷ []) more) new
   exchanged last count fit topics asks =
       subst (λ all. AreAnswers [] all × AreTopics is_clone all new) (sym (ap (zip (requests ++ r ∷ [])) last ∙ zip_last requests answers r a count))

@@ -15,8 +15,12 @@ use Rattle.topics.specs.declared.request.Answer.TheVariants as answer
 use Rattle.topics.specs.declared.hub.Hub.{Hub}
 use Rattle.topics.specs.Request.{name_of, call_of, IsAnswer}
 
--- what is seen of the topic of this name, if it was opened
-abbrev pub topic_of : {T A : Type 0} → Hub T A → List ℕ → Option (View T)
+-- what is seen of topics: the channel of each name under which one was opened
+abbrev pub Topics : Type 0 → Type 0
+Topics T = List ℕ → Option (View T)
+
+-- a hub's topics
+abbrev pub topic_of : {T A : Type 0} → Hub T A → Topics T
 topic_of hub name = get_by_text hub.topics name
 
 -- `broadcast`, then `deactivate`: a channel of this capacity whose first receiver is inactive
@@ -59,14 +63,13 @@ module _ {T : Type 0} (is_clone : T → T → Type 0) where
   Changes r a old new = IsCall (call_of r) a old new
 
 -- the topics of all other names stay
-abbrev pub KeepsOthers : {T A : Type 0} → Hub T A → List ℕ → Hub T A → Type 0
-KeepsOthers old name new =
-    (other : List ℕ) → other ≢ name → topic_of new other ≡ topic_of old other
+abbrev pub KeepsOthers : {T : Type 0} → Topics T → List ℕ → Topics T → Type 0
+KeepsOthers old name new = (other : List ℕ) → other ≢ name → new other ≡ old other
 
 -- one request: its answer, what becomes of its topic, and that the others stay
 pub record Asks
-    {T A : Type 0} (is_clone : T → T → Type 0) (old : Hub T A) (r : Request T A) (a : Answer T)
-    (new : Hub T A) : Type 0 where
-  pub answer : IsAnswer (is_some (topic_of old (name_of r))) r a
-  pub topic : Changes is_clone r a (topic_of old (name_of r)) (topic_of new (name_of r))
+    {T A : Type 0} (is_clone : T → T → Type 0) (old : Topics T) (r : Request T A) (a : Answer T)
+    (new : Topics T) : Type 0 where
+  pub answer : IsAnswer (is_some (old (name_of r))) r a
+  pub topic : Changes is_clone r a (old (name_of r)) (new (name_of r))
   pub others : KeepsOthers old (name_of r) new

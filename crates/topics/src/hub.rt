@@ -38,7 +38,7 @@ impl<T: Clone, A: Allocator + Copy> Hub<T, A> {
     /// stays open while nobody follows it. The other requests make one call on the topic's channel.
     pub fn ask(&mut self, request: Request<T, A>) -> Answer<T>
         requires { OpensPositive request }
-        ensures { Asks T.is_clone self.old request result self.new }
+        ensures { Asks T.is_clone (topic_of self.old) request result (topic_of self.new) }
     {
         if !is_name(request.name()) {
             return Answer::BadName;
@@ -59,7 +59,7 @@ impl<T: Clone, A: Allocator + Copy> Hub<T, A> {
         ensures answer { IsAnswerTo (is_some (topic_of self.old (string_bytes name))) None result }
         ensures topic { IsOpened T.is_clone capacity result (topic_of self.old (string_bytes name))
             (topic_of self.new (string_bytes name)) }
-        ensures others { KeepsOthers self.old (string_bytes name) self.new }
+        ensures others { KeepsOthers (topic_of self.old) (string_bytes name) (topic_of self.new) }
     {
         if self.topics.contains_key(name.as_str()) {
             return Answer::Exists;
@@ -79,7 +79,7 @@ impl<T: Clone, A: Allocator + Copy> Hub<T, A> {
         ensures answer { IsAnswerTo (is_some (topic_of self.old name.now)) (Some call) result }
         ensures topic { IsCall T.is_clone (Some call) result (topic_of self.old name.now)
             (topic_of self.new name.now) }
-        ensures others { KeepsOthers self.old name.now self.new }
+        ensures others { KeepsOthers (topic_of self.old) name.now (topic_of self.new) }
     {
         match self.topics.get_mut(name) {
             Some(topic) => Answer::Done(step(topic, call, Silent)),

@@ -1,0 +1,53 @@
+-- A topic's part of the calls as a run: how it begins, and one call more.
+use Rattle.std.proofs.Common.{◌≡◌, ℕ, List, [], ◌∷◌, ◌++◌, map, Option, Some, refl, sym, ap, ◌∙◌, subst, arith}
+use Rattle.std.proofs.lemmas.Option.{same_Some}
+use Rattle.bcast_model.specs.declared.run.Call.{Call}
+use Rattle.bcast_model.specs.declared.run.Reply.{Reply}
+use Rattle.bcast_model.specs.View.{View}
+use Rattle.bcast_model.specs.History.{History, opening, view_of}
+use Rattle.bcast_model.specs.Legal.{Legal}
+use Rattle.bcast_model.specs.Next.{next}
+use Rattle.bcast_model.specs.Run.{IsRun, end_of_run}
+use Rattle.bcast_model.specs.Valid.{IsValid}
+use Rattle.bcast_model.specs.Answers.{Answers}
+use Rattle.bcast_model.proofs.Opening.{opening_valid}
+use Rattle.bcast_core.proofs.Does.{valid_shown}
+use Rattle.bcast_core.proofs.Runs.{run_more, end_more}
+use Rattle.topics.specs.Hub.{IsNew}
+use Rattle.topics.specs.Part.{Called, IsRunOf, IsTopic}
+
+map_last : {A B : Type 0} (f : A → B) (xs : List A) (x : A) → map f (xs ++ x ∷ []) ≡ map f xs ++ f x ∷ []
+map_last f [] x = refl
+map_last f (y ∷ ys) x = ap (λ zs. f y ∷ zs) (map_last f ys x)
+
+module _ {T : Type 0} (is_clone : T → T → Type 0) where
+  pub run_of_more : {h : History T} {part : List (Called T)} {before after : View T} {c : Call T} {r : Reply T} → IsRunOf is_clone h part (Some before) → Answers is_clone before c r after → IsRunOf is_clone h (part ++ (c, r) ∷ []) (Some after)
+  run_of_more {h} {part} {before} {after} {c} {r} is a =
+      let calls : List (Call T) = map (λ p. p.0) part in
+      let replies : List (Reply T) = map (λ p. p.1) part in
+      let at : before ≡ view_of (end_of_run h calls replies) = same_Some before (view_of (end_of_run h calls replies)) is.end in
+      let ends : end_of_run h (calls ++ c ∷ []) (replies ++ r ∷ []) ≡ next (end_of_run h calls replies) c r = end_more is_clone h calls replies c r is.run in
+      let more : IsRun is_clone h (calls ++ c ∷ []) (replies ++ r ∷ []) × (Some after ≡ Some (view_of (end_of_run h (calls ++ c ∷ []) (replies ++ r ∷ [])))) × IsValid (end_of_run h (calls ++ c ∷ []) (replies ++ r ∷ [])) = (
+        run_more is_clone h calls replies c r is.run (subst (λ v. Legal is_clone v c r) at a.legal),
+        ap Some (a.represents (end_of_run h calls replies) is.valid at ∙ ap view_of (sym ends)),
+        subst IsValid (sym ends) (a.valid (end_of_run h calls replies) is.valid at),
+      ) in
+      let all : IsRun is_clone h (map (λ p. p.0) (part ++ (c, r) ∷ [])) (map (λ p. p.1) (part ++ (c, r) ∷ [])) × (Some after ≡ Some (view_of (end_of_run h (map (λ p. p.0) (part ++ (c, r) ∷ [])) (map (λ p. p.1) (part ++ (c, r) ∷ []))))) × IsValid (end_of_run h (map (λ p. p.0) (part ++ (c, r) ∷ [])) (map (λ p. p.1) (part ++ (c, r) ∷ []))) =
+      subst (λ cs. IsRun is_clone h cs (map (λ p. p.1) (part ++ (c, r) ∷ [])) × (Some after ≡ Some (view_of (end_of_run h cs (map (λ p. p.1) (part ++ (c, r) ∷ []))))) × IsValid (end_of_run h cs (map (λ p. p.1) (part ++ (c, r) ∷ [])))) (sym (map_last (λ p. p.0) part (c, r)))
+      (subst (λ rs. IsRun is_clone h (calls ++ c ∷ []) rs × (Some after ≡ Some (view_of (end_of_run h (calls ++ c ∷ []) rs))) × IsValid (end_of_run h (calls ++ c ∷ []) rs)) (sym (map_last (λ p. p.1) part (c, r))) more) in
+      record { run = all.0; end = all.1; valid = all.2 }
+
+  pub new_run : {capacity : ℕ} {new : Option (View T)} → IsNew is_clone capacity new → IsTopic is_clone (Some capacity) [] new
+  new_run {capacity} {new} is =
+      let valid = valid_shown is.answers.shown in
+      let fits = valid.control.room_fits in
+      let some = valid.control.capacity in
+      let h : History T = opening capacity 0 is.first_key in
+      let starts = opening_valid capacity 0 is.first_key some fits (omega arith) in (
+        is.first_key,
+        record {
+          run = (is.answers.legal, tt);
+          end = is.is ∙ ap Some (is.answers.represents h starts refl);
+          valid = is.answers.valid h starts refl;
+        },
+      )
