@@ -1,0 +1,62 @@
+//! Requests as data.
+ghost use Rattle.std.specs.Prelude.{IfOk};
+ghost use Rattle.std.specs.List.{AllByRecursion};
+ghost use Rattle.topics.specs.Request.{OpensPositive};
+
+use std::alloc::{AllocError, Allocator};
+use topics::{Answer, Request};
+
+/// What is asked of the topic of a name.
+#[derive(Clone, Copy)]
+pub enum Asked {
+    /// Opens a topic of this capacity, or of 1.
+    Open(usize),
+    Follow,
+    Publish(u64),
+    /// Receives by the follower of this number. Followers are counted in the order of coming.
+    Receive(usize),
+    Leave(usize),
+    Close,
+}
+
+/// A request on the topic of a name, and its answer. None: the key of a new follower.
+pub type Row = (&'static str, Asked, Option<Answer<u64>>);
+
+/// The request, with its name in memory of `alloc`. `keys` has the key of each follower.
+pub fn request<A: Allocator + Copy>(
+    alloc: A,
+    keys: &[usize],
+    name: &str,
+    asked: Asked,
+) -> Result<Request<u64, A>, AllocError>
+    ensures { IfOk result OpensPositive }
+{
+    let name = String::from_str(alloc, name)?;
+    Ok(match asked {
+        Asked::Open(capacity) => Request::Open(name, capacity.max(1)),
+        Asked::Follow => Request::Follow(name),
+        Asked::Publish(msg) => Request::Publish(name, msg),
+        Asked::Receive(number) => Request::Receive(name, key(keys, number)),
+        Asked::Leave(number) => Request::Leave(name, key(keys, number)),
+        Asked::Close => Request::Close(name),
+    })
+}
+
+fn key(keys: &[usize], number: usize) -> usize {
+    keys.get(number).copied().unwrap_or(usize::MAX)
+}
+
+/// The rows' requests as one list, in memory of `alloc`.
+pub fn list_of<A: Allocator + Copy>(
+    alloc: A,
+    keys: &[usize],
+    rows: &[Row],
+) -> Result<Vec<Request<u64, A>, A>, AllocError>
+    ensures { IfOk result (λ list. AllByRecursion OpensPositive list.items) }
+{
+    let mut list = Vec::new(alloc);
+    for row in rows {
+        list.push(request(alloc, keys, row.0, row.1)?)?;
+    }
+    Ok(list)
+}

@@ -1,0 +1,73 @@
+//! Requests with their answers, asked one by one, and again as one list.
+use crate::asked::{Row, list_of, request};
+use crate::tables::TABLES;
+use bcast_core::Reply;
+use std::alloc::{AllocError, Global};
+use std::process::Abort;
+use std::test::Fail;
+use topics::{Answer, Hub, run_hub};
+
+/// Whether an answer is the row's. A new follower's key is noted in `keys`.
+fn is_answer(
+    keys: &mut Vec<usize>,
+    answer: &Answer<u64>,
+    expected: &Option<Answer<u64>>,
+) -> Result<bool, AllocError> {
+    match (answer, expected) {
+        (Answer::Done(Reply::NewReceiver(Ok(key))), None) => {
+            keys.push(*key)?;
+            Ok(true)
+        }
+        (answer, Some(expected)) => Ok(answer == expected),
+        _ => Ok(false),
+    }
+}
+
+/// Asks the rows one by one. Returns the keys of the followers.
+fn ask_each(rt: &impl Abort, alloc: Global, name: &str, rows: &[Row]) -> Result<Vec<usize>, Fail> {
+    let mut hub: Hub<u64> = Hub::new(alloc);
+    let mut keys = Vec::new(alloc);
+    for (index, (topic, asked, expected)) in rows.iter().enumerate() {
+        let answer = hub.ask(request(alloc, keys.as_slice(), topic, *asked)?);
+        assert!(rt;
+            is_answer(&mut keys, &answer, expected)?,
+            "{name}: row {index}"
+        );
+    }
+    Ok(keys)
+}
+
+/// Asks the rows as one list, with the keys that they got one by one.
+fn ask_all(
+    rt: &impl Abort,
+    alloc: Global,
+    name: &str,
+    rows: &[Row],
+    keys: &[usize],
+) -> Result<(), Fail> {
+    let Ok((_, answers)) = run_hub(alloc, list_of(alloc, keys, rows)?) else {
+        return Err(Fail::from("the list was refused"));
+    };
+    let mut again = Vec::new(alloc);
+    assert!(rt;
+        answers.len() == rows.len(),
+        "{name}: as many answers as rows"
+    );
+    for (index, (answer, (_, _, expected))) in answers.iter().zip(rows).enumerate() {
+        assert!(rt;
+            is_answer(&mut again, answer, expected)?,
+            "{name}: row {index} of the list"
+        );
+    }
+    assert!(rt; again.as_slice() == keys, "{name}: the same keys");
+    Ok(())
+}
+
+#[test]
+fn topics_answer_as_the_rows_say(rt: HostRuntime) -> Result<(), Fail> {
+    for (name, rows) in TABLES {
+        let keys = ask_each(&rt, rt.alloc(), name, rows)?;
+        ask_all(&rt, rt.alloc(), name, rows, keys.as_slice())?;
+    }
+    Ok(())
+}
