@@ -2,6 +2,8 @@
 pub mod Lines
 pub mod Run
 pub mod Ending
+-- how the words of a line stand
+pub mod Words
 -- scripts: arguments, lines and the names in them, what a line does to the channel, and its answer
 pub mod ScriptCommand
 pub mod Name

@@ -1,7 +1,8 @@
 -- The text of each line of a script, and which numbers and names are in form.
-use Rattle.std.specs.Prelude.{ℕ, List, Bool, true, false, ◌++◌, ◌<◌, codes}
+use Rattle.std.specs.Prelude.{ℕ, List, Option, Some, None, Bool, true, false, IfSome, ◌++◌, codes}
 use Rattle.std.specs.Fmt.{decimal}
 use Rattle.bcast_text.specs.Name.{IsName}
+use Rattle.bcast_text.specs.Words.{spaced, IsU64, IsCapacity}
 use Rattle.bcast_text.specs.declared.script.line.Line.{Line}
 use Rattle.bcast_text.specs.declared.script.line.Line.TheVariants.{Cap, Send, Recv, Clone, New, Drop, NewSender, DropSender, Close, Capacity, Overflow, Await, Deactivate, Activate, DropInactive, Len}
 
@@ -10,33 +11,52 @@ abbrev pub flag_text : Bool → List ℕ
 flag_text true = codes "on"
 flag_text false = codes "off"
 
+-- the line's first word
+abbrev pub word_of : Line → List ℕ
+word_of (Cap n) = codes "cap"
+word_of (Send msg) = codes "send"
+word_of (Recv name) = codes "recv"
+word_of (Clone name new) = codes "clone"
+word_of (New new) = codes "new"
+word_of (Drop name) = codes "drop"
+word_of NewSender = codes "newsender"
+word_of DropSender = codes "dropsender"
+word_of Close = codes "close"
+word_of (Capacity n) = codes "capacity"
+word_of (Overflow on) = codes "overflow"
+word_of (Await on) = codes "await"
+word_of (Deactivate name) = codes "deactivate"
+word_of (Activate new) = codes "activate"
+word_of DropInactive = codes "dropinactive"
+word_of Len = codes "len"
+
+-- the name of a line whose one argument it is
+abbrev pub name_in : Line → Option (List ℕ)
+name_in (Recv name) = Some name.now
+name_in (New new) = Some new.now
+name_in (Drop name) = Some name.now
+name_in (Deactivate name) = Some name.now
+name_in (Activate new) = Some new.now
+name_in line = None
+
+-- its arguments, with one space between two of them; none where the line has no arguments
+abbrev pub arguments_of : Line → Option (List ℕ)
+arguments_of (Cap n) = Some (decimal n)
+arguments_of (Send msg) = Some (decimal msg)
+arguments_of (Clone name new) = Some (name.now ++ codes " " ++ new.now)
+arguments_of (Capacity n) = Some (decimal n)
+arguments_of (Overflow on) = Some (flag_text on)
+arguments_of (Await on) = Some (flag_text on)
+arguments_of line = name_in line
+
 -- the line, its LF aside
 abbrev pub text_of : Line → List ℕ
-text_of (Cap n) = codes "cap " ++ decimal n
-text_of (Send msg) = codes "send " ++ decimal msg
-text_of (Recv name) = codes "recv " ++ name.now
-text_of (Clone name new) = codes "clone " ++ name.now ++ codes " " ++ new.now
-text_of (New new) = codes "new " ++ new.now
-text_of (Drop name) = codes "drop " ++ name.now
-text_of NewSender = codes "newsender"
-text_of DropSender = codes "dropsender"
-text_of Close = codes "close"
-text_of (Capacity n) = codes "capacity " ++ decimal n
-text_of (Overflow on) = codes "overflow " ++ flag_text on
-text_of (Await on) = codes "await " ++ flag_text on
-text_of (Deactivate name) = codes "deactivate " ++ name.now
-text_of (Activate new) = codes "activate " ++ new.now
-text_of DropInactive = codes "dropinactive"
-text_of Len = codes "len"
+text_of line = spaced (word_of line) (arguments_of line)
 
--- a capacity is positive, and names are names
+-- numbers are such as a line can have, a capacity is positive, and names are names
 abbrev pub IsInForm : Line → Type 0
-IsInForm (Cap n) = 0 < n
-IsInForm (Capacity n) = 0 < n
-IsInForm (Recv name) = IsName name.now
+IsInForm (Cap n) = IsCapacity n
+IsInForm (Send msg) = IsU64 msg
+IsInForm (Capacity n) = IsCapacity n
 IsInForm (Clone name new) = IsName name.now × IsName new.now
-IsInForm (New new) = IsName new.now
-IsInForm (Drop name) = IsName name.now
-IsInForm (Deactivate name) = IsName name.now
-IsInForm (Activate new) = IsName new.now
-IsInForm line = Unit {0}
+IsInForm line = IfSome (name_in line) IsName

@@ -1,6 +1,7 @@
 -- The text of each call in a trace.
-use Rattle.std.specs.Prelude.{ℕ, List, Bool, true, false, ◌++◌, codes}
+use Rattle.std.specs.Prelude.{ℕ, List, Option, Some, None, Bool, true, false, option_map, IfSome, ◌++◌, codes}
 use Rattle.std.specs.Fmt.{decimal}
+use Rattle.bcast_text.specs.Words.{spaced, IsU64, IsCapacity}
 use Rattle.bcast_model.specs.declared.run.Call.{Call}
 use Rattle.bcast_model.specs.declared.run.Call.TheVariants.{TryBroadcast, AttemptSend, BeginSend, PollSend, EndSend, TryRecv, PollFuture, EndFuture, PollRecv, PollNext, Close, SetCapacity, SetOverflow, SetAwaitActive, NewSender, CloneInactive, Deactivate, NewReceiver, Activate, ActivateCloned, CloneReceiver, DropSender, DropInactive, DropReceiver, Overflow, AwaitActive, IsEmpty, IsFull, IsClosed, IsTerminated, Capacity, Len, ReceiverCount, InactiveReceiverCount, SenderCount, EndNumber}
 
@@ -9,41 +10,74 @@ abbrev pub flag_text : Bool → List ℕ
 flag_text true = codes "true"
 flag_text false = codes "false"
 
+-- the call's name
+abbrev pub name_of : Call ℕ → List ℕ
+name_of (TryBroadcast msg) = codes "TryBroadcast"
+name_of (AttemptSend msg) = codes "AttemptSend"
+name_of BeginSend = codes "BeginSend"
+name_of (PollSend place msg) = codes "PollSend"
+name_of (EndSend place) = codes "EndSend"
+name_of (TryRecv key) = codes "TryRecv"
+name_of (PollFuture key) = codes "PollFuture"
+name_of (EndFuture key) = codes "EndFuture"
+name_of (PollRecv key) = codes "PollRecv"
+name_of (PollNext key) = codes "PollNext"
+name_of Close = codes "Close"
+name_of (SetCapacity n) = codes "SetCapacity"
+name_of (SetOverflow on) = codes "SetOverflow"
+name_of (SetAwaitActive on) = codes "SetAwaitActive"
+name_of NewSender = codes "NewSender"
+name_of CloneInactive = codes "CloneInactive"
+name_of (Deactivate key) = codes "Deactivate"
+name_of NewReceiver = codes "NewReceiver"
+name_of Activate = codes "Activate"
+name_of ActivateCloned = codes "ActivateCloned"
+name_of (CloneReceiver key) = codes "CloneReceiver"
+name_of DropSender = codes "DropSender"
+name_of DropInactive = codes "DropInactive"
+name_of (DropReceiver key) = codes "DropReceiver"
+name_of Overflow = codes "Overflow"
+name_of AwaitActive = codes "AwaitActive"
+name_of IsEmpty = codes "IsEmpty"
+name_of IsFull = codes "IsFull"
+name_of IsClosed = codes "IsClosed"
+name_of IsTerminated = codes "IsTerminated"
+name_of Capacity = codes "Capacity"
+name_of Len = codes "Len"
+name_of ReceiverCount = codes "ReceiverCount"
+name_of InactiveReceiverCount = codes "InactiveReceiverCount"
+name_of SenderCount = codes "SenderCount"
+name_of EndNumber = codes "EndNumber"
+
+-- the message, key or place of a call that has one number, which may be 0
+abbrev pub number_of : Call ℕ → Option ℕ
+number_of (TryBroadcast msg) = Some msg
+number_of (AttemptSend msg) = Some msg
+number_of (EndSend place) = Some place
+number_of (TryRecv key) = Some key
+number_of (PollFuture key) = Some key
+number_of (EndFuture key) = Some key
+number_of (PollRecv key) = Some key
+number_of (PollNext key) = Some key
+number_of (Deactivate key) = Some key
+number_of (CloneReceiver key) = Some key
+number_of (DropReceiver key) = Some key
+number_of call = None
+
+-- its arguments, with one space between two of them; none where the call has no arguments
+abbrev pub arguments_of : Call ℕ → Option (List ℕ)
+arguments_of (PollSend place msg) = Some (decimal place ++ codes " " ++ decimal msg)
+arguments_of (SetCapacity n) = Some (decimal n)
+arguments_of (SetOverflow on) = Some (flag_text on)
+arguments_of (SetAwaitActive on) = Some (flag_text on)
+arguments_of call = option_map decimal (number_of call)
+
 -- the call's name and its arguments, with one space before each
 abbrev pub text_of : Call ℕ → List ℕ
-text_of (TryBroadcast msg) = codes "TryBroadcast " ++ decimal msg
-text_of (AttemptSend msg) = codes "AttemptSend " ++ decimal msg
-text_of BeginSend = codes "BeginSend"
-text_of (PollSend place msg) = codes "PollSend " ++ decimal place ++ codes " " ++ decimal msg
-text_of (EndSend place) = codes "EndSend " ++ decimal place
-text_of (TryRecv key) = codes "TryRecv " ++ decimal key
-text_of (PollFuture key) = codes "PollFuture " ++ decimal key
-text_of (EndFuture key) = codes "EndFuture " ++ decimal key
-text_of (PollRecv key) = codes "PollRecv " ++ decimal key
-text_of (PollNext key) = codes "PollNext " ++ decimal key
-text_of Close = codes "Close"
-text_of (SetCapacity n) = codes "SetCapacity " ++ decimal n
-text_of (SetOverflow on) = codes "SetOverflow " ++ flag_text on
-text_of (SetAwaitActive on) = codes "SetAwaitActive " ++ flag_text on
-text_of NewSender = codes "NewSender"
-text_of CloneInactive = codes "CloneInactive"
-text_of (Deactivate key) = codes "Deactivate " ++ decimal key
-text_of NewReceiver = codes "NewReceiver"
-text_of Activate = codes "Activate"
-text_of ActivateCloned = codes "ActivateCloned"
-text_of (CloneReceiver key) = codes "CloneReceiver " ++ decimal key
-text_of DropSender = codes "DropSender"
-text_of DropInactive = codes "DropInactive"
-text_of (DropReceiver key) = codes "DropReceiver " ++ decimal key
-text_of Overflow = codes "Overflow"
-text_of AwaitActive = codes "AwaitActive"
-text_of IsEmpty = codes "IsEmpty"
-text_of IsFull = codes "IsFull"
-text_of IsClosed = codes "IsClosed"
-text_of IsTerminated = codes "IsTerminated"
-text_of Capacity = codes "Capacity"
-text_of Len = codes "Len"
-text_of ReceiverCount = codes "ReceiverCount"
-text_of InactiveReceiverCount = codes "InactiveReceiverCount"
-text_of SenderCount = codes "SenderCount"
-text_of EndNumber = codes "EndNumber"
+text_of call = spaced (name_of call) (arguments_of call)
+
+-- its numbers are such as a line can have
+abbrev pub IsInRange : Call ℕ → Type 0
+IsInRange (PollSend place msg) = IsU64 place × IsU64 msg
+IsInRange (SetCapacity n) = IsCapacity n
+IsInRange call = IfSome (number_of call) IsU64

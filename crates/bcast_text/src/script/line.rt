@@ -1,7 +1,8 @@
 //! What a line of a script says.
-ghost use Rattle.std.specs.Prelude.{◌≡◌, IfSome, ◌++◌, ◌∷◌, codes};
+ghost use Rattle.std.specs.Prelude.{◌≡◌, ◌≢◌, ℕ, List, Bool, Some, None, IfSome, IsNone, ◌++◌, ◌∷◌, codes};
 ghost use Rattle.bcast_text.specs.Name.{IsName};
-ghost use Rattle.bcast_text.specs.ScriptLine.{flag_text, text_of, IsInForm};
+ghost use Rattle.bcast_text.specs.ScriptLine.{flag_text, word_of, name_in, arguments_of, text_of, IsInForm};
+ghost use Rattle.bcast_text.specs.declared.script.line.Line.{Line};
 
 use crate::number::{number, positive};
 use crate::script::name::is_name;
@@ -49,6 +50,7 @@ pub enum Line<'a> {
 pub fn read_line(text: &str) -> Option<Line<'_>>
     ensures text { IfSome result (λ line. text.now ≡ text_of line) }
     ensures form { IfSome result IsInForm }
+    ensures none { IsNone result → (line : Line) → IsInForm line → text.now ≢ text_of line }
 {
     match text.split_once(' ') {
         Some((first, rest)) => with_arguments(first, rest),
@@ -60,6 +62,8 @@ pub fn read_line(text: &str) -> Option<Line<'_>>
 fn alone<'a>(text: &str) -> Option<Line<'a>>
     ensures text { IfSome result (λ line. text.now ≡ text_of line) }
     ensures form { IfSome result IsInForm }
+    ensures none { IsNone result → (line : Line) → arguments_of line ≡ None
+        → text.now ≢ word_of line }
 {
     match text {
         "newsender" => Some(Line::NewSender),
@@ -75,6 +79,8 @@ fn alone<'a>(text: &str) -> Option<Line<'a>>
 fn with_arguments<'a>(first: &str, rest: &'a str) -> Option<Line<'a>>
     ensures text { IfSome result (λ line. first.now ++ 32 ∷ rest.now ≡ text_of line) }
     ensures form { IfSome result IsInForm }
+    ensures none { IsNone result → (line : Line) → IsInForm line → first.now ≡ word_of line
+        → arguments_of line ≢ Some rest.now }
 {
     match first {
         "cap" => Some(Line::Cap(positive(rest)?)),
@@ -93,6 +99,8 @@ fn with_name<'a>(first: &str, name: &'a str) -> Option<Line<'a>>
     requires { IsName name.now }
     ensures text { IfSome result (λ line. first.now ++ 32 ∷ name.now ≡ text_of line) }
     ensures form { IfSome result IsInForm }
+    ensures none { IsNone result → (line : Line) → name_in line ≡ Some name.now
+        → first.now ≢ word_of line }
 {
     match first {
         "recv" => Some(Line::Recv(name)),
@@ -108,16 +116,21 @@ fn with_name<'a>(first: &str, name: &'a str) -> Option<Line<'a>>
 fn two_names(names: &str) -> Option<Line<'_>>
     ensures text { IfSome result (λ line. codes "clone " ++ names.now ≡ text_of line) }
     ensures form { IfSome result IsInForm }
+    ensures none { IsNone result → (name new : List ℕ) → IsName name → IsName new
+        → names.now ≢ name ++ codes " " ++ new }
 {
-    match names.split_once(' ') {
-        Some((name, new)) if is_name(name) && is_name(new) => Some(Line::Clone(name, new)),
-        _ => None,
+    let (name, new) = names.split_once(' ')?;
+    if is_name(name) && is_name(new) {
+        Some(Line::Clone(name, new))
+    } else {
+        None
     }
 }
 
 /// The argument of a setting.
 fn flag(word: &str) -> Option<bool>
-    ensures { IfSome result (λ on. word.now ≡ flag_text on) }
+    ensures text { IfSome result (λ on. word.now ≡ flag_text on) }
+    ensures none { IsNone result → (on : Bool) → word.now ≢ flag_text on }
 {
     match word {
         "on" => Some(true),

@@ -1,8 +1,10 @@
 //! The calls that lines of a trace name.
-ghost use Rattle.std.specs.Prelude.{◌≡◌, IfSome, ◌++◌, ◌∷◌, codes};
+ghost use Rattle.std.specs.Prelude.{◌≡◌, ◌≢◌, ℕ, Bool, Some, None, IfSome, IsNone, ◌++◌, ◌∷◌, codes};
 ghost use Rattle.std.specs.Fmt.{decimal};
 ghost use Rattle.bcast_model.specs.Next.{HasPositiveCapacity};
-ghost use Rattle.bcast_text.specs.TraceCall.{flag_text, text_of};
+ghost use Rattle.bcast_text.specs.TraceCall.{flag_text, name_of, number_of, arguments_of, text_of, IsInRange};
+ghost use Rattle.bcast_text.specs.Words.{IsU64};
+ghost use Rattle.bcast_model.specs.declared.run.Call.{Call};
 
 use crate::number::{number, positive};
 use bcast_model::run::Call;
@@ -12,6 +14,7 @@ use bcast_model::run::Call;
 pub fn read_call(text: &str) -> Option<Call<u64>>
     ensures text { IfSome result (λ call. text.now ≡ text_of call) }
     ensures positive { IfSome result HasPositiveCapacity }
+    ensures none { IsNone result → (call : Call ℕ) → IsInRange call → text.now ≢ text_of call }
 {
     match text.split_once(' ') {
         Some((name, arguments)) => with_arguments(name, arguments),
@@ -19,10 +22,12 @@ pub fn read_call(text: &str) -> Option<Call<u64>>
     }
 }
 
-/// A call without arguments that may change the channel.
+/// A call without arguments.
 fn alone(name: &str) -> Option<Call<u64>>
     ensures text { IfSome result (λ call. name.now ≡ text_of call) }
     ensures positive { IfSome result HasPositiveCapacity }
+    ensures none { IsNone result → (call : Call ℕ) → arguments_of call ≡ None
+        → name.now ≢ name_of call }
 {
     match name {
         "BeginSend" => Some(Call::BeginSend),
@@ -34,16 +39,6 @@ fn alone(name: &str) -> Option<Call<u64>>
         "ActivateCloned" => Some(Call::ActivateCloned),
         "DropSender" => Some(Call::DropSender),
         "DropInactive" => Some(Call::DropInactive),
-        _ => accessor(name),
-    }
-}
-
-/// A call that only looks at the channel.
-fn accessor(name: &str) -> Option<Call<u64>>
-    ensures text { IfSome result (λ call. name.now ≡ text_of call) }
-    ensures positive { IfSome result HasPositiveCapacity }
-{
-    match name {
         "Overflow" => Some(Call::Overflow),
         "AwaitActive" => Some(Call::AwaitActive),
         "IsEmpty" => Some(Call::IsEmpty),
@@ -64,6 +59,8 @@ fn accessor(name: &str) -> Option<Call<u64>>
 fn with_arguments(name: &str, arguments: &str) -> Option<Call<u64>>
     ensures text { IfSome result (λ call. name.now ++ 32 ∷ arguments.now ≡ text_of call) }
     ensures positive { IfSome result HasPositiveCapacity }
+    ensures none { IsNone result → (call : Call ℕ) → IsInRange call → name.now ≡ name_of call
+        → arguments_of call ≢ Some arguments.now }
 {
     match name {
         "SetCapacity" => Some(Call::SetCapacity(positive(arguments)? as usize)),
@@ -78,6 +75,8 @@ fn with_arguments(name: &str, arguments: &str) -> Option<Call<u64>>
 fn poll_send(arguments: &str) -> Option<Call<u64>>
     ensures text { IfSome result (λ call. codes "PollSend " ++ arguments.now ≡ text_of call) }
     ensures positive { IfSome result HasPositiveCapacity }
+    ensures none { IsNone result → (place msg : ℕ) → IsU64 place → IsU64 msg
+        → arguments.now ≢ decimal place ++ codes " " ++ decimal msg }
 {
     let (place, msg) = arguments.split_once(' ')?;
     Some(Call::PollSend(number(place)? as usize, number(msg)?))
@@ -87,37 +86,30 @@ fn poll_send(arguments: &str) -> Option<Call<u64>>
 fn with_number(name: &str, argument: &str) -> Option<Call<u64>>
     ensures text { IfSome result (λ call. name.now ++ 32 ∷ argument.now ≡ text_of call) }
     ensures positive { IfSome result HasPositiveCapacity }
+    ensures none { IsNone result → (call : Call ℕ) (n : ℕ) → IsU64 n → number_of call ≡ Some n
+        → name.now ≡ name_of call → argument.now ≢ decimal n }
 {
-    let msg = number(argument)?;
+    let n = number(argument)?;
     match name {
-        "TryBroadcast" => Some(Call::TryBroadcast(msg)),
-        "AttemptSend" => Some(Call::AttemptSend(msg)),
-        _ => with_id(name, msg as usize),
-    }
-}
-
-/// A call with one number: a key or a place.
-fn with_id(name: &str, id: usize) -> Option<Call<u64>>
-    ensures text { IfSome result (λ call. name.now ++ 32 ∷ decimal id ≡ text_of call) }
-    ensures positive { IfSome result HasPositiveCapacity }
-{
-    match name {
-        "EndSend" => Some(Call::EndSend(id)),
-        "TryRecv" => Some(Call::TryRecv(id)),
-        "PollFuture" => Some(Call::PollFuture(id)),
-        "EndFuture" => Some(Call::EndFuture(id)),
-        "PollRecv" => Some(Call::PollRecv(id)),
-        "PollNext" => Some(Call::PollNext(id)),
-        "Deactivate" => Some(Call::Deactivate(id)),
-        "CloneReceiver" => Some(Call::CloneReceiver(id)),
-        "DropReceiver" => Some(Call::DropReceiver(id)),
+        "TryBroadcast" => Some(Call::TryBroadcast(n)),
+        "AttemptSend" => Some(Call::AttemptSend(n)),
+        "EndSend" => Some(Call::EndSend(n as usize)),
+        "TryRecv" => Some(Call::TryRecv(n as usize)),
+        "PollFuture" => Some(Call::PollFuture(n as usize)),
+        "EndFuture" => Some(Call::EndFuture(n as usize)),
+        "PollRecv" => Some(Call::PollRecv(n as usize)),
+        "PollNext" => Some(Call::PollNext(n as usize)),
+        "Deactivate" => Some(Call::Deactivate(n as usize)),
+        "CloneReceiver" => Some(Call::CloneReceiver(n as usize)),
+        "DropReceiver" => Some(Call::DropReceiver(n as usize)),
         _ => None,
     }
 }
 
 /// A flag, as `true` or `false`.
 fn flag(word: &str) -> Option<bool>
-    ensures { IfSome result (λ on. word.now ≡ flag_text on) }
+    ensures text { IfSome result (λ on. word.now ≡ flag_text on) }
+    ensures none { IsNone result → (on : Bool) → word.now ≢ flag_text on }
 {
     match word {
         "true" => Some(true),

@@ -1,5 +1,7 @@
 //! The lines of a trace.
-ghost use Rattle.std.specs.Prelude.{IfSome};
+ghost use Rattle.std.specs.Prelude.{◌≢◌, ◌≤◌, ℕ, List, ◌∷◌, length, IfSome, IsNone};
+ghost use Rattle.bcast_model.specs.declared.run.Call.{Call};
+ghost use Rattle.bcast_text.specs.TraceCall.{text_of, IsInRange};
 ghost use Rattle.bcast_text.specs.TraceLine.{IsBeforeArrow, ReadsAs, IsInForm};
 
 use crate::trace::call::read_call;
@@ -23,6 +25,9 @@ pub enum Line<'a> {
 pub fn read_line(line: &str) -> Option<Line<'_>>
     ensures text { IfSome result (ReadsAs line.now) }
     ensures form { IfSome result IsInForm }
+    ensures no_view { IsNone result → (rest : List ℕ) → line.now ≢ 61 ∷ rest }
+    ensures no_call { IsNone result → (text : List ℕ) (call : Call ℕ)
+        → IsBeforeArrow text line.now → IsInRange call → text ≢ text_of call }
 {
     if line.starts_with('=') {
         return Some(Line::View);
@@ -33,7 +38,9 @@ pub fn read_line(line: &str) -> Option<Line<'_>>
 
 /// The line up to ` -> `, or the whole of it.
 fn before_arrow(line: &str) -> &str
-    ensures { IsBeforeArrow result.now line.now }
+    ensures text { IsBeforeArrow result.now line.now }
+    ensures first { (text : List ℕ) → IsBeforeArrow text line.now
+        → length result.now ≤ length text }
 {
     match line.split_once(" -> ") {
         Some((text, _)) => text,

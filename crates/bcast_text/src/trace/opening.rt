@@ -1,6 +1,7 @@
 //! The first line of a trace, which makes the channel.
-ghost use Rattle.std.specs.Prelude.{◌≡◌, ◌<◌, ◌+◌, ◌^◌, ◌++◌, IfSome, codes};
-ghost use Rattle.bcast_text.specs.Opening.{opening_text};
+ghost use Rattle.std.specs.Prelude.{◌≡◌, ◌≢◌, ◌<◌, ◌+◌, ◌^◌, ℕ, ◌++◌, IfSome, IsNone, codes};
+ghost use Rattle.std.specs.Fmt.{decimal};
+ghost use Rattle.bcast_text.specs.Opening.{opening_text, IsOpening};
 
 use crate::number::{number, positive};
 
@@ -17,7 +18,10 @@ pub struct Opening {
 
 /// The channel that `line` opens. None: it is no `open CAP FIRST` of a channel that there can be.
 pub fn read_opening(line: &str) -> Option<Opening>
-    ensures { IfSome result (λ opening. line.now ≡ opening_text opening.capacity opening.first) }
+    ensures text { IfSome result (λ opening.
+        line.now ≡ opening_text opening.capacity opening.first) }
+    ensures none { IsNone result → (capacity first : ℕ) → IsOpening capacity first
+        → line.now ≢ opening_text capacity first }
 {
     let (word, arguments) = line.split_once(' ')?;
     match word {
@@ -28,8 +32,10 @@ pub fn read_opening(line: &str) -> Option<Opening>
 
 /// The arguments of `open`: the capacity, and the number of the first message.
 fn channel(arguments: &str) -> Option<Opening>
-    ensures { IfSome result (λ opening.
+    ensures text { IfSome result (λ opening.
         codes "open " ++ arguments.now ≡ opening_text opening.capacity opening.first) }
+    ensures none { IsNone result → (capacity first : ℕ) → IsOpening capacity first
+        → arguments.now ≢ decimal capacity ++ codes " " ++ decimal first }
 {
     let (capacity, first) = arguments.split_once(' ')?;
     let capacity = positive(capacity)? as usize;

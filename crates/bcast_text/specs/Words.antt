@@ -1,0 +1,15 @@
+-- The words of a line, and its numbers.
+use Rattle.std.specs.Prelude.{ℕ, List, Option, Some, None, ◌++◌, ◌∷◌, ◌<◌, ◌^◌}
+
+-- a word, and after one space its arguments, if there are any
+abbrev pub spaced : List ℕ → Option (List ℕ) → List ℕ
+spaced word None = word
+spaced word (Some arguments) = word ++ 32 ∷ arguments
+
+-- a number that a line can have
+abbrev pub IsU64 : ℕ → Type 0
+IsU64 n = n < 2 ^ 64
+
+-- a capacity that a line can have
+abbrev pub IsCapacity : ℕ → Type 0
+IsCapacity n = (0 < n) × IsU64 n
