@@ -8,7 +8,7 @@ use Rattle.std.specs.Cmp.{nat_cmp_total, unsigned_tied}
 use Rattle.std.specs.FinMap.{get, insert, get-insert}
 use Rattle.bcast_model.specs.Control.{Cursors}
 
-apart : (x y : ℕ) → (x ≡ y → ⊥) → (x == y) ≡ false
+pub apart : (x y : ℕ) → (x ≡ y → ⊥) → (x == y) ≡ false
 apart x y differs = elim (x == y) as (λ b. (x == y) ≡ b → b ≡ false) [ true ↦ λ e. absurd (differs (grind (arith, common_steps, e))) | false ↦ λ _. refl ] refl
 
 module _ (m : Cursors) (key cursor other : ℕ) where

@@ -15,3 +15,4 @@ pub mod Hubs
 -- what readers are still to read
 pub mod Logs
 pub mod LogCalls
+pub mod Rooms

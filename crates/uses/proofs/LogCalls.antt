@@ -3,7 +3,7 @@ use Rattle.std.proofs.Common.{◌≡◌, inl, inr, ℕ, ◌+◌, ◌-◌, ◌<�
 use Rattle.std.proofs.lemmas.Grind.{common_steps}
 use Rattle.std.proofs.lemmas.List.{drop_more, drop_all}
 use Rattle.std.proofs.lemmas.Option.{slice_get_cases, slice_get_past}
-use Rattle.std.specs.Prelude.{IfSome, IfNone, IsOk}
+use Rattle.std.specs.Prelude.{IsOk}
 use Rattle.std.specs.declared.alloc.AllocError.{AllocError}
 use Rattle.std.specs.FinMap.{get}
 use Rattle.bcast_model.specs.declared.error.HandleError.{HandleError}
@@ -26,6 +26,7 @@ use Rattle.bcast_model.proofs.Cases.{receive_is}
 use Rattle.bcast_model.proofs.Clones.{answers_exact}
 use Rattle.bcast_core.proofs.Settle.{settle_idle}
 use Rattle.uses.specs.Log.{kept_from, unread, record_of, IsReader, IsLog, IsRead, KeepsReaders, KeepsUnread}
+use Rattle.uses.specs.Reading.{IsTaken}
 use Rattle.uses.proofs.Called.{told, some_of, valid, after, unchanged}
 use Rattle.uses.proofs.Exact.{exact_of}
 use Rattle.uses.proofs.Logs.{told_log, ReadsFrom, told_reads, reads_from}
@@ -36,15 +37,7 @@ nothing_added c (Some cursor) = refl
 
 module _ {T : Type 0} where
   -- ---- `try_recv`
-  -- what a read returns and leaves
-  pub record Reads (v u : View T) (key : ℕ) (o : Option T) : Type 0 where
-    pub log : IsLog u
-    pub first : IfSome o (λ item. unread v key ≡ item ∷ unread u key)
-    pub none : IfNone o (unread v key ≡ [])
-    pub others : KeepsUnread v u key
-    pub readers : KeepsReaders v u
-
-  told_read : (v u : View T) (key : ℕ) (o : Option T) → Reads v u key o → Reads v (told u) key o
+  told_read : (v u : View T) (key : ℕ) (o : Option T) → IsTaken v u key o → IsTaken v (told u) key o
   told_read v u key o s = record { log = told_log u s.log; first = s.first; none = s.none; others = s.others; readers = s.readers }
 
   abbrev item_of : Result T TryRecvError → Option T
@@ -52,13 +45,13 @@ module _ {T : Type 0} where
 
   module _ (v : View T) (key : ℕ) (log : IsLog v) (valid : IsValidView v) where
     abbrev Leaves : Option ℕ → Control → Type 0
-    Leaves cursor c = Reads v (settle v (sets c)) key (item_of (try_recv_reply v cursor))
+    Leaves cursor c = IsTaken v (settle v (sets c)) key (item_of (try_recv_reply v cursor))
 
     -- nothing is read
     reads_none : (cursor : Option ℕ) → item_of (try_recv_reply v cursor) ≡ None → unread v key ≡ [] → Leaves cursor v.control
     reads_none cursor none empty =
-        subst (λ u. Reads v u key (item_of (try_recv_reply v cursor))) (sym (settle_idle v valid))
-        (subst (Reads v v key) (sym none) (record { log = log; first = tt; none = empty; others = λ other differs. refl; readers = λ other is. is }))
+        subst (λ u. IsTaken v u key (item_of (try_recv_reply v cursor))) (sym (settle_idle v valid))
+        (subst (IsTaken v v key) (sym none) (record { log = log; first = tt; none = empty; others = λ other differs. refl; readers = λ other is. is }))
 
     item_found : (closed : Bool) (o : Option T) → item_of (recv_reply closed o) ≡ o
     item_found closed (Some item) = refl
@@ -80,7 +73,7 @@ module _ {T : Type 0} where
               ap (kept_from v) at ∙ drop_more v.queue (cursor - v.front) some.0 some.1
               ∙ ap (λ x. x ∷ drop ((cursor - v.front) + 1) v.queue) some.3
               ∙ ap (λ n. some.0 ∷ drop n v.queue) (sym more) ∙ ap (λ items. some.0 ∷ items) (sym next.own) in
-              subst (Reads v (settle v (sets (with_cursor v.control key (cursor + 1)))) key) (sym (item_at cursor low ∙ some.2))
+              subst (IsTaken v (settle v (sets (with_cursor v.control key (cursor + 1)))) key) (sym (item_at cursor low ∙ some.2))
               (record { log = next.log; first = first; none = tt; others = next.others; readers = next.readers })
           | inr past ↦ (let end = valid.end in let short = past.0 in absurd (omega (arith, end, short, high)))
         ]
@@ -98,12 +91,12 @@ module _ {T : Type 0} where
         reads_none (Some cursor) (item_at cursor low ∙ slice_get_past v.queue (cursor - v.front) short) (ap (kept_from v) at ∙ drop_all (cursor - v.front) v.queue short))
 
   pub reads : {is_clone : T → T → Type 0} {v w : View T} {key : ℕ} → ClonesEqual is_clone → (result : Result (Result T TryRecvError) AllocError) → IsOk result
-      → Answers is_clone v (call.TryRecv key) (reply.TryRecv result) w → IsLog v → Reads v w key (record_of result)
+      → Answers is_clone v (call.TryRecv key) (reply.TryRecv result) w → IsLog v → IsTaken v w key (record_of result)
   reads {is_clone = is_clone} {v = v} {w = w} {key = key} equal (Ok received) sure a log =
       let o : Option ℕ = cursor_of v.control key in
       let exact : received ≡ try_recv_reply v o = exact_of is_clone equal (IsOwed v key o) (try_recv_reply v o) received a.legal in
-      after a (λ u. Reads v u key (item_of received)) (λ u s. told_read v u key (item_of received) s)
-      (subst (λ r. Reads v (settle v (sets (receive v.front v.end v.control key o))) key (item_of r)) (sym exact) (reads_at v key log (valid a) o refl))
+      after a (λ u. IsTaken v u key (item_of received)) (λ u s. told_read v u key (item_of received) s)
+      (subst (λ r. IsTaken v (settle v (sets (receive v.front v.end v.control key o))) key (item_of r)) (sym exact) (reads_at v key log (valid a) o refl))
   reads equal (Err error) sure a log = absurd (let e : false ≡ true = sure in cc)
 
   pub read_answers : {is_clone : T → T → Type 0} {v w : View T} {key : ℕ} → ClonesEqual is_clone → (result : Result (Result T TryRecvError) AllocError) → IsOk result

@@ -14,7 +14,7 @@ use Rattle.bcast_core.proofs.Offers.{offer_accepted}
 use Rattle.uses.proofs.Called.{told, valid, after, unchanged}
 
 module _ {T : Type 0} where
-  refused_is : (back : Option T) (error : TrySendError T) (refused : Option (TrySendError T)) → Err error ≡ reply_to_try back refused → refused ≡ Some error
+  pub refused_is : (back : Option T) (error : TrySendError T) (refused : Option (TrySendError T)) → Err error ≡ reply_to_try back refused → refused ≡ Some error
   refused_is back error (Some other) e = cc
   refused_is back error None e = cc
 
@@ -35,7 +35,7 @@ module _ {T : Type 0} where
   room_of false false false over x y z plain e = (refl, refl)
 
   module _ {is_clone : T → T → Type 0} {v w : View T} {msg : T} where
-    replied : {result : Result (Option T) (TrySendError T)} → Answers is_clone v (call.TryBroadcast msg) (reply.TryBroadcast result) w → result ≡ try_broadcast_reply v msg
+    pub replied : {result : Result (Option T) (TrySendError T)} → Answers is_clone v (call.TryBroadcast msg) (reply.TryBroadcast result) w → result ≡ try_broadcast_reply v msg
     replied a = let e = a.legal in cc
 
     pub refused_send : {error : TrySendError T} → Answers is_clone v (call.TryBroadcast msg) (reply.TryBroadcast (Err error)) w → w ≡ v

@@ -8,3 +8,5 @@ pub mod Config
 pub mod Hub
 -- what readers are still to read
 pub mod Log
+-- sends with room, and reads in order
+pub mod Reading

@@ -11,6 +11,7 @@ use std::string::String;
 
 pub mod config_watcher;
 pub mod event_hub;
+pub mod laws;
 pub mod log_fan_out;
 pub mod shutdown;
 

@@ -1,0 +1,92 @@
+-- Sends for which there is room.
+use Rattle.std.proofs.Common.{◌≡◌, ℕ, ◌+◌, ◌==◌, ◌≤◌, ◌<◌, ◌^◌, true, false, cond, [], ◌∷◌, length, Option, None, Result, Ok, Err, refl, sym, ap, ◌∙◌, subst, arith, length-append}
+use Rattle.std.proofs.lemmas.Option.{none-some}
+use Rattle.std.specs.Prelude.{IsSome, IsOk}
+use Rattle.std.specs.FinMap.{get, empty}
+use Rattle.bcast_model.specs.declared.error.TrySendError.{TrySendError}
+use Rattle.bcast_model.specs.declared.run.Call.TheVariants as call
+use Rattle.bcast_model.specs.declared.run.Reply.TheVariants as reply
+use Rattle.bcast_model.specs.Control.{has_no_receiver, accepting, close, tell_receivers, last_end}
+use Rattle.bcast_model.specs.History.{opening, view_of}
+use Rattle.bcast_model.specs.Sending.{refusal, handed_back}
+use Rattle.bcast_model.specs.Steps.{with_message}
+use Rattle.bcast_model.specs.Valid.{IsValid}
+use Rattle.bcast_model.specs.View.{View, is_full}
+use Rattle.bcast_model.specs.Answers.{Answers, Represents}
+use Rattle.bcast_model.proofs.Least.{len_some}
+use Rattle.bcast_model.proofs.Views.{valid_view}
+use Rattle.bcast_core.proofs.Settle.{inserted}
+use Rattle.uses.specs.Log.{unread, IsReader, KeepsReaders}
+use Rattle.uses.specs.Reading.{HasRoom, IsSent}
+use Rattle.uses.proofs.Called.{told}
+use Rattle.uses.proofs.Cursors.{apart}
+use Rattle.uses.proofs.Sends.{replied, refused_is, put_last}
+use Rattle.uses.proofs.Logs.{new_log, writes}
+
+module _ {T : Type 0} where
+  -- ---- a new channel
+  pub opened : (v : View T) (capacity key : ℕ) → Represents v (opening capacity 0 key) → IsValid (opening {T = T} capacity 0 key) → capacity + 1 < 2 ^ 64 → HasRoom v capacity × IsReader v key × (unread v key ≡ [])
+  opened v capacity key new is_valid few =
+      let u : View T = view_of (opening capacity 0 key) in
+      let view = valid_view (opening {T = T} capacity 0 key) is_valid in
+      let high = view.high in
+      let end = view.end in
+      let some = len_some u.control.cursors key 0 (inserted empty key 0) in
+      let has : HasRoom u capacity = record {
+        log = record { overflow = refl; reach = λ reader cursor e. omega (arith, high) };
+        is_open = refl;
+        receivers = apart _ _ (λ e. omega (arith, some, e));
+        room = omega (arith, end);
+        numbers = omega (arith, few);
+      } in
+      let reader = new_log v capacity key new is_valid in
+      (subst (λ x. HasRoom x capacity) (sym new) has, reader.0, reader.1)
+
+  -- ---- `try_broadcast`
+  none_refused : (v : View T) (msg : T) (count : ℕ) → HasRoom v (count + 1) → refusal v msg ≡ None
+  none_refused v msg count has =
+      let room = has.room in
+      let full : is_full v ≡ false = apart _ _ (λ e. omega (arith, room, e)) in
+      rw (has.is_open, has.receivers, full) refl
+
+  accepted : {is_clone : T → T → Type 0} {v w : View T} {msg : T} (count : ℕ) (r : Result (Option T) (TrySendError T)) → Answers is_clone v (call.TryBroadcast msg) (reply.TryBroadcast r) w → HasRoom v (count + 1) → IsOk r
+  accepted count (Ok back) a has = refl
+  accepted {v = v} {msg = msg} count (Err error) a has = absurd (none-some error (sym (none_refused v msg count has) ∙ refused_is (handed_back v) error (refusal v msg) (replied a)))
+
+  -- what is left beside the messages
+  record Left (v u : View T) (count : ℕ) : Type 0 where
+    is_open : u.control.closed ≡ false
+    receivers : has_no_receiver u.control ≡ false
+    room : length u.queue + count ≤ u.control.capacity
+    numbers : u.end + count + 1 < 2 ^ 64
+    readers : KeepsReaders v u
+
+  told_left : (v : View T) (count : ℕ) (u : View T) → Left v u count → Left v (told u) count
+  told_left v count u s = record { is_open = s.is_open; receivers = s.receivers; room = s.room; numbers = s.numbers; readers = s.readers }
+
+  left : (v : View T) (msg : T) (count : ℕ) → HasRoom v (count + 1) → Left v (with_message v msg) count
+  left v msg count has =
+      let room = has.room in
+      let numbers = has.numbers in
+      let more = length-append v.queue (msg ∷ []) in
+      let before : ((v.end + 1) == last_end) ≡ false = apart _ _ (λ e. omega (arith, numbers, e)) in
+      let is : accepting v.control v.end ≡ tell_receivers v.control = ap (λ b. cond b (close (tell_receivers v.control)) (tell_receivers v.control)) before in
+      record {
+        is_open = ap (λ c. c.closed) is ∙ has.is_open;
+        receivers = ap has_no_receiver is ∙ has.receivers;
+        room = (let capacity = ap (λ c. c.capacity) is in omega (arith, room, more, capacity));
+        numbers = omega (arith, numbers);
+        readers = λ reader there. subst IsSome (sym (ap (λ c. get c.cursors reader) is)) there;
+      }
+
+  pub sent : {is_clone : T → T → Type 0} {v w : View T} {msg : T} (count : ℕ) (r : Result (Option T) (TrySendError T)) → Answers is_clone v (call.TryBroadcast msg) (reply.TryBroadcast r) w → HasRoom v (count + 1) → IsSent v w msg count r
+  sent {v = v} {msg = msg} count (Ok back) a has =
+      let written = writes a has.log in
+      let rest = put_last a has.log.overflow (λ u. Left v u count) (told_left v count) (left v msg count has) in
+      record {
+        ok = refl;
+        room = record { log = written.0; is_open = rest.is_open; receivers = rest.receivers; room = rest.room; numbers = rest.numbers };
+        added = written.1;
+        readers = rest.readers;
+      }
+  sent count (Err error) a has = absurd (let e : false ≡ true = accepted count (Err error) a has in cc)

@@ -1,0 +1,62 @@
+-- Sends for which there is room, and reads in order: what callers without overflow rely on.
+use Rattle.std.specs.Prelude.{◌≡◌, ℕ, ◌+◌, ◌^◌, ◌<◌, ◌≤◌, false, [], ◌∷◌, length, Option, IfSome, IfNone, IsOk, Result, Ok}
+use Rattle.bcast_model.specs.declared.error.TryRecvError.{TryRecvError}
+use Rattle.bcast_model.specs.declared.error.TrySendError.{TrySendError}
+use Rattle.bcast_model.specs.declared.run.Call.TheVariants as call
+use Rattle.bcast_model.specs.declared.run.Reply.TheVariants as reply
+use Rattle.bcast_model.specs.Control.{has_no_receiver}
+use Rattle.bcast_model.specs.History.{opening}
+use Rattle.bcast_model.specs.ReceiveReplies.{NoClone, ClonesEqual}
+use Rattle.bcast_model.specs.Valid.{IsValid}
+use Rattle.bcast_model.specs.View.{View}
+use Rattle.bcast_model.specs.Answers.{Answers, Represents}
+use Rattle.uses.specs.Log.{unread, record_of, IsReader, IsLog, KeepsReaders, AddsUnread, KeepsUnread}
+
+module _ {T : Type 0} where
+  -- an open channel in which nothing overflows, with a receiver, and with room and numbers for so
+  -- many messages more
+  pub record HasRoom (v : View T) (count : ℕ) : Type 0 where
+    pub log : IsLog v
+    pub is_open : v.control.closed ≡ false
+    pub receivers : has_no_receiver v.control ≡ false
+    pub room : length v.queue + count ≤ v.control.capacity
+    pub numbers : v.end + count + 1 < 2 ^ 64
+
+  -- `try_broadcast`: the message is accepted, as the last for every reader, and room for so many
+  -- more is left
+  pub record IsSent
+      (v w : View T) (msg : T) (count : ℕ) (r : Result (Option T) (TrySendError T)) : Type 0 where
+    pub ok : IsOk r
+    pub room : HasRoom w count
+    pub added : AddsUnread v w msg
+    pub readers : KeepsReaders v w
+
+  -- `try_recv`: the first of what the reader was still to read, or none if there was none; nothing
+  -- changes for the others
+  pub record IsTaken (v w : View T) (reader : ℕ) (found : Option T) : Type 0 where
+    pub log : IsLog w
+    pub first : IfSome found (λ item. unread v reader ≡ item ∷ unread w reader)
+    pub none : IfNone found (unread v reader ≡ [])
+    pub others : KeepsUnread v w reader
+    pub readers : KeepsReaders v w
+
+-- a new channel has room for as many messages as its capacity, and its receiver has none to read
+abbrev pub OpensWithRoom : Type 0 → Type 0
+OpensWithRoom T =
+    (v : View T) (capacity key : ℕ) → Represents v (opening capacity 0 key)
+    → IsValid {T = T} (opening capacity 0 key) → capacity + 1 < 2 ^ 64
+    → HasRoom v capacity × IsReader v key × (unread v key ≡ [])
+
+-- a message for which there is room is sent
+abbrev pub SendsWithRoom : Type 0 → Type 0
+SendsWithRoom T =
+    (v w : View T) (msg : T) (count : ℕ) (r : Result (Option T) (TrySendError T))
+    → Answers NoClone v (call.TryBroadcast msg) (reply.TryBroadcast r) w → HasRoom v (count + 1)
+    → IsSent v w msg count r
+
+-- where a clone equals its original, messages are read in the order of sending
+abbrev pub ReadsInOrder : {T : Type 0} → (T → T → Type 0) → Type 0
+ReadsInOrder {T} is_clone =
+    ClonesEqual is_clone → (v w : View T) (reader : ℕ) (r : Result T TryRecvError)
+    → Answers is_clone v (call.TryRecv reader) (reply.TryRecv (Ok r)) w → IsLog v
+    → IsTaken v w reader (record_of (Ok r))
