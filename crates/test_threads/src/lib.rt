@@ -2,9 +2,13 @@
 #![tactic(auto)]
 
 #[cfg(test)]
+mod counterparts;
+#[cfg(test)]
 mod handshake;
 #[cfg(test)]
 mod readme;
+#[cfg(test)]
+mod scripts;
 #[cfg(test)]
 mod steps;
 #[cfg(test)]
