@@ -1,0 +1,24 @@
+//! Two threads and a task over one channel: the first example of README.md.
+#![tactic(auto)]
+
+use anyhow::Result;
+use async_broadcast::broadcast;
+use futures::executor::block_on;
+use std::thread;
+
+fn main(rt: HostRuntime) -> Result<()> {
+    let (sender, mut one) = broadcast::<u64, _, _>(&rt, rt.alloc(), 1)?;
+    let mut two = one.clone()?;
+    // One thread sends while another waits for the message. The last sender goes with its thread.
+    let (_, received) = thread::join(
+        &rt,
+        move || sender.broadcast_blocking(7),
+        move || one.recv_blocking(),
+    );
+    println!(rt; "{}", received??)?;
+    println!(rt; "{}", block_on(&rt, two.recv_direct())???)?;
+    if let Err(error) = two.try_recv()? {
+        println!(rt; "{error}")?;
+    }
+    Ok(())
+}

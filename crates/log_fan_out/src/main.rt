@@ -1,0 +1,68 @@
+//! A log: producers write records from threads of their own, and each consumer reads all of them.
+#![tactic(auto)]
+
+use anyhow::Result;
+use async_broadcast::{Port, Receiver, RecvError, Sender, WakerSlot, broadcast};
+use std::alloc::AllocError;
+use std::sync::Wait;
+use std::thread;
+
+/// How many records each producer writes.
+const RECORDS: u64 = 200;
+
+/// What a consumer saw.
+#[derive(Clone, Copy)]
+struct Seen {
+    records: u64,
+    missed: u64,
+}
+
+fn produce<P: Port<u64, WakerSlot>>(log: Sender<u64, P>, first: u64) {
+    for record in first..first.saturating_add(RECORDS) {
+        if log.broadcast_blocking(record).is_err() {
+            break;
+        }
+    }
+}
+
+/// Reads until the last producer is gone.
+fn consume<P: Port<u64, WakerSlot>>(
+    rt: &impl Wait,
+    mut log: Receiver<u64, P>,
+) -> Result<Seen, AllocError> {
+    let mut seen = Seen {
+        records: 0,
+        missed: 0,
+    };
+    for _ in rt.forever() {
+        match log.recv_blocking()? {
+            Ok(_) => seen.records = seen.records.saturating_add(1),
+            Err(RecvError::Overflowed(n)) => seen.missed = seen.missed.saturating_add(n),
+            Err(RecvError::Closed) => break,
+        }
+    }
+    Ok(seen)
+}
+
+fn main(rt: HostRuntime) -> Result<()> {
+    let (log, one) = broadcast(rt, rt.alloc(), 8)?;
+    let two = one.clone()?;
+    let other = log.clone()?;
+
+    let first = thread::spawn(&rt, move || produce(log, 0))?;
+    let second = thread::spawn(&rt, move || produce(other, RECORDS))?;
+    let reading = thread::spawn(&rt, move || consume(&rt, one))?;
+    let seen = consume(&rt, two)?;
+    println!(rt;
+        "one consumer: {} records, {} missed",
+        seen.records, seen.missed
+    )?;
+    let seen = reading.join(&rt)?;
+    println!(rt;
+        "the other: {} records, {} missed",
+        seen.records, seen.missed
+    )?;
+    first.join(&rt);
+    second.join(&rt);
+    Ok(())
+}
