@@ -1,12 +1,10 @@
-//! Tests of `async_broadcast` by threads that wait for one another, and the README's example.
+//! Tests of `async_broadcast` by threads that wait for one another.
 #![tactic(auto)]
 
 #[cfg(test)]
 mod counterparts;
 #[cfg(test)]
 mod handshake;
-#[cfg(test)]
-mod readme;
 #[cfg(test)]
 mod scripts;
 #[cfg(test)]
