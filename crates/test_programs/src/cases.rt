@@ -3,6 +3,8 @@ use crate::arguments;
 use crate::failing::{cut_after_each_byte, each_read_and_write_fails, too_little_memory};
 use crate::play::{Played, Player, in_pieces, play};
 use crate::refused::refused_lines;
+use crate::short::write_wrong;
+use crate::told::write_notices;
 use bcast_text::ending::Ending;
 use std::alloc::Global;
 use std::io;
@@ -16,6 +18,7 @@ pub fn run<W: Write>(alloc: Global, case: &str, output: &mut W) -> io::Result<()
     match kind {
         "script" => script_case(alloc, body, output),
         "trace" => trace_case(alloc, body, output),
+        "told" => told_case(alloc, body, output),
         "failing" => failing_case(alloc, name, body, output),
         "refused" => refused_lines(alloc, name, body, output),
         "bcast" => arguments::bcast(alloc, body, output),
@@ -38,6 +41,13 @@ fn script_case<W: Write>(alloc: Global, text: &str, output: &mut W) -> io::Resul
     write_other_ways(alloc, Player::Script, text, &played, output)
 }
 
+/// Writes what a trace writes, and whose notices its calls tell.
+fn told_case<W: Write>(alloc: Global, text: &str, output: &mut W) -> io::Result<()> {
+    let played = play(alloc, alloc, Player::Trace, text.as_bytes(), in_pieces(7));
+    trace_case(alloc, text, output)?;
+    write_notices(alloc, text, listed_from(alloc, &played)?.as_slice(), output)
+}
+
 /// Writes what a trace writes, and how it ends; and whether the list of its calls does the same,
 /// but for the views.
 fn trace_case<W: Write>(alloc: Global, text: &str, output: &mut W) -> io::Result<()> {
@@ -51,6 +61,9 @@ fn trace_case<W: Write>(alloc: Global, text: &str, output: &mut W) -> io::Result
     output.write_all(played.wrote.as_slice())?;
     writeln!(output, "-- {:?}", played.ending)?;
     write_other_ways(alloc, Player::Trace, text, &played, output)?;
+    if played.ending == Ending::Done {
+        write_wrong(alloc, text, output)?;
+    }
     let listed = play(alloc, alloc, Player::List, text.as_bytes(), in_pieces(7));
     if listed.is(played.ending, listed_from(alloc, &played)?.as_slice()) {
         return output.write_all(b"-- the list: the same without views\n");
@@ -102,6 +115,11 @@ fn write_other_ways<W: Write>(
 
 /// Plays a script, or else a trace, with reads, writes and requests for memory that fail in turn.
 fn failing_case<W: Write>(alloc: Global, name: &str, text: &str, output: &mut W) -> io::Result<()> {
+    if name == "calls" {
+        let is_often = write_wrong(alloc, text, output)? > 3;
+        let count = if is_often { "often" } else { "seldom" };
+        return writeln!(output, "Calls: NoMemory {count}, and then none");
+    }
     if name == "script" {
         cut_after_each_byte(alloc, text, output)?;
         each_read_and_write_fails(alloc, Player::Script, text, output)?;

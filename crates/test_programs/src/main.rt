@@ -7,10 +7,13 @@
 mod arguments;
 mod cases;
 mod failing;
+mod heavy;
 mod play;
 mod refused;
+mod short;
 mod streams;
 mod threads;
+mod told;
 mod unusual;
 
 use std::io;

@@ -1,4 +1,6 @@
 //! Runs of threads.
+ghost use Rattle.std.specs.Prelude.{◌<◌, ◌≤◌};
+
 use crate::streams::Taker;
 use async_broadcast::broadcast;
 use bcast_text::ending::Ending;
@@ -19,19 +21,33 @@ pub fn run<R: Threads + Wait + Clone + Send + 'static, W: Write>(
     output: &mut W,
 ) -> io::Result<()> {
     output.write_all(b"# threads\n")?;
-    let mut printed = Vec::new(alloc);
-    let ending = threads(rt, alloc, 2, 3, 100, &mut printed);
-    output.write_all(printed.as_slice())?;
-    writeln!(output, "-- {ending:?}")?;
-    let mut printed = Vec::new(alloc);
-    let ending = threads(rt, alloc, 1, 1, 1, &mut printed);
-    output.write_all(printed.as_slice())?;
-    writeln!(output, "-- {ending:?}")?;
+    one_order(rt, alloc, 2, 3, 100, output)?;
+    one_order(rt, alloc, 1, 1, 1, output)?;
+    one_order(rt, alloc, 64, 64, 100, output)?;
     no_thread(rt, alloc, output)?;
     write_fails(rt, alloc, output)?;
     compared(alloc, output)?;
     no_memory_closes(rt, alloc, output)?;
     closed_ends_sender(rt, alloc, output)
+}
+
+/// So many senders, receivers and messages of each sender.
+fn one_order<R: Threads + Wait + Clone + Send + 'static, W: Write>(
+    rt: &R,
+    alloc: Global,
+    s: u64,
+    r: u64,
+    m: u64,
+    output: &mut W,
+) -> io::Result<()>
+    requires senders { (0 < s) × (s ≤ 64) }
+    requires receivers { (0 < r) × (r ≤ 64) }
+    requires messages { (0 < m) × (m ≤ 100000) }
+{
+    let mut printed = Vec::new(alloc);
+    let ending = threads(rt, alloc, s, r, m, &mut printed);
+    output.write_all(printed.as_slice())?;
+    writeln!(output, "-- {ending:?}")
 }
 
 /// A stack of this size is not to be had.

@@ -1,0 +1,196 @@
+//! Traces played on a channel that is short of memory, beside one that isn't.
+ghost use Rattle.bcast_model.specs.Next.{HasPositiveCapacity};
+
+use crate::heavy::{Heavy, with_memory};
+use bcast_core::{Call, HandleError, Inner, Reply, Silent, step};
+use bcast_text::trace::line::{Line, read_line};
+use bcast_text::trace::opening::{Opening, read_opening};
+use linked_list_allocator::LocalHeap;
+use std::alloc::{AllocError, Allocator, Global};
+use std::io;
+use std::io::Write;
+
+/// The bytes of the heap of a channel that is short of memory.
+const HEAP: usize = 1 << 14;
+
+/// The sizes of blocks that fill a heap.
+const BLOCKS: [usize; 8] = [4096, 1024, 512, 256, 128, 64, 32, 16];
+
+/// What came of calls that were short of memory.
+#[derive(Clone, Copy, PartialEq, Eq)]
+enum Outcome {
+    /// None was refused.
+    Same,
+    /// Some were refused for memory, and changed nothing.
+    Refused,
+    /// The call of this line answered something else, or changed something.
+    Wrong(usize),
+}
+
+/// What all accessors answer.
+#[derive(Clone, Copy, PartialEq, Eq)]
+struct Seen {
+    counts: [usize; 5],
+    flags: [bool; 6],
+    end: u64,
+}
+
+fn seen_of<A: Allocator + Copy>(inner: &Inner<Heavy<'_>, Silent, A>) -> Seen {
+    Seen {
+        counts: [
+            inner.capacity(),
+            inner.len(),
+            inner.receiver_count(),
+            inner.inactive_receiver_count(),
+            inner.sender_count(),
+        ],
+        flags: [
+            inner.overflow(),
+            inner.await_active(),
+            inner.is_empty(),
+            inner.is_full(),
+            inner.is_closed(),
+            inner.is_terminated(),
+        ],
+        end: inner.end_number(),
+    }
+}
+
+/// Whether a call was refused for memory.
+fn is_refused(reply: &Reply<Heavy<'_>>) -> bool {
+    matches!(
+        reply,
+        Reply::BeginSend(Err(_))
+            | Reply::TryRecv(Err(_))
+            | Reply::PollFuture(Err(_))
+            | Reply::PollRecv(Err(_))
+            | Reply::PollNext(Err(_))
+            | Reply::SetCapacity(Err(_))
+            | Reply::NewReceiver(Err(HandleError::Memory))
+            | Reply::Activate(Err(HandleError::Memory))
+            | Reply::ActivateCloned(Err(HandleError::Memory))
+            | Reply::CloneReceiver(Err(HandleError::Memory))
+    )
+}
+
+/// Takes what memory the heap has but `left` bytes.
+fn fill<'a>(
+    alloc: Global,
+    heap: &'a LocalHeap,
+    left: usize,
+) -> Result<Vec<Vec<u8, &'a LocalHeap>>, AllocError> {
+    let kept = Vec::<u8, &LocalHeap>::with_capacity(heap, left)?;
+    let mut taken = Vec::new(alloc);
+    for size in BLOCKS {
+        for _ in 0..HEAP {
+            match Vec::<u8, &LocalHeap>::with_capacity(heap, size) {
+                Ok(block) => taken.push(block)?,
+                Err(_) => break,
+            }
+        }
+    }
+    drop(kept);
+    Ok(taken)
+}
+
+/// A channel on a heap, and one that always has memory.
+#[derive(Drop)]
+struct Pair<'a> {
+    heap: &'a LocalHeap,
+    ample: &'a LocalHeap,
+    short: Inner<Heavy<'a>, Silent, &'a LocalHeap>,
+    other: Inner<Heavy<'a>, Silent>,
+}
+
+impl<'a> Pair<'a> {
+    fn open(
+        alloc: Global,
+        heap: &'a LocalHeap,
+        ample: &'a LocalHeap,
+        opening: Opening,
+    ) -> Result<Self, AllocError> {
+        let (short, _) = Inner::starting_at(heap, opening.capacity, opening.first)?;
+        let (other, _) = Inner::starting_at(alloc, opening.capacity, opening.first)?;
+        Ok(Pair {
+            heap,
+            ample,
+            short,
+            other,
+        })
+    }
+
+    /// Makes a call with `left` bytes of memory, and again with more of it if it was refused. None:
+    /// it changes something where it is refused, or is answered otherwise than with memory.
+    fn make(
+        &mut self,
+        alloc: Global,
+        left: usize,
+        call: Call<u64>,
+    ) -> Result<Option<Outcome>, AllocError>
+        requires { HasPositiveCapacity call }
+    {
+        let Some(wanted) = with_memory(self.ample, call)? else {
+            return Ok(Some(Outcome::Same));
+        };
+        let (Some(first), Some(again)) = (
+            with_memory(self.heap, call)?,
+            with_memory(self.heap, call)?,
+        ) else {
+            return Ok(None);
+        };
+        let taken = fill(alloc, self.heap, left)?;
+        let reply = step(&mut self.short, first, Silent);
+        let is_unchanged = seen_of(&self.short) == seen_of(&self.other);
+        drop(taken);
+        let wanted = step(&mut self.other, wanted, Silent);
+        if reply == wanted {
+            return Ok(Some(Outcome::Same));
+        }
+        if !is_refused(&reply) || !is_unchanged {
+            return Ok(None);
+        }
+        let is_right = step(&mut self.short, again, Silent) == wanted;
+        Ok(is_right.then_some(Outcome::Refused))
+    }
+}
+
+/// Plays the calls of a trace, each with `left` bytes of memory at first.
+fn play(alloc: Global, text: &str, left: usize) -> Result<Outcome, AllocError> {
+    let heap = LocalHeap::new(alloc, HEAP)?;
+    let ample = LocalHeap::new(alloc, HEAP)?;
+    let mut lines = text.lines();
+    let Some(opening) = lines.next().and_then(read_opening) else {
+        return Ok(Outcome::Wrong(0));
+    };
+    let Ok(mut pair) = Pair::open(alloc, &heap, &ample, opening) else {
+        return Ok(Outcome::Same);
+    };
+    let mut outcome = Outcome::Same;
+    for (index, line) in lines.enumerate() {
+        if let Some(Line::Call(_, call)) = read_line(line) {
+            match pair.make(alloc, left, call)? {
+                None => return Ok(Outcome::Wrong(index.saturating_add(2))),
+                Some(Outcome::Refused) => outcome = Outcome::Refused,
+                Some(_) => {}
+            }
+        }
+    }
+    Ok(outcome)
+}
+
+/// Plays the calls of a trace with ever more memory until none is refused, and writes what is
+/// wrong. How often some were refused.
+pub fn write_wrong<W: Write>(alloc: Global, text: &str, output: &mut W) -> io::Result<usize> {
+    for count in 0..HEAP / 32 {
+        match play(alloc, text, count * 16)? {
+            Outcome::Same => return Ok(count),
+            Outcome::Refused => {}
+            Outcome::Wrong(line) => {
+                writeln!(output, "-- short of memory, line {line} is wrong")?;
+                return Ok(count);
+            }
+        }
+    }
+    output.write_all(b"-- memory is refused for ever\n")?;
+    Ok(0)
+}

@@ -1,0 +1,94 @@
+//! Traces played with notices that count how often they are told.
+use bcast_core::{Inner, Notice, step};
+use bcast_text::trace::line::{Line, read_line};
+use bcast_text::trace::opening::read_opening;
+use bcast_text::trace::reply::write_answer;
+use std::alloc::Global;
+use std::cell::Cell;
+use std::io;
+use std::io::Write;
+use std::rc::Rc;
+
+/// Counts how often it is told.
+#[derive(Drop)]
+struct Counted(Rc<Cell<u64>>);
+
+impl Notice for Counted {
+    fn tell(&self) {
+        self.0.set(self.0.get().wrapping_add(1));
+    }
+}
+
+/// A channel, and the counts of the notices that were left there, one for each line after the
+/// first.
+#[derive(Drop)]
+struct Noted {
+    inner: Inner<u64, Counted>,
+    counts: Vec<Rc<Cell<u64>>>,
+}
+
+impl Noted {
+    /// Makes the call of a line with a notice of its own, and writes the line with its reply.
+    fn run_line(&mut self, alloc: Global, line: &str, wrote: &mut Vec<u8>) -> io::Result<()> {
+        let count = Rc::new(alloc, Cell::new(0))?;
+        let notice = Counted(count.clone()?);
+        self.counts.push(count)?;
+        if let Some(Line::Call(text, call)) = read_line(line) {
+            let reply = step(&mut self.inner, call, notice);
+            write_answer(text, &reply, wrote)?;
+        }
+        Ok(())
+    }
+
+    /// Writes which lines' notices were told since the last look, each as often as it was told.
+    fn write_told<W: Write>(&self, output: &mut W) -> io::Result<()> {
+        for (index, count) in self.counts.iter().enumerate() {
+            for _ in 0..count.replace(0) {
+                write!(output, " {}", index.saturating_add(2))?;
+            }
+        }
+        Ok(())
+    }
+
+    fn is_any_told(&self) -> bool {
+        self.counts.iter().any(|count| count.get() > 0)
+    }
+}
+
+/// Plays a trace, each call with a notice of its own, and writes after which line the notices of
+/// which lines were told. The lines of a trace are counted from 1.
+///
+/// `listed` is the trace without its views, as it is written when it is played without notices.
+pub fn write_notices<W: Write>(
+    alloc: Global,
+    text: &str,
+    listed: &[u8],
+    output: &mut W,
+) -> io::Result<()> {
+    let mut lines = text.lines();
+    let Some(first) = lines.next() else {
+        return output.write_all(b"-- no line\n");
+    };
+    let Some(opening) = read_opening(first) else {
+        return output.write_all(b"-- no channel\n");
+    };
+    let (inner, _) = Inner::starting_at(alloc, opening.capacity, opening.first)?;
+    let mut noted = Noted {
+        inner,
+        counts: Vec::new(alloc),
+    };
+    let mut wrote = Vec::new(alloc);
+    writeln!(&mut wrote, "{first}")?;
+    for (index, line) in lines.enumerate() {
+        noted.run_line(alloc, line, &mut wrote)?;
+        if noted.is_any_told() {
+            write!(output, "-- line {} tells", index.saturating_add(2))?;
+            noted.write_told(output)?;
+            output.write_all(b"\n")?;
+        }
+    }
+    if wrote.as_slice() != listed {
+        output.write_all(b"-- other replies with notices\n")?;
+    }
+    Ok(())
+}
