@@ -1,6 +1,7 @@
 -- Which of the waiting threads are woken after a call.
 use Rattle.std.specs.Prelude.{◌≡◌, ℕ, ◌+◌, ◌-◌, ◌%◌, ◌^◌, ◌<◌, ◌||◌, Bool, true, false}
 use Rattle.bcast_model.specs.Control.{is_ready}
+use Rattle.bcast_model.specs.Listeners.{no_listeners}
 use Rattle.bcast_model.specs.View.{is_full}
 use Rattle.async_broadcast.specs.declared.lock.state.State.{State}
 use Rattle.async_broadcast.specs.declared.lock.state.Woken.{Woken}
@@ -21,6 +22,10 @@ module _ {T A : Type 0} where
   -- no thread waits
   abbrev pub HasNoThread : State T A → Type 0
   HasNoThread s = (s.senders ≡ 0) × (s.idle_receivers ≡ 0) × (s.due_receivers ≡ 0)
+
+  -- and no send of a task
+  abbrev pub IsIdle : State T A → Type 0
+  IsIdle s = HasNoThread s × (s.inner.control.waiting_sends ≡ no_listeners)
 
   -- where sends are ready and a thread waits to send, one was woken that hasn't tried yet
   abbrev pub HasWokenSender : State T A → Type 0

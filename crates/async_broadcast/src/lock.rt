@@ -56,6 +56,38 @@ impl<T: Clone, A: Allocator> Channel<T, A> {
     }
 }
 
+// What is done while others may wait. In functions of their own, so that a call that finds nobody
+// waiting clears no memory for their answers.
+impl<T: Clone, A: Allocator + Copy> Channel<T, A> {
+    #[inline(always)]
+    fn try_broadcast_and_wake(
+        &self,
+        mut state: MutexGuard<'_, State<T, A>>,
+        msg: T,
+    ) -> Result<Option<T>, TrySendError<T>>
+        ensures { IsPossible T.is_clone (Call.TryBroadcast msg) (Reply.TryBroadcast result) }
+    {
+        let (answer, woken) = state.try_broadcast(msg);
+        drop(state);
+        self.wake(woken);
+        answer
+    }
+
+    #[inline(always)]
+    fn try_recv_and_wake(
+        &self,
+        mut state: MutexGuard<'_, State<T, A>>,
+        key: usize,
+    ) -> Result<Result<T, TryRecvError>, AllocError>
+        ensures { IsPossible T.is_clone (Call.TryRecv key) (Reply.TryRecv result) }
+    {
+        let (answer, woken) = state.try_recv(key);
+        drop(state);
+        self.wake(woken);
+        answer
+    }
+}
+
 /// Makes a channel that keeps at most `cap` messages at once, with its first sender and receiver.
 ///
 /// It is open and empty. Overflow mode is off: a full channel accepts no message before every
@@ -226,10 +258,7 @@ impl<T: Clone, R: Wait + Clone, A: Allocator + Copy> Port<T, WakerSlot<A>> for L
         if state.has_no_thread() {
             return state.try_broadcast_alone(msg);
         }
-        let (answer, woken) = state.try_broadcast(msg);
-        drop(state);
-        channel.wake(woken);
-        answer
+        channel.try_broadcast_and_wake(state, msg)
     }
 
     #[inline(always)]
@@ -238,13 +267,10 @@ impl<T: Clone, R: Wait + Clone, A: Allocator + Copy> Port<T, WakerSlot<A>> for L
     {
         let channel = &*self.channel;
         let mut state = channel.lock(&self.rt);
-        if state.has_no_thread() {
+        if state.is_idle() {
             return state.try_recv_alone(key);
         }
-        let (answer, woken) = state.try_recv(key);
-        drop(state);
-        channel.wake(woken);
-        answer
+        channel.try_recv_and_wake(state, key)
     }
 
     fn ask_waiting(&self, call: Call<T>) -> Reply<T>

@@ -7,8 +7,8 @@ ghost use Rattle.bcast_model.specs.Answers.{Answers, IsPossible};
 ghost use Rattle.bcast_core.specs.Snapshot.{Shows};
 ghost use Rattle.async_broadcast.specs.Kinds.{IsOfKind};
 ghost use Rattle.async_broadcast.specs.Snapshots.{ShowsSomeState};
-ghost use Rattle.async_broadcast.specs.Woken.{HasNoThread, HasWokenSender, HasWokenReceiver, NotesSender, NotesReceiver};
-ghost use Rattle.async_broadcast.specs.Woken.{MovesReceivers, EndsWait, news_of, one_more, one_less};
+ghost use Rattle.async_broadcast.specs.Woken.{HasNoThread, IsIdle, HasWokenSender, HasWokenReceiver};
+ghost use Rattle.async_broadcast.specs.Woken.{NotesSender, NotesReceiver, MovesReceivers, EndsWait, news_of, one_more, one_less};
 
 use crate::wake::{Wake, WakerSlot};
 use bcast_core::{Call, Inner, Reply, Snapshot, TryRecvError, TrySendError, step};
@@ -69,6 +69,14 @@ impl<T: Clone, A: Allocator + Copy> State<T, A> {
         ensures { result ≡ true → HasNoThread self.now }
     {
         self.senders == 0 && self.idle_receivers == 0 && self.due_receivers == 0
+    }
+
+    /// Whether no thread waits, and no send of a task.
+    #[inline(always)]
+    pub(super) fn is_idle(&self) -> bool
+        ensures { result ≡ true → IsIdle self.now }
+    {
+        self.has_no_thread() && self.inner.no_send_waits()
     }
 
     /// Makes one call while no thread waits.
@@ -150,19 +158,19 @@ impl<T: Clone, A: Allocator + Copy> State<T, A> {
         (answer, woken)
     }
 
-    /// Receives while no thread waits.
+    /// Receives while no thread waits, and no send. So it calls no notice.
     #[inline(always)]
     pub(super) fn try_recv_alone(
         &mut self,
         key: usize,
     ) -> Result<Result<T, TryRecvError>, AllocError>
-        requires { HasNoThread self.old }
+        requires { IsIdle self.old }
         ensures answers { Answers T.is_clone self.old.inner (Call.TryRecv key)
             (Reply.TryRecv result) self.new.inner }
         ensures possible { IsPossible T.is_clone (Call.TryRecv key) (Reply.TryRecv result) }
         ensures threads { self.new ≡ record self.old { inner = self.new.inner } }
     {
-        self.inner.try_recv(key)
+        self.inner.try_recv_alone(key)
     }
 
     /// Receives, and says whom to wake after it.

@@ -4,4 +4,4 @@ use Rattle.bcast_model.proofs.Answers.{possible}
 use Rattle.async_broadcast.proofs.lock.state.State.try_recv_alone.Goals as goal
 
 pub returns-clause-possible : goal.returns-clause-possible
-returns-clause-possible g c = possible refl c.try_recv.ensures.answers
+returns-clause-possible g c = possible refl c.try_recv_alone.ensures.answers
