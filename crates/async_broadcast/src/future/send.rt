@@ -134,13 +134,13 @@ impl<T: Clone, P: Ask<T, WakerSlot<A>>, A: Allocator> Drop for Send<'_, T, P, A>
         ensures { IfSome self.entry.place (λ place.
             P.gave self.entry.sender.now.port (Call.EndSend place) Reply.EndSend) }
     {
+        self.sender.end_send(self.place);
         let Send {
-            sender,
-            place,
+            sender: _,
+            place: _,
             msg: _,
             waker: _,
         } = self;
-        sender.end_send(place);
     }
 }
 
