@@ -10,11 +10,15 @@ use bcast_text::ending::{Ending, Program, report};
 use bcast_text::script::command::Command;
 use bcast_threads::threads;
 use std::alloc::AllocError;
+use std::io::BufWriter;
 use std::process::ExitCode;
 
 fn main(rt: HostRuntime) -> ExitCode {
     let ending = match command(rt) {
-        Ok(Command::Script) => script(rt.alloc(), rt.stdin(), rt.stdout()),
+        Ok(Command::Script) => match BufWriter::new(rt.alloc(), rt.stdout()) {
+            Ok(mut output) => script(rt.alloc(), rt.stdin(), &mut output),
+            Err(_) => Ending::NoMemory,
+        },
         Ok(Command::Threads(s, r, m)) => threads(&rt, rt.alloc(), s, r, m, rt.stdout()),
         Err(ending) => ending,
     };

@@ -1,5 +1,5 @@
 //! Calls that are to be made as one list.
-ghost use Rattle.std.specs.Prelude.{◌≡◌, [], ◌∷◌, ◌++◌, OnOk};
+ghost use Rattle.std.specs.Prelude.{◌≡◌, [], ◌∷◌, ◌++◌, OnOk, map, string_bytes};
 ghost use Rattle.bcast_model.specs.Next.{HasPositiveCapacity};
 ghost use Rattle.bcast_play.specs.Positive.{AllPositive, AllPositive-prop};
 
@@ -19,7 +19,8 @@ pub struct Calls<A: Allocator> {
 impl<A: Allocator + Copy> Calls<A> {
     /// No calls.
     pub fn new(alloc: A) -> Self
-        ensures { result.list.items ≡ [] }
+        ensures list { result.list.items ≡ [] }
+        ensures texts { result.texts.items ≡ [] }
     {
         Calls {
             list: Vec::new(alloc),
@@ -34,7 +35,9 @@ impl<A: Allocator + Copy> Calls<A> {
     /// - `AllocError`: there is no memory for them.
     pub fn push(&mut self, alloc: A, text: &str, call: Call<u64>) -> Result<(), AllocError>
         requires { HasPositiveCapacity call }
-        ensures { OnOk result (self.new.list.items ≡ self.old.list.items ++ call ∷ []) }
+        ensures list { OnOk result (self.new.list.items ≡ self.old.list.items ++ call ∷ []) }
+        ensures texts { OnOk result (map string_bytes self.new.texts.items
+            ≡ map string_bytes self.old.texts.items ++ text.now ∷ []) }
     {
         self.texts.push(String::from_str(alloc, text)?)?;
         self.list.push(call)?;

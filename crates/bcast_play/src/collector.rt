@@ -1,13 +1,19 @@
 //! The calls of a trace played as one list.
+ghost use Rattle.std.specs.Prelude.{◌≡◌, ◌≢◌, ◌⊎◌, ℕ, List, Err, OnOk, map, string_bytes};
+ghost use Rattle.std.specs.Io.KnownBytes.{Appends, Keeps};
+ghost use Rattle.bcast_play.specs.Channels.{collected_of};
+ghost use Rattle.bcast_play.specs.ListRun.{IsPlayed, IsList, played_text, nothing_yet};
+
 use crate::calls::Calls;
-use bcast_core::run;
+use bcast_core::{Reply, run};
 use bcast_text::ending::Ending;
 use bcast_text::input::{Fault, RunLine, run_lines};
 use bcast_text::trace::line::{LONGEST, Line, read_line};
 use bcast_text::trace::opening::{Opening, read_opening};
 use bcast_text::trace::reply::write_answer;
 use std::alloc::Allocator;
-use std::io::{BufWriter, Read, Write};
+use std::io;
+use std::io::{Read, Write};
 
 /// The channel of a trace, and its calls, of which none is made yet.
 #[derive(Drop)]
@@ -19,7 +25,9 @@ pub struct Collector<A: Allocator> {
 
 impl<A: Allocator + Copy> Collector<A> {
     /// A collector before line 1.
-    pub fn new(alloc: A) -> Self {
+    pub fn new(alloc: A) -> Self
+        ensures { collected_of result ≡ nothing_yet }
+    {
         Collector {
             alloc,
             opening: None,
@@ -34,29 +42,31 @@ impl<A: Allocator + Copy> Collector<A> {
     /// - `NotACall`: line 1 was not read.
     /// - `NoMemory`: there is no memory for the channel or for the replies. No call was made.
     /// - `OutputFailed`: a write failed.
-    pub fn play<W: Write>(self, output: &mut W) -> Result<(), Fault> {
+    pub fn play<W: Write>(self, output: &mut W) -> Result<(), Fault>
+        ensures ok { OnOk result ((text : List ℕ) × IsPlayed (collected_of self) text
+            × Appends (W.contents output.old) (W.contents output.new) text) }
+        ensures unwritten { (result ≡ Err Fault.NotACall) ⊎ (result ≡ Err Fault.NoMemory)
+            → output.new ≡ output.old }
+    {
         let opening = self.opening.ok_or(Fault::NotACall)?;
         let Calls { list, texts } = self.calls;
         let Ok(made) = run(self.alloc, opening.capacity, opening.first, list) else {
             return Err(Fault::NoMemory);
         };
         writeln!(output, "open {} {}", opening.capacity, opening.first)?;
-        for (text, reply) in texts.iter().zip(&made.replies) {
-            write_answer(text.as_str(), reply, output)?;
-        }
-        Ok(())
+        Ok(write_answers(texts.as_slice(), made.replies.as_slice(), output)?)
     }
 }
 
 impl<A: Allocator + Copy> RunLine for Collector<A> {
-    ghost use Rattle.std.specs.Prelude.{◌≡◌, []};
+    ghost use Rattle.bcast_play.specs.Channels.{collected_of};
+    ghost use Rattle.bcast_play.specs.ListRun.{Collected, IsCollected};
 
-    ghost State = { Unit {0} };
+    ghost State = { Collected };
 
-    ghost state = { λ _. tt };
+    ghost state = { collected_of };
 
-    // Nothing is written yet.
-    ghost answers = { λ _ _ text _. text ≡ [] };
+    ghost answers = { IsCollected };
 
     fn run_line<W: Write>(&mut self, line: &str, _output: &mut W) -> Result<(), Fault> {
         if self.opening.is_none() {
@@ -71,25 +81,42 @@ impl<A: Allocator + Copy> RunLine for Collector<A> {
     }
 }
 
+/// Writes the line of each call.
+fn write_answers<B: Allocator, W: Write>(
+    texts: &[String<B>],
+    replies: &[Reply<u64>],
+    output: &mut W,
+) -> io::Result<()>
+    ensures { OnOk result (Appends (W.contents output.old) (W.contents output.new)
+        (played_text (map string_bytes texts.now) replies.now)) }
+{
+    for (text, reply) in texts.iter().zip(replies) {
+        write_answer(text.as_str(), reply, output)?;
+    }
+    Ok(())
+}
+
 /// Plays the calls of the trace that `input` holds as one list, once all of it is read, and writes
 /// line 1 and each call with the reply that `run` gives. Nothing is written if a line is out of
 /// form.
 ///
 /// Takes memory for the calls, their texts and their replies.
-pub fn list<A: Allocator + Copy, R: Read + Drop, W: Write + Drop>(
+pub fn list<A: Allocator + Copy, R: Read + Drop, W: Write>(
     alloc: A,
     input: R,
-    output: W,
-) -> Ending {
-    let Ok(mut output) = BufWriter::new(alloc, output) else {
-        return Ending::NoMemory;
-    };
+    output: &mut W,
+) -> Ending
+    ensures done { result ≡ Ending.Done
+        → IsList (R.remaining input) (W.contents output.old) (W.contents output.new) }
+    ensures unwritten { result ≢ Ending.Done → result ≢ Ending.OutputFailed
+        → Keeps (W.contents output.old) (W.contents output.new) }
+{
     let mut collector = Collector::new(alloc);
-    let ending = run_lines(alloc, input, LONGEST, &mut output, &mut collector);
+    let ending = run_lines(alloc, input, LONGEST, output, &mut collector);
     if ending != Ending::Done {
         return ending;
     }
-    let played = collector.play(&mut output);
+    let played = collector.play(output);
     match (output.flush(), played) {
         (_, Err(Fault::NotACall)) => Ending::NotACall(1),
         (_, Err(Fault::NoMemory)) => Ending::NoMemory,

@@ -9,5 +9,5 @@ mod session;
 mod view;
 
 pub use collector::list;
-pub use player::{run_trace, trace};
-pub use session::{run_script, script};
+pub use player::trace;
+pub use session::script;

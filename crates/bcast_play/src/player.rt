@@ -13,7 +13,7 @@ use bcast_text::trace::line::{LONGEST, Line, read_line};
 use bcast_text::trace::opening::read_opening;
 use bcast_text::trace::reply::write_answer;
 use std::alloc::Allocator;
-use std::io::{BufWriter, Read, Write};
+use std::io::{Read, Write};
 
 /// The channel of a trace, which line 1 opens.
 #[derive(Drop)]
@@ -98,21 +98,9 @@ fn answer<A: Allocator + Copy, W: Write>(
 /// Plays the trace that `input` holds, line by line, and writes it anew: line 1, each call with the
 /// reply that `step` gives, and each view.
 ///
-/// The answers are written before each read that may wait for more input. The first line that is
-/// out of form ends the run.
-pub fn trace<A: Allocator + Copy, R: Read + Drop, W: Write + Drop>(
-    alloc: A,
-    input: R,
-    output: W,
-) -> Ending {
-    let Ok(mut output) = BufWriter::new(alloc, output) else {
-        return Ending::NoMemory;
-    };
-    run_trace(alloc, input, &mut output)
-}
-
-/// Plays a trace as `trace` does, and flushes `output` where that writes.
-pub fn run_trace<A: Allocator + Copy, R: Read + Drop, W: Write>(
+/// `output` is flushed before each read that may wait for more input, and at the end. The first
+/// line that is out of form ends the run.
+pub fn trace<A: Allocator + Copy, R: Read + Drop, W: Write>(
     alloc: A,
     input: R,
     output: &mut W,

@@ -8,7 +8,7 @@ use bcast_text::ending::Ending;
 use bcast_text::input::{Fault, RunLine, run_lines};
 use bcast_text::script::line::{Line, read_line};
 use std::alloc::Allocator;
-use std::io::{BufWriter, Read, Write};
+use std::io::{Read, Write};
 
 /// The most bytes that a line may have, its LF aside.
 const LONGEST: u32 = 200;
@@ -47,21 +47,9 @@ impl<A: Allocator + Copy> RunLine for Session<A> {
 
 /// Runs the script that `input` holds, line by line, and writes an answer to each line.
 ///
-/// The answers are written before each read that may wait for more input. The first line that is
-/// no call ends the run.
-pub fn script<A: Allocator + Copy, R: Read + Drop, W: Write + Drop>(
-    alloc: A,
-    input: R,
-    output: W,
-) -> Ending {
-    let Ok(mut output) = BufWriter::new(alloc, output) else {
-        return Ending::NoMemory;
-    };
-    run_script(alloc, input, &mut output)
-}
-
-/// Runs a script as `script` does, and flushes `output` where that writes.
-pub fn run_script<A: Allocator + Copy, R: Read + Drop, W: Write>(
+/// `output` is flushed before each read that may wait for more input, and at the end. The first
+/// line that is no call ends the run.
+pub fn script<A: Allocator + Copy, R: Read + Drop, W: Write>(
     alloc: A,
     input: R,
     output: &mut W,

@@ -7,15 +7,26 @@ use bcast_text::arguments::arguments;
 use bcast_text::ending::{Ending, Program, report};
 use bcast_text::trace::command::Command;
 use std::alloc::AllocError;
+use std::io::BufWriter;
 use std::process::ExitCode;
 
 fn main(rt: HostRuntime) -> ExitCode {
     let ending = match command(rt) {
-        Ok(Command::Trace) => trace(rt.alloc(), rt.stdin(), rt.stdout()),
-        Ok(Command::List) => list(rt.alloc(), rt.stdin(), rt.stdout()),
+        Ok(command) => run(rt, command),
         Err(ending) => ending,
     };
     report(&rt, ending)
+}
+
+/// Plays the trace that standard input holds, and writes to standard output.
+fn run(rt: HostRuntime, command: Command) -> Ending {
+    let Ok(mut output) = BufWriter::new(rt.alloc(), rt.stdout()) else {
+        return Ending::NoMemory;
+    };
+    match command {
+        Command::Trace => trace(rt.alloc(), rt.stdin(), &mut output),
+        Command::List => list(rt.alloc(), rt.stdin(), &mut output),
+    }
 }
 
 /// What the arguments ask for, or how the run ends at once.

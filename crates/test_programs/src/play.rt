@@ -3,7 +3,7 @@ use crate::streams::{Pieces, Taker};
 use bcast_play::{list, script, trace};
 use bcast_text::ending::Ending;
 use std::alloc::{Allocator, Global};
-use std::io::Write;
+use std::io::{BufWriter, Write};
 use std::{io, str};
 
 /// What plays a text.
@@ -67,15 +67,28 @@ pub fn play<A: Allocator + Copy>(
         piece: way.taken,
         calls: way.writes,
     };
-    let ending = match player {
-        Player::Script => script(alloc, reader, &mut writer),
-        Player::Trace => trace(alloc, reader, &mut writer),
-        Player::List => list(alloc, reader, &mut writer),
-    };
+    let ending = buffered(alloc, player, reader, &mut writer);
     Played {
         ending,
         wrote: writer.taken,
         writes: writer.calls,
+    }
+}
+
+/// Plays a text as the programs do, through a buffer.
+fn buffered<A: Allocator + Copy>(
+    alloc: A,
+    player: Player,
+    reader: Pieces<'_>,
+    writer: &mut Taker,
+) -> Ending {
+    let Ok(mut output) = BufWriter::new(alloc, writer) else {
+        return Ending::NoMemory;
+    };
+    match player {
+        Player::Script => script(alloc, reader, &mut output),
+        Player::Trace => trace(alloc, reader, &mut output),
+        Player::List => list(alloc, reader, &mut output),
     }
 }
 

@@ -27,6 +27,7 @@ pub fn run<R: Threads + Wait + Clone + Send + 'static, W: Write>(
     no_thread(rt, alloc, output)?;
     write_fails(rt, alloc, output)?;
     compared(alloc, output)?;
+    order_is_kept(rt, alloc, output)?;
     no_memory_closes(rt, alloc, output)?;
     closed_ends_sender(rt, alloc, output)
 }
@@ -107,6 +108,23 @@ fn list_of(alloc: Global, numbers: [u64; 3]) -> Result<Vec<u64>, AllocError> {
     let mut list = Vec::new(alloc);
     list.extend_from_slice(&numbers)?;
     Ok(list)
+}
+
+/// A receiver has what it received, in that order.
+fn order_is_kept<R: Wait + Clone, W: Write>(
+    rt: &R,
+    alloc: Global,
+    output: &mut W,
+) -> io::Result<()> {
+    let (sender, receiver) = broadcast(rt.clone()?, alloc, 3)?;
+    for msg in [2u64, 0, 1] {
+        if sender.try_broadcast(msg).is_err() {
+            output.write_all(b"not sent\n")?;
+        }
+    }
+    sender.close();
+    let list = receive_all(alloc, receiver)?;
+    writeln!(output, "received {:?}", list.as_slice())
 }
 
 /// A receiver that finds no memory closes the channel, whatever other receivers there are.

@@ -1,0 +1,46 @@
+-- Reading the lines writes nothing, and what is written after it is all.
+use Rattle.std.proofs.Common.{rules, ◌≡◌, ◌∙◌, Ok, Err, inl, inr, refl, sym, subst}
+use Rattle.std.specs.Io.KnownBytes.{Keeps}
+use Rattle.std.proofs.KnownBytes.{Keeps-trans}
+use Rattle.bcast_text.specs.declared.ending.Ending.TheVariants.{Done, OutputFailed}
+use Rattle.bcast_text.specs.Run.{IsRun}
+use Rattle.bcast_play.specs.Channels.{collected_of}
+use Rattle.bcast_play.specs.ListRun.{IsCollected, nothing_yet}
+use Rattle.bcast_play.proofs.Lists.{run_keeps, run_read, written_after, ok_part}
+use Rattle.bcast_play.proofs.collector.list.Goals as goal
+
+pub returns-then-ne-clause-unwritten : goal.returns-then-ne-clause-unwritten
+returns-then-ne-clause-unwritten g c _ written = run_keeps (c.run_lines-ending.ensures written)
+
+pub returns-in_default-Err-NotACall-clause-unwritten :
+    goal.returns-in_default-Err-NotACall-clause-unwritten
+returns-in_default-Err-NotACall-clause-unwritten g c _ _ =
+    let done : c.run_lines-ending.result ≡ Done = search rules in
+    let ran = c.run_lines-ending.ensures (λ failed. let clash = sym done ∙ failed in absurd (cc)) in
+    let same = c.play-played.ensures.unwritten (inl (search rules)) in
+    Keeps-trans _ _ _ (run_keeps ran) (subst (λ o. Keeps (g.W.Write.contents o) (g.W.Write.contents c.flush.new.self)) same c.flush.ensures.bytes)
+
+pub returns-in_default-Err-NoMemory-clause-unwritten :
+    goal.returns-in_default-Err-NoMemory-clause-unwritten
+returns-in_default-Err-NoMemory-clause-unwritten g c _ _ =
+    let done : c.run_lines-ending.result ≡ Done = search rules in
+    let ran = c.run_lines-ending.ensures (λ failed. let clash = sym done ∙ failed in absurd (cc)) in
+    let same = c.play-played.ensures.unwritten (inr (search rules)) in
+    Keeps-trans _ _ _ (run_keeps ran) (subst (λ o. Keeps (g.W.Write.contents o) (g.W.Write.contents c.flush.new.self)) same c.flush.ensures.bytes)
+
+pub returns-in-Ok-Ok-clause-done : goal.returns-in-Ok-Ok-clause-done
+returns-in-Ok-Ok-clause-done g c _ =
+    let done : c.run_lines-ending.result ≡ Done = search rules in
+    let ran = c.run_lines-ending.ensures (λ failed. let clash = sym done ∙ failed in absurd (cc)) in
+    let start = c.new-collector.ensures in
+    let whole = subst (λ e. IsRun IsCollected (g.R.Read.remaining c.args.input) (g.W.Write.contents c.args.output.now) (g.W.Write.contents c.run_lines-ending.new.output) nothing_yet (collected_of c.run_lines-ending.new.program) e) done
+    (subst (λ s. IsRun IsCollected (g.R.Read.remaining c.args.input) (g.W.Write.contents c.args.output.now) (g.W.Write.contents c.run_lines-ending.new.output) s (collected_of c.run_lines-ending.new.program) c.run_lines-ending.result) start ran) in
+    let is : c.play-played.result ≡ Ok c.in-Ok-Ok.field-0-1 = search rules in
+    let played = ok_part c.play-played.result c.in-Ok-Ok.field-0-1 _ is c.play-played.ensures.ok in
+    record {
+      collected = collected_of c.run_lines-ending.new.program;
+      read = run_read whole;
+      text = played.0;
+      played = played.1;
+      written = written_after whole _ _ played.0 played.2 c.flush.ensures.bytes;
+    }
