@@ -1,8 +1,8 @@
 -- If no send waits, a call tells no sender.
-use Rattle.std.proofs.Common.{◌≡◌, ℕ, ◌+◌, Bool, true, false, cond, ◌&&◌, Option, Some, None, Result, Ok, Err, OnOk, OnErr, refl, sym, ap, ◌∙◌}
+use Rattle.std.proofs.Common.{◌≡◌, ℕ, Bool, true, false, cond, ◌&&◌, Option, Some, None, Result, Ok, Err, OnOk, OnErr, refl, sym, ap, ◌∙◌}
 use Rattle.bcast_model.specs.declared.error.TrySendError.{TrySendError}
 use Rattle.bcast_model.specs.Listeners.{no_listeners, tell, tell_all}
-use Rattle.bcast_model.specs.Control.{Control, tell_a_sender, tell_receivers}
+use Rattle.bcast_model.specs.Control.{tell_a_sender, tell_receivers}
 use Rattle.bcast_model.specs.Effect.{sets}
 use Rattle.bcast_model.specs.Next.{tell_if_ready}
 use Rattle.bcast_model.specs.Receiving.{receive}

@@ -1,10 +1,8 @@
 -- What is seen of the state after an effect.
-use Rattle.std.proofs.Common.{◌≡◌, ℕ, ◌+◌, ◌-◌, ◌≤◌, true, cond, List, [], ◌∷◌, ◌++◌, length, max, drop, Some, refl, ap, ◌∙◌, arith, append-nil}
-use Rattle.std.proofs.lemmas.Grind.{common_steps}
-use Rattle.std.specs.Ordering.{nat_cmp, eq_by_cmp}
-use Rattle.std.specs.Cmp.{nat_cmp_total, unsigned_tied}
-use Rattle.std.specs.FinMap.{get, insert, len, values, entries, find, len-entries, get-entries, get-insert}
-use Rattle.bcast_model.specs.Control.{Control, Cursors, tell_receivers, close, close_if_deserted, accepting}
+use Rattle.std.proofs.Common.{◌≡◌, ℕ, ◌+◌, ◌-◌, ◌≤◌, List, [], ◌∷◌, ◌++◌, length, max, drop, Some, refl, ◌∙◌, arith, append-nil}
+use Rattle.std.specs.Ordering.{nat_cmp}
+use Rattle.std.specs.FinMap.{get, insert, len, values, entries, find, len-entries, get-entries}
+use Rattle.bcast_model.specs.Control.{Control, Cursors, close, close_if_deserted}
 use Rattle.bcast_model.specs.History.{least, front_of}
 use Rattle.bcast_model.specs.View.{View}
 use Rattle.bcast_model.specs.Laws.{IsValidView}

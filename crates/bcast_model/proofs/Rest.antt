@@ -6,13 +6,13 @@ use Rattle.bcast_model.specs.declared.run.Call.TheVariants as call
 use Rattle.bcast_model.specs.declared.run.Reply.{Reply}
 use Rattle.bcast_model.specs.Listeners.{Listeners, told_ids, is_in, without}
 use Rattle.bcast_model.specs.ListenerId.{Pair, stream_of, future_of, same_place, same_pair}
-use Rattle.bcast_model.specs.Control.{Control, close, accepting, is_ready, tell_a_sender, tell_receivers, has_place, place_answered, place_waits, pair_answered, pair_waits, cursor_of}
+use Rattle.bcast_model.specs.Control.{Control, is_ready, tell_a_sender, tell_receivers, has_place, place_waits, pair_answered, pair_waits, cursor_of}
 use Rattle.bcast_model.specs.View.{View, sends_are_ready}
-use Rattle.bcast_model.specs.Effect.{Effect, sets}
+use Rattle.bcast_model.specs.Effect.{sets}
 use Rattle.bcast_model.specs.Sending.{refusal, accept_unless, offer, with_place_answered, poll_send}
 use Rattle.bcast_model.specs.Receiving.{receive, receive_poll, listens, skipped_to, is_empty_reply, try_recv_reply}
-use Rattle.bcast_model.specs.Effects.{effect, set_unless_refused}
-use Rattle.bcast_model.specs.Next.{is_out_of_memory, may_tell, tell_if_ready}
+use Rattle.bcast_model.specs.Effects.{set_unless_refused}
+use Rattle.bcast_model.specs.Next.{is_out_of_memory, tell_if_ready}
 use Rattle.bcast_model.specs.Steps.{settle, next_view}
 use Rattle.bcast_model.specs.Valid.{AreListed}
 use Rattle.bcast_model.specs.Laws.{IsValidView}
