@@ -12,8 +12,6 @@ mod full_heap;
 #[cfg(test)]
 mod memory;
 #[cfg(test)]
-mod notices;
-#[cfg(test)]
 mod record;
 #[cfg(test)]
 mod told_polls;

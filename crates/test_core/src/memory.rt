@@ -1,7 +1,7 @@
 //! Channels and runs over heaps of every small size.
-use bcast_core::{Call, HandleError, Inner, Silent, run};
+use bcast_core::{Call, HandleError, Inner, Silent, run, step};
 use linked_list_allocator::LocalHeap;
-use std::alloc::Allocator;
+use std::alloc::{AllocError, Allocator, Global};
 use std::process::Abort;
 use std::test::Fail;
 
@@ -72,5 +72,46 @@ fn a_refused_run_hands_its_calls_back(rt: HostRuntime) -> Result<(), Fail> {
     }
     assert!(rt; is_refused, "a run was refused");
     assert!(rt; last == Some(true));
+    Ok(())
+}
+
+/// A channel that keeps 8 and 9, with two receivers, one of which waits, and a send that waits.
+fn waited_for(alloc: Global) -> Result<Inner<u64, Silent>, AllocError> {
+    let (mut inner, first) = Inner::new(alloc, 2)?;
+    let second = inner.clone_receiver(first).ok().ok_or(AllocError)?;
+    for msg in [8, 9] {
+        drop(step(&mut inner, Call::TryBroadcast(msg), Silent));
+        drop(step(&mut inner, Call::TryRecv(second), Silent));
+    }
+    drop(step(&mut inner, Call::PollRecv(second), Silent));
+    let place = inner.begin_send()?;
+    drop(step(&mut inner, Call::PollSend(place, 7), Silent));
+    Ok(inner)
+}
+
+/// Whether there is memory for a snapshot, which then shows all of this channel.
+fn shows<A: Allocator + Copy>(rt: &impl Abort, alloc: A, inner: &Inner<u64, Silent>) -> bool {
+    let Ok(seen) = inner.snapshot(alloc) else {
+        return false;
+    };
+    assert!(rt; matches!(seen.queue.as_slice(), [8, 9]));
+    assert!(rt; seen.cursors.iter().map(|entry| entry.1).eq([0, 2]));
+    assert!(rt; matches!(seen.places.as_slice(), [0]));
+    assert!(rt; matches!(seen.waiting_sends.ids.as_slice(), [0]));
+    assert!(rt; seen.waiting_receives.ids.len() == 1);
+    true
+}
+
+#[test]
+fn a_snapshot_is_refused_or_whole(rt: HostRuntime) -> Result<(), Fail> {
+    let inner = waited_for(rt.alloc())?;
+    let (mut last, mut is_refused) = (false, false);
+    for size in 0..256 {
+        let heap = LocalHeap::new(rt.alloc(), size * 16)?;
+        last = shows(&rt, &heap, &inner);
+        is_refused |= !last;
+    }
+    assert!(rt; is_refused, "a snapshot was refused");
+    assert!(rt; last);
     Ok(())
 }

@@ -95,3 +95,44 @@ fn a_refused_call_was_not_made(rt: HostRuntime) -> Result<(), AllocError> {
     assert!(rt; refused_once::<Brand>(&heap, Blank::new(2), Journal::new())?);
     Ok(())
 }
+
+/// How many of two calls a new log stores before one finds no memory. None: a call that found none
+/// changed something, or one was stored otherwise.
+///
+/// # Errors
+///
+/// - `AllocError`: no memory for the log.
+fn stored<R: Named>(
+    heap: &LocalHeap,
+    calls: Blank,
+    journal: Journal<Note<u64>>,
+) -> Result<Option<usize>, AllocError>
+    requires calls { (calls.name ≡ R.name) × (calls.parts ≡ R.parts) × (calls.parts ≡ 2) }
+    requires journal { journal ≡ R.book }
+{
+    let (mut log, _, mut seats) = Log::<u64, R, &LocalHeap>::new(heap, 2, 1, calls, journal)?;
+    let Some(seat) = seats.first_mut() else {
+        return Ok(None);
+    };
+    for (count, call) in [Step::Send, Step::Receive].iter().enumerate() {
+        if !stores(&mut log, seat, *call, count) {
+            let is_unchanged = log.entries().len() == count && seat.count() == count;
+            return Ok(is_unchanged.then_some(count));
+        }
+    }
+    Ok(Some(2))
+}
+
+#[test]
+fn a_log_and_its_calls_are_refused_in_turn(rt: HostRuntime) -> Result<(), AllocError> {
+    let (mut is_refused, mut last) = (false, Err(AllocError));
+    for size in 0..256 {
+        let heap = LocalHeap::new(rt.alloc(), size * 16)?;
+        last = stored::<Brand>(&heap, Blank::new(2), Journal::new());
+        assert!(rt; last != Ok(None), "{size}");
+        is_refused |= last != Ok(Some(2));
+    }
+    assert!(rt; is_refused, "memory was refused");
+    assert!(rt; last == Ok(Some(2)));
+    Ok(())
+}

@@ -1,30 +1,101 @@
-//! Two threads over one recorder, whose calls are made again on one thread.
-ghost use Rattle.std.specs.Prelude.{◌≡◌};
+//! Threads over one recorder, whose calls are made again on one thread.
+ghost use Rattle.std.specs.Prelude.{◌≡◌, ◌+◌, ◌<◌};
+ghost use Rattle.bcast_model.specs.Next.{HasPositiveCapacity};
 
-use bcast_core::{Call, run};
-use bcast_record::{Finished, Journal, Named, Note, Recorder, Seat};
+use bcast_core::{Call, Reply, run};
+use bcast_record::{Finished, Journal, Named, Note, Receipt, Recorder, Seat};
 use std::alloc::{AllocError, Global};
 use std::marker::Brand;
 use std::sync::Wait;
 use std::sync::ledger::Blank;
 use std::thread::{Threads, map_vec};
 
-/// What the thread of a seat asks: the first seat sends, the second receives.
+/// Which calls the seats make.
+#[derive(Clone, Copy)]
+enum Work {
+    /// The first two seats send, and the others receive.
+    Halves,
+    /// Each seat sends, receives, makes receivers, sets a capacity and drops receivers in turn.
+    Busy,
+}
+
+/// How many seats a recorder of this capacity has, and how many calls each of them makes.
+#[derive(Clone, Copy)]
+struct Plan {
+    capacity: usize,
+    seats: usize,
+    calls: usize,
+    work: Work,
+}
+
+/// A seat, and the receipts of its calls in order.
+#[derive(Drop)]
+struct Asked<R: Named> {
+    seat: Seat<R>,
+    receipts: Vec<Receipt<u64, R>>,
+}
+
+/// The call of this index of a seat, on a channel whose first receiver has this key. `made` has the
+/// receivers that the seat made and didn't drop.
+fn call_of(work: Work, seat: usize, index: usize, key: usize, made: &mut Vec<usize>) -> Call<u64>
+    ensures { HasPositiveCapacity result }
+{
+    let msg = seat.wrapping_mul(1000).wrapping_add(index) as u64;
+    match work {
+        Work::Halves if seat < 2 => Call::TryBroadcast(msg),
+        Work::Halves => Call::TryRecv(key),
+        Work::Busy => match seat.wrapping_add(index) % 5 {
+            0 => Call::TryBroadcast(msg),
+            1 => Call::TryRecv(key),
+            2 => Call::CloneReceiver(key),
+            3 => Call::SetCapacity(1 + index % 3),
+            _ => made.pop().map_or(Call::Len, |key| Call::DropReceiver(key)),
+        },
+    }
+}
+
+/// What the thread of a seat asks. A receipt that finds no memory is missed later.
 fn ask<R: Named>(
     rt: &impl Wait,
+    alloc: Global,
     recorder: &Recorder<u64, R>,
     key: usize,
+    plan: Plan,
     mut seat: Seat<R>,
-) -> Seat<R> {
-    for msg in 0..500 {
-        let call = if seat.number() == 0 {
-            Call::TryBroadcast(msg)
-        } else {
-            Call::TryRecv(key)
-        };
-        drop(recorder.call(rt, &mut seat, call));
+) -> Asked<R> {
+    let mut made = Vec::new(alloc);
+    let mut receipts = Vec::new(alloc);
+    for index in 0..plan.calls {
+        let call = call_of(plan.work, seat.number(), index, key, &mut made);
+        if let Ok(receipt) = recorder.call(rt, &mut seat, call) {
+            if let Reply::CloneReceiver(Ok(key)) = receipt.entry().reply {
+                let _kept = made.push(key);
+            }
+            let _kept = receipts.push(receipt);
+        }
     }
-    seat
+    Asked { seat, receipts }
+}
+
+/// Whether there is a receipt for each call of this seat, their places rise, and each names an
+/// entry of the seat.
+fn are_entries<R: Named>(
+    finished: &Finished<u64, R>,
+    seat: usize,
+    calls: usize,
+    receipts: &[Receipt<u64, R>],
+) -> bool {
+    let mut least = 0;
+    for receipt in receipts {
+        let entry = finished.entry_of(receipt);
+        let named = receipt.entry();
+        let is_same = entry.call == named.call && entry.reply == named.reply;
+        if !is_same || entry.seat != seat || receipt.place() < least {
+            return false;
+        }
+        least = receipt.place().saturating_add(1);
+    }
+    receipts.len() == calls
 }
 
 /// Whether the calls, made again on one thread, get the replies that were stored.
@@ -33,32 +104,83 @@ fn replays<R: Named>(alloc: Global, finished: &Finished<u64, R>) -> Result<bool,
     let Ok(made) = run(alloc, finished.opening().capacity, 0, calls) else {
         return Err(AllocError);
     };
-    for (entry, reply) in finished.entries().iter().zip(&made.replies) {
-        if entry.reply != *reply {
-            return Ok(false);
-        }
-    }
-    Ok(made.replies.len() == finished.entries().len())
+    let mut pairs = finished.entries().iter().zip(&made.replies);
+    let are_same = pairs.all(|(entry, reply)| entry.reply == *reply);
+    Ok(are_same && made.replies.len() == finished.entries().len())
 }
 
-/// Two threads ask one recorder, and one thread makes their calls again.
+/// Whether the entries are those of the receipts, and one thread gets the same replies.
+fn is_whole<R: Named>(
+    alloc: Global,
+    finished: &Finished<u64, R>,
+    plan: Plan,
+    lists: &[Vec<Receipt<u64, R>>],
+) -> Result<bool, AllocError> {
+    let mut seats = lists.iter().enumerate();
+    let are_entries = seats.all(|(seat, list)| are_entries(
+        finished,
+        seat,
+        plan.calls,
+        list.as_slice(),
+    ));
+    let count = plan.seats.saturating_mul(plan.calls);
+    Ok(are_entries && finished.entries().len() == count && replays(alloc, finished)?)
+}
+
+/// Threads ask one recorder, each for a seat of its own, and one thread makes their calls again.
 fn record<R: Named + Send + Sync>(
     rt: &(impl Threads + Wait + Sync),
     alloc: Global,
+    plan: Plan,
     calls: Blank,
     journal: Journal<Note<u64>>,
 ) -> Result<bool, AllocError>
-    requires calls { (calls.name ≡ R.name) × (calls.parts ≡ R.parts) × (calls.parts ≡ 3) }
+    requires capacity { 0 < plan.capacity }
+    requires calls { (calls.name ≡ R.name) × (calls.parts ≡ R.parts)
+        × (calls.parts ≡ plan.seats + 1) }
     requires journal { journal ≡ R.book }
 {
-    let (recorder, key, seats) = Recorder::<u64, R>::new(alloc, 2, 2, calls, journal)?;
-    let seats = map_vec(rt, seats, &|seat| ask(rt, &recorder, key, seat))?;
+    let (recorder, key, seats) = Recorder::<u64, R>::new(
+        alloc,
+        plan.capacity,
+        plan.seats,
+        calls,
+        journal,
+    )?;
+    let asked = map_vec(
+        rt,
+        seats,
+        &|seat| ask(rt, alloc, &recorder, key, plan, seat),
+    )?;
+    let (mut seats, mut lists) = (Vec::new(alloc), Vec::new(alloc));
+    for Asked { seat, receipts } in asked {
+        seats.push(seat)?;
+        lists.push(receipts)?;
+    }
     let finished = recorder.finish(seats).ok().ok_or(AllocError)?;
-    Ok(finished.entries().len() == 1000 && replays(alloc, &finished)?)
+    is_whole(alloc, &finished, plan, lists.as_slice())
 }
 
 #[test]
-fn calls_of_two_threads_replay(rt: HostRuntime) -> Result<(), AllocError> {
-    assert!(rt; record::<Brand>(&rt, rt.alloc(), Blank::new(3), Journal::new())?);
+fn busy(rt: HostRuntime) -> Result<(), AllocError> {
+    let plan = Plan {
+        capacity: 2,
+        seats: 8,
+        calls: 500,
+        work: Work::Busy,
+    };
+    assert!(rt; record::<Brand>(&rt, rt.alloc(), plan, Blank::new(9), Journal::new())?);
+    Ok(())
+}
+
+#[test]
+fn seats(rt: HostRuntime) -> Result<(), AllocError> {
+    let plan = Plan {
+        capacity: 8,
+        seats: 4,
+        calls: 1000,
+        work: Work::Halves,
+    };
+    assert!(rt; record::<Brand>(&rt, rt.alloc(), plan, Blank::new(5), Journal::new())?);
     Ok(())
 }
