@@ -1,10 +1,11 @@
-//! The program `bcast`: one broadcast channel, driven by the lines of a script, or by threads.
+//! The program `bcast`: a broadcast channel, driven by the lines of a script or by threads, or topics,
+//! driven by lines.
 #![tactic(auto)]
 
 ghost use Rattle.std.specs.Prelude.{IfOk};
 ghost use Rattle.bcast_text.specs.ScriptCommand.{IsInRange};
 
-use bcast_play::script;
+use bcast_play::{hub_script, script};
 use bcast_text::arguments::arguments;
 use bcast_text::ending::{Ending, Program, report};
 use bcast_text::script::command::Command;
@@ -17,6 +18,10 @@ fn main(rt: HostRuntime) -> ExitCode {
     let ending = match command(rt) {
         Ok(Command::Script) => match BufWriter::new(rt.alloc(), rt.stdout()) {
             Ok(mut output) => script(rt.alloc(), rt.stdin(), &mut output),
+            Err(_) => Ending::NoMemory,
+        },
+        Ok(Command::Topics) => match BufWriter::new(rt.alloc(), rt.stdout()) {
+            Ok(mut output) => hub_script(rt.alloc(), rt.stdin(), &mut output),
             Err(_) => Ending::NoMemory,
         },
         Ok(Command::Threads(s, r, m)) => threads(&rt, rt.alloc(), s, r, m, rt.stdout()),

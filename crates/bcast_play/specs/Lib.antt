@@ -1,8 +1,11 @@
 -- lists of calls
 pub mod Positive
--- what is written of a script, and of a trace
+-- what is written of a script, of a trace, and of lines on topics
 pub mod ScriptRun
 pub mod TraceRun
+pub mod TopicsLine
+pub mod TopicsRun
 pub mod ListRun
 -- what is seen of the programs' parts
 pub mod Channels
+pub mod TopicsShown

@@ -68,6 +68,8 @@ impl<A: Allocator + Copy> RunLine for Collector<A> {
 
     ghost answers = { IsCollected };
 
+    const MAY_BE_EMPTY: bool = false;
+
     fn run_line<W: Write>(&mut self, line: &str, _output: &mut W) -> Result<(), Fault> {
         if self.opening.is_none() {
             self.opening = Some(read_opening(line).ok_or(Fault::NotACall)?);

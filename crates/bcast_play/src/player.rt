@@ -57,6 +57,8 @@ impl<A: Allocator + Copy> RunLine for Player<A> {
 
     ghost answers = { IsTraceLine };
 
+    const MAY_BE_EMPTY: bool = false;
+
     fn run_line<W: Write>(&mut self, line: &str, output: &mut W) -> Result<(), Fault> {
         match &mut self.inner {
             Some(inner) => answer(self.alloc, inner, line, output),

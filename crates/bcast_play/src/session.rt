@@ -11,7 +11,7 @@ use std::alloc::Allocator;
 use std::io::{Read, Write};
 
 /// The most bytes that a line may have, its LF aside.
-const LONGEST: u32 = 200;
+pub const LONGEST: u32 = 200;
 
 /// A script that is being run. Line 1 makes the channel.
 #[derive(Drop)]
@@ -30,6 +30,8 @@ impl<A: Allocator + Copy> RunLine for Session<A> {
     ghost state = { session_of };
 
     ghost answers = { IsScriptLine };
+
+    const MAY_BE_EMPTY: bool = false;
 
     fn run_line<W: Write>(&mut self, line: &str, output: &mut W) -> Result<(), Fault> {
         let line = read_line(line).ok_or(Fault::NotACall)?;

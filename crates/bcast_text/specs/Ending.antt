@@ -20,7 +20,7 @@ status_of OutputFailed = 4
 abbrev pub text_of : Ending → List ℕ
 text_of Done = []
 text_of Differ = []
-text_of (WrongArguments Bcast) = codes "usage: bcast script | bcast threads S R M"
+text_of (WrongArguments Bcast) = codes "usage: bcast script | bcast topics | bcast threads S R M"
 text_of (WrongArguments Replay) = codes "usage: replay trace | replay list"
 text_of (NotACall line) = codes "line " ++ decimal line ++ codes ": not a call"
 text_of NoMemory = codes "out of memory"

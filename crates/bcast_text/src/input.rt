@@ -53,6 +53,9 @@ pub trait RunLine {
     // In the first state, the line is answered by the text, and leads to the second state.
     ghost answers: { State → List ℕ → List ℕ → State → Type 0 };
 
+    /// Whether an input without a line is done. Else it has a fault in line 1.
+    const MAY_BE_EMPTY: bool;
+
     /// Runs one line, given without its LF, and writes its answer.
     ///
     /// # Errors
@@ -70,7 +73,8 @@ pub trait RunLine {
 /// Runs each line of `input`, of at most `longest` bytes, on `program`.
 ///
 /// The answers are written before each read that may wait for more input, and at the end.
-/// An input without a line has a fault in line 1, and line `u64::MAX` is none that is run.
+/// An input without a line has a fault in line 1, unless the program may be empty. Line `u64::MAX`
+/// is none that is run.
 pub fn run_lines<A, R, W, P>(
     alloc: A,
     input: R,
@@ -146,7 +150,7 @@ where
     }
     match lines.next() {
         Err(_) => return Err(Ending::InputFailed),
-        Ok(Found::End) if number > 1 => return Err(Ending::Done),
+        Ok(Found::End) if number > 1 || P::MAY_BE_EMPTY => return Err(Ending::Done),
         Ok(Found::End | Found::TooLong) => return Err(Ending::NotACall(number)),
         Ok(Found::Line) => {}
     }

@@ -16,7 +16,8 @@ pub fn run<W: Write>(alloc: Global, case: &str, output: &mut W) -> io::Result<()
     let (kind, name) = head.split_once(' ').unwrap_or((head, ""));
     writeln!(output, "# {head}")?;
     match kind {
-        "script" => script_case(alloc, body, output),
+        "script" => script_case(alloc, Player::Script, body, output),
+        "topics" => script_case(alloc, Player::Topics, body, output),
         "trace" => trace_case(alloc, body, output),
         "told" => told_case(alloc, body, output),
         "failing" => failing_case(alloc, name, body, output),
@@ -27,18 +28,17 @@ pub fn run<W: Write>(alloc: Global, case: &str, output: &mut W) -> io::Result<()
     }
 }
 
-/// Writes what a script writes, and how it ends.
-fn script_case<W: Write>(alloc: Global, text: &str, output: &mut W) -> io::Result<()> {
-    let played = play(
-        alloc,
-        alloc,
-        Player::Script,
-        text.as_bytes(),
-        in_pieces(8192),
-    );
+/// Writes what a script or lines on topics write, and how that ends.
+fn script_case<W: Write>(
+    alloc: Global,
+    player: Player,
+    text: &str,
+    output: &mut W,
+) -> io::Result<()> {
+    let played = play(alloc, alloc, player, text.as_bytes(), in_pieces(8192));
     output.write_all(played.wrote.as_slice())?;
     writeln!(output, "-- {:?}", played.ending)?;
-    write_other_ways(alloc, Player::Script, text, &played, output)
+    write_other_ways(alloc, player, text, &played, output)
 }
 
 /// Writes what a trace writes, and whose notices its calls tell.
@@ -113,21 +113,35 @@ fn write_other_ways<W: Write>(
     Ok(())
 }
 
-/// Plays a script, or else a trace, with reads, writes and requests for memory that fail in turn.
+/// Plays a script, lines on topics, or else a trace, with reads, writes and requests for memory that
+/// fail in turn.
 fn failing_case<W: Write>(alloc: Global, name: &str, text: &str, output: &mut W) -> io::Result<()> {
-    if name == "calls" {
-        let is_often = write_wrong(alloc, text, output)? > 3;
-        let count = if is_often { "often" } else { "seldom" };
-        return writeln!(output, "Calls: NoMemory {count}, and then none");
+    match name {
+        "script" => failing_lines(alloc, Player::Script, text, output),
+        "topics" => failing_lines(alloc, Player::Topics, text, output),
+        "calls" => {
+            let is_often = write_wrong(alloc, text, output)? > 3;
+            let count = if is_often { "often" } else { "seldom" };
+            writeln!(output, "Calls: NoMemory {count}, and then none")
+        }
+        _ => {
+            failing(alloc, Player::Trace, text, output)?;
+            failing(alloc, Player::List, text, output)
+        }
     }
-    if name == "script" {
-        cut_after_each_byte(alloc, text, output)?;
-        each_read_and_write_fails(alloc, Player::Script, text, output)?;
-        return too_little_memory(alloc, Player::Script, text, output);
-    }
-    for player in [Player::Trace, Player::List] {
-        each_read_and_write_fails(alloc, player, text, output)?;
-        too_little_memory(alloc, player, text, output)?;
-    }
-    Ok(())
+}
+
+fn failing_lines<W: Write>(
+    alloc: Global,
+    player: Player,
+    text: &str,
+    output: &mut W,
+) -> io::Result<()> {
+    cut_after_each_byte(alloc, player, text, output)?;
+    failing(alloc, player, text, output)
+}
+
+fn failing<W: Write>(alloc: Global, player: Player, text: &str, output: &mut W) -> io::Result<()> {
+    each_read_and_write_fails(alloc, player, text, output)?;
+    too_little_memory(alloc, player, text, output)
 }

@@ -52,7 +52,7 @@ pub fn too_little_memory<W: Write>(
 ) -> io::Result<()> {
     // What a line of the greatest length takes.
     let least = match player {
-        Player::Script => 0,
+        Player::Script | Player::Topics => 0,
         Player::Trace | Player::List => 1 << 20,
     };
     let whole = play(alloc, alloc, player, text.as_bytes(), in_pieces(7));
@@ -93,12 +93,18 @@ fn write_count<W: Write>(
     writeln!(output, "{player:?}: {failure:?} {count}, and then none")
 }
 
-/// Plays the beginnings of a script. Each ends at its end, or in the line that is cut.
-pub fn cut_after_each_byte<W: Write>(alloc: Global, text: &str, output: &mut W) -> io::Result<()> {
+/// Plays the beginnings of a script, or of lines on topics. Each ends at its end, or in the line that
+/// is cut.
+pub fn cut_after_each_byte<W: Write>(
+    alloc: Global,
+    player: Player,
+    text: &str,
+    output: &mut W,
+) -> io::Result<()> {
     let bytes = text.as_bytes();
     for cut in 0..bytes.len() {
         let beginning = &bytes[..cut];
-        let played = play(alloc, alloc, Player::Script, beginning, in_pieces(7));
+        let played = play(alloc, alloc, player, beginning, in_pieces(7));
         let lines = beginning.iter().filter(|byte| **byte == b'\n').count() as u64;
         if played.ending != Ending::Done && played.ending != Ending::NotACall(lines + 1) {
             played.describe("a beginning", output)?;

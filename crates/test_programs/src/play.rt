@@ -1,6 +1,6 @@
 //! A text played in one way.
 use crate::streams::{Pieces, Taker};
-use bcast_play::{list, script, trace};
+use bcast_play::{hub_script, list, script, trace};
 use bcast_text::ending::Ending;
 use std::alloc::{Allocator, Global};
 use std::io::{BufWriter, Write};
@@ -11,6 +11,8 @@ use std::{io, str};
 pub enum Player {
     /// `bcast script`
     Script,
+    /// `bcast topics`
+    Topics,
     /// `replay trace`
     Trace,
     /// `replay list`
@@ -87,6 +89,7 @@ fn buffered<A: Allocator + Copy>(
     };
     match player {
         Player::Script => script(alloc, reader, &mut output),
+        Player::Topics => hub_script(alloc, reader, &mut output),
         Player::Trace => trace(alloc, reader, &mut output),
         Player::List => list(alloc, reader, &mut output),
     }

@@ -6,7 +6,7 @@ use std::io::Write;
 
 /// Plays each of `lines` as the line after `first`, and alone if there is no `first`.
 ///
-/// `first` is the program and its first line, as `script cap 2`, or `trace` alone.
+/// `first` is the program and its first line, as `script cap 2` or `topics open a 1`, or `trace` alone.
 pub fn refused_lines<W: Write>(
     alloc: Global,
     first: &str,
@@ -15,11 +15,13 @@ pub fn refused_lines<W: Write>(
 ) -> io::Result<()> {
     let (program, first) = first.split_once(' ').unwrap_or((first, ""));
     for line in lines.lines() {
-        if program == "script" {
-            refused(alloc, Player::Script, first, line, output)?;
-        } else {
-            refused(alloc, Player::Trace, first, line, output)?;
-            refused(alloc, Player::List, first, line, output)?;
+        match program {
+            "script" => refused(alloc, Player::Script, first, line, output)?,
+            "topics" => refused(alloc, Player::Topics, first, line, output)?,
+            _ => {
+                refused(alloc, Player::Trace, first, line, output)?;
+                refused(alloc, Player::List, first, line, output)?;
+            }
         }
     }
     Ok(())
@@ -52,6 +54,7 @@ pub fn refused<W: Write>(
 fn name_of(player: Player) -> &'static str {
     match player {
         Player::Script => "script",
+        Player::Topics => "topics",
         Player::Trace => "trace",
         Player::List => "list",
     }

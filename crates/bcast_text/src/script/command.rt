@@ -7,13 +7,15 @@ ghost use Rattle.bcast_text.specs.declared.script.command.Command.{Command};
 use crate::number::positive;
 
 /// How `bcast` is used, if its arguments ask for nothing that it does.
-pub const USAGE: &str = "usage: bcast script | bcast threads S R M";
+pub const USAGE: &str = "usage: bcast script | bcast topics | bcast threads S R M";
 
 /// What the arguments of `bcast` ask for.
 #[derive(Clone, Copy, Debug, PartialEq, Eq)]
 pub enum Command {
     /// Run the script that standard input holds.
     Script,
+    /// Run the lines on topics that standard input holds.
+    Topics,
     /// Run threads: how many send, how many receive, and how many messages each sender sends.
     Threads(u64, u64, u64),
 }
@@ -27,12 +29,24 @@ impl Command {
             → map string_bytes words.now ≢ words_of asked }
     {
         match words {
-            [only] if only.as_str() == "script" => Some(Command::Script),
+            [only] => alone(only.as_str()),
             [first, s, r, m] if first.as_str() == "threads" => {
                 with_numbers(s.as_str(), r.as_str(), m.as_str())
             }
             _ => None,
         }
+    }
+}
+
+fn alone(word: &str) -> Option<Command>
+    ensures words { IfSome result (λ asked. words_of asked ≡ word.now ∷ []) }
+    ensures range { IfSome result IsInRange }
+    ensures none { IsNone result → (word.now ≢ codes "script") × (word.now ≢ codes "topics") }
+{
+    match word {
+        "script" => Some(Command::Script),
+        "topics" => Some(Command::Topics),
+        _ => None,
     }
 }
 

@@ -1,8 +1,8 @@
 -- Reading the lines writes nothing, and what is written after it is all.
-use Rattle.std.proofs.Common.{rules, ◌≡◌, ◌∙◌, Ok, Err, inl, inr, refl, sym, subst}
+use Rattle.std.proofs.Common.{rules, ◌≡◌, ◌∙◌, Ok, inl, inr, sym, subst}
 use Rattle.std.specs.Io.KnownBytes.{Keeps}
 use Rattle.std.proofs.KnownBytes.{Keeps-trans}
-use Rattle.bcast_text.specs.declared.ending.Ending.TheVariants.{Done, OutputFailed}
+use Rattle.bcast_text.specs.declared.ending.Ending.TheVariants.{Done}
 use Rattle.bcast_text.specs.Run.{IsRun}
 use Rattle.bcast_play.specs.Channels.{collected_of}
 use Rattle.bcast_play.specs.ListRun.{IsCollected, nothing_yet}

@@ -1,0 +1,50 @@
+-- The words of lines on topics; followers' names, read through what is seen of a follower; an answer that is written.
+use Rattle.std.proofs.Common.{◌≡◌, ⊎_elim, arith, List, [], ℕ, Bool, true, false, Option, Some, None, Result, Ok, Err, OnOk, IfSome, cond, refl, sym, is_some}
+use Rattle.std.specs.Prelude.{IsSome}
+use Rattle.std.specs.Option.{option_map}
+use Rattle.std.specs.BTreeMap.{BTreeMap}
+use Rattle.std.specs.declared.string.String.{String}
+use Rattle.std.proofs.lemmas.Bool.{true≢false}
+use Rattle.std.proofs.lemmas.List.Elements.{All-get_or}
+use Rattle.bcast_text.proofs.Spaced.{Lacks, is_plain, plain_space}
+use Rattle.topics.specs.Name.{IsName, IsNameByte}
+use Rattle.bcast_play.specs.TopicsLine.{word_of}
+use Rattle.bcast_play.specs.TopicsShown.{follower_of}
+use Rattle.bcast_play.specs.declared.hub.line.Line.{Line}
+use Rattle.bcast_play.specs.declared.hub.line.Line.TheVariants.{Open, Follow, Publish, Receive, Leave, Close}
+use Rattle.bcast_play.specs.declared.hub.followers.Follower.{Follower}
+
+-- no word has a space
+plain_word : (line : Line) → is_plain (word_of line) ≡ true
+plain_word (Open topic n) = refl
+plain_word (Follow topic new) = refl
+plain_word (Publish topic msg) = refl
+plain_word (Receive name) = refl
+plain_word (Leave name) = refl
+plain_word (Close topic) = refl
+
+pub word_space : (line : Line) → Lacks 32 (word_of line)
+word_space line = plain_space (word_of line) (plain_word line)
+
+-- nor has a topic's name
+pub topic_space : (word : List ℕ) → IsName word → Lacks 32 word
+topic_space word is i below e =
+    ⊎_elim (λ h. omega (arith, h, e)) (λ more. ⊎_elim (λ h. omega (arith, h, e)) (λ h. omega (arith, h, e)) more)
+    (All-get_or IsNameByte word i 0 below is.2)
+
+pub map_cond : {X Y : Type 0} (f : X → Y) (b : Bool) (o p : Option X) → option_map f (cond b o p) ≡ cond b (option_map f o) (option_map f p)
+map_cond f true o p = refl
+map_cond f false o p = refl
+
+pub map_none : {X Y : Type 0} (f : X → Y) (o : Option X) → is_some o ≡ false → option_map f o ≡ None
+map_none f None absent = refl
+map_none f (Some x) absent = absurd (true≢false absent)
+
+pub no_follower : {A : Type 0} (m : BTreeMap (String A) (Follower A)) → m.entries ≡ [] → (name : List ℕ) → follower_of m name ≡ None
+no_follower m empty name = rw empty refl
+
+pub written : {X F : Type 0} (r : Result X F) (o : Option (List ℕ)) (P : List ℕ → Type 0) (Q : Type 0)
+    → OnOk r (IfSome o P) → OnOk r (IsSome o) → ((text : List ℕ) → o ≡ Some text → P text → Q) → OnOk r Q
+written (Err x) o P Q text some to = tt
+written (Ok x) None P Q text some to = absurd (true≢false (sym some))
+written (Ok x) (Some t) P Q text some to = to t refl text
