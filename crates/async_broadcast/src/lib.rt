@@ -35,7 +35,7 @@ pub use bcast_core::{
 };
 pub use future::{Recv, Send};
 pub use inactive::InactiveReceiver;
-pub use lock::{Lock, broadcast};
+pub use lock::{Lock, LockInactiveReceiver, LockReceiver, LockSender, broadcast};
 pub use port::{Ask, Port};
 pub use receiver::Receiver;
 pub use sender::Sender;

@@ -5,6 +5,7 @@ ghost use Rattle.bcast_model.specs.Answers.{IsPossible};
 ghost use Rattle.async_broadcast.specs.Kinds.{may_wait, is_answer};
 ghost use Rattle.async_broadcast.specs.Snapshots.{ShowsSomeState};
 
+use crate::inactive::InactiveReceiver;
 use crate::port::{Ask, Port};
 use crate::receiver::Receiver;
 use crate::sender::Sender;
@@ -88,6 +89,15 @@ impl<T: Clone, A: Allocator + Copy> Channel<T, A> {
     }
 }
 
+/// A sender of a channel that `broadcast` made.
+pub type LockSender<T, R, A = Global> = Sender<T, Lock<T, R, A>, A>;
+
+/// A receiver of a channel that `broadcast` made.
+pub type LockReceiver<T, R, A = Global> = Receiver<T, Lock<T, R, A>, A>;
+
+/// An inactive receiver of a channel that `broadcast` made.
+pub type LockInactiveReceiver<T, R, A = Global> = InactiveReceiver<T, Lock<T, R, A>, A>;
+
 /// Makes a channel that keeps at most `cap` messages at once, with its first sender and receiver.
 ///
 /// It is open and empty. Overflow mode is off: a full channel accepts no message before every
@@ -120,7 +130,7 @@ pub fn broadcast<T: Clone, R: Wait + Clone, A: Allocator + Copy>(
     rt: R,
     alloc: A,
     cap: usize,
-) -> Result<(Sender<T, Lock<T, R, A>, A>, Receiver<T, Lock<T, R, A>, A>), AllocError>
+) -> Result<(LockSender<T, R, A>, LockReceiver<T, R, A>), AllocError>
     requires { 0 < cap }
 {
     let (inner, key) = Inner::new(alloc, cap)?;

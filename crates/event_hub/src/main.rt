@@ -16,13 +16,13 @@ use std::sync::Wait;
 
 /// Two handles of the channel: the inactive one holds it open, and makes the subscribers.
 #[derive(Drop)]
-struct Hub<P: Port<String, WakerSlot>> {
-    events: Sender<String, P>,
-    idle: InactiveReceiver<String, P>,
+struct Hub<E: Clone, P: Port<E, WakerSlot>> {
+    events: Sender<E, P>,
+    idle: InactiveReceiver<E, P>,
 }
 
-impl<P: Port<String, WakerSlot>> Hub<P> {
-    fn new(events: Sender<String, P>, first: Receiver<String, P>) -> Result<Self> {
+impl<E: Clone, P: Port<E, WakerSlot>> Hub<E, P> {
+    fn new(events: Sender<E, P>, first: Receiver<E, P>) -> Result<Self> {
         let idle = first.deactivate().map_err(|(_first, error)| error)?;
         Ok(Hub { events, idle })
     }
@@ -31,10 +31,10 @@ impl<P: Port<String, WakerSlot>> Hub<P> {
     fn publish_to<R: Wait + RandomSource + AllocGlobal>(
         &self,
         rt: &R,
-        event: String,
-        one: &mut Receiver<String, P>,
-        two: &mut Receiver<String, P>,
-    ) -> Result<(String, String)> {
+        event: E,
+        one: &mut Receiver<E, P>,
+        two: &mut Receiver<E, P>,
+    ) -> Result<(E, E)> {
         let send = self.events.broadcast_direct(event)?;
         let (sent, a, b) = wait_for(rt, send, one.recv_direct(), two.recv_direct())?;
         sent??;
@@ -55,7 +55,7 @@ where
     block_on(rt, join3(a, b, c))
 }
 
-fn talk<R, P>(rt: &R, hub: &Hub<P>) -> Result<()>
+fn talk<R, P>(rt: &R, hub: &Hub<String, P>) -> Result<()>
 where
     R: Wait + RandomSource + AllocGlobal + Print,
     P: Port<String, WakerSlot>,

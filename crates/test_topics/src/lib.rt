@@ -6,6 +6,8 @@ mod asked;
 #[cfg(test)]
 mod memory;
 #[cfg(test)]
+mod page;
+#[cfg(test)]
 mod rows;
 #[cfg(test)]
 mod tables;

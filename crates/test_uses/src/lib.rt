@@ -1,4 +1,4 @@
-//! Tests of the four uses of a channel, and of a text sent to two receivers.
+//! Tests of the four uses of a channel, of a text sent to two receivers, and of what a page shows.
 #![tactic(auto)]
 
 #[cfg(test)]
@@ -7,6 +7,8 @@ mod config_watcher;
 mod event_hub;
 #[cfg(test)]
 mod log_fan_out;
+#[cfg(test)]
+mod pages;
 #[cfg(test)]
 mod shutdown;
 

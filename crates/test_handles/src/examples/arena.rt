@@ -1,0 +1,26 @@
+//! Of docs/CALLING.md: a channel whose memory is an arena.
+use async_broadcast::{Port, Receiver, Sender, WakerSlot, broadcast};
+use linked_list_allocator::LocalHeap;
+use std::alloc::Allocator;
+use std::process::Abort;
+use std::test::Fail;
+
+#[test]
+fn a_channel_in_an_arena(rt: HostRuntime) -> Result<(), Fail> {
+    let heap = LocalHeap::new(rt.alloc(), 4096)?;
+    let (sender, receiver) = broadcast(&rt, &heap, 2)?;
+    keeps_to_the_arena(&rt, sender, receiver)
+}
+
+fn keeps_to_the_arena<A: Allocator + Copy, P: Port<u64, WakerSlot<A>>>(
+    rt: &impl Abort,
+    mut sender: Sender<u64, P, A>,
+    mut receiver: Receiver<u64, P, A>,
+) -> Result<(), Fail> {
+    // The arena has no memory for so much room, and the capacity stays 2.
+    assert!(rt; sender.set_capacity(100_000).is_err());
+    assert!(rt; sender.capacity() == 2);
+    assert!(rt; sender.try_broadcast(7).is_ok());
+    assert!(rt; matches!(receiver.try_recv(), Ok(Ok(7))));
+    Ok(())
+}
