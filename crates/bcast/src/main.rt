@@ -2,32 +2,49 @@
 //! driven by lines.
 #![tactic(auto)]
 
-ghost use Rattle.std.specs.Prelude.{IfOk};
+ghost use Rattle.std.specs.Prelude.{◌≢◌, IfOk};
 ghost use Rattle.bcast_text.specs.ScriptCommand.{IsInRange};
+ghost use Rattle.bcast.specs.Run.{HasWritten};
 
 use bcast_play::{hub_script, script};
 use bcast_text::arguments::arguments;
 use bcast_text::ending::{Ending, Program, report};
 use bcast_text::script::command::Command;
 use bcast_threads::threads;
-use std::alloc::AllocError;
-use std::io::BufWriter;
+use std::alloc::{AllocError, Global};
+use std::io::{BufWriter, Read, Write};
 use std::process::ExitCode;
+use std::sync::Wait;
+use std::thread::Threads;
 
 fn main(rt: HostRuntime) -> ExitCode {
     let ending = match command(rt) {
-        Ok(Command::Script) => match BufWriter::new(rt.alloc(), rt.stdout()) {
-            Ok(mut output) => script(rt.alloc(), rt.stdin(), &mut output),
+        Ok(command) => match BufWriter::new(rt.alloc(), rt.stdout()) {
+            Ok(mut output) => run(&rt, rt.alloc(), command, rt.stdin(), &mut output),
             Err(_) => Ending::NoMemory,
         },
-        Ok(Command::Topics) => match BufWriter::new(rt.alloc(), rt.stdout()) {
-            Ok(mut output) => hub_script(rt.alloc(), rt.stdin(), &mut output),
-            Err(_) => Ending::NoMemory,
-        },
-        Ok(Command::Threads(s, r, m)) => threads(&rt, rt.alloc(), s, r, m, rt.stdout()),
         Err(ending) => ending,
     };
     report(&rt, ending)
+}
+
+/// Does what the arguments ask for, and returns how it ended.
+fn run<R: Threads + Wait + Clone + Send + 'static, I: Read + Drop, W: Write>(
+    rt: &R,
+    alloc: Global,
+    command: Command,
+    input: I,
+    output: &mut W,
+) -> Ending
+    requires { IsInRange command }
+    ensures { result ≢ Ending.OutputFailed → HasWritten command (I.remaining input)
+        (W.contents output.old) (W.contents output.new) result }
+{
+    match command {
+        Command::Script => script(alloc, input, output),
+        Command::Topics => hub_script(alloc, input, output),
+        Command::Threads(s, r, m) => threads(rt, alloc, s, r, m, output),
+    }
 }
 
 /// What the arguments ask for, or how the run ends at once.

@@ -1,6 +1,7 @@
 //! How many threads are run, and the run of them.
-ghost use Rattle.std.specs.Prelude.{◌<◌, ◌≤◌, ◌*◌};
-ghost use Rattle.bcast_text.specs.Outcome.{IsEnding};
+ghost use Rattle.std.specs.Prelude.{◌≢◌, ◌<◌, ◌≤◌, ◌*◌};
+ghost use Rattle.std.specs.Io.KnownBytes.{Appends};
+ghost use Rattle.bcast_text.specs.Outcome.{IsEnding, printed_text};
 
 use crate::fault::Fault;
 use crate::started::lists_of;
@@ -11,7 +12,7 @@ use std::io::Write;
 use std::sync::Wait;
 use std::thread::Threads;
 
-/// The bytes of a thread's stack.
+/// The bytes of each thread's stack.
 const STACK: usize = 1 << 18;
 
 /// What a run is made of.
@@ -23,8 +24,10 @@ pub struct Plan {
     pub receivers: u64,
     /// How many messages each sender sends.
     pub messages: u64,
-    /// The bytes of each thread's stack.
-    pub stack: usize,
+    /// The bytes of the stack of each thread that sends.
+    pub sender_stack: usize,
+    /// The bytes of the stack of each thread that receives.
+    pub receiver_stack: usize,
 }
 
 /// Lets `s` threads send `m` numbers each over one channel to `r` threads, and says on `output`
@@ -36,42 +39,48 @@ pub struct Plan {
 /// Ends as `Done` or `Differ` by what was seen; `NoThread` if a thread could not be started,
 /// `NoMemory` if one had no memory: every started thread has ended then too, and nothing was
 /// written; and `OutputFailed` if the write failed.
-pub fn threads<R: Threads + Wait + Clone + Send + 'static, W: Write + Drop>(
+pub fn threads<R: Threads + Wait + Clone + Send + 'static, W: Write>(
     rt: &R,
     alloc: Global,
     s: u64,
     r: u64,
     m: u64,
-    output: W,
+    output: &mut W,
 ) -> Ending
     requires senders { (0 < s) × (s ≤ 64) }
     requires receivers { (0 < r) × (r ≤ 64) }
     requires messages { (0 < m) × (m ≤ 100000) }
-    ensures { IsEnding result }
+    ensures ending { IsEnding result }
+    ensures text { result ≢ Ending.OutputFailed → Appends (W.contents output.old)
+        (W.contents output.new) (printed_text result r (s * m)) }
 {
     let plan = Plan {
         senders: s,
         receivers: r,
         messages: m,
-        stack: STACK,
+        sender_stack: STACK,
+        receiver_stack: STACK,
     };
     run(rt, alloc, plan, output)
 }
 
 /// Runs the threads of `plan`, as `threads` does.
-pub fn run<R: Threads + Wait + Clone + Send + 'static, W: Write + Drop>(
+pub fn run<R: Threads + Wait + Clone + Send + 'static, W: Write>(
     rt: &R,
     alloc: Global,
     plan: Plan,
-    mut output: W,
+    output: &mut W,
 ) -> Ending
     requires { plan.senders * plan.messages ≤ 6400000 }
-    ensures { IsEnding result }
+    ensures ending { IsEnding result }
+    ensures text { result ≢ Ending.OutputFailed → Appends (W.contents output.old)
+        (W.contents output.new)
+        (printed_text result plan.receivers (plan.senders * plan.messages)) }
 {
     let total = plan.senders * plan.messages;
     match lists_of(rt, alloc, plan) {
         Err(Fault::NoMemory) => Ending::NoMemory,
         Err(Fault::NoThread) => Ending::NoThread,
-        Ok(lists) => print_seen(alloc, lists.as_slice(), total, &mut output),
+        Ok(lists) => print_seen(alloc, lists.as_slice(), total, output),
     }
 }

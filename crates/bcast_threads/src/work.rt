@@ -23,16 +23,26 @@ pub fn send_all<R: Wait + Clone>(sender: Sending<R>, first: u64, count: u64) {
 
 /// What the receiver receives until the channel is closed. If there is no memory for it, the
 /// channel is closed.
-pub fn receive_all<R: Wait + Clone, A: Allocator>(alloc: A, mut receiver: Receiving<R>) -> List<A> {
-    let list = received(alloc, &mut receiver);
+///
+/// Memory for `count` messages is taken before the first one is received.
+pub fn receive_all<R: Wait + Clone, A: Allocator>(
+    alloc: A,
+    mut receiver: Receiving<R>,
+    count: usize,
+) -> List<A> {
+    let list = received(alloc, &mut receiver, count);
     if list.is_err() {
         receiver.close();
     }
     list
 }
 
-fn received<R: Wait + Clone, A: Allocator>(alloc: A, receiver: &mut Receiving<R>) -> List<A> {
-    let mut list = Vec::new(alloc);
+fn received<R: Wait + Clone, A: Allocator>(
+    alloc: A,
+    receiver: &mut Receiving<R>,
+    count: usize,
+) -> List<A> {
+    let mut list = Vec::with_capacity(alloc, count)?;
     for _ in 0..u64::MAX {
         match receiver.recv_blocking()? {
             Ok(msg) => list.push(msg)?,

@@ -10,7 +10,7 @@ use bcast_threads::work::{receive_all, send_all};
 use linked_list_allocator::LocalHeap;
 use std::alloc::{AllocError, Global};
 use std::io;
-use std::io::Write;
+use std::io::{BufWriter, Write};
 use std::sync::Wait;
 use std::thread::Threads;
 
@@ -28,7 +28,8 @@ pub fn run<R: Threads + Wait + Clone + Send + 'static, W: Write>(
     write_fails(rt, alloc, output)?;
     compared(alloc, output)?;
     order_is_kept(rt, alloc, output)?;
-    no_memory_closes(rt, alloc, output)?;
+    no_memory_closes(rt, alloc, 100, output)?;
+    no_memory_closes(rt, alloc, 0, output)?;
     closed_ends_sender(rt, alloc, output)
 }
 
@@ -51,37 +52,45 @@ fn one_order<R: Threads + Wait + Clone + Send + 'static, W: Write>(
     writeln!(output, "-- {ending:?}")
 }
 
-/// A stack of this size is not to be had.
+/// Stacks that are not to be had: for no receiver, and for no sender once receivers wait.
 fn no_thread<R: Threads + Wait + Clone + Send + 'static, W: Write>(
     rt: &R,
     alloc: Global,
     output: &mut W,
 ) -> io::Result<()> {
-    let plan = Plan {
-        senders: 2,
-        receivers: 2,
-        messages: 10,
-        stack: 1 << 50,
-    };
-    let mut printed = Vec::new(alloc);
-    let ending = run_plan(rt, alloc, plan, &mut printed);
-    writeln!(output, "-- {ending:?} after {} bytes", printed.len())
+    for (sender_stack, receiver_stack) in [(1 << 18, 1 << 50), (1 << 50, 1 << 18)] {
+        let plan = Plan {
+            senders: 2,
+            receivers: 2,
+            messages: 10,
+            sender_stack,
+            receiver_stack,
+        };
+        let mut printed = Vec::new(alloc);
+        let ending = run_plan(rt, alloc, plan, &mut printed);
+        writeln!(output, "-- {ending:?} after {} bytes", printed.len())?;
+    }
+    Ok(())
 }
 
-/// Takes 20 bytes at a call, and fails after ever more calls.
+/// Takes 20 bytes at a call, by itself and behind a buffer, and fails after ever more calls.
 fn write_fails<R: Threads + Wait + Clone + Send + 'static, W: Write>(
     rt: &R,
     alloc: Global,
     output: &mut W,
 ) -> io::Result<()> {
     for calls in [0, 1, 2, 100] {
-        let taker = Taker {
+        let mut taker = Taker {
             taken: Vec::new(alloc),
             piece: 20,
             calls,
         };
-        let ending = threads(rt, alloc, 1, 2, 3, taker);
+        let ending = threads(rt, alloc, 1, 2, 3, &mut taker);
         writeln!(output, "-- {ending:?} after {calls} writes")?;
+        taker.calls = calls;
+        let mut buffer = BufWriter::new(alloc, &mut taker)?;
+        let ending = threads(rt, alloc, 1, 2, 3, &mut buffer);
+        writeln!(output, "-- {ending:?} after {calls} writes of a buffer")?;
     }
     Ok(())
 }
@@ -123,14 +132,16 @@ fn order_is_kept<R: Wait + Clone, W: Write>(
         }
     }
     sender.close();
-    let list = receive_all(alloc, receiver)?;
+    let list = receive_all(alloc, receiver, 3)?;
     writeln!(output, "received {:?}", list.as_slice())
 }
 
-/// A receiver that finds no memory closes the channel, whatever other receivers there are.
+/// A receiver that finds no memory closes the channel, whatever other receivers there are: before
+/// its first message, if it awaits as many as there are, and else at one of them.
 fn no_memory_closes<R: Wait + Clone, W: Write>(
     rt: &R,
     alloc: Global,
+    awaited: usize,
     output: &mut W,
 ) -> io::Result<()> {
     let heap = LocalHeap::new(alloc, 64)?;
@@ -143,7 +154,7 @@ fn no_memory_closes<R: Wait + Clone, W: Write>(
     let Ok(other) = receiver.clone() else {
         return output.write_all(b"no clone\n");
     };
-    let is_err = receive_all(&heap, receiver).is_err();
+    let is_err = receive_all(&heap, receiver, awaited).is_err();
     let is_closed = sender.is_closed();
     writeln!(
         output,
