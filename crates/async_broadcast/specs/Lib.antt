@@ -3,7 +3,8 @@ pub mod Kinds
 pub mod Ports
 -- the replies of a channel are such
 pub mod OfKind
--- futures
+-- polls and futures
+pub mod Polls
 pub mod Futures
 -- which waiting threads are woken
 pub mod Woken

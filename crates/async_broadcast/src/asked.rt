@@ -1,12 +1,12 @@
 //! The calls that handles and futures make, each asked of a port.
 ghost use Rattle.std.specs.Prelude.{◌<◌};
-ghost use Rattle.async_broadcast.specs.Kinds.{HandsBack};
 
 use crate::port::Ask;
 use crate::wake::Wake;
-use bcast_core::{Call, HandleError, RecvError, Reply, SendPoll, TryRecvError, TrySendError};
-use futures::task::Poll;
+use bcast_core::{Call, HandleError, Reply, TryRecvError, TrySendError};
 use std::alloc::AllocError;
+
+pub(crate) mod polls;
 
 /// Asks a call that never waits, and reads the answer from the reply of its name.
 macro_rules! ask {
@@ -55,21 +55,6 @@ pub(crate) fn begin_send<T: Clone, S, P: Ask<T, S>>(port: &P) -> Result<usize, A
     ask!(port, BeginSend)
 }
 
-pub(crate) fn poll_send<T: Clone, S, P: Ask<T, S>>(
-    port: &P,
-    place: usize,
-    msg: T,
-    wake: Wake<S>,
-) -> SendPoll<T>
-    ensures asked { P.gave port.now (Call.PollSend place msg) (Reply.PollSend result) }
-    ensures back { HandsBack msg result }
-{
-    match port.ask(Call::PollSend(place, msg), wake) {
-        Reply::PollSend(answer) => answer,
-        _ => unreachable!(),
-    }
-}
-
 pub(crate) fn end_send<T: Clone, S, P: Ask<T, S>>(port: &P, place: usize)
     ensures { P.gave port.now (Call.EndSend place) Reply.EndSend }
 {
@@ -85,49 +70,10 @@ pub(crate) fn try_recv<T: Clone, S, P: Ask<T, S>>(
     ask!(port, TryRecv(key))
 }
 
-pub(crate) fn poll_future<T: Clone, S, P: Ask<T, S>>(
-    port: &P,
-    key: usize,
-    wake: Wake<S>,
-) -> Result<Poll<Result<T, RecvError>>, AllocError>
-    ensures { P.gave port.now (Call.PollFuture key) (Reply.PollFuture result) }
-{
-    match port.ask(Call::PollFuture(key), wake) {
-        Reply::PollFuture(answer) => answer,
-        _ => unreachable!(),
-    }
-}
-
 pub(crate) fn end_future<T: Clone, S, P: Ask<T, S>>(port: &P, key: usize)
     ensures { P.gave port.now (Call.EndFuture key) Reply.EndFuture }
 {
     make!(port, EndFuture(key))
-}
-
-pub(crate) fn poll_recv<T: Clone, S, P: Ask<T, S>>(
-    port: &P,
-    key: usize,
-    wake: Wake<S>,
-) -> Result<Poll<Option<Result<T, RecvError>>>, AllocError>
-    ensures { P.gave port.now (Call.PollRecv key) (Reply.PollRecv result) }
-{
-    match port.ask(Call::PollRecv(key), wake) {
-        Reply::PollRecv(answer) => answer,
-        _ => unreachable!(),
-    }
-}
-
-pub(crate) fn poll_next<T: Clone, S, P: Ask<T, S>>(
-    port: &P,
-    key: usize,
-    wake: Wake<S>,
-) -> Result<Poll<Option<(T, u64)>>, AllocError>
-    ensures { P.gave port.now (Call.PollNext key) (Reply.PollNext result) }
-{
-    match port.ask(Call::PollNext(key), wake) {
-        Reply::PollNext(answer) => answer,
-        _ => unreachable!(),
-    }
 }
 
 pub(crate) fn close<T: Clone, S, P: Ask<T, S>>(port: &P) -> bool

@@ -1,12 +1,11 @@
 //! The channel of several handles, behind one lock.
 ghost use Rattle.std.specs.Prelude.{◌≡◌, ◌<◌, true, not, IfOk};
-ghost use Rattle.bcast_model.specs.Next.{HasPositiveCapacity};
 ghost use Rattle.bcast_model.specs.Answers.{IsPossible};
 ghost use Rattle.async_broadcast.specs.Kinds.{may_wait, is_answer};
 ghost use Rattle.async_broadcast.specs.Snapshots.{ShowsSomeState};
 
 use crate::inactive::InactiveReceiver;
-use crate::port::{Ask, Port};
+use crate::port::Port;
 use crate::receiver::Receiver;
 use crate::sender::Sender;
 use crate::wake::{Wake, WakerSlot};
@@ -16,6 +15,7 @@ use std::alloc::{AllocError, Allocator, Global};
 use std::sync::{Arc, Condvar, Mutex, MutexGuard, Wait};
 use std::thread::yield_now;
 
+mod asking;
 mod state;
 
 /// The port of a channel that `broadcast` made. All ports of the channel share one lock, and each
@@ -228,30 +228,6 @@ fn is_empty<T>(answer: &Result<Result<T, TryRecvError>, AllocError>) -> bool
     ensures { is_answer (Reply.TryRecv answer.now) ≡ not result }
 {
     matches!(answer, Ok(Err(TryRecvError::Empty)))
-}
-
-impl<T: Clone, R: Wait + Clone, A: Allocator + Copy> Ask<T, WakerSlot<A>> for Lock<T, R, A> {
-    ghost use Rattle.async_broadcast.specs.OfKind.{possible};
-
-    ghost gave = { λ _ call reply. IsPossible T.is_clone call reply };
-
-    ghost of_kind = { λ _ call reply may. possible T.is_clone call reply may };
-
-    #[inline(always)]
-    fn ask(&self, call: Call<T>, wake: Wake<WakerSlot<A>>) -> Reply<T>
-        requires { HasPositiveCapacity call }
-        ensures { IsPossible T.is_clone call result }
-    {
-        let channel = &*self.channel;
-        let mut state = channel.lock(&self.rt);
-        if state.has_no_thread() {
-            return state.make_alone(call, wake);
-        }
-        let (reply, woken) = state.step(call, wake);
-        drop(state);
-        channel.wake(woken);
-        reply
-    }
 }
 
 impl<T: Clone, R: Wait + Clone, A: Allocator + Copy> Port<T, WakerSlot<A>> for Lock<T, R, A> {

@@ -1,12 +1,15 @@
 //! What a handle asks of its channel.
-ghost use Rattle.std.specs.Prelude.{◌≡◌, true, IfSome, IfNone};
+ghost use Rattle.std.specs.Prelude.{◌≡◌, true, false, IfSome, IfNone, IfOk, IfErr, OnErr};
+ghost use Rattle.futures.specs.Task.{IsArmed, Keeps};
+ghost use Rattle.bcast_model.specs.PollLaws.{must_wait};
 ghost use Rattle.bcast_model.specs.Next.{HasPositiveCapacity};
 ghost use Rattle.async_broadcast.specs.Kinds.{IsOfKind, may_wait, is_answer};
 ghost use Rattle.async_broadcast.specs.Ports.{IsSame};
 
 use crate::asked;
-use crate::wake::Wake;
+use crate::wake::{Registers, Wake};
 use bcast_core::{Call, Reply, TryRecvError, TrySendError};
+use futures::task::Context;
 use std::alloc::AllocError;
 
 /// The way from a handle to its channel: a call goes in, and its reply comes back.
@@ -29,6 +32,36 @@ pub trait Ask<T: Clone, S>: Sized + Drop {
     fn ask(&self, call: Call<T>, wake: Wake<S>) -> Reply<T>
         requires { HasPositiveCapacity call }
         ensures { gave self.now call result };
+
+    /// Makes one of the four polls, for a task. If the poll must wait, the task is registered, and
+    /// a notice for it left there. Every poll registers its task, unless the port can tell
+    /// beforehand that it will be answered.
+    ///
+    /// # Errors
+    ///
+    /// The call comes back, and was not made: there was no memory for a notice.
+    fn poll<W: Registers<S>>(
+        &self,
+        call: Call<T>,
+        task: &mut W,
+        cx: &mut Context<'_>,
+    ) -> Result<Reply<T>, Call<T>>
+        requires { HasPositiveCapacity call }
+        ensures asked { IfOk result (λ reply. gave self.now call reply) }
+        ensures back { IfErr result (λ back. back ≡ call) }
+
+        ensures notice { IfOk result (λ reply. must_wait reply ≡ true
+            → W.is_refused task.new ≡ false) }
+        ensures refused { OnErr result (W.is_refused task.new ≡ true) }
+        ensures registered { IfOk result (λ reply. must_wait reply ≡ true → IsArmed cx.new) }
+        ensures again { OnErr result (IsArmed cx.new) }
+        ensures kept { Keeps cx.old cx.new }
+    {
+        let Some(wake) = task.register(cx) else {
+            return Err(call);
+        };
+        Ok(self.ask(call, wake))
+    }
 
     // A reply is of its call's kind.
     ghost of_kind: { (port : Self) (call : Call T) (reply : Reply T)

@@ -35,6 +35,20 @@ impl<A: Allocator> Notice for Wake<WakerSlot<A>> {
     }
 }
 
+/// What registers the task of a poll.
+pub trait Registers<S> {
+    ghost use Rattle.std.specs.Prelude.{Bool};
+
+    // Whether the last registering found no memory for a notice.
+    ghost is_refused: { Self → Bool };
+
+    /// Registers the poll's task, and makes a notice for it. None: there was no memory for one.
+    fn register(&mut self, cx: &mut Context<'_>) -> Option<Wake<S>>
+        ensures refused { is_refused self.new ≡ is_none result }
+        ensures registered { IsArmed cx.new }
+        ensures kept { Keeps cx.old cx.new };
+}
+
 /// Keeps a task's waker between polls. All notices made here share it, so that a newer notice
 /// doesn't wake the task by the drop of an older one.
 #[derive(Drop)]
@@ -61,18 +75,6 @@ impl<A: Allocator + Copy> TaskWaker<A> {
         self.alloc
     }
 
-    /// Registers the poll's task, and makes a notice for it. None: there was no memory for one.
-    pub(crate) fn register(&mut self, cx: &mut Context<'_>) -> Option<Wake<WakerSlot<A>>>
-        ensures slot { IsSome self.old.slot → self.new.slot ≡ self.old.slot }
-        ensures refused { self.new.is_refused ≡ is_none result }
-        ensures registered { IsArmed cx.new }
-        ensures kept { Keeps cx.old cx.new }
-    {
-        let notice = self.notice(cx);
-        self.is_refused = notice.is_none();
-        notice
-    }
-
     fn notice(&mut self, cx: &mut Context<'_>) -> Option<Wake<WakerSlot<A>>>
         ensures slot { IsSome self.old.slot → self.new.slot ≡ self.old.slot }
         ensures registered { IsArmed cx.new }
@@ -86,6 +88,22 @@ impl<A: Allocator + Copy> TaskWaker<A> {
             return None;
         };
         notice_in(slot, &self.source, cx)
+    }
+}
+
+impl<A: Allocator + Copy> Registers<WakerSlot<A>> for TaskWaker<A> {
+    ghost is_refused = { λ task. task.is_refused };
+
+    #[inline(never)]
+    fn register(&mut self, cx: &mut Context<'_>) -> Option<Wake<WakerSlot<A>>>
+        ensures slot { IsSome self.old.slot → self.new.slot ≡ self.old.slot }
+        ensures refused { self.new.is_refused ≡ is_none result }
+        ensures registered { IsArmed cx.new }
+        ensures kept { Keeps cx.old cx.new }
+    {
+        let notice = self.notice(cx);
+        self.is_refused = notice.is_none();
+        notice
     }
 }
 

@@ -1,9 +1,12 @@
 //! Ports that record what they are asked, and reply as a script sets.
-ghost use Rattle.std.specs.Prelude.{◌≡◌, true};
+ghost use Rattle.std.specs.Prelude.{◌≡◌, true, false, IfOk, IfErr, OnErr};
+ghost use Rattle.futures.specs.Task.{IsArmed, Keeps};
+ghost use Rattle.bcast_model.specs.PollLaws.{must_wait};
 ghost use Rattle.bcast_model.specs.Next.{HasPositiveCapacity};
 ghost use Rattle.async_broadcast.specs.Kinds.{IsOfKind, may_wait, is_answer};
 
-use async_broadcast::{Ask, Call, Port, Reply, Wake};
+use async_broadcast::{Ask, Call, Port, Registers, Reply, Wake};
+use futures::task::Context;
 use replies::{Outcome, reply_to, waited_reply_to};
 use std::alloc::{AllocError, Global};
 use std::cell::Cell;
@@ -102,6 +105,29 @@ impl<S: Drop> Ask<u64, S> for RecordingPort {
     {
         self.state.record(call);
         reply_to(self.state.outcome.get(), call)
+    }
+
+    fn poll<W: Registers<S>>(
+        &self,
+        call: Call<u64>,
+        task: &mut W,
+        cx: &mut Context<'_>,
+    ) -> Result<Reply<u64>, Call<u64>>
+        requires { HasPositiveCapacity call }
+        ensures asked { IfOk result (IsOfKind call) }
+        ensures back { IfErr result (λ back. back ≡ call) }
+
+        ensures notice { IfOk result (λ reply. must_wait reply ≡ true
+            → W.is_refused task.new ≡ false) }
+        ensures refused { OnErr result (W.is_refused task.new ≡ true) }
+        ensures registered { IfOk result (λ reply. must_wait reply ≡ true → IsArmed cx.new) }
+        ensures again { OnErr result (IsArmed cx.new) }
+        ensures kept { Keeps cx.old cx.new }
+    {
+        let Some(wake) = task.register(cx) else {
+            return Err(call);
+        };
+        Ok(self.ask(call, wake))
     }
 }
 

@@ -5,6 +5,7 @@ ghost use Rattle.futures.specs.Poll.{IfReady, OnPending};
 ghost use Rattle.async_broadcast.specs.Futures.{GivesReceived};
 
 use crate::asked;
+use crate::asked::polls;
 use crate::port::Ask;
 use crate::receiver::Receiver;
 use crate::wake::WakerSlot;
@@ -98,13 +99,10 @@ impl<T: Clone, P: Ask<T, WakerSlot<A>>, A: Allocator + Copy> Receiver<T, P, A> {
             (self.new.waker.is_refused ≡ false)) }
         ensures refused { IfErr result (λ error. (self.new.waker.is_refused ≡ true)
             ⊎ P.gave self.old.port (Call.PollRecv self.old.key) (Reply.PollRecv (Err error))) }
-        ensures registered { IsArmed cx.new }
+        ensures registered { IfOk result (λ poll. OnPending poll (IsArmed cx.new)) }
         ensures kept { Keeps cx.old cx.new }
     {
-        let Some(wake) = self.waker.register(cx) else {
-            return Err(AllocError);
-        };
-        asked::poll_recv::<T, WakerSlot<A>, P>(&self.port, self.key, wake)
+        polls::poll_recv::<T, WakerSlot<A>, P, _>(&self.port, self.key, &mut self.waker, cx)
     }
 }
 
@@ -147,10 +145,13 @@ impl<T: Clone, P: Ask<T, WakerSlot<A>>, A: Allocator + Copy> Future for Recv<'_,
         ensures receiver { self.new.receiver.ghost_name ≡ self.old.receiver.ghost_name }
     {
         let receiver = &mut *self.receiver;
-        let Some(wake) = receiver.waker.register(cx) else {
-            return Poll::Ready(Err(AllocError));
-        };
-        match asked::poll_future::<T, WakerSlot<A>, P>(&receiver.port, receiver.key, wake) {
+        let Receiver {
+            port,
+            key,
+            waker,
+            ..
+        } = receiver;
+        match polls::poll_future::<T, WakerSlot<A>, P, _>(port, *key, waker, cx) {
             Ok(Poll::Ready(answer)) => Poll::Ready(Ok(answer)),
             Ok(Poll::Pending) => Poll::Pending,
             Err(error) => Poll::Ready(Err(error)),

@@ -5,9 +5,10 @@ ghost use Rattle.futures.specs.Poll.{IfReady, OnPending};
 ghost use Rattle.async_broadcast.specs.Futures.{BeganSend, GivesSent, MustWait};
 
 use crate::asked;
+use crate::asked::polls;
 use crate::port::Ask;
 use crate::sender::Sender;
-use crate::wake::{TaskWaker, WakerSlot};
+use crate::wake::{Registers, TaskWaker, WakerSlot};
 use bcast_core::{Call, NoMemory, Reply, SendError, SendPoll};
 use futures::Future;
 use futures::task::{Context, Poll};
@@ -176,26 +177,31 @@ impl<T: Clone, P: Ask<T, WakerSlot<A>>, A: Allocator + Copy> Future for Send<'_,
             ((self.new.place ≡ self.old.place) × (self.new.msg ≡ self.old.msg)) }
         ensures port { self.new.sender.now.port ≡ self.old.sender.now.port }
     {
-        let wake = self.waker.register(cx);
         let Some(place) = self.place else {
+            let _notice = self.waker.register(cx);
             return Poll::Pending;
         };
         let Some(msg) = self.msg.take() else {
+            let _notice = self.waker.register(cx);
             return Poll::Pending;
         };
-        let Some(wake) = wake else {
-            return Poll::Ready(Err(NoMemory(msg)));
-        };
         let sender = self.sender;
-        match asked::poll_send::<T, WakerSlot<A>, P>(&sender.port, place, msg, wake) {
-            SendPoll::Ready(answer) => {
+        match polls::poll_send::<T, WakerSlot<A>, P, _>(
+            &sender.port,
+            place,
+            msg,
+            &mut self.waker,
+            cx,
+        ) {
+            Ok(SendPoll::Ready(answer)) => {
                 self.place = None;
                 Poll::Ready(Ok(answer))
             }
-            SendPoll::Wait(msg) => {
+            Ok(SendPoll::Wait(msg)) => {
                 self.msg = Some(msg);
                 Poll::Pending
             }
+            Err(error) => Poll::Ready(Err(error)),
         }
     }
 }

@@ -5,7 +5,7 @@ ghost use Rattle.futures.specs.Poll.{IfReady, OnPending};
 ghost use Rattle.futures.specs.Runs.{After, Within};
 ghost use Rattle.async_broadcast.specs.Futures.{YieldsItems};
 
-use crate::asked;
+use crate::asked::polls;
 use crate::port::Ask;
 use crate::receiver::Receiver;
 use crate::wake::WakerSlot;
@@ -42,10 +42,7 @@ impl<T: Clone, P: Ask<T, WakerSlot<A>>, A: Allocator + Copy> Stream for Receiver
         ensures port { self.new.port ≡ self.old.port }
         ensures key { self.new.key ≡ self.old.key }
     {
-        let Some(wake) = self.waker.register(cx) else {
-            return Poll::Ready(Some(Err(AllocError)));
-        };
-        match asked::poll_next::<T, WakerSlot<A>, P>(&self.port, self.key, wake) {
+        match polls::poll_next::<T, WakerSlot<A>, P, _>(&self.port, self.key, &mut self.waker, cx) {
             Ok(Poll::Ready(Some(next))) => Poll::Ready(Some(Ok(next.0))),
             Ok(Poll::Ready(None)) => Poll::Ready(None),
             Ok(Poll::Pending) => Poll::Pending,

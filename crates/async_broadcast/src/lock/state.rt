@@ -15,6 +15,8 @@ use bcast_core::{Call, Inner, Reply, Snapshot, TryRecvError, TrySendError, step}
 use std::alloc::{AllocError, Allocator};
 use std::sync::Condvar;
 
+mod notice;
+
 #[derive(Drop)]
 pub(super) struct State<T: Clone, A: Allocator> {
     inner: Inner<T, Wake<WakerSlot<A>>, A>,

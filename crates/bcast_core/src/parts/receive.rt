@@ -17,7 +17,7 @@ impl<T: Clone, N: Notice, A: Allocator + Copy> Parts<T, N, A> {
     ghost use Rattle.bcast_model.specs.Effect.{sets};
     ghost use Rattle.bcast_model.specs.Control.{cursor_of};
     ghost use Rattle.bcast_model.specs.View.{kept_at};
-    ghost use Rattle.bcast_model.specs.Receiving.{try_recv_reply, IsOwed};
+    ghost use Rattle.bcast_model.specs.Receiving.{try_recv_reply, is_empty_reply, IsOwed};
     ghost use Rattle.bcast_model.specs.Control.{with_cursor};
     ghost use Rattle.bcast_model.specs.ListenerId.{stream_of};
     ghost use Rattle.bcast_core.specs.Tries.{tries_of};
@@ -97,6 +97,19 @@ impl<T: Clone, N: Notice, A: Allocator + Copy> Parts<T, N, A> {
             Ok(Err(TryRecvError::Closed))
         } else {
             Ok(Err(TryRecvError::Empty))
+        }
+    }
+
+    /// Whether a receive would find nothing, and the channel is open.
+    #[inline(always)]
+    pub fn finds_nothing(&self, key: usize) -> bool
+        requires { IsValidView self.now }
+        ensures { result
+            ≡ is_empty_reply (try_recv_reply self.now (cursor_of self.now.control key)) }
+    {
+        match self.cursor(key) {
+            Some(cursor) => cursor >= self.end() && !self.is_closed(),
+            None => false,
         }
     }
 

@@ -1,7 +1,8 @@
 //! Receiving by a future or a stream, which wait if there is nothing.
-ghost use Rattle.std.specs.Prelude.{◌≡◌, ◌+◌, Ok, Err, IfOk, IfErr, IsOk};
+ghost use Rattle.std.specs.Prelude.{◌≡◌, ◌+◌, ◌&&◌, not, Ok, Err, IfOk, IfErr, IsOk};
 ghost use Rattle.bcast_model.specs.Legal.{NoClone};
 ghost use Rattle.bcast_model.specs.Answers.{Answers};
+ghost use Rattle.bcast_model.specs.PollLaws.{is_poll, try_finds_nothing};
 ghost use Rattle.bcast_model.specs.ListenerId.{stream_of};
 ghost use Rattle.bcast_model.specs.Receiving;
 ghost use Rattle.bcast_core.specs.Tries.{tries_of};
@@ -12,6 +13,7 @@ use super::Inner;
 use crate::tries::Steps;
 use bcast_model::error::{RecvError, TryRecvError};
 use bcast_model::listener::Kind;
+use bcast_model::run::Call;
 use bcast_waiting::notice::Notice;
 use futures::task::Poll;
 use std::alloc::{AllocError, Allocator};
@@ -64,6 +66,22 @@ fn next_reply<T: Drop>(
 }
 
 impl<T: Clone, N: Notice, A: Allocator + Copy> Inner<T, N, A> {
+    /// Whether this is a poll that would be answered. False of a poll that would wait, as one of a
+    /// place that is not in use, and of every other call.
+    #[inline(always)]
+    pub fn answers_poll(&self, call: &Call<T>) -> bool
+        ensures { result ≡ is_poll self.now.control call.now
+            && not (try_finds_nothing self.now call.now) }
+    {
+        match call {
+            Call::PollSend(place, _) => self.parts.answers_send(*place),
+            Call::PollFuture(key) | Call::PollRecv(key) | Call::PollNext(key) => {
+                !self.parts.finds_nothing(*key)
+            }
+            _ => false,
+        }
+    }
+
     /// Receives as `try_recv` does, by a future. If there is nothing it waits: `notice` is told
     /// once it is to be polled again.
     ///

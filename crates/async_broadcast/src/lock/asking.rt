@@ -1,0 +1,74 @@
+//! A call on a channel behind its lock, and a poll, whose notice is made under the same lock.
+ghost use Rattle.std.specs.Prelude.{◌≡◌, true, false, IfOk, IfErr, OnErr};
+ghost use Rattle.futures.specs.Task.{IsArmed, Keeps};
+ghost use Rattle.bcast_model.specs.Next.{HasPositiveCapacity};
+ghost use Rattle.bcast_model.specs.Answers.{IsPossible};
+ghost use Rattle.bcast_model.specs.PollLaws.{must_wait};
+ghost use Rattle.async_broadcast.specs.Polls.{is_any_poll};
+
+use super::Lock;
+use crate::port::Ask;
+use crate::wake::{Registers, Wake, WakerSlot};
+use bcast_core::{Call, Reply};
+use futures::task::Context;
+use std::alloc::Allocator;
+use std::sync::Wait;
+
+impl<T: Clone, R: Wait + Clone, A: Allocator + Copy> Ask<T, WakerSlot<A>> for Lock<T, R, A> {
+    ghost use Rattle.async_broadcast.specs.OfKind.{possible};
+
+    ghost gave = { λ _ call reply. IsPossible T.is_clone call reply };
+
+    ghost of_kind = { λ _ call reply may. possible T.is_clone call reply may };
+
+    #[inline(always)]
+    fn ask(&self, call: Call<T>, wake: Wake<WakerSlot<A>>) -> Reply<T>
+        requires { HasPositiveCapacity call }
+        ensures { IsPossible T.is_clone call result }
+    {
+        let channel = &*self.channel;
+        let mut state = channel.lock(&self.rt);
+        if state.has_no_thread() {
+            return state.make_alone(call, wake);
+        }
+        let (reply, woken) = state.step(call, wake);
+        drop(state);
+        channel.wake(woken);
+        reply
+    }
+
+    #[inline(always)]
+    fn poll<W: Registers<WakerSlot<A>>>(
+        &self,
+        call: Call<T>,
+        task: &mut W,
+        cx: &mut Context<'_>,
+    ) -> Result<Reply<T>, Call<T>>
+        requires { HasPositiveCapacity call }
+        ensures asked { IfOk result (IsPossible T.is_clone call) }
+        ensures back { IfErr result (λ back. back ≡ call) }
+
+        ensures notice { IfOk result (λ reply. must_wait reply ≡ true
+            → W.is_refused task.new ≡ false) }
+        ensures refused { OnErr result (W.is_refused task.new ≡ true) }
+        ensures registered { IfOk result (λ reply. must_wait reply ≡ true → IsArmed cx.new) }
+        ensures again { OnErr result (IsArmed cx.new) }
+        ensures kept { Keeps cx.old cx.new }
+        // A poll that is answered leaves the task's waker and the poll's context as they were.
+        ensures answered { IfOk result (λ reply. is_any_poll call ≡ true
+            → must_wait reply ≡ false → (task.new ≡ task.old) × (cx.new ≡ cx.old)) }
+    {
+        let channel = &*self.channel;
+        let mut state = channel.lock(&self.rt);
+        let Some(wake) = state.notice_for(&call, task, cx) else {
+            return Err(call);
+        };
+        if state.has_no_thread() {
+            return Ok(state.make_alone(call, wake));
+        }
+        let (reply, woken) = state.step(call, wake);
+        drop(state);
+        channel.wake(woken);
+        Ok(reply)
+    }
+}
