@@ -126,6 +126,7 @@ impl<I: Copy + Eq + Indexed, N: Notice, A: Allocator> Event<I, N, A> {
     /// Takes constant time. Changes nothing.
     ///
     /// Source: a poll of an `EventListener`.
+    #[inline(always)]
     pub fn is_told(&self, id: I) -> Option<bool>
         ensures { result ≡ is_told I.eq id self.now.listeners }
     {
@@ -140,6 +141,7 @@ impl<I: Copy + Eq + Indexed, N: Notice, A: Allocator> Event<I, N, A> {
     /// Takes constant time. Changes nothing.
     ///
     /// Source: a poll of an `EventListener` that stays pending.
+    #[inline(always)]
     pub fn is_untold(&self, id: I) -> bool
         ensures { result ≡ is_in I.eq id (untold_ids self.now.listeners) }
     {
@@ -199,6 +201,7 @@ impl<I: Copy + Eq + Indexed, N: Notice, A: Allocator> Event<I, N, A> {
     /// Takes constant time.
     ///
     /// Source: a listener of `Event` that ends as notified.
+    #[inline(always)]
     pub fn consume(&mut self, id: I) -> Option<bool>
         ensures told { result ≡ is_told I.eq id self.old.listeners }
         ensures rest { self.new
@@ -223,6 +226,7 @@ impl<I: Copy + Eq + Indexed, N: Notice, A: Allocator> Event<I, N, A> {
     /// Takes constant time, amortised.
     ///
     /// Source: the drop of an `EventListener`.
+    #[inline(always)]
     pub fn abandon(&mut self, id: I)
         ensures { self.new ≡ record self.old { listeners = abandon I.eq id self.old.listeners } }
     {

@@ -59,6 +59,7 @@ impl<T: Clone, P: Ask<T, WakerSlot<A>>, A: Allocator + Copy> Receiver<T, P, A> {
     /// ```
     ///
     /// Source: `Receiver::recv_direct` of async-broadcast 0.7.2.
+    #[inline(always)]
     pub fn recv_direct(&mut self) -> Recv<'_, T, P, A>
         ensures lent { result.receiver.now ≡ self.old }
         ensures same { result.receiver.ghost_name ≡ self.entry.ghost_name }

@@ -78,6 +78,7 @@ impl<T: Clone, P: Ask<T, WakerSlot<A>>, A: Allocator + Copy> Sender<T, P, A> {
     /// ```
     ///
     /// Source: `Sender::broadcast_direct` of async-broadcast 0.7.2, which never refuses.
+    #[inline(always)]
     pub fn broadcast_direct(&self, msg: T) -> Result<Send<'_, T, P, A>, NoMemory<T>>
         ensures port { IfOk result (λ send. send.sender.now.port ≡ self.now.port) }
         ensures made { IfOk result (λ send. (send.msg ≡ Some msg)

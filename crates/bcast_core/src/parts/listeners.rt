@@ -28,6 +28,7 @@ impl<T: Drop, N: Notice, A: Allocator + Copy> Parts<T, N, A> {
     }
 
     /// Gives a place to a send that is to wait.
+    #[inline(always)]
     pub fn begin_send(&mut self) -> Result<usize, AllocError>
         ensures free { IfOk result (λ place. has_place self.old.control place ≡ false) }
         ensures ok { IfOk result (λ place. self.new
@@ -38,6 +39,7 @@ impl<T: Drop, N: Notice, A: Allocator + Copy> Parts<T, N, A> {
     }
 
     /// The send of this place waits, untold.
+    #[inline(always)]
     pub fn place_waits(&mut self, place: usize, notice: N)
         requires { has_place self.old.control place ≡ true }
         ensures { self.new ≡ record self.old { control = place_waits self.old.control place } }
@@ -46,6 +48,7 @@ impl<T: Drop, N: Notice, A: Allocator + Copy> Parts<T, N, A> {
     }
 
     /// The send of this place was answered.
+    #[inline(always)]
     pub fn place_answered(&mut self, place: usize)
         ensures { self.new ≡ record self.old { control = place_answered self.old.control place } }
     {
@@ -53,6 +56,7 @@ impl<T: Drop, N: Notice, A: Allocator + Copy> Parts<T, N, A> {
     }
 
     /// The send of this place is dropped. What it was told is passed on.
+    #[inline(always)]
     pub fn place_ended(&mut self, place: usize)
         ensures { self.new ≡ record self.old { control = place_ended self.old.control place } }
     {
@@ -60,6 +64,7 @@ impl<T: Drop, N: Notice, A: Allocator + Copy> Parts<T, N, A> {
     }
 
     /// A receiver's listener waits, untold.
+    #[inline(always)]
     pub fn pair_waits(&mut self, key: usize, kind: Kind, notice: N)
         requires valid { IsValidView self.old }
         requires there { is_some (get self.old.control.cursors key) ≡ true }
@@ -69,6 +74,7 @@ impl<T: Drop, N: Notice, A: Allocator + Copy> Parts<T, N, A> {
     }
 
     /// Whether a receiver's listener is listed and not told.
+    #[inline(always)]
     pub fn is_untold(&self, key: usize, kind: Kind) -> bool
         ensures { result ≡ is_untold self.now.control (key, kind) }
     {
@@ -76,6 +82,7 @@ impl<T: Drop, N: Notice, A: Allocator + Copy> Parts<T, N, A> {
     }
 
     /// A receiver's listener waits on, with another notice.
+    #[inline(always)]
     pub fn renew_pair(&mut self, key: usize, kind: Kind, notice: N)
         requires { is_untold self.old.control (key, kind) ≡ true }
         ensures { self.new ≡ self.old }
@@ -84,6 +91,7 @@ impl<T: Drop, N: Notice, A: Allocator + Copy> Parts<T, N, A> {
     }
 
     /// A receiver's listener was answered.
+    #[inline(always)]
     pub fn pair_answered(&mut self, key: usize, kind: Kind)
         ensures { self.new
             ≡ record self.old { control = pair_answered self.old.control (key, kind) } }
@@ -92,6 +100,7 @@ impl<T: Drop, N: Notice, A: Allocator + Copy> Parts<T, N, A> {
     }
 
     /// A receiver's listener is dropped. What it was told is passed on.
+    #[inline(always)]
     pub fn pair_ended(&mut self, key: usize, kind: Kind)
         ensures { self.new
             ≡ record self.old { control = pair_ended self.old.control (key, kind) } }

@@ -126,6 +126,7 @@ impl<T: Clone, N: Notice, A: Allocator + Copy> Parts<T, N, A> {
     }
 
     /// The same for a listener that waits if there is nothing.
+    #[inline(always)]
     pub fn poll<L: Ledger>(
         &mut self,
         key: usize,
@@ -163,6 +164,7 @@ impl<T: Clone, N: Notice, A: Allocator + Copy> Parts<T, N, A> {
 
     /// The same for the stream. If its listener is listed and not told there is nothing, since no
     /// wake-up is lost: it waits on, and only its notice is another one.
+    #[inline(always)]
     pub fn poll_stream<L: Ledger>(
         &mut self,
         key: usize,

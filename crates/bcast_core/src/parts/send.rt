@@ -72,6 +72,7 @@ impl<T: Drop, N: Notice, A: Allocator + Copy> Parts<T, N, A> {
     }
 
     /// The same for a send that may wait.
+    #[inline(always)]
     pub fn attempt(&mut self, msg: T) -> SendPoll<T>
         requires { IsValidView self.old }
         ensures reply { result ≡ attempt_send_reply self.old msg }
@@ -93,6 +94,7 @@ impl<T: Drop, N: Notice, A: Allocator + Copy> Parts<T, N, A> {
     }
 
     /// A poll of a pending send.
+    #[inline(always)]
     pub fn poll_send(&mut self, place: usize, msg: T, notice: N) -> SendPoll<T>
         requires { IsValidView self.old }
         ensures reply { result ≡ (if has_place self.old.control place

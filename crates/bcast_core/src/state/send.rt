@@ -71,6 +71,7 @@ impl<T: Drop, N: Notice, A: Allocator + Copy> Inner<T, N, A> {
     /// # Errors
     ///
     /// `AllocError`: memory for it was refused, and nothing changed.
+    #[inline(always)]
     pub fn begin_send(&mut self) -> Result<usize, AllocError>
         ensures { Answers NoClone self.old call.BeginSend (reply.BeginSend result) self.new }
     {
@@ -87,6 +88,7 @@ impl<T: Drop, N: Notice, A: Allocator + Copy> Inner<T, N, A> {
     /// answered and sends are still ready, the next one that waits is told. Takes no memory.
     ///
     /// Source: the poll of `Send` of async-broadcast; who is told next is this crate's own.
+    #[inline(always)]
     pub fn poll_send(&mut self, place: usize, msg: T, notice: N) -> SendPoll<T>
         ensures { Answers NoClone self.old (call.PollSend place msg) (reply.PollSend result)
             self.new }
