@@ -1,3 +1,4 @@
 mod Answered
 mod Lists
 mod TopicsLemmas
+mod Views

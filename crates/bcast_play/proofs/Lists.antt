@@ -1,5 +1,5 @@
 -- Traces whose calls are made as one list.
-use Rattle.std.proofs.Common.{◌≡◌, ◌⊎◌, inl, inr, ◌<◌, ℕ, suc, ◌+◌, arith, List, true, [], ◌∷◌, ◌++◌, Option, Some, None, Result, Ok, Err, OnOk, map, length, drop, get_or, codes, refl, sym, ap, subst, ◌∙◌, append-nil, append_assoc}
+use Rattle.std.proofs.Common.{◌≡◌, ◌⊎◌, inl, inr, ◌<◌, ℕ, suc, ◌+◌, arith, List, true, false, [], ◌∷◌, ◌++◌, Option, Some, None, Result, Ok, Err, OnOk, map, length, drop, get_or, codes, refl, sym, ap, subst, ◌∙◌, append-nil, append_assoc}
 use Rattle.std.proofs.Math.Seq.{drop-cons}
 use Rattle.std.proofs.KnownBytes.{Appends-nil, Appends-trans, Appends-kept}
 use Rattle.std.specs.Io.KnownBytes.{Appends, Keeps}
@@ -7,13 +7,16 @@ use Rattle.bcast_model.specs.declared.run.Reply.{Reply}
 use Rattle.bcast_text.specs.Run.{AreAnswered, IsRun}
 use Rattle.bcast_text.specs.TraceReply as replies
 use Rattle.bcast_text.specs.declared.ending.Ending.{Ending}
+use Rattle.bcast_text.specs.declared.ending.Ending.TheVariants.{Done}
+use Rattle.std.specs.Prelude.{MatchOption}
+use Rattle.bcast_play.specs.TraceRun.{OpensNone, AsksForNone}
 use Rattle.std.specs.Fmt.{decimal}
 use Rattle.std.specs.Option.{is_some, option_map}
 use Rattle.std.proofs.lemmas.Bool.{false≢true}
 use Rattle.bcast_text.specs.Opening.{opening_text}
 use Rattle.bcast_text.specs.declared.trace.opening.Opening.{Opening}
 use Rattle.bcast_play.specs.Channels.{named_by}
-use Rattle.bcast_play.specs.ListRun.{Collected, IsCollected, IsRead, IsAdded, IsSkipped, played_text}
+use Rattle.bcast_play.specs.ListRun.{Collected, IsCollected, IsNoListLine, IsRead, IsAdded, IsSkipped, played_text}
 
 nothing_written : (s : Collected) (lines : List (List ℕ)) (text : List ℕ) (t : Collected) → AreAnswered IsCollected s lines text t → text ≡ []
 nothing_written s [] text t (none, same) = none
@@ -25,7 +28,7 @@ kept None b text none p = tt
 kept (Some x) None text none p = absurd p
 kept (Some x) (Some y) text none p = p ∙ ap (λ t. x ++ t) none ∙ append-nil x
 
-module _ {input before mid : Option (List ℕ)} {s t : Collected} {e : Ending} (run : IsRun IsCollected input before mid s t e) where
+module _ {longest : ℕ} {input before mid : Option (List ℕ)} {s t : Collected} {e : Ending} (run : IsRun IsNoListLine false longest IsCollected input before mid s t e) where
   no_text : run.answered.text ≡ []
   no_text = nothing_written s run.answered.lines run.answered.text run.last run.answered.answered
 
@@ -33,7 +36,7 @@ module _ {input before mid : Option (List ℕ)} {s t : Collected} {e : Ending} (
   pub run_keeps : Keeps before mid
   run_keeps = kept before mid run.answered.text no_text run.answered.written
 
-  pub run_read : IsRun IsCollected input before before s t e
+  pub run_read : IsRun IsNoListLine false longest IsCollected input before before s t e
   run_read = record {
     left = run.left;
     last = run.last;
@@ -85,3 +88,29 @@ read_on (Some x) some old new line is = is
 pub ok_part : {X F : Type 0} (r : Result X F) (x : X) (Q : Type 0) → r ≡ Ok x → OnOk r Q → Q
 ok_part (Ok y) x Q is h = h
 ok_part (Err e) x Q is h = absurd (cc)
+
+pub refused_on : (o : Option Opening) → is_some o ≡ true → (line : List ℕ) → AsksForNone line → MatchOption (option_map named_by o) (OpensNone line) (λ _. AsksForNone line)
+refused_on None some line is = absurd (false≢true some)
+refused_on (Some x) some line is = is
+
+stays_open : (o : Option (ℕ × ℕ)) (old : Collected) (line : List ℕ) (new : Collected) → IsRead o old line new → o ≡ old.opening → is_some new.opening ≡ true
+stays_open None old line new named is = ap (λ c. is_some c.opening) named.same
+stays_open (Some x) old line new (inl added) is = ap is_some added.opening ∙ ap is_some (sym is)
+stays_open (Some x) old line new (inr skipped) is = ap (λ c. is_some c.opening) skipped.same ∙ ap is_some (sym is)
+
+opened_after : (s : Collected) (lines : List (List ℕ)) (text : List ℕ) (t : Collected) → AreAnswered IsCollected s lines text t → is_some s.opening ≡ true → is_some t.opening ≡ true
+opened_after s [] text t (none, same) some = ap (λ c. is_some c.opening) same ∙ some
+opened_after s (line ∷ lines) text t (next, answer, rest, one, more, is) some =
+    opened_after next lines rest t more (stays_open s.opening s line next one.1 refl)
+
+opened_by : (s : Collected) (lines : List (List ℕ)) (text : List ℕ) (t : Collected) → AreAnswered IsCollected s lines text t → (length lines ≡ 0 → false ≡ true) → is_some t.opening ≡ true
+opened_by s [] text t run some = absurd (false≢true (some refl))
+opened_by s (line ∷ lines) text t (next, answer, rest, one, more, is) some =
+    opened_after next lines rest t more (stays_open s.opening s line next one.1 refl)
+
+-- a trace that was read to its end has a line 1
+pub run_opened : {longest : ℕ} {input before mid : Option (List ℕ)} {s t : Collected} → IsRun IsNoListLine false longest IsCollected input before mid s t Done → is_some t.opening ≡ true
+run_opened run =
+    let end = run.done refl in
+    ap (λ c. is_some c.opening) end.1
+    ∙ opened_by _ run.answered.lines run.answered.text run.last run.answered.answered (λ none. end.2 (sym run.answered.count ∙ none))

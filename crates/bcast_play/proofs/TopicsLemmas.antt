@@ -1,5 +1,5 @@
 -- The words of lines on topics; followers' names, read through what is seen of a follower; an answer that is written.
-use Rattle.std.proofs.Common.{◌≡◌, ⊎_elim, arith, List, [], ℕ, Bool, true, false, Option, Some, None, Result, Ok, Err, OnOk, IfSome, cond, refl, sym, is_some}
+use Rattle.std.proofs.Common.{◌≡◌, ◌≢◌, inl, inr, ⊎_elim, arith, List, [], ℕ, Bool, true, false, Option, Some, None, Result, Ok, Err, OnOk, IfSome, cond, refl, sym, is_some}
 use Rattle.std.specs.Prelude.{IsSome}
 use Rattle.std.specs.Option.{option_map}
 use Rattle.std.specs.BTreeMap.{BTreeMap}
@@ -8,6 +8,9 @@ use Rattle.std.proofs.lemmas.Bool.{true≢false}
 use Rattle.std.proofs.lemmas.List.Elements.{All-get_or}
 use Rattle.bcast_text.proofs.Spaced.{Lacks, is_plain, plain_space}
 use Rattle.topics.specs.Name.{IsName, IsNameByte}
+use Rattle.topics.specs.Request.{IsAnswerTo}
+use Rattle.topics.specs.declared.request.Answer.TheVariants as answer
+use Rattle.bcast_model.specs.declared.run.Call.{Call}
 use Rattle.bcast_play.specs.TopicsLine.{word_of}
 use Rattle.bcast_play.specs.TopicsShown.{follower_of}
 use Rattle.bcast_play.specs.declared.hub.line.Line.{Line}
@@ -39,6 +42,18 @@ map_cond f false o p = refl
 pub map_none : {X Y : Type 0} (f : X → Y) (o : Option X) → is_some o ≡ false → option_map f o ≡ None
 map_none f None absent = refl
 map_none f (Some x) absent = absurd (true≢false absent)
+
+pub map_some : {X Y : Type 0} (f : X → Y) (o : Option X) → is_some o ≡ true → option_map f o ≢ None
+map_some f None used none = true≢false (sym used)
+map_some f (Some x) used none = let is = none in absurd (cc)
+
+-- a name by the rule is not answered by that it is none
+pub named_answer : {T : Type 0} (is_open : Bool) (asked : Option (Call T)) → IsAnswerTo is_open asked answer.BadName → ⊥
+named_answer true None is = absurd (cc)
+named_answer false None (inl is) = absurd (cc)
+named_answer false None (inr is) = absurd (cc)
+named_answer false (Some c) is = absurd (cc)
+named_answer true (Some c) (reply, is) = absurd (cc)
 
 pub no_follower : {A : Type 0} (m : BTreeMap (String A) (Follower A)) → m.entries ≡ [] → (name : List ℕ) → follower_of m name ≡ None
 no_follower m empty name = rw empty refl

@@ -6,6 +6,8 @@ pub mod TraceRun
 pub mod TopicsLine
 pub mod TopicsRun
 pub mod ListRun
+-- the line of a view
+pub mod ViewText
 -- what is seen of the programs' parts
 pub mod Channels
 pub mod TopicsShown

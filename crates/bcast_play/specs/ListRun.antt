@@ -1,5 +1,5 @@
 -- What is written of a trace whose calls are made as one list.
-use Rattle.std.specs.Prelude.{◌≡◌, ℕ, List, [], ◌∷◌, ◌++◌, ◌⊎◌, Option, Some, None, codes}
+use Rattle.std.specs.Prelude.{◌≡◌, ℕ, List, [], ◌∷◌, ◌++◌, ◌⊎◌, Option, Some, None, MatchOption, false, codes}
 use Rattle.std.specs.Io.KnownBytes.{Appends}
 use Rattle.bcast_model.specs.declared.run.Call.{Call}
 use Rattle.bcast_model.specs.declared.run.Reply.{Reply}
@@ -12,6 +12,7 @@ use Rattle.bcast_text.specs.TraceCall as calls
 use Rattle.bcast_text.specs.TraceReply as replies
 use Rattle.bcast_text.specs.TraceLine.{IsBeforeArrow}
 use Rattle.bcast_text.specs.declared.ending.Ending.TheVariants.{Done}
+use Rattle.bcast_play.specs.TraceRun.{OpensNone, AsksForNone}
 
 -- what was read so far: the capacity and first number that line 1 has, and the calls with their
 -- texts
@@ -55,6 +56,10 @@ IsRead (Some named) old line new = IsAdded old line new ⊎ IsSkipped old line n
 abbrev pub IsCollected : Collected → List ℕ → List ℕ → Collected → Type 0
 IsCollected old line text new = (text ≡ []) × IsRead old.opening old line new
 
+-- the line is no call, before and after line 1
+abbrev pub IsNoListLine : Collected → List ℕ → Type 0
+IsNoListLine old line = MatchOption old.opening (OpensNone line) (λ _. AsksForNone line)
+
 -- each call's text with its reply
 abbrev pub played_text : List (List ℕ) → List (Reply ℕ) → List ℕ
 played_text [] others = []
@@ -74,9 +79,9 @@ pub record IsPlayed (collected : Collected) (text : List ℕ) : Type 0 where
       text ≡ (opening_text capacity first ++ 10 ∷ []) ++ played_text collected.texts replies
 
 -- all lines are read, and then the calls are made and written
-pub record IsList (input before after : Option (List ℕ)) : Type 0 where
+pub record IsList (longest : ℕ) (input before after : Option (List ℕ)) : Type 0 where
   pub collected : Collected
-  pub read : lines.IsRun IsCollected input before before nothing_yet collected Done
+  pub read : lines.IsRun IsNoListLine false longest IsCollected input before before nothing_yet collected Done
   pub text : List ℕ
   pub played : IsPlayed collected text
   pub written : Appends before after text

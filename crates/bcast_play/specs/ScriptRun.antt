@@ -1,5 +1,5 @@
 -- What a script does: its channel, and the answer to each line.
-use Rattle.std.specs.Prelude.{◌≡◌, ◌<◌, ℕ, List, [], ◌∷◌, ◌++◌, Option, Some, None, codes}
+use Rattle.std.specs.Prelude.{◌≡◌, ◌≢◌, ◌<◌, ◌⊎◌, ℕ, List, [], ◌∷◌, ◌++◌, Option, Some, None, codes}
 use Rattle.std.specs.Fmt.{decimal}
 use Rattle.std.specs.Map.{update}
 use Rattle.std.specs.Str.{bytes_eq}
@@ -10,6 +10,7 @@ use Rattle.bcast_model.specs.History.{opening}
 use Rattle.bcast_model.specs.Answers.{Answers, Represents}
 use Rattle.bcast_model.specs.Legal.{NoClone}
 use Rattle.bcast_text.specs.declared.script.line.Line.{Line}
+use Rattle.bcast_text.specs.declared.script.line.Line.TheVariants.{Cap}
 use Rattle.bcast_text.specs.ScriptLine.{text_of, IsInForm}
 use Rattle.bcast_text.specs.ScriptCall.{call_of, names_after}
 use Rattle.bcast_text.specs.ScriptAnswer.{answer_of}
@@ -52,3 +53,19 @@ IsScriptLine None line answer (Some new) = IsOpened line answer new
 IsScriptLine (Some old) line answer None = ⊥
 IsScriptLine (Some old) line answer (Some new) =
     (asked : Line) × (line ≡ text_of asked) × IsInForm asked × IsMade old asked answer new
+
+-- the capacity of the channel that a line makes
+abbrev pub opened_by : Line → Option ℕ
+opened_by (Cap capacity) = Some capacity
+opened_by line = None
+
+-- whether a line in form makes a channel, before line 1, or asks for a call by its names, after it
+abbrev pub AsksForNone : Option Named → Line → Type 0
+AsksForNone None asked = opened_by asked ≡ None
+AsksForNone (Some old) asked = call_of old.key_of asked ≡ None
+
+-- the line is no call: no line in form has its text, or one that asks for none
+abbrev pub IsNoScriptLine : Option Named → List ℕ → Type 0
+IsNoScriptLine old line =
+    ((asked : Line) → IsInForm asked → line ≢ text_of asked)
+    ⊎ ((asked : Line) × (line ≡ text_of asked) × IsInForm asked × AsksForNone old asked)

@@ -1,5 +1,5 @@
 -- What lines on topics do: the topics, the names of their followers, and the answer to each line.
-use Rattle.std.specs.Prelude.{◌≡◌, ℕ, List, [], ◌∷◌, ◌++◌, Option, Some, None, Ok, codes}
+use Rattle.std.specs.Prelude.{◌≡◌, ◌≢◌, ◌⊎◌, ℕ, List, [], ◌∷◌, ◌++◌, Option, Some, None, Ok, codes}
 use Rattle.std.specs.Map.{update}
 use Rattle.std.specs.Str.{bytes_eq}
 use Rattle.std.specs.String.{string_bytes}
@@ -8,6 +8,8 @@ use Rattle.topics.specs.declared.request.Request.{Request}
 use Rattle.topics.specs.declared.request.Request.TheVariants as request
 use Rattle.topics.specs.declared.request.Answer.{Answer}
 use Rattle.topics.specs.declared.request.Answer.TheVariants as answer
+use Rattle.topics.specs.Name.{IsName}
+use Rattle.topics.specs.Request.{name_of}
 use Rattle.topics.specs.Hub.{Topics, Asks}
 use Rattle.bcast_play.specs.declared.hub.line.Line.{Line}
 use Rattle.bcast_play.specs.declared.hub.line.Line.TheVariants as line
@@ -83,3 +85,28 @@ module _ (A : Type 0) where
   abbrev pub IsTopicsLine : Followed → List ℕ → List ℕ → Followed → Type 0
   IsTopicsLine old line text new =
       (asked : Line) × (line ≡ text_of asked) × IsInForm asked × IsMade old asked text new
+
+-- a line that asks for no request, by the name of its follower
+abbrev pub IsAboutNobody : Names → Line → Type 0
+IsAboutNobody names (line.Follow topic new) = names new.now ≢ None
+IsAboutNobody names (line.Receive who) = names who.now ≡ None
+IsAboutNobody names (line.Leave who) = names who.now ≡ None
+IsAboutNobody names asked = ⊥
+
+module _ (A : Type 0) where
+  -- a line that asks for a request whose topic has no name by the rule
+  pub record IsMisnamed (names : Names) (asked : Line) : Type 0 where
+    pub request : Request ℕ A
+    pub is_asked : IsRequest names asked request
+    pub misnamed : IsName (name_of request) → ⊥
+
+  -- a line that asks for no request
+  abbrev pub AsksForNone : Names → Line → Type 0
+  AsksForNone names asked = IsAboutNobody names asked ⊎ IsMisnamed names asked
+
+  -- the line is no call: no line in form has its text, or one that asks for no request
+  abbrev pub IsNoTopicsLine : Followed → List ℕ → Type 0
+  IsNoTopicsLine old line =
+      ((asked : Line) → IsInForm asked → line ≢ text_of asked)
+      ⊎ ((asked : Line) × (line ≡ text_of asked) × IsInForm asked
+      × AsksForNone old.follower_of asked)

@@ -1,15 +1,18 @@
 -- What a trace does that is played line by line: its channel, and what is written of each line.
-use Rattle.std.specs.Prelude.{◌≡◌, ℕ, List, [], ◌∷◌, ◌++◌, ◌⊎◌, Option, Some, None, codes}
+use Rattle.std.specs.Prelude.{◌≡◌, ℕ, List, [], ◌∷◌, ◌++◌, ◌⊎◌, ◌≢◌, Option, Some, None, codes}
 use Rattle.bcast_model.specs.declared.run.Call.{Call}
 use Rattle.bcast_model.specs.declared.run.Reply.{Reply}
 use Rattle.bcast_model.specs.View.{View}
 use Rattle.bcast_model.specs.History.{opening}
 use Rattle.bcast_model.specs.Answers.{Answers, Represents}
 use Rattle.bcast_model.specs.Legal.{NoClone}
-use Rattle.bcast_text.specs.Opening.{opening_text}
+use Rattle.bcast_core.specs.declared.snapshot.Snapshot.{Snapshot}
+use Rattle.bcast_core.specs.Snapshot.{Shows}
+use Rattle.bcast_text.specs.Opening.{opening_text, IsOpening}
 use Rattle.bcast_text.specs.TraceCall as calls
 use Rattle.bcast_text.specs.TraceReply as replies
 use Rattle.bcast_text.specs.TraceLine.{IsBeforeArrow}
+use Rattle.bcast_play.specs.ViewText as views
 
 -- line 1 makes a channel, and is written again
 pub record IsStarted (line answer : List ℕ) (new : View ℕ) : Type 0 where
@@ -30,15 +33,36 @@ pub record IsPlayed (old : View ℕ) (line answer : List ℕ) (new : View ℕ) :
   pub answers : Answers NoClone old call reply new
   pub written : answer ≡ text ++ codes " -> " ++ replies.text_of reply ++ 10 ∷ []
 
--- the view is asked for, and the channel stays
-pub record IsViewed (old : View ℕ) (line : List ℕ) (new : View ℕ) : Type 0 where
-  pub rest : List ℕ
-  pub asked : line ≡ 61 ∷ rest
-  pub same : new ≡ old
+module _ (A : Type 0) where
+  -- the view is asked for: the line of what is seen is written, and the channel stays
+  pub record IsViewed (old : View ℕ) (line answer : List ℕ) (new : View ℕ) : Type 0 where
+    pub rest : List ℕ
+    pub asked : line ≡ 61 ∷ rest
+    pub seen : Snapshot ℕ A
+    pub shows : Shows (λ msg given. given ≡ msg) seen old
+    pub written : answer ≡ views.text_of seen
+    pub same : new ≡ old
 
--- what is written of a line, before and after line 1
-abbrev pub IsTraceLine : Option (View ℕ) → List ℕ → List ℕ → Option (View ℕ) → Type 0
-IsTraceLine None line answer None = ⊥
-IsTraceLine None line answer (Some new) = IsStarted line answer new
-IsTraceLine (Some old) line answer None = ⊥
-IsTraceLine (Some old) line answer (Some new) = IsPlayed old line answer new ⊎ IsViewed old line new
+  -- what is written of a line, before and after line 1
+  abbrev pub IsTraceLine : Option (View ℕ) → List ℕ → List ℕ → Option (View ℕ) → Type 0
+  IsTraceLine None line answer None = ⊥
+  IsTraceLine None line answer (Some new) = IsStarted line answer new
+  IsTraceLine (Some old) line answer None = ⊥
+  IsTraceLine (Some old) line answer (Some new) =
+      IsPlayed old line answer new ⊎ IsViewed old line answer new
+
+-- the line opens no channel
+abbrev pub OpensNone : List ℕ → Type 0
+OpensNone line = (capacity first : ℕ) → IsOpening capacity first → line ≢ opening_text capacity first
+
+-- the line asks neither for the view nor for a call
+abbrev pub AsksForNone : List ℕ → Type 0
+AsksForNone line =
+    ((rest : List ℕ) → line ≢ 61 ∷ rest)
+    × ((text : List ℕ) (call : Call ℕ) → IsBeforeArrow text line → calls.IsInRange call
+    → text ≢ calls.text_of call)
+
+-- the line is no call, before and after line 1
+abbrev pub IsNoTraceLine : Option (View ℕ) → List ℕ → Type 0
+IsNoTraceLine None line = OpensNone line
+IsNoTraceLine (Some old) line = AsksForNone line

@@ -1,7 +1,8 @@
 //! The channel of a script, with its receivers' names.
-ghost use Rattle.std.specs.Prelude.{◌≡◌, ◌<◌, ◌⊎◌, ℕ, List, Err, IfOk, OnOk};
+ghost use Rattle.std.specs.Prelude.{◌≡◌, ◌<◌, ◌⊎◌, ℕ, List, None, Err, IfOk, OnOk};
 ghost use Rattle.std.specs.Io.KnownBytes.{Appends};
 ghost use Rattle.bcast_text.specs.ScriptLine.{IsInForm};
+ghost use Rattle.bcast_text.specs.ScriptCall.{call_of};
 ghost use Rattle.bcast_play.specs.ScriptRun.{IsMade, IsNew};
 ghost use Rattle.bcast_play.specs.Channels.{named_of};
 
@@ -53,6 +54,8 @@ impl<A: Allocator + Copy> Channel<A> {
             × Appends (W.contents output.old) (W.contents output.new) answer) }
         ensures unwritten { (result ≡ Err Fault.NotACall) ⊎ (result ≡ Err Fault.NoMemory)
             → output.new ≡ output.old }
+        ensures refused { result ≡ Err Fault.NotACall
+            → call_of (named_of self.old).key_of line.entry ≡ None }
     {
         let call = call_by(&self.names, line).ok_or(Fault::NotACall)?;
         let reply = step(&mut self.inner, call, Silent);

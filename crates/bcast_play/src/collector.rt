@@ -1,8 +1,9 @@
 //! The calls of a trace played as one list.
-ghost use Rattle.std.specs.Prelude.{◌≡◌, ◌≢◌, ◌⊎◌, ℕ, List, Err, OnOk, map, string_bytes};
+ghost use Rattle.std.specs.Prelude.{◌≡◌, ◌≢◌, ◌⊎◌, ℕ, List, None, Err, OnOk, map, string_bytes, false};
 ghost use Rattle.std.specs.Io.KnownBytes.{Appends, Keeps};
+ghost use Rattle.bcast_text.specs.Run.{IsRun};
 ghost use Rattle.bcast_play.specs.Channels.{collected_of};
-ghost use Rattle.bcast_play.specs.ListRun.{IsPlayed, IsList, played_text, nothing_yet};
+ghost use Rattle.bcast_play.specs.ListRun.{Collected, IsCollected, IsNoListLine, IsPlayed, IsList, played_text, nothing_yet};
 
 use crate::calls::Calls;
 use bcast_core::{Reply, run};
@@ -47,6 +48,7 @@ impl<A: Allocator + Copy> Collector<A> {
             × Appends (W.contents output.old) (W.contents output.new) text) }
         ensures unwritten { (result ≡ Err Fault.NotACall) ⊎ (result ≡ Err Fault.NoMemory)
             → output.new ≡ output.old }
+        ensures refused { result ≡ Err Fault.NotACall → self.opening ≡ None }
     {
         let opening = self.opening.ok_or(Fault::NotACall)?;
         let Calls { list, texts } = self.calls;
@@ -60,13 +62,18 @@ impl<A: Allocator + Copy> Collector<A> {
 
 impl<A: Allocator + Copy> RunLine for Collector<A> {
     ghost use Rattle.bcast_play.specs.Channels.{collected_of};
-    ghost use Rattle.bcast_play.specs.ListRun.{Collected, IsCollected};
+    ghost use Rattle.bcast_play.specs.ListRun.{Collected, IsCollected, IsNoListLine};
+    ghost use Rattle.std.specs.Prelude.{false};
 
     ghost State = { Collected };
 
     ghost state = { collected_of };
 
     ghost answers = { IsCollected };
+
+    ghost refuses = { IsNoListLine };
+
+    ghost MAY_BE_EMPTY = { false };
 
     const MAY_BE_EMPTY: bool = false;
 
@@ -109,7 +116,10 @@ pub fn list<A: Allocator + Copy, R: Read + Drop, W: Write>(
     output: &mut W,
 ) -> Ending
     ensures done { result ≡ Ending.Done
-        → IsList (R.remaining input) (W.contents output.old) (W.contents output.new) }
+        → IsList LONGEST (R.remaining input) (W.contents output.old) (W.contents output.new) }
+    ensures refused { (line : ℕ) → result ≡ Ending.NotACall line → (last : Collected)
+        × IsRun IsNoListLine false LONGEST IsCollected (R.remaining input)
+        (W.contents output.old) (W.contents output.new) nothing_yet last result }
     ensures unwritten { result ≢ Ending.Done → result ≢ Ending.OutputFailed
         → Keeps (W.contents output.old) (W.contents output.new) }
 {

@@ -1,9 +1,9 @@
 //! The run of lines on topics.
-ghost use Rattle.std.specs.Prelude.{◌≡◌, ◌≢◌, ◌⊎◌, ℕ, List, Err, OnOk};
+ghost use Rattle.std.specs.Prelude.{◌≡◌, ◌≢◌, ◌⊎◌, ℕ, List, Err, OnOk, true};
 ghost use Rattle.std.specs.Io.KnownBytes.{Appends};
 ghost use Rattle.bcast_text.specs.Run.{IsRun};
 ghost use Rattle.bcast_play.specs.TopicsLine.{IsInForm};
-ghost use Rattle.bcast_play.specs.TopicsRun.{Followed, IsMade, IsTopicsLine, IsWithoutTopics};
+ghost use Rattle.bcast_play.specs.TopicsRun.{Followed, IsMade, IsTopicsLine, IsNoTopicsLine, AsksForNone, IsWithoutTopics};
 ghost use Rattle.bcast_play.specs.TopicsShown.{followed_of};
 
 mod answer;
@@ -44,6 +44,8 @@ impl<A: Allocator + Copy> HubSession<A> {
             × Appends (W.contents output.old) (W.contents output.new) text) }
         ensures unwritten { (result ≡ Err Fault.NotACall) ⊎ (result ≡ Err Fault.NoMemory)
             → output.new ≡ output.old }
+        ensures refused { result ≡ Err Fault.NotACall
+            → AsksForNone A (followed_of self.old).follower_of line.entry }
     {
         let request = request_by(self.alloc, &self.followers, line)?;
         let answered = self.hub.ask(request);
@@ -53,7 +55,8 @@ impl<A: Allocator + Copy> HubSession<A> {
 }
 
 impl<A: Allocator + Copy> RunLine for HubSession<A> {
-    ghost use Rattle.bcast_play.specs.TopicsRun.{Followed, IsTopicsLine};
+    ghost use Rattle.bcast_play.specs.TopicsRun.{Followed, IsTopicsLine, IsNoTopicsLine};
+    ghost use Rattle.std.specs.Prelude.{true};
     ghost use Rattle.bcast_play.specs.TopicsShown.{followed_of};
 
     ghost State = { Followed };
@@ -61,6 +64,10 @@ impl<A: Allocator + Copy> RunLine for HubSession<A> {
     ghost state = { followed_of };
 
     ghost answers = { IsTopicsLine A };
+
+    ghost refuses = { IsNoTopicsLine A };
+
+    ghost MAY_BE_EMPTY = { true };
 
     const MAY_BE_EMPTY: bool = true;
 
@@ -80,8 +87,8 @@ pub fn hub_script<A: Allocator + Copy, R: Read + Drop, W: Write>(
     output: &mut W,
 ) -> Ending
     ensures { result ≢ Ending.OutputFailed → (first last : Followed) × IsWithoutTopics first
-        × IsRun (IsTopicsLine A) (R.remaining input) (W.contents output.old)
-        (W.contents output.new) first last result }
+        × IsRun (IsNoTopicsLine A) true LONGEST (IsTopicsLine A) (R.remaining input)
+        (W.contents output.old) (W.contents output.new) first last result }
 {
     let mut session = HubSession {
         alloc,

@@ -1,9 +1,12 @@
 //! A trace played call by call.
-ghost use Rattle.std.specs.Prelude.{◌≡◌, ◌≢◌, ◌⊎◌, ℕ, List, Option, None, Some, Err, OnOk};
+ghost use Rattle.std.specs.Prelude.{◌≡◌, ◌≢◌, ◌⊎◌, ℕ, List, Option, None, Some, Err, OnOk, false};
 ghost use Rattle.std.specs.Io.KnownBytes.{Appends};
 ghost use Rattle.bcast_model.specs.View.{View};
+ghost use Rattle.bcast_core.specs.declared.snapshot.Snapshot.{Snapshot};
+ghost use Rattle.bcast_core.specs.Snapshot.{Shows};
 ghost use Rattle.bcast_text.specs.Run.{IsRun};
-ghost use Rattle.bcast_play.specs.TraceRun.{IsStarted, IsPlayed, IsViewed, IsTraceLine};
+ghost use Rattle.bcast_play.specs.ViewText.{text_of};
+ghost use Rattle.bcast_play.specs.TraceRun.{IsStarted, IsPlayed, IsViewed, IsTraceLine, OpensNone, AsksForNone, IsNoTraceLine};
 
 use crate::view::write_view;
 use bcast_core::{Inner, Silent, step};
@@ -33,10 +36,11 @@ impl<A: Allocator + Copy> Player<A> {
     /// Makes the channel that `line` opens, and writes the line.
     fn start<W: Write>(&mut self, line: &str, output: &mut W) -> Result<(), Fault>
         ensures ok { OnOk result ((answer : List ℕ)
-            × IsTraceLine None line.now answer self.new.inner
+            × IsTraceLine A None line.now answer self.new.inner
             × Appends (W.contents output.old) (W.contents output.new) answer) }
         ensures unwritten { (result ≡ Err Fault.NotACall) ⊎ (result ≡ Err Fault.NoMemory)
             → output.new ≡ output.old }
+        ensures refused { result ≡ Err Fault.NotACall → OpensNone line.now }
     {
         let opening = read_opening(line).ok_or(Fault::NotACall)?;
         let (inner, _) = Inner::starting_at(self.alloc, opening.capacity, opening.first)?;
@@ -47,15 +51,19 @@ impl<A: Allocator + Copy> Player<A> {
 }
 
 impl<A: Allocator + Copy> RunLine for Player<A> {
-    ghost use Rattle.std.specs.Prelude.{ℕ, Option};
+    ghost use Rattle.std.specs.Prelude.{ℕ, Option, false};
     ghost use Rattle.bcast_model.specs.View.{View};
-    ghost use Rattle.bcast_play.specs.TraceRun.{IsTraceLine};
+    ghost use Rattle.bcast_play.specs.TraceRun.{IsTraceLine, IsNoTraceLine};
 
     ghost State = { Option (View ℕ) };
 
     ghost state = { λ player. player.inner };
 
-    ghost answers = { IsTraceLine };
+    ghost answers = { IsTraceLine A };
+
+    ghost refuses = { IsNoTraceLine };
+
+    ghost MAY_BE_EMPTY = { false };
 
     const MAY_BE_EMPTY: bool = false;
 
@@ -75,25 +83,40 @@ fn answer<A: Allocator + Copy, W: Write>(
     output: &mut W,
 ) -> Result<(), Fault>
     ensures ok { OnOk result ((text : List ℕ)
-        × IsTraceLine (Some inner.old) line.now text (Some inner.new)
+        × IsTraceLine A (Some inner.old) line.now text (Some inner.new)
         × Appends (W.contents output.old) (W.contents output.new) text) }
     ensures unwritten { (result ≡ Err Fault.NotACall) ⊎ (result ≡ Err Fault.NoMemory)
         → output.new ≡ output.old }
+    ensures refused { result ≡ Err Fault.NotACall → AsksForNone line.now }
 {
     match read_line(line).ok_or(Fault::NotACall)? {
-        Line::View => {
-            let seen = inner.snapshot(alloc)?;
-            let mut text = Vec::new(alloc);
-            let Ok(()) = write_view(&seen, &mut text) else {
-                return Err(Fault::NoMemory);
-            };
-            output.write_all(text.as_slice())?;
-        }
+        Line::View => write_seen(alloc, inner, output)?,
         Line::Call(text, call) => {
             let reply = step(inner, call, Silent);
             write_answer(text, &reply, output)?;
         }
     }
+    Ok(())
+}
+
+/// Writes the view line of what is seen of the channel.
+fn write_seen<A: Allocator + Copy, W: Write>(
+    alloc: A,
+    inner: &Inner<u64, Silent, A>,
+    output: &mut W,
+) -> Result<(), Fault>
+    ensures ok { OnOk result ((seen : Snapshot ℕ A)
+        × Shows (λ msg given. given ≡ msg) seen inner.now
+        × Appends (W.contents output.old) (W.contents output.new) (text_of seen)) }
+    ensures not_a_call { result ≢ Err Fault.NotACall }
+    ensures unwritten { result ≡ Err Fault.NoMemory → output.new ≡ output.old }
+{
+    let seen = inner.snapshot(alloc)?;
+    let mut text = Vec::new(alloc);
+    let Ok(()) = write_view(&seen, &mut text) else {
+        return Err(Fault::NoMemory);
+    };
+    output.write_all(text.as_slice())?;
     Ok(())
 }
 
@@ -107,8 +130,8 @@ pub fn trace<A: Allocator + Copy, R: Read + Drop, W: Write>(
     input: R,
     output: &mut W,
 ) -> Ending
-    ensures { result ≢ Ending.OutputFailed → (last : Option (View ℕ)) × IsRun IsTraceLine
-        (R.remaining input) (W.contents output.old) (W.contents output.new) None last result }
+    ensures { result ≢ Ending.OutputFailed → (last : Option (View ℕ))
+        × IsRun IsNoTraceLine false LONGEST (IsTraceLine A) (R.remaining input) (W.contents output.old) (W.contents output.new) None last result }
 {
     let mut player = Player::new(alloc);
     run_lines(alloc, input, LONGEST, output, &mut player)

@@ -1,7 +1,7 @@
 //! The run of a script.
-ghost use Rattle.std.specs.Prelude.{◌≢◌, ℕ, None, Option};
+ghost use Rattle.std.specs.Prelude.{◌≢◌, ℕ, None, Option, false};
 ghost use Rattle.bcast_text.specs.Run.{IsRun};
-ghost use Rattle.bcast_play.specs.ScriptRun.{Named, IsScriptLine};
+ghost use Rattle.bcast_play.specs.ScriptRun.{Named, IsScriptLine, IsNoScriptLine};
 
 use crate::channel::Channel;
 use bcast_text::ending::Ending;
@@ -21,15 +21,19 @@ struct Session<A: Allocator> {
 }
 
 impl<A: Allocator + Copy> RunLine for Session<A> {
-    ghost use Rattle.bcast_play.specs.ScriptRun.{Named, IsScriptLine};
+    ghost use Rattle.bcast_play.specs.ScriptRun.{Named, IsScriptLine, IsNoScriptLine};
     ghost use Rattle.bcast_play.specs.Channels.{session_of};
-    ghost use Rattle.std.specs.Prelude.{Option};
+    ghost use Rattle.std.specs.Prelude.{Option, false};
 
     ghost State = { Option Named };
 
     ghost state = { session_of };
 
     ghost answers = { IsScriptLine };
+
+    ghost refuses = { IsNoScriptLine };
+
+    ghost MAY_BE_EMPTY = { false };
 
     const MAY_BE_EMPTY: bool = false;
 
@@ -56,8 +60,8 @@ pub fn script<A: Allocator + Copy, R: Read + Drop, W: Write>(
     input: R,
     output: &mut W,
 ) -> Ending
-    ensures { result ≢ Ending.OutputFailed → (last : Option Named) × IsRun IsScriptLine
-        (R.remaining input) (W.contents output.old) (W.contents output.new) None last result }
+    ensures { result ≢ Ending.OutputFailed → (last : Option Named)
+        × IsRun IsNoScriptLine false LONGEST IsScriptLine (R.remaining input) (W.contents output.old) (W.contents output.new) None last result }
 {
     let mut session = Session {
         alloc,

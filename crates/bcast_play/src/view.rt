@@ -1,7 +1,11 @@
 //! The view lines of a trace.
+ghost use Rattle.std.specs.Prelude.{◌≡◌, OnOk};
+ghost use Rattle.std.specs.Fmt.{decimal};
+ghost use Rattle.std.specs.Io.KnownBytes.{Appends};
+ghost use Rattle.bcast_play.specs.ViewText.{listed, cursor_text, letter_of, pair_text, messages_text, handles_text, settings_text, places_text, sends_text, receives_text, text_of};
+
 use bcast_core::{Kind, Snapshot};
 use std::alloc::Allocator;
-use std::fmt::Display;
 use std::io;
 use std::io::Write;
 
@@ -10,36 +14,106 @@ use std::io::Write;
 /// # Errors
 ///
 /// - The error of a write that failed.
-pub fn write_view<B: Allocator, W: Write>(
-    seen: &Snapshot<u64, B>,
-    output: &mut W,
-) -> io::Result<()> {
+pub fn write_view<B: Allocator, W: Write>(seen: &Snapshot<u64, B>, output: &mut W) -> io::Result<()>
+    ensures { OnOk result (Appends (W.contents output.old) (W.contents output.new)
+        (text_of seen.now)) }
+{
+    write_messages(seen, output)?;
+    write_handles(seen, output)?;
+    write_settings(seen, output)?;
+    write_places(seen, output)?;
+    write_sends(seen, output)?;
+    write_receives(seen, output)
+}
+
+/// The messages that are kept, and their numbers.
+fn write_messages<B: Allocator, W: Write>(seen: &Snapshot<u64, B>, output: &mut W) -> io::Result<()>
+    ensures { OnOk result (Appends (W.contents output.old) (W.contents output.new)
+        (messages_text seen.now)) }
+{
     write!(output, "= front={} end={} queue=[", seen.front, seen.end)?;
-    write_list(seen.queue.as_slice(), output)?;
-    output.write_all(b"] C={")?;
+    write_queue(seen.queue.as_slice(), output)?;
+    output.write_all(b"]")
+}
+
+/// Who receives, and how many senders and inactive receivers there are.
+fn write_handles<B: Allocator, W: Write>(seen: &Snapshot<u64, B>, output: &mut W) -> io::Result<()>
+    ensures { OnOk result (Appends (W.contents output.old) (W.contents output.new)
+        (handles_text seen.now)) }
+{
+    output.write_all(b" C={")?;
     write_cursors(seen.cursors.as_slice(), output)?;
     write!(
         output,
         "}} senders={} inactive={}",
         seen.senders, seen.inactive
-    )?;
+    )
+}
+
+/// The settings.
+fn write_settings<B: Allocator, W: Write>(seen: &Snapshot<u64, B>, output: &mut W) -> io::Result<()>
+    ensures { OnOk result (Appends (W.contents output.old) (W.contents output.new)
+        (settings_text seen.now)) }
+{
     write!(output, " closed={} overflow={}", seen.closed, seen.overflow)?;
     write!(
         output,
         " await={} capacity={}",
         seen.await_active, seen.capacity
     )?;
-    write!(output, " room={} S={{", seen.room)?;
+    write!(output, " room={}", seen.room)
+}
+
+/// The places of pending sends.
+fn write_places<B: Allocator, W: Write>(seen: &Snapshot<u64, B>, output: &mut W) -> io::Result<()>
+    ensures { OnOk result (Appends (W.contents output.old) (W.contents output.new)
+        (places_text seen.now)) }
+{
+    output.write_all(b" S={")?;
     write_list(seen.places.as_slice(), output)?;
-    output.write_all(b"} WS=[")?;
+    output.write_all(b"}")
+}
+
+/// The sends that wait.
+fn write_sends<B: Allocator, W: Write>(seen: &Snapshot<u64, B>, output: &mut W) -> io::Result<()>
+    ensures { OnOk result (Appends (W.contents output.old) (W.contents output.new)
+        (sends_text seen.now)) }
+{
+    output.write_all(b" WS=[")?;
     write_list(seen.waiting_sends.ids.as_slice(), output)?;
-    write!(output, "]/{} WR=[", seen.waiting_sends.told)?;
+    write!(output, "]/{}", seen.waiting_sends.told)
+}
+
+/// The receivers that wait, and the end of the line.
+fn write_receives<B: Allocator, W: Write>(seen: &Snapshot<u64, B>, output: &mut W) -> io::Result<()>
+    ensures { OnOk result (Appends (W.contents output.old) (W.contents output.new)
+        (receives_text seen.now)) }
+{
+    output.write_all(b" WR=[")?;
     write_pairs(seen.waiting_receives.ids.as_slice(), output)?;
     writeln!(output, "]/{}", seen.waiting_receives.told)
 }
 
-/// The numbers of a list, with a comma between two of them.
-fn write_list<T: Display, W: Write>(numbers: &[T], output: &mut W) -> io::Result<()> {
+/// The messages, with a comma between two of them.
+fn write_queue<W: Write>(numbers: &[u64], output: &mut W) -> io::Result<()>
+    ensures { OnOk result (Appends (W.contents output.old) (W.contents output.new)
+        (listed decimal numbers.now)) }
+{
+    let Some((first, others)) = numbers.split_first() else {
+        return Ok(());
+    };
+    write!(output, "{first}")?;
+    for number in others {
+        write!(output, ",{number}")?;
+    }
+    Ok(())
+}
+
+/// The places of a list, with a comma between two of them.
+fn write_list<W: Write>(numbers: &[usize], output: &mut W) -> io::Result<()>
+    ensures { OnOk result (Appends (W.contents output.old) (W.contents output.new)
+        (listed decimal numbers.now)) }
+{
     let Some((first, others)) = numbers.split_first() else {
         return Ok(());
     };
@@ -51,7 +125,10 @@ fn write_list<T: Display, W: Write>(numbers: &[T], output: &mut W) -> io::Result
 }
 
 /// Each receiver's key and cursor.
-fn write_cursors<W: Write>(cursors: &[(usize, u64)], output: &mut W) -> io::Result<()> {
+fn write_cursors<W: Write>(cursors: &[(usize, u64)], output: &mut W) -> io::Result<()>
+    ensures { OnOk result (Appends (W.contents output.old) (W.contents output.new)
+        (listed cursor_text cursors.now)) }
+{
     let Some(((key, cursor), others)) = cursors.split_first() else {
         return Ok(());
     };
@@ -63,7 +140,10 @@ fn write_cursors<W: Write>(cursors: &[(usize, u64)], output: &mut W) -> io::Resu
 }
 
 /// Each receiver's key, and the letter of its kind.
-fn write_pairs<W: Write>(pairs: &[(usize, Kind)], output: &mut W) -> io::Result<()> {
+fn write_pairs<W: Write>(pairs: &[(usize, Kind)], output: &mut W) -> io::Result<()>
+    ensures { OnOk result (Appends (W.contents output.old) (W.contents output.new)
+        (listed pair_text pairs.now)) }
+{
     let Some(((key, kind), others)) = pairs.split_first() else {
         return Ok(());
     };
@@ -75,9 +155,11 @@ fn write_pairs<W: Write>(pairs: &[(usize, Kind)], output: &mut W) -> io::Result<
 }
 
 /// The letter of a stream, or of a future.
-fn letter(kind: Kind) -> char {
+fn letter(kind: Kind) -> &'static str
+    ensures { result.now ≡ letter_of kind }
+{
     match kind {
-        Kind::Stream => 's',
-        Kind::Future => 'f',
+        Kind::Stream => "s",
+        Kind::Future => "f",
     }
 }

@@ -5,7 +5,7 @@ use Rattle.std.proofs.lemmas.List.{get_or_default}
 use Rattle.std.proofs.Transfers.{All-of_StopsAt}
 use Rattle.std.specs.Io.{StopsAt}
 use Rattle.std.specs.Io.KnownBytes.{Consumes, IsAtEnd}
-use Rattle.bcast_text.specs.Lines.{ReadsLines, EndsOrIsLast}
+use Rattle.bcast_text.specs.Lines.{ReadsLines, EndsOrIsLast, BeginsTooLong}
 
 before_lf : (line : List ℕ) → StopsAt (line ++ 10 ∷ []) 10 → All (λ x. x ≢ 10) line
 before_lf line stops =
@@ -49,3 +49,16 @@ none_left (Some x) None text none p last = absurd p
 none_left (Some x) (Some y) text none p (inl (some, ends)) = absurd (omega (arith, none, some))
 none_left (Some x) (Some y) [] none p (inr end) = p ∙ end
 none_left (Some x) (Some y) (z ∷ zs) none p (inr end) = absurd (omega (arith, none))
+
+-- bytes that were consumed, more than there may be, without an LF
+pub long_line : (a b : Option (List ℕ)) (text : List ℕ) (longest : ℕ) → longest < length text → get_or text (length text - 1) 0 ≢ 10
+    → StopsAt text 10 → Consumes a b text → BeginsTooLong longest a
+long_line None b text longest long not stops p = tt
+long_line (Some x) None text longest long not stops p = absurd p
+long_line (Some x) (Some y) text longest long not stops p = (
+  text,
+  y,
+  p,
+  long,
+  All-of_StopsAt text 10 (length text) (get_or text (length text - 1) 0) refl (λ e. omega (arith, e)) (get_or_default text (length text - 1) 0 _ (omega arith)) not stops,
+)

@@ -1,7 +1,7 @@
 -- Runs over lines, one after the other.
-use Rattle.std.proofs.Common.{◌≡◌, ℕ, ◌+◌, List, [], ◌∷◌, ◌++◌, Option, Some, None, length-append, refl, sym, ap, subst, ◌∙◌, arith, append_assoc}
+use Rattle.std.proofs.Common.{◌≡◌, ℕ, ◌+◌, Bool, List, [], ◌∷◌, ◌++◌, Option, Some, None, Result, Ok, Err, OnOk, append-nil, length-append, refl, sym, ap, subst, ◌∙◌, arith, append_assoc}
 use Rattle.std.proofs.KnownBytes.{Appends-nil, Appends-trans, Appends-kept}
-use Rattle.std.specs.Io.KnownBytes.{Keeps}
+use Rattle.std.specs.Io.KnownBytes.{Keeps, Appends}
 use Rattle.bcast_text.specs.Lines.{BeginsWith, ReadsLines}
 use Rattle.bcast_text.specs.Run.{AreAnswered, Answered, IsRun}
 use Rattle.bcast_text.specs.declared.ending.Ending.{Ending}
@@ -20,6 +20,16 @@ reads_both (Some x) (Some y) (Some z) xs ys p q = begins_both x xs ys y z p q
 reads_none : (a : Option (List ℕ)) → ReadsLines a [] a
 reads_none None = tt
 reads_none (Some x) = refl
+
+kept_before : (x y z : Option (List ℕ)) (text : List ℕ) → Keeps x y → Appends y z text → Appends x z text
+kept_before None y z text same wrote = tt
+kept_before (Some a) None z text same wrote = absurd same
+kept_before (Some a) (Some b) None text same wrote = absurd wrote
+kept_before (Some a) (Some b) (Some c) text same wrote = wrote ∙ ap (λ l. l ++ text) same
+
+pub Keeps-same : (x : Option (List ℕ)) → Keeps x x
+Keeps-same None = tt
+Keeps-same (Some a) = refl
 
 module _ {S : Type 0} (answers : S → List ℕ → List ℕ → S → Type 0) where
   answered_both : (s t u : S) (xs ys : List (List ℕ)) (x y : List ℕ) → AreAnswered answers s xs x t → AreAnswered answers t ys y u
@@ -40,15 +50,17 @@ module _ {S : Type 0} (answers : S → List ℕ → List ℕ → S → Type 0) w
     written = Appends-nil before;
   }
 
-  -- no memory for a line
-  pub no_line : (input before : Option (List ℕ)) (s : S) → IsRun answers input before before s s NoMemory
-  no_line input before s = record {
-    left = input;
-    last = s;
-    count = 0;
-    answered = none_yet input before s;
-    done = λ is. absurd (cc);
-    not_a_call = λ number is. absurd (cc);
+  -- the answer to one line
+  pub one_line : {X F : Type 0} (r : Result X F) (a b x y z : Option (List ℕ)) (s t : S) (line : List ℕ) → ReadsLines a (line ∷ []) b → Keeps x y
+      → OnOk r ((answer : List ℕ) × answers s line answer t × Appends y z answer) → OnOk r (Answered answers a b x z s t 1)
+  one_line (Err e) a b x y z s t line read same made = tt
+  one_line (Ok v) a b x y z s t line read same (answer, is, wrote) = record {
+    lines = line ∷ [];
+    count = refl;
+    text = answer;
+    read = read;
+    answered = (t, answer, [], is, (refl, refl), sym (append-nil answer));
+    written = kept_before x y z answer same wrote;
   }
 
   -- one line more
@@ -74,13 +86,25 @@ module _ {S : Type 0} (answers : S → List ℕ → List ℕ → S → Type 0) w
     written = Appends-kept x y z before.text before.written same;
   }
 
+module _ {S : Type 0} {refuses : S → List ℕ → Type 0} {may_be_empty : Bool} {longest : ℕ} (answers : S → List ℕ → List ℕ → S → Type 0) where
+  -- no memory for a line
+  pub no_line : (input before : Option (List ℕ)) (s : S) → IsRun refuses may_be_empty longest answers input before before s s NoMemory
+  no_line input before s = record {
+    left = input;
+    last = s;
+    count = 0;
+    answered = none_yet answers input before s;
+    done = λ is. absurd (cc);
+    not_a_call = λ number is. absurd (cc);
+  }
+
   -- nothing is written after the run
-  pub run_kept : {a x y z : Option (List ℕ)} {s t : S} {e : Ending} → IsRun answers a x y s t e → Keeps y z → IsRun answers a x z s t e
+  pub run_kept : {a x y z : Option (List ℕ)} {s t : S} {e : Ending} → IsRun refuses may_be_empty longest answers a x y s t e → Keeps y z → IsRun refuses may_be_empty longest answers a x z s t e
   run_kept run same = record {
     left = run.left;
     last = run.last;
     count = run.count;
-    answered = nothing_more run.answered same;
+    answered = nothing_more answers run.answered same;
     done = run.done;
     not_a_call = run.not_a_call;
   }

@@ -27,6 +27,13 @@ abbrev pub EndsOrIsLast : List ℕ → Option (List ℕ) → Option (List ℕ) �
 EndsOrIsLast bytes old new =
     ((0 < length bytes) × IsEmptyOrEndsWith bytes 10) ⊎ OnSome old (IsAtEnd new)
 
+-- bytes with more than so many before their first LF
+abbrev pub BeginsTooLong : ℕ → Option (List ℕ) → Type 0
+BeginsTooLong longest None = ⊤
+BeginsTooLong longest (Some bytes) =
+    (front rest : List ℕ) × (bytes ≡ front ++ rest) × (longest < length front)
+    × All (λ byte. byte ≢ 10) front
+
 -- what is not read yet
 abbrev pub unread : {R A : Type 0} → (R → Option (List ℕ)) → Lines R A → Option (List ℕ)
 unread remaining lines = reader_remaining remaining lines.input
@@ -34,3 +41,7 @@ unread remaining lines = reader_remaining remaining lines.input
 -- the line that was read last
 abbrev pub text_of : {R A : Type 0} → Lines R A → List ℕ
 text_of lines = lines.text.items
+
+-- the most bytes that a line may have
+abbrev pub longest_of : {R A : Type 0} → Lines R A → ℕ
+longest_of lines = lines.longest

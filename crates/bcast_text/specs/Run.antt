@@ -1,7 +1,8 @@
 -- The run of a program over the lines of its input.
-use Rattle.std.specs.Prelude.{◌≡◌, ℕ, ◌+◌, List, [], ◌∷◌, ◌++◌, Option, length, ⊤}
+use Rattle.std.specs.Prelude.{◌≡◌, ℕ, ◌+◌, ◌-◌, ◌^◌, ◌≤◌, List, [], ◌∷◌, ◌++◌, Bool, true, false, Option, length, ⊤}
+use Rattle.std.specs.Str.{IsUtf8}
 use Rattle.std.specs.Io.KnownBytes.{Appends, IsAtEnd}
-use Rattle.bcast_text.specs.Lines.{ReadsLines}
+use Rattle.bcast_text.specs.Lines.{ReadsLines, BeginsTooLong}
 use Rattle.bcast_text.specs.declared.ending.Ending.{Ending}
 use Rattle.bcast_text.specs.declared.ending.Ending.TheVariants.{Done, NotACall}
 
@@ -24,17 +25,34 @@ module _ {S : Type 0} (answers : S → List ℕ → List ℕ → S → Type 0) w
     pub answered : AreAnswered old lines text new
     pub written : Appends before after text
 
+module _ {S : Type 0} (refuses : S → List ℕ → Type 0) (may_be_empty : Bool) (longest : ℕ) where
+  -- why what is left of an input does not begin with a call, in this state, as line of this number
+  pub data IsRefused (left : Option (List ℕ)) (old : S) (number : ℕ) : Type 0 where
+    -- there is no line, and there must be one
+    no_line : IsAtEnd left → number ≤ 1 → may_be_empty ≡ false → IsRefused left old number
+    -- it is too long
+    too_long : BeginsTooLong longest left → IsRefused left old number
+    -- it is no text
+    no_text : (line : List ℕ) (rest : Option (List ℕ)) → ReadsLines left (line ∷ []) rest
+        → (IsUtf8 line → ⊥) → IsRefused left old number
+    -- the program refuses it
+    no_call : (line : List ℕ) (rest : Option (List ℕ)) → ReadsLines left (line ∷ []) rest
+        → refuses old line → IsRefused left old number
+    -- no line of this number is run
+    last : number ≡ 2 ^ 64 - 1 → IsRefused left old number
+
   -- a run that ended so, unless a write failed: what was written are the answers to the lines that
   -- were read; these are all lines if it is done, and those before the line that is no call
   pub record IsRun
-      (input : Option (List ℕ)) (before after : Option (List ℕ)) (old new : S) (ending : Ending)
-      : Type 0 where
+      (answers : S → List ℕ → List ℕ → S → Type 0) (input : Option (List ℕ))
+      (before after : Option (List ℕ)) (old new : S) (ending : Ending) : Type 0 where
     pub left : Option (List ℕ)
     pub last : S
     pub count : ℕ
-    pub answered : Answered input left before after old last count
-    pub done : ending ≡ Done → IsAtEnd left × (new ≡ last)
-    pub not_a_call : (number : ℕ) → ending ≡ NotACall number → number ≡ count + 1
+    pub answered : Answered answers input left before after old last count
+    pub done : ending ≡ Done → IsAtEnd left × (new ≡ last) × (count ≡ 0 → may_be_empty ≡ true)
+    pub not_a_call : (number : ℕ) → ending ≡ NotACall number
+        → (number ≡ count + 1) × IsRefused left last number
 
 -- an ending that names a line names this one
 abbrev pub IsNumbered : ℕ → Ending → Type 0

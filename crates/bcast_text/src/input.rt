@@ -1,8 +1,9 @@
 //! The run of a program over the lines of its input.
-ghost use Rattle.std.specs.Prelude.{◌≡◌, ◌≢◌, ◌⊎◌, ℕ, List, Err, OnOk, IfErr};
+ghost use Rattle.std.specs.Prelude.{◌≡◌, ◌≢◌, ◌≤◌, ◌⊎◌, ℕ, List, Bool, true, Err, OnOk, IfErr};
+ghost use Rattle.std.specs.Str.{IsUtf8};
 ghost use Rattle.std.specs.Io.KnownBytes.{Appends, Keeps, IsAtEnd};
-ghost use Rattle.bcast_text.specs.Lines.{unread};
-ghost use Rattle.bcast_text.specs.Run.{Answered, IsRun, IsNumbered};
+ghost use Rattle.bcast_text.specs.Lines.{unread, longest_of};
+ghost use Rattle.bcast_text.specs.Run.{Answered, IsRun, IsRefused, IsNumbered};
 
 use crate::ending::Ending;
 use crate::lines::{Found, Lines};
@@ -53,6 +54,11 @@ pub trait RunLine {
     // In the first state, the line is answered by the text, and leads to the second state.
     ghost answers: { State → List ℕ → List ℕ → State → Type 0 };
 
+    // In this state, the line is no call.
+    ghost refuses: { State → List ℕ → Type 0 };
+
+    ghost MAY_BE_EMPTY: { Bool };
+
     /// Whether an input without a line is done. Else it has a fault in line 1.
     const MAY_BE_EMPTY: bool;
 
@@ -67,7 +73,8 @@ pub trait RunLine {
             × answers (state self.old) line.now text (state self.new)
             × Appends (W.contents output.old) (W.contents output.new) text) }
         ensures unwritten { (result ≡ Err Fault.NotACall) ⊎ (result ≡ Err Fault.NoMemory)
-            → output.new ≡ output.old };
+            → output.new ≡ output.old }
+        ensures refused { result ≡ Err Fault.NotACall → refuses (state self.old) line.now };
 }
 
 /// Runs each line of `input`, of at most `longest` bytes, on `program`.
@@ -87,7 +94,8 @@ where
     R: Read + Drop,
     W: Write,
     P: RunLine,
-    ensures { result ≢ Ending.OutputFailed → IsRun P.answers (R.remaining input)
+    ensures { result ≢ Ending.OutputFailed
+        → IsRun P.refuses P.MAY_BE_EMPTY longest P.answers (R.remaining input)
         (W.contents output.old) (W.contents output.new)
         (P.state program.old) (P.state program.new) result }
 {
@@ -109,8 +117,9 @@ where
     R: Read + Drop,
     W: Write,
     P: RunLine,
-    ensures { result ≢ Ending.OutputFailed → IsRun P.answers (unread R.remaining lines.old)
-        (W.contents output.old) (W.contents output.new)
+    ensures { result ≢ Ending.OutputFailed
+        → IsRun P.refuses P.MAY_BE_EMPTY (longest_of lines.old) P.answers
+        (unread R.remaining lines.old) (W.contents output.old) (W.contents output.new)
         (P.state program.old) (P.state program.new) result }
 {
     let mut number = 1;
@@ -142,8 +151,12 @@ where
     ensures unwritten { IfErr result (λ ending. ending ≢ Ending.OutputFailed
         → Keeps (W.contents output.old) (W.contents output.new)) }
     ensures done { result ≡ Err Ending.Done → IsAtEnd (unread R.remaining lines.old)
-        × (program.new ≡ program.old) }
+        × (program.new ≡ program.old) × (number ≤ 1 → P.MAY_BE_EMPTY ≡ true) }
     ensures not_a_call { IfErr result (IsNumbered number) }
+    ensures refused { (line : ℕ) → result ≡ Err (Ending.NotACall line)
+        → IsRefused P.refuses P.MAY_BE_EMPTY (longest_of lines.old)
+        (unread R.remaining lines.old) (P.state program.old) number }
+    ensures longest { longest_of lines.new ≡ longest_of lines.old }
 {
     if !lines.is_ahead() && output.flush().is_err() {
         return Err(Ending::OutputFailed);
@@ -154,7 +167,27 @@ where
         Ok(Found::End | Found::TooLong) => return Err(Ending::NotACall(number)),
         Ok(Found::Line) => {}
     }
-    let Ok(line) = str::from_utf8(lines.text()) else {
+    run_text(number, lines.text(), output, program)
+}
+
+/// Runs a line of this number, or says how the run ends.
+fn run_text<W: Write, P: RunLine>(
+    number: u64,
+    text: &[u8],
+    output: &mut W,
+    program: &mut P,
+) -> Result<(), Ending>
+    ensures ok { OnOk result ((answer : List ℕ)
+        × P.answers (P.state program.old) text.now answer (P.state program.new)
+        × Appends (W.contents output.old) (W.contents output.new) answer) }
+    ensures unwritten { IfErr result (λ ending. ending ≢ Ending.OutputFailed
+        → output.new ≡ output.old) }
+    ensures not_done { result ≢ Err Ending.Done }
+    ensures not_a_call { IfErr result (IsNumbered number) }
+    ensures refused { (line : ℕ) → result ≡ Err (Ending.NotACall line)
+        → (IsUtf8 text.now → ⊥) ⊎ P.refuses (P.state program.old) text.now }
+{
+    let Ok(line) = str::from_utf8(text) else {
         return Err(Ending::NotACall(number));
     };
     match program.run_line(line, output) {

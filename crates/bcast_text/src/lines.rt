@@ -2,7 +2,7 @@
 ghost use Rattle.std.specs.Prelude.{◌≡◌, ◌≢◌, ◌<◌, ◌≤◌, ◌-◌, [], ◌∷◌, Ok, true, false, length, take, All, IfOk, OnOk, OnSome, IsTrue, ◌↔◌, slice_index};
 ghost use Rattle.std.specs.Io.{StartsWith, StopsAt, IsEmptyOrEndsWith, appended_bytes};
 ghost use Rattle.std.specs.Io.KnownBytes.{Consumes, IsAtEnd};
-ghost use Rattle.bcast_text.specs.Lines.{ReadsLines, EndsOrIsLast, unread, text_of};
+ghost use Rattle.bcast_text.specs.Lines.{ReadsLines, EndsOrIsLast, BeginsTooLong, unread, text_of, longest_of};
 
 use std::alloc::{AllocError, Allocator, Global};
 use std::io;
@@ -37,7 +37,8 @@ impl<R: Read + Drop, A: Allocator + Clone> Lines<R, A> {
     ///
     /// - `AllocError`: there is no memory for a line and what is read ahead.
     pub fn new(alloc: A, input: R, longest: u32) -> Result<Self, AllocError>
-        ensures { IfOk result (λ lines. unread R.remaining lines ≡ R.remaining input) }
+        ensures unread { IfOk result (λ lines. unread R.remaining lines ≡ R.remaining input) }
+        ensures longest { IfOk result (λ lines. longest_of lines ≡ longest) }
     {
         let text = Vec::with_capacity(alloc.clone()?, longest as usize + 1)?;
         match BufReader::new(alloc, input) {
@@ -71,6 +72,9 @@ impl<R: Read + Drop, A: Allocator + Clone> Lines<R, A> {
         ensures line { result ≡ Ok Found.Line → ReadsLines (unread R.remaining self.old)
             (text_of self.new ∷ []) (unread R.remaining self.new) }
         ensures end { result ≡ Ok Found.End → IsAtEnd (unread R.remaining self.old) }
+        ensures too_long { result ≡ Ok Found.TooLong
+            → BeginsTooLong (longest_of self.old) (unread R.remaining self.old) }
+        ensures longest { longest_of self.new ≡ longest_of self.old }
     {
         self.text.clear();
         let most = self.longest as usize + 1;

@@ -1,10 +1,10 @@
 //! The followers of topics by name, and the requests that lines ask for.
-ghost use Rattle.std.specs.Prelude.{◌≡◌, ℕ, List, Some, None, IfOk, OnOk, string_bytes};
+ghost use Rattle.std.specs.Prelude.{◌≡◌, ℕ, List, Some, None, Err, IfOk, OnOk, string_bytes};
 ghost use Rattle.std.specs.Map.{update};
 ghost use Rattle.std.specs.Str.{bytes_eq};
 ghost use Rattle.topics.specs.Request.{OpensPositive};
 ghost use Rattle.bcast_play.specs.TopicsLine.{IsInForm};
-ghost use Rattle.bcast_play.specs.TopicsRun.{IsRequest, names_after};
+ghost use Rattle.bcast_play.specs.TopicsRun.{IsRequest, IsAboutNobody, names_after};
 ghost use Rattle.bcast_play.specs.TopicsShown.{follower_of};
 
 use super::line::Line;
@@ -40,6 +40,8 @@ pub fn request_by<A: Allocator + Copy>(
     requires { IsInForm line }
     ensures request { IfOk result (IsRequest (follower_of followers.now) line.entry) }
     ensures positive { IfOk result OpensPositive }
+    ensures refused { result ≡ Err Fault.NotACall
+        → IsAboutNobody (follower_of followers.now) line.entry }
 {
     match line {
         Line::Open(topic, capacity) => {
@@ -71,8 +73,9 @@ fn known<A: Allocator + Copy>(
     followers: &Followers<A>,
     name: &str,
 ) -> Result<(String<A>, usize), Fault>
-    ensures { IfOk result (λ found. follower_of followers.now name.now
+    ensures found { IfOk result (λ found. follower_of followers.now name.now
         ≡ Some (record { topic = string_bytes found.0; key = found.1 })) }
+    ensures refused { result ≡ Err Fault.NotACall → follower_of followers.now name.now ≡ None }
 {
     let follower = followers.get(name).ok_or(Fault::NotACall)?;
     let topic = String::from_str(alloc, follower.topic.as_str())?;

@@ -1,16 +1,17 @@
 -- Each line that is run adds its answer.
-use Rattle.std.proofs.Common.{arith, ◌≡◌, ◌-◌, Err, ap, subst}
-use Rattle.bcast_text.specs.Lines.{unread}
-use Rattle.bcast_text.specs.Run.{IsNumbered}
+use Rattle.std.proofs.Common.{arith, ◌≡◌, ◌-◌, Err, ap, subst, sym, ◌∙◌, refl}
+use Rattle.bcast_text.specs.Lines.{unread, longest_of}
+use Rattle.bcast_text.specs.Run.{IsNumbered, IsRefused}
 use Rattle.bcast_text.proofs.Runs.{none_yet, one_more, nothing_more}
 use Rattle.bcast_text.proofs.input.each_line.Goals as goal
 
 pub loop-number-init : goal.loop-number-init
-loop-number-init g c = record { some = omega arith; answered = none_yet g.P.RunLine.answers _ _ _ }
+loop-number-init g c = record { some = omega arith; longest = refl; answered = none_yet g.P.RunLine.answers _ _ _ }
 
 pub loop-number-preserved : goal.loop-number-preserved
 loop-number-preserved g c = record {
   some = omega arith;
+  longest = c.in-Ok.ensures.longest ∙ c.loop-number.invariant.longest;
   answered = one_more g.P.RunLine.answers c.loop-number.invariant.answered c.in-Ok.ensures.ok _ (omega (arith, c.loop-number.invariant.some));
 }
 
@@ -22,8 +23,12 @@ returns-in-Err g c written = record {
   answered = nothing_more g.P.RunLine.answers c.loop-number.invariant.answered (c.in-Err.ensures.unwritten written);
   done = λ is.
       let ended = c.in-Err.ensures.done (ap Err is) in
-      (ended.0, ap g.P.RunLine.state ended.1);
+      (ended.0, ap g.P.RunLine.state ended.1, λ none. ended.2 (omega (arith, none)));
   not_a_call = λ number is.
       let same : number ≡ c.loop-number.number = subst (IsNumbered c.loop-number.number) is c.in-Err.ensures.not_a_call in
-      omega (arith, same, c.loop-number.invariant.some);
+      let why = c.in-Err.ensures.refused number (ap Err is) in (
+        omega (arith, same, c.loop-number.invariant.some),
+        subst (λ n. IsRefused g.P.RunLine.refuses g.P.RunLine.MAY_BE_EMPTY n (unread g.R.Read.remaining c.loop-number.lines) (g.P.RunLine.state c.loop-number.program) number) c.loop-number.invariant.longest
+            (subst (λ n. IsRefused g.P.RunLine.refuses g.P.RunLine.MAY_BE_EMPTY (longest_of c.loop-number.lines) (unread g.R.Read.remaining c.loop-number.lines) (g.P.RunLine.state c.loop-number.program) n) (sym same) why),
+      );
 }

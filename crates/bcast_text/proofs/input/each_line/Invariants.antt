@@ -1,12 +1,13 @@
 -- The lines so far are answered.
-use Rattle.std.proofs.Common.{◌-◌, ◌<◌}
-use Rattle.bcast_text.specs.Lines.{unread}
+use Rattle.std.proofs.Common.{◌≡◌, ◌-◌, ◌<◌}
+use Rattle.bcast_text.specs.Lines.{unread, longest_of}
 use Rattle.bcast_text.specs.Run.{Answered}
 use Rattle.bcast_text.proofs.input.each_line.Given as goal
 
 abbrev pub invariant-loop-number : goal.invariant-loop-number
 invariant-loop-number g l = record {
   some : 0 < l.number;
+  longest : longest_of l.lines ≡ longest_of l.initial.lines;
   answered : Answered g.P.RunLine.answers
       (unread g.R.Read.remaining l.initial.lines) (unread g.R.Read.remaining l.lines)
       (g.W.Write.contents l.initial.output) (g.W.Write.contents l.output)

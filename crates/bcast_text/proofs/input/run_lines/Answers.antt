@@ -7,4 +7,4 @@ returns-in_default g c _ = no_line g.P.RunLine.answers _ _ _
 
 pub returns : goal.returns
 returns g c written =
-    run_kept g.P.RunLine.answers (rw c.in-Ok.ensures at (c.each_line-ending.ensures written)) c.flush.ensures.bytes
+    run_kept g.P.RunLine.answers (rw (c.in-Ok.ensures.unread, c.in-Ok.ensures.longest) at (c.each_line-ending.ensures written)) c.flush.ensures.bytes

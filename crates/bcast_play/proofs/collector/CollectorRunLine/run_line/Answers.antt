@@ -1,10 +1,11 @@
 -- A call is added.
 use Rattle.std.proofs.Common.{rules, ◌≡◌, [], Some, IfSome, inl, refl, subst, true}
+use Rattle.std.specs.Prelude.{IsNone}
 use Rattle.std.proofs.KnownBytes.{Appends-nil}
 use Rattle.std.specs.Option.{is_some}
 use Rattle.bcast_text.specs.declared.trace.line.Line.TheVariants as lines
 use Rattle.bcast_text.specs.TraceLine.{ReadsAs}
-use Rattle.bcast_play.proofs.Lists.{read_on}
+use Rattle.bcast_play.proofs.Lists.{read_on, refused_on}
 use Rattle.bcast_play.proofs.collector.CollectorRunLine.run_line.Goals as goal
 
 pub returns-in_ok-push-in-Call-clause-ok : goal.returns-in_ok-push-in-Call-clause-ok
@@ -27,3 +28,9 @@ returns-in_ok-push-in-Call-clause-ok g c =
       ),
       Appends-nil _,
     )
+
+pub returns-in_err-ok_or-2-clause-refused : goal.returns-in_err-ok_or-2-clause-refused
+returns-in_err-ok_or-2-clause-refused g c _ =
+    let none : IsNone c.read_line.result = search rules in
+    let opened : is_some c.args.self.now.opening ≡ true = search rules in
+    refused_on c.args.self.now.opening opened _ (c.read_line.ensures.no_view none, c.read_line.ensures.no_call none)

@@ -1,7 +1,9 @@
 -- The answer to the line's request is written.
-use Rattle.std.proofs.Common.{◌++◌, ◌∷◌, [], refl}
+use Rattle.std.proofs.Common.{◌++◌, ◌∷◌, [], inr, refl, is_some, subst}
 use Rattle.bcast_play.specs.TopicsRun.{answer_of}
-use Rattle.bcast_play.proofs.TopicsLemmas.{written}
+use Rattle.bcast_play.proofs.TopicsLemmas.{written, named_answer}
+use Rattle.topics.specs.Request.{IsAnswerTo, name_of, call_of}
+use Rattle.topics.specs.Hub.{topic_of}
 use Rattle.bcast_play.proofs.hub.HubSession.run.Goals as goal
 
 pub returns-clause-ok : goal.returns-clause-ok
@@ -20,3 +22,13 @@ returns-clause-ok g c =
       },
       wrote,
     ))
+
+pub returns-clause-refused : goal.returns-clause-refused
+returns-clause-refused g c is =
+    let asked = c.in_ok-request.request in
+    let is_open = is_some (topic_of c.args.self.now.hub (name_of asked)) in
+    inr (record {
+      request = asked;
+      is_asked = c.in_ok-request.ensures.request;
+      misnamed = λ named. named_answer is_open (call_of asked) (subst (IsAnswerTo is_open (call_of asked)) (c.answer.ensures.not_a_call.0 is) (c.ask-answered.ensures.answer.named named));
+    })
