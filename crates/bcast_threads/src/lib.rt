@@ -2,6 +2,7 @@
 #![tactic(auto)]
 
 mod fault;
+mod group;
 pub mod plan;
 mod started;
 pub mod work;

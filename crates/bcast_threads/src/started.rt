@@ -1,25 +1,23 @@
 //! The threads of a run: started over one channel, and joined.
-ghost use Rattle.std.specs.Prelude.{◌≡◌, ◌+◌, ◌<◌, ◌≤◌, Ok, IfOk, OnOk, [], length, map, vec_len, vec_capacity};
+ghost use Rattle.std.specs.Prelude.{◌≡◌, ◌+◌, ◌<◌, ◌≤◌, Ok, IfOk, IfErr, OnOk, length, map, vec_len, vec_capacity};
+ghost use Rattle.bcast_threads.specs.Given.{WasClosed};
 
 use crate::fault::Fault;
+use crate::group::Group;
 use crate::plan::Plan;
-use crate::work::{List, Receiving, Sending, receive_all, send_all};
-use async_broadcast::broadcast;
+use crate::work::{List, receive_all, send_all};
+use async_broadcast::{Port, Receiver, Sender, WakerSlot, broadcast};
 use std::alloc::{AllocError, Global};
 use std::sync::Wait;
-use std::thread::{Builder, JoinHandle, Threads};
+use std::thread::Threads;
 
 /// How many messages the channel keeps at once.
 const CAPACITY: usize = 16;
 
 /// The threads that were started. It can't be dropped: they are to be joined.
-struct Started<T> {
-    senders: Vec<JoinHandle<()>>,
-    receivers: Vec<JoinHandle<T>>,
-    // For what the receivers' threads return, so that joining them takes no memory.
-    returned: Vec<T>,
-    ghost room: { vec_capacity receivers ≤ vec_capacity returned },
-    ghost none: { returned.items ≡ [] },
+struct Started {
+    senders: Group<()>,
+    receivers: Group<List>,
 }
 
 /// Runs the plan's threads to their end, and returns what each receiver received.
@@ -44,64 +42,81 @@ pub(crate) fn lists_of<R: Threads + Wait + Clone + Send + 'static>(
     Ok(all_of(alloc, lists)?)
 }
 
-impl<T: Drop> Started<T> {
+impl Started {
     /// No threads yet, and room for those of the plan.
     fn with_room(alloc: Global, plan: Plan) -> Result<Self, AllocError>
-        ensures none { IfOk result (λ started. (vec_len started.senders ≡ 0)
-            × (vec_len started.receivers ≡ 0)) }
-        ensures senders { IfOk result (λ started. vec_capacity started.senders ≡ plan.senders) }
-        ensures receivers { IfOk result (λ started. vec_capacity started.receivers
-            ≡ plan.receivers) }
+        ensures none { IfOk result (λ started. (vec_len started.senders.running ≡ 0)
+            × (vec_len started.receivers.running ≡ 0)) }
+        ensures senders { IfOk result (λ started.
+            vec_capacity started.senders.running ≡ plan.senders) }
+        ensures receivers { IfOk result (λ started.
+            vec_capacity started.receivers.running ≡ plan.receivers) }
     {
         let senders = Vec::with_capacity(alloc, plan.senders as usize)?;
+        let sent = Vec::with_capacity(alloc, plan.senders as usize)?;
         let receivers = Vec::with_capacity(alloc, plan.receivers as usize)?;
-        let returned = Vec::with_capacity(alloc, plan.receivers as usize)?;
+        let received = Vec::with_capacity(alloc, plan.receivers as usize)?;
         Ok(Started {
-            senders,
-            receivers,
-            returned,
+            senders: Group {
+                running: senders,
+                returned: sent,
+            },
+            receivers: Group {
+                running: receivers,
+                returned: received,
+            },
         })
     }
 
     /// Waits for all threads, and returns what those of the receivers returned.
-    ///
-    /// It is of any type `T`, so that it can neither make nor copy what a thread returned.
-    fn join<R: Threads>(self, rt: &R) -> Vec<T>
-        ensures { length result.items ≡ vec_len self.receivers }
+    fn join<R: Threads>(self, rt: &R) -> Vec<List>
+        ensures { length result.items ≡ vec_len self.receivers.running }
     {
-        let Started {
-            senders,
-            mut receivers,
-            mut returned,
-        } = self;
-        for sender in senders {
-            sender.join(rt);
-        }
-        while let Some(receiver) = receivers.pop() {
-            returned.push_reserved(receiver.join(rt));
-        }
-        returned
+        let Started { senders, receivers } = self;
+        senders.join(rt);
+        receivers.join(rt)
     }
-}
 
-impl Started<List> {
-    /// Starts the plan's threads. If that fails, it closes their channel.
+    /// Starts the plan's threads over a new channel.
     fn start<R: Threads + Wait + Clone + Send + 'static>(
         &mut self,
         rt: &R,
         alloc: Global,
         plan: Plan,
     ) -> Result<(), Fault>
-        requires senders { vec_len self.old.senders + plan.senders ≤ vec_capacity self.old.senders }
-        requires receivers { vec_len self.old.receivers + plan.receivers
-            ≤ vec_capacity self.old.receivers }
-        ensures senders { OnOk result (vec_len self.new.senders
-            ≡ vec_len self.old.senders + plan.senders) }
-        ensures receivers { OnOk result (vec_len self.new.receivers
-            ≡ vec_len self.old.receivers + plan.receivers) }
+        requires senders { vec_len self.old.senders.running + plan.senders
+            ≤ vec_capacity self.old.senders.running }
+        requires receivers { vec_len self.old.receivers.running + plan.receivers
+            ≤ vec_capacity self.old.receivers.running }
+        ensures senders { OnOk result (vec_len self.new.senders.running
+            ≡ vec_len self.old.senders.running + plan.senders) }
+        ensures receivers { OnOk result (vec_len self.new.receivers.running
+            ≡ vec_len self.old.receivers.running + plan.receivers) }
     {
         let (sender, receiver) = broadcast(rt.clone()?, alloc, CAPACITY)?;
         let receivers = clones_of(alloc, receiver, plan.receivers)?;
+        self.start_over(rt, alloc, plan, sender, receivers)
+    }
+
+    /// Starts the plan's threads over these handles. If that fails, it closes their channel.
+    fn start_over<R: Threads, P: Port<u64, WakerSlot> + Send + 'static>(
+        &mut self,
+        rt: &R,
+        alloc: Global,
+        plan: Plan,
+        sender: Sender<u64, P>,
+        receivers: Vec<Receiver<u64, P>>,
+    ) -> Result<(), Fault>
+        requires senders { vec_len self.old.senders.running + plan.senders
+            ≤ vec_capacity self.old.senders.running }
+        requires receivers { vec_len self.old.receivers.running + vec_len receivers
+            ≤ vec_capacity self.old.receivers.running }
+        ensures senders { OnOk result (vec_len self.new.senders.running
+            ≡ vec_len self.old.senders.running + plan.senders) }
+        ensures receivers { OnOk result (vec_len self.new.receivers.running
+            ≡ vec_len self.old.receivers.running + vec_len receivers) }
+        ensures closed { IfErr result (λ _. WasClosed (P.gave sender.port)) }
+    {
         let mut started = self.start_receivers(rt, alloc, plan, receivers);
         if started.is_ok() {
             started = self.start_senders(rt, plan, &sender);
@@ -112,80 +127,50 @@ impl Started<List> {
         started
     }
 
-    fn start_receivers<R: Threads + Wait + Clone + Send + 'static>(
+    fn start_receivers<R: Threads, P: Port<u64, WakerSlot> + Send + 'static>(
         &mut self,
         rt: &R,
         alloc: Global,
         plan: Plan,
-        mut receivers: Vec<Receiving<R>>,
+        mut receivers: Vec<Receiver<u64, P>>,
     ) -> Result<(), Fault>
-        requires { vec_len self.old.receivers + vec_len receivers ≤ vec_capacity self.old.receivers }
-        ensures started { OnOk result (vec_len self.new.receivers
-            ≡ vec_len self.old.receivers + vec_len receivers) }
-        ensures senders { self.new.senders ≡ self.old.senders }
-    {
-        while let Some(receiver) = receivers.pop() {
-            self.start_receiver(rt, alloc, plan, receiver)?;
-        }
-        Ok(())
-    }
-
-    fn start_senders<R: Threads + Wait + Clone + Send + 'static>(
-        &mut self,
-        rt: &R,
-        plan: Plan,
-        sender: &Sending<R>,
-    ) -> Result<(), Fault>
-        requires { vec_len self.old.senders + plan.senders ≤ vec_capacity self.old.senders }
-        ensures started { OnOk result (vec_len self.new.senders
-            ≡ vec_len self.old.senders + plan.senders) }
-        ensures receivers { self.new.receivers ≡ self.old.receivers }
-    {
-        for number in 0..plan.senders {
-            self.start_sender(rt, plan, number, sender.clone()?)?;
-        }
-        Ok(())
-    }
-
-    fn start_receiver<R: Threads + Wait + Clone + Send + 'static>(
-        &mut self,
-        rt: &R,
-        alloc: Global,
-        plan: Plan,
-        receiver: Receiving<R>,
-    ) -> Result<(), Fault>
-        requires { vec_len self.old.receivers < vec_capacity self.old.receivers }
-        ensures started { OnOk result (vec_len self.new.receivers
-            ≡ vec_len self.old.receivers + 1) }
-        ensures room { vec_capacity self.new.receivers ≡ vec_capacity self.old.receivers }
+        requires { vec_len self.old.receivers.running + vec_len receivers
+            ≤ vec_capacity self.old.receivers.running }
+        ensures started { OnOk result (vec_len self.new.receivers.running
+            ≡ vec_len self.old.receivers.running + vec_len receivers) }
         ensures senders { self.new.senders ≡ self.old.senders }
     {
         let total = plan.senders.saturating_mul(plan.messages) as usize;
-        let thread = Builder::new()
-            .stack_size(plan.receiver_stack)
-            .spawn(rt, move || receive_all(alloc, receiver, total))?;
-        self.receivers.push_reserved(thread);
+        while let Some(receiver) = receivers.pop() {
+            self.receivers.start(rt, plan.receiver_stack, move || {
+                receive_all(alloc, receiver, total)
+            })?;
+        }
         Ok(())
     }
 
-    fn start_sender<R: Threads + Wait + Clone + Send + 'static>(
+    fn start_senders<R: Threads, P: Port<u64, WakerSlot> + Send + 'static>(
         &mut self,
         rt: &R,
         plan: Plan,
-        number: u64,
-        sender: Sending<R>,
+        sender: &Sender<u64, P>,
     ) -> Result<(), Fault>
-        requires { vec_len self.old.senders < vec_capacity self.old.senders }
-        ensures started { OnOk result (vec_len self.new.senders ≡ vec_len self.old.senders + 1) }
-        ensures room { vec_capacity self.new.senders ≡ vec_capacity self.old.senders }
+        requires { vec_len self.old.senders.running + plan.senders
+            ≤ vec_capacity self.old.senders.running }
+        ensures started { OnOk result (vec_len self.new.senders.running
+            ≡ vec_len self.old.senders.running + plan.senders) }
         ensures receivers { self.new.receivers ≡ self.old.receivers }
     {
         let count = plan.messages;
-        let first = number.saturating_mul(count);
-        let thread = Builder::new()
-            .stack_size(plan.sender_stack)
-            .spawn(rt, move || send_all(sender, first, count))?;
-        self.senders.push_reserved(thread);
+        for number in 0..plan.senders {
+            let sender = sender.clone()?;
+            let first = number.saturating_mul(count);
+            self.senders.start(
+                rt,
+                plan.sender_stack,
+                move || send_all(sender, first, count),
+            )?;
+        }
         Ok(())
     }
 }
@@ -202,11 +187,11 @@ fn all_of(alloc: Global, lists: Vec<List>) -> Result<Vec<Vec<u64>>, AllocError>
 }
 
 /// So many clones of a receiver.
-fn clones_of<R: Wait + Clone>(
+fn clones_of<P: Port<u64, WakerSlot>>(
     alloc: Global,
-    receiver: Receiving<R>,
+    receiver: Receiver<u64, P>,
     count: u64,
-) -> Result<Vec<Receiving<R>>, Fault>
+) -> Result<Vec<Receiver<u64, P>>, Fault>
     ensures { IfOk result (λ receivers. vec_len receivers ≡ count) }
 {
     let mut receivers = Vec::new(alloc);

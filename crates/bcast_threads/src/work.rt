@@ -1,19 +1,15 @@
 //! What each thread does with its handle.
-use async_broadcast::{Lock, Receiver, Sender};
+ghost use Rattle.std.specs.Prelude.{◌≡◌, IfOk, IfErr};
+ghost use Rattle.bcast_threads.specs.Given.{WereReceived, HasEnded, WasClosed};
+
+use async_broadcast::{Port, Receiver, Sender, WakerSlot};
 use std::alloc::{AllocError, Allocator, Global};
-use std::sync::Wait;
-
-/// The sender of a thread.
-pub type Sending<R> = Sender<u64, Lock<u64, R>>;
-
-/// The receiver of a thread.
-pub type Receiving<R> = Receiver<u64, Lock<u64, R>>;
 
 /// What a receiver received, in order.
 pub type List<A = Global> = Result<Vec<u64, A>, AllocError>;
 
 /// Sends `count` numbers from `first` on, in rising order, unless the channel is closed before.
-pub fn send_all<R: Wait + Clone>(sender: Sending<R>, first: u64, count: u64) {
+pub fn send_all<P: Port<u64, WakerSlot>>(sender: Sender<u64, P>, first: u64, count: u64) {
     for msg in first..first.saturating_add(count) {
         if sender.broadcast_blocking(msg).is_err() {
             break;
@@ -25,11 +21,16 @@ pub fn send_all<R: Wait + Clone>(sender: Sending<R>, first: u64, count: u64) {
 /// channel is closed.
 ///
 /// Memory for `count` messages is taken before the first one is received.
-pub fn receive_all<R: Wait + Clone, A: Allocator>(
+pub fn receive_all<P: Port<u64, WakerSlot>, A: Allocator>(
     alloc: A,
-    mut receiver: Receiving<R>,
+    mut receiver: Receiver<u64, P>,
     count: usize,
-) -> List<A> {
+) -> List<A>
+    ensures received { IfOk result (λ list. WereReceived (P.gave receiver.port) receiver.key
+        list.items) }
+    ensures ended { IfOk result (λ _. HasEnded (P.gave receiver.port) receiver.key) }
+    ensures closed { IfErr result (λ _. WasClosed (P.gave receiver.port)) }
+{
     let list = received(alloc, &mut receiver, count);
     if list.is_err() {
         receiver.close();
@@ -37,17 +38,23 @@ pub fn receive_all<R: Wait + Clone, A: Allocator>(
     list
 }
 
-fn received<R: Wait + Clone, A: Allocator>(
+fn received<P: Port<u64, WakerSlot>, A: Allocator>(
     alloc: A,
-    receiver: &mut Receiving<R>,
+    receiver: &mut Receiver<u64, P>,
     count: usize,
-) -> List<A> {
+) -> List<A>
+    ensures received { IfOk result (λ list. WereReceived (P.gave receiver.old.port)
+        receiver.old.key list.items) }
+    ensures ended { IfOk result (λ _. HasEnded (P.gave receiver.old.port) receiver.old.key) }
+    ensures same { receiver.new ≡ receiver.old }
+{
     let mut list = Vec::with_capacity(alloc, count)?;
     for _ in 0..u64::MAX {
         match receiver.recv_blocking()? {
             Ok(msg) => list.push(msg)?,
-            Err(_) => break,
+            Err(_) => return Ok(list),
         }
     }
-    Ok(list)
+    // No list is that long.
+    unreachable!()
 }

@@ -1,12 +1,12 @@
 -- Each receiver has its thread, or is still to have one.
 use Rattle.std.proofs.Common.{◌≡◌, ◌+◌, vec_len, vec_capacity}
-use Rattle.bcast_threads.proofs.started.Started+List.start_receivers.Given as goal
+use Rattle.bcast_threads.proofs.started.Started.start_receivers.Given as goal
 
 abbrev pub invariant-loop-receiver : goal.invariant-loop-receiver
 invariant-loop-receiver g l = record {
-  count : vec_len l.self.receivers + vec_len l.receivers
-      ≡ vec_len l.initial.self.receivers + vec_len l.initial.receivers;
-  room : vec_capacity l.self.receivers ≡ vec_capacity l.initial.self.receivers;
+  count : vec_len l.self.receivers.running + vec_len l.receivers
+      ≡ vec_len l.initial.self.receivers.running + vec_len l.initial.receivers;
+  room : vec_capacity l.self.receivers.running ≡ vec_capacity l.initial.self.receivers.running;
   senders : l.self.senders ≡ l.initial.self.senders;
 }
 

@@ -1,0 +1,2 @@
+-- what a port gave
+pub mod Given

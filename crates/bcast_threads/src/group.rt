@@ -1,0 +1,49 @@
+//! Threads that are started one by one, and joined together.
+ghost use Rattle.std.specs.Prelude.{◌≡◌, ◌+◌, ◌<◌, ◌≤◌, [], IfOk, OnOk, length, vec_len, vec_capacity};
+
+use std::io;
+use std::thread::{Builder, JoinHandle, Threads};
+
+/// Threads that were started. It can't be dropped: they are to be joined.
+pub(crate) struct Group<T> {
+    pub(crate) running: Vec<JoinHandle<T>>,
+    // For what they return, so that joining them takes no memory.
+    pub(crate) returned: Vec<T>,
+    ghost room: { vec_capacity running ≤ vec_capacity returned },
+    ghost none: { returned.items ≡ [] },
+}
+
+impl<T: Send + Drop + 'static> Group<T> {
+    /// Starts a thread that does this work, with so many bytes of stack.
+    pub(crate) fn start<R: Threads, F: FnOnce() -> T + Send + Drop + 'static>(
+        &mut self,
+        rt: &R,
+        stack: usize,
+        work: F,
+    ) -> io::Result<()>
+        requires work { F.pre work }
+        requires room { vec_len self.old.running < vec_capacity self.old.running }
+        ensures started { OnOk result (vec_len self.new.running ≡ vec_len self.old.running + 1) }
+        ensures room { vec_capacity self.new.running ≡ vec_capacity self.old.running }
+    {
+        let thread = Builder::new().stack_size(stack).spawn(rt, work)?;
+        self.running.push_reserved(thread);
+        Ok(())
+    }
+
+    /// Waits for all threads, and returns what they returned.
+    ///
+    /// It is of any type `T`, so that it can neither make nor copy what a thread returned.
+    pub(crate) fn join<R: Threads>(self, rt: &R) -> Vec<T>
+        ensures { length result.items ≡ vec_len self.running }
+    {
+        let Group {
+            mut running,
+            mut returned,
+        } = self;
+        while let Some(thread) = running.pop() {
+            returned.push_reserved(thread.join(rt));
+        }
+        returned
+    }
+}
