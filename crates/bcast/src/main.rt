@@ -1,5 +1,5 @@
-//! The program `bcast`: a broadcast channel, driven by the lines of a script or by threads, or topics,
-//! driven by lines.
+//! The program `bcast`: a broadcast channel, driven by the lines of a script or by threads, and
+//! topics, driven by lines.
 #![tactic(auto)]
 
 ghost use Rattle.std.specs.Prelude.{◌≢◌, IfOk};

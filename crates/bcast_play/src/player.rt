@@ -131,7 +131,8 @@ pub fn trace<A: Allocator + Copy, R: Read + Drop, W: Write>(
     output: &mut W,
 ) -> Ending
     ensures { result ≢ Ending.OutputFailed → (last : Option (View ℕ))
-        × IsRun IsNoTraceLine false LONGEST (IsTraceLine A) (R.remaining input) (W.contents output.old) (W.contents output.new) None last result }
+        × IsRun IsNoTraceLine false LONGEST (IsTraceLine A) (R.remaining input)
+        (W.contents output.old) (W.contents output.new) None last result }
 {
     let mut player = Player::new(alloc);
     run_lines(alloc, input, LONGEST, output, &mut player)

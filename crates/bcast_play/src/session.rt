@@ -61,7 +61,8 @@ pub fn script<A: Allocator + Copy, R: Read + Drop, W: Write>(
     output: &mut W,
 ) -> Ending
     ensures { result ≢ Ending.OutputFailed → (last : Option Named)
-        × IsRun IsNoScriptLine false LONGEST IsScriptLine (R.remaining input) (W.contents output.old) (W.contents output.new) None last result }
+        × IsRun IsNoScriptLine false LONGEST IsScriptLine (R.remaining input)
+        (W.contents output.old) (W.contents output.new) None last result }
 {
     let mut session = Session {
         alloc,
