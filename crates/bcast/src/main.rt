@@ -2,7 +2,7 @@
 //! topics, driven by lines.
 #![tactic(auto)]
 
-ghost use Rattle.std.specs.Prelude.{◌≢◌, IfOk};
+ghost use Rattle.std.specs.Prelude.{◌≡◌, ◌≢◌, ◌⊎◌, IfOk, IfErr};
 ghost use Rattle.bcast_text.specs.ScriptCommand.{IsInRange};
 ghost use Rattle.bcast.specs.Run.{HasWritten};
 
@@ -49,7 +49,9 @@ fn run<R: Threads + Wait + Clone + Send + 'static, I: Read + Drop, W: Write>(
 
 /// What the arguments ask for, or how the run ends at once.
 fn command(rt: HostRuntime) -> Result<Command, Ending>
-    ensures { IfOk result IsInRange }
+    ensures ok { IfOk result IsInRange }
+    ensures err { IfErr result (λ ending. (ending ≡ Ending.WrongArguments Program.Bcast)
+        ⊎ (ending ≡ Ending.NoMemory)) }
 {
     let words = match arguments(&rt) {
         Ok(Some(words)) => words,

@@ -2,6 +2,8 @@
 //! with the replies and views that the channel gives.
 #![tactic(auto)]
 
+ghost use Rattle.std.specs.Prelude.{◌≡◌, ◌⊎◌, IfErr};
+
 use bcast_play::{list, trace};
 use bcast_text::arguments::arguments;
 use bcast_text::ending::{Ending, Program, report};
@@ -30,7 +32,10 @@ fn run(rt: HostRuntime, command: Command) -> Ending {
 }
 
 /// What the arguments ask for, or how the run ends at once.
-fn command(rt: HostRuntime) -> Result<Command, Ending> {
+fn command(rt: HostRuntime) -> Result<Command, Ending>
+    ensures { IfErr result (λ ending. (ending ≡ Ending.WrongArguments Program.Replay)
+        ⊎ (ending ≡ Ending.NoMemory)) }
+{
     let words = match arguments(&rt) {
         Ok(Some(words)) => words,
         Ok(None) => return Err(Ending::WrongArguments(Program::Replay)),
