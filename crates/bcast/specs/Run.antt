@@ -23,6 +23,6 @@ HasWritten Script input old new ending =
 HasWritten Topics input old new ending =
     (first last : Followed) × IsWithoutTopics first
     × IsRun (IsNoTopicsLine Global) true longest (IsTopicsLine Global) input old new first last
-      ending
+    ending
 HasWritten (Threads s r m) input old new ending =
     IsEnding ending × Appends old new (printed_text ending r (s * m))

@@ -10,3 +10,5 @@ mod examples;
 mod many_tasks;
 #[cfg(test)]
 mod snapshots;
+#[cfg(test)]
+mod told_tasks;

@@ -1,0 +1,200 @@
+//! Tasks that all wait for one channel: how many polls follow once a call tells some of them.
+use async_broadcast::{Port, Receiver, Send, Sender, WakerSlot, broadcast};
+use futures::executor::LocalPool;
+use futures::task::{Context, Poll, Source, Waker};
+use futures::{Future, Stream};
+use std::alloc::{AllocGlobal, Global};
+use std::process::Abort;
+use std::random::RandomSource;
+use std::sync::Wait;
+use std::sync::atomic::{AtomicU64, Ordering};
+use std::test::Fail;
+
+/// A call on the channel.
+#[derive(Clone, Copy)]
+enum Ask {
+    Send,
+    Receive,
+    Capacity(usize),
+    Overflow,
+    Close,
+}
+
+/// A name, how many streams and how many sends wait on a channel of capacity 1, what is asked then,
+/// and how many polls follow until no task is woken.
+type Row = (&'static str, u64, u64, &'static [Ask], u64);
+
+const ROWS: &[Row] = &[
+    ("a message for one stream", 1, 0, &[Ask::Send], 1),
+    ("a message for all streams", 64, 0, &[Ask::Send], 64),
+    ("room for one send", 0, 64, &[Ask::Receive], 1),
+    (
+        "room that is taken",
+        0,
+        64,
+        &[Ask::Capacity(2), Ask::Send],
+        1,
+    ),
+    (
+        "room for all sends, in turn",
+        0,
+        64,
+        &[Ask::Capacity(65)],
+        64,
+    ),
+    ("sends that drop the oldest", 0, 64, &[Ask::Overflow], 64),
+    ("a send for all streams", 64, 64, &[Ask::Receive], 65),
+    ("sends for all streams", 64, 64, &[Ask::Capacity(65)], 128),
+    ("closed for all", 64, 64, &[Ask::Close], 128),
+    ("nothing is asked", 64, 64, &[], 0),
+];
+
+/// More polls than any row may make.
+const MANY: usize = 100_000;
+
+/// What a task waits for.
+#[derive(Drop)]
+enum Awaited<'a, P: Port<u64, WakerSlot>> {
+    Message(Receiver<u64, P>),
+    Room(Send<'a, u64, P>),
+}
+
+/// A task that polls until its first answer, and then keeps its handle. Its polls are counted.
+#[derive(Drop)]
+struct Listener<'a, P: Port<u64, WakerSlot>> {
+    awaited: Awaited<'a, P>,
+    is_answered: bool,
+    polls: &'a AtomicU64,
+    // What the task waits for once it was answered, and its waker there: it is never woken again.
+    rest: Source,
+    waker: Option<Waker>,
+}
+
+impl<'a, P: Port<u64, WakerSlot>> Listener<'a, P> {
+    fn new(awaited: Awaited<'a, P>, polls: &'a AtomicU64) -> Self {
+        Listener {
+            awaited,
+            is_answered: false,
+            polls,
+            rest: Source::new(),
+            waker: None,
+        }
+    }
+}
+
+impl<P: Port<u64, WakerSlot>> Future for Listener<'_, P> {
+    type Output = ();
+
+    fn poll(&mut self, cx: &mut Context<'_>) -> Poll<()> {
+        if !self.is_answered {
+            self.polls.fetch_add(1, Ordering::SeqCst);
+            match &mut self.awaited {
+                Awaited::Message(receiver) => {
+                    let Poll::Ready(_) = receiver.poll_next(cx) else {
+                        return Poll::Pending;
+                    };
+                }
+                Awaited::Room(send) => {
+                    let Poll::Ready(_) = send.poll(cx) else {
+                        return Poll::Pending;
+                    };
+                }
+            }
+            self.is_answered = true;
+        }
+        cx.register(&self.rest, &mut self.waker)
+    }
+}
+
+/// Makes a call. Whether it was answered as the row needs it.
+fn is_made<P: Port<u64, WakerSlot>>(
+    ask: Ask,
+    sender: &Sender<u64, P>,
+    reader: &mut Receiver<u64, P>,
+) -> bool {
+    match ask {
+        Ask::Send => sender.try_broadcast(1).is_ok(),
+        Ask::Receive => matches!(reader.try_recv(), Ok(Ok(_))),
+        Ask::Capacity(cap) => reader.set_capacity(cap.max(1)).is_ok(),
+        Ask::Overflow => {
+            reader.set_overflow(true);
+            true
+        }
+        Ask::Close => sender.close(),
+    }
+}
+
+/// What is seen of a row.
+#[derive(Clone, Copy, Debug, PartialEq, Eq)]
+struct Seen {
+    /// How many listeners wait before the calls.
+    listeners: u64,
+    /// How many polls follow the calls.
+    polls: u64,
+    /// How many listeners are told once no task is woken.
+    told: u64,
+}
+
+fn play<R: Wait + Clone + AllocGlobal + RandomSource>(
+    rt: &R,
+    alloc: Global,
+    row: &Row,
+) -> Result<Seen, Fail> {
+    let (_, streams, sends, asks, _) = *row;
+    let (sender, mut reader) = broadcast(rt.clone()?, alloc, 1)?;
+    if sends > 0 {
+        sender.try_broadcast(0).ok().ok_or("no message")?;
+    }
+    let polls = AtomicU64::new(0);
+    let mut pool = LocalPool::new(rt)?;
+    let spawner = pool.spawner()?;
+    for _ in 0..streams {
+        let receiver = reader.new_receiver().ok().ok_or("no receiver")?;
+        let task = Listener::new(Awaited::Message(receiver), &polls);
+        spawner.spawn(task).ok().ok_or("no task")?;
+    }
+    for _ in 0..sends {
+        let send = sender.broadcast_direct(1).ok().ok_or("no send")?;
+        let task = Listener::new(Awaited::Room(send), &polls);
+        spawner.spawn(task).ok().ok_or("no task")?;
+    }
+    pool.run_until_stalled(MANY);
+    let before = sender.snapshot()?;
+    let listeners = before.waiting_sends.ids.len() + before.waiting_receives.ids.len();
+    polls.store(0, Ordering::SeqCst);
+    for ask in asks {
+        if !is_made(*ask, &sender, &mut reader) {
+            return Err(Fail::from("a call is refused"));
+        }
+    }
+    pool.run_until_stalled(MANY);
+    let after = sender.snapshot()?;
+    let told = after
+        .waiting_sends
+        .told
+        .saturating_add(after.waiting_receives.told);
+    Ok(Seen {
+        listeners: listeners as u64,
+        polls: polls.load(Ordering::SeqCst),
+        told: told as u64,
+    })
+}
+
+// No call is made beside the polls of tasks that were woken, and each of them polls once whenever
+// it is woken. So the polls of a row follow one another, and are compared with the bound of the law
+// that told polls come to rest: at most n (n + 1) / 2, where n listeners wait. That a task that is
+// woken was told is not looked at: one that wasn't would be a poll too many for its row.
+#[test]
+fn told_tasks_come_to_rest(rt: HostRuntime) -> Result<(), Fail> {
+    for row in ROWS {
+        let (name, streams, sends, _, polls) = *row;
+        let seen = play(&rt, rt.alloc(), row)?;
+        assert!(rt; seen.listeners == streams + sends, "{name}: all wait");
+        assert!(rt; seen.polls == polls && seen.told == 0, "{name}: {seen:?}");
+        assert!(rt;
+            2 * seen.polls <= seen.listeners * (seen.listeners + 1),
+            "{name}"
+        );
+    }
+    Ok(())
+}
