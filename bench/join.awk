@@ -32,5 +32,6 @@ pass == 3 {
 END {
     for (at = 1; at <= count; at++)
         if (names[at] in time)
-            printf "| %s | rattle group W %s ns (x1.00, least 0) |\n", names[at], time[names[at]]
+            printf "| %s | rattle %s %s ns (x1.00, least 0) |\n", names[at],
+                names[at] ~ /^unlocked: / ? "group W" : "handles", time[names[at]]
 }

@@ -26,6 +26,7 @@ module _ {T : Type 0} where
   -- the reply of the call's own name
   abbrev pub IsOfKind : Call T → Reply T → Type 0
   IsOfKind (call.TryBroadcast msg) r = IsA reply.TryBroadcast r
+  IsOfKind (call.TryBroadcastAll msgs) r = IsA reply.TryBroadcastAll r
   IsOfKind (call.AttemptSend msg) r = IsAnswerTo msg reply.AttemptSend r
   IsOfKind call.BeginSend r = IsA reply.BeginSend r
   IsOfKind (call.PollSend place msg) r = IsAnswerTo msg reply.PollSend r

@@ -60,6 +60,7 @@ module _ {T : Type 0} where
   legal : (is_clone : T → T → Type 0) (v : View T) (c : Call T) (r : Reply T)
       → Legal is_clone v c r → IsOfKind c r
   legal is_clone v (call.TryBroadcast msg) r l = (_, l)
+  legal is_clone v (call.TryBroadcastAll msgs) r l = (_, l)
   legal is_clone v (call.AttemptSend msg) r l = (_, l, attempt_send-back v msg)
   legal is_clone v call.BeginSend r (inl given) = (_, given.1)
   legal is_clone v call.BeginSend r (inr none) = (_, none)

@@ -3,7 +3,7 @@ ghost use Rattle.std.specs.Prelude.{◌<◌};
 
 use crate::port::Ask;
 use crate::wake::Wake;
-use bcast_core::{Call, HandleError, Reply, TryRecvError, TrySendError};
+use bcast_core::{Call, HandleError, Messages, Reply, TryRecvError, TrySendError};
 use std::alloc::AllocError;
 
 pub(crate) mod polls;
@@ -47,6 +47,15 @@ pub(crate) fn try_broadcast<T: Clone, S, P: Ask<T, S>>(
     ensures { P.gave port.now (Call.TryBroadcast msg) (Reply.TryBroadcast result) }
 {
     ask!(port, TryBroadcast(msg))
+}
+
+pub(crate) fn try_broadcast_all<T: Clone, S, P: Ask<T, S>>(
+    port: &P,
+    msgs: Messages<T>,
+) -> Result<(), TrySendError<Messages<T>>>
+    ensures { P.gave port.now (Call.TryBroadcastAll msgs) (Reply.TryBroadcastAll result) }
+{
+    ask!(port, TryBroadcastAll(msgs))
 }
 
 pub(crate) fn begin_send<T: Clone, S, P: Ask<T, S>>(port: &P) -> Result<usize, AllocError>

@@ -30,7 +30,7 @@ mod text;
 mod wake;
 
 pub use bcast_core::{
-    Call, HandleError, Kind, NoMemory, RecvError, Reply, SendError, SendPoll, Snapshot,
+    Call, HandleError, Kind, Messages, NoMemory, RecvError, Reply, SendError, SendPoll, Snapshot,
     TryRecvError, TrySendError, Waiting,
 };
 pub use future::{Recv, Send};

@@ -1,12 +1,13 @@
 //! The sending side.
 ghost use Rattle.std.specs.Prelude.{◌≡◌, Ok, Err, IfOk, IfErr, ◌⊎◌};
+ghost use Rattle.bcast_model.specs.SendAll.{in_lists};
 ghost use Rattle.async_broadcast.specs.Ports.{IsSame};
 
 use crate::asked;
 use crate::port::{Ask, Port};
 use crate::receiver::Receiver;
 use crate::wake::WakerSlot;
-use bcast_core::{Call, HandleError, Reply, SendError, SendPoll, TrySendError};
+use bcast_core::{Call, HandleError, Messages, Reply, SendError, SendPoll, TrySendError, in_vec};
 use std::alloc::{Allocator, Global};
 use std::marker::PhantomData;
 
@@ -68,6 +69,40 @@ impl<T: Clone, P: Port<T, WakerSlot<A>>, A: Allocator + Copy> Sender<T, P, A> {
         ensures { P.gave self.now.port (Call.TryBroadcast msg) (Reply.TryBroadcast result) }
     {
         self.port.try_broadcast(msg)
+    }
+
+    /// Sends a whole list of messages in one step, unless the channel has no room for all of them
+    /// or nobody to receive them.
+    ///
+    /// Never waits. An accepted list stands last, in its order, and no other message comes between.
+    /// No message is dropped for it, in overflow mode too. Who waits to receive is told once for the
+    /// whole list.
+    ///
+    /// # Errors
+    ///
+    /// Each hands the whole list back, and the first that fits comes.
+    ///
+    /// - `Closed`: the channel is closed.
+    /// - `Inactive`: there is no active receiver.
+    /// - `Full`: the list has more messages than the channel has room for.
+    ///
+    /// ```rust
+    /// let (sender, mut receiver) = broadcast(&rt, rt.alloc(), 3)?;
+    /// assert!(rt; sender.try_broadcast_all(vec![in rt.alloc(); 1, 2]?).is_ok());
+    /// let four = vec![in rt.alloc(); 3, 4]?;
+    /// assert!(rt; matches!(sender.try_broadcast_all(four), Err(TrySendError::Full(_))));
+    /// assert!(rt; sender.try_broadcast(3).is_ok());
+    /// assert!(rt; matches!(receiver.try_recv(), Ok(Ok(1))));
+    /// assert!(rt; matches!(receiver.try_recv(), Ok(Ok(2))));
+    /// assert!(rt; matches!(receiver.try_recv(), Ok(Ok(3))));
+    /// ```
+    ///
+    /// Source: this crate's own.
+    pub fn try_broadcast_all(&self, msgs: Vec<T>) -> Result<(), TrySendError<Vec<T>>>
+        ensures { P.gave self.now.port (Call.TryBroadcastAll msgs.items)
+            (Reply.TryBroadcastAll (in_lists result)) }
+    {
+        in_vec(asked::try_broadcast_all::<T, WakerSlot<A>, P>(&self.port, Messages::new(msgs)))
     }
 
     /// Sends a message, and blocks the thread while the channel has no room for it, or, with

@@ -41,7 +41,7 @@ fn run<R: Threads + Wait + Clone + Send + 'static, I: Read + Drop, W: Write>(
         (W.contents output.old) (W.contents output.new) result }
 {
     match command {
-        Command::Script => script(alloc, input, output),
+        Command::Script => script(alloc, alloc, input, output),
         Command::Topics => hub_script(alloc, input, output),
         Command::Threads(s, r, m) => threads(rt, alloc, s, r, m, output),
     }

@@ -1,36 +1,73 @@
 -- What an offered message does, in what is seen.
-use Rattle.std.proofs.Common.{◌≡◌, ◌+◌, ◌-◌, ◌≤◌, true, false, ◌∷◌, max, None, refl, sym, ap, ◌∙◌, arith}
+use Rattle.std.proofs.Common.{◌≡◌, ℕ, ◌+◌, ◌-◌, ◌<◌, ◌≤◌, ◌==◌, true, false, List, [], ◌∷◌, length, max, nat_lt, Some, None, refl, sym, ap, ◌∙◌, arith}
 use Rattle.std.proofs.lemmas.Grind.{common_steps}
 use Rattle.std.specs.FinMap.{len, values}
+use Rattle.bcast_model.specs.declared.error.TrySendError.{TrySendError}
 use Rattle.bcast_model.specs.Control.{has_no_receiver, accepting}
 use Rattle.bcast_model.specs.History.{least}
 use Rattle.bcast_model.specs.View.{View, is_full}
 use Rattle.bcast_model.specs.Laws.{IsValidView}
-use Rattle.bcast_model.specs.Steps.{settle, with_message}
+use Rattle.bcast_model.specs.Steps.{settle, with_message, with_messages}
 use Rattle.bcast_model.specs.Sending.{accept, accept_unless, offer, refusal}
-use Rattle.bcast_core.proofs.Settle.{settle_to, least_raised, cursors-accepting}
+use Rattle.bcast_model.specs.SendAll.{free_room, refusal_of_all, accept_all, accept_all_unless, offer_all}
+use Rattle.bcast_core.proofs.Settle.{settle_to, settle_idle, least_raised, cursors-accepting}
+
+-- whether a list has more messages than there is room for
+pub fits_room : (room count r n : ℕ) → r ≡ room → n ≡ count → n ≤ r → nat_lt room count ≡ false
+fits_room room count r n is same few = grind (arith, common_steps, is, same, few)
+
+pub exceeds_room : (room count r n : ℕ) → r ≡ room → n ≡ count → r < n → nat_lt room count ≡ true
+exceeds_room room count r n is same many = grind (arith, common_steps, is, same, many)
+
+pub not_zero : (n : ℕ) → (n == 0) ≡ false → 0 < n
+not_zero n e = grind (arith, common_steps, e)
+
+is_zero : (n : ℕ) → (n == 0) ≡ true → n ≡ 0
+is_zero n e = grind (arith, common_steps, e)
 
 module _ {T : Type 0} where
   -- where somebody receives, the end may rise
-  low_next : (v : View T) → IsValidView v → has_no_receiver v.control ≡ false → least (v.end + 1) (values v.control.cursors) ≤ v.front
-  low_next v valid some =
+  low_next : (v : View T) (more : ℕ) → IsValidView v → has_no_receiver v.control ≡ false → least (v.end + more) (values v.control.cursors) ≤ v.front
+  low_next v more valid some =
       let n : 1 ≤ len v.control.cursors = grind (arith, common_steps, some) in
-      let r = least_raised v.end v.control.cursors n valid.reach in
+      let r = least_raised v.end more v.control.cursors n valid.reach in
       omega (arith, r, valid.low)
 
   -- a message is accepted where there is room
   pub offer_accepted : (v : View T) (msg : T) → IsValidView v → refusal v msg ≡ None → has_no_receiver v.control ≡ false → is_full v ≡ false → settle v (offer v msg) ≡ with_message v msg
   offer_accepted v msg valid is some full =
-      let low = low_next v valid some in
+      let low = low_next v 1 valid some in
       let front : max (max v.front (accept v msg).floor) (least (v.end + 1) (values (accepting v.control v.end).cursors)) ≡ v.front = rw (full, cursors-accepting) (omega (arith, low)) in
       let none : v.front - v.front ≡ 0 = omega arith in
       ap (λ o. settle v (accept_unless v msg o)) is ∙ settle_to v (accept v msg) (with_message v msg) front (rw none refl) refl refl
+
+  -- a whole list is accepted where there is room
+  pub offer_all_accepted : (v : View T) (msgs : List T) → IsValidView v → refusal_of_all v msgs ≡ None → has_no_receiver v.control ≡ false → 0 < length msgs → settle v (offer_all v msgs) ≡ with_messages v msgs
+  offer_all_accepted v [] valid is some n = absurd (omega arith)
+  offer_all_accepted v (msg ∷ rest) valid is some n =
+      let low = low_next v (length (msg ∷ rest)) valid some in
+      let front : max (max v.front 0) (least (v.end + length (msg ∷ rest)) (values (accepting v.control (v.end + length rest)).cursors)) ≡ v.front = rw cursors-accepting (omega (arith, low)) in
+      let none : v.front - v.front ≡ 0 = omega arith in
+      let last : v.end + length rest ≡ v.end + length (msg ∷ rest) - 1 = omega arith in
+      ap (λ o. settle v (accept_all_unless v (msg ∷ rest) o)) is ∙ settle_to v (accept_all v (msg ∷ rest)) (with_messages v (msg ∷ rest)) front (rw none refl) refl (ap (accepting v.control) last)
+
+  -- without a message nothing changes
+  pub offer_all_nothing : (v : View T) (msgs : List T) → IsValidView v → v.control.closed ≡ false → has_no_receiver v.control ≡ false → (length msgs == 0) ≡ true → settle v (offer_all v msgs) ≡ v
+  offer_all_nothing v [] valid opened some n =
+      let fits : nat_lt (free_room v) 0 ≡ false = grind (arith, common_steps) in
+      let is : refusal_of_all v [] ≡ None = rw (opened, some, fits) refl in
+      ap (λ o. settle v (accept_all_unless v [] o)) is ∙ settle_idle v valid
+  offer_all_nothing v (msg ∷ rest) valid opened some n = let none = is_zero (length (msg ∷ rest)) n in absurd (omega (arith, none))
+
+  -- and where the list is refused
+  pub offer_all_refused : (v : View T) (msgs : List T) (error : TrySendError (List T)) → IsValidView v → refusal_of_all v msgs ≡ Some error → settle v (offer_all v msgs) ≡ v
+  offer_all_refused v msgs error valid is = ap (λ o. settle v (accept_all_unless v msgs o)) is ∙ settle_idle v valid
 
   -- the oldest message makes room for it
   pub offer_dropping : (v w : View T) (msg oldest : T) → IsValidView v → refusal v msg ≡ None → has_no_receiver v.control ≡ false → is_full v ≡ true
       → v.queue ≡ oldest ∷ w.queue → w ≡ record v { front = v.front + 1; queue = w.queue } → settle v (offer v msg) ≡ with_message w msg
   offer_dropping v w msg oldest valid is some full first rest =
-      let low = low_next v valid some in
+      let low = low_next v 1 valid some in
       let front : max (max v.front (accept v msg).floor) (least (v.end + 1) (values (accepting v.control v.end).cursors)) ≡ v.front + 1 = rw (full, cursors-accepting) (omega (arith, low)) in
       let one : (v.front + 1) - v.front ≡ 1 = omega arith in
       ap (λ o. settle v (accept_unless v msg o)) is

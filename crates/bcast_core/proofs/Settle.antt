@@ -30,12 +30,12 @@ somebody cursors some =
     (f.0, f.1, get-entries cursors f.0 ∙ f.2)
 
 -- the least cursor is the same under a greater limit
-pub least_raised : (end : ℕ) (cursors : Cursors) → 1 ≤ len cursors → ((key cursor : ℕ) → get cursors key ≡ Some cursor → cursor ≤ end) → least (end + 1) (values cursors) ≤ least end (values cursors)
-least_raised end cursors some reach =
+pub least_raised : (end more : ℕ) (cursors : Cursors) → 1 ≤ len cursors → ((key cursor : ℕ) → get cursors key ≡ Some cursor → cursor ≤ end) → least (end + more) (values cursors) ≤ least end (values cursors)
+least_raised end more cursors some reach =
     let s = somebody cursors some in
     let r = reach s.0 s.1 s.2 in
-    let own = least-le-cursor (end + 1) cursors s.0 s.1 s.2 in
-    least-greatest (least (end + 1) (values cursors)) end cursors (omega (arith, r, own)) (λ key cursor e. least-le-cursor (end + 1) cursors key cursor e)
+    let own = least-le-cursor (end + more) cursors s.0 s.1 s.2 in
+    least-greatest (least (end + more) (values cursors)) end cursors (omega (arith, r, own)) (λ key cursor e. least-le-cursor (end + more) cursors key cursor e)
 
 module _ {T : Type 0} where
   pub same_view : (a b : View T) → a.front ≡ b.front → a.queue ≡ b.queue → a.end ≡ b.end → a.control ≡ b.control → a ≡ b

@@ -15,6 +15,7 @@ pub use bcast_model::error::{
     HandleError, NoMemory, RecvError, SendError, TryRecvError, TrySendError,
 };
 pub use bcast_model::listener::Kind;
+pub use bcast_model::messages::{Messages, in_vec};
 pub use bcast_model::run::{Call, Reply, SendPoll};
 pub use bcast_waiting::notice::{Notice, Silent};
 pub use snapshot::{Snapshot, Waiting};

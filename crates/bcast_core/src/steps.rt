@@ -60,6 +60,7 @@ fn make_call<T: Clone, N: Notice, A: Allocator + Copy, L: Ledger>(
     let mut steps = Steps::<L>::new(blank);
     match call {
         Call::TryBroadcast(msg) => Reply::TryBroadcast(inner.try_broadcast(msg)),
+        Call::TryBroadcastAll(msgs) => Reply::TryBroadcastAll(inner.offer_all_and_tell(msgs)),
         Call::AttemptSend(msg) => Reply::AttemptSend(inner.attempt_send(msg)),
         Call::BeginSend => Reply::BeginSend(inner.begin_send()),
         Call::PollSend(place, msg) => Reply::PollSend(inner.poll_send(place, msg, notice)),

@@ -1,5 +1,5 @@
 -- Each send on a closed channel is refused.
-use Rattle.std.proofs.Common.{◌≡◌, ℕ, ◌&&◌, not, Bool, true, cond, Option, Some, None, Err, ap, ◌∙◌}
+use Rattle.std.proofs.Common.{◌≡◌, ℕ, ◌&&◌, not, Bool, true, cond, nat_lt, List, length, Option, Some, None, Err, ap, ◌∙◌}
 use Rattle.bcast_model.specs.declared.error.TrySendError.{TrySendError}
 use Rattle.bcast_model.specs.declared.error.TrySendError.TheVariants as unsent
 use Rattle.bcast_model.specs.declared.run.SendPoll.TheVariants as send
@@ -9,6 +9,7 @@ use Rattle.bcast_model.specs.declared.run.Reply.TheVariants as reply
 use Rattle.bcast_model.specs.Control.{has_no_receiver, has_place}
 use Rattle.bcast_model.specs.View.{View, is_full}
 use Rattle.bcast_model.specs.Sending.{refusal, reply_to_try, reply_to_attempt, handed_back, attempt_send_reply}
+use Rattle.bcast_model.specs.SendAll.{free_room, reply_to_all}
 use Rattle.bcast_model.specs.Legal.{Legal}
 use Rattle.bcast_laws.proofs.Closing.{IsClosed}
 
@@ -31,3 +32,7 @@ module _ {T : Type 0} where
 
     pub poll_refused : (place : ℕ) → has_place v.control place ≡ true → Legal is_clone v (call.PollSend place msg) r → r ≡ reply.PollSend (send.Ready (Err (record { 0 = msg })))
     poll_refused place known legal = legal ∙ ap (λ b. reply.PollSend (cond b (attempt_send_reply v msg) (send.Wait msg))) known ∙ ap reply.PollSend (attempt_closed v msg is)
+
+  pub all_refused : (is_clone : T → T → Type 0) (v : View T) (msgs : List T) (r : Reply T) → IsClosed v.control → Legal is_clone v (call.TryBroadcastAll msgs) r → r ≡ reply.TryBroadcastAll (Err (unsent.Closed msgs))
+  all_refused is_clone v msgs r is legal =
+      legal ∙ ap (λ closed. reply.TryBroadcastAll (reply_to_all (cond closed (Some (unsent.Closed msgs)) (cond (has_no_receiver v.control) (Some (unsent.Inactive msgs)) (cond (nat_lt (free_room v) (length msgs)) (Some (unsent.Full msgs)) None))))) is

@@ -1,5 +1,5 @@
 -- A closed channel stays closed.
-use Rattle.std.proofs.Common.{◌≡◌, ℕ, ◌+◌, ◌-◌, ◌==◌, ◌||◌, not, Bool, true, cond, List, [], ◌∷◌, Option, Some, None, Result, refl}
+use Rattle.std.proofs.Common.{◌≡◌, ℕ, ◌+◌, ◌-◌, ◌==◌, ◌||◌, not, Bool, true, cond, List, [], ◌∷◌, length, Option, Some, None, Result, refl}
 use Rattle.bcast_model.specs.declared.error.TrySendError.{TrySendError}
 use Rattle.bcast_model.specs.declared.error.TryRecvError.{TryRecvError}
 use Rattle.bcast_model.specs.declared.run.Call.{Call}
@@ -10,12 +10,14 @@ use Rattle.bcast_model.specs.Control.{Control, tell_receivers, close, close_if_d
 use Rattle.bcast_model.specs.View.{View, sends_are_ready}
 use Rattle.bcast_model.specs.Effect.{Effect, sets}
 use Rattle.bcast_model.specs.Sending.{refusal, accept_unless, offer, with_place_answered, poll_send}
+use Rattle.bcast_model.specs.SendAll.{offer_all}
 use Rattle.bcast_model.specs.Receiving.{receive, listens, skipped_to, receive_poll, is_empty_reply, try_recv_reply}
 use Rattle.bcast_model.specs.Effects.{resize, set_unless_refused, effect}
 use Rattle.bcast_model.specs.History.{History, view_of, remember}
 use Rattle.bcast_model.specs.Next.{is_out_of_memory, chosen_id, may_tell, next}
 use Rattle.bcast_model.specs.Handles.{has_next, begin_send, new_receiver, activate, clone_receiver, new_sender, clone_inactive, without_receiver, drop_receiver, deactivate, drop_sender, drop_inactive}
 use Rattle.bcast_model.specs.Run.{end_of_run}
+use Rattle.bcast_model.proofs.SendAll.{offer_all_is}
 use Rattle.bcast_model.proofs.Cases.{test_is, close_is, deserted_is, accepting_is, receive_is, tell_is}
 
 abbrev pub IsClosed : Control → Type 0
@@ -84,6 +86,9 @@ module _ {T : Type 0} where
       accept_stays None = accepting_stays v.control v.end is
       accept_stays (Some error) = is
 
+  offer_all_stays : (v : View T) (msgs : List T) → IsClosed v.control → IsClosed (offer_all v msgs).control
+  offer_all_stays v msgs is = offer_all_is (λ e. IsClosed e.control) v msgs is (λ msg rest same e. accepting_stays v.control (v.end + length rest) is)
+
   abbrev Closed : Effect T → Type 0
   Closed e = IsClosed e.control
 
@@ -104,6 +109,7 @@ module _ {T : Type 0} where
   -- ---- each call
   effect_stays : (v : View T) (c : Call T) (r : Reply T) → IsClosed v.control → IsClosed (effect v c r).control
   effect_stays v (call.TryBroadcast msg) r is = offer_stays v msg is
+  effect_stays v (call.TryBroadcastAll msgs) r is = offer_all_stays v msgs is
   effect_stays v (call.AttemptSend msg) r is = offer_stays v msg is
   effect_stays v call.BeginSend r is = begin_stays v.control is (chosen_id r)
   effect_stays v (call.PollSend place msg) r is = poll_send_stays v place msg is

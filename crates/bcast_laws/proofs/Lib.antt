@@ -13,3 +13,5 @@ pub mod ClosedSends
 pub mod Terminated
 -- whole runs
 pub mod Order
+-- a list that is sent at once
+pub mod SendAll

@@ -1,5 +1,5 @@
 -- A refused call changes nothing.
-use Rattle.std.proofs.Common.{◌≡◌, inl, inr, ℕ, ◌+◌, ◌-◌, ◌≤◌, ◌==◌, ◌&&◌, not, Bool, true, false, cond, length, max, Option, Some, None, Result, Ok, Err, nat_lt, refl, sym, ap, ◌∙◌, arith, append-nil}
+use Rattle.std.proofs.Common.{◌≡◌, inl, inr, ℕ, ◌+◌, ◌-◌, ◌≤◌, ◌==◌, ◌&&◌, not, Bool, true, false, cond, List, length, max, Option, Some, None, Result, Ok, Err, nat_lt, refl, sym, ap, ◌∙◌, arith, append-nil}
 use Rattle.std.proofs.lemmas.Grind.{common_steps}
 use Rattle.std.specs.Prelude.{alloc_error}
 use Rattle.bcast_model.specs.declared.error.TrySendError.{TrySendError}
@@ -13,6 +13,7 @@ use Rattle.bcast_model.specs.Control.{Control, tell_a_sender, closing, with_curs
 use Rattle.bcast_model.specs.View.{View, kept_at, sends_are_ready}
 use Rattle.bcast_model.specs.Effect.{Effect, sets}
 use Rattle.bcast_model.specs.Sending.{refusal, reply_to_try, reply_to_attempt, handed_back, accept_unless}
+use Rattle.bcast_model.specs.SendAll.{refusal_of_all, reply_to_all, accept_all_unless}
 use Rattle.bcast_model.specs.Receiving.{receive, recv_reply, skipped_count, skipped_to, future_reply, stream_reply, next_reply, try_recv_reply, IsOwed}
 use Rattle.bcast_model.specs.Legal.{Legal, IsReceived}
 use Rattle.bcast_model.specs.Effects.{set_unless_refused, effect}
@@ -41,6 +42,10 @@ module _ {T : Type 0} where
   same_try : (v : View T) (msg : T) (back : Option T) (error : Option (TrySendError T)) → is_refused (reply.TryBroadcast (reply_to_try back error)) ≡ true → accept_unless v msg error ≡ sets v.control
   same_try v msg back None e = apart e
   same_try v msg back (Some error) e = refl
+
+  same_all : (v : View T) (msgs : List T) (error : Option (TrySendError (List T))) → is_refused {T = T} (reply.TryBroadcastAll (reply_to_all error)) ≡ true → accept_all_unless v msgs error ≡ sets v.control
+  same_all v msgs None e = apart e
+  same_all v msgs (Some error) e = refl
 
   same_attempt : (v : View T) (msg : T) (await : Bool) (back : Option T) (error : Option (TrySendError T)) → is_refused (reply.AttemptSend (reply_to_attempt await back error)) ≡ true → accept_unless v msg error ≡ sets v.control
   same_attempt v msg await back None e = apart e
@@ -83,6 +88,7 @@ module _ {T : Type 0} where
   -- ---- each call
   same_effect : (is_clone : T → T → Type 0) (v : View T) (c : Call T) (r : Reply T) → IsValidView v → Legal is_clone v c r → is_refused r ≡ true → effect v c r ≡ sets v.control
   same_effect is_clone v (call.TryBroadcast msg) r valid legal e = same_try v msg (handed_back v) (refusal v msg) (sym (ap is_refused legal) ∙ e)
+  same_effect is_clone v (call.TryBroadcastAll msgs) r valid legal e = same_all v msgs (refusal_of_all v msgs) (sym (ap is_refused legal) ∙ e)
   same_effect is_clone v (call.AttemptSend msg) r valid legal e = same_attempt v msg v.control.await_active (handed_back v) (refusal v msg) (sym (ap is_refused legal) ∙ e)
   same_effect is_clone v call.BeginSend r valid (inl (place, is, free)) e = apart (sym (ap is_refused is) ∙ e)
   same_effect is_clone v call.BeginSend r valid (inr is) e = rw is refl

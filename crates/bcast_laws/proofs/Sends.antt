@@ -1,5 +1,6 @@
 -- What a send adds, and what comes back.
-use Rattle.std.proofs.Common.{◌≡◌, ℕ, ◌&&◌, not, Bool, true, false, cond, List, [], ◌∷◌, ◌++◌, Option, Some, None, Ok, Err, refl, sym, ap, ◌∙◌, append-nil}
+use Rattle.std.proofs.Common.{◌≡◌, ℕ, ◌&&◌, not, Bool, true, false, cond, nat_lt, List, [], ◌∷◌, ◌++◌, length, Option, Some, None, Ok, Err, refl, sym, ap, ◌∙◌, append-nil}
+use Rattle.std.proofs.lemmas.Option.{same_Some}
 use Rattle.bcast_model.specs.declared.error.TrySendError.{TrySendError}
 use Rattle.bcast_model.specs.declared.error.TrySendError.TheVariants as unsent
 use Rattle.bcast_model.specs.declared.run.SendPoll.{SendPoll}
@@ -12,6 +13,7 @@ use Rattle.bcast_model.specs.Control.{has_no_receiver, has_place, place_waits}
 use Rattle.bcast_model.specs.View.{View, is_full, sends_are_ready}
 use Rattle.bcast_model.specs.Effect.{Effect, sets}
 use Rattle.bcast_model.specs.Sending.{refusal, reply_to_try, reply_to_attempt, handed_back, attempt_send_reply, accept_unless, offer, with_place_answered, poll_send}
+use Rattle.bcast_model.specs.SendAll.{free_room, refusal_of_all, reply_to_all, accept_all, accept_all_unless}
 use Rattle.bcast_model.specs.Effects.{effect}
 use Rattle.bcast_model.specs.Replies.{is_out_of_memory}
 use Rattle.bcast_model.specs.History.{History, view_of}
@@ -20,7 +22,7 @@ use Rattle.bcast_model.specs.Legal.{Legal}
 use Rattle.bcast_model.specs.Laws.{must_wait}
 use Rattle.bcast_model.proofs.Cases.{test_is}
 use Rattle.bcast_model.proofs.Polls.{send_waits_unready}
-use Rattle.bcast_laws.specs.Sends.{sent_by, returned_by, is_accepted}
+use Rattle.bcast_laws.specs.Sends.{sent_by, messages_of, returned_by, returned_all_by, is_accepted}
 
 pub apart : {A : Type 0} → false ≡ true → A
 apart e = cc
@@ -29,21 +31,28 @@ none_some : {A B : Type 0} (x : A) → None ≡ Some x → B
 none_some x e = cc
 
 module _ {T : Type 0} where
-  -- the message that is added, by whether it was accepted
-  abbrev pub added : Bool → Option T → List T
-  added true (Some msg) = msg ∷ []
-  added true None = []
-  added false msg = []
+  -- the messages that are added, by whether they were accepted
+  abbrev pub added : Bool → List T → List T
+  added true msgs = msgs
+  added false msgs = []
 
-  none_added : (b : Bool) → [] ≡ added b None
+  none_added : (b : Bool) → [] ≡ added b []
   none_added true = refl
   none_added false = refl
 
-  adds_try : (v : View T) (msg : T) (back : Option T) (error : Option (TrySendError T)) → (accept_unless v msg error).accepted ≡ added (is_accepted (reply.TryBroadcast (reply_to_try back error))) (Some msg)
+  adds_try : (v : View T) (msg : T) (back : Option T) (error : Option (TrySendError T)) → (accept_unless v msg error).accepted ≡ added (is_accepted (reply.TryBroadcast (reply_to_try back error))) (msg ∷ [])
   adds_try v msg back None = refl
   adds_try v msg back (Some error) = refl
 
-  adds_attempt : (v : View T) (msg : T) (await : Bool) (back : Option T) (error : Option (TrySendError T)) → (accept_unless v msg error).accepted ≡ added (is_accepted (reply.AttemptSend (reply_to_attempt await back error))) (Some msg)
+  adds_list : (v : View T) (msgs : List T) → (accept_all v msgs).accepted ≡ msgs
+  adds_list v [] = refl
+  adds_list v (msg ∷ msgs) = refl
+
+  adds_all : (v : View T) (msgs : List T) (error : Option (TrySendError (List T))) → (accept_all_unless v msgs error).accepted ≡ added (is_accepted {T = T} (reply.TryBroadcastAll (reply_to_all error))) msgs
+  adds_all v msgs None = adds_list v msgs
+  adds_all v msgs (Some error) = refl
+
+  adds_attempt : (v : View T) (msg : T) (await : Bool) (back : Option T) (error : Option (TrySendError T)) → (accept_unless v msg error).accepted ≡ added (is_accepted (reply.AttemptSend (reply_to_attempt await back error))) (msg ∷ [])
   adds_attempt v msg await back None = refl
   adds_attempt v msg await back (Some (unsent.Closed m)) = refl
   adds_attempt v msg true back (Some (unsent.Inactive m)) = refl
@@ -61,29 +70,30 @@ module _ {T : Type 0} where
   waits_unaccepted (send.Ready (Err error)) e = refl
   waits_unaccepted (send.Wait msg) e = refl
 
-  adds_poll : (is_clone : T → T → Type 0) (v : View T) (place : ℕ) (msg : T) (r : Reply T) → Legal is_clone v (call.PollSend place msg) r → (poll_send v place msg).accepted ≡ added (is_accepted r) (Some msg)
+  adds_poll : (is_clone : T → T → Type 0) (v : View T) (place : ℕ) (msg : T) (r : Reply T) → Legal is_clone v (call.PollSend place msg) r → (poll_send v place msg).accepted ≡ added (is_accepted r) (msg ∷ [])
   adds_poll is_clone v place msg r legal =
       let answer : SendPoll T = attempt_send_reply v msg in
       rw legal
       (elim (has_place v.control place) as (λ b. has_place v.control place ≡ b
       → (cond b (cond (sends_are_ready v) (with_place_answered (offer v msg) place) (sets (place_waits v.control place))) (sets v.control)).accepted
-      ≡ added (is_accepted (reply.PollSend (cond b answer (send.Wait msg)))) (Some msg)) [
+      ≡ added (is_accepted (reply.PollSend (cond b answer (send.Wait msg)))) (msg ∷ [])) [
         | true ↦ λ known. elim (sends_are_ready v) as (λ b. sends_are_ready v ≡ b
-            → (cond b (with_place_answered (offer v msg) place) (sets (place_waits v.control place))).accepted ≡ added (is_accepted (reply.PollSend answer)) (Some msg)) [
-              | true ↦ λ _. adds_attempt v msg v.control.await_active (handed_back v) (refusal v msg) ∙ ap (λ b. added b (Some msg)) (sym (as_attempt answer))
+            → (cond b (with_place_answered (offer v msg) place) (sets (place_waits v.control place))).accepted ≡ added (is_accepted (reply.PollSend answer)) (msg ∷ [])) [
+              | true ↦ λ _. adds_attempt v msg v.control.await_active (handed_back v) (refusal v msg) ∙ ap (λ b. added b (msg ∷ [])) (sym (as_attempt answer))
               | false ↦ λ ready.
                   let waits : must_wait (reply.PollSend answer) ≡ true = send_waits_unready is_clone v place msg (reply.PollSend answer) known (sym (ap (λ b. reply.PollSend (cond b answer (send.Wait msg))) known)) ∙ ap not ready in
-                  ap (λ b. added b (Some msg)) (sym (waits_unaccepted answer waits))
+                  ap (λ b. added b (msg ∷ [])) (sym (waits_unaccepted answer waits))
             ] refl
         | false ↦ λ _. refl
       ] refl)
 
-  adds_unless : (v : View T) (e : Effect T) (r : Reply T) → e.accepted ≡ [] → (cond (is_out_of_memory r) (sets v.control) e).accepted ≡ added (is_accepted r) None
+  adds_unless : (v : View T) (e : Effect T) (r : Reply T) → e.accepted ≡ [] → (cond (is_out_of_memory r) (sets v.control) e).accepted ≡ added (is_accepted r) []
   adds_unless v e r same = test_is (λ (e : Effect T). e.accepted ≡ []) (is_out_of_memory r) (sets v.control) e (λ _. refl) (λ _. same) ∙ none_added (is_accepted r)
 
   -- what a call adds
-  adds : (is_clone : T → T → Type 0) (v : View T) (c : Call T) (r : Reply T) → Legal is_clone v c r → (effect v c r).accepted ≡ added (is_accepted r) (sent_by c)
+  adds : (is_clone : T → T → Type 0) (v : View T) (c : Call T) (r : Reply T) → Legal is_clone v c r → (effect v c r).accepted ≡ added (is_accepted r) (messages_of c)
   adds is_clone v (call.TryBroadcast msg) r legal = rw legal (adds_try v msg (handed_back v) (refusal v msg))
+  adds is_clone v (call.TryBroadcastAll msgs) r legal = rw legal (adds_all v msgs (refusal_of_all v msgs))
   adds is_clone v (call.AttemptSend msg) r legal = rw legal (adds_attempt v msg v.control.await_active (handed_back v) (refusal v msg))
   adds is_clone v (call.PollSend place msg) r legal = adds_poll is_clone v place msg r legal
   adds is_clone v (call.TryRecv key) r legal = adds_unless v _ r refl
@@ -93,11 +103,20 @@ module _ {T : Type 0} where
   adds is_clone v (call.SetCapacity n) r legal = adds_unless v _ r refl
   adds is_clone v c r legal = none_added (is_accepted r)
 
+  pub whole_added : (is_clone : T → T → Type 0) (h : History T) (c : Call T) (r : Reply T) → Legal is_clone (view_of h) c r → is_accepted r ≡ true → (next h c r).accepted ≡ h.accepted ++ messages_of c
+  whole_added is_clone h c r legal accepted = ap (◌++◌ h.accepted) (adds is_clone (view_of h) c r legal ∙ ap (λ b. added b (messages_of c)) accepted)
+
+  one_sent : (c : Call T) (msg : T) → sent_by c ≡ Some msg → messages_of c ≡ msg ∷ []
+  one_sent (call.TryBroadcast m) msg is = ap (λ x. x ∷ []) (same_Some m msg is)
+  one_sent (call.AttemptSend m) msg is = ap (λ x. x ∷ []) (same_Some m msg is)
+  one_sent (call.PollSend place m) msg is = ap (λ x. x ∷ []) (same_Some m msg is)
+  one_sent c msg is = none_some msg is
+
   pub accepted_added : (is_clone : T → T → Type 0) (h : History T) (c : Call T) (r : Reply T) (msg : T) → Legal is_clone (view_of h) c r → is_accepted r ≡ true → sent_by c ≡ Some msg → (next h c r).accepted ≡ h.accepted ++ msg ∷ []
-  accepted_added is_clone h c r msg legal accepted is = ap (◌++◌ h.accepted) (adds is_clone (view_of h) c r legal ∙ ap (λ b. added b (sent_by c)) accepted ∙ ap (added true) is)
+  accepted_added is_clone h c r msg legal accepted is = whole_added is_clone h c r legal accepted ∙ ap (◌++◌ h.accepted) (one_sent c msg is)
 
   pub nothing_added : (is_clone : T → T → Type 0) (h : History T) (c : Call T) (r : Reply T) → Legal is_clone (view_of h) c r → is_accepted r ≡ false → (next h c r).accepted ≡ h.accepted
-  nothing_added is_clone h c r legal refused = ap (◌++◌ h.accepted) (adds is_clone (view_of h) c r legal ∙ ap (λ b. added b (sent_by c)) refused) ∙ append-nil h.accepted
+  nothing_added is_clone h c r legal refused = ap (◌++◌ h.accepted) (adds is_clone (view_of h) c r legal ∙ ap (λ b. added b (messages_of c)) refused) ∙ append-nil h.accepted
 
   -- ---- what comes back, by: closed, no receiver, full without overflow, and whether sends await a receiver
   returns_try : (closed none full : Bool) (back : Option T) (msg : T) → is_accepted (reply.TryBroadcast (reply_to_try back (cond closed (Some (unsent.Closed msg)) (cond none (Some (unsent.Inactive msg)) (cond full (Some (unsent.Full msg)) None))))) ≡ false
@@ -134,3 +153,14 @@ module _ {T : Type 0} where
   returned_back is_clone v (call.PollSend place m) r msg legal is refused =
       ap returned_by legal ∙ returns_poll v (has_place v.control place) m (sym (ap is_accepted legal) ∙ refused) ∙ is
   returned_back is_clone v c r msg legal is refused = none_some msg is
+
+  returns_all : (closed none full : Bool) (msgs : List T) → is_accepted {T = T} (reply.TryBroadcastAll (reply_to_all (cond closed (Some (unsent.Closed msgs)) (cond none (Some (unsent.Inactive msgs)) (cond full (Some (unsent.Full msgs)) None))))) ≡ false
+      → returned_all_by {T = T} (reply.TryBroadcastAll (reply_to_all (cond closed (Some (unsent.Closed msgs)) (cond none (Some (unsent.Inactive msgs)) (cond full (Some (unsent.Full msgs)) None))))) ≡ Some msgs
+  returns_all true none full msgs e = refl
+  returns_all false true full msgs e = refl
+  returns_all false false true msgs e = refl
+  returns_all false false false msgs e = apart (sym e)
+
+  pub all_returned : (is_clone : T → T → Type 0) (v : View T) (msgs : List T) (r : Reply T) → Legal is_clone v (call.TryBroadcastAll msgs) r → is_accepted r ≡ false → returned_all_by r ≡ Some msgs
+  all_returned is_clone v msgs r legal refused =
+      ap returned_all_by legal ∙ returns_all v.control.closed (has_no_receiver v.control) (nat_lt (free_room v) (length msgs)) msgs (sym (ap is_accepted legal) ∙ refused)

@@ -23,6 +23,9 @@ pub record StaysClosed {T : Type 0} (is_clone : T → T → Type 0) : Type 0 whe
   pub try_broadcast : (v : View T) (msg : T) (r : Reply T) → v.control.closed ≡ true
       → Legal is_clone v (call.TryBroadcast msg) r
       → r ≡ reply.TryBroadcast (Err (unsent.Closed msg))
+  pub try_broadcast_all : (v : View T) (msgs : List T) (r : Reply T) → v.control.closed ≡ true
+      → Legal is_clone v (call.TryBroadcastAll msgs) r
+      → r ≡ reply.TryBroadcastAll (Err (unsent.Closed msgs))
   pub attempt_send : (v : View T) (msg : T) (r : Reply T) → v.control.closed ≡ true
       → Legal is_clone v (call.AttemptSend msg) r
       → r ≡ reply.AttemptSend (send.Ready (Err (record { 0 = msg })))

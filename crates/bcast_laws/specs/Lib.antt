@@ -6,3 +6,5 @@ pub mod Closing
 pub mod Receives
 -- what the receivers of a whole run are given
 pub mod Order
+-- a list that is sent at once
+pub mod SendAll

@@ -1,5 +1,5 @@
 -- What a send adds to the accepted messages, and what a refused call leaves as it was.
-use Rattle.std.specs.Prelude.{◌≡◌, ℕ, Bool, true, false, not, ◌∷◌, ◌++◌, [], Option, Some, None, Ok, Err}
+use Rattle.std.specs.Prelude.{◌≡◌, ℕ, Bool, true, false, not, List, ◌∷◌, ◌++◌, [], Option, Some, None, Ok, Err}
 use Rattle.bcast_model.specs.declared.error.TrySendError.TheVariants as unsent
 use Rattle.bcast_model.specs.declared.error.TryRecvError.TheVariants as unread
 use Rattle.bcast_model.specs.declared.run.SendPoll.TheVariants as send
@@ -7,6 +7,7 @@ use Rattle.bcast_model.specs.declared.run.Call.{Call}
 use Rattle.bcast_model.specs.declared.run.Call.TheVariants as call
 use Rattle.bcast_model.specs.declared.run.Reply.{Reply}
 use Rattle.bcast_model.specs.declared.run.Reply.TheVariants as reply
+use Rattle.bcast_model.specs.Errors.{unsent_message}
 use Rattle.bcast_model.specs.View.{View}
 use Rattle.bcast_model.specs.History.{History, view_of}
 use Rattle.bcast_model.specs.Legal.{Legal}
@@ -21,6 +22,14 @@ module _ {T : Type 0} where
   sent_by (call.PollSend place msg) = Some msg
   sent_by c = None
 
+  -- the messages that a call sends, in order: one, or the list of `try_broadcast_all`
+  abbrev pub messages_of : Call T → List T
+  messages_of (call.TryBroadcast msg) = msg ∷ []
+  messages_of (call.TryBroadcastAll msgs) = msgs
+  messages_of (call.AttemptSend msg) = msg ∷ []
+  messages_of (call.PollSend place msg) = msg ∷ []
+  messages_of c = []
+
   -- `TrySendError`, `SendError`, a `Send` that waits: the message that a reply hands back
   abbrev pub returned_by : Reply T → Option T
   returned_by (reply.TryBroadcast (Err (unsent.Full msg))) = Some msg
@@ -32,9 +41,15 @@ module _ {T : Type 0} where
   returned_by (reply.PollSend (send.Wait msg)) = Some msg
   returned_by r = None
 
-  -- whether a reply says that a message was accepted
+  -- the list that a reply hands back
+  abbrev pub returned_all_by : Reply T → Option (List T)
+  returned_all_by (reply.TryBroadcastAll (Err error)) = Some (unsent_message error)
+  returned_all_by r = None
+
+  -- whether a reply says that a message was accepted, or a list of them
   abbrev pub is_accepted : Reply T → Bool
   is_accepted (reply.TryBroadcast (Ok back)) = true
+  is_accepted (reply.TryBroadcastAll (Ok done)) = true
   is_accepted (reply.AttemptSend (send.Ready (Ok back))) = true
   is_accepted (reply.PollSend (send.Ready (Ok back))) = true
   is_accepted r = false
@@ -44,6 +59,7 @@ module _ {T : Type 0} where
   -- is not refused, since it changes who waits
   abbrev pub is_refused : Reply T → Bool
   is_refused (reply.TryBroadcast (Err error)) = true
+  is_refused (reply.TryBroadcastAll (Err error)) = true
   is_refused (reply.AttemptSend (send.Ready (Err error))) = true
   is_refused (reply.AttemptSend (send.Wait msg)) = true
   is_refused (reply.TryRecv (Ok (Err unread.Empty))) = true
@@ -70,6 +86,9 @@ pub record RefusedChangesNothing {T : Type 0} (is_clone : T → T → Type 0) : 
       → is_refused r ≡ true → next h c r ≡ h
   pub returned : (v : View T) (c : Call T) (r : Reply T) (msg : T) → Legal is_clone v c r
       → sent_by c ≡ Some msg → is_accepted r ≡ false → returned_by r ≡ Some msg
+  pub all_returned : (v : View T) (msgs : List T) (r : Reply T)
+      → Legal is_clone v (call.TryBroadcastAll msgs) r → is_accepted r ≡ false
+      → returned_all_by r ≡ Some msgs
 
 -- a call adds its message at the back where its reply says that it was accepted, else nothing
 pub record OnlyAcceptedIsAdded {T : Type 0} (is_clone : T → T → Type 0) : Type 0 where
@@ -78,6 +97,8 @@ pub record OnlyAcceptedIsAdded {T : Type 0} (is_clone : T → T → Type 0) : Ty
       → (next h c r).accepted ≡ h.accepted ++ msg ∷ []
   pub nothing : (h : History T) (c : Call T) (r : Reply T) → Legal is_clone (view_of h) c r
       → is_accepted r ≡ false → (next h c r).accepted ≡ h.accepted
+  pub whole : (h : History T) (c : Call T) (r : Reply T) → Legal is_clone (view_of h) c r
+      → is_accepted r ≡ true → (next h c r).accepted ≡ h.accepted ++ messages_of c
 
 -- `Send`, dropped before it is answered: neither its polls that wait nor its drop add a message
 pub record DroppedSendAddsNothing {T : Type 0} (is_clone : T → T → Type 0) : Type 0 where

@@ -7,6 +7,7 @@ ghost use Rattle.bcast_laws.specs.Sends.{RefusedChangesNothing, OnlyAcceptedIsAd
 ghost use Rattle.bcast_laws.specs.Closing.{StaysClosed, TerminatedGivesNothing};
 ghost use Rattle.bcast_laws.specs.Receives.{KeepsAtMostCapacity, MissedThenGiven, ReadsByOwnCursor, ClonesAnswerAlike};
 ghost use Rattle.bcast_laws.specs.Order.{RunsHaveOneOrder};
+ghost use Rattle.bcast_laws.specs.SendAll.{ListsStandInOnePiece};
 
 pub mod deliveries;
 pub mod states;
@@ -19,6 +20,13 @@ pub fn refused_changes_nothing<T: Clone>()
 /// Law: a call adds its message if its reply says that it was accepted, else it adds none.
 pub fn only_accepted_is_added<T: Clone>()
     ensures { OnlyAcceptedIsAdded T.is_clone }
+{}
+
+/// Law: a list that `try_broadcast_all` accepted stands last, in its order, and in one piece: no
+/// other message comes between, whatever calls follow. Each receiver that was there and reads on
+/// past the list is given each of its messages, or told that it missed it.
+pub fn lists_stand_in_one_piece<T: Clone>()
+    ensures { ListsStandInOnePiece T.is_clone }
 {}
 
 /// Law: a pending send that is dropped before it is answered adds no message.

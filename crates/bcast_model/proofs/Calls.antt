@@ -19,6 +19,7 @@ use Rattle.bcast_model.proofs.Cases.{test_is}
 use Rattle.bcast_model.proofs.Lift.{KeepsValid}
 use Rattle.bcast_model.proofs.Kept.{kept_idle, kept_close, keeps_sets}
 use Rattle.bcast_model.proofs.Sends.{kept_begin_send, kept_end_send, keeps_offer, keeps_poll_send}
+use Rattle.bcast_model.proofs.SendAll.{keeps_offer_all}
 use Rattle.bcast_model.proofs.Receives.{kept_receive, kept_poll, kept_poll_next, keeps_unless}
 use Rattle.bcast_model.proofs.Leaving.{kept_pair_dropped, kept_drop_receiver, kept_deactivate, kept_drop_sender, kept_drop_inactive}
 use Rattle.bcast_model.proofs.Making.{kept_new_receiver, kept_activate, kept_clone_receiver, kept_made, kept_new_sender, kept_clone_inactive, kept_settings, keeps_resize}
@@ -26,6 +27,7 @@ use Rattle.bcast_model.proofs.Making.{kept_new_receiver, kept_activate, kept_clo
 module _ {T : Type 0} (is_clone : T → T → Type 0) where
   pub keeps_valid : (c : Call T) (r : Reply T) (v : View T) → IsValidView v → HasRange c (len (effect v c r).control.cursors) → Legal is_clone v c r → KeepsValid v (effect v c r) (may_tell v.control (sends_are_ready v) c)
   keeps_valid (call.TryBroadcast msg) r v valid range legal = keeps_offer v valid msg
+  keeps_valid (call.TryBroadcastAll msgs) r v valid range legal = keeps_offer_all v valid msgs
   keeps_valid (call.AttemptSend msg) r v valid range legal = keeps_offer v valid msg
   keeps_valid call.BeginSend r v valid range legal = keeps_sets v valid (begin_send v.control (chosen_id r)) (kept_begin_send v valid (chosen_id r))
   keeps_valid (call.PollSend place msg) r v valid range legal = keeps_poll_send v valid place msg

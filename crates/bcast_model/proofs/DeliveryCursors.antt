@@ -20,6 +20,7 @@ use Rattle.bcast_model.specs.Handles.{has_next, drop_receiver, deactivate, drop_
 use Rattle.bcast_model.specs.Effects.{resize}
 use Rattle.bcast_model.specs.Deliveries.{receives_for}
 use Rattle.bcast_model.proofs.Cases.{test_is, cursors-close, cursors-close_if_deserted, cursors-accepting}
+use Rattle.bcast_model.proofs.SendAll.{cursors-offer_all}
 use Rattle.bcast_model.proofs.DeliveryMaps.{CursorsChange, stay, rise, make_at_end, make_where, leave, cursors-listens, cursors-begin_send}
 
 rise_from : (front end : ℕ) (receives : ℕ → Bool) (c : Control) (key from at : ℕ) → receives key ≡ true → get c.cursors key ≡ Some from → from ≤ at → CursorsChange front end receives c.cursors (receive front end c key (Some at)).cursors
@@ -102,6 +103,7 @@ module _ {T : Type 0} where
 
   pub changes : (is_clone : T → T → Type 0) (v : View T) (c : Call T) (r : Reply T) → Legal is_clone v c r → Changes v c (effect v c r).control
   changes is_clone v (call.TryBroadcast msg) r legal = stay (cursors-offer v msg)
+  changes is_clone v (call.TryBroadcastAll msgs) r legal = stay (cursors-offer_all v msgs)
   changes is_clone v (call.AttemptSend msg) r legal = stay (cursors-offer v msg)
   changes is_clone v call.BeginSend r legal = stay (cursors-begin_send v.control (chosen_id r))
   changes is_clone v (call.PollSend place msg) r legal = stay (cursors-poll_send v place msg)

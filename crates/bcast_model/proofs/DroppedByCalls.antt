@@ -14,6 +14,7 @@ use Rattle.bcast_model.specs.History.{History, view_of, front_number, end_number
 use Rattle.bcast_model.specs.Replies.{is_out_of_memory}
 use Rattle.bcast_model.specs.Missed.{dropped_by}
 use Rattle.bcast_model.proofs.Front.{IsBounded, length-queue}
+use Rattle.bcast_model.proofs.SendAll.{floor-offer_all}
 use Rattle.bcast_model.proofs.DroppedBySends.{FloorChange, stays, passes, hands_back-sent, hands_back-attempted, floor-send, floor-poll_send}
 
 module _ {T : Type 0} where
@@ -43,6 +44,7 @@ module _ {T : Type 0} where
   pub floor-effect : (is_clone : T → T → Type 0) (h : History T) (c : Call T) (r : Reply T) → IsBounded h → Legal is_clone (view_of h) c r → FloorChange h (effect (view_of h) c r) (dropped_by h c r)
   floor-effect is_clone h (call.TryBroadcast msg) r bounded legal =
       rw (legal, hands_back-sent (handed_back (view_of h)) (refusal (view_of h) msg)) (floor-send h msg (refusal (view_of h) msg) bounded)
+  floor-effect is_clone h (call.TryBroadcastAll msgs) r bounded legal = stays (floor-offer_all (view_of h) msgs) refl
   floor-effect is_clone h (call.AttemptSend msg) r bounded legal =
       rw (legal, hands_back-attempted h.control.await_active (handed_back (view_of h)) (refusal (view_of h) msg)) (floor-send h msg (refusal (view_of h) msg) bounded)
   floor-effect is_clone h (call.PollSend place msg) r bounded legal = floor-poll_send h place msg r bounded legal

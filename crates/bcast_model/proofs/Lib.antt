@@ -13,6 +13,7 @@ pub mod Lift
 pub mod Kept
 -- the calls
 pub mod Sends
+pub mod SendAll
 pub mod Receives
 pub mod Leaving
 pub mod Making

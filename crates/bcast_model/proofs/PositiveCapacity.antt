@@ -14,6 +14,7 @@ use Rattle.bcast_model.specs.Effects.{resize, set_unless_refused, effect}
 use Rattle.bcast_model.specs.History.{History, view_of, remember}
 use Rattle.bcast_model.specs.Next.{HasPositiveCapacity, chosen_id, is_out_of_memory, may_tell, next}
 use Rattle.bcast_model.proofs.Cases.{test_is, tell_is, capacity-close, capacity-accepting}
+use Rattle.bcast_model.proofs.SendAll.{capacity-offer_all}
 use Rattle.bcast_model.specs.Handles.{begin_send, new_receiver, activate, clone_receiver, new_sender, clone_inactive, has_next, drop_receiver, deactivate, drop_sender, drop_inactive, without_receiver}
 
 -- ---- what leaves it as it is
@@ -97,6 +98,7 @@ module _ {T : Type 0} where
 
   capacity-effect : (v : View T) (c : Call T) (r : Reply T) → HasPositiveCapacity c → 1 ≤ v.control.capacity → 1 ≤ (effect v c r).control.capacity
   capacity-effect v (call.TryBroadcast msg) r allowed positive = stays_positive _ _ (capacity-send v msg (refusal v msg)) positive
+  capacity-effect v (call.TryBroadcastAll msgs) r allowed positive = stays_positive _ _ (capacity-offer_all v msgs) positive
   capacity-effect v (call.AttemptSend msg) r allowed positive = stays_positive _ _ (capacity-send v msg (refusal v msg)) positive
   capacity-effect v call.BeginSend r allowed positive = stays_positive _ _ (capacity-begin_send v.control (chosen_id r)) positive
   capacity-effect v (call.PollSend place msg) r allowed positive = stays_positive _ _ (capacity-poll_send v place msg) positive

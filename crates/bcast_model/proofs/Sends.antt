@@ -29,28 +29,29 @@ attended_last c end = close_is (λ now. IsAttended now.closed now.senders (len n
     (λ e. attended_closed c.closed c.senders (len c.cursors) c.inactive end e)
     (λ _. attended_closed true c.senders (len c.cursors) c.inactive end refl)
 
-attended_accepting : (c : Control) (end : ℕ) → end + 1 < 2 ^ 64 → IsAttended c.closed c.senders (len c.cursors) c.inactive end
+-- where the last message that is accepted has the number end
+pub attended_accepting : (c : Control) (old end : ℕ) → end + 1 < 2 ^ 64 → IsAttended c.closed c.senders (len c.cursors) c.inactive old
     → IsAttended (accepting c end).closed (accepting c end).senders (len (accepting c end).cursors) (accepting c end).inactive (end + 1)
-attended_accepting c end below a = accepting_is (λ now. IsAttended now.closed now.senders (len now.cursors) now.inactive (end + 1)) c end
+attended_accepting c old end below a = accepting_is (λ now. IsAttended now.closed now.senders (len now.cursors) now.inactive (end + 1)) c end
     (attended_last (tell_receivers c) (end + 1))
     (λ e. record { sender = a.sender; receiver = a.receiver; open_end = λ _. grind (arith, common_steps, e, below) })
 
 told_close : (c : Control) → OneIsTold c.waiting_sends → OneIsTold (close c).waiting_sends
 told_close c one = close_is (λ now. OneIsTold now.waiting_sends) c (λ _. one) (λ _ some. some)
 
-told_accepting : (c : Control) (end : ℕ) → OneIsTold c.waiting_sends → OneIsTold (accepting c end).waiting_sends
+pub told_accepting : (c : Control) (end : ℕ) → OneIsTold c.waiting_sends → OneIsTold (accepting c end).waiting_sends
 told_accepting c end one = accepting_is (λ now. OneIsTold now.waiting_sends) c end (told_close (tell_receivers c) one) (λ _. one)
 
 module _ {T : Type 0} where
   -- who waits to receive is told, and may be under the new end
-  sound_accepting : (v : View T) (c : Control) (end : ℕ) → end + 1 < 2 ^ 64 → IsSound v end c → IsSound v (end + 1) (accepting c end)
-  sound_accepting v c end below s =
+  pub sound_accepting : (v : View T) (c : Control) (old end : ℕ) → old ≤ end → end + 1 < 2 ^ 64 → IsSound v old c → IsSound v (end + 1) (accepting c end)
+  sound_accepting v c old end grows below s =
       let sizes = s.sizes in
       let told : IsSound v (end + 1) (tell_receivers c) = record {
         cursors = λ key cursor e. (let r = s.cursors key cursor e in (omega (arith, r.0), r.1));
         sizes = record { positive = sizes.positive; within = sizes.within; room_fits = sizes.room_fits; receivers_fit = sizes.receivers_fit; senders_fit = sizes.senders_fit; inactive_fit = sizes.inactive_fit; end_fits = below };
         sends = s.sends;
-        receives = receives_all_told c.cursors c.closed c.closed end (end + 1) c.waiting_receives s.receives;
+        receives = receives_all_told c.cursors c.closed c.closed old (end + 1) c.waiting_receives s.receives;
       } in
       accepting_is (IsSound v (end + 1)) c end (sound_close v (end + 1) (tell_receivers c) told) (λ _. told)
 
@@ -74,8 +75,8 @@ module _ {T : Type 0} where
           fits = rw same (test_is (λ n. length (drop (max (max v.front n) (least (v.end + 1) (values (accepting v.control v.end).cursors)) - v.front) (v.queue ++ msg ∷ [])) ≤ v.control.capacity) (is_full v) (v.front + 1) 0
               (λ e. let full : length v.queue ≡ v.control.capacity = grind (arith, common_steps, e) in simp (length-drop, length-append) (omega arith))
               (λ e. let other : length v.queue ≢ v.control.capacity = grind (arith, common_steps, e) in simp (length-drop, length-append) (omega (arith, valid.fits))));
-          sound = sound_accepting v v.control v.end below idle.sound;
-          attended = attended_accepting v.control v.end below idle.attended;
+          sound = sound_accepting v v.control v.end v.end (omega arith) below idle.sound;
+          attended = attended_accepting v.control v.end v.end below idle.attended;
           told = λ was _. told_accepting v.control v.end (valid.wake_ups.sends (not_not (sends_are_ready v) was));
         }
 

@@ -3,4 +3,5 @@
 
 pub mod error;
 pub mod listener;
+pub mod messages;
 pub mod run;

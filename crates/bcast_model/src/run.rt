@@ -1,5 +1,6 @@
 //! Calls on a channel, and their replies, as data.
 use crate::error::{HandleError, RecvError, SendError, TryRecvError, TrySendError};
+use crate::messages::Messages;
 use futures::task::Poll;
 use std::alloc::AllocError;
 
@@ -17,9 +18,10 @@ pub enum SendPoll<T> {
 ///
 /// A `usize` is a receiver's key, in `PollSend` and `EndSend` a send's place, and in `SetCapacity`
 /// the new capacity.
-#[derive(Clone, Copy, PartialEq, Debug, Drop)]
+#[derive(Clone, PartialEq, Debug, Drop)]
 pub enum Call<T> {
     TryBroadcast(T),
+    TryBroadcastAll(Messages<T>),
     AttemptSend(T),
     BeginSend,
     PollSend(usize, T),
@@ -61,6 +63,7 @@ pub enum Call<T> {
 #[derive(PartialEq, Drop)]
 pub enum Reply<T> {
     TryBroadcast(Result<Option<T>, TrySendError<T>>),
+    TryBroadcastAll(Result<(), TrySendError<Messages<T>>>),
     AttemptSend(SendPoll<T>),
     BeginSend(Result<usize, AllocError>),
     PollSend(SendPoll<T>),

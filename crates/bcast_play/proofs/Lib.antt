@@ -1,4 +1,5 @@
 mod Answered
 mod Lists
+mod Refused
 mod TopicsLemmas
 mod Views

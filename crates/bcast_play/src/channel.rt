@@ -47,17 +47,17 @@ impl<A: Allocator + Copy> Channel<A> {
     ///   was done.
     /// - `NoMemory`: the call or a new name found no memory. Nothing was written.
     /// - `OutputFailed`: a write failed.
-    pub fn run<W: Write>(&mut self, alloc: A, line: Line<'_>, output: &mut W) -> Result<(), Fault>
-        requires { IsInForm line }
+    pub fn run<W: Write>(&mut self, alloc: A, line: &Line<'_>, output: &mut W) -> Result<(), Fault>
+        requires { IsInForm line.now }
         ensures ok { OnOk result ((answer : List ℕ)
-            × IsMade (named_of self.old) line.entry answer (named_of self.new)
+            × IsMade (named_of self.old) line.now answer (named_of self.new)
             × Appends (W.contents output.old) (W.contents output.new) answer) }
         ensures unwritten { (result ≡ Err Fault.NotACall) ⊎ (result ≡ Err Fault.NoMemory)
             → output.new ≡ output.old }
         ensures refused { result ≡ Err Fault.NotACall
-            → call_of (named_of self.old).key_of line.entry ≡ None }
+            → call_of (named_of self.old).key_of line.now ≡ None }
     {
-        let call = call_by(&self.names, line).ok_or(Fault::NotACall)?;
+        let call = call_by(&self.names, line)?.ok_or(Fault::NotACall)?;
         let reply = step(&mut self.inner, call, Silent);
         record(alloc, &mut self.names, line, &reply)?;
         answer(&reply, output)

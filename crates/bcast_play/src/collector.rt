@@ -12,7 +12,7 @@ use bcast_text::input::{Fault, RunLine, run_lines};
 use bcast_text::trace::line::{LONGEST, Line, read_line};
 use bcast_text::trace::opening::{Opening, read_opening};
 use bcast_text::trace::reply::write_answer;
-use std::alloc::Allocator;
+use std::alloc::{Allocator, Global};
 use std::io;
 use std::io::{Read, Write};
 
@@ -20,17 +20,20 @@ use std::io::{Read, Write};
 #[derive(Drop)]
 pub struct Collector<A: Allocator> {
     alloc: A,
+    // For the lists of messages.
+    heap: Global,
     opening: Option<Opening>,
     calls: Calls<A>,
 }
 
 impl<A: Allocator + Copy> Collector<A> {
     /// A collector before line 1.
-    pub fn new(alloc: A) -> Self
+    pub fn new(alloc: A, heap: Global) -> Self
         ensures { collected_of result ≡ nothing_yet }
     {
         Collector {
             alloc,
+            heap,
             opening: None,
             calls: Calls::new(alloc),
         }
@@ -82,7 +85,7 @@ impl<A: Allocator + Copy> RunLine for Collector<A> {
             self.opening = Some(read_opening(line).ok_or(Fault::NotACall)?);
             return Ok(());
         }
-        match read_line(line).ok_or(Fault::NotACall)? {
+        match read_line(self.heap, line)?.ok_or(Fault::NotACall)? {
             Line::View => {}
             Line::Call(text, call) => self.calls.push(self.alloc, text, call)?,
         }
@@ -109,9 +112,11 @@ fn write_answers<B: Allocator, W: Write>(
 /// line 1 and each call with the reply that `run` gives. Nothing is written if a line is out of
 /// form.
 ///
-/// Takes memory for the calls, their texts and their replies.
+/// Takes memory for the calls, their texts and their replies, and for the messages of lists from
+/// `heap`.
 pub fn list<A: Allocator + Copy, R: Read + Drop, W: Write>(
     alloc: A,
+    heap: Global,
     input: R,
     output: &mut W,
 ) -> Ending
@@ -123,7 +128,7 @@ pub fn list<A: Allocator + Copy, R: Read + Drop, W: Write>(
     ensures unwritten { result ≢ Ending.Done → result ≢ Ending.OutputFailed
         → Keeps (W.contents output.old) (W.contents output.new) }
 {
-    let mut collector = Collector::new(alloc);
+    let mut collector = Collector::new(alloc, heap);
     let ending = run_lines(alloc, input, LONGEST, output, &mut collector);
     if ending != Ending::Done {
         return ending;

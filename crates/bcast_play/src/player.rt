@@ -15,22 +15,28 @@ use bcast_text::input::{Fault, RunLine, run_lines};
 use bcast_text::trace::line::{LONGEST, Line, read_line};
 use bcast_text::trace::opening::read_opening;
 use bcast_text::trace::reply::write_answer;
-use std::alloc::Allocator;
+use std::alloc::{Allocator, Global};
 use std::io::{Read, Write};
 
 /// The channel of a trace, which line 1 opens.
 #[derive(Drop)]
 pub struct Player<A: Allocator> {
     alloc: A,
+    // For the lists of messages.
+    heap: Global,
     inner: Option<Inner<u64, Silent, A>>,
 }
 
 impl<A: Allocator + Copy> Player<A> {
     /// A player before line 1.
-    pub fn new(alloc: A) -> Self
+    pub fn new(alloc: A, heap: Global) -> Self
         ensures { result.inner ≡ None }
     {
-        Player { alloc, inner: None }
+        Player {
+            alloc,
+            heap,
+            inner: None,
+        }
     }
 
     /// Makes the channel that `line` opens, and writes the line.
@@ -69,7 +75,7 @@ impl<A: Allocator + Copy> RunLine for Player<A> {
 
     fn run_line<W: Write>(&mut self, line: &str, output: &mut W) -> Result<(), Fault> {
         match &mut self.inner {
-            Some(inner) => answer(self.alloc, inner, line, output),
+            Some(inner) => answer(self.alloc, self.heap, inner, line, output),
             None => self.start(line, output),
         }
     }
@@ -78,6 +84,7 @@ impl<A: Allocator + Copy> RunLine for Player<A> {
 /// Does what `line` asks for, and writes the view, or the call with its reply.
 fn answer<A: Allocator + Copy, W: Write>(
     alloc: A,
+    heap: Global,
     inner: &mut Inner<u64, Silent, A>,
     line: &str,
     output: &mut W,
@@ -89,7 +96,7 @@ fn answer<A: Allocator + Copy, W: Write>(
         → output.new ≡ output.old }
     ensures refused { result ≡ Err Fault.NotACall → AsksForNone line.now }
 {
-    match read_line(line).ok_or(Fault::NotACall)? {
+    match read_line(heap, line)?.ok_or(Fault::NotACall)? {
         Line::View => write_seen(alloc, inner, output)?,
         Line::Call(text, call) => {
             let reply = step(inner, call, Silent);
@@ -124,9 +131,11 @@ fn write_seen<A: Allocator + Copy, W: Write>(
 /// reply that `step` gives, and each view.
 ///
 /// `output` is flushed before each read that may wait for more input, and at the end. The first
-/// line that is out of form ends the run.
+/// line that is out of form ends the run. The messages of a list take their memory from `heap`, and
+/// all else from `alloc`.
 pub fn trace<A: Allocator + Copy, R: Read + Drop, W: Write>(
     alloc: A,
+    heap: Global,
     input: R,
     output: &mut W,
 ) -> Ending
@@ -134,6 +143,6 @@ pub fn trace<A: Allocator + Copy, R: Read + Drop, W: Write>(
         × IsRun IsNoTraceLine false LONGEST (IsTraceLine A) (R.remaining input)
         (W.contents output.old) (W.contents output.new) None last result }
 {
-    let mut player = Player::new(alloc);
+    let mut player = Player::new(alloc, heap);
     run_lines(alloc, input, LONGEST, output, &mut player)
 }

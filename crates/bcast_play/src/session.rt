@@ -1,13 +1,16 @@
 //! The run of a script.
-ghost use Rattle.std.specs.Prelude.{◌≢◌, ℕ, None, Option, false};
+ghost use Rattle.std.specs.Prelude.{◌≡◌, ◌≢◌, ◌⊎◌, ℕ, List, None, Err, Option, OnOk, false};
+ghost use Rattle.std.specs.Io.KnownBytes.{Appends};
+ghost use Rattle.bcast_text.specs.ScriptLine.{text_of, IsInForm};
 ghost use Rattle.bcast_text.specs.Run.{IsRun};
-ghost use Rattle.bcast_play.specs.ScriptRun.{Named, IsScriptLine, IsNoScriptLine};
+ghost use Rattle.bcast_play.specs.Channels.{session_of};
+ghost use Rattle.bcast_play.specs.ScriptRun.{Named, IsScriptLine, IsNoScriptLine, opened_by};
 
 use crate::channel::Channel;
 use bcast_text::ending::Ending;
 use bcast_text::input::{Fault, RunLine, run_lines};
 use bcast_text::script::line::{Line, read_line};
-use std::alloc::Allocator;
+use std::alloc::{Allocator, Global};
 use std::io::{Read, Write};
 
 /// The most bytes that a line may have, its LF aside.
@@ -17,7 +20,29 @@ pub const LONGEST: u32 = 200;
 #[derive(Drop)]
 struct Session<A: Allocator> {
     alloc: A,
+    // For the lists of messages.
+    heap: Global,
     channel: Option<Channel<A>>,
+}
+
+impl<A: Allocator + Copy> Session<A> {
+    /// Makes the channel that `line` asks for, and writes the answer.
+    fn start<W: Write>(&mut self, line: &Line<'_>, output: &mut W) -> Result<(), Fault>
+        requires { IsInForm line.now }
+        ensures ok { OnOk result ((answer : List ℕ)
+            × IsScriptLine None (text_of line.now) answer (session_of self.new)
+            × Appends (W.contents output.old) (W.contents output.new) answer) }
+        ensures unwritten { (result ≡ Err Fault.NotACall) ⊎ (result ≡ Err Fault.NoMemory)
+            → output.new ≡ output.old }
+        ensures refused { result ≡ Err Fault.NotACall → opened_by line.now ≡ None }
+    {
+        let Line::Cap(capacity) = line else {
+            return Err(Fault::NotACall);
+        };
+        self.channel = Some(Channel::open(self.alloc, *capacity as usize)?);
+        output.write_all(b"ok\n")?;
+        Ok(())
+    }
 }
 
 impl<A: Allocator + Copy> RunLine for Session<A> {
@@ -38,15 +63,10 @@ impl<A: Allocator + Copy> RunLine for Session<A> {
     const MAY_BE_EMPTY: bool = false;
 
     fn run_line<W: Write>(&mut self, line: &str, output: &mut W) -> Result<(), Fault> {
-        let line = read_line(line).ok_or(Fault::NotACall)?;
-        match (&mut self.channel, line) {
-            (Some(channel), line) => channel.run(self.alloc, line, output),
-            (None, Line::Cap(capacity)) => {
-                self.channel = Some(Channel::open(self.alloc, capacity as usize)?);
-                output.write_all(b"ok\n")?;
-                Ok(())
-            }
-            (None, _) => Err(Fault::NotACall),
+        let line = read_line(self.heap, line)?.ok_or(Fault::NotACall)?;
+        match &mut self.channel {
+            Some(channel) => channel.run(self.alloc, &line, output),
+            None => self.start(&line, output),
         }
     }
 }
@@ -54,9 +74,11 @@ impl<A: Allocator + Copy> RunLine for Session<A> {
 /// Runs the script that `input` holds, line by line, and writes an answer to each line.
 ///
 /// `output` is flushed before each read that may wait for more input, and at the end. The first
-/// line that is no call ends the run.
+/// line that is no call ends the run. The messages of a `sendall` take their memory from `heap`, and
+/// all else from `alloc`.
 pub fn script<A: Allocator + Copy, R: Read + Drop, W: Write>(
     alloc: A,
+    heap: Global,
     input: R,
     output: &mut W,
 ) -> Ending
@@ -66,6 +88,7 @@ pub fn script<A: Allocator + Copy, R: Read + Drop, W: Write>(
 {
     let mut session = Session {
         alloc,
+        heap,
         channel: None,
     };
     run_lines(alloc, input, LONGEST, output, &mut session)

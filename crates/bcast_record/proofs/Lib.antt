@@ -1,4 +1,5 @@
 pub mod Appends
+pub mod Copies
 pub mod Notes
 pub mod Pages
 pub mod Prefixes

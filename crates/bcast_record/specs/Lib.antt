@@ -8,3 +8,5 @@ pub mod Opened
 pub mod Recording
 -- the recorded history replays
 pub mod Replay
+-- which lists a copy needs
+pub mod Copies

@@ -1,7 +1,4 @@
 //! What a recorder stores.
-ghost use Rattle.std.specs.Prelude.{◌≡◌};
-
-use crate::copy::copy_of_reply;
 use bcast_core::{Call, Reply};
 
 /// What a recorder's channel was opened with.
@@ -20,19 +17,6 @@ pub struct Entry<T> {
     pub seat: usize,
     pub call: Call<T>,
     pub reply: Reply<T>,
-}
-
-impl<T: Copy> Entry<T> {
-    // The same entry.
-    pub(crate) fn copied(&self) -> Entry<T>
-        ensures { result ≡ self.now }
-    {
-        Entry {
-            seat: self.seat,
-            call: self.call,
-            reply: copy_of_reply(&self.reply),
-        }
-    }
 }
 
 /// What the journal of a recorder notes: first what it was opened with, and then each entry.

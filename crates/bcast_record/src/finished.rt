@@ -4,6 +4,7 @@ ghost use Rattle.std.specs.List.{AllByRecursion};
 ghost use Rattle.bcast_model.specs.Next.{HasPositiveCapacity};
 ghost use Rattle.bcast_record.specs.Replay.{calls_of};
 
+use crate::copy::copy_of_call;
 use crate::entry::{Entry, Note, Opening};
 use crate::journal::{Named, Prefix};
 use crate::receipt::Receipt;
@@ -83,5 +84,9 @@ fn copies<T: Copy, A: Allocator + Copy>(
 ) -> Result<Vec<Call<T>, A>, AllocError>
     ensures { IfOk result (λ calls. calls.items ≡ map (λ entry. entry.call) entries.now) }
 {
-    entries.iter().map(|entry| entry.call).collect(alloc)
+    let mut calls = Vec::with_capacity(alloc, entries.len())?;
+    for entry in entries {
+        calls.push_reserved(copy_of_call(&entry.call)?);
+    }
+    Ok(calls)
 }

@@ -214,13 +214,19 @@ impl<X: Drop, J: Named> Writer<X, J> {
         self.prefix.reserve(&self.head, self.slot.number + 1)
     }
 
-    /// Appends a note. `next` is the slot for the note after it.
-    pub(crate) fn append(&mut self, next: Slot<J>, note: X)
+    /// Appends a note, and gives it back. `next` is the slot for the note after it.
+    pub(crate) fn append(&mut self, next: Slot<J>, note: X) -> X
         requires { next ≡ length self.old + 1 }
-        ensures { self.new ≡ self.old ++ note ∷ [] }
+        ensures appended { self.new ≡ self.old ++ note ∷ [] }
+        ensures same { result ≡ note }
     {
         let slot = mem::replace(&mut self.slot, next);
-        self.prefix.write(&self.head, slot, &Some(note));
+        let page = Some(note);
+        self.prefix.write(&self.head, slot, &page);
+        match page {
+            Some(note) => note,
+            None => unreachable!(),
+        }
     }
 
     /// All notes so far, as a prefix.

@@ -26,12 +26,13 @@ mod receipt;
 mod recorder;
 mod rule;
 mod seat;
+mod spares;
 
 pub use bcast_core::{
-    Call, HandleError, Kind, NoMemory, RecvError, Reply, SendError, SendPoll, TryRecvError,
-    TrySendError, Waiting, run,
+    Call, HandleError, Kind, Messages, NoMemory, RecvError, Reply, SendError, SendPoll,
+    TryRecvError, TrySendError, Waiting, run,
 };
-pub use copy::copy_of_reply;
+pub use copy::{copy_of_call, copy_of_reply};
 pub use entry::{Entry, Note, Opening};
 pub use finished::Finished;
 pub use journal::{Journal, Named};

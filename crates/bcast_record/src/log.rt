@@ -1,5 +1,5 @@
 //! A channel with the calls that it was asked, and its replies.
-ghost use Rattle.std.specs.Prelude.{◌≡◌, ◌+◌, ◌<◌, ◌≤◌, ◌^◌, [], length, Some, IfOk, IfErr, IfSome, OnOk, vec_len, vec_capacity, slice_get};
+ghost use Rattle.std.specs.Prelude.{◌≡◌, ◌+◌, ◌<◌, ◌≤◌, ◌^◌, [], ◌∷◌, ◌++◌, length, Some, IfOk, IfErr, IfSome, OnOk, vec_len, vec_capacity, slice_get};
 ghost use Rattle.std.specs.List.{sum_by};
 ghost use Rattle.bcast_record.specs.Content.{so_far};
 ghost use Rattle.bcast_model.specs.Next.{HasPositiveCapacity};
@@ -13,6 +13,7 @@ use crate::finished::Finished;
 use crate::journal::{Journal, Named, Prefix, Slot, Writer};
 use crate::receipt::Receipt;
 use crate::seat::{Seat, gather, make_seats};
+use crate::spares::Spares;
 use bcast_core::{Call, Inner, NoMemory, Silent, step};
 use std::alloc::{AllocError, Allocator, Global};
 use std::marker::Model;
@@ -105,7 +106,8 @@ impl<T: Copy + Clone, R: Named, A: Allocator + Copy> Log<T, R, A> {
     ///
     /// # Errors
     ///
-    /// - `NoMemory(call)`: no memory for the entry. The call was not made: nothing changed.
+    /// - `NoMemory(call)`: no memory for the entry, or for copies of the call's list for the entry
+    ///   and the receipt. The call was not made: nothing changed.
     pub fn step(
         &mut self,
         seat: &mut Seat<R>,
@@ -126,16 +128,15 @@ impl<T: Copy + Clone, R: Named, A: Allocator + Copy> Log<T, R, A> {
         let Some(next) = room(&mut self.entries, &self.journal) else {
             return Err(NoMemory(call));
         };
+        let Ok(spares) = Spares::of(&call) else {
+            return Err(NoMemory(call));
+        };
         let place = self.entries.len();
         let reply = step(&mut self.inner, call, Silent);
-        let entry = Entry {
-            seat: seat.number(),
-            call,
-            reply,
-        };
+        let (stored, entry) = spares.into_entries(seat.number(), reply);
         seat.add_call(&mut self.calls);
-        self.journal.append(next, Note::Answered(entry.copied()));
-        self.entries.push_reserved(entry.copied());
+        self.entries.push_reserved(stored);
+        let entry = noted(&mut self.journal, next, entry);
         Ok(Receipt {
             place,
             entry,
@@ -208,6 +209,22 @@ fn opened<T: Copy, R: Named>(
     let next = writer.reserve()?;
     writer.append(next, Note::Opened(opening));
     Some(writer)
+}
+
+// Notes an entry in a journal, and gives it back.
+fn noted<T: Copy, R: Named>(
+    journal: &mut Writer<Note<T>, R>,
+    next: Slot<R>,
+    entry: Entry<T>,
+) -> Entry<T>
+    requires { next ≡ length journal.old + 1 }
+    ensures noted { journal.new ≡ journal.old ++ note.Answered entry ∷ [] }
+    ensures same { result ≡ entry }
+{
+    match journal.append(next, Note::Answered(entry)) {
+        Note::Answered(entry) => entry,
+        Note::Opened(_) => unreachable!(),
+    }
 }
 
 // Room for one entry more, and the slot for the note after it.

@@ -8,6 +8,7 @@ ghost use Rattle.std.specs.FinMap.{empty, entries, get, insert, len};
 ghost use Rattle.bcast_store.specs.Stored.{IsSettled, end_of};
 
 use crate::cursors::Cursors;
+use bcast_model::messages::Messages;
 use bcast_queue::Queue;
 use std::alloc::{AllocError, Allocator, Global};
 use std::marker::Model;
@@ -184,6 +185,18 @@ impl<T: Drop, A: Allocator + Copy> Store<T, A> {
     {
         self.queue.invariant_holds();
         self.queue.push(msg, self.cursors.len());
+    }
+
+    /// Puts all these messages last, in their order, for every receiver. Takes no memory.
+    pub fn push_all(&mut self, msgs: Messages<T>)
+        requires someone { 0 < len self.old.cursors }
+        requires room { length self.old.queue + length msgs ≤ self.old.room }
+        requires number { end_of self.old + length msgs < 2 ^ 64 }
+        ensures { self.new ≡ record self.old { queue = self.old.queue ++ msgs } }
+    {
+        for msg in msgs.into_vec() {
+            self.push(msg);
+        }
     }
 
     /// Takes the first message out, whoever is still to read it, or returns nothing if there

@@ -1,15 +1,18 @@
 -- The names and arguments of calls.
 use Rattle.std.proofs.Common.{◌≡◌, ◌≢◌, ◌<◌, ◌^◌, ◌∷◌, [], ℕ, List, Bool, true, false, Some, IfSome, codes, refl, arith}
 use Rattle.std.specs.Fmt.{decimal}
+use Rattle.std.specs.List.{AllByRecursion}
 use Rattle.std.proofs.lemmas.Option.{none-some}
 use Rattle.bcast_model.specs.declared.run.Call.{Call}
-use Rattle.bcast_model.specs.declared.run.Call.TheVariants.{TryBroadcast, AttemptSend, BeginSend, PollSend, EndSend, TryRecv, PollFuture, EndFuture, PollRecv, PollNext, Close, SetCapacity, SetOverflow, SetAwaitActive, NewSender, CloneInactive, Deactivate, NewReceiver, Activate, ActivateCloned, CloneReceiver, DropSender, DropInactive, DropReceiver, Overflow, AwaitActive, IsEmpty, IsFull, IsClosed, IsTerminated, Capacity, Len, ReceiverCount, InactiveReceiverCount, SenderCount, EndNumber}
+use Rattle.bcast_model.specs.declared.run.Call.TheVariants.{TryBroadcast, TryBroadcastAll, AttemptSend, BeginSend, PollSend, EndSend, TryRecv, PollFuture, EndFuture, PollRecv, PollNext, Close, SetCapacity, SetOverflow, SetAwaitActive, NewSender, CloneInactive, Deactivate, NewReceiver, Activate, ActivateCloned, CloneReceiver, DropSender, DropInactive, DropReceiver, Overflow, AwaitActive, IsEmpty, IsFull, IsClosed, IsTerminated, Capacity, Len, ReceiverCount, InactiveReceiverCount, SenderCount, EndNumber}
+use Rattle.bcast_text.specs.Words.{numbers_text, IsU64}
 use Rattle.bcast_text.specs.TraceCall.{flag_text, name_of, number_of, arguments_of, text_of, IsInRange}
 use Rattle.bcast_text.proofs.Spaced.{Lacks, Lacks-nil, Lacks-cons, Lacks-append, Lacks-decimal, Lacks-spaced, is_plain, plain_hyphen}
 
 -- no name has a space or a hyphen
 pub plain_name : (call : Call ℕ) → is_plain (name_of call) ≡ true
 plain_name (TryBroadcast msg) = refl
+plain_name (TryBroadcastAll msgs) = refl
 plain_name (AttemptSend msg) = refl
 plain_name BeginSend = refl
 plain_name (PollSend place msg) = refl
@@ -50,8 +53,13 @@ flag_hyphen : (on : Bool) → Lacks 45 (flag_text on)
 flag_hyphen true = plain_hyphen (flag_text true) refl
 flag_hyphen false = plain_hyphen (flag_text false) refl
 
+numbers_hyphen : (msgs : List ℕ) → AllByRecursion IsU64 msgs → IfSome (numbers_text msgs) (Lacks 45)
+numbers_hyphen [] range = tt
+numbers_hyphen (n ∷ msgs) range = Lacks-spaced 45 (decimal n) (numbers_text msgs) (λ e. omega (arith, e)) (Lacks-decimal 45 n (omega arith) range.0) (numbers_hyphen msgs range.1)
+
 arguments_hyphen : (call : Call ℕ) → IsInRange call → IfSome (arguments_of call) (Lacks 45)
 arguments_hyphen (TryBroadcast msg) range = Lacks-decimal 45 msg (omega arith) range
+arguments_hyphen (TryBroadcastAll msgs) range = numbers_hyphen msgs range
 arguments_hyphen (AttemptSend msg) range = Lacks-decimal 45 msg (omega arith) range
 arguments_hyphen BeginSend range = tt
 arguments_hyphen (PollSend place msg) range = Lacks-append 45 _ (decimal msg) (Lacks-append 45 (decimal place) (32 ∷ []) (Lacks-decimal 45 place (omega arith) range.0) (Lacks-cons 45 32 [] (λ e. omega (arith, e)) (Lacks-nil 45))) (Lacks-decimal 45 msg (omega arith) range.1)
@@ -96,43 +104,44 @@ text_hyphen call range =
 value_of : {xs ys : List ℕ} → Some xs ≡ Some ys → ys ≡ xs
 value_of same = cc
 
--- a call with arguments, none of the four names, has one number
-pub has_number : (name arguments : List ℕ) → name ≢ codes "PollSend" → name ≢ codes "SetCapacity" → name ≢ codes "SetOverflow" → name ≢ codes "SetAwaitActive"
+-- a call with arguments, none of the five names, has one number
+pub has_number : (name arguments : List ℕ) → name ≢ codes "PollSend" → name ≢ codes "SetCapacity" → name ≢ codes "SetOverflow" → name ≢ codes "SetAwaitActive" → name ≢ codes "TryBroadcastAll"
     → (call : Call ℕ) → IsInRange call → name ≡ name_of call → arguments_of call ≡ Some arguments
     → (n : ℕ) × (n < 2 ^ 64) × (number_of call ≡ Some n) × (arguments ≡ decimal n)
-has_number name arguments a b c d (TryBroadcast msg) range is same = (msg, range, refl, value_of same)
-has_number name arguments a b c d (AttemptSend msg) range is same = (msg, range, refl, value_of same)
-has_number name arguments a b c d BeginSend range is same = absurd (none-some arguments same)
-has_number name arguments a b c d (PollSend place msg) range is same = absurd (a is)
-has_number name arguments a b c d (EndSend place) range is same = (place, range, refl, value_of same)
-has_number name arguments a b c d (TryRecv key) range is same = (key, range, refl, value_of same)
-has_number name arguments a b c d (PollFuture key) range is same = (key, range, refl, value_of same)
-has_number name arguments a b c d (EndFuture key) range is same = (key, range, refl, value_of same)
-has_number name arguments a b c d (PollRecv key) range is same = (key, range, refl, value_of same)
-has_number name arguments a b c d (PollNext key) range is same = (key, range, refl, value_of same)
-has_number name arguments a b c d Close range is same = absurd (none-some arguments same)
-has_number name arguments a b c d (SetCapacity n) range is same = absurd (b is)
-has_number name arguments a b c d (SetOverflow on) range is same = absurd (c is)
-has_number name arguments a b c d (SetAwaitActive on) range is same = absurd (d is)
-has_number name arguments a b c d NewSender range is same = absurd (none-some arguments same)
-has_number name arguments a b c d CloneInactive range is same = absurd (none-some arguments same)
-has_number name arguments a b c d (Deactivate key) range is same = (key, range, refl, value_of same)
-has_number name arguments a b c d NewReceiver range is same = absurd (none-some arguments same)
-has_number name arguments a b c d Activate range is same = absurd (none-some arguments same)
-has_number name arguments a b c d ActivateCloned range is same = absurd (none-some arguments same)
-has_number name arguments a b c d (CloneReceiver key) range is same = (key, range, refl, value_of same)
-has_number name arguments a b c d DropSender range is same = absurd (none-some arguments same)
-has_number name arguments a b c d DropInactive range is same = absurd (none-some arguments same)
-has_number name arguments a b c d (DropReceiver key) range is same = (key, range, refl, value_of same)
-has_number name arguments a b c d Overflow range is same = absurd (none-some arguments same)
-has_number name arguments a b c d AwaitActive range is same = absurd (none-some arguments same)
-has_number name arguments a b c d IsEmpty range is same = absurd (none-some arguments same)
-has_number name arguments a b c d IsFull range is same = absurd (none-some arguments same)
-has_number name arguments a b c d IsClosed range is same = absurd (none-some arguments same)
-has_number name arguments a b c d IsTerminated range is same = absurd (none-some arguments same)
-has_number name arguments a b c d Capacity range is same = absurd (none-some arguments same)
-has_number name arguments a b c d Len range is same = absurd (none-some arguments same)
-has_number name arguments a b c d ReceiverCount range is same = absurd (none-some arguments same)
-has_number name arguments a b c d InactiveReceiverCount range is same = absurd (none-some arguments same)
-has_number name arguments a b c d SenderCount range is same = absurd (none-some arguments same)
-has_number name arguments a b c d EndNumber range is same = absurd (none-some arguments same)
+has_number name arguments a b c d e (TryBroadcast msg) range is same = (msg, range, refl, value_of same)
+has_number name arguments a b c d e (TryBroadcastAll msgs) range is same = absurd (e is)
+has_number name arguments a b c d e (AttemptSend msg) range is same = (msg, range, refl, value_of same)
+has_number name arguments a b c d e BeginSend range is same = absurd (none-some arguments same)
+has_number name arguments a b c d e (PollSend place msg) range is same = absurd (a is)
+has_number name arguments a b c d e (EndSend place) range is same = (place, range, refl, value_of same)
+has_number name arguments a b c d e (TryRecv key) range is same = (key, range, refl, value_of same)
+has_number name arguments a b c d e (PollFuture key) range is same = (key, range, refl, value_of same)
+has_number name arguments a b c d e (EndFuture key) range is same = (key, range, refl, value_of same)
+has_number name arguments a b c d e (PollRecv key) range is same = (key, range, refl, value_of same)
+has_number name arguments a b c d e (PollNext key) range is same = (key, range, refl, value_of same)
+has_number name arguments a b c d e Close range is same = absurd (none-some arguments same)
+has_number name arguments a b c d e (SetCapacity n) range is same = absurd (b is)
+has_number name arguments a b c d e (SetOverflow on) range is same = absurd (c is)
+has_number name arguments a b c d e (SetAwaitActive on) range is same = absurd (d is)
+has_number name arguments a b c d e NewSender range is same = absurd (none-some arguments same)
+has_number name arguments a b c d e CloneInactive range is same = absurd (none-some arguments same)
+has_number name arguments a b c d e (Deactivate key) range is same = (key, range, refl, value_of same)
+has_number name arguments a b c d e NewReceiver range is same = absurd (none-some arguments same)
+has_number name arguments a b c d e Activate range is same = absurd (none-some arguments same)
+has_number name arguments a b c d e ActivateCloned range is same = absurd (none-some arguments same)
+has_number name arguments a b c d e (CloneReceiver key) range is same = (key, range, refl, value_of same)
+has_number name arguments a b c d e DropSender range is same = absurd (none-some arguments same)
+has_number name arguments a b c d e DropInactive range is same = absurd (none-some arguments same)
+has_number name arguments a b c d e (DropReceiver key) range is same = (key, range, refl, value_of same)
+has_number name arguments a b c d e Overflow range is same = absurd (none-some arguments same)
+has_number name arguments a b c d e AwaitActive range is same = absurd (none-some arguments same)
+has_number name arguments a b c d e IsEmpty range is same = absurd (none-some arguments same)
+has_number name arguments a b c d e IsFull range is same = absurd (none-some arguments same)
+has_number name arguments a b c d e IsClosed range is same = absurd (none-some arguments same)
+has_number name arguments a b c d e IsTerminated range is same = absurd (none-some arguments same)
+has_number name arguments a b c d e Capacity range is same = absurd (none-some arguments same)
+has_number name arguments a b c d e Len range is same = absurd (none-some arguments same)
+has_number name arguments a b c d e ReceiverCount range is same = absurd (none-some arguments same)
+has_number name arguments a b c d e InactiveReceiverCount range is same = absurd (none-some arguments same)
+has_number name arguments a b c d e SenderCount range is same = absurd (none-some arguments same)
+has_number name arguments a b c d e EndNumber range is same = absurd (none-some arguments same)

@@ -19,6 +19,10 @@ answer_of (reply.TryBroadcast (Ok (Some oldest))) = Some (codes "ok dropped " ++
 answer_of (reply.TryBroadcast (Err (send.Full msg))) = Some (codes "full " ++ decimal msg)
 answer_of (reply.TryBroadcast (Err (send.Closed msg))) = Some (codes "closed " ++ decimal msg)
 answer_of (reply.TryBroadcast (Err (send.Inactive msg))) = Some (codes "inactive " ++ decimal msg)
+answer_of (reply.TryBroadcastAll (Ok done)) = Some (codes "ok")
+answer_of (reply.TryBroadcastAll (Err (send.Full msgs))) = Some (codes "full all")
+answer_of (reply.TryBroadcastAll (Err (send.Closed msgs))) = Some (codes "closed all")
+answer_of (reply.TryBroadcastAll (Err (send.Inactive msgs))) = Some (codes "inactive all")
 answer_of (reply.TryRecv (Ok (Ok msg))) = Some (codes "got " ++ decimal msg)
 answer_of (reply.TryRecv (Ok (Err (receive.Overflowed n)))) =
     Some (codes "overflowed " ++ decimal n)

@@ -17,6 +17,7 @@ unless_used key_of new asked = if is_some (key_of new) then None else asked
 abbrev pub call_of : (List ℕ → Option ℕ) → Line → Option (Call ℕ)
 call_of key_of (line.Cap n) = None
 call_of key_of (line.Send msg) = Some (call.TryBroadcast msg)
+call_of key_of (line.SendAll msgs) = Some (call.TryBroadcastAll msgs)
 call_of key_of (line.Recv name) = option_map call.TryRecv (key_of name.now)
 call_of key_of (line.Clone name new) =
     unless_used key_of new.now (option_map call.CloneReceiver (key_of name.now))

@@ -1,10 +1,11 @@
 -- The text of each line of a script, and which numbers and names are in form.
-use Rattle.std.specs.Prelude.{ℕ, List, Option, Some, None, Bool, true, false, IfSome, ◌++◌, codes}
+use Rattle.std.specs.Prelude.{ℕ, ◌<◌, List, length, Option, Some, None, Bool, true, false, IfSome, ◌++◌, codes}
+use Rattle.std.specs.List.{AllByRecursion}
 use Rattle.std.specs.Fmt.{decimal}
 use Rattle.bcast_text.specs.Name.{IsName}
-use Rattle.bcast_text.specs.Words.{spaced, IsU64, IsCapacity}
+use Rattle.bcast_text.specs.Words.{spaced, numbers_text, IsU64, IsCapacity}
 use Rattle.bcast_text.specs.declared.script.line.Line.{Line}
-use Rattle.bcast_text.specs.declared.script.line.Line.TheVariants.{Cap, Send, Recv, Clone, New, Drop, NewSender, DropSender, Close, Capacity, Overflow, Await, Deactivate, Activate, DropInactive, Len}
+use Rattle.bcast_text.specs.declared.script.line.Line.TheVariants.{Cap, Send, SendAll, Recv, Clone, New, Drop, NewSender, DropSender, Close, Capacity, Overflow, Await, Deactivate, Activate, DropInactive, Len}
 
 -- how a setting is spelt
 abbrev pub flag_text : Bool → List ℕ
@@ -15,6 +16,7 @@ flag_text false = codes "off"
 abbrev pub word_of : Line → List ℕ
 word_of (Cap n) = codes "cap"
 word_of (Send msg) = codes "send"
+word_of (SendAll msgs) = codes "sendall"
 word_of (Recv name) = codes "recv"
 word_of (Clone name new) = codes "clone"
 word_of (New new) = codes "new"
@@ -43,6 +45,7 @@ name_in line = None
 abbrev pub arguments_of : Line → Option (List ℕ)
 arguments_of (Cap n) = Some (decimal n)
 arguments_of (Send msg) = Some (decimal msg)
+arguments_of (SendAll msgs) = numbers_text msgs
 arguments_of (Clone name new) = Some (name.now ++ codes " " ++ new.now)
 arguments_of (Capacity n) = Some (decimal n)
 arguments_of (Overflow on) = Some (flag_text on)
@@ -53,10 +56,11 @@ arguments_of line = name_in line
 abbrev pub text_of : Line → List ℕ
 text_of line = spaced (word_of line) (arguments_of line)
 
--- numbers are such as a line can have, a capacity is positive, and names are names
+-- numbers are such as a line can have, a list has one, a capacity is positive, and names are names
 abbrev pub IsInForm : Line → Type 0
 IsInForm (Cap n) = IsCapacity n
 IsInForm (Send msg) = IsU64 msg
+IsInForm (SendAll msgs) = (0 < length msgs) × AllByRecursion IsU64 msgs
 IsInForm (Capacity n) = IsCapacity n
 IsInForm (Clone name new) = IsName name.now × IsName new.now
 IsInForm line = IfSome (name_in line) IsName

@@ -23,6 +23,13 @@ sent_text (Err (send.Full msg)) = codes "full " ++ decimal msg
 sent_text (Err (send.Closed msg)) = codes "closed " ++ decimal msg
 sent_text (Err (send.Inactive msg)) = codes "inactive " ++ decimal msg
 
+-- `TryBroadcastAll`
+abbrev pub sent_all_text : Result (Unit {0}) (TrySendError (List ℕ)) → List ℕ
+sent_all_text (Ok done) = codes "ok"
+sent_all_text (Err (send.Full msgs)) = codes "full all"
+sent_all_text (Err (send.Closed msgs)) = codes "closed all"
+sent_all_text (Err (send.Inactive msgs)) = codes "inactive all"
+
 -- `AttemptSend`, `PollSend`
 abbrev pub send_poll_text : SendPoll ℕ → List ℕ
 send_poll_text (poll.Ready (Ok None)) = codes "ready ok"

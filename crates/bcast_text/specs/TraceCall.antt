@@ -1,9 +1,10 @@
 -- The text of each call in a trace.
 use Rattle.std.specs.Prelude.{ℕ, List, Option, Some, None, Bool, true, false, option_map, IfSome, ◌++◌, codes}
 use Rattle.std.specs.Fmt.{decimal}
-use Rattle.bcast_text.specs.Words.{spaced, IsU64, IsCapacity}
+use Rattle.std.specs.List.{AllByRecursion}
+use Rattle.bcast_text.specs.Words.{spaced, numbers_text, IsU64, IsCapacity}
 use Rattle.bcast_model.specs.declared.run.Call.{Call}
-use Rattle.bcast_model.specs.declared.run.Call.TheVariants.{TryBroadcast, AttemptSend, BeginSend, PollSend, EndSend, TryRecv, PollFuture, EndFuture, PollRecv, PollNext, Close, SetCapacity, SetOverflow, SetAwaitActive, NewSender, CloneInactive, Deactivate, NewReceiver, Activate, ActivateCloned, CloneReceiver, DropSender, DropInactive, DropReceiver, Overflow, AwaitActive, IsEmpty, IsFull, IsClosed, IsTerminated, Capacity, Len, ReceiverCount, InactiveReceiverCount, SenderCount, EndNumber}
+use Rattle.bcast_model.specs.declared.run.Call.TheVariants.{TryBroadcast, TryBroadcastAll, AttemptSend, BeginSend, PollSend, EndSend, TryRecv, PollFuture, EndFuture, PollRecv, PollNext, Close, SetCapacity, SetOverflow, SetAwaitActive, NewSender, CloneInactive, Deactivate, NewReceiver, Activate, ActivateCloned, CloneReceiver, DropSender, DropInactive, DropReceiver, Overflow, AwaitActive, IsEmpty, IsFull, IsClosed, IsTerminated, Capacity, Len, ReceiverCount, InactiveReceiverCount, SenderCount, EndNumber}
 
 -- how a flag is spelt
 abbrev pub flag_text : Bool → List ℕ
@@ -13,6 +14,7 @@ flag_text false = codes "false"
 -- the call's name
 abbrev pub name_of : Call ℕ → List ℕ
 name_of (TryBroadcast msg) = codes "TryBroadcast"
+name_of (TryBroadcastAll msgs) = codes "TryBroadcastAll"
 name_of (AttemptSend msg) = codes "AttemptSend"
 name_of BeginSend = codes "BeginSend"
 name_of (PollSend place msg) = codes "PollSend"
@@ -66,6 +68,7 @@ number_of call = None
 
 -- its arguments, with one space between two of them; none where the call has no arguments
 abbrev pub arguments_of : Call ℕ → Option (List ℕ)
+arguments_of (TryBroadcastAll msgs) = numbers_text msgs
 arguments_of (PollSend place msg) = Some (decimal place ++ codes " " ++ decimal msg)
 arguments_of (SetCapacity n) = Some (decimal n)
 arguments_of (SetOverflow on) = Some (flag_text on)
@@ -78,6 +81,7 @@ text_of call = spaced (name_of call) (arguments_of call)
 
 -- its numbers are such as a line can have
 abbrev pub IsInRange : Call ℕ → Type 0
+IsInRange (TryBroadcastAll msgs) = AllByRecursion IsU64 msgs
 IsInRange (PollSend place msg) = IsU64 place × IsU64 msg
 IsInRange (SetCapacity n) = IsCapacity n
 IsInRange call = IfSome (number_of call) IsU64

@@ -4,11 +4,12 @@ use Rattle.std.specs.Fmt.{decimal}
 use Rattle.bcast_model.specs.declared.run.Reply.{Reply}
 use Rattle.bcast_model.specs.declared.run.Reply.TheVariants as reply
 use Rattle.bcast_text.specs.TraceCall.{flag_text}
-use Rattle.bcast_text.specs.TraceAnswer.{sent_text, send_poll_text, received_text, future_text, stream_text, next_text, done_text, made_text}
+use Rattle.bcast_text.specs.TraceAnswer.{sent_text, sent_all_text, send_poll_text, received_text, future_text, stream_text, next_text, done_text, made_text}
 
 -- the text of each reply
 abbrev pub text_of : Reply ℕ → List ℕ
 text_of (reply.TryBroadcast answer) = sent_text answer
+text_of (reply.TryBroadcastAll answer) = sent_all_text answer
 text_of (reply.AttemptSend answer) = send_poll_text answer
 text_of (reply.BeginSend (Ok place)) = codes "ok " ++ decimal place
 text_of (reply.BeginSend (Err error)) = codes "no memory"

@@ -1,5 +1,6 @@
 -- The words of a line, and its numbers.
-use Rattle.std.specs.Prelude.{ℕ, List, Option, Some, None, ◌++◌, ◌∷◌, ◌<◌, ◌^◌}
+use Rattle.std.specs.Prelude.{ℕ, List, Option, Some, None, [], ◌++◌, ◌∷◌, ◌<◌, ◌^◌}
+use Rattle.std.specs.Fmt.{decimal}
 
 -- a word, and after one space its arguments, if there are any
 abbrev pub spaced : List ℕ → Option (List ℕ) → List ℕ
@@ -13,3 +14,8 @@ IsU64 n = n < 2 ^ 64
 -- a capacity that a line can have
 abbrev pub IsCapacity : ℕ → Type 0
 IsCapacity n = (0 < n) × IsU64 n
+
+-- numbers, with one space between two of them; none where there is no number
+abbrev pub numbers_text : List ℕ → Option (List ℕ)
+numbers_text [] = None
+numbers_text (n ∷ ns) = Some (spaced (decimal n) (numbers_text ns))

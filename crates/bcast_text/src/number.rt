@@ -1,6 +1,11 @@
 //! The numbers of scripts, traces and arguments.
-ghost use Rattle.std.specs.Prelude.{◌≡◌, ◌≢◌, ◌<◌, ◌^◌, ℕ, IsNone, IfSome};
+ghost use Rattle.bcast_text.specs.Words.{numbers_text, IsU64};
+ghost use Rattle.std.specs.List.{AllByRecursion};
+ghost use Rattle.std.specs.Prelude.{◌≡◌, ◌≢◌, ◌<◌, ◌^◌, ℕ, List, length, Some, IsNone, IfOk, IfSome};
 ghost use Rattle.std.specs.Fmt.{decimal};
+
+use bcast_model::messages::Messages;
+use std::alloc::{AllocError, Global};
 
 /// The number that `word` spells: decimal, without sign or leading zeros, and at most `u64::MAX`.
 #[tactic(auto, using(crate::proofs::Numbers::parsed_is_spelt, crate::proofs::Numbers::no_plus, crate::proofs::Numbers::no_leading_zero, std::proofs::lemmas::Fmt::decimal_nonempty))]
@@ -24,4 +29,34 @@ pub fn positive(word: &str) -> Option<u64>
 {
     let n = number(word)?;
     if n > 0 { Some(n) } else { None }
+}
+
+/// The numbers that `text` spells, one at least, with one space between two of them. None: it
+/// spells none.
+///
+/// # Errors
+///
+/// - `AllocError`: there is no memory for them.
+pub fn numbers(alloc: Global, text: &str) -> Result<Option<Messages<u64>>, AllocError>
+    ensures spelt { IfOk result
+        (λ read. IfSome read (λ msgs. numbers_text msgs ≡ Some text.now)) }
+    ensures some { IfOk result (λ read. IfSome read (λ msgs. 0 < length msgs)) }
+    ensures fit { IfOk result (λ read. IfSome read (AllByRecursion IsU64)) }
+    ensures none { IfOk result (λ read. IsNone read → (msgs : List ℕ)
+        → AllByRecursion IsU64 msgs → numbers_text msgs ≢ Some text.now) }
+{
+    let mut msgs = Vec::new(alloc);
+    let mut rest = text;
+    while let Some((first, others)) = rest.split_once(' ') {
+        let Some(n) = number(first) else {
+            return Ok(None);
+        };
+        msgs.push(n)?;
+        rest = others;
+    }
+    let Some(n) = number(rest) else {
+        return Ok(None);
+    };
+    msgs.push(n)?;
+    Ok(Some(Messages::new(msgs)))
 }

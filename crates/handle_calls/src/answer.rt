@@ -12,6 +12,10 @@ pub enum Answer {
     Full(u64),
     Closed(u64),
     Inactive(u64),
+    /// So many messages of a list came back.
+    AllFull(usize),
+    AllClosed(usize),
+    AllInactive(usize),
     /// Refused to a send that may wait.
     Refused(u64),
     Message(u64),
@@ -51,6 +55,16 @@ impl Answer {
             Err(TrySendError::Full(back)) => Answer::Full(back),
             Err(TrySendError::Closed(back)) => Answer::Closed(back),
             Err(TrySendError::Inactive(back)) => Answer::Inactive(back),
+        }
+    }
+
+    /// The answer of `try_broadcast_all`.
+    pub fn of_send_all(answer: Result<(), TrySendError<Vec<u64>>>) -> Self {
+        match answer {
+            Ok(()) => Answer::Accepted,
+            Err(TrySendError::Full(back)) => Answer::AllFull(back.len()),
+            Err(TrySendError::Closed(back)) => Answer::AllClosed(back.len()),
+            Err(TrySendError::Inactive(back)) => Answer::AllInactive(back.len()),
         }
     }
 

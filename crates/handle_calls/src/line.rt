@@ -26,6 +26,8 @@ pub struct Request<'a> {
     pub index: usize,
     pub method: &'a str,
     pub argument: Option<u64>,
+    /// The messages of a list, as text.
+    pub list: &'a str,
 }
 
 /// Which futures of a channel are held between lines.
@@ -97,7 +99,8 @@ fn subject_of(word: &str) -> Option<Subject> {
     }
 }
 
-/// The request that `text` is: `SUBJECT INDEX METHOD [ARGUMENT]`.
+/// The request that `text` is: `SUBJECT INDEX METHOD [ARGUMENT]`, or `sender INDEX
+/// try_broadcast_all MESSAGE ..`.
 pub fn read_request(text: &str) -> Option<Request<'_>> {
     let (word, rest) = text.split_once(' ')?;
     let subject = subject_of(word)?;
@@ -109,12 +112,21 @@ pub fn read_request(text: &str) -> Option<Request<'_>> {
             index,
             method: rest,
             argument: None,
+            list: "",
+        }),
+        Some((method, list)) if method == "try_broadcast_all" => Some(Request {
+            subject,
+            index,
+            method,
+            argument: None,
+            list,
         }),
         Some((method, argument)) => Some(Request {
             subject,
             index,
             method,
             argument: Some(number(argument)?),
+            list: "",
         }),
     }
 }

@@ -16,7 +16,7 @@ mod replies;
 
 /// What ports were asked since the last look: nothing, one call, or so many, the last of which is
 /// kept.
-#[derive(Clone, Copy, Debug)]
+#[derive(Debug, Drop)]
 pub enum Record {
     Nothing,
     Once(Call<u64>),
@@ -83,12 +83,17 @@ impl Recorder {
 }
 
 impl State {
-    fn record(&self, call: Call<u64>) {
-        self.record.set(match self.record.get() {
+    // A call whose list finds no memory is not recorded.
+    fn record(&self, call: &Call<u64>) {
+        let Ok(call) = call.clone() else {
+            return;
+        };
+        let record = match self.record.replace(Record::Nothing) {
             Record::Nothing => Record::Once(call),
             Record::Once(_) => Record::Times(2, call),
             Record::Times(count, _) => Record::Times(count.wrapping_add(1), call),
-        });
+        };
+        self.record.replace(record);
     }
 }
 
@@ -103,7 +108,7 @@ impl<S: Drop> Ask<u64, S> for RecordingPort {
         requires { HasPositiveCapacity call }
         ensures { IsOfKind call result }
     {
-        self.state.record(call);
+        self.state.record(&call);
         reply_to(self.state.outcome.get(), call)
     }
 
@@ -141,7 +146,7 @@ impl<S: Drop> Port<u64, S> for RecordingPort {
         ensures reply { IsOfKind call result }
         ensures answered { is_answer result ≡ true }
     {
-        self.state.record(call);
+        self.state.record(&call);
         waited_reply_to(self.state.outcome.get(), call)
     }
 

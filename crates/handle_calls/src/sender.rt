@@ -4,6 +4,7 @@ use crate::handles::Handles;
 use crate::settings::{of_sender, setting_of};
 use async_broadcast::{Port, Sender, WakerSlot};
 use bcast_text::input::Fault;
+use bcast_text::number::numbers;
 use std::alloc::Allocator;
 
 /// Sends, or asks for a setting.
@@ -42,6 +43,20 @@ impl<P: Port<u64, WakerSlot<A>>, A: Allocator + Copy> Handles<P, A> {
             "drop" => self.drop_sender(index),
             _ => answer(sender, method, argument).ok_or(Fault::NotACall),
         }
+    }
+
+    /// Sends a list of messages by the sender of this number.
+    pub fn send_all(&mut self, index: usize, list: &str) -> Result<Answer, Fault> {
+        let alloc = *self.senders.allocator();
+        let Some(Some(sender)) = self.senders.get_mut(index) else {
+            return Err(Fault::NotACall);
+        };
+        if list.is_empty() {
+            let none = Vec::new(alloc);
+            return Ok(Answer::of_send_all(sender.try_broadcast_all(none)));
+        }
+        let msgs = numbers(alloc, list)?.ok_or(Fault::NotACall)?;
+        Ok(Answer::of_send_all(sender.try_broadcast_all(msgs.into_vec())))
     }
 
     fn drop_sender(&mut self, index: usize) -> Result<Answer, Fault> {

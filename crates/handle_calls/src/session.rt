@@ -81,8 +81,10 @@ impl<P: Port<u64, WakerSlot<A>>, A: Allocator + Copy> Session<P, A> {
             index,
             method,
             argument,
+            list,
         } = request;
         match subject {
+            Subject::Sender if method == "try_broadcast_all" => self.handles.send_all(index, list),
             Subject::Sender => self.handles.by_sender(index, method, argument),
             Subject::Inactive => self.handles.by_inactive(index, method, argument),
             Subject::Receiver if method.starts_with("poll_") => self.poll_receiver(request),
@@ -116,6 +118,7 @@ impl<P: Port<u64, WakerSlot<A>>, A: Allocator + Copy> Session<P, A> {
             index,
             method,
             argument,
+            list: _,
         } = request;
         match (subject, method, argument) {
             (Subject::Send, "poll", Some(number)) => {

@@ -17,6 +17,11 @@ struct Seen {
     missed: u64,
 }
 
+/// Writes the first records. They stand together in the log, or none of them does.
+fn begin<P: Port<u64, WakerSlot>>(log: &Sender<u64, P>, header: Vec<u64>) -> bool {
+    log.try_broadcast_all(header).is_ok()
+}
+
 fn produce<P: Port<u64, WakerSlot>>(log: Sender<u64, P>, first: u64) {
     for record in first..first.saturating_add(RECORDS) {
         if log.broadcast_blocking(record).is_err() {
@@ -48,6 +53,8 @@ fn main(rt: HostRuntime) -> Result<()> {
     let (log, one) = broadcast(rt, rt.alloc(), 8)?;
     let two = one.clone()?;
     let other = log.clone()?;
+    let header = vec![in rt.alloc(); 1_000, 1_001, 1_002]?;
+    println!(rt; "header written whole: {}", begin(&log, header))?;
 
     let first = thread::spawn(&rt, move || produce(log, 0))?;
     let second = thread::spawn(&rt, move || produce(other, RECORDS))?;

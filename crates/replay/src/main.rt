@@ -26,8 +26,8 @@ fn run(rt: HostRuntime, command: Command) -> Ending {
         return Ending::NoMemory;
     };
     match command {
-        Command::Trace => trace(rt.alloc(), rt.stdin(), &mut output),
-        Command::List => list(rt.alloc(), rt.stdin(), &mut output),
+        Command::Trace => trace(rt.alloc(), rt.alloc(), rt.stdin(), &mut output),
+        Command::List => list(rt.alloc(), rt.alloc(), rt.stdin(), &mut output),
     }
 }
 

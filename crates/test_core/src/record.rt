@@ -1,5 +1,6 @@
 //! Logs and recorders.
 mod entries;
+mod lists;
 mod logs;
 mod recorders;
 mod replays;

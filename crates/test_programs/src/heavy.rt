@@ -30,49 +30,50 @@ impl<'a> Clone for Heavy<'a> {
     }
 }
 
-/// The same call, with a message that takes its memory from the heap. None: it is an accessor.
+/// The same call, with a message that takes its memory from the heap. None: it is an accessor, or
+/// sends a list.
 pub fn with_memory<'a>(
     heap: &'a LocalHeap,
-    call: Call<u64>,
+    call: &Call<u64>,
 ) -> Result<Option<Call<Heavy<'a>>>, AllocError>
-    requires { HasPositiveCapacity call }
+    requires { HasPositiveCapacity call.now }
     ensures { IfOk result (λ made. IfSome made HasPositiveCapacity) }
 {
     Ok(match call {
-        Call::TryBroadcast(number) => Some(Call::TryBroadcast(Heavy::new(heap, number)?)),
-        Call::AttemptSend(number) => Some(Call::AttemptSend(Heavy::new(heap, number)?)),
-        Call::PollSend(place, number) => Some(Call::PollSend(place, Heavy::new(heap, number)?)),
+        Call::TryBroadcast(number) => Some(Call::TryBroadcast(Heavy::new(heap, *number)?)),
+        Call::AttemptSend(number) => Some(Call::AttemptSend(Heavy::new(heap, *number)?)),
+        Call::PollSend(place, number) => Some(Call::PollSend(*place, Heavy::new(heap, *number)?)),
         call => without_message(call),
     })
 }
 
-/// The same call, if it has no message and is no accessor.
-fn without_message<'a>(call: Call<u64>) -> Option<Call<Heavy<'a>>>
-    requires { HasPositiveCapacity call }
+/// The same call, if it has no message, sends no list and is no accessor.
+fn without_message<'a>(call: &Call<u64>) -> Option<Call<Heavy<'a>>>
+    requires { HasPositiveCapacity call.now }
     ensures { IfSome result HasPositiveCapacity }
 {
     match call {
         Call::BeginSend => Some(Call::BeginSend),
-        Call::EndSend(place) => Some(Call::EndSend(place)),
-        Call::TryRecv(key) => Some(Call::TryRecv(key)),
-        Call::PollFuture(key) => Some(Call::PollFuture(key)),
-        Call::EndFuture(key) => Some(Call::EndFuture(key)),
-        Call::PollRecv(key) => Some(Call::PollRecv(key)),
-        Call::PollNext(key) => Some(Call::PollNext(key)),
+        Call::EndSend(place) => Some(Call::EndSend(*place)),
+        Call::TryRecv(key) => Some(Call::TryRecv(*key)),
+        Call::PollFuture(key) => Some(Call::PollFuture(*key)),
+        Call::EndFuture(key) => Some(Call::EndFuture(*key)),
+        Call::PollRecv(key) => Some(Call::PollRecv(*key)),
+        Call::PollNext(key) => Some(Call::PollNext(*key)),
         Call::Close => Some(Call::Close),
-        Call::SetCapacity(capacity) => Some(Call::SetCapacity(capacity)),
-        Call::SetOverflow(on) => Some(Call::SetOverflow(on)),
-        Call::SetAwaitActive(on) => Some(Call::SetAwaitActive(on)),
+        Call::SetCapacity(capacity) => Some(Call::SetCapacity(*capacity)),
+        Call::SetOverflow(on) => Some(Call::SetOverflow(*on)),
+        Call::SetAwaitActive(on) => Some(Call::SetAwaitActive(*on)),
         Call::NewSender => Some(Call::NewSender),
         Call::CloneInactive => Some(Call::CloneInactive),
-        Call::Deactivate(key) => Some(Call::Deactivate(key)),
+        Call::Deactivate(key) => Some(Call::Deactivate(*key)),
         Call::NewReceiver => Some(Call::NewReceiver),
         Call::Activate => Some(Call::Activate),
         Call::ActivateCloned => Some(Call::ActivateCloned),
-        Call::CloneReceiver(key) => Some(Call::CloneReceiver(key)),
+        Call::CloneReceiver(key) => Some(Call::CloneReceiver(*key)),
         Call::DropSender => Some(Call::DropSender),
         Call::DropInactive => Some(Call::DropInactive),
-        Call::DropReceiver(key) => Some(Call::DropReceiver(key)),
+        Call::DropReceiver(key) => Some(Call::DropReceiver(*key)),
         _ => None,
     }
 }

@@ -51,7 +51,8 @@ pub struct Played {
     pub writes: u64,
 }
 
-/// Plays `text` with memory of `alloc`, and takes what is written into `memory`.
+/// Plays `text` with memory of `alloc`, and takes what is written into `memory`, which also has the
+/// messages of lists.
 pub fn play<A: Allocator + Copy>(
     memory: Global,
     alloc: A,
@@ -69,7 +70,7 @@ pub fn play<A: Allocator + Copy>(
         piece: way.taken,
         calls: way.writes,
     };
-    let ending = buffered(alloc, player, reader, &mut writer);
+    let ending = buffered(alloc, memory, player, reader, &mut writer);
     Played {
         ending,
         wrote: writer.taken,
@@ -80,6 +81,7 @@ pub fn play<A: Allocator + Copy>(
 /// Plays a text as the programs do, through a buffer.
 fn buffered<A: Allocator + Copy>(
     alloc: A,
+    heap: Global,
     player: Player,
     reader: Pieces<'_>,
     writer: &mut Taker,
@@ -88,10 +90,10 @@ fn buffered<A: Allocator + Copy>(
         return Ending::NoMemory;
     };
     match player {
-        Player::Script => script(alloc, reader, &mut output),
+        Player::Script => script(alloc, heap, reader, &mut output),
         Player::Topics => hub_script(alloc, reader, &mut output),
-        Player::Trace => trace(alloc, reader, &mut output),
-        Player::List => list(alloc, reader, &mut output),
+        Player::Trace => trace(alloc, heap, reader, &mut output),
+        Player::List => list(alloc, heap, reader, &mut output),
     }
 }
 

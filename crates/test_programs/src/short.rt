@@ -129,12 +129,12 @@ impl<'a> Pair<'a> {
     ) -> Result<Option<Outcome>, AllocError>
         requires { HasPositiveCapacity call }
     {
-        let Some(wanted) = with_memory(self.ample, call)? else {
+        let Some(wanted) = with_memory(self.ample, &call)? else {
             return Ok(Some(Outcome::Same));
         };
         let (Some(first), Some(again)) = (
-            with_memory(self.heap, call)?,
-            with_memory(self.heap, call)?,
+            with_memory(self.heap, &call)?,
+            with_memory(self.heap, &call)?,
         ) else {
             return Ok(None);
         };
@@ -167,7 +167,7 @@ fn play(alloc: Global, text: &str, left: usize) -> Result<Outcome, AllocError> {
     };
     let mut outcome = Outcome::Same;
     for (index, line) in lines.enumerate() {
-        if let Some(Line::Call(_, call)) = read_line(line) {
+        if let Some(Line::Call(_, call)) = read_line(alloc, line)? {
             match pair.make(alloc, left, call)? {
                 None => return Ok(Outcome::Wrong(index.saturating_add(2))),
                 Some(Outcome::Refused) => outcome = Outcome::Refused,

@@ -33,7 +33,7 @@ impl Noted {
         let count = Rc::new(alloc, Cell::new(0))?;
         let notice = Counted(count.clone()?);
         self.counts.push(count)?;
-        if let Some(Line::Call(text, call)) = read_line(line) {
+        if let Some(Line::Call(text, call)) = read_line(alloc, line)? {
             let reply = step(&mut self.inner, call, notice);
             write_answer(text, &reply, wrote)?;
         }

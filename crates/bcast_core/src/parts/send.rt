@@ -4,6 +4,7 @@ ghost use Rattle.std.specs.FinMap.{len};
 
 use super::Parts;
 use bcast_model::error::{SendError, TrySendError};
+use bcast_model::messages::Messages;
 use bcast_model::run::SendPoll;
 use bcast_waiting::notice::Notice;
 use std::alloc::{AllocError, Allocator};
@@ -12,8 +13,9 @@ impl<T: Drop, N: Notice, A: Allocator + Copy> Parts<T, N, A> {
     ghost use Rattle.bcast_model.specs.Control.{has_place};
     ghost use Rattle.bcast_model.specs.Laws.{IsValidView};
     ghost use Rattle.bcast_model.specs.declared.run.SendPoll.TheVariants as send;
-    ghost use Rattle.bcast_model.specs.Steps.{settle, with_message};
+    ghost use Rattle.bcast_model.specs.Steps.{settle, with_message, with_messages};
     ghost use Rattle.bcast_model.specs.Sending.{try_broadcast_reply, offer, attempt_send_reply, poll_send};
+    ghost use Rattle.bcast_model.specs.SendAll.{free_room, try_broadcast_all_reply, offer_all};
     ghost use Rattle.bcast_model.specs.Effects.{resize};
 
     // Takes the oldest message out, whoever is still to read it.
@@ -44,6 +46,53 @@ impl<T: Drop, N: Notice, A: Allocator + Copy> Parts<T, N, A> {
         if number + 1 == u64::MAX {
             self.close();
         }
+    }
+
+    // Puts messages last, in their order, for every receiver, all of whom are told once. The last
+    // number closes the channel.
+    fn accept_all(&mut self, msgs: Messages<T>)
+        requires some { 0 < length msgs }
+        requires someone { 0 < len self.old.control.cursors }
+        requires room { length self.old.queue + length msgs ≤ self.old.control.room }
+        requires number { self.old.end + length msgs < 2 ^ 64 }
+        ensures { self.new ≡ with_messages self.old msgs }
+    {
+        self.store.push_all(msgs);
+        self.receives.tell_all();
+        if self.store.end() == u64::MAX {
+            self.close();
+        }
+    }
+
+    // How many messages can be accepted before the capacity or the numbers end.
+    fn free_room(&self) -> usize
+        ensures { result ≡ free_room self.now }
+    {
+        let room = self.capacity.saturating_sub(self.store.len());
+        let numbers = (u64::MAX - self.store.end()) as usize;
+        if room < numbers { room } else { numbers }
+    }
+
+    /// Accepts a whole list, or hands it back with the reason.
+    pub fn offer_all(&mut self, msgs: Messages<T>) -> Result<(), TrySendError<Messages<T>>>
+        requires { IsValidView self.old }
+        ensures reply { result ≡ try_broadcast_all_reply self.old msgs }
+        ensures effect { self.new ≡ settle self.old (offer_all self.old msgs) }
+    {
+        if self.is_closed() {
+            return Err(TrySendError::Closed(msgs));
+        }
+        if self.has_no_receiver() {
+            return Err(TrySendError::Inactive(msgs));
+        }
+        if msgs.is_empty() {
+            return Ok(());
+        }
+        if self.free_room() < msgs.len() {
+            return Err(TrySendError::Full(msgs));
+        }
+        self.accept_all(msgs);
+        Ok(())
     }
 
     /// Accepts a message, or hands it back with the reason.

@@ -1,11 +1,13 @@
 //! Sending, at once or by a pending send.
 ghost use Rattle.bcast_model.specs.Legal.{NoClone};
+ghost use Rattle.bcast_model.specs.SendAll.{in_lists};
 ghost use Rattle.bcast_model.specs.Answers.{Answers};
 ghost use Rattle.bcast_model.specs.declared.run.Call.TheVariants as call;
 ghost use Rattle.bcast_model.specs.declared.run.Reply.TheVariants as reply;
 
 use super::Inner;
 use bcast_model::error::TrySendError;
+use bcast_model::messages::{Messages, in_vec};
 use bcast_model::run::SendPoll;
 use bcast_waiting::notice::Notice;
 use std::alloc::{AllocError, Allocator};
@@ -48,7 +50,43 @@ impl<T: Drop, N: Notice, A: Allocator + Copy> Inner<T, N, A> {
         sent
     }
 
-    /// The same for a send that may wait.
+    /// Sends a whole list of messages to every active receiver, in one step: they stand last, in
+    /// their order, and no other message comes between. All that wait to receive are told once.
+    ///
+    /// It never drops a message, in overflow mode too, and an empty list changes nothing. The list
+    /// that brings the end to `u64::MAX` closes the channel. Takes no memory.
+    ///
+    /// # Errors
+    ///
+    /// The whole list comes back and nothing changes, for the first reason that fits.
+    /// - `Closed`: the channel is closed.
+    /// - `Inactive`: there is no active receiver.
+    /// - `Full`: there are more messages than the capacity has room for, or than there are numbers
+    ///   below `u64::MAX`.
+    ///
+    /// Source: this crate's own.
+    pub fn try_broadcast_all(&mut self, msgs: Vec<T>) -> Result<(), TrySendError<Vec<T>>>
+        ensures { Answers NoClone self.old (call.TryBroadcastAll msgs.items)
+            (reply.TryBroadcastAll (in_lists result)) self.new }
+    {
+        in_vec(self.offer_all_and_tell(Messages::new(msgs)))
+    }
+
+    // The same for messages that are seen as their list.
+    pub(crate) fn offer_all_and_tell(
+        &mut self,
+        msgs: Messages<T>,
+    ) -> Result<(), TrySendError<Messages<T>>>
+        ensures { Answers NoClone self.old (call.TryBroadcastAll msgs)
+            (reply.TryBroadcastAll result) self.new }
+    {
+        let was_blocked = !self.parts.is_ready();
+        let sent = self.parts.offer_all(msgs);
+        self.parts.tell_if_ready(was_blocked);
+        sent
+    }
+
+    /// One attempt of a send that may wait: as `try_broadcast`.
     ///
     /// `Ready(Ok(..))` is an acceptance. `Ready(Err(SendError(msg)))` says that the channel is
     /// closed, or that there is no active receiver and `await_active` is off. `Wait(msg)` says that

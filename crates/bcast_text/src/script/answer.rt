@@ -29,6 +29,12 @@ pub fn answer<W: Write>(reply: &Reply<u64>, output: &mut W) -> Result<(), Fault>
         Reply::TryBroadcast(Err(TrySendError::Inactive(msg))) => {
             writeln!(output, "inactive {msg}")?
         }
+        Reply::TryBroadcastAll(Ok(())) => output.write_all(b"ok\n")?,
+        Reply::TryBroadcastAll(Err(TrySendError::Full(_))) => output.write_all(b"full all\n")?,
+        Reply::TryBroadcastAll(Err(TrySendError::Closed(_))) => output.write_all(b"closed all\n")?,
+        Reply::TryBroadcastAll(Err(TrySendError::Inactive(_))) => {
+            output.write_all(b"inactive all\n")?
+        }
         Reply::TryRecv(Ok(Ok(msg))) => writeln!(output, "got {msg}")?,
         Reply::TryRecv(Ok(Err(TryRecvError::Overflowed(n)))) => writeln!(output, "overflowed {n}")?,
         Reply::TryRecv(Ok(Err(TryRecvError::Empty))) => output.write_all(b"empty\n")?,

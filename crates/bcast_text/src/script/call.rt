@@ -1,5 +1,5 @@
 //! The calls that lines ask for, and what their replies do to the names of receivers.
-ghost use Rattle.std.specs.Prelude.{◌≡◌, ℕ, List, Some, None, OnOk, IfSome};
+ghost use Rattle.std.specs.Prelude.{◌≡◌, ℕ, List, Some, None, OnOk, IfOk, IfSome};
 ghost use Rattle.std.specs.Map.{update};
 ghost use Rattle.std.specs.Str.{bytes_eq};
 ghost use Rattle.std.specs.BTreeMap.{get_by_text};
@@ -31,32 +31,40 @@ fn under<A: Allocator>(names: &Names<A>, new: &str, call: Option<Call<u64>>) -> 
 
 /// The call that `line` asks for. None: it makes a channel, a name in it isn't in use that must be,
 /// or the new name is in use already.
-pub fn call_by<A: Allocator>(names: &Names<A>, line: Line<'_>) -> Option<Call<u64>>
-    requires { IsInForm line }
-    ensures call { result ≡ call_of (get_by_text names.now) line.entry }
-    ensures positive { IfSome result HasPositiveCapacity }
+///
+/// # Errors
+///
+/// - `AllocError`: there is no memory for the messages of a `sendall`. No other line takes any.
+pub fn call_by<A: Allocator>(
+    names: &Names<A>,
+    line: &Line<'_>,
+) -> Result<Option<Call<u64>>, AllocError>
+    requires { IsInForm line.now }
+    ensures call { IfOk result (λ call. call ≡ call_of (get_by_text names.now) line.now) }
+    ensures positive { IfOk result (λ call. IfSome call HasPositiveCapacity) }
 {
-    match line {
+    Ok(match line {
         Line::Cap(_) => None,
-        Line::Send(msg) => Some(Call::TryBroadcast(msg)),
-        Line::Recv(name) => Some(Call::TryRecv(key_by(names, name)?)),
+        Line::Send(msg) => Some(Call::TryBroadcast(*msg)),
+        Line::SendAll(msgs) => Some(Call::TryBroadcastAll(msgs.copied()?)),
+        Line::Recv(name) => key_by(names, name).map(Call::TryRecv),
         Line::Clone(name, new) => {
             let key = key_by(names, name);
             under(names, new, key.map(Call::CloneReceiver))
         }
         Line::New(new) => under(names, new, Some(Call::NewReceiver)),
-        Line::Drop(name) => Some(Call::DropReceiver(key_by(names, name)?)),
+        Line::Drop(name) => key_by(names, name).map(Call::DropReceiver),
         Line::NewSender => Some(Call::NewSender),
         Line::DropSender => Some(Call::DropSender),
         Line::Close => Some(Call::Close),
-        Line::Capacity(n) => Some(Call::SetCapacity(n as usize)),
-        Line::Overflow(on) => Some(Call::SetOverflow(on)),
-        Line::Await(on) => Some(Call::SetAwaitActive(on)),
-        Line::Deactivate(name) => Some(Call::Deactivate(key_by(names, name)?)),
+        Line::Capacity(n) => Some(Call::SetCapacity(*n as usize)),
+        Line::Overflow(on) => Some(Call::SetOverflow(*on)),
+        Line::Await(on) => Some(Call::SetAwaitActive(*on)),
+        Line::Deactivate(name) => key_by(names, name).map(Call::Deactivate),
         Line::Activate(new) => under(names, new, Some(Call::Activate)),
         Line::DropInactive => Some(Call::DropInactive),
         Line::Len => Some(Call::Len),
-    }
+    })
 }
 
 /// Gives the receiver with this key a new name.
@@ -94,11 +102,11 @@ fn free<A: Allocator>(names: &mut Names<A>, name: &str)
 pub fn record<A: Allocator + Copy>(
     alloc: A,
     names: &mut Names<A>,
-    line: Line<'_>,
+    line: &Line<'_>,
     reply: &Reply<u64>,
 ) -> Result<(), AllocError>
     ensures ok { OnOk result ((name : List ℕ) → get_by_text names.new name
-        ≡ names_after (get_by_text names.old) line.entry reply.now name) }
+        ≡ names_after (get_by_text names.old) line.now reply.now name) }
 {
     match (line, reply) {
         (Line::Clone(_, new), Reply::CloneReceiver(Ok(key))) => {

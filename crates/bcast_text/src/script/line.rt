@@ -1,19 +1,25 @@
 //! What a line of a script says.
-ghost use Rattle.std.specs.Prelude.{◌≡◌, ◌≢◌, ℕ, List, Bool, Some, None, IfSome, IsNone, ◌++◌, ◌∷◌, codes};
+ghost use Rattle.std.specs.Prelude.{◌≡◌, ◌≢◌, ℕ, List, Bool, Some, None, IfOk, IfSome, IsNone, ◌++◌, ◌∷◌, codes};
+ghost use Rattle.std.specs.List.{AllByRecursion};
+ghost use Rattle.bcast_text.specs.Words.{numbers_text, IsU64};
 ghost use Rattle.bcast_text.specs.Name.{IsName};
 ghost use Rattle.bcast_text.specs.ScriptLine.{flag_text, word_of, name_in, arguments_of, text_of, IsInForm};
 ghost use Rattle.bcast_text.specs.declared.script.line.Line.{Line};
 
-use crate::number::{number, positive};
+use crate::number::{number, numbers, positive};
 use crate::script::name::is_name;
+use bcast_model::messages::Messages;
+use std::alloc::{AllocError, Global};
 
-/// A line of a script: a command and its arguments, a number or a receiver's name.
-#[derive(Clone, Copy, Debug, PartialEq, Eq)]
+/// A line of a script: a command and its arguments, numbers or receivers' names.
+#[derive(Debug, PartialEq, Drop)]
 pub enum Line<'a> {
     /// `cap N`: make the channel.
     Cap(u64),
     /// `send V`
     Send(u64),
+    /// `sendall V V ..`: one number or more.
+    SendAll(Messages<u64>),
     /// `recv R`
     Recv(&'a str),
     /// `clone R Q`: Q becomes the name of a clone of R.
@@ -47,23 +53,43 @@ pub enum Line<'a> {
 /// The line that `text` is. None: it is no line of a script.
 ///
 /// `text` has no LF. Whether the names are in use is not looked at here.
-pub fn read_line(text: &str) -> Option<Line<'_>>
-    ensures text { IfSome result (λ line. text.now ≡ text_of line) }
-    ensures form { IfSome result IsInForm }
-    ensures none { IsNone result → (line : Line) → IsInForm line → text.now ≢ text_of line }
+///
+/// # Errors
+///
+/// - `AllocError`: there is no memory for the numbers of a `sendall`. No other line takes any.
+pub fn read_line(alloc: Global, text: &str) -> Result<Option<Line<'_>>, AllocError>
+    ensures text { IfOk result (λ read. IfSome read (λ line. text.now ≡ text_of line)) }
+    ensures form { IfOk result (λ read. IfSome read IsInForm) }
+    ensures none { IfOk result (λ read. IsNone read → (line : Line) → IsInForm line
+        → text.now ≢ text_of line) }
 {
     match text.split_once(' ') {
-        Some((first, rest)) => with_arguments(first, rest),
-        None => alone(text),
+        Some((first, rest)) if first == "sendall" => send_all(alloc, rest),
+        Some((first, rest)) => Ok(with_arguments(first, rest)),
+        None => Ok(alone(text)),
     }
 }
 
-/// A command without arguments.
+/// The numbers of `sendall`.
+fn send_all<'a>(alloc: Global, rest: &str) -> Result<Option<Line<'a>>, AllocError>
+    ensures text { IfOk result (λ read. IfSome read (λ line.
+        codes "sendall " ++ rest.now ≡ text_of line)) }
+    ensures form { IfOk result (λ read. IfSome read IsInForm) }
+    ensures none { IfOk result (λ read. IsNone read → (msgs : List ℕ)
+        → AllByRecursion IsU64 msgs → numbers_text msgs ≢ Some rest.now) }
+{
+    match numbers(alloc, rest)? {
+        Some(msgs) => Ok(Some(Line::SendAll(msgs))),
+        None => Ok(None),
+    }
+}
+
+/// A command without arguments. `sendall` is none.
 fn alone<'a>(text: &str) -> Option<Line<'a>>
     ensures text { IfSome result (λ line. text.now ≡ text_of line) }
     ensures form { IfSome result IsInForm }
-    ensures none { IsNone result → (line : Line) → arguments_of line ≡ None
-        → text.now ≢ word_of line }
+    ensures none { IsNone result → text.now ≢ codes "sendall" → (line : Line)
+        → arguments_of line ≡ None → text.now ≢ word_of line }
 {
     match text {
         "newsender" => Some(Line::NewSender),
@@ -75,12 +101,12 @@ fn alone<'a>(text: &str) -> Option<Line<'a>>
     }
 }
 
-/// A command with arguments: its first word, and what follows the first space.
+/// A command with arguments, but `sendall`: its first word, and what follows the first space.
 fn with_arguments<'a>(first: &str, rest: &'a str) -> Option<Line<'a>>
     ensures text { IfSome result (λ line. first.now ++ 32 ∷ rest.now ≡ text_of line) }
     ensures form { IfSome result IsInForm }
-    ensures none { IsNone result → (line : Line) → IsInForm line → first.now ≡ word_of line
-        → arguments_of line ≢ Some rest.now }
+    ensures none { IsNone result → first.now ≢ codes "sendall" → (line : Line) → IsInForm line
+        → first.now ≡ word_of line → arguments_of line ≢ Some rest.now }
 {
     match first {
         "cap" => Some(Line::Cap(positive(rest)?)),

@@ -1,35 +1,60 @@
 //! The calls that lines of a trace name.
-ghost use Rattle.std.specs.Prelude.{◌≡◌, ◌≢◌, ℕ, Bool, Some, None, IfSome, IsNone, ◌++◌, ◌∷◌, codes};
+ghost use Rattle.std.specs.Prelude.{◌≡◌, ◌≢◌, ℕ, List, Bool, Some, None, IfOk, IfSome, IsNone, ◌++◌, ◌∷◌, codes};
 ghost use Rattle.std.specs.Fmt.{decimal};
 ghost use Rattle.bcast_model.specs.Next.{HasPositiveCapacity};
 ghost use Rattle.bcast_text.specs.TraceCall.{flag_text, name_of, number_of, arguments_of, text_of, IsInRange};
-ghost use Rattle.bcast_text.specs.Words.{IsU64};
+ghost use Rattle.bcast_text.specs.Words.{numbers_text, IsU64};
+ghost use Rattle.std.specs.List.{AllByRecursion};
 ghost use Rattle.bcast_model.specs.declared.run.Call.{Call};
 
-use crate::number::{number, positive};
+use crate::number::{number, numbers, positive};
+use bcast_model::messages::Messages;
 use bcast_model::run::Call;
+use std::alloc::{AllocError, Global};
 
 /// The call that `text` is: its variant's name, and the arguments, with one space before each.
 /// None: it is no call.
-pub fn read_call(text: &str) -> Option<Call<u64>>
-    ensures text { IfSome result (λ call. text.now ≡ text_of call) }
-    ensures positive { IfSome result HasPositiveCapacity }
-    ensures none { IsNone result → (call : Call ℕ) → IsInRange call → text.now ≢ text_of call }
+///
+/// # Errors
+///
+/// - `AllocError`: there is no memory for the messages of a `TryBroadcastAll`. No other call takes
+///   any.
+pub fn read_call(alloc: Global, text: &str) -> Result<Option<Call<u64>>, AllocError>
+    ensures text { IfOk result (λ read. IfSome read (λ call. text.now ≡ text_of call)) }
+    ensures positive { IfOk result (λ read. IfSome read HasPositiveCapacity) }
+    ensures none { IfOk result (λ read. IsNone read → (call : Call ℕ) → IsInRange call
+        → text.now ≢ text_of call) }
 {
     match text.split_once(' ') {
-        Some((name, arguments)) => with_arguments(name, arguments),
-        None => alone(text),
+        Some((name, list)) if name == "TryBroadcastAll" => send_all(alloc, list),
+        Some((name, arguments)) => Ok(with_arguments(name, arguments)),
+        None => Ok(alone(alloc, text)),
+    }
+}
+
+/// The messages of `TryBroadcastAll`, one at least.
+fn send_all(alloc: Global, list: &str) -> Result<Option<Call<u64>>, AllocError>
+    ensures text { IfOk result (λ read. IfSome read (λ call.
+        codes "TryBroadcastAll " ++ list.now ≡ text_of call)) }
+    ensures positive { IfOk result (λ read. IfSome read HasPositiveCapacity) }
+    ensures none { IfOk result (λ read. IsNone read → (msgs : List ℕ)
+        → AllByRecursion IsU64 msgs → numbers_text msgs ≢ Some list.now) }
+{
+    match numbers(alloc, list)? {
+        Some(msgs) => Ok(Some(Call::TryBroadcastAll(msgs))),
+        None => Ok(None),
     }
 }
 
 /// A call without arguments.
-fn alone(name: &str) -> Option<Call<u64>>
+fn alone(alloc: Global, name: &str) -> Option<Call<u64>>
     ensures text { IfSome result (λ call. name.now ≡ text_of call) }
     ensures positive { IfSome result HasPositiveCapacity }
     ensures none { IsNone result → (call : Call ℕ) → arguments_of call ≡ None
         → name.now ≢ name_of call }
 {
     match name {
+        "TryBroadcastAll" => Some(Call::TryBroadcastAll(Messages::new(Vec::new(alloc)))),
         "BeginSend" => Some(Call::BeginSend),
         "Close" => Some(Call::Close),
         "NewSender" => Some(Call::NewSender),
@@ -55,12 +80,12 @@ fn alone(name: &str) -> Option<Call<u64>>
     }
 }
 
-/// A call with arguments: its name, and what follows the first space.
+/// A call with arguments, but `TryBroadcastAll`: its name, and what follows the first space.
 fn with_arguments(name: &str, arguments: &str) -> Option<Call<u64>>
     ensures text { IfSome result (λ call. name.now ++ 32 ∷ arguments.now ≡ text_of call) }
     ensures positive { IfSome result HasPositiveCapacity }
-    ensures none { IsNone result → (call : Call ℕ) → IsInRange call → name.now ≡ name_of call
-        → arguments_of call ≢ Some arguments.now }
+    ensures none { IsNone result → name.now ≢ codes "TryBroadcastAll" → (call : Call ℕ)
+        → IsInRange call → name.now ≡ name_of call → arguments_of call ≢ Some arguments.now }
 {
     match name {
         "SetCapacity" => Some(Call::SetCapacity(positive(arguments)? as usize)),

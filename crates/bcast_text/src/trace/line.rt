@@ -1,11 +1,12 @@
 //! The lines of a trace.
-ghost use Rattle.std.specs.Prelude.{◌≢◌, ◌≤◌, ℕ, List, ◌∷◌, length, IfSome, IsNone};
+ghost use Rattle.std.specs.Prelude.{◌≢◌, ◌≤◌, ℕ, List, ◌∷◌, length, IfOk, IfSome, IsNone};
 ghost use Rattle.bcast_model.specs.declared.run.Call.{Call};
 ghost use Rattle.bcast_text.specs.TraceCall.{text_of, IsInRange};
 ghost use Rattle.bcast_text.specs.TraceLine.{IsBeforeArrow, ReadsAs, IsInForm};
 
 use crate::trace::call::read_call;
 use bcast_model::run::Call;
+use std::alloc::{AllocError, Global};
 
 /// The most bytes that a line may have, its LF aside.
 pub const LONGEST: u32 = 1 << 20;
@@ -22,18 +23,25 @@ pub enum Line<'a> {
 /// What `line` asks for. None: neither the view nor a call.
 ///
 /// What follows `=` or ` -> ` is not read.
-pub fn read_line(line: &str) -> Option<Line<'_>>
-    ensures text { IfSome result (ReadsAs line.now) }
-    ensures form { IfSome result IsInForm }
-    ensures no_view { IsNone result → (rest : List ℕ) → line.now ≢ 61 ∷ rest }
-    ensures no_call { IsNone result → (text : List ℕ) (call : Call ℕ)
-        → IsBeforeArrow text line.now → IsInRange call → text ≢ text_of call }
+///
+/// # Errors
+///
+/// - `AllocError`: there is no memory for the call.
+pub fn read_line(alloc: Global, line: &str) -> Result<Option<Line<'_>>, AllocError>
+    ensures text { IfOk result (λ read. IfSome read (ReadsAs line.now)) }
+    ensures form { IfOk result (λ read. IfSome read IsInForm) }
+    ensures no_view { IfOk result (λ read. IsNone read → (rest : List ℕ) → line.now ≢ 61 ∷ rest) }
+    ensures no_call { IfOk result (λ read. IsNone read → (text : List ℕ) (call : Call ℕ)
+        → IsBeforeArrow text line.now → IsInRange call → text ≢ text_of call) }
 {
     if line.starts_with('=') {
-        return Some(Line::View);
+        return Ok(Some(Line::View));
     }
     let text = before_arrow(line);
-    Some(Line::Call(text, read_call(text)?))
+    match read_call(alloc, text)? {
+        Some(call) => Ok(Some(Line::Call(text, call))),
+        None => Ok(None),
+    }
 }
 
 /// The line up to ` -> `, or the whole of it.

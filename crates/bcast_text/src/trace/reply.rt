@@ -1,10 +1,11 @@
 //! The replies of a trace, as text.
 ghost use Rattle.std.specs.Prelude.{OnOk, ◌++◌, ◌∷◌, [], codes};
 ghost use Rattle.std.specs.Io.KnownBytes.{Appends};
-ghost use Rattle.bcast_text.specs.TraceAnswer.{sent_text, send_poll_text, received_text, future_text, stream_text, next_text, done_text, made_text, handle_error_text};
+ghost use Rattle.bcast_text.specs.TraceAnswer.{sent_text, sent_all_text, send_poll_text, received_text, future_text, stream_text, next_text, done_text, made_text, handle_error_text};
 ghost use Rattle.bcast_text.specs.TraceReply.{text_of};
 
 use bcast_model::error::{HandleError, RecvError, SendError, TryRecvError, TrySendError};
+use bcast_model::messages::Messages;
 use bcast_model::run::{Reply, SendPoll};
 use futures::task::Poll;
 use std::alloc::AllocError;
@@ -36,6 +37,7 @@ pub fn write_reply<W: Write>(reply: &Reply<u64>, output: &mut W) -> io::Result<(
 {
     match reply {
         Reply::TryBroadcast(answer) => sent(answer, output),
+        Reply::TryBroadcastAll(answer) => sent_all(answer, output),
         Reply::AttemptSend(answer) | Reply::PollSend(answer) => send_polled(answer, output),
         Reply::BeginSend(Ok(place)) => write!(output, "ok {place}"),
         Reply::BeginSend(Err(_)) | Reply::SetCapacity(Err(_)) => output.write_all(b"no memory"),
@@ -83,6 +85,22 @@ fn sent<W: Write>(answer: &Result<Option<u64>, TrySendError<u64>>, output: &mut 
         Err(TrySendError::Closed(msg)) => write!(output, "closed {msg}"),
         Err(TrySendError::Inactive(msg)) => write!(output, "inactive {msg}"),
     }
+}
+
+/// The reply of a list that is sent at once.
+fn sent_all<W: Write>(
+    answer: &Result<(), TrySendError<Messages<u64>>>,
+    output: &mut W,
+) -> io::Result<()>
+    ensures { OnOk result (Appends (W.contents output.old) (W.contents output.new)
+        (sent_all_text answer.now)) }
+{
+    output.write_all(match answer {
+        Ok(()) => b"ok",
+        Err(TrySendError::Full(_)) => b"full all",
+        Err(TrySendError::Closed(_)) => b"closed all",
+        Err(TrySendError::Inactive(_)) => b"inactive all",
+    })
 }
 
 /// The reply of a send that may wait.

@@ -3,7 +3,7 @@ ghost use Rattle.std.specs.Prelude.{◌≡◌, true};
 ghost use Rattle.async_broadcast.specs.Kinds.{HandsBack, IsOfKind, may_wait, is_answer};
 
 use async_broadcast::{
-    Call, HandleError, RecvError, Reply, SendError, SendPoll, TryRecvError, TrySendError,
+    Call, HandleError, Messages, RecvError, Reply, SendError, SendPoll, TryRecvError, TrySendError,
 };
 use futures::task::Poll;
 use std::alloc::AllocError;
@@ -43,6 +43,7 @@ pub(super) fn reply_to(outcome: Outcome, call: Call<u64>) -> Reply<u64>
     let yes = outcome != Outcome::Refuse;
     match call {
         Call::TryBroadcast(msg) => Reply::TryBroadcast(tried(outcome, msg)),
+        Call::TryBroadcastAll(msgs) => Reply::TryBroadcastAll(tried_all(outcome, msgs)),
         Call::AttemptSend(msg) => Reply::AttemptSend(polled(outcome, msg)),
         Call::BeginSend => Reply::BeginSend(begun(outcome)),
         Call::PollSend(_, msg) => Reply::PollSend(polled(outcome, msg)),
@@ -100,6 +101,15 @@ fn tried(outcome: Outcome, msg: u64) -> Result<Option<u64>, TrySendError<u64>> {
         Outcome::Refuse | Outcome::Wait => Err(TrySendError::Full(msg)),
         Outcome::Close => Err(TrySendError::Closed(msg)),
         Outcome::Inactive => Err(TrySendError::Inactive(msg)),
+    }
+}
+
+fn tried_all(outcome: Outcome, msgs: Messages<u64>) -> Result<(), TrySendError<Messages<u64>>> {
+    match outcome {
+        Outcome::Grant | Outcome::Overflow => Ok(()),
+        Outcome::Refuse | Outcome::Wait => Err(TrySendError::Full(msgs)),
+        Outcome::Close => Err(TrySendError::Closed(msgs)),
+        Outcome::Inactive => Err(TrySendError::Inactive(msgs)),
     }
 }
 

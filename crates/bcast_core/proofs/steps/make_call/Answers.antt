@@ -7,6 +7,9 @@ use Rattle.bcast_core.proofs.steps.make_call.Goals as goal
 pub returns-in-TryBroadcast-clause-answers : goal.returns-in-TryBroadcast-clause-answers
 returns-in-TryBroadcast-clause-answers g c = named c.in-TryBroadcast.is (answers_any c.try_broadcast.ensures)
 
+pub returns-in-TryBroadcastAll-clause-answers : goal.returns-in-TryBroadcastAll-clause-answers
+returns-in-TryBroadcastAll-clause-answers g c = named c.in-TryBroadcastAll.is (answers_any c.offer_all_and_tell.ensures)
+
 pub returns-in-AttemptSend-clause-answers : goal.returns-in-AttemptSend-clause-answers
 returns-in-AttemptSend-clause-answers g c = named c.in-AttemptSend.is (answers_any c.attempt_send.ensures)
 

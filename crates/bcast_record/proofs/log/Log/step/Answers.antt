@@ -1,8 +1,10 @@
 use Rattle.std.proofs.Common.{◌≡◌, [], ◌∷◌, ◌++◌, Some, suc, length, slice_get, refl, sym, ap, subst, ◌∙◌, arith}
 use Rattle.bcast_record.specs.declared.entry.Entry.{Entry}
 use Rattle.bcast_record.specs.declared.entry.Note.TheVariants as note
+use Rattle.bcast_record.specs.Copies.{IsListOf}
 use Rattle.bcast_record.specs.Recording.{recording, notes_of}
 use Rattle.bcast_record.specs.Replay.{Replays, MayRunAgain}
+use Rattle.bcast_record.proofs.Copies.{legal_list, same_entry}
 use Rattle.bcast_record.proofs.Appends.{replays_push, may_run_again_push}
 use Rattle.bcast_record.proofs.Notes.{notes_of-push, last_note, length-notes_of}
 use Rattle.bcast_record.proofs.log.Log.step.Goals as goal
@@ -22,17 +24,33 @@ invariant_of-self g c =
       subst (λ es. MayRunAgain (recording c.self.inside.opening es)) items before.4,
     )
 
+pub invariant_of-self-in_default-of : goal.invariant_of-self-in_default-of
+invariant_of-self-in_default-of g c =
+    let before = c.self.invariant in
+    let items = sym c.room.ensures.items in (
+      subst (λ es. Replays g.T.Clone.is_clone (recording c.self.inside.opening es) c.self.inside.inner) items before.0,
+      before.1 ∙ ap (notes_of c.self.inside.opening) items,
+      before.2 ∙ sym c.room.ensures.len,
+      before.3,
+      subst (λ es. MayRunAgain (recording c.self.inside.opening es)) items before.4,
+    )
+
+pub into_entries-stored-requires : goal.into_entries-stored-requires
+into_entries-stored-requires g c =
+    subst (λ list. IsListOf list c.step-reply.result) (sym c.in-Ok.ensures.list) (legal_list g.T.Clone.is_clone c.self.inside.inner c.args.call c.step-reply.result c.step-reply.ensures.answers.legal)
+
 pub invariant_of-result : goal.invariant_of-result
 invariant_of-result g c =
     let opening = c.self.inside.opening in
     let entries = c.self.inside.entries.items in
     let entry : Entry g.row.T.Denot = record { seat = c.number.result; call = c.args.call; reply = c.step-reply.result } in
+    let given : c.into_entries-stored.result.1 ≡ entry = same_entry _ c.number.result c.in-Ok.spares.given c.args.call c.step-reply.result c.into_entries-stored.ensures.given c.in-Ok.ensures.given in
     let place : length entries ≡ c.len-place.result = omega (arith, c.len-place.ensures, c.room.ensures.len, c.self.inside.entries.ok) in
     let notes : c.prefix.result.notes ≡ notes_of opening (entries ++ entry ∷ []) =
-    ap (λ content. content.notes) c.prefix.ensures ∙ c.append.ensures ∙ (λ i. c.self.invariant.1 i ++ note.Answered (c.copied.ensures i) ∷ [])
+    ap (λ content. content.notes) c.prefix.ensures ∙ c.noted-entry.ensures.noted ∙ (λ i. c.self.invariant.1 i ++ note.Answered (given i) ∷ [])
     ∙ sym (notes_of-push opening entries entry) in
-    subst (λ n. slice_get c.prefix.result.notes (suc n) ≡ Some (note.Answered entry)) place
-    (ap (λ ns. slice_get ns (suc (length entries))) notes ∙ last_note opening entries entry)
+    subst (λ n. slice_get c.prefix.result.notes (suc n) ≡ Some (note.Answered c.noted-entry.result)) place
+    (ap (λ ns. slice_get ns (suc (length entries))) notes ∙ last_note opening entries entry ∙ ap (λ e. Some (note.Answered e)) (sym (c.noted-entry.ensures.same ∙ given)))
 
 pub invariant_of-self-2 : goal.invariant_of-self-2
 invariant_of-self-2 g c =
@@ -40,11 +58,13 @@ invariant_of-self-2 g c =
     let opening = c.self.inside.opening in
     let entries = c.self.inside.entries.items in
     let entry : Entry g.row.T.Denot = record { seat = c.number.result; call = c.args.call; reply = c.step-reply.result } in
+    let stored : c.into_entries-stored.result.0 ≡ entry = same_entry _ c.number.result c.in-Ok.spares.stored c.args.call c.step-reply.result c.into_entries-stored.ensures.stored c.in-Ok.ensures.stored in
+    let given : c.into_entries-stored.result.1 ≡ entry = same_entry _ c.number.result c.in-Ok.spares.given c.args.call c.step-reply.result c.into_entries-stored.ensures.given c.in-Ok.ensures.given in
     let pushed : c.push_reserved.new.self.items ≡ entries ++ entry ∷ [] =
-    c.push_reserved.ensures.items ∙ (λ i. c.room.ensures.items i ++ c.copied-2.ensures i ∷ []) in (
+    c.push_reserved.ensures.items ∙ (λ i. c.room.ensures.items i ++ stored i ∷ []) in (
       replays_push g.T.Clone.is_clone opening entries c.push_reserved.new.self.items c.self.inside.inner c.step-reply.new.inner entry c.args.call
           pushed refl before.0 c.step-reply.ensures.answers,
-      c.append.ensures ∙ (λ i. before.1 i ++ note.Answered (c.copied.ensures i) ∷ []) ∙ sym (notes_of-push opening entries entry) ∙ ap (notes_of opening) (sym pushed),
+      c.noted-entry.ensures.noted ∙ (λ i. before.1 i ++ note.Answered (given i) ∷ []) ∙ sym (notes_of-push opening entries entry) ∙ ap (notes_of opening) (sym pushed),
       omega (arith, c.add_call.ensures.calls, before.2, c.push_reserved.ensures.len, c.room.ensures.len),
       before.3,
       may_run_again_push opening entries c.push_reserved.new.self.items entry pushed before.4 c.requires,
@@ -55,6 +75,7 @@ returns-clause-run g c =
     let opening = c.self.inside.opening in
     let entries = c.self.inside.entries.items in
     let entry : Entry g.row.T.Denot = record { seat = c.number.result; call = c.args.call; reply = c.step-reply.result } in
+    let stored : c.into_entries-stored.result.0 ≡ entry = same_entry _ c.number.result c.in-Ok.spares.stored c.args.call c.step-reply.result c.into_entries-stored.ensures.stored c.in-Ok.ensures.stored in
     (replays_push g.T.Clone.is_clone opening entries c.push_reserved.new.self.items c.self.inside.inner c.step-reply.new.inner entry c.args.call
-    (c.push_reserved.ensures.items ∙ (λ i. c.room.ensures.items i ++ c.copied-2.ensures i ∷ []))
+    (c.push_reserved.ensures.items ∙ (λ i. c.room.ensures.items i ++ stored i ∷ []))
     refl c.self.invariant.0 c.step-reply.ensures.answers).run

@@ -1,15 +1,12 @@
 -- The first space ends the call's name.
-use Rattle.bcast_text.specs.TraceCall.{name_of, arguments_of}
-use Rattle.bcast_text.proofs.Spaced.{at_none, at_some, plain_space}
-use Rattle.bcast_text.proofs.TraceCalls.{plain_name}
+use Rattle.std.proofs.Common.{◌≡◌, ◌++◌, ◌∷◌, Some, codes, IfOk, IfSome, sym, ap, subst, ◌∙◌, arith}
+use Rattle.std.proofs.lemmas.Slice.Eq.{bytes_eq-Decides}
+use Rattle.std.proofs.lemmas.Str.Pattern.{split_parts}
+use Rattle.bcast_text.specs.TraceCall.{text_of}
 use Rattle.bcast_text.proofs.trace.call.read_call.Goals as goal
 
-pub returns-in-Some-clause-none : goal.returns-in-Some-clause-none
-returns-in-Some-clause-none c none call range same =
-    let split = at_some _ (c.in-Some.name, c.in-Some.arguments) c.in-Some.ensures.cases (name_of call) (arguments_of call) (plain_space _ (plain_name call)) same in
-    c.with_arguments.ensures.none none call range split.0 split.1
-
-pub returns-in-None-clause-none : goal.returns-in-None-clause-none
-returns-in-None-clause-none c none call range same =
-    let whole = at_none _ c.in-None.ensures.cases (name_of call) (arguments_of call) (plain_space _ (plain_name call)) same in
-    c.alone.ensures.none none call whole.0 whole.1
+pub returns-in-Some-clause-text : goal.returns-in-Some-clause-text
+returns-in-Some-clause-text c =
+    let name : c.in-Some.name.now ≡ codes "TryBroadcastAll" = (bytes_eq-Decides c.in-Some.name.now (codes "TryBroadcastAll")).0 (sym c.eq.ensures ∙ c.if-eq.true) in
+    let split : c.args.text.now ≡ c.in-Some.name.now ++ 32 ∷ c.in-Some.list.now = (split_parts 32 c.args.text.now (Some (c.in-Some.name, c.in-Some.list)) c.in-Some.ensures.cases (omega arith)).0 in
+    subst (λ text. IfOk c.send_all.result (λ read. IfSome read (λ call. text ≡ text_of call))) (sym (split ∙ ap (λ word. word ++ 32 ∷ c.in-Some.list.now) name)) c.send_all.ensures.text

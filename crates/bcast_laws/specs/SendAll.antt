@@ -1,0 +1,51 @@
+-- A list that is sent at once stays in one piece.
+use Rattle.std.specs.Prelude.{◌≡◌, ℕ, ◌+◌, ◌-◌, ◌≤◌, List, ◌++◌, length, slice_get, Option, None, Some, IsSomeAnd, Ok}
+use Rattle.bcast_model.specs.declared.run.Call.{Call}
+use Rattle.bcast_model.specs.declared.run.Call.TheVariants as call
+use Rattle.bcast_model.specs.declared.run.Reply.{Reply}
+use Rattle.bcast_model.specs.declared.run.Reply.TheVariants as reply
+use Rattle.bcast_model.specs.Control.{cursor_of}
+use Rattle.bcast_model.specs.History.{History, view_of, end_number, numbered}
+use Rattle.bcast_model.specs.ReceiveReplies.{IsGiven}
+use Rattle.bcast_model.specs.Legal.{Legal}
+use Rattle.bcast_model.specs.Next.{next}
+use Rattle.bcast_model.specs.Valid.{IsValid}
+use Rattle.bcast_model.specs.Run.{IsRun, end_of_run}
+use Rattle.bcast_model.specs.Deliveries.{deliveries_of, last_cursor_of}
+
+module _ {T : Type 0} where
+  -- `try_broadcast_all`: the state after this list was accepted
+  abbrev pub after_list : History T → List T → History T
+  after_list h msgs = next h (call.TryBroadcastAll msgs) (reply.TryBroadcastAll (Ok tt))
+
+  -- a delivery of this message: the message itself, a clone of it, or None, where the receiver is
+  -- told that it missed it
+  abbrev pub IsDeliveryOf : (T → T → Type 0) → T → Option T → Type 0
+  IsDeliveryOf is_clone msg None = Unit {0}
+  IsDeliveryOf is_clone msg (Some given) = IsGiven is_clone msg given
+
+-- an accepted list, and the calls that follow it
+pub record StandsInOnePiece
+    {T : Type 0} (is_clone : T → T → Type 0) (h : History T) (msgs : List T)
+    (calls : List (Call T)) (replies : List (Reply T)) : Type 0 where
+  -- it stands last, in its order
+  pub last : (after_list h msgs).accepted ≡ h.accepted ++ msgs
+  -- its messages keep numbers that follow one another, so no other message comes between
+  pub numbers : (index : ℕ) (msg : T) → slice_get msgs index ≡ Some msg
+      → numbered (end_of_run (after_list h msgs) calls replies) (end_number h + index) ≡ Some msg
+  -- a receiver that was there and has gone past the list has a delivery of each of its messages
+  pub delivered : (key start cursor index : ℕ) (msg : T) → cursor_of h.control key ≡ Some start
+      → last_cursor_of key (after_list h msgs) calls replies ≡ Some cursor
+      → end_number h + length msgs ≤ cursor → slice_get msgs index ≡ Some msg
+      → IsSomeAnd
+      (slice_get (deliveries_of key (after_list h msgs) calls replies)
+      (end_number h + index - start))
+      (IsDeliveryOf is_clone msg)
+
+-- each list that is accepted stands so, whatever calls follow
+abbrev pub ListsStandInOnePiece : {T : Type 0} → (T → T → Type 0) → Type 0
+ListsStandInOnePiece {T} is_clone =
+    (h : History T) (msgs : List T) (calls : List (Call T)) (replies : List (Reply T)) → IsValid h
+    → Legal is_clone (view_of h) (call.TryBroadcastAll msgs) (reply.TryBroadcastAll (Ok tt))
+    → IsRun is_clone (after_list h msgs) calls replies
+    → StandsInOnePiece is_clone h msgs calls replies

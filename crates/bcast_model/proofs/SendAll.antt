@@ -1,0 +1,85 @@
+-- What a whole list keeps that is sent at once.
+use Rattle.std.proofs.Common.{◌≡◌, inl, ℕ, ◌+◌, ◌-◌, ◌^◌, ◌<◌, ◌≤◌, not, true, false, cond, List, [], ◌∷◌, length, nat_lt, Option, Some, None, refl, subst, arith, length-append, length-drop}
+use Rattle.std.proofs.lemmas.Grind.{common_steps}
+use Rattle.std.specs.FinMap.{len}
+use Rattle.bcast_model.specs.declared.error.TrySendError.{TrySendError}
+use Rattle.bcast_model.specs.declared.error.TrySendError.TheVariants as unsent
+use Rattle.bcast_model.specs.Control.{has_no_receiver, accepting}
+use Rattle.bcast_model.specs.Effect.{Effect, sets}
+use Rattle.bcast_model.specs.Laws.{IsValidView}
+use Rattle.bcast_model.specs.SendAll.{free_room, refusal_of_all, accept_all, accept_all_unless, offer_all}
+use Rattle.bcast_model.specs.View.{View, sends_are_ready}
+use Rattle.bcast_model.proofs.Cases.{capacity-accepting, cursors-accepting}
+use Rattle.bcast_model.proofs.Sound.{IsAttended, IsSound}
+use Rattle.bcast_model.proofs.Lift.{KeepsValid}
+use Rattle.bcast_model.proofs.Kept.{not_not, kept_idle, keeps_sets}
+use Rattle.bcast_model.proofs.Sends.{attended_accepting, sound_accepting, told_accepting}
+
+-- ---- whatever holds of both outcomes
+module _ {T : Type 0} where
+  -- a list is refused, or is accepted: without a message, or with a last one
+  pub offer_all_is : (P : Effect T → Type 0) (v : View T) (msgs : List T) → P (sets v.control)
+      → ((msg : T) (rest : List T) → msgs ≡ msg ∷ rest → refusal_of_all v msgs ≡ None → P (accept_all v (msg ∷ rest))) → P (offer_all v msgs)
+  offer_all_is P v msgs idle accepted = by_refusal (refusal_of_all v msgs) refl
+    where
+      by_list : (list : List T) → msgs ≡ list → refusal_of_all v msgs ≡ None → P (accept_all v list)
+      by_list [] is e = idle
+      by_list (msg ∷ rest) is e = accepted msg rest is e
+
+      by_refusal : (o : Option (TrySendError (List T))) → refusal_of_all v msgs ≡ o → P (accept_all_unless v msgs o)
+      by_refusal (Some error) e = idle
+      by_refusal None e = by_list msgs refl e
+
+  -- ---- what it leaves
+  pub cursors-offer_all : (v : View T) (msgs : List T) → (offer_all v msgs).control.cursors ≡ v.control.cursors
+  cursors-offer_all v msgs = offer_all_is (λ e. e.control.cursors ≡ v.control.cursors) v msgs refl (λ msg rest is e. cursors-accepting v.control (v.end + length rest))
+
+  pub capacity-offer_all : (v : View T) (msgs : List T) → (offer_all v msgs).control.capacity ≡ v.control.capacity
+  capacity-offer_all v msgs = offer_all_is (λ e. e.control.capacity ≡ v.control.capacity) v msgs refl (λ msg rest is e. capacity-accepting v.control (v.end + length rest))
+
+  pub floor-offer_all : (v : View T) (msgs : List T) → (offer_all v msgs).floor ≡ 0
+  floor-offer_all v msgs = offer_all_is (λ e. e.floor ≡ 0) v msgs refl (λ msg rest is e. refl)
+
+  -- ---- what is accepted
+  -- what is not refused finds an open channel with a receiver, and room
+  pub record IsRoomy (v : View T) (count : ℕ) : Type 0 where
+    pub opened : v.control.closed ≡ false
+    pub someone : has_no_receiver v.control ≡ false
+    pub room : count ≤ v.control.capacity - length v.queue
+    pub numbers : count ≤ 18446744073709551615 - v.end
+
+  pub roomy : (v : View T) (msgs : List T) → refusal_of_all v msgs ≡ None → IsRoomy v (length msgs)
+  roomy v msgs e = elim v.control.closed as (λ b. v.control.closed ≡ b → cond b (Some (unsent.Closed msgs)) (cond (has_no_receiver v.control) (Some (unsent.Inactive msgs)) (cond (nat_lt (free_room v) (length msgs)) (Some (unsent.Full msgs)) None)) ≡ None → IsRoomy v (length msgs)) [
+    | true ↦ λ _ e. cc
+    | false ↦ λ opened e. elim (has_no_receiver v.control) as (λ b. has_no_receiver v.control ≡ b → cond b (Some (unsent.Inactive msgs)) (cond (nat_lt (free_room v) (length msgs)) (Some (unsent.Full msgs)) None) ≡ None → IsRoomy v (length msgs)) [
+      | true ↦ λ _ e. cc
+      | false ↦ λ someone e. elim (nat_lt (free_room v) (length msgs)) as (λ b. nat_lt (free_room v) (length msgs) ≡ b → cond b (Some (unsent.Full msgs)) None ≡ None → IsRoomy v (length msgs)) [
+        | true ↦ λ _ e. cc
+        | false ↦ λ t e.
+            let fits : length msgs ≤ free_room v = grind (arith, common_steps, t) in
+            record { opened = opened; someone = someone; room = omega (arith, fits); numbers = omega (arith, fits) }
+      ] refl e
+    ] refl e
+  ] refl e
+
+  module _ (v : View T) (valid : IsValidView v) where
+    keeps_accept_all : (msg : T) (rest : List T) → IsRoomy v (length (msg ∷ rest)) → KeepsValid v (accept_all v (msg ∷ rest)) (not (sends_are_ready v))
+    keeps_accept_all msg rest roomy =
+        let idle = kept_idle v valid in
+        let end : ℕ = v.end + length rest in
+        let next : end + 1 ≡ v.end + length (msg ∷ rest) = omega arith in
+        let below : end + 1 < 2 ^ 64 = omega (arith, roomy.numbers, valid.control.open_end roomy.opened) in
+        let same = capacity-accepting v.control end in
+        let sound = sound_accepting v v.control v.end end (omega arith) below idle.sound in
+        let attended = attended_accepting v.control v.end end below idle.attended in
+        record {
+          floor = inl refl;
+          fits = rw same (simp (length-drop, length-append) (omega (arith, roomy.room, valid.fits)));
+          sound = subst (λ n. IsSound v n (accepting v.control end)) next sound;
+          attended = subst (IsAttended (accepting v.control end).closed (accepting v.control end).senders (len (accepting v.control end).cursors) (accepting v.control end).inactive) next attended;
+          told = λ was _. told_accepting v.control end (valid.wake_ups.sends (not_not (sends_are_ready v) was));
+        }
+
+    pub keeps_offer_all : (msgs : List T) → KeepsValid v (offer_all v msgs) (not (sends_are_ready v))
+    keeps_offer_all msgs = offer_all_is (λ e. KeepsValid v e (not (sends_are_ready v))) v msgs (keeps_sets v valid v.control (kept_idle v valid))
+        (λ msg rest is e. keeps_accept_all msg rest (subst (λ list. IsRoomy v (length list)) is (roomy v msgs e)))

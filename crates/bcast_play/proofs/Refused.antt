@@ -1,0 +1,18 @@
+-- A line that is read as none asks for nothing.
+use Rattle.std.proofs.Common.{◌≡◌, ◌≢◌, ℕ, List, ◌∷◌, Option, None, Result, Ok, IfOk, refl, subst}
+use Rattle.std.specs.Prelude.{IsNone}
+use Rattle.bcast_model.specs.declared.run.Call.{Call}
+use Rattle.bcast_text.specs.TraceCall as calls
+use Rattle.bcast_text.specs.TraceLine.{IsBeforeArrow}
+use Rattle.bcast_play.specs.TraceRun.{AsksForNone}
+
+module _ {X E : Type 0} where
+  -- what a reader says of None it says of this answer
+  said_of_none : (P : Type 0) (read : Result (Option X) E) → read ≡ Ok None → IfOk read (λ o. IsNone o → P) → P
+  said_of_none P read is said = subst (λ r. IfOk r (λ o. IsNone o → P)) is said refl
+
+  pub asks_for_none : (line : List ℕ) (read : Result (Option X) E) → read ≡ Ok None
+      → IfOk read (λ o. IsNone o → (rest : List ℕ) → line ≢ 61 ∷ rest)
+      → IfOk read (λ o. IsNone o → (text : List ℕ) (call : Call ℕ) → IsBeforeArrow text line → calls.IsInRange call → text ≢ calls.text_of call)
+      → AsksForNone line
+  asks_for_none line read is no_view no_call = (said_of_none _ read is no_view, said_of_none _ read is no_call)

@@ -1,0 +1,101 @@
+-- A reply that hands a list back hands back the list of its call.
+use Rattle.std.proofs.Common.{◌≡◌, inl, inr, ◌<◌, ◌+◌, ◌∷◌, [], ◌++◌, map, take, get_or, Bool, true, false, cond, List, Option, Some, None, Result, Ok, Err, nat_lt, length, refl, sym, ap, ◌∙◌, subst}
+use Rattle.std.proofs.lemmas.List.{map-append, take_more}
+use Rattle.bcast_model.specs.declared.error.TryRecvError.{TryRecvError}
+use Rattle.bcast_model.specs.declared.error.HandleError.{HandleError}
+use Rattle.bcast_model.specs.declared.error.TrySendError.TheVariants as unsent
+use Rattle.bcast_model.specs.declared.run.Call.{Call}
+use Rattle.bcast_model.specs.declared.run.Call.TheVariants as call
+use Rattle.bcast_model.specs.declared.run.Reply.{Reply}
+use Rattle.bcast_model.specs.declared.run.Reply.TheVariants as reply
+use Rattle.std.specs.Prelude.{ℕ}
+use Rattle.bcast_model.specs.Control.{Cursors, has_no_receiver}
+use Rattle.bcast_model.specs.View.{View}
+use Rattle.bcast_model.specs.SendAll.{free_room, reply_to_all}
+use Rattle.bcast_model.specs.Legal.{Legal, IsReceived, IsMade, IsMadeFrom}
+use Rattle.bcast_record.specs.declared.entry.Entry.{Entry}
+use Rattle.bcast_record.specs.Copies.{list_of, IsListOf}
+
+module _ {T : Type 0} where
+  -- whether a reply hands a list back
+  abbrev hands_list : Reply T → Bool
+  hands_list (reply.TryBroadcastAll (Err error)) = true
+  hands_list r = false
+
+  hands_none : (list : Option (List T)) (r : Reply T) → hands_list r ≡ false → IsListOf list r
+  hands_none list (reply.TryBroadcastAll (Err error)) e = absurd cc
+  hands_none list r e = tt
+
+  received : {owed : Type 0} (is_clone : T → T → Type 0) (spelt : Result T TryRecvError → Reply T) (refused : Reply T) (exact : Result T TryRecvError) (r : Reply T)
+      → ((answer : Result T TryRecvError) → hands_list (spelt answer) ≡ false) → hands_list refused ≡ false → IsReceived is_clone owed spelt refused exact r → hands_list r ≡ false
+  received is_clone spelt refused exact r none nor (inl is) = ap hands_list is ∙ none exact
+  received is_clone spelt refused exact r none nor (inr (owes, inl clone)) = ap hands_list clone.reply ∙ none (Ok clone.given)
+  received is_clone spelt refused exact r none nor (inr (owes, inr is)) = ap hands_list is ∙ nor
+
+  made : (cursors : Cursors) (spelt : Result ℕ HandleError → Reply T) (r : Reply T) → ((answer : Result ℕ HandleError) → hands_list (spelt answer) ≡ false) → IsMade cursors spelt r → hands_list r ≡ false
+  made cursors spelt r none (inl (key, is, free)) = ap hands_list is ∙ none _
+  made cursors spelt r none (inr is) = ap hands_list is ∙ none _
+
+  made_from : (there : Bool) (cursors : Cursors) (spelt : Result ℕ HandleError → Reply T) (r : Reply T) → ((answer : Result ℕ HandleError) → hands_list (spelt answer) ≡ false) → IsMadeFrom there cursors spelt r → hands_list r ≡ false
+  made_from there cursors spelt r none (inl (gone, is)) = ap hands_list is ∙ none _
+  made_from there cursors spelt r none (inr (is_there, is)) = made cursors spelt r none is
+
+  refused : (closed nobody over : Bool) (msgs : List T)
+      → IsListOf (Some msgs) (reply.TryBroadcastAll (reply_to_all (cond closed (Some (unsent.Closed msgs)) (cond nobody (Some (unsent.Inactive msgs)) (cond over (Some (unsent.Full msgs)) None)))))
+  refused true nobody over msgs = refl
+  refused false true over msgs = refl
+  refused false false true msgs = refl
+  refused false false false msgs = tt
+
+  pub legal_list : (is_clone : T → T → Type 0) (v : View T) (c : Call T) (r : Reply T) → Legal is_clone v c r → IsListOf (list_of c) r
+  legal_list is_clone v (call.TryBroadcastAll msgs) r legal = subst (IsListOf (Some msgs)) (sym legal) (refused v.control.closed (has_no_receiver v.control) (nat_lt (free_room v) (length msgs)) msgs)
+  legal_list is_clone v (call.TryBroadcast msg) r legal = hands_none _ r (ap hands_list legal)
+  legal_list is_clone v (call.AttemptSend msg) r legal = hands_none _ r (ap hands_list legal)
+  legal_list is_clone v (call.PollSend place msg) r legal = hands_none _ r (ap hands_list legal)
+  legal_list is_clone v (call.EndSend place) r legal = hands_none _ r (ap hands_list legal)
+  legal_list is_clone v (call.EndFuture key) r legal = hands_none _ r (ap hands_list legal)
+  legal_list is_clone v call.Close r legal = hands_none _ r (ap hands_list legal)
+  legal_list is_clone v (call.SetOverflow on) r legal = hands_none _ r (ap hands_list legal)
+  legal_list is_clone v (call.SetAwaitActive on) r legal = hands_none _ r (ap hands_list legal)
+  legal_list is_clone v call.NewSender r legal = hands_none _ r (ap hands_list legal)
+  legal_list is_clone v call.CloneInactive r legal = hands_none _ r (ap hands_list legal)
+  legal_list is_clone v (call.Deactivate key) r legal = hands_none _ r (ap hands_list legal)
+  legal_list is_clone v call.DropSender r legal = hands_none _ r (ap hands_list legal)
+  legal_list is_clone v call.DropInactive r legal = hands_none _ r (ap hands_list legal)
+  legal_list is_clone v (call.DropReceiver key) r legal = hands_none _ r (ap hands_list legal)
+  legal_list is_clone v call.Overflow r legal = hands_none _ r (ap hands_list legal)
+  legal_list is_clone v call.AwaitActive r legal = hands_none _ r (ap hands_list legal)
+  legal_list is_clone v call.IsEmpty r legal = hands_none _ r (ap hands_list legal)
+  legal_list is_clone v call.IsFull r legal = hands_none _ r (ap hands_list legal)
+  legal_list is_clone v call.IsClosed r legal = hands_none _ r (ap hands_list legal)
+  legal_list is_clone v call.IsTerminated r legal = hands_none _ r (ap hands_list legal)
+  legal_list is_clone v call.Capacity r legal = hands_none _ r (ap hands_list legal)
+  legal_list is_clone v call.Len r legal = hands_none _ r (ap hands_list legal)
+  legal_list is_clone v call.ReceiverCount r legal = hands_none _ r (ap hands_list legal)
+  legal_list is_clone v call.InactiveReceiverCount r legal = hands_none _ r (ap hands_list legal)
+  legal_list is_clone v call.SenderCount r legal = hands_none _ r (ap hands_list legal)
+  legal_list is_clone v call.EndNumber r legal = hands_none _ r (ap hands_list legal)
+  legal_list is_clone v call.BeginSend r (inl (place, is, free)) = hands_none _ r (ap hands_list is)
+  legal_list is_clone v call.BeginSend r (inr is) = hands_none _ r (ap hands_list is)
+  legal_list is_clone v (call.SetCapacity n) r (inl is) = hands_none _ r (ap hands_list is)
+  legal_list is_clone v (call.SetCapacity n) r (inr (is, more)) = hands_none _ r (ap hands_list is)
+  legal_list is_clone v (call.TryRecv key) r legal = hands_none _ r (received is_clone _ _ _ r (λ _. refl) refl legal)
+  legal_list is_clone v (call.PollFuture key) r legal = hands_none _ r (received is_clone _ _ _ r (λ _. refl) refl legal)
+  legal_list is_clone v (call.PollRecv key) r legal = hands_none _ r (received is_clone _ _ _ r (λ _. refl) refl legal)
+  legal_list is_clone v (call.PollNext key) r legal = hands_none _ r (received is_clone _ _ _ r (λ _. refl) refl legal)
+  legal_list is_clone v call.NewReceiver r legal = hands_none _ r (made _ reply.NewReceiver r (λ _. refl) legal)
+  legal_list is_clone v call.Activate r legal = hands_none _ r (made_from _ _ reply.Activate r (λ _. refl) legal)
+  legal_list is_clone v call.ActivateCloned r legal = hands_none _ r (made_from _ _ reply.ActivateCloned r (λ _. refl) legal)
+  legal_list is_clone v (call.CloneReceiver key) r legal = hands_none _ r (made_from _ _ reply.CloneReceiver r (λ _. refl) legal)
+
+  -- an entry that was made with a copy of the call
+  pub same_entry : (made : Entry T) (seat : ℕ) (copy call : Call T) (r : Reply T) → made ≡ record { seat = seat; call = copy; reply = r } → copy ≡ call → made ≡ record { seat = seat; call = call; reply = r }
+  same_entry made seat copy call r is same = is ∙ (λ i. record { seat = seat; call = same i; reply = r })
+
+  -- the calls of the entries up to one more
+  pub calls_more : (entries : List (Entry T)) (index : ℕ) (entry : Entry T) (copy : Call T) → index < length entries → entry ≡ get_or entries index entry → copy ≡ entry.call
+      → map (λ e. e.call) (take index entries) ++ copy ∷ [] ≡ map (λ e. e.call) (take (index + 1) entries)
+  calls_more entries index entry copy within at same =
+      let calls : List (Call T) = map (λ (e : Entry T). e.call) (take index entries) in
+      (λ i. calls ++ same i ∷ []) ∙ (λ i. calls ++ (at i).call ∷ []) ∙ sym (map-append (λ (e : Entry T). e.call) (take index entries) (get_or entries index entry ∷ []))
+      ∙ sym (ap (map (λ (e : Entry T). e.call)) (take_more entries index entry within))

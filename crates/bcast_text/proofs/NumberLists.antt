@@ -1,0 +1,64 @@
+-- Texts of several numbers.
+use Rattle.std.proofs.Common.{◌≡◌, ◌≢◌, ◌<◌, ◌^◌, ℕ, List, [], ◌∷◌, ◌++◌, Some, None, Bor, refl, sym, ap, ◌∙◌, arith, append_assoc}
+use Rattle.std.specs.Fmt.{decimal}
+use Rattle.std.specs.List.{AllByRecursion}
+use Rattle.std.proofs.lemmas.Fmt.{decimal_injective}
+use Rattle.std.proofs.lemmas.Option.{none-some, same_Some}
+use Rattle.std.proofs.lemmas.Str.Pattern.{IsSplitOnceResult, split_parts}
+use Rattle.bcast_model.proofs.Lists.{all_append}
+use Rattle.bcast_text.specs.Words.{spaced, numbers_text, IsU64}
+use Rattle.bcast_text.proofs.Spaced.{at_none, at_some, Lacks-decimal}
+
+-- the numbers that were read of a text, and what is left of it
+pub record AreRead (text : List ℕ) (msgs : List ℕ) (rest : List ℕ) : Type 0 where
+  pub small : AllByRecursion IsU64 msgs
+  -- whatever spells the rest completes them
+  pub whole : (more : List ℕ) → numbers_text more ≡ Some rest → numbers_text (msgs ++ more) ≡ Some text
+  -- and nothing else spells the text
+  pub only : (all : List ℕ) → AllByRecursion IsU64 all → numbers_text all ≡ Some text → (more : List ℕ) × (all ≡ msgs ++ more) × AllByRecursion IsU64 more × (numbers_text more ≡ Some rest)
+
+pub none_read : (text : List ℕ) → AreRead text [] text
+none_read text = record { small = tt; whole = λ more is. is; only = λ all small is. (all, refl, small, is) }
+
+-- one number more, up to a space
+pub one_read : (text msgs rest : List ℕ) (x : Bor (List ℕ) × Bor (List ℕ)) (n : ℕ) → n < 2 ^ 64 → IsSplitOnceResult 32 rest (Some x) → x.0.now ≡ decimal n
+    → AreRead text msgs rest → AreRead text (msgs ++ n ∷ []) x.1.now
+one_read text msgs rest x n small split is read =
+    let parts : rest ≡ x.0.now ++ 32 ∷ x.1.now = (split_parts 32 rest (Some x) split (omega arith)).0 in
+    record {
+      small = all_append IsU64 msgs (n ∷ []) read.small (small, tt);
+      whole = λ more spelt.
+          let longer : numbers_text (n ∷ more) ≡ Some rest = ap (λ o. Some (spaced (decimal n) o)) spelt ∙ ap (λ word. Some (word ++ 32 ∷ x.1.now)) (sym is) ∙ ap Some (sym parts) in
+          ap numbers_text (append_assoc msgs (n ∷ []) more) ∙ read.whole (n ∷ more) longer;
+      only = λ all fits spelt. next (read.only all fits spelt);
+    }
+  where
+    next : {all : List ℕ} → (more : List ℕ) × (all ≡ msgs ++ more) × AllByRecursion IsU64 more × (numbers_text more ≡ Some rest)
+        → (more : List ℕ) × (all ≡ (msgs ++ n ∷ []) ++ more) × AllByRecursion IsU64 more × (numbers_text more ≡ Some x.1.now)
+    next ([], same, fits, spelt) = absurd (none-some rest spelt)
+    next (m ∷ more, same, fits, spelt) =
+        let at = at_some rest x split (decimal m) (numbers_text more) (Lacks-decimal 32 m (omega arith) fits.0) (sym (same_Some _ _ spelt)) in
+        let number : m ≡ n = decimal_injective m n fits.0 small (sym at.0 ∙ is) in
+        (more, same ∙ ap (λ k. msgs ++ k ∷ more) number ∙ sym (append_assoc msgs (n ∷ []) more), fits.1, at.1)
+
+-- the last number
+pub last_read : (text msgs rest : List ℕ) (n : ℕ) → rest ≡ decimal n → AreRead text msgs rest → numbers_text (msgs ++ n ∷ []) ≡ Some text
+last_read text msgs rest n is read = read.whole (n ∷ []) (ap Some (sym is))
+
+-- a word that is no number
+pub none_before : (text msgs rest : List ℕ) (x : Bor (List ℕ) × Bor (List ℕ)) → IsSplitOnceResult 32 rest (Some x) → ((n : ℕ) → n < 2 ^ 64 → x.0.now ≢ decimal n)
+    → AreRead text msgs rest → (all : List ℕ) → AllByRecursion IsU64 all → numbers_text all ≢ Some text
+none_before text msgs rest x split refused read all fits spelt = stop (read.only all fits spelt)
+  where
+    stop : (more : List ℕ) × (all ≡ msgs ++ more) × AllByRecursion IsU64 more × (numbers_text more ≡ Some rest) → ⊥
+    stop ([], same, fits, spelt) = absurd (none-some rest spelt)
+    stop (m ∷ more, same, fits, spelt) = refused m fits.0 (at_some rest x split (decimal m) (numbers_text more) (Lacks-decimal 32 m (omega arith) fits.0) (sym (same_Some _ _ spelt))).0
+
+-- a last word that is no number
+pub none_last : (text msgs rest : List ℕ) → IsSplitOnceResult 32 rest None → ((n : ℕ) → n < 2 ^ 64 → rest ≢ decimal n)
+    → AreRead text msgs rest → (all : List ℕ) → AllByRecursion IsU64 all → numbers_text all ≢ Some text
+none_last text msgs rest split refused read all fits spelt = stop (read.only all fits spelt)
+  where
+    stop : (more : List ℕ) × (all ≡ msgs ++ more) × AllByRecursion IsU64 more × (numbers_text more ≡ Some rest) → ⊥
+    stop ([], same, fits, spelt) = absurd (none-some rest spelt)
+    stop (m ∷ more, same, fits, spelt) = refused m fits.0 (at_none rest split (decimal m) (numbers_text more) (Lacks-decimal 32 m (omega arith) fits.0) (sym (same_Some _ _ spelt))).1

@@ -1,0 +1,20 @@
+use Rattle.std.proofs.Common.{rules, refl, sym, subst, arith}
+use Rattle.bcast_text.proofs.NumberLists.{AreRead, one_read, none_before, none_last}
+use Rattle.bcast_text.proofs.number.numbers.Goals as goal
+
+pub returns-in_default-number-clause-none : goal.returns-in_default-number-clause-none
+returns-in_default-number-clause-none c = λ _.
+    none_before c.args.text.now c.loop-first.msgs.items c.loop-first.rest.now (c.in-Some.first, c.in-Some.others) c.in-Some.ensures.cases
+    (c.in_default-number.ensures.none refl) c.loop-first.invariant.0
+
+pub loop-first-preserved : goal.loop-first-preserved
+loop-first-preserved c = (
+  subst (λ items. AreRead c.args.text.now items c.in-Some.others.now) (sym c.in_ok-push.ensures.items)
+      (one_read c.args.text.now c.loop-first.msgs.items c.loop-first.rest.now (c.in-Some.first, c.in-Some.others) c.in-Some-number.n (omega arith) c.in-Some.ensures.cases c.in-Some-number.ensures.spelt c.loop-first.invariant.0),
+  search rules,
+)
+
+pub returns-in_default-number-2-clause-none : goal.returns-in_default-number-2-clause-none
+returns-in_default-number-2-clause-none c = λ _.
+    none_last c.args.text.now c.loop-first.msgs.items c.loop-first.rest.now c.in_default.ensures.cases
+    (c.in_default-number-2.ensures.none refl) c.loop-first.invariant.0
