@@ -1,6 +1,7 @@
 -- The text of what each reply of a trace holds.
 use Rattle.std.specs.Prelude.{ℕ, List, Option, Some, None, Result, Ok, Err, ◌++◌, codes}
 use Rattle.std.specs.Fmt.{decimal}
+use Rattle.std.specs.List.{flat_map}
 use Rattle.std.specs.declared.alloc.AllocError.{AllocError}
 use Rattle.futures.specs.declared.task.Poll.{Poll}
 use Rattle.futures.specs.declared.task.Poll.TheVariants.{Ready, Pending}
@@ -23,12 +24,16 @@ sent_text (Err (send.Full msg)) = codes "full " ++ decimal msg
 sent_text (Err (send.Closed msg)) = codes "closed " ++ decimal msg
 sent_text (Err (send.Inactive msg)) = codes "inactive " ++ decimal msg
 
+-- numbers, each after a space
+abbrev pub after_spaces : List ℕ → List ℕ
+after_spaces ns = flat_map (λ n. codes " " ++ decimal n) ns
+
 -- `TryBroadcastAll`
 abbrev pub sent_all_text : Result (Unit {0}) (TrySendError (List ℕ)) → List ℕ
 sent_all_text (Ok done) = codes "ok"
-sent_all_text (Err (send.Full msgs)) = codes "full all"
-sent_all_text (Err (send.Closed msgs)) = codes "closed all"
-sent_all_text (Err (send.Inactive msgs)) = codes "inactive all"
+sent_all_text (Err (send.Full msgs)) = codes "full" ++ after_spaces msgs
+sent_all_text (Err (send.Closed msgs)) = codes "closed" ++ after_spaces msgs
+sent_all_text (Err (send.Inactive msgs)) = codes "inactive" ++ after_spaces msgs
 
 -- `AttemptSend`, `PollSend`
 abbrev pub send_poll_text : SendPoll ℕ → List ℕ

@@ -1,7 +1,7 @@
 //! The replies of a trace, as text.
 ghost use Rattle.std.specs.Prelude.{OnOk, ◌++◌, ◌∷◌, [], codes};
 ghost use Rattle.std.specs.Io.KnownBytes.{Appends};
-ghost use Rattle.bcast_text.specs.TraceAnswer.{sent_text, sent_all_text, send_poll_text, received_text, future_text, stream_text, next_text, done_text, made_text, handle_error_text};
+ghost use Rattle.bcast_text.specs.TraceAnswer.{sent_text, after_spaces, sent_all_text, send_poll_text, received_text, future_text, stream_text, next_text, done_text, made_text, handle_error_text};
 ghost use Rattle.bcast_text.specs.TraceReply.{text_of};
 
 use bcast_model::error::{HandleError, RecvError, SendError, TryRecvError, TrySendError};
@@ -95,12 +95,24 @@ fn sent_all<W: Write>(
     ensures { OnOk result (Appends (W.contents output.old) (W.contents output.new)
         (sent_all_text answer.now)) }
 {
-    output.write_all(match answer {
-        Ok(()) => b"ok",
-        Err(TrySendError::Full(_)) => b"full all",
-        Err(TrySendError::Closed(_)) => b"closed all",
-        Err(TrySendError::Inactive(_)) => b"inactive all",
-    })
+    match answer {
+        Ok(()) => output.write_all(b"ok"),
+        Err(TrySendError::Full(msgs)) => handed_back("full", msgs, output),
+        Err(TrySendError::Closed(msgs)) => handed_back("closed", msgs, output),
+        Err(TrySendError::Inactive(msgs)) => handed_back("inactive", msgs, output),
+    }
+}
+
+/// Why a list came back, and its messages.
+fn handed_back<W: Write>(why: &str, msgs: &Messages<u64>, output: &mut W) -> io::Result<()>
+    ensures { OnOk result (Appends (W.contents output.old) (W.contents output.new)
+        (why.now ++ after_spaces msgs.now)) }
+{
+    write!(output, "{why}")?;
+    for msg in msgs.as_slice() {
+        write!(output, " {msg}")?;
+    }
+    Ok(())
 }
 
 /// The reply of a send that may wait.
