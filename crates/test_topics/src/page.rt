@@ -1,13 +1,13 @@
 //! What docs/CALLING.md shows of topics.
 use bcast_core::Reply;
+use std::alloc::Global;
+use std::process::Abort;
 use std::string::String;
 use std::test::Fail;
 use topics::{Answer, Hub, Request};
 
-#[test]
-fn a_topic_by_name(rt: HostRuntime) -> Result<(), Fail> {
-    let mut hub = Hub::new(rt.alloc());
-    let name = |text: &str| String::from_str(rt.alloc(), text);
+fn news(rt: &impl Abort, alloc: Global, hub: &mut Hub<u64>) -> Result<(), Fail> {
+    let name = |text: &str| String::from_str(alloc, text);
     assert!(rt; hub.ask(Request::Open(name("news")?, 4)) == Answer::Opened);
     assert!(rt; hub.ask(Request::Open(name("news")?, 1)) == Answer::Exists);
     let Answer::Done(Reply::NewReceiver(Ok(key))) = hub.ask(Request::Follow(name("news")?)) else {
@@ -19,4 +19,9 @@ fn a_topic_by_name(rt: HostRuntime) -> Result<(), Fail> {
     assert!(rt; received == Answer::Done(Reply::TryRecv(Ok(Ok(7)))));
     assert!(rt; hub.ask(Request::Close(name("sport")?)) == Answer::NoTopic);
     Ok(())
+}
+
+#[test]
+fn a_topic_by_name(rt: HostRuntime) -> Result<(), Fail> {
+    news(&rt, rt.alloc(), &mut Hub::new(rt.alloc()))
 }

@@ -1,14 +1,14 @@
-//! What docs/CALLING.md shows of the four uses.
+//! What docs/CALLING.md shows of the four uses. Each function is given its caller new.
 use bcast_core::TrySendError;
+use std::process::Abort;
 use std::test::Fail;
 use uses::config_watcher::Config;
 use uses::event_hub::EventHub;
 use uses::log_fan_out::Log;
 use uses::shutdown::Shutdown;
 
-#[test]
-fn event_hub(rt: HostRuntime) -> Result<(), Fail> {
-    let mut hub = EventHub::new(rt.alloc(), 1)?;
+/// A hub of capacity 1.
+fn publish(rt: &impl Abort, hub: &mut EventHub<u64>) -> Result<(), Fail> {
     let one = hub.subscribe()?;
     let two = hub.subscribe_like(one)?;
     assert!(rt; hub.publish(5) == Ok(()));
@@ -23,8 +23,12 @@ fn event_hub(rt: HostRuntime) -> Result<(), Fail> {
 }
 
 #[test]
-fn config_watcher(rt: HostRuntime) -> Result<(), Fail> {
-    let (mut config, watcher) = Config::new(rt.alloc())?;
+fn event_hub(rt: HostRuntime) -> Result<(), Fail> {
+    publish(&rt, &mut EventHub::new(rt.alloc(), 1)?)
+}
+
+/// Settings, and the key of their first watcher.
+fn set(rt: &impl Abort, config: &mut Config<u64>, watcher: usize) -> Result<(), Fail> {
     config.set(1)?;
     config.set(2)?;
     config.set(3)?;
@@ -35,8 +39,13 @@ fn config_watcher(rt: HostRuntime) -> Result<(), Fail> {
 }
 
 #[test]
-fn log_fan_out(rt: HostRuntime) -> Result<(), Fail> {
-    let (mut log, one) = Log::new(rt.alloc(), 3)?;
+fn config_watcher(rt: HostRuntime) -> Result<(), Fail> {
+    let (mut config, watcher) = Config::new(rt.alloc())?;
+    set(&rt, &mut config, watcher)
+}
+
+/// A log of capacity 3, and the key of its first reader.
+fn write(rt: &impl Abort, log: &mut Log, one: usize) -> Result<(), Fail> {
     // It has as much to read as the first one.
     let two = log.add_reader(one)?;
     log.write(5)?;
@@ -48,8 +57,14 @@ fn log_fan_out(rt: HostRuntime) -> Result<(), Fail> {
 }
 
 #[test]
-fn shutdown(rt: HostRuntime) -> Result<(), Fail> {
-    let (mut signal, worker) = Shutdown::new(rt.alloc())?;
+fn log_fan_out(rt: HostRuntime) -> Result<(), Fail> {
+    let (mut log, one) = Log::new(rt.alloc(), 3)?;
+    write(&rt, &mut log, one)
+}
+
+/// A signal that one part holds.
+fn release(rt: &impl Abort, signal: &mut Shutdown) -> Result<(), Fail> {
+    let worker = signal.add_worker()?;
     // Two hold it now.
     signal.hold()?;
     signal.release();
@@ -57,4 +72,10 @@ fn shutdown(rt: HostRuntime) -> Result<(), Fail> {
     signal.release();
     assert!(rt; signal.is_given(worker));
     Ok(())
+}
+
+#[test]
+fn shutdown(rt: HostRuntime) -> Result<(), Fail> {
+    let (mut signal, _) = Shutdown::new(rt.alloc())?;
+    release(&rt, &mut signal)
 }
