@@ -1,6 +1,6 @@
 //! The calls that take no memory, made on a heap that is full.
 use bcast_core::{
-    Call, Inner, Reply, SendError, SendPoll, Silent, TryRecvError, TrySendError, step,
+    Call, Inner, Messages, Reply, SendError, SendPoll, Silent, TryRecvError, TrySendError, step,
 };
 use futures::task::Poll;
 use linked_list_allocator::LocalHeap;
@@ -9,6 +9,9 @@ use std::alloc::{AllocError, Allocator, Global};
 /// Calls on a channel of capacity 2 with the receivers 0 and 1 and a pending send at place 0, each
 /// with its reply. None takes memory.
 fn rows(alloc: Global) -> Result<Vec<(Call<u64>, Reply<u64>)>, AllocError> {
+    let two = Messages::new(vec![in alloc; 20, 21]?);
+    let one = Messages::new(vec![in alloc; 22]?);
+    let back = Messages::new(vec![in alloc; 22]?);
     let rows = vec![in alloc;
         (Call::PollFuture(0), Reply::PollFuture(Ok(Poll::Pending))),
         (Call::PollRecv(0), Reply::PollRecv(Ok(Poll::Pending))),
@@ -59,6 +62,13 @@ fn rows(alloc: Global) -> Result<Vec<(Call<u64>, Reply<u64>)>, AllocError> {
             Call::PollNext(0),
             Reply::PollNext(Ok(Poll::Ready(Some((13, 0))))),
         ),
+        (Call::TryBroadcastAll(two), Reply::TryBroadcastAll(Ok(()))),
+        (
+            Call::TryBroadcastAll(one),
+            Reply::TryBroadcastAll(Err(TrySendError::Full(back))),
+        ),
+        (Call::TryRecv(0), Reply::TryRecv(Ok(Ok(20)))),
+        (Call::TryRecv(0), Reply::TryRecv(Ok(Ok(21)))),
         (Call::NewSender, Reply::NewSender(Ok(()))),
         (Call::CloneInactive, Reply::CloneInactive(Ok(()))),
         (Call::DropSender, Reply::DropSender),
@@ -75,7 +85,7 @@ fn rows(alloc: Global) -> Result<Vec<(Call<u64>, Reply<u64>)>, AllocError> {
         (Call::ReceiverCount, Reply::ReceiverCount(1)),
         (Call::InactiveReceiverCount, Reply::InactiveReceiverCount(1)),
         (Call::SenderCount, Reply::SenderCount(1)),
-        (Call::EndNumber, Reply::EndNumber(4)),
+        (Call::EndNumber, Reply::EndNumber(6)),
         (Call::DropReceiver(0), Reply::DropReceiver),
         (
             Call::TryBroadcast(14),
