@@ -3,6 +3,7 @@ ghost use Rattle.std.specs.Prelude.{IfOk};
 ghost use Rattle.std.specs.List.{AllByRecursion};
 ghost use Rattle.topics.specs.Request.{OpensPositive};
 
+use bcast_core::{Reply, TryRecvError, TrySendError};
 use std::alloc::{AllocError, Allocator};
 use topics::{Answer, Request};
 
@@ -19,8 +20,51 @@ pub enum Asked {
     Close,
 }
 
-/// A request on the topic of a name, and its answer. None: the key of a new follower.
-pub type Row = (&'static str, Asked, Option<Answer<u64>>);
+/// An answer, as rows have it.
+#[derive(Clone, Copy, PartialEq, Eq)]
+pub enum Answered {
+    BadName,
+    Opened,
+    Exists,
+    NoTopic,
+    /// There is a follower more, whatever its key.
+    Followed,
+    Sent,
+    Full(u64),
+    Inactive(u64),
+    Got(u64),
+    /// There is nothing to receive, and the topic is closed.
+    Ended,
+    Left,
+    /// Whether it was open.
+    Closed(bool),
+    /// An answer that no row has.
+    Other,
+}
+
+/// A request on the topic of a name, and its answer.
+pub type Row = (&'static str, Asked, Answered);
+
+/// This answer, as rows have it.
+pub fn as_row(answer: &Answer<u64>) -> Answered {
+    match answer {
+        Answer::BadName => Answered::BadName,
+        Answer::Opened => Answered::Opened,
+        Answer::Exists => Answered::Exists,
+        Answer::NoTopic => Answered::NoTopic,
+        Answer::Done(Reply::NewReceiver(Ok(_))) => Answered::Followed,
+        Answer::Done(Reply::TryBroadcast(Ok(None))) => Answered::Sent,
+        Answer::Done(Reply::TryBroadcast(Err(TrySendError::Full(msg)))) => Answered::Full(*msg),
+        Answer::Done(Reply::TryBroadcast(Err(TrySendError::Inactive(msg)))) => {
+            Answered::Inactive(*msg)
+        }
+        Answer::Done(Reply::TryRecv(Ok(Ok(msg)))) => Answered::Got(*msg),
+        Answer::Done(Reply::TryRecv(Ok(Err(TryRecvError::Closed)))) => Answered::Ended,
+        Answer::Done(Reply::DropReceiver) => Answered::Left,
+        Answer::Done(Reply::Close(was_open)) => Answered::Closed(*was_open),
+        _ => Answered::Other,
+    }
+}
 
 /// The request, with its name in memory of `alloc`. `keys` has the key of each follower.
 pub fn request<A: Allocator + Copy>(

@@ -1,5 +1,5 @@
 //! Hubs over heaps of every small size.
-use crate::asked::{Asked, Row, list_of};
+use crate::asked::{Answered, Asked, Row, list_of};
 use bcast_core::Reply;
 use linked_list_allocator::LocalHeap;
 use std::alloc::{AllocError, Allocator};
@@ -60,8 +60,8 @@ fn topics_are_refused_in_turn(rt: HostRuntime) -> Result<(), Fail> {
 
 /// Requests that take no memory for a topic.
 const REFUSED: &[Row] = &[
-    ("a", Asked::Publish(7), Some(Answer::NoTopic)),
-    ("b", Asked::Close, Some(Answer::NoTopic)),
+    ("a", Asked::Publish(7), Answered::NoTopic),
+    ("b", Asked::Close, Answered::NoTopic),
 ];
 
 /// Whether a list of two requests found memory. If it didn't, they came back. None: there is no

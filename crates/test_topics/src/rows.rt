@@ -1,5 +1,5 @@
 //! Requests with their answers, asked one by one, and again as one list.
-use crate::asked::{Row, list_of, request};
+use crate::asked::{Answered, Row, as_row, list_of, request};
 use crate::tables::TABLES;
 use bcast_core::Reply;
 use std::alloc::{AllocError, Global};
@@ -11,16 +11,12 @@ use topics::{Answer, Hub, run_hub};
 fn is_answer(
     keys: &mut Vec<usize>,
     answer: &Answer<u64>,
-    expected: &Option<Answer<u64>>,
+    expected: Answered,
 ) -> Result<bool, AllocError> {
-    match (answer, expected) {
-        (Answer::Done(Reply::NewReceiver(Ok(key))), None) => {
-            keys.push(*key)?;
-            Ok(true)
-        }
-        (answer, Some(expected)) => Ok(answer == expected),
-        _ => Ok(false),
+    if let Answer::Done(Reply::NewReceiver(Ok(key))) = answer {
+        keys.push(*key)?;
     }
+    Ok(as_row(answer) == expected)
 }
 
 /// Asks the rows one by one. Returns the keys of the followers.
@@ -30,7 +26,7 @@ fn ask_each(rt: &impl Abort, alloc: Global, name: &str, rows: &[Row]) -> Result<
     for (index, (topic, asked, expected)) in rows.iter().enumerate() {
         let answer = hub.ask(request(alloc, keys.as_slice(), topic, *asked)?);
         assert!(rt;
-            is_answer(&mut keys, &answer, expected)?,
+            is_answer(&mut keys, &answer, *expected)?,
             "{name}: row {index}"
         );
     }
@@ -55,7 +51,7 @@ fn ask_all(
     );
     for (index, (answer, (_, _, expected))) in answers.iter().zip(rows).enumerate() {
         assert!(rt;
-            is_answer(&mut again, answer, expected)?,
+            is_answer(&mut again, answer, *expected)?,
             "{name}: row {index} of the list"
         );
     }

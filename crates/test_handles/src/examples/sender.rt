@@ -2,6 +2,7 @@
 use async_broadcast::{
     Port, Receiver, SendError, Sender, TryRecvError, TrySendError, WakerSlot, broadcast,
 };
+use std::alloc::AllocGlobal;
 use std::process::Abort;
 use std::test::Fail;
 
@@ -23,6 +24,28 @@ fn tries<P: Port<u64, WakerSlot>>(
     assert!(rt; matches!(sender.try_broadcast(3), Err(TrySendError::Inactive(3))));
     drop(inactive);
     assert!(rt; matches!(sender.try_broadcast(4), Err(TrySendError::Closed(4))));
+    Ok(())
+}
+
+// Of `try_broadcast_all`.
+#[test]
+fn lists(rt: HostRuntime) -> Result<(), Fail> {
+    let (sender, receiver) = broadcast(&rt, rt.alloc(), 3)?;
+    sends_a_list(&rt, sender, receiver)
+}
+
+fn sends_a_list<P: Port<u64, WakerSlot>>(
+    rt: &(impl Abort + AllocGlobal),
+    sender: Sender<u64, P>,
+    mut receiver: Receiver<u64, P>,
+) -> Result<(), Fail> {
+    assert!(rt; sender.try_broadcast_all(vec![in rt.alloc(); 1, 2]?).is_ok());
+    let four = vec![in rt.alloc(); 3, 4]?;
+    assert!(rt; matches!(sender.try_broadcast_all(four), Err(TrySendError::Full(_))));
+    assert!(rt; sender.try_broadcast(3).is_ok());
+    assert!(rt; matches!(receiver.try_recv(), Ok(Ok(1))));
+    assert!(rt; matches!(receiver.try_recv(), Ok(Ok(2))));
+    assert!(rt; matches!(receiver.try_recv(), Ok(Ok(3))));
     Ok(())
 }
 
