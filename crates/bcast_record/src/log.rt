@@ -1,6 +1,7 @@
 //! A channel with the calls that it was asked, and its replies.
 ghost use Rattle.std.specs.Prelude.{◌≡◌, ◌+◌, ◌<◌, ◌≤◌, ◌^◌, [], ◌∷◌, ◌++◌, length, Some, IfOk, IfErr, IfSome, OnOk, vec_len, vec_capacity, slice_get};
 ghost use Rattle.std.specs.List.{sum_by};
+ghost use Rattle.bcast_record.specs.Copies.{list_of};
 ghost use Rattle.bcast_record.specs.Content.{so_far};
 ghost use Rattle.bcast_model.specs.Next.{HasPositiveCapacity};
 ghost use Rattle.bcast_record.specs.declared.entry.Note.TheVariants as note;
@@ -125,10 +126,7 @@ impl<T: Copy + Clone, R: Named, A: Allocator + Copy> Log<T, R, A> {
         ensures refused { IfErr result (λ back. (back.0 ≡ call)
             × (self.new ≡ self.old) × (seat.new ≡ seat.old)) }
     {
-        let Some(next) = room(&mut self.entries, &self.journal) else {
-            return Err(NoMemory(call));
-        };
-        let Ok(spares) = Spares::of(&call) else {
+        let Some((next, spares)) = room(&mut self.entries, &self.journal, &call) else {
             return Err(NoMemory(call));
         };
         let place = self.entries.len();
@@ -227,21 +225,28 @@ fn noted<T: Copy, R: Named>(
     }
 }
 
-// Room for one entry more, and the slot for the note after it.
+// Room for one entry more, the slot for the note after it, and the copies of its call.
 fn room<T: Copy, R: Named, A: Allocator>(
     entries: &mut Vec<Entry<T>, A>,
     journal: &Writer<Note<T>, R>,
-) -> Option<Slot<R>>
+    call: &Call<T>,
+) -> Option<(Slot<R>, Spares<T>)>
     requires { length journal.now ≡ vec_len entries.old + 1 }
     ensures items { entries.new.items ≡ entries.old.items }
     ensures len { vec_len entries.new ≡ vec_len entries.old }
-    ensures room { IfSome result (λ next. vec_len entries.new < vec_capacity entries.new) }
-    ensures next { IfSome result (λ next. next ≡ length journal.now + 1) }
-    ensures most { IfSome result (λ next. vec_len entries.new < 2 ^ 60) }
+    ensures room { IfSome result (λ made. vec_len entries.new < vec_capacity entries.new) }
+    ensures next { IfSome result (λ made. made.0 ≡ length journal.now + 1) }
+    ensures most { IfSome result (λ made. vec_len entries.new < 2 ^ 60) }
+    ensures stored { IfSome result (λ made. made.1.stored ≡ call.now) }
+    ensures given { IfSome result (λ made. made.1.given ≡ call.now) }
+    ensures list { IfSome result (λ made. made.1.list ≡ list_of call.now) }
 {
     if entries.len() >= MOST_ENTRIES {
         return None;
     }
     entries.reserve(1).ok()?;
-    journal.reserve()
+    let spares = Spares::of(call).ok()?;
+    // Last, since a slot that is reserved and never written leaves none for any later call.
+    let next = journal.reserve()?;
+    Some((next, spares))
 }

@@ -24,27 +24,16 @@ invariant_of-self g c =
       subst (λ es. MayRunAgain (recording c.self.inside.opening es)) items before.4,
     )
 
-pub invariant_of-self-in_default-of : goal.invariant_of-self-in_default-of
-invariant_of-self-in_default-of g c =
-    let before = c.self.invariant in
-    let items = sym c.room.ensures.items in (
-      subst (λ es. Replays g.T.Clone.is_clone (recording c.self.inside.opening es) c.self.inside.inner) items before.0,
-      before.1 ∙ ap (notes_of c.self.inside.opening) items,
-      before.2 ∙ sym c.room.ensures.len,
-      before.3,
-      subst (λ es. MayRunAgain (recording c.self.inside.opening es)) items before.4,
-    )
-
 pub into_entries-stored-requires : goal.into_entries-stored-requires
 into_entries-stored-requires g c =
-    subst (λ list. IsListOf list c.step-reply.result) (sym c.in-Ok.ensures.list) (legal_list g.T.Clone.is_clone c.self.inside.inner c.args.call c.step-reply.result c.step-reply.ensures.answers.legal)
+    subst (λ list. IsListOf list c.step-reply.result) (sym c.in-Some.ensures.list) (legal_list g.T.Clone.is_clone c.self.inside.inner c.args.call c.step-reply.result c.step-reply.ensures.answers.legal)
 
 pub invariant_of-result : goal.invariant_of-result
 invariant_of-result g c =
     let opening = c.self.inside.opening in
     let entries = c.self.inside.entries.items in
     let entry : Entry g.row.T.Denot = record { seat = c.number.result; call = c.args.call; reply = c.step-reply.result } in
-    let given : c.into_entries-stored.result.1 ≡ entry = same_entry _ c.number.result c.in-Ok.spares.given c.args.call c.step-reply.result c.into_entries-stored.ensures.given c.in-Ok.ensures.given in
+    let given : c.into_entries-stored.result.1 ≡ entry = same_entry _ c.number.result c.in-Some.spares.given c.args.call c.step-reply.result c.into_entries-stored.ensures.given c.in-Some.ensures.given in
     let place : length entries ≡ c.len-place.result = omega (arith, c.len-place.ensures, c.room.ensures.len, c.self.inside.entries.ok) in
     let notes : c.prefix.result.notes ≡ notes_of opening (entries ++ entry ∷ []) =
     ap (λ content. content.notes) c.prefix.ensures ∙ c.noted-entry.ensures.noted ∙ (λ i. c.self.invariant.1 i ++ note.Answered (given i) ∷ [])
@@ -58,8 +47,8 @@ invariant_of-self-2 g c =
     let opening = c.self.inside.opening in
     let entries = c.self.inside.entries.items in
     let entry : Entry g.row.T.Denot = record { seat = c.number.result; call = c.args.call; reply = c.step-reply.result } in
-    let stored : c.into_entries-stored.result.0 ≡ entry = same_entry _ c.number.result c.in-Ok.spares.stored c.args.call c.step-reply.result c.into_entries-stored.ensures.stored c.in-Ok.ensures.stored in
-    let given : c.into_entries-stored.result.1 ≡ entry = same_entry _ c.number.result c.in-Ok.spares.given c.args.call c.step-reply.result c.into_entries-stored.ensures.given c.in-Ok.ensures.given in
+    let stored : c.into_entries-stored.result.0 ≡ entry = same_entry _ c.number.result c.in-Some.spares.stored c.args.call c.step-reply.result c.into_entries-stored.ensures.stored c.in-Some.ensures.stored in
+    let given : c.into_entries-stored.result.1 ≡ entry = same_entry _ c.number.result c.in-Some.spares.given c.args.call c.step-reply.result c.into_entries-stored.ensures.given c.in-Some.ensures.given in
     let pushed : c.push_reserved.new.self.items ≡ entries ++ entry ∷ [] =
     c.push_reserved.ensures.items ∙ (λ i. c.room.ensures.items i ++ stored i ∷ []) in (
       replays_push g.T.Clone.is_clone opening entries c.push_reserved.new.self.items c.self.inside.inner c.step-reply.new.inner entry c.args.call
@@ -75,7 +64,7 @@ returns-clause-run g c =
     let opening = c.self.inside.opening in
     let entries = c.self.inside.entries.items in
     let entry : Entry g.row.T.Denot = record { seat = c.number.result; call = c.args.call; reply = c.step-reply.result } in
-    let stored : c.into_entries-stored.result.0 ≡ entry = same_entry _ c.number.result c.in-Ok.spares.stored c.args.call c.step-reply.result c.into_entries-stored.ensures.stored c.in-Ok.ensures.stored in
+    let stored : c.into_entries-stored.result.0 ≡ entry = same_entry _ c.number.result c.in-Some.spares.stored c.args.call c.step-reply.result c.into_entries-stored.ensures.stored c.in-Some.ensures.stored in
     (replays_push g.T.Clone.is_clone opening entries c.push_reserved.new.self.items c.self.inside.inner c.step-reply.new.inner entry c.args.call
     (c.push_reserved.ensures.items ∙ (λ i. c.room.ensures.items i ++ stored i ∷ []))
     refl c.self.invariant.0 c.step-reply.ensures.answers).run
