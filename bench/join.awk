@@ -1,37 +1,40 @@
-# Joins the times of `timings time` to the rows of one file of the bench. Called with three groups of
-# files: pass=1 and what `timings time` printed in each run, pass=2 and what the bench printed in
-# each run, pass=3 and the file whose rows are to be printed.
+# Joins the times of `timings time` to the rows of one run of the bench. Called with three groups of
+# files: pass=1 and what `timings time TITLE` and the bench printed of one row after another, pass=2
+# and the rows of the bench, pass=3 and what `timings time` printed.
 #
-# A time of calls through handles, the least of all runs, becomes one more cell of the row of its
-# name, with its ratio to the least time of async-broadcast. The other times become rows.
+# A time of calls through handles, the mean of those before and after the bench's row of its title,
+# becomes one more cell of that row, with its ratio to the time of async-broadcast there. The times
+# of pass 3 that the bench has no row for become rows.
 function title_of(row) {
     sub(/^[|] ([(][a-f][)] )?/, "", row)
     sub(/ [|].*/, "", row)
     return row
 }
-pass == 1 && match($0, /: [0-9.]+ ns$/) {
+function time_of(line) {
+    sub(/.*: /, "", line)
+    return line + 0
+}
+match($0, /: [0-9.]+ ns$/) {
     name = substr($0, 1, RSTART - 1)
-    value = substr($0, RSTART + 2, RLENGTH - 5)
-    if (!(name in time)) names[++count] = name
-    if (!(name in time) || value + 0 < time[name] + 0) time[name] = value
-}
-pass == 2 && match($0, /least [0-9.]+/) {
-    value = substr($0, RSTART + 6, RLENGTH - 6)
-    title = title_of($0)
-    if (!(title in original) || value + 0 < original[title] + 0) original[title] = value
-}
-pass == 3 {
-    title = title_of($0)
-    if (title in time && original[title] > 0) {
-        ratio = time[title] / original[title]
-        $0 = $0 sprintf(" rattle handles %s ns (x%.2f, least 0) |", time[title], ratio)
-        delete time[title]
+    if (pass == 1) {
+        sum[name] += time_of($0)
+        count[name]++
+    } else if (!(name in row)) {
+        printf "| %s | rattle %s %s ns (x1.00, least 0) |\n", name,
+            name ~ /^unlocked: / ? "group W" : "handles", time_of($0)
     }
-    print
+    next
 }
-END {
-    for (at = 1; at <= count; at++)
-        if (names[at] in time)
-            printf "| %s | rattle %s %s ns (x1.00, least 0) |\n", names[at],
-                names[at] ~ /^unlocked: / ? "group W" : "handles", time[names[at]]
+pass == 1 && match($0, /[|] ab072 [0-9.]+ ns/) {
+    row[title_of($0)] = $0
+    original[title_of($0)] = substr($0, RSTART + 8) + 0
+}
+pass == 2 {
+    title = title_of($0)
+    if (!(title in row)) {
+        print
+        next
+    }
+    time = sum[title] / count[title]
+    printf "%s rattle handles %.2f ns (x%.3f, least 0) |\n", row[title], time, time / original[title]
 }
