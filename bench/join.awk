@@ -25,9 +25,9 @@ match($0, /: [0-9.]+ ns$/) {
     }
     next
 }
-pass == 1 && match($0, /[|] ab072 [0-9.]+ ns/) {
+pass == 1 && match($0, / [0-9.]+ ns [(]x1[.]00, /) {
     row[title_of($0)] = $0
-    original[title_of($0)] = substr($0, RSTART + 8) + 0
+    original[title_of($0)] = substr($0, RSTART) + 0
 }
 pass == 2 {
     title = title_of($0)
