@@ -71,12 +71,13 @@ impl<T: Clone, P: Port<T, WakerSlot<A>>, A: Allocator + Copy> Sender<T, P, A> {
         self.port.try_broadcast(msg)
     }
 
-    /// Sends a whole list of messages in one step, unless the channel has no room for all of them
-    /// or nobody to receive them.
+    /// Sends a whole list of messages in one step, unless the channel is closed, has nobody to
+    /// receive them, or has no room for all of them.
     ///
-    /// Never waits. An accepted list stands last, in its order, and no other message comes between.
-    /// No message is dropped for it, in overflow mode too. Who waits to receive is told once for the
-    /// whole list.
+    /// Never waits, and takes no memory. An accepted list stands last, in its order, and no other
+    /// message comes between. No message is dropped for it, in overflow mode too. Who waits to
+    /// receive is told once for the whole list. The channel closes if the list gets the last
+    /// message number. An empty list is accepted or refused as any other, and changes nothing.
     ///
     /// # Errors
     ///

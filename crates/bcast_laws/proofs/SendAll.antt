@@ -1,5 +1,5 @@
 -- An accepted list keeps its numbers, and receivers are given it in one piece.
-use Rattle.std.proofs.Common.{◌≡◌, ℕ, suc, ◌+◌, ◌-◌, ◌≤◌, false, List, [], ◌∷◌, ◌++◌, length, slice_get, nat_lt, Option, Some, None, Ok, refl, sym, ap, ◌∙◌, subst, arith}
+use Rattle.std.proofs.Common.{◌≡◌, ℕ, suc, ◌+◌, ◌-◌, ◌≤◌, false, List, [], ◌∷◌, ◌++◌, length, slice_get, nat_lt, Some, None, Ok, refl, sym, ap, ◌∙◌, subst, arith}
 use Rattle.std.proofs.lemmas.Grind.{common_steps}
 use Rattle.std.proofs.lemmas.Option.{same_Some, slice_get_within}
 use Rattle.std.specs.Prelude.{IsSomeAnd}
@@ -20,7 +20,7 @@ use Rattle.bcast_model.proofs.DeliveryLists.{past_end}
 use Rattle.bcast_model.proofs.DeliveryMessages.{numbered_stays}
 use Rattle.bcast_model.proofs.SendAll.{cursors-offer_all}
 use Rattle.bcast_laws.specs.SendAll.{after_list, IsDeliveryOf, StandsInOnePiece}
-use Rattle.bcast_laws.proofs.Sends.{whole_added}
+use Rattle.bcast_laws.proofs.Sends.{messages_added}
 
 -- an entry of the second of two lists
 second_part : {X : Type 0} (xs ys : List X) (index : ℕ) → slice_get (xs ++ ys) (length xs + index) ≡ slice_get ys index
@@ -35,7 +35,7 @@ module _ {T : Type 0} where
 
   module _ (is_clone : T → T → Type 0) (h : History T) (msgs : List T) (valid : IsValid h) (legal : Legal is_clone (view_of h) (call.TryBroadcastAll msgs) (reply.TryBroadcastAll (Ok tt))) where
     stands_last : (after_list h msgs).accepted ≡ h.accepted ++ msgs
-    stands_last = whole_added is_clone h (call.TryBroadcastAll msgs) (reply.TryBroadcastAll (Ok tt)) legal refl
+    stands_last = messages_added is_clone h (call.TryBroadcastAll msgs) (reply.TryBroadcastAll (Ok tt)) legal refl
 
     same_cursors : (key : ℕ) → cursor_of (after_list h msgs).control key ≡ cursor_of h.control key
     same_cursors key = ap (λ cursors. get cursors key) (cursors-next h (call.TryBroadcastAll msgs) (reply.TryBroadcastAll (Ok tt)) ∙ cursors-offer_all (view_of h) msgs)

@@ -103,17 +103,8 @@ module _ {T : Type 0} where
   adds is_clone v (call.SetCapacity n) r legal = adds_unless v _ r refl
   adds is_clone v c r legal = none_added (is_accepted r)
 
-  pub whole_added : (is_clone : T → T → Type 0) (h : History T) (c : Call T) (r : Reply T) → Legal is_clone (view_of h) c r → is_accepted r ≡ true → (next h c r).accepted ≡ h.accepted ++ messages_of c
-  whole_added is_clone h c r legal accepted = ap (◌++◌ h.accepted) (adds is_clone (view_of h) c r legal ∙ ap (λ b. added b (messages_of c)) accepted)
-
-  one_sent : (c : Call T) (msg : T) → sent_by c ≡ Some msg → messages_of c ≡ msg ∷ []
-  one_sent (call.TryBroadcast m) msg is = ap (λ x. x ∷ []) (same_Some m msg is)
-  one_sent (call.AttemptSend m) msg is = ap (λ x. x ∷ []) (same_Some m msg is)
-  one_sent (call.PollSend place m) msg is = ap (λ x. x ∷ []) (same_Some m msg is)
-  one_sent c msg is = none_some msg is
-
-  pub accepted_added : (is_clone : T → T → Type 0) (h : History T) (c : Call T) (r : Reply T) (msg : T) → Legal is_clone (view_of h) c r → is_accepted r ≡ true → sent_by c ≡ Some msg → (next h c r).accepted ≡ h.accepted ++ msg ∷ []
-  accepted_added is_clone h c r msg legal accepted is = whole_added is_clone h c r legal accepted ∙ ap (◌++◌ h.accepted) (one_sent c msg is)
+  pub messages_added : (is_clone : T → T → Type 0) (h : History T) (c : Call T) (r : Reply T) → Legal is_clone (view_of h) c r → is_accepted r ≡ true → (next h c r).accepted ≡ h.accepted ++ messages_of c
+  messages_added is_clone h c r legal accepted = ap (◌++◌ h.accepted) (adds is_clone (view_of h) c r legal ∙ ap (λ b. added b (messages_of c)) accepted)
 
   pub nothing_added : (is_clone : T → T → Type 0) (h : History T) (c : Call T) (r : Reply T) → Legal is_clone (view_of h) c r → is_accepted r ≡ false → (next h c r).accepted ≡ h.accepted
   nothing_added is_clone h c r legal refused = ap (◌++◌ h.accepted) (adds is_clone (view_of h) c r legal ∙ ap (λ b. added b (messages_of c)) refused) ∙ append-nil h.accepted

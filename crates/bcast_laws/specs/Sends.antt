@@ -81,6 +81,7 @@ module _ {T : Type 0} where
   is_refused r = false
 
 -- a refused call leaves the channel as it was, and a send that isn't accepted returns its message
+-- or its list
 pub record RefusedChangesNothing {T : Type 0} (is_clone : T → T → Type 0) : Type 0 where
   pub same : (h : History T) (c : Call T) (r : Reply T) → IsValid h → Legal is_clone (view_of h) c r
       → is_refused r ≡ true → next h c r ≡ h
@@ -90,15 +91,13 @@ pub record RefusedChangesNothing {T : Type 0} (is_clone : T → T → Type 0) : 
       → Legal is_clone v (call.TryBroadcastAll msgs) r → is_accepted r ≡ false
       → returned_all_by r ≡ Some msgs
 
--- a call adds its message at the back where its reply says that it was accepted, else nothing
+-- a call adds its messages at the back, in order, if its reply says that they were accepted, else
+-- nothing
 pub record OnlyAcceptedIsAdded {T : Type 0} (is_clone : T → T → Type 0) : Type 0 where
-  pub added : (h : History T) (c : Call T) (r : Reply T) (msg : T) → Legal is_clone (view_of h) c r
-      → is_accepted r ≡ true → sent_by c ≡ Some msg
-      → (next h c r).accepted ≡ h.accepted ++ msg ∷ []
+  pub added : (h : History T) (c : Call T) (r : Reply T) → Legal is_clone (view_of h) c r
+      → is_accepted r ≡ true → (next h c r).accepted ≡ h.accepted ++ messages_of c
   pub nothing : (h : History T) (c : Call T) (r : Reply T) → Legal is_clone (view_of h) c r
       → is_accepted r ≡ false → (next h c r).accepted ≡ h.accepted
-  pub whole : (h : History T) (c : Call T) (r : Reply T) → Legal is_clone (view_of h) c r
-      → is_accepted r ≡ true → (next h c r).accepted ≡ h.accepted ++ messages_of c
 
 -- `Send`, dropped before it is answered: neither its polls that wait nor its drop add a message
 pub record DroppedSendAddsNothing {T : Type 0} (is_clone : T → T → Type 0) : Type 0 where

@@ -12,12 +12,14 @@ ghost use Rattle.bcast_laws.specs.SendAll.{ListsStandInOnePiece};
 pub mod deliveries;
 pub mod states;
 
-/// Law: a refused call leaves the channel as it was, and a refused send hands back its message.
+/// Law: a refused call leaves the channel as it was, and a refused send hands back its message, or
+/// its list.
 pub fn refused_changes_nothing<T: Clone>()
     ensures { RefusedChangesNothing T.is_clone }
 {}
 
-/// Law: a call adds its message if its reply says that it was accepted, else it adds none.
+/// Law: a call adds its messages, in their order, if its reply says that they were accepted, else
+/// it adds none.
 pub fn only_accepted_is_added<T: Clone>()
     ensures { OnlyAcceptedIsAdded T.is_clone }
 {}

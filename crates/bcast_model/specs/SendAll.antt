@@ -8,11 +8,11 @@ use Rattle.bcast_model.specs.View.{View}
 use Rattle.bcast_model.specs.Effect.{Effect, sets}
 
 module _ {T : Type 0} where
-  -- how many messages can be accepted before the capacity or the numbers end: none is dropped
+  -- how many messages can be accepted, with none dropped, before the capacity or the numbers end
   abbrev pub free_room : View T → ℕ
   free_room v = min (v.control.capacity - length v.queue) (last_end - v.end)
 
-  -- why a list is not accepted: the first that fits, in overflow mode too
+  -- `try_broadcast_all`: why a list is not accepted, overflow on or off. The first that fits
   abbrev pub refusal_of_all : View T → List T → Option (TrySendError (List T))
   refusal_of_all v msgs =
       if v.control.closed then Some (unsent.Closed msgs)
@@ -43,9 +43,9 @@ module _ {T : Type 0} where
   -- told
   abbrev pub accept_all : View T → List T → Effect T
   accept_all v [] = sets v.control
-  accept_all v (msg ∷ msgs) = record {
-    control = accepting v.control (v.end + length msgs);
-    accepted = msg ∷ msgs;
+  accept_all v (msg ∷ rest) = record {
+    control = accepting v.control (v.end + length rest);
+    accepted = msg ∷ rest;
     floor = 0;
   }
 

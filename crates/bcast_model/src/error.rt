@@ -4,13 +4,14 @@ ghost use Rattle.bcast_model.specs.Errors.{unsent_message, IsOverflowed};
 
 mod text;
 
-/// Why `try_broadcast` did not accept a message. Each variant hands the message back, and prints
-/// without asking anything of it.
+/// Why `try_broadcast` did not accept a message, or `try_broadcast_all` a list. Each variant hands
+/// back what was to be sent, and prints without asking anything of it.
 ///
 /// Source: `TrySendError` of async-broadcast 0.7.2.
 #[derive(Clone, Copy, Drop, PartialEq, Eq)]
 pub enum TrySendError<T> {
-    /// The channel is full, and overflow is off.
+    /// There is no room: for one message, the channel is full, and overflow is off; for a list,
+    /// overflow on or off, the channel has room for fewer messages than the list has.
     Full(T),
     /// The channel is closed.
     Closed(T),
@@ -69,7 +70,7 @@ pub enum HandleError {
 }
 
 impl<T> TrySendError<T> {
-    /// The message that was not sent.
+    /// The message or the list that was not sent.
     ///
     /// Source: `TrySendError::into_inner` of async-broadcast 0.7.2.
     pub fn into_inner(self) -> T
@@ -82,7 +83,7 @@ impl<T> TrySendError<T> {
         }
     }
 
-    /// Whether the channel was full: it was open, and had an active receiver.
+    /// Whether there was no room: the channel was open, and had an active receiver.
     ///
     /// Source: `TrySendError::is_full` of async-broadcast 0.7.2.
     pub fn is_full(&self) -> bool

@@ -2,4 +2,3 @@ mod Answered
 mod Lists
 mod Refused
 mod TopicsLemmas
-mod Views

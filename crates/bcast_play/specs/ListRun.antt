@@ -81,7 +81,8 @@ pub record IsPlayed (collected : Collected) (text : List ℕ) : Type 0 where
 -- all lines are read, and then the calls are made and written
 pub record IsList (longest : ℕ) (input before after : Option (List ℕ)) : Type 0 where
   pub collected : Collected
-  pub read : lines.IsRun IsNoListLine false longest IsCollected input before before nothing_yet collected Done
+  pub read : lines.IsRun IsNoListLine false longest IsCollected input before before nothing_yet
+      collected Done
   pub text : List ℕ
   pub played : IsPlayed collected text
   pub written : Appends before after text

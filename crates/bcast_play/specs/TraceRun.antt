@@ -53,7 +53,8 @@ module _ (A : Type 0) where
 
 -- the line opens no channel
 abbrev pub OpensNone : List ℕ → Type 0
-OpensNone line = (capacity first : ℕ) → IsOpening capacity first → line ≢ opening_text capacity first
+OpensNone line =
+    (capacity first : ℕ) → IsOpening capacity first → line ≢ opening_text capacity first
 
 -- the line asks neither for the view nor for a call
 abbrev pub AsksForNone : List ℕ → Type 0

@@ -6,7 +6,7 @@ ghost use Rattle.bcast_core.specs.declared.snapshot.Snapshot.{Snapshot};
 ghost use Rattle.bcast_core.specs.Snapshot.{Shows};
 ghost use Rattle.bcast_text.specs.Run.{IsRun};
 ghost use Rattle.bcast_play.specs.ViewText.{text_of};
-ghost use Rattle.bcast_play.specs.TraceRun.{IsStarted, IsPlayed, IsViewed, IsTraceLine, OpensNone, AsksForNone, IsNoTraceLine};
+ghost use Rattle.bcast_play.specs.TraceRun.{IsTraceLine, OpensNone, AsksForNone, IsNoTraceLine};
 
 use crate::view::write_view;
 use bcast_core::{Inner, Silent, step};

@@ -17,9 +17,6 @@ pub record AreRead (text : List ℕ) (msgs : List ℕ) (rest : List ℕ) : Type 
   -- and nothing else spells the text
   pub only : (all : List ℕ) → AllByRecursion IsU64 all → numbers_text all ≡ Some text → (more : List ℕ) × (all ≡ msgs ++ more) × AllByRecursion IsU64 more × (numbers_text more ≡ Some rest)
 
-pub none_read : (text : List ℕ) → AreRead text [] text
-none_read text = record { small = tt; whole = λ more is. is; only = λ all small is. (all, refl, small, is) }
-
 -- one number more, up to a space
 pub one_read : (text msgs rest : List ℕ) (x : Bor (List ℕ) × Bor (List ℕ)) (n : ℕ) → n < 2 ^ 64 → IsSplitOnceResult 32 rest (Some x) → x.0.now ≡ decimal n
     → AreRead text msgs rest → AreRead text (msgs ++ n ∷ []) x.1.now
@@ -40,10 +37,6 @@ one_read text msgs rest x n small split is read =
         let at = at_some rest x split (decimal m) (numbers_text more) (Lacks-decimal 32 m (omega arith) fits.0) (sym (same_Some _ _ spelt)) in
         let number : m ≡ n = decimal_injective m n fits.0 small (sym at.0 ∙ is) in
         (more, same ∙ ap (λ k. msgs ++ k ∷ more) number ∙ sym (append_assoc msgs (n ∷ []) more), fits.1, at.1)
-
--- the last number
-pub last_read : (text msgs rest : List ℕ) (n : ℕ) → rest ≡ decimal n → AreRead text msgs rest → numbers_text (msgs ++ n ∷ []) ≡ Some text
-last_read text msgs rest n is read = read.whole (n ∷ []) (ap Some (sym is))
 
 -- a word that is no number
 pub none_before : (text msgs rest : List ℕ) (x : Bor (List ℕ) × Bor (List ℕ)) → IsSplitOnceResult 32 rest (Some x) → ((n : ℕ) → n < 2 ^ 64 → x.0.now ≢ decimal n)

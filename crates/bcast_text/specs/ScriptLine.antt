@@ -56,7 +56,8 @@ arguments_of line = name_in line
 abbrev pub text_of : Line → List ℕ
 text_of line = spaced (word_of line) (arguments_of line)
 
--- numbers are such as a line can have, a list has one, a capacity is positive, and names are names
+-- numbers are such as a line can have, a list has one at least, a capacity is positive, and names
+-- are names
 abbrev pub IsInForm : Line → Type 0
 IsInForm (Cap n) = IsCapacity n
 IsInForm (Send msg) = IsU64 msg

@@ -1,4 +1,5 @@
-//! A signal to stop: it is given by the drop of its last sender. Workers finish what they were sent before.
+//! A signal to stop: it is given by the drop of its last sender. Workers finish what they were sent
+//! before.
 #![tactic(auto)]
 
 use anyhow::Result;

@@ -49,10 +49,6 @@ pub on_ok : {A E P : Type 0} (r : Result A E) → P → OnOk r P
 on_ok (Ok x) p = p
 on_ok (Err e) p = tt
 
-pub on_ok_also : {A E P Q : Type 0} (r : Result A E) → (P → Q) → OnOk r P → OnOk r Q
-on_ok_also (Ok x) f p = f p
-on_ok_also (Err e) f p = tt
-
 pub on_err : {A E P : Type 0} (r : Result A E) → P → OnErr r P
 on_err (Ok x) p = tt
 on_err (Err e) p = p

@@ -1,4 +1,5 @@
-//! What callers of a channel without overflow rely on from one call to the next: laws of what is seen.
+//! What callers of a channel without overflow rely on from one call to the next: laws of what is
+//! seen.
 ghost use Rattle.uses.specs.Reading.{OpensWithRoom, SendsWithRoom, ReadsInOrder};
 
 /// Law: a new channel has room for as many messages as its capacity, and its receiver has none to
