@@ -63,6 +63,17 @@ pub trait Ask<T: Clone, S>: Sized + Drop {
         Ok(self.ask(call, wake))
     }
 
+    /// Gives up the receive of this receiver, whose last poll was answered or not. Asks
+    /// `EndFuture`, unless the port can tell that it would change nothing, as after an answer.
+    fn end_future(&self, key: usize, is_answered: bool)
+        ensures { gave self.now (Call.EndFuture key) Reply.EndFuture }
+    {
+        match self.ask(Call::EndFuture(key), Wake::none()) {
+            Reply::EndFuture => {}
+            _ => unreachable!(),
+        }
+    }
+
     // A reply is of its call's kind.
     ghost of_kind: { (port : Self) (call : Call T) (reply : Reply T)
         → gave port call reply → IsOfKind call reply };

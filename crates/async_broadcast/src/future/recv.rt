@@ -4,7 +4,6 @@ ghost use Rattle.futures.specs.Task.{Covers, IsArmed, Keeps};
 ghost use Rattle.futures.specs.Poll.{IfReady, OnPending};
 ghost use Rattle.async_broadcast.specs.Futures.{GivesReceived};
 
-use crate::asked;
 use crate::asked::polls;
 use crate::port::Ask;
 use crate::receiver::Receiver;
@@ -22,6 +21,8 @@ use std::alloc::{AllocError, Allocator, Global};
 #[must_use]
 pub struct Recv<'a, T: Clone, P: Ask<T, WakerSlot<A>>, A: Allocator = Global> {
     receiver: &'a mut Receiver<T, P, A>,
+    // Whether the last poll was answered.
+    is_answered: bool,
 }
 
 impl<T: Clone, P: Ask<T, WakerSlot<A>>, A: Allocator + Copy> Receiver<T, P, A> {
@@ -64,7 +65,10 @@ impl<T: Clone, P: Ask<T, WakerSlot<A>>, A: Allocator + Copy> Receiver<T, P, A> {
         ensures lent { result.receiver.now ≡ self.old }
         ensures same { result.receiver.ghost_name ≡ self.entry.ghost_name }
     {
-        Recv { receiver: self }
+        Recv {
+            receiver: self,
+            is_answered: false,
+        }
     }
 
     /// Receives the next message, or leaves the task waiting for it. For streams that are made of
@@ -113,9 +117,13 @@ impl<T: Clone, P: Ask<T, WakerSlot<A>>, A: Allocator> Drop for Recv<'_, T, P, A>
             (Call.EndFuture self.entry.receiver.now.key) Reply.EndFuture }
         ensures back { self.exit.0.now ≡ self.entry.receiver.now }
     {
+        let is_answered = self.is_answered;
         let receiver = &*self.receiver;
-        asked::end_future::<T, WakerSlot<A>, P>(&receiver.port, receiver.key);
-        let Recv { receiver: _ } = self;
+        receiver.port.end_future(receiver.key, is_answered);
+        let Recv {
+            receiver: _,
+            is_answered: _,
+        } = self;
     }
 }
 
@@ -145,6 +153,7 @@ impl<T: Clone, P: Ask<T, WakerSlot<A>>, A: Allocator + Copy> Future for Recv<'_,
         ensures key { self.new.receiver.now.key ≡ self.old.receiver.now.key }
         ensures receiver { self.new.receiver.ghost_name ≡ self.old.receiver.ghost_name }
     {
+        self.is_answered = false;
         let receiver = &mut *self.receiver;
         let Receiver {
             port,
@@ -153,7 +162,10 @@ impl<T: Clone, P: Ask<T, WakerSlot<A>>, A: Allocator + Copy> Future for Recv<'_,
             ..
         } = receiver;
         match polls::poll_future::<T, WakerSlot<A>, P, _>(port, *key, waker, cx) {
-            Ok(Poll::Ready(answer)) => Poll::Ready(Ok(answer)),
+            Ok(Poll::Ready(answer)) => {
+                self.is_answered = true;
+                Poll::Ready(Ok(answer))
+            }
             Ok(Poll::Pending) => Poll::Pending,
             Err(error) => Poll::Ready(Err(error)),
         }

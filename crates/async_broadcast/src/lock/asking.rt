@@ -4,6 +4,7 @@ ghost use Rattle.futures.specs.Task.{IsArmed, Keeps};
 ghost use Rattle.bcast_model.specs.Next.{HasPositiveCapacity};
 ghost use Rattle.bcast_model.specs.Answers.{IsPossible};
 ghost use Rattle.bcast_model.specs.PollLaws.{must_wait};
+ghost use Rattle.async_broadcast.specs.Kinds.{IsOfKind};
 ghost use Rattle.async_broadcast.specs.Polls.{is_any_poll};
 
 use super::Lock;
@@ -13,6 +14,25 @@ use bcast_core::{Call, Reply};
 use futures::task::Context;
 use std::alloc::Allocator;
 use std::sync::Wait;
+
+impl<T: Clone, R: Wait + Clone, A: Allocator + Copy> Lock<T, R, A> {
+    #[inline(always)]
+    fn make(&self, call: Call<T>, wake: Wake<WakerSlot<A>>) -> Reply<T>
+        requires { HasPositiveCapacity call }
+        ensures possible { IsPossible T.is_clone call result }
+        ensures kind { IsOfKind call result }
+    {
+        let channel = &*self.channel;
+        let mut state = channel.lock(&self.rt);
+        if state.has_no_thread() {
+            return state.make_alone(call, wake);
+        }
+        let (reply, woken) = state.step(call, wake);
+        drop(state);
+        channel.wake(woken);
+        reply
+    }
+}
 
 impl<T: Clone, R: Wait + Clone, A: Allocator + Copy> Ask<T, WakerSlot<A>> for Lock<T, R, A> {
     ghost use Rattle.async_broadcast.specs.OfKind.{possible};
@@ -26,15 +46,7 @@ impl<T: Clone, R: Wait + Clone, A: Allocator + Copy> Ask<T, WakerSlot<A>> for Lo
         requires { HasPositiveCapacity call }
         ensures { IsPossible T.is_clone call result }
     {
-        let channel = &*self.channel;
-        let mut state = channel.lock(&self.rt);
-        if state.has_no_thread() {
-            return state.make_alone(call, wake);
-        }
-        let (reply, woken) = state.step(call, wake);
-        drop(state);
-        channel.wake(woken);
-        reply
+        self.make(call, wake)
     }
 
     #[inline(always)]
@@ -70,5 +82,18 @@ impl<T: Clone, R: Wait + Clone, A: Allocator + Copy> Ask<T, WakerSlot<A>> for Lo
         drop(state);
         channel.wake(woken);
         Ok(reply)
+    }
+    // An answered poll has taken its listener off the list, and no other poll can have put it
+    // back: so the call would change nothing, and isn't made.
+    #[inline(always)]
+    fn end_future(&self, key: usize, is_answered: bool)
+        ensures { IsPossible T.is_clone (Call.EndFuture key) Reply.EndFuture }
+    {
+        if !is_answered {
+            match self.make(Call::EndFuture(key), Wake::none()) {
+                Reply::EndFuture => {}
+                _ => unreachable!(),
+            }
+        }
     }
 }
