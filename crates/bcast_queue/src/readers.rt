@@ -86,20 +86,14 @@ impl<T: Clone, A: Allocator> Queue<T, A> {
         ensures read { self.new ≡ read_at index self.old }
         ensures steps { steps.new ≤ steps.old + 2 }
     {
-        take_reader(
-            &mut self.ring,
-            &mut self.behind,
-            &mut self.total,
-            index,
-            steps,
-        );
-        add_reader(
-            &mut self.ring,
-            self.behind,
-            &mut self.total,
-            index + 1,
-            steps,
-        );
+        let before = self.total;
+        let mut total = before;
+        take_reader(&mut self.ring, &mut self.behind, &mut total, index, steps);
+        add_reader(&mut self.ring, self.behind, &mut total, index + 1, steps);
+        // Most often as many owe as before, and nothing is written.
+        if total != before {
+            self.total = total;
+        }
     }
 
     /// Gives the message at `index` to one of its readers: a clone, or, if that reader is the

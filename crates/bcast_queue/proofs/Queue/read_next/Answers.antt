@@ -16,8 +16,24 @@ take_reader-requires-clause-next g c = λ some.
 pub add_reader-requires-clause-fits : goal.add_reader-requires-clause-fits
 add_reader-requires-clause-fits g c = λ _. omega (arith, c.take_reader.ensures.total)
 
-pub returns-clause-read : goal.returns-clause-read
-returns-clause-read g c =
+pub returns-then-total-before-clause-read : goal.returns-then-total-before-clause-read
+returns-then-total-before-clause-read g c =
+    let q = c.args.self.now in
+    let i = c.args.index in
+    let is = IsQueue-seen _ _ _ _ _ q c.self.invariant c.self.view_is in
+    let next : i + 1 ≡ suc i = omega arith in
+    same_queue _ _ _ _ _ _ _ _
+    (ap (λ p. p.front) c.self.view_is)
+    (c.add_reader.ensures.messages ∙ c.take_reader.ensures.messages ∙ ap (λ p. p.messages) c.self.view_is)
+    (c.add_reader.ensures.owed
+    ∙ ap (one_more_from (i + 1)) (c.take_reader.ensures.owed ∙ ap (λ p. one_fewer_from i p.owed) c.self.view_is)
+    ∙ ap (λ j. one_more_from j (one_fewer_from i q.owed)) next
+    ∙ one_moves 1 i q.owed (omega arith) is.rises)
+    (ap (λ p. p.room) c.self.view_is)
+    ∙ read_clone q i _ (λ once. omega (arith, once, c.requires.several)) refl
+
+pub returns-else-total-before-clause-read : goal.returns-else-total-before-clause-read
+returns-else-total-before-clause-read g c =
     let q = c.args.self.now in
     let i = c.args.index in
     let is = IsQueue-seen _ _ _ _ _ q c.self.invariant c.self.view_is in
