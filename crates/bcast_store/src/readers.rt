@@ -93,9 +93,18 @@ impl<T: Clone, A: Allocator + Copy> Store<T, A> {
     {
         self.queue.invariant_holds();
         let index = (number - self.queue.front()) as usize;
-        let msg = uncounted::read::<T, A, Brand>(&mut self.queue, index, Blank::new(1))?;
+        // Both looks for the cursor stand before the read, so that the compiler makes one of them.
+        let cursor = self.cursors.get(key).unwrap_or(number);
         self.cursors.set(key, number + 1);
-        self.queue.invariant_holds();
-        Ok(msg)
+        match uncounted::read::<T, A, Brand>(&mut self.queue, index, Blank::new(1)) {
+            Ok(msg) => {
+                self.queue.invariant_holds();
+                Ok(msg)
+            }
+            Err(refused) => {
+                self.cursors.set(key, cursor);
+                Err(refused)
+            }
+        }
     }
 }

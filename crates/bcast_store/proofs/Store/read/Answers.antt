@@ -1,47 +1,85 @@
--- A receiver reads, and goes on.
-use Rattle.std.proofs.Common.{is_some, ◌+◌, ◌-◌, ap, ◌∙◌, subst}
-use Rattle.std.specs.FinMap.{insert}
+-- A receiver reads, and goes on; where its read is refused, its cursor is put back.
+use Rattle.std.proofs.Common.{◌≡◌, ℕ, Bool, true, false, cond, Some, is_some, ◌+◌, ◌-◌, refl, ap, sym, ◌∙◌, subst, eqb-true}
+use Rattle.std.specs.Ordering.{nat_cmp, eq_by_cmp}
+use Rattle.std.specs.Cmp.{nat_cmp_total, unsigned_tied}
+use Rattle.std.specs.FinMap.{nat_cmp-IsAntisymmetric, get, insert, get-insert, same_map}
+use Rattle.bcast_model.specs.Control.{Cursors}
+use Rattle.bcast_model.proofs.DeliveryMaps.{inserted}
 use Rattle.bcast_queue.specs.Queue.{read_at}
 use Rattle.bcast_store.specs.Stored.{Stored, with_cursors, IsOwed, IsHandedOut}
 use Rattle.bcast_store.proofs.Counted.{IsCounted}
-use Rattle.bcast_store.proofs.Messages.{same_sound, same_store, on_err}
+use Rattle.bcast_store.proofs.Messages.{same_sound, same_store}
 use Rattle.bcast_store.proofs.Reading.{is_reading, reading_up, sound_read, store_read}
 use Rattle.bcast_store.proofs.HandedOut.{owed_by_another, handed_out}
 use Rattle.bcast_store.proofs.Store.read.Goals as goal
+use Rattle.bcast_store.proofs.Store.read.Goals.{After-set-in-Err}
+
+-- a cursor that is put back
+put_back : (m : Cursors) (key cursor other : ℕ) → get m key ≡ Some cursor → insert (insert m key other) key cursor ≡ m
+put_back m key cursor other at =
+    same_map nat_cmp_total nat_cmp-IsAntisymmetric _ _ (λ q.
+    get-insert nat_cmp_total (insert m key other) key cursor q
+    ∙ ap (λ o. cond (eq_by_cmp nat_cmp q key) (Some cursor) o) (get-insert nat_cmp_total m key other q)
+    ∙ by_key q (eq_by_cmp nat_cmp q key) refl)
+  where
+    by_key : (q : ℕ) (b : Bool) → eq_by_cmp nat_cmp q key ≡ b → cond b (Some cursor) (cond b (Some other) (get m q)) ≡ get m q
+    by_key q true e = sym (ap (get m) (eqb-true q key (sym (unsigned_tied q key) ∙ e)) ∙ at)
+    by_key q false e = refl
+
+back : (g : _) (c : After-set-in-Err g) → c.set-in-Err.new.self ≡ c.self.inside.cursors
+back g c =
+    let r = is_reading c.self.inside.queue c.self.inside.cursors c.args.self.now c.args.key c.args.number c.front.result c.self.view_is c.front.ensures c.requires.at c.requires.below in
+    let set = c.set.ensures.there (ap is_some r.at) in
+    let there = ap (λ m. get m c.args.key) set ∙ inserted c.self.inside.cursors c.args.key (c.args.number + 1) in
+    let value : c.unwrap_or-cursor.result ≡ r.cursor = rw (c.get.ensures ∙ r.at) at c.unwrap_or-cursor.ensures in
+    c.set-in-Err.ensures.there (ap is_some there)
+    ∙ ap (λ m. insert m c.args.key c.unwrap_or-cursor.result) set
+    ∙ ap (insert (insert c.self.inside.cursors c.args.key (c.args.number + 1)) c.args.key) value
+    ∙ put_back c.self.inside.cursors c.args.key r.cursor (c.args.number + 1) r.at
 
 pub read-requires-clause-owed : goal.read-requires-clause-owed
 read-requires-clause-owed g c = λ some.
     let r = is_reading c.self.inside.queue c.self.inside.cursors c.args.self.now c.args.key c.args.number c.front.result c.self.view_is c.front.ensures c.requires.at c.requires.below in
     reading_up c.self.inside.queue c.self.inside.cursors c.args.key c.args.number (c.args.number - c.front.result) c.self.invariant r some
 
-pub returns-in_err-msg-clause-owed : goal.returns-in_err-msg-clause-owed
-returns-in_err-msg-clause-owed g c =
-    let r = is_reading c.self.inside.queue c.self.inside.cursors c.args.self.now c.args.key c.args.number c.front.result c.self.view_is c.front.ensures c.requires.at c.requires.below in
-    on_err c.from_residual.result _ (subst (λ s. IsOwed s c.args.key c.args.number) c.self.view_is
-    (owed_by_another c.self.inside.queue c.self.inside.cursors c.args.key c.args.number (c.args.number - c.front.result) c.self.invariant r c.in_err-msg.ensures.refused))
-
-pub invariant_of-self-2 : goal.invariant_of-self-2
-invariant_of-self-2 g c =
+pub invariant_of-self : goal.invariant_of-self
+invariant_of-self g c =
     let r = is_reading c.self.inside.queue c.self.inside.cursors c.args.self.now c.args.key c.args.number c.front.result c.self.view_is c.front.ensures c.requires.at c.requires.below in
     let n = c.invariant_holds.ensures in
     let set = c.set.ensures.there (ap is_some r.at) in
-    same_sound _ _ _ _ c.in_ok-msg.ensures.ok set
+    same_sound _ _ _ _ c.in-Ok.ensures.ok set
     (sound_read c.self.inside.queue c.self.inside.cursors c.args.key c.args.number (c.args.number - c.front.result) c.self.invariant r (record { lengths = n.lengths; owed = n.owed }))
 
-pub returns-clause-given : goal.returns-clause-given
-returns-clause-given g c =
-    let r = is_reading c.self.inside.queue c.self.inside.cursors c.args.self.now c.args.key c.args.number c.front.result c.self.view_is c.front.ensures c.requires.at c.requires.below in
-    let n = c.invariant_holds.ensures in
-    subst (λ s. IsHandedOut g.T.Clone.is_clone s c.args.key c.args.number c.in_ok-msg.msg) c.self.view_is
-    (handed_out c.self.inside.queue c.self.inside.cursors c.args.key c.args.number (c.args.number - c.front.result) c.self.invariant r g.T.Clone.is_clone c.in_ok-msg.msg (record { lengths = n.lengths; owed = n.owed }) c.in_ok-msg.ensures.moved c.in_ok-msg.ensures.cloned)
+pub invariant_of-self-in-Err : goal.invariant_of-self-in-Err
+invariant_of-self-in-Err g c =
+    same_sound _ _ _ _ c.in-Err.ensures.err (back g (goal.at.invariant_of-self-in-Err g c).After-set-in-Err) c.self.invariant
 
-pub returns-clause-ok : goal.returns-clause-ok
-returns-clause-ok g c =
+pub returns-in-Ok-clause-given : goal.returns-in-Ok-clause-given
+returns-in-Ok-clause-given g c =
     let r = is_reading c.self.inside.queue c.self.inside.cursors c.args.self.now c.args.key c.args.number c.front.result c.self.view_is c.front.ensures c.requires.at c.requires.below in
     let n = c.invariant_holds.ensures in
-    let m = c.invariant_holds-2.ensures in
+    subst (λ s. IsHandedOut g.T.Clone.is_clone s c.args.key c.args.number c.in-Ok.msg) c.self.view_is
+    (handed_out c.self.inside.queue c.self.inside.cursors c.args.key c.args.number (c.args.number - c.front.result) c.self.invariant r g.T.Clone.is_clone c.in-Ok.msg (record { lengths = n.lengths; owed = n.owed }) c.in-Ok.ensures.moved c.in-Ok.ensures.cloned)
+
+pub returns-in-Ok-clause-ok : goal.returns-in-Ok-clause-ok
+returns-in-Ok-clause-ok g c =
+    let r = is_reading c.self.inside.queue c.self.inside.cursors c.args.self.now c.args.key c.args.number c.front.result c.self.view_is c.front.ensures c.requires.at c.requires.below in
+    let n = c.invariant_holds.ensures in
+    let m = c.invariant_holds-in-Ok.ensures in
     let set = c.set.ensures.there (ap is_some r.at) in
-    let after = subst IsCounted c.in_ok-msg.ensures.ok (record { lengths = m.lengths; owed = m.owed }) in
-    same_store c.read.new.queue (read_at (c.args.number - c.front.result) c.self.inside.queue) c.set.new.self (insert c.self.inside.cursors c.args.key (c.args.number + 1)) c.in_ok-msg.ensures.ok set
+    let after = subst IsCounted c.in-Ok.ensures.ok (record { lengths = m.lengths; owed = m.owed }) in
+    same_store c.read.new.queue (read_at (c.args.number - c.front.result) c.self.inside.queue) c.set.new.self (insert c.self.inside.cursors c.args.key (c.args.number + 1)) c.in-Ok.ensures.ok set
     ∙ store_read c.self.inside.queue c.self.inside.cursors c.args.key c.args.number (c.args.number - c.front.result) c.self.invariant r (record { lengths = n.lengths; owed = n.owed }) after
     ∙ ap (λ (s : Stored g.row.T.Denot). with_cursors s (insert s.cursors c.args.key (c.args.number + 1))) c.self.view_is
+
+pub returns-in-Err-clause-owed : goal.returns-in-Err-clause-owed
+returns-in-Err-clause-owed g c =
+    let r = is_reading c.self.inside.queue c.self.inside.cursors c.args.self.now c.args.key c.args.number c.front.result c.self.view_is c.front.ensures c.requires.at c.requires.below in
+    subst (λ s. IsOwed s c.args.key c.args.number) c.self.view_is
+    (owed_by_another c.self.inside.queue c.self.inside.cursors c.args.key c.args.number (c.args.number - c.front.result) c.self.invariant r c.in-Err.ensures.refused)
+
+pub returns-in-Err-clause-err : goal.returns-in-Err-clause-err
+returns-in-Err-clause-err g c =
+    same_store c.read.new.queue c.self.inside.queue c.set-in-Err.new.self c.self.inside.cursors c.in-Err.ensures.err
+    (back g (goal.at.returns-in-Err-clause-err g c).After-set-in-Err)
+    ∙ c.self.view_is
