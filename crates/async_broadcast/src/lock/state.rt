@@ -70,7 +70,8 @@ impl<T: Clone, A: Allocator + Copy> State<T, A> {
     pub(super) fn has_no_thread(&self) -> bool
         ensures { result ≡ true → HasNoThread self.now }
     {
-        self.senders == 0 && self.idle_receivers == 0 && self.due_receivers == 0
+        // One test in place of three.
+        (self.senders | self.idle_receivers | self.due_receivers) == 0
     }
 
     /// Whether no thread waits, and no send of a task.
