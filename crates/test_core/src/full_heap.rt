@@ -1,150 +1,170 @@
 //! The calls that take no memory, made on a heap that is full.
+mod rows;
+
 use bcast_core::{
-    Call, Inner, Messages, Reply, SendError, SendPoll, Silent, TryRecvError, TrySendError, step,
+    Call, Inner, Messages, Reply, SendError, SendPoll, Silent, TryRecvError, TrySendError, in_vec,
+    step,
 };
-use futures::task::Poll;
 use linked_list_allocator::LocalHeap;
+use rows::{Polled, Row, Seen, Sent};
 use std::alloc::{AllocError, Allocator, Global};
+use std::process::Abort;
 
 /// Calls on a channel of capacity 2 with the receivers 0 and 1 and a pending send at place 0, each
 /// with its reply. None takes memory.
-fn rows(alloc: Global) -> Result<Vec<(Call<u64>, Reply<u64>)>, AllocError> {
-    let two = Messages::new(vec![in alloc; 20, 21]?);
-    let one = Messages::new(vec![in alloc; 22]?);
-    let back = Messages::new(vec![in alloc; 22]?);
-    let rows = vec![in alloc;
-        (Call::PollFuture(0), Reply::PollFuture(Ok(Poll::Pending))),
-        (Call::PollRecv(0), Reply::PollRecv(Ok(Poll::Pending))),
-        (Call::PollNext(1), Reply::PollNext(Ok(Poll::Pending))),
-        (Call::TryBroadcast(10), Reply::TryBroadcast(Ok(None))),
-        (
-            Call::AttemptSend(11),
-            Reply::AttemptSend(SendPoll::Ready(Ok(None))),
-        ),
-        (
-            Call::TryBroadcast(12),
-            Reply::TryBroadcast(Err(TrySendError::Full(12))),
-        ),
-        (
-            Call::AttemptSend(12),
-            Reply::AttemptSend(SendPoll::Wait(12)),
-        ),
-        (Call::PollSend(0, 12), Reply::PollSend(SendPoll::Wait(12))),
-        (Call::SetOverflow(true), Reply::SetOverflow),
-        (
-            Call::PollSend(0, 12),
-            Reply::PollSend(SendPoll::Ready(Ok(Some(10)))),
-        ),
-        (Call::SetOverflow(false), Reply::SetOverflow),
-        (
-            Call::TryRecv(0),
-            Reply::TryRecv(Ok(Err(TryRecvError::Overflowed(1)))),
-        ),
-        (Call::SetCapacity(1), Reply::SetCapacity(Ok(()))),
-        (Call::SetCapacity(2), Reply::SetCapacity(Ok(()))),
-        (
-            Call::TryRecv(1),
-            Reply::TryRecv(Ok(Err(TryRecvError::Overflowed(2)))),
-        ),
-        (Call::Deactivate(1), Reply::Deactivate(Ok(()))),
-        (
-            Call::TryRecv(0),
-            Reply::TryRecv(Ok(Err(TryRecvError::Overflowed(1)))),
-        ),
-        (
-            Call::PollRecv(0),
-            Reply::PollRecv(Ok(Poll::Ready(Some(Ok(12))))),
-        ),
-        (Call::PollFuture(0), Reply::PollFuture(Ok(Poll::Pending))),
-        (Call::EndFuture(0), Reply::EndFuture),
-        (Call::TryBroadcast(13), Reply::TryBroadcast(Ok(None))),
-        (
-            Call::PollNext(0),
-            Reply::PollNext(Ok(Poll::Ready(Some((13, 0))))),
-        ),
-        (Call::TryBroadcastAll(two), Reply::TryBroadcastAll(Ok(()))),
-        (
-            Call::TryBroadcastAll(one),
-            Reply::TryBroadcastAll(Err(TrySendError::Full(back))),
-        ),
-        (Call::TryRecv(0), Reply::TryRecv(Ok(Ok(20)))),
-        (Call::TryRecv(0), Reply::TryRecv(Ok(Ok(21)))),
-        (Call::NewSender, Reply::NewSender(Ok(()))),
-        (Call::CloneInactive, Reply::CloneInactive(Ok(()))),
-        (Call::DropSender, Reply::DropSender),
-        (Call::DropInactive, Reply::DropInactive),
-        (Call::SetAwaitActive(false), Reply::SetAwaitActive),
-        (Call::Overflow, Reply::Overflow(false)),
-        (Call::AwaitActive, Reply::AwaitActive(false)),
-        (Call::IsEmpty, Reply::IsEmpty(true)),
-        (Call::IsFull, Reply::IsFull(false)),
-        (Call::IsClosed, Reply::IsClosed(false)),
-        (Call::IsTerminated, Reply::IsTerminated(false)),
-        (Call::Capacity, Reply::Capacity(2)),
-        (Call::Len, Reply::Len(0)),
-        (Call::ReceiverCount, Reply::ReceiverCount(1)),
-        (Call::InactiveReceiverCount, Reply::InactiveReceiverCount(1)),
-        (Call::SenderCount, Reply::SenderCount(1)),
-        (Call::EndNumber, Reply::EndNumber(6)),
-        (Call::DropReceiver(0), Reply::DropReceiver),
-        (
-            Call::TryBroadcast(14),
-            Reply::TryBroadcast(Err(TrySendError::Inactive(14))),
-        ),
-        (
-            Call::AttemptSend(14),
-            Reply::AttemptSend(SendPoll::Ready(Err(SendError(14)))),
-        ),
-        (Call::EndSend(0), Reply::EndSend),
-        (Call::Close, Reply::Close(true)),
-        (
-            Call::TryRecv(0),
-            Reply::TryRecv(Ok(Err(TryRecvError::Closed))),
-        ),
-        (Call::PollRecv(0), Reply::PollRecv(Ok(Poll::Ready(None)))),
-    ]?;
-    Ok(rows)
-}
+const ROWS: &[Row] = &[
+    Row::PollFuture(0),
+    Row::PollRecv(0, Polled::Waits),
+    Row::PollNext(1, Polled::Waits),
+    Row::TryBroadcast(10, Ok(None)),
+    Row::AttemptSend(11, SendPoll::Ready(Ok(None))),
+    Row::TryBroadcast(12, Err(TrySendError::Full(12))),
+    Row::AttemptSend(12, SendPoll::Wait(12)),
+    Row::PollSend(0, 12, SendPoll::Wait(12)),
+    Row::SetOverflow(true),
+    Row::PollSend(0, 12, SendPoll::Ready(Ok(Some(10)))),
+    Row::SetOverflow(false),
+    Row::TryRecv(0, Err(TryRecvError::Overflowed(1))),
+    Row::SetCapacity(1),
+    Row::SetCapacity(2),
+    Row::TryRecv(1, Err(TryRecvError::Overflowed(2))),
+    Row::Deactivate(1),
+    Row::TryRecv(0, Err(TryRecvError::Overflowed(1))),
+    Row::PollRecv(0, Polled::Gets(Ok(12))),
+    Row::PollFuture(0),
+    Row::EndFuture(0),
+    Row::TryBroadcast(13, Ok(None)),
+    Row::PollNext(0, Polled::Gets((13, 0))),
+    Row::TryBroadcastAll(&[20, 21], Ok(())),
+    Row::TryBroadcastAll(&[22], Err(TrySendError::Full(&[22]))),
+    Row::TryRecv(0, Ok(20)),
+    Row::TryRecv(0, Ok(21)),
+    Row::NewSender,
+    Row::CloneInactive,
+    Row::DropSender,
+    Row::DropInactive,
+    Row::SetAwaitActive(false),
+    Row::Sees(Seen::Overflow(false)),
+    Row::Sees(Seen::AwaitActive(false)),
+    Row::Sees(Seen::IsEmpty(true)),
+    Row::Sees(Seen::IsFull(false)),
+    Row::Sees(Seen::IsClosed(false)),
+    Row::Sees(Seen::IsTerminated(false)),
+    Row::Sees(Seen::Capacity(2)),
+    Row::Sees(Seen::Len(0)),
+    Row::Sees(Seen::ReceiverCount(1)),
+    Row::Sees(Seen::InactiveReceiverCount(1)),
+    Row::Sees(Seen::SenderCount(1)),
+    Row::Sees(Seen::EndNumber(6)),
+    Row::Vector(&[23, 24], Ok(())),
+    Row::Vector(&[25], Err(TrySendError::Full(&[25]))),
+    Row::TryRecv(0, Ok(23)),
+    Row::TryRecv(0, Ok(24)),
+    Row::DropReceiver(0),
+    Row::TryBroadcast(14, Err(TrySendError::Inactive(14))),
+    Row::TryBroadcastAll(&[], Err(TrySendError::Inactive(&[]))),
+    Row::Vector(&[], Err(TrySendError::Inactive(&[]))),
+    Row::AttemptSend(14, SendPoll::Ready(Err(SendError(14)))),
+    Row::EndSend(0),
+    Row::Close(true),
+    Row::Vector(&[26], Err(TrySendError::Closed(&[26]))),
+    Row::TryRecv(0, Err(TryRecvError::Closed)),
+    Row::PollRecv(0, Polled::Ends),
+];
 
-/// The channel that the rows begin with, or none if it isn't as they want it.
-fn channel<A: Allocator + Copy>(alloc: A) -> Result<Option<Inner<u64, Silent, A>>, AllocError> {
-    let (mut inner, first) = Inner::new(alloc, 2)?;
+/// Makes the second receiver and the pending send, and returns whether they and the first receiver
+/// are as the rows want them.
+fn is_planned<A: Allocator + Copy>(
+    inner: &mut Inner<u64, Silent, A>,
+    first: usize,
+) -> Result<bool, AllocError> {
     let second = inner.clone_receiver(first).ok().ok_or(AllocError)?;
     let place = inner.begin_send()?;
-    let is_planned = first == 0 && second == 1 && place == 0;
-    Ok(is_planned.then_some(inner))
+    Ok(first == 0 && second == 1 && place == 0)
 }
 
-/// The place of the first row whose reply is another. None: all rows hold.
-fn first_other<A: Allocator + Copy>(
-    inner: &mut Inner<u64, Silent, A>,
-    rows: &[(Call<u64>, Reply<u64>)],
-) -> Option<usize> {
-    for (place, (call, reply)) in rows.iter().enumerate() {
-        let made = match call.clone() {
-            Ok(Call::SetCapacity(0)) | Err(_) => return Some(place),
-            Ok(call) => step(inner, call, Silent),
-        };
-        if made != *reply {
-            return Some(place);
-        }
+/// What came of a list, as rows have it.
+fn as_row(sent: &Result<(), TrySendError<Vec<u64>>>) -> Result<(), TrySendError<&[u64]>> {
+    match sent {
+        Ok(()) => Ok(()),
+        Err(TrySendError::Full(list)) => Err(TrySendError::Full(list.as_slice())),
+        Err(TrySendError::Closed(list)) => Err(TrySendError::Closed(list.as_slice())),
+        Err(TrySendError::Inactive(list)) => Err(TrySendError::Inactive(list.as_slice())),
     }
-    None
+}
+
+/// Whether this comes of a list that is sent by `step`.
+fn holds_by_step<A: Allocator + Copy>(
+    alloc: Global,
+    inner: &mut Inner<u64, Silent, A>,
+    msgs: &[u64],
+    wanted: Sent,
+) -> Result<bool, AllocError> {
+    let call = Call::TryBroadcastAll(Messages::new(Vec::from_slice(alloc, msgs)?));
+    Ok(match step(inner, call, Silent) {
+        Reply::TryBroadcastAll(sent) => as_row(&in_vec(sent)) == wanted,
+        _ => false,
+    })
+}
+
+/// Whether this comes of a list that is sent by `try_broadcast_all`.
+fn holds_of_vector<A: Allocator + Copy>(
+    alloc: Global,
+    inner: &mut Inner<u64, Silent, A>,
+    msgs: &[u64],
+    wanted: Sent,
+) -> Result<bool, AllocError> {
+    let sent = inner.try_broadcast_all(Vec::from_slice(alloc, msgs)?);
+    Ok(as_row(&sent) == wanted)
+}
+
+/// Whether the reply is the row's. Lists are of memory of `alloc`.
+fn holds<A: Allocator + Copy>(
+    alloc: Global,
+    inner: &mut Inner<u64, Silent, A>,
+    row: Row,
+) -> Result<bool, AllocError> {
+    match row {
+        Row::TryBroadcastAll(msgs, wanted) => holds_by_step(alloc, inner, msgs, wanted),
+        Row::Vector(msgs, wanted) => holds_of_vector(alloc, inner, msgs, wanted),
+        row => Ok(match row.pair() {
+            None | Some((Call::SetCapacity(0), _)) => false,
+            Some((call, reply)) => step(inner, call, Silent) == reply,
+        }),
+    }
+}
+
+/// Makes the rows' calls.
+fn ask_rows<A: Allocator + Copy>(
+    rt: &impl Abort,
+    alloc: Global,
+    inner: &mut Inner<u64, Silent, A>,
+) -> Result<(), AllocError> {
+    for (index, row) in ROWS.iter().enumerate() {
+        assert!(rt; holds(alloc, inner, *row)?, "row {index}");
+    }
+    Ok(())
+}
+
+/// Makes the rows' calls on a channel of this heap, while the rest of the heap is taken.
+fn ask_on_full_heap(
+    rt: &impl Abort,
+    alloc: Global,
+    heap: &LocalHeap,
+    inner: &mut Inner<u64, Silent, &LocalHeap>,
+) -> Result<(), AllocError> {
+    let _rest = Vec::<u8, &LocalHeap>::with_capacity(heap, heap.free())?;
+    let full = heap.free();
+    assert!(rt; Vec::<u8, &LocalHeap>::with_capacity(heap, 1).is_err());
+    ask_rows(rt, alloc, inner)?;
+    assert!(rt; heap.free() == full);
+    Ok(())
 }
 
 #[test]
 fn calls_that_take_no_memory_go_through(rt: HostRuntime) -> Result<(), AllocError> {
-    let rows = rows(rt.alloc())?;
     let heap = LocalHeap::new(rt.alloc(), 4096)?;
-    let Some(mut inner) = channel(&heap)? else {
-        return Err(AllocError);
-    };
-    let rest = Vec::<u8, &LocalHeap>::with_capacity(&heap, heap.free())?;
-    let full = heap.free();
-    assert!(rt; Vec::<u8, &LocalHeap>::with_capacity(&heap, 1).is_err());
-    let other = first_other(&mut inner, rows.as_slice());
-    assert!(rt; other.is_none(), "row {}", other.unwrap_or(0));
-    assert!(rt; heap.free() == full);
-    drop(rest);
-    Ok(())
+    let (mut inner, first) = Inner::new(&heap, 2)?;
+    assert!(rt; is_planned(&mut inner, first)?);
+    ask_on_full_heap(&rt, rt.alloc(), &heap, &mut inner)
 }
