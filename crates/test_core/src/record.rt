@@ -1,6 +1,5 @@
 //! Logs and recorders.
 mod entries;
-mod lists;
 mod logs;
 mod recorders;
 mod replays;

@@ -1,8 +1,10 @@
 //! The calls that the tests make on a channel that records, and what is stored of them.
+ghost use Rattle.std.specs.Prelude.{IfOk};
 ghost use Rattle.bcast_model.specs.Next.{HasPositiveCapacity};
 
-use bcast_core::{Call, Reply};
+use bcast_core::{Call, Messages, Reply, TrySendError};
 use bcast_record::Entry;
+use std::alloc::{AllocError, Global};
 
 /// A call on a channel whose first receiver has the key 0.
 #[derive(Clone, Copy)]
@@ -10,36 +12,55 @@ pub(crate) enum Step {
     Send,
     Receive,
     Close,
+    /// A list, which is accepted.
+    SendAll(&'static [u64]),
+    /// A list, which comes back as too long.
+    SendTooMany(&'static [u64]),
 }
 
 impl Step {
-    pub(crate) fn call(self) -> Call<u64>
-        ensures { HasPositiveCapacity result }
+    pub(crate) fn call(self, alloc: Global) -> Result<Call<u64>, AllocError>
+        ensures { IfOk result HasPositiveCapacity }
     {
-        match self {
+        Ok(match self {
             Step::Send => Call::TryBroadcast(5),
             Step::Receive => Call::TryRecv(0),
             Step::Close => Call::Close,
-        }
+            Step::SendAll(msgs) | Step::SendTooMany(msgs) => {
+                Call::TryBroadcastAll(Messages::new(Vec::from_slice(alloc, msgs)?))
+            }
+        })
     }
 
     /// Whether this is the call.
     pub(crate) fn is(self, call: &Call<u64>) -> bool {
-        *call == self.call()
+        match self {
+            Step::Send => *call == Call::TryBroadcast(5),
+            Step::Receive => *call == Call::TryRecv(0),
+            Step::Close => *call == Call::Close,
+            Step::SendAll(msgs) | Step::SendTooMany(msgs) => match call {
+                Call::TryBroadcastAll(list) => list.as_slice() == msgs,
+                _ => false,
+            },
+        }
     }
 
-    /// Whether this is the reply of the call where it succeeds.
-    fn succeeds(self, reply: &Reply<u64>) -> bool {
-        *reply
-            == match self {
-                Step::Send => Reply::TryBroadcast(Ok(None)),
-                Step::Receive => Reply::TryRecv(Ok(Ok(5))),
-                Step::Close => Reply::Close(true),
-            }
+    /// Whether the call succeeds with this reply, or its list comes back.
+    fn is_answered(self, reply: &Reply<u64>) -> bool {
+        match self {
+            Step::Send => *reply == Reply::TryBroadcast(Ok(None)),
+            Step::Receive => *reply == Reply::TryRecv(Ok(Ok(5))),
+            Step::Close => *reply == Reply::Close(true),
+            Step::SendAll(_) => *reply == Reply::TryBroadcastAll(Ok(())),
+            Step::SendTooMany(msgs) => match reply {
+                Reply::TryBroadcastAll(Err(TrySendError::Full(list))) => list.as_slice() == msgs,
+                _ => false,
+            },
+        }
     }
 
-    /// Whether the entry is of this call, which this seat made and which succeeded.
+    /// Whether the entry is of this call, which this seat made, and of its reply.
     pub(crate) fn is_stored(self, seat: usize, entry: &Entry<u64>) -> bool {
-        self.is(&entry.call) && self.succeeds(&entry.reply) && entry.seat == seat
+        self.is(&entry.call) && self.is_answered(&entry.reply) && entry.seat == seat
     }
 }

@@ -9,41 +9,58 @@ use std::alloc::{AllocError, Allocator, Global};
 use std::marker::Brand;
 use std::sync::ledger::Blank;
 
-/// The calls on a log of two seats, each with the seat's number.
-const CALLS: &[(usize, Step)] = &[(0, Step::Send), (1, Step::Receive), (0, Step::Close)];
+/// Calls on a new log of capacity 2 and two seats, each with the seat's number, and how many calls
+/// each seat made then.
+const PLAYS: &[(&[(usize, Step)], [usize; 2])] = &[
+    (
+        &[(0, Step::Send), (1, Step::Receive), (0, Step::Close)],
+        [2, 1],
+    ),
+    (
+        &[(0, Step::SendAll(&[1, 2])), (0, Step::SendTooMany(&[3]))],
+        [2, 0],
+    ),
+];
 
-/// Whether the call succeeds, and its entry is stored at this place.
+/// Whether the call is answered as it must be, and its entry is stored at this place.
 fn stores<R: Named, A: Allocator + Copy>(
+    alloc: Global,
     log: &mut Log<u64, R, A>,
     seat: &mut Seat<R>,
     call: Step,
     place: usize,
-) -> bool {
-    let made = log.step(seat, call.call());
-    let is_stored = match &made {
+) -> Result<bool, AllocError> {
+    let made = log.step(seat, call.call(alloc)?);
+    let is_given = match &made {
         Ok(receipt) => {
             receipt.place() == place && call.is_stored(seat.number(), receipt.entry())
         }
         Err(_) => false,
     };
-    is_stored && log.entries().len() == place + 1
+    Ok(is_given && log.entries().len() == place + 1)
 }
 
-/// Whether a new log stores all calls, and their seats count them.
-fn stores_all<R: Named>(log: &mut Log<u64, R>, seats: &mut [Seat<R>]) -> bool {
-    for (place, (number, call)) in CALLS.iter().enumerate() {
-        let Some(seat) = seats.get_mut(*number) else {
-            return false;
-        };
-        if seat.number() != *number || !stores(log, seat, *call, place) {
-            return false;
+/// Whether a new log stores all calls in order, and their seats count them.
+fn stores_all<R: Named>(
+    alloc: Global,
+    log: &mut Log<u64, R>,
+    seats: &mut [Seat<R>],
+    play: &(&[(usize, Step)], [usize; 2]),
+) -> Result<bool, AllocError> {
+    for (place, (number, call)) in play.0.iter().enumerate() {
+        let seat = seats.get_mut(*number).ok_or(AllocError)?;
+        if seat.number() != *number || !stores(alloc, log, seat, *call, place)? {
+            return Ok(false);
         }
     }
-    seats.iter().map(|seat| seat.count()).eq([2, 1])
+    let mut pairs = log.entries().iter().zip(play.0);
+    let are_stored = pairs.all(|(entry, (number, call))| call.is_stored(*number, entry));
+    Ok(are_stored && seats.iter().map(|seat| seat.count()).eq(play.1))
 }
 
-fn three_calls<R: Named>(
+fn plays<R: Named>(
     alloc: Global,
+    play: &(&[(usize, Step)], [usize; 2]),
     calls: Blank,
     journal: Journal<Note<u64>>,
 ) -> Result<bool, AllocError>
@@ -51,27 +68,47 @@ fn three_calls<R: Named>(
     requires journal { journal ≡ R.book }
 {
     let (mut log, _, mut seats) = Log::<u64, R>::new(alloc, 2, 2, calls, journal)?;
-    Ok(stores_all(&mut log, seats.as_mut_slice()))
+    stores_all(alloc, &mut log, seats.as_mut_slice(), play)
 }
 
 #[test]
 fn a_log_stores_each_call_with_its_reply(rt: HostRuntime) -> Result<(), AllocError> {
-    assert!(rt; three_calls::<Brand>(rt.alloc(), Blank::new(3), Journal::new())?);
+    for play in PLAYS {
+        assert!(rt; plays::<Brand>(rt.alloc(), play, Blank::new(3), Journal::new())?);
+    }
     Ok(())
 }
 
 /// Whether the call comes back, and the log and the seat are as new.
-fn refuses<R: Named, A: Allocator + Copy>(log: &mut Log<u64, R, A>, seat: &mut Seat<R>) -> bool {
-    let made = log.step(seat, Step::Send.call());
+fn refuses<R: Named, A: Allocator + Copy>(
+    alloc: Global,
+    log: &mut Log<u64, R, A>,
+    seat: &mut Seat<R>,
+) -> Result<bool, AllocError> {
+    let made = log.step(seat, Step::Send.call(alloc)?);
     let is_back = match &made {
         Ok(_) => false,
         Err(NoMemory(call)) => Step::Send.is(call),
     };
-    is_back && seat.count() == 0 && log.entries().is_empty()
+    Ok(is_back && seat.count() == 0 && log.entries().is_empty())
 }
 
 /// Whether a new log hands a call back while its heap is full, and makes it once there is memory.
+fn refuses_once<R: Named>(
+    alloc: Global,
+    heap: &LocalHeap,
+    log: &mut Log<u64, R, &LocalHeap>,
+    seats: &mut [Seat<R>],
+) -> Result<bool, AllocError> {
+    let seat = seats.first_mut().ok_or(AllocError)?;
+    let rest = Vec::<u8, &LocalHeap>::with_capacity(heap, heap.free())?;
+    let is_refused = refuses(alloc, log, seat)?;
+    drop(rest);
+    Ok(is_refused && stores(alloc, log, seat, Step::Send, 0)?)
+}
+
 fn refused_once<R: Named>(
+    alloc: Global,
     heap: &LocalHeap,
     calls: Blank,
     journal: Journal<Note<u64>>,
@@ -80,29 +117,42 @@ fn refused_once<R: Named>(
     requires journal { journal ≡ R.book }
 {
     let (mut log, _, mut seats) = Log::<u64, R, &LocalHeap>::new(heap, 1, 1, calls, journal)?;
-    let Some(seat) = seats.first_mut() else {
-        return Err(AllocError);
-    };
-    let rest = Vec::<u8, &LocalHeap>::with_capacity(heap, heap.free())?;
-    let is_refused = refuses(&mut log, seat);
-    drop(rest);
-    Ok(is_refused && stores(&mut log, seat, Step::Send, 0))
+    refuses_once(alloc, heap, &mut log, seats.as_mut_slice())
 }
 
 #[test]
 fn a_refused_call_was_not_made(rt: HostRuntime) -> Result<(), AllocError> {
     let heap = LocalHeap::new(rt.alloc(), 4096)?;
-    assert!(rt; refused_once::<Brand>(&heap, Blank::new(2), Journal::new())?);
+    assert!(rt; refused_once::<Brand>(rt.alloc(), &heap, Blank::new(2), Journal::new())?);
     Ok(())
 }
 
 /// How many of two calls a new log stores before one finds no memory. None: a call that found none
 /// changed something, or one was stored otherwise.
+fn stores_until<R: Named>(
+    alloc: Global,
+    log: &mut Log<u64, R, &LocalHeap>,
+    seats: &mut [Seat<R>],
+) -> Result<Option<usize>, AllocError> {
+    let Some(seat) = seats.first_mut() else {
+        return Ok(None);
+    };
+    for (count, call) in [Step::Send, Step::Receive].iter().enumerate() {
+        if !stores(alloc, log, seat, *call, count)? {
+            let is_unchanged = log.entries().len() == count && seat.count() == count;
+            return Ok(is_unchanged.then_some(count));
+        }
+    }
+    Ok(Some(2))
+}
+
+/// The same of a log on this heap.
 ///
 /// # Errors
 ///
 /// - `AllocError`: no memory for the log.
 fn stored<R: Named>(
+    alloc: Global,
     heap: &LocalHeap,
     calls: Blank,
     journal: Journal<Note<u64>>,
@@ -111,16 +161,7 @@ fn stored<R: Named>(
     requires journal { journal ≡ R.book }
 {
     let (mut log, _, mut seats) = Log::<u64, R, &LocalHeap>::new(heap, 2, 1, calls, journal)?;
-    let Some(seat) = seats.first_mut() else {
-        return Ok(None);
-    };
-    for (count, call) in [Step::Send, Step::Receive].iter().enumerate() {
-        if !stores(&mut log, seat, *call, count) {
-            let is_unchanged = log.entries().len() == count && seat.count() == count;
-            return Ok(is_unchanged.then_some(count));
-        }
-    }
-    Ok(Some(2))
+    stores_until(alloc, &mut log, seats.as_mut_slice())
 }
 
 #[test]
@@ -128,7 +169,7 @@ fn a_log_and_its_calls_are_refused_in_turn(rt: HostRuntime) -> Result<(), AllocE
     let (mut is_refused, mut last) = (false, Err(AllocError));
     for size in 0..256 {
         let heap = LocalHeap::new(rt.alloc(), size * 16)?;
-        last = stored::<Brand>(&heap, Blank::new(2), Journal::new());
+        last = stored::<Brand>(rt.alloc(), &heap, Blank::new(2), Journal::new());
         assert!(rt; last != Ok(None), "{size}");
         is_refused |= last != Ok(Some(2));
     }

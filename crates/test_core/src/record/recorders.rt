@@ -1,4 +1,4 @@
-//! A recorder, from `new` to `finish`.
+//! Recorders, from `new` to `finish`.
 ghost use Rattle.std.specs.Prelude.{◌≡◌};
 
 use super::entries::Step;
@@ -8,49 +8,58 @@ use std::marker::Brand;
 use std::sync::Wait;
 use std::sync::ledger::Blank;
 
-/// The receipts of a send and of a receive.
-#[derive(Drop)]
-struct Receipts<R: Named> {
-    sent: Receipt<u64, R>,
-    received: Receipt<u64, R>,
-}
+/// The calls of a first seat, on a recorder of capacity 2 and two seats.
+const CALLS: &[&[Step]] = &[&[Step::Send, Step::Receive], &[Step::SendAll(&[1, 2])]];
 
-/// Makes both calls, for the first seat.
+/// Makes the calls for the first seat, and returns their receipts.
 fn ask<R: Named>(
     rt: &impl Wait,
+    alloc: Global,
     recorder: &Recorder<u64, R>,
-    seats: &mut [Seat<R>],
-) -> Option<Receipts<R>> {
-    let seat = seats.first_mut()?;
-    let sent = recorder.call(rt, seat, Step::Send.call()).ok()?;
-    let received = recorder.call(rt, seat, Step::Receive.call()).ok()?;
-    Some(Receipts { sent, received })
+    seat: &mut Seat<R>,
+    calls: &[Step],
+) -> Result<Vec<Receipt<u64, R>>, AllocError> {
+    let mut receipts = Vec::new(alloc);
+    for call in calls {
+        let made = recorder.call(rt, seat, call.call(alloc)?);
+        receipts.push(made.ok().ok_or(AllocError)?)?;
+    }
+    Ok(receipts)
 }
 
-/// Whether the entries are those of the two calls.
-fn has_both<R: Named>(finished: &Finished<u64, R>, receipts: &Receipts<R>) -> bool {
-    finished.entries().len() == 2
-        && Step::Send.is_stored(0, finished.entry_of(&receipts.sent))
-        && Step::Receive.is_stored(0, finished.entry_of(&receipts.received))
+/// Whether the entries are those of the calls.
+fn has_all<R: Named>(
+    finished: &Finished<u64, R>,
+    calls: &[Step],
+    receipts: &[Receipt<u64, R>],
+) -> bool {
+    finished.entries().len() == calls.len()
+        && receipts.len() == calls.len()
+        && calls.iter().zip(receipts).all(|(call, receipt)| call.is_stored(
+            0,
+            finished.entry_of(receipt),
+        ))
 }
 
 /// Whether the recorder and one of its two seats come back, and the entries once both are given.
 fn finishes<R: Named>(
     recorder: Recorder<u64, R>,
     mut seats: Vec<Seat<R>>,
-    receipts: &Receipts<R>,
+    calls: &[Step],
+    receipts: &[Receipt<u64, R>],
 ) -> Result<bool, AllocError> {
     let second = seats.pop().ok_or(AllocError)?;
     let (recorder, mut seats) = recorder.finish(seats).err().ok_or(AllocError)?;
     let is_first = seats.len() == 1 && seats.iter().all(|seat| seat.number() == 0);
     seats.push(second)?;
     let finished = recorder.finish(seats).ok().ok_or(AllocError)?;
-    Ok(is_first && has_both(&finished, receipts))
+    Ok(is_first && has_all(&finished, calls, receipts))
 }
 
-fn two_calls<R: Named>(
+fn is_recorded<R: Named>(
     rt: &impl Wait,
     alloc: Global,
+    steps: &[Step],
     calls: Blank,
     journal: Journal<Note<u64>>,
 ) -> Result<bool, AllocError>
@@ -58,14 +67,16 @@ fn two_calls<R: Named>(
     requires journal { journal ≡ R.book }
 {
     let (recorder, _, mut seats) = Recorder::<u64, R>::new(alloc, 2, 2, calls, journal)?;
-    match ask(rt, &recorder, seats.as_mut_slice()) {
-        Some(receipts) => finishes(recorder, seats, &receipts),
-        None => Ok(false),
-    }
+    let first = seats.first_mut().ok_or(AllocError)?;
+    let receipts = ask(rt, alloc, &recorder, first, steps)?;
+    finishes(recorder, seats, steps, receipts.as_slice())
 }
 
 #[test]
 fn a_recorder_gives_its_entries_once_all_seats_are_back(rt: HostRuntime) -> Result<(), AllocError> {
-    assert!(rt; two_calls::<Brand>(&rt, rt.alloc(), Blank::new(3), Journal::new())?);
+    for calls in CALLS {
+        let (ledger, journal) = (Blank::new(3), Journal::new());
+        assert!(rt; is_recorded::<Brand>(&rt, rt.alloc(), calls, ledger, journal)?);
+    }
     Ok(())
 }
