@@ -1,5 +1,5 @@
 //! Channels and runs over heaps of every small size.
-use bcast_core::{Call, HandleError, Inner, Silent, run, step};
+use bcast_core::{Call, HandleError, Inner, Silent, Snapshot, run, step};
 use linked_list_allocator::LocalHeap;
 use std::alloc::{AllocError, Allocator, Global};
 use std::process::Abort;
@@ -26,8 +26,10 @@ fn add_receivers<A: Allocator + Copy>(
 
 /// How many receivers there is memory for. None: there is none for a channel.
 fn receivers<A: Allocator + Copy>(rt: &impl Abort, alloc: A) -> Option<usize> {
-    let (mut inner, first) = Inner::new(alloc, 4).ok()?;
-    Some(add_receivers(rt, &mut inner, first))
+    match Inner::new(alloc, 4) {
+        Ok((mut inner, first)) => Some(add_receivers(rt, &mut inner, first)),
+        Err(_) => None,
+    }
 }
 
 #[test]
@@ -44,21 +46,23 @@ fn a_channel_and_its_receivers_are_refused_in_turn(rt: HostRuntime) -> Result<()
     Ok(())
 }
 
+/// Whether these are the two calls of a run.
+fn are_ours(calls: &[Call<u64>]) -> bool {
+    matches!(calls, [Call::TryBroadcast(7), Call::Close])
+}
+
 /// Whether a run of two calls found memory. If it didn't, they came back. None: there is no memory
 /// for the calls.
 fn runs<A: Allocator + Copy>(rt: &impl Abort, alloc: A) -> Option<bool> {
     let calls = vec![in alloc; Call::TryBroadcast(7), Call::Close].ok()?;
-    match run(alloc, 1, 0, calls) {
-        Ok(made) => {
-            assert!(rt; made.channel.is_closed());
-            assert!(rt; made.replies.len() == 2);
-            Some(true)
+    let made = run(alloc, 1, 0, calls);
+    assert!(rt;
+        match &made {
+            Ok(made) => made.channel.is_closed() && made.replies.len() == 2,
+            Err(calls) => are_ours(calls.as_slice()),
         }
-        Err(calls) => {
-            assert!(rt; matches!(calls.as_slice(), [Call::TryBroadcast(7), Call::Close]));
-            Some(false)
-        }
-    }
+    );
+    Some(made.is_ok())
 }
 
 #[test]
@@ -75,31 +79,44 @@ fn a_refused_run_hands_its_calls_back(rt: HostRuntime) -> Result<(), Fail> {
     Ok(())
 }
 
+/// Sends 8 and 9, which the second receiver reads. It waits then, and so does a send.
+fn wait(inner: &mut Inner<u64, Silent>, second: usize) -> Result<(), AllocError> {
+    for msg in [8, 9] {
+        drop(step(inner, Call::TryBroadcast(msg), Silent));
+        drop(step(inner, Call::TryRecv(second), Silent));
+    }
+    drop(step(inner, Call::PollRecv(second), Silent));
+    let place = inner.begin_send()?;
+    drop(step(inner, Call::PollSend(place, 7), Silent));
+    Ok(())
+}
+
 /// A channel that keeps 8 and 9, with two receivers, one of which waits, and a send that waits.
 fn waited_for(alloc: Global) -> Result<Inner<u64, Silent>, AllocError> {
     let (mut inner, first) = Inner::new(alloc, 2)?;
     let second = inner.clone_receiver(first).ok().ok_or(AllocError)?;
-    for msg in [8, 9] {
-        drop(step(&mut inner, Call::TryBroadcast(msg), Silent));
-        drop(step(&mut inner, Call::TryRecv(second), Silent));
-    }
-    drop(step(&mut inner, Call::PollRecv(second), Silent));
-    let place = inner.begin_send()?;
-    drop(step(&mut inner, Call::PollSend(place, 7), Silent));
+    wait(&mut inner, second)?;
     Ok(inner)
+}
+
+/// Whether this is all of that channel.
+fn is_whole<A: Allocator>(seen: &Snapshot<u64, A>) -> bool {
+    seen.queue.as_slice() == [8, 9].as_slice()
+        && seen.cursors.iter().map(|entry| entry.1).eq([0, 2])
+        && seen.places.as_slice() == [0].as_slice()
+        && seen.waiting_sends.ids.as_slice() == [0].as_slice()
+        && seen.waiting_receives.ids.len() == 1
 }
 
 /// Whether there is memory for a snapshot, which then shows all of this channel.
 fn shows<A: Allocator + Copy>(rt: &impl Abort, alloc: A, inner: &Inner<u64, Silent>) -> bool {
-    let Ok(seen) = inner.snapshot(alloc) else {
-        return false;
-    };
-    assert!(rt; matches!(seen.queue.as_slice(), [8, 9]));
-    assert!(rt; seen.cursors.iter().map(|entry| entry.1).eq([0, 2]));
-    assert!(rt; matches!(seen.places.as_slice(), [0]));
-    assert!(rt; matches!(seen.waiting_sends.ids.as_slice(), [0]));
-    assert!(rt; seen.waiting_receives.ids.len() == 1);
-    true
+    match inner.snapshot(alloc) {
+        Ok(seen) => {
+            assert!(rt; is_whole(&seen));
+            true
+        }
+        Err(_) => false,
+    }
 }
 
 #[test]

@@ -2,6 +2,7 @@
 use bcast_core::{HandleError, NoMemory, RecvError, SendError, TryRecvError, TrySendError};
 use std::alloc::Global;
 use std::error::Error;
+use std::process::Abort;
 
 /// A message with neither a `Display` nor a `Debug`.
 #[derive(Drop)]
@@ -23,24 +24,41 @@ fn debugs<E: Error>(alloc: Global, error: &E, text: &str) -> bool {
     }
 }
 
+/// Fails the test unless `{}` and `{:?}` print the error so.
+fn expect_both<E: Error>(rt: &impl Abort, alloc: Global, error: &E, display: &str, debug: &str) {
+    assert!(rt; displays(alloc, error, display), "{display}");
+    assert!(rt; debugs(alloc, error, debug), "{debug}");
+}
+
 #[test]
 fn send_errors_print(rt: HostRuntime) {
     let alloc = rt.alloc();
     let void = "sending into the void (no active receivers)";
     let full = "sending into a full channel";
     let closed = "sending into a closed channel";
-    for (error, display, debug) in [
-        (TrySendError::Full(Opaque), full, "Full(..)"),
-        (TrySendError::Closed(Opaque), closed, "Closed(..)"),
-        (TrySendError::Inactive(Opaque), void, "Inactive(..)"),
-    ] {
-        assert!(rt; displays(alloc, &error, display), "{display}");
-        assert!(rt; debugs(alloc, &error, debug), "{debug}");
-    }
-    assert!(rt; displays(alloc, &SendError(Opaque), closed));
-    assert!(rt; debugs(alloc, &SendError(Opaque), "SendError(..)"));
-    assert!(rt; displays(alloc, &NoMemory(Opaque), "out of memory"));
-    assert!(rt; debugs(alloc, &NoMemory(Opaque), "NoMemory(..)"));
+    expect_both(&rt, alloc, &TrySendError::Full(Opaque), full, "Full(..)");
+    expect_both(
+        &rt,
+        alloc,
+        &TrySendError::Closed(Opaque),
+        closed,
+        "Closed(..)",
+    );
+    expect_both(
+        &rt,
+        alloc,
+        &TrySendError::Inactive(Opaque),
+        void,
+        "Inactive(..)",
+    );
+    expect_both(&rt, alloc, &SendError(Opaque), closed, "SendError(..)");
+    expect_both(
+        &rt,
+        alloc,
+        &NoMemory(Opaque),
+        "out of memory",
+        "NoMemory(..)",
+    );
 }
 
 const TRY_RECV: &[(TryRecvError, &str)] = &[
@@ -77,15 +95,16 @@ const HANDLE: &[(HandleError, &str)] = &[
     (HandleError::Gone, "no such handle"),
 ];
 
+/// Fails the test unless each error is printed as its text.
+fn expect_texts<E: Error>(rt: &impl Abort, alloc: Global, rows: &[(E, &str)]) {
+    for (error, text) in rows {
+        assert!(rt; displays(alloc, error, text), "{text}");
+    }
+}
+
 #[test]
 fn other_errors_display(rt: HostRuntime) {
-    for (error, text) in TRY_RECV {
-        assert!(rt; displays(rt.alloc(), error, text), "{text}");
-    }
-    for (error, text) in RECV {
-        assert!(rt; displays(rt.alloc(), error, text), "{text}");
-    }
-    for (error, text) in HANDLE {
-        assert!(rt; displays(rt.alloc(), error, text), "{text}");
-    }
+    expect_texts(&rt, rt.alloc(), TRY_RECV);
+    expect_texts(&rt, rt.alloc(), RECV);
+    expect_texts(&rt, rt.alloc(), HANDLE);
 }

@@ -5,31 +5,29 @@ use std::process::Abort;
 use std::string::String;
 
 /// Errors, with what they answer: full, closed, inactive.
-const SENDING: &[(TrySendError<u64>, bool, bool, bool)] = &[
-    (TrySendError::Full(1), true, false, false),
-    (TrySendError::Closed(2), false, true, false),
-    (TrySendError::Inactive(3), false, false, true),
+const SENDING: &[(TrySendError<u64>, [bool; 3])] = &[
+    (TrySendError::Full(1), [true, false, false]),
+    (TrySendError::Closed(2), [false, true, false]),
+    (TrySendError::Inactive(3), [false, false, true]),
 ];
 
 /// Errors, with what they answer: empty, closed, overflowed.
-const RECEIVING: &[(TryRecvError, bool, bool, bool)] = &[
-    (TryRecvError::Empty, true, false, false),
-    (TryRecvError::Closed, false, true, false),
-    (TryRecvError::Overflowed(0), false, false, true),
-    (TryRecvError::Overflowed(2), false, false, true),
+const RECEIVING: &[(TryRecvError, [bool; 3])] = &[
+    (TryRecvError::Empty, [true, false, false]),
+    (TryRecvError::Closed, [false, true, false]),
+    (TryRecvError::Overflowed(0), [false, false, true]),
+    (TryRecvError::Overflowed(2), [false, false, true]),
 ];
 
 #[test]
 fn one_test_of_an_error_is_true(rt: HostRuntime) {
-    for (index, (error, full, closed, inactive)) in SENDING.iter().enumerate() {
-        assert!(rt; error.is_full() == *full, "{index}");
-        assert!(rt; error.is_closed() == *closed, "{index}");
-        assert!(rt; error.is_disconnected() == *inactive, "{index}");
+    for (index, (error, answers)) in SENDING.iter().enumerate() {
+        let given = [error.is_full(), error.is_closed(), error.is_disconnected()];
+        assert!(rt; given == *answers, "{index}");
     }
-    for (index, (error, empty, closed, overflowed)) in RECEIVING.iter().enumerate() {
-        assert!(rt; error.is_empty() == *empty, "{index}");
-        assert!(rt; error.is_closed() == *closed, "{index}");
-        assert!(rt; error.is_overflowed() == *overflowed, "{index}");
+    for (index, (error, answers)) in RECEIVING.iter().enumerate() {
+        let given = [error.is_empty(), error.is_closed(), error.is_overflowed()];
+        assert!(rt; given == *answers, "{index}");
     }
 }
 

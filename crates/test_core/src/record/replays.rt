@@ -3,7 +3,7 @@ ghost use Rattle.std.specs.Prelude.{◌≡◌, ◌+◌, ◌<◌};
 ghost use Rattle.bcast_model.specs.Next.{HasPositiveCapacity};
 
 use bcast_core::{Call, Reply, run};
-use bcast_record::{Finished, Journal, Named, Note, Receipt, Recorder, Seat};
+use bcast_record::{Entry, Finished, Journal, Named, Note, Receipt, Recorder, Seat};
 use std::alloc::{AllocError, Global};
 use std::marker::Brand;
 use std::sync::Wait;
@@ -35,6 +35,9 @@ struct Asked<R: Named> {
     receipts: Vec<Receipt<u64, R>>,
 }
 
+/// Seats, and the receipts of each.
+type Parted<R> = (Vec<Seat<R>>, Vec<Vec<Receipt<u64, R>>>);
+
 /// The call of this index of a seat, on a channel whose first receiver has this key. `made` has the
 /// receivers that the seat made and didn't drop.
 fn call_of(work: Work, seat: usize, index: usize, key: usize, made: &mut Vec<usize>) -> Call<u64>
@@ -54,6 +57,13 @@ fn call_of(work: Work, seat: usize, index: usize, key: usize, made: &mut Vec<usi
     }
 }
 
+/// Keeps the key of a receiver that was made.
+fn keep_key(made: &mut Vec<usize>, reply: &Reply<u64>) {
+    if let Reply::CloneReceiver(Ok(key)) = reply {
+        let _kept = made.push(*key);
+    }
+}
+
 /// What the thread of a seat asks. A receipt that finds no memory is missed later.
 fn ask<R: Named>(
     rt: &impl Wait,
@@ -68,9 +78,7 @@ fn ask<R: Named>(
     for index in 0..plan.calls {
         let call = call_of(plan.work, seat.number(), index, key, &mut made);
         if let Ok(receipt) = recorder.call(rt, &mut seat, call) {
-            if let Reply::CloneReceiver(Ok(key)) = receipt.entry().reply {
-                let _kept = made.push(key);
-            }
+            keep_key(&mut made, &receipt.entry().reply);
             let _kept = receipts.push(receipt);
         }
     }
@@ -98,15 +106,19 @@ fn are_entries<R: Named>(
     receipts.len() == calls
 }
 
+/// Whether these are the replies of the entries.
+fn are_same(entries: &[Entry<u64>], replies: &[Reply<u64>]) -> bool {
+    let mut pairs = entries.iter().zip(replies);
+    pairs.all(|(entry, reply)| entry.reply == *reply) && replies.len() == entries.len()
+}
+
 /// Whether the calls, made again on one thread, get the replies that were stored.
 fn replays<R: Named>(alloc: Global, finished: &Finished<u64, R>) -> Result<bool, AllocError> {
     let calls = finished.calls(alloc)?;
-    let Ok(made) = run(alloc, finished.opening().capacity, 0, calls) else {
-        return Err(AllocError);
-    };
-    let mut pairs = finished.entries().iter().zip(&made.replies);
-    let are_same = pairs.all(|(entry, reply)| entry.reply == *reply);
-    Ok(are_same && made.replies.len() == finished.entries().len())
+    match run(alloc, finished.opening().capacity, 0, calls) {
+        Ok(made) => Ok(are_same(finished.entries(), made.replies.as_slice())),
+        Err(_) => Err(AllocError),
+    }
 }
 
 /// Whether the entries are those of the receipts, and one thread gets the same replies.
@@ -125,6 +137,16 @@ fn is_whole<R: Named>(
     ));
     let count = plan.seats.saturating_mul(plan.calls);
     Ok(are_entries && finished.entries().len() == count && replays(alloc, finished)?)
+}
+
+/// The seats, and the receipts of each.
+fn part<R: Named>(alloc: Global, asked: Vec<Asked<R>>) -> Result<Parted<R>, AllocError> {
+    let (mut seats, mut lists) = (Vec::new(alloc), Vec::new(alloc));
+    for Asked { seat, receipts } in asked {
+        seats.push(seat)?;
+        lists.push(receipts)?;
+    }
+    Ok((seats, lists))
 }
 
 /// Threads ask one recorder, each for a seat of its own, and one thread makes their calls again.
@@ -152,13 +174,11 @@ fn record<R: Named + Send + Sync>(
         seats,
         &|seat| ask(rt, alloc, &recorder, key, plan, seat),
     )?;
-    let (mut seats, mut lists) = (Vec::new(alloc), Vec::new(alloc));
-    for Asked { seat, receipts } in asked {
-        seats.push(seat)?;
-        lists.push(receipts)?;
+    let (seats, lists) = part(alloc, asked)?;
+    match recorder.finish(seats) {
+        Ok(finished) => is_whole(alloc, &finished, plan, lists.as_slice()),
+        Err(_) => Err(AllocError),
     }
-    let finished = recorder.finish(seats).ok().ok_or(AllocError)?;
-    is_whole(alloc, &finished, plan, lists.as_slice())
 }
 
 #[test]
