@@ -5,10 +5,17 @@ use std::test::Fail;
 
 /// Fails the test unless the channel keeps 8 and 9, after 7 was read.
 fn expect_seen(rt: &impl Abort, seen: &Snapshot<u64>) {
-    assert!(rt; seen.front == 1 && seen.end == 3);
+    let numbers = [seen.front, seen.end];
+    let counts = [
+        seen.cursors.len(),
+        seen.capacity,
+        seen.senders,
+        seen.inactive,
+    ];
+    assert!(rt; numbers == [1, 3]);
     assert!(rt; matches!(seen.queue.as_slice(), [8, 9]));
-    assert!(rt; seen.cursors.len() == 1 && seen.capacity == 3);
-    assert!(rt; seen.senders == 1 && seen.inactive == 1 && !seen.closed);
+    assert!(rt; counts == [1, 3, 1, 1]);
+    assert!(rt; !seen.closed);
 }
 
 #[test]

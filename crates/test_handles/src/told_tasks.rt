@@ -1,6 +1,6 @@
 //! Tasks that all wait for one channel: how many polls follow once a call tells some of them.
-use async_broadcast::{Port, Receiver, Send, Sender, WakerSlot, broadcast};
-use futures::executor::LocalPool;
+use async_broadcast::{Port, Receiver, Send, Sender, Snapshot, WakerSlot, broadcast};
+use futures::executor::{LocalPool, LocalSpawner};
 use futures::task::{Context, Poll, Source, Waker};
 use futures::{Future, Stream};
 use std::alloc::{AllocGlobal, Global};
@@ -135,6 +135,49 @@ struct Seen {
     told: u64,
 }
 
+/// Adds the tasks of a row: streams, and then sends.
+fn add_tasks<'a, P: Port<u64, WakerSlot>>(
+    spawner: &LocalSpawner<Listener<'a, P>>,
+    (streams, sends): (u64, u64),
+    sender: &'a Sender<u64, P>,
+    reader: &Receiver<u64, P>,
+    polls: &'a AtomicU64,
+) -> Result<(), Fail> {
+    for _ in 0..streams {
+        let receiver = reader.new_receiver().ok().ok_or("no receiver")?;
+        let task = Listener::new(Awaited::Message(receiver), polls);
+        spawner.spawn(task).ok().ok_or("no task")?;
+    }
+    for _ in 0..sends {
+        let send = sender.broadcast_direct(1).ok().ok_or("no send")?;
+        let task = Listener::new(Awaited::Room(send), polls);
+        spawner.spawn(task).ok().ok_or("no task")?;
+    }
+    Ok(())
+}
+
+/// Makes the calls, each of which must be answered as the row needs it.
+fn make_all<P: Port<u64, WakerSlot>>(
+    asks: &[Ask],
+    sender: &Sender<u64, P>,
+    reader: &mut Receiver<u64, P>,
+) -> Result<(), Fail> {
+    for ask in asks {
+        if !is_made(*ask, sender, reader) {
+            return Err(Fail::from("a call is refused"));
+        }
+    }
+    Ok(())
+}
+
+/// How many listeners wait, and how many of them are told.
+fn waiting(seen: &Snapshot<u64>) -> (u64, u64) {
+    let (sends, receives) = (&seen.waiting_sends, &seen.waiting_receives);
+    let listeners = sends.ids.len().saturating_add(receives.ids.len());
+    let told = sends.told.saturating_add(receives.told);
+    (listeners as u64, told as u64)
+}
+
 fn play<R: Wait + Clone + AllocGlobal + RandomSource>(
     rt: &R,
     alloc: Global,
@@ -147,36 +190,17 @@ fn play<R: Wait + Clone + AllocGlobal + RandomSource>(
     }
     let polls = AtomicU64::new(0);
     let mut pool = LocalPool::new(rt)?;
-    let spawner = pool.spawner()?;
-    for _ in 0..streams {
-        let receiver = reader.new_receiver().ok().ok_or("no receiver")?;
-        let task = Listener::new(Awaited::Message(receiver), &polls);
-        spawner.spawn(task).ok().ok_or("no task")?;
-    }
-    for _ in 0..sends {
-        let send = sender.broadcast_direct(1).ok().ok_or("no send")?;
-        let task = Listener::new(Awaited::Room(send), &polls);
-        spawner.spawn(task).ok().ok_or("no task")?;
-    }
+    add_tasks(&pool.spawner()?, (streams, sends), &sender, &reader, &polls)?;
     pool.run_until_stalled(MANY);
-    let before = sender.snapshot()?;
-    let listeners = before.waiting_sends.ids.len() + before.waiting_receives.ids.len();
+    let (listeners, _) = waiting(&sender.snapshot()?);
     polls.store(0, Ordering::SeqCst);
-    for ask in asks {
-        if !is_made(*ask, &sender, &mut reader) {
-            return Err(Fail::from("a call is refused"));
-        }
-    }
+    make_all(asks, &sender, &mut reader)?;
     pool.run_until_stalled(MANY);
-    let after = sender.snapshot()?;
-    let told = after
-        .waiting_sends
-        .told
-        .saturating_add(after.waiting_receives.told);
+    let (_, told) = waiting(&sender.snapshot()?);
     Ok(Seen {
-        listeners: listeners as u64,
+        listeners,
         polls: polls.load(Ordering::SeqCst),
-        told: told as u64,
+        told,
     })
 }
 

@@ -11,13 +11,7 @@ use std::sync::Wait;
 use std::test::Fail;
 
 // Of `broadcast`.
-#[test]
-fn a_channel_of_two(rt: HostRuntime) -> Result<(), Fail> {
-    let (sender, one) = broadcast(&rt, rt.alloc(), 2)?;
-    plays_two(&rt, sender, one)
-}
-
-fn plays_two<R: Abort + Wait + RandomSource + AllocGlobal, P: Port<u64, WakerSlot>>(
+pub fn plays_two<R: Abort + Wait + RandomSource + AllocGlobal, P: Port<u64, WakerSlot>>(
     rt: &R,
     sender: Sender<u64, P>,
     mut one: Receiver<u64, P>,
@@ -39,16 +33,10 @@ fn plays_two<R: Abort + Wait + RandomSource + AllocGlobal, P: Port<u64, WakerSlo
 }
 
 // Of the crate, on its errors.
-#[test]
-fn errors(rt: HostRuntime) -> Result<(), Fail> {
-    let (sender, receiver) = broadcast(&rt, rt.alloc(), 1)?;
-    refuses(&rt, sender, receiver)
-}
-
-fn refuses<P: Port<u64, WakerSlot>>(
+pub fn refuses<P: Port<u64, WakerSlot>>(
     rt: &impl Abort,
-    sender: Sender<u64, P>,
-    mut receiver: Receiver<u64, P>,
+    sender: &Sender<u64, P>,
+    receiver: &mut Receiver<u64, P>,
 ) -> Result<(), Fail> {
     let error = receiver.try_recv()?.err().ok_or("received")?;
     assert!(rt; error.is_empty() && !error.is_closed() && !error.is_overflowed());

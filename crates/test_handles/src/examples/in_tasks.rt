@@ -11,20 +11,11 @@ use std::random::RandomSource;
 use std::sync::Wait;
 use std::test::Fail;
 
-// Of `broadcast`, and then of `broadcast_direct`.
-#[test]
-fn sends(rt: HostRuntime) -> Result<(), Fail> {
-    let (sender, receiver) = broadcast(&rt, rt.alloc(), 1)?;
-    sends_in_a_box(&rt, sender, receiver)?;
-
-    let (sender, receiver) = broadcast(&rt, rt.alloc(), 1)?;
-    sends_directly(&rt, sender, receiver)
-}
-
-fn sends_in_a_box<R: Abort + Wait + RandomSource + AllocGlobal, P: Port<u64, WakerSlot>>(
+// Of `broadcast`.
+pub fn sends_in_a_box<R: Abort + Wait + RandomSource + AllocGlobal, P: Port<u64, WakerSlot>>(
     rt: &R,
-    sender: Sender<u64, P>,
-    mut receiver: Receiver<u64, P>,
+    sender: &Sender<u64, P>,
+    receiver: &mut Receiver<u64, P>,
 ) -> Result<(), Fail> {
     let mut send = sender.broadcast(1)?;
     assert!(rt; matches!(receiver.try_recv(), Ok(Err(TryRecvError::Empty))));
@@ -33,7 +24,8 @@ fn sends_in_a_box<R: Abort + Wait + RandomSource + AllocGlobal, P: Port<u64, Wak
     Ok(())
 }
 
-fn sends_directly<R: Abort + Wait + RandomSource + AllocGlobal, P: Port<u64, WakerSlot>>(
+// Of `broadcast_direct`.
+pub fn sends_directly<R: Abort + Wait + RandomSource + AllocGlobal, P: Port<u64, WakerSlot>>(
     rt: &R,
     sender: Sender<u64, P>,
     receiver: Receiver<u64, P>,
@@ -45,30 +37,19 @@ fn sends_directly<R: Abort + Wait + RandomSource + AllocGlobal, P: Port<u64, Wak
     Ok(())
 }
 
-// Of `recv`, and then of `recv_direct` and `poll_recv`.
-#[test]
-fn receives(rt: HostRuntime) -> Result<(), Fail> {
-    let (sender, receiver) = broadcast(&rt, rt.alloc(), 1)?;
-    receives_in_a_box(&rt, sender, receiver)?;
-
-    let (sender, receiver) = broadcast(&rt, rt.alloc(), 1)?;
-    receives_directly(&rt, sender, receiver)?;
-
-    let (sender, receiver) = broadcast(&rt, rt.alloc(), 1)?;
-    polls(&rt, sender, receiver)
-}
-
-fn receives_in_a_box<R: Abort + Wait + RandomSource + AllocGlobal, P: Port<u64, WakerSlot>>(
+// Of `recv`.
+pub fn receives_in_a_box<R: Abort + Wait + RandomSource + AllocGlobal, P: Port<u64, WakerSlot>>(
     rt: &R,
-    sender: Sender<u64, P>,
-    mut receiver: Receiver<u64, P>,
+    sender: &Sender<u64, P>,
+    receiver: &mut Receiver<u64, P>,
 ) -> Result<(), Fail> {
     assert!(rt; sender.try_broadcast(1).is_ok());
     assert!(rt; matches!(block_on(&rt, &mut *receiver.recv()?)?, Ok(Ok(1))));
     Ok(())
 }
 
-fn receives_directly<R: Abort + Wait + RandomSource + AllocGlobal, P: Port<u64, WakerSlot>>(
+// Of `recv_direct`.
+pub fn receives_directly<R: Abort + Wait + RandomSource + AllocGlobal, P: Port<u64, WakerSlot>>(
     rt: &R,
     sender: Sender<u64, P>,
     mut receiver: Receiver<u64, P>,
@@ -81,10 +62,11 @@ fn receives_directly<R: Abort + Wait + RandomSource + AllocGlobal, P: Port<u64, 
     Ok(())
 }
 
-fn polls<R: Abort + RandomSource + AllocGlobal, P: Port<u64, WakerSlot>>(
+// Of `poll_recv`.
+pub fn polls<R: Abort + RandomSource + AllocGlobal, P: Port<u64, WakerSlot>>(
     rt: &R,
-    sender: Sender<u64, P>,
-    mut receiver: Receiver<u64, P>,
+    sender: &Sender<u64, P>,
+    receiver: &mut Receiver<u64, P>,
 ) -> Result<(), Fail> {
     let task = MockTask::new(&rt)?;
     assert!(rt; matches!(task.enter(|cx| receiver.poll_recv(cx)), Ok(Poll::Pending)));

@@ -1,19 +1,10 @@
 //! Of `inactive.rt`.
-use async_broadcast::{Port, Receiver, Sender, WakerSlot, broadcast};
+use async_broadcast::{Port, Receiver, Sender, WakerSlot};
 use std::process::Abort;
 use std::test::Fail;
 
-// Of `activate`, and then of `activate_cloned`.
-#[test]
-fn activation(rt: HostRuntime) -> Result<(), Fail> {
-    let (sender, receiver) = broadcast(&rt, rt.alloc(), 1)?;
-    activates(&rt, sender, receiver)?;
-
-    let (sender, receiver) = broadcast(&rt, rt.alloc(), 1)?;
-    activates_clones(&rt, sender, receiver)
-}
-
-fn activates<P: Port<u64, WakerSlot>>(
+// Of `activate`.
+pub fn activates<P: Port<u64, WakerSlot>>(
     rt: &impl Abort,
     sender: Sender<u64, P>,
     receiver: Receiver<u64, P>,
@@ -25,7 +16,8 @@ fn activates<P: Port<u64, WakerSlot>>(
     Ok(())
 }
 
-fn activates_clones<P: Port<u64, WakerSlot>>(
+// Of `activate_cloned`.
+pub fn activates_clones<P: Port<u64, WakerSlot>>(
     rt: &impl Abort,
     sender: Sender<u64, P>,
     receiver: Receiver<u64, P>,
@@ -40,13 +32,7 @@ fn activates_clones<P: Port<u64, WakerSlot>>(
 }
 
 // Of `clone`.
-#[test]
-fn an_inactive_receiver_keeps_it_open(rt: HostRuntime) -> Result<(), Fail> {
-    let (sender, receiver) = broadcast(&rt, rt.alloc(), 1)?;
-    keeps_it_open(&rt, sender, receiver)
-}
-
-fn keeps_it_open<P: Port<u64, WakerSlot>>(
+pub fn keeps_it_open<P: Port<u64, WakerSlot>>(
     rt: &impl Abort,
     sender: Sender<u64, P>,
     receiver: Receiver<u64, P>,

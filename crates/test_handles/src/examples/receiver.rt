@@ -1,7 +1,5 @@
 //! Of `receiver.rt`.
-use async_broadcast::{
-    Port, Receiver, RecvError, Sender, TryRecvError, TrySendError, WakerSlot, broadcast,
-};
+use async_broadcast::{Port, Receiver, RecvError, Sender, TryRecvError, TrySendError, WakerSlot};
 use futures::StreamExt;
 use futures::executor::block_on;
 use std::alloc::AllocGlobal;
@@ -11,13 +9,7 @@ use std::sync::Wait;
 use std::test::Fail;
 
 // Of `Receiver`, as a stream.
-#[test]
-fn a_stream(rt: HostRuntime) -> Result<(), Fail> {
-    let (sender, receiver) = broadcast(&rt, rt.alloc(), 1)?;
-    streams(&rt, sender, receiver)
-}
-
-fn streams<R: Abort + Wait + RandomSource + AllocGlobal, P: Port<u64, WakerSlot>>(
+pub fn streams<R: Abort + Wait + RandomSource + AllocGlobal, P: Port<u64, WakerSlot>>(
     rt: &R,
     sender: Sender<u64, P>,
     mut receiver: Receiver<u64, P>,
@@ -29,21 +21,8 @@ fn streams<R: Abort + Wait + RandomSource + AllocGlobal, P: Port<u64, WakerSlot>
     Ok(())
 }
 
-// Of `try_recv`, and then of `recv_blocking` and `is_terminated`.
-#[test]
-fn receives(rt: HostRuntime) -> Result<(), Fail> {
-    let (sender, receiver) = broadcast(&rt, rt.alloc(), 1)?;
-    tries(&rt, sender, receiver);
-
-    let (sender, receiver) = broadcast(&rt, rt.alloc(), 1)?;
-    blocks(&rt, sender, receiver);
-
-    let (sender, receiver) = broadcast(&rt, rt.alloc(), 1)?;
-    sees_the_end(&rt, sender, receiver);
-    Ok(())
-}
-
-fn tries<P: Port<u64, WakerSlot>>(
+// Of `try_recv`.
+pub fn tries<P: Port<u64, WakerSlot>>(
     rt: &impl Abort,
     sender: Sender<u64, P>,
     mut receiver: Receiver<u64, P>,
@@ -55,7 +34,8 @@ fn tries<P: Port<u64, WakerSlot>>(
     assert!(rt; matches!(receiver.try_recv(), Ok(Err(TryRecvError::Closed))));
 }
 
-fn blocks<P: Port<u64, WakerSlot>>(
+// Of `recv_blocking`.
+pub fn blocks<P: Port<u64, WakerSlot>>(
     rt: &impl Abort,
     sender: Sender<u64, P>,
     mut receiver: Receiver<u64, P>,
@@ -66,7 +46,8 @@ fn blocks<P: Port<u64, WakerSlot>>(
     assert!(rt; matches!(receiver.recv_blocking(), Ok(Err(RecvError::Closed))));
 }
 
-fn sees_the_end<P: Port<u64, WakerSlot>>(
+// Of `is_terminated`.
+pub fn sees_the_end<P: Port<u64, WakerSlot>>(
     rt: &impl Abort,
     sender: Sender<u64, P>,
     mut receiver: Receiver<u64, P>,
@@ -78,23 +59,11 @@ fn sees_the_end<P: Port<u64, WakerSlot>>(
     assert!(rt; receiver.is_terminated());
 }
 
-// Of `clone`, and then of `new_receiver` and `new_sender`.
-#[test]
-fn handles_of_a_receiver(rt: HostRuntime) -> Result<(), Fail> {
-    let (sender, one) = broadcast(&rt, rt.alloc(), 1)?;
-    clones(&rt, sender, one)?;
-
-    let (sender, one) = broadcast(&rt, rt.alloc(), 2)?;
-    adds_a_receiver(&rt, sender, one)?;
-
-    let (sender, receiver) = broadcast(&rt, rt.alloc(), 1)?;
-    adds_a_sender(&rt, sender, receiver)
-}
-
-fn clones<P: Port<u64, WakerSlot>>(
+// Of `clone`.
+pub fn clones<P: Port<u64, WakerSlot>>(
     rt: &impl Abort,
-    sender: Sender<u64, P>,
-    mut one: Receiver<u64, P>,
+    sender: &Sender<u64, P>,
+    one: &mut Receiver<u64, P>,
 ) -> Result<(), Fail> {
     assert!(rt; sender.try_broadcast(1).is_ok());
     let mut two = one.clone()?;
@@ -103,10 +72,11 @@ fn clones<P: Port<u64, WakerSlot>>(
     Ok(())
 }
 
-fn adds_a_receiver<P: Port<u64, WakerSlot>>(
+// Of `new_receiver`.
+pub fn adds_a_receiver<P: Port<u64, WakerSlot>>(
     rt: &impl Abort,
-    sender: Sender<u64, P>,
-    one: Receiver<u64, P>,
+    sender: &Sender<u64, P>,
+    one: &Receiver<u64, P>,
 ) -> Result<(), Fail> {
     assert!(rt; sender.try_broadcast(1).is_ok());
     let mut two = one.new_receiver()?;
@@ -115,7 +85,8 @@ fn adds_a_receiver<P: Port<u64, WakerSlot>>(
     Ok(())
 }
 
-fn adds_a_sender<P: Port<u64, WakerSlot>>(
+// Of `new_sender`.
+pub fn adds_a_sender<P: Port<u64, WakerSlot>>(
     rt: &impl Abort,
     sender: Sender<u64, P>,
     mut receiver: Receiver<u64, P>,
@@ -128,13 +99,7 @@ fn adds_a_sender<P: Port<u64, WakerSlot>>(
 }
 
 // Of `deactivate`.
-#[test]
-fn a_pause(rt: HostRuntime) -> Result<(), Fail> {
-    let (sender, receiver) = broadcast(&rt, rt.alloc(), 1)?;
-    pauses(&rt, sender, receiver)
-}
-
-fn pauses<P: Port<u64, WakerSlot>>(
+pub fn pauses<P: Port<u64, WakerSlot>>(
     rt: &impl Abort,
     sender: Sender<u64, P>,
     receiver: Receiver<u64, P>,

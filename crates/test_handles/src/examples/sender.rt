@@ -1,19 +1,11 @@
 //! Of `sender.rt`.
-use async_broadcast::{
-    Port, Receiver, SendError, Sender, TryRecvError, TrySendError, WakerSlot, broadcast,
-};
+use async_broadcast::{Port, Receiver, SendError, Sender, TryRecvError, TrySendError, WakerSlot};
 use std::alloc::AllocGlobal;
 use std::process::Abort;
 use std::test::Fail;
 
 // Of `try_broadcast`.
-#[test]
-fn offers(rt: HostRuntime) -> Result<(), Fail> {
-    let (sender, receiver) = broadcast(&rt, rt.alloc(), 1)?;
-    tries(&rt, sender, receiver)
-}
-
-fn tries<P: Port<u64, WakerSlot>>(
+pub fn tries<P: Port<u64, WakerSlot>>(
     rt: &impl Abort,
     sender: Sender<u64, P>,
     receiver: Receiver<u64, P>,
@@ -28,16 +20,10 @@ fn tries<P: Port<u64, WakerSlot>>(
 }
 
 // Of `try_broadcast_all`.
-#[test]
-fn lists(rt: HostRuntime) -> Result<(), Fail> {
-    let (sender, receiver) = broadcast(&rt, rt.alloc(), 3)?;
-    sends_a_list(&rt, sender, receiver)
-}
-
-fn sends_a_list<P: Port<u64, WakerSlot>>(
+pub fn sends_a_list<P: Port<u64, WakerSlot>>(
     rt: &(impl Abort + AllocGlobal),
-    sender: Sender<u64, P>,
-    mut receiver: Receiver<u64, P>,
+    sender: &Sender<u64, P>,
+    receiver: &mut Receiver<u64, P>,
 ) -> Result<(), Fail> {
     assert!(rt; sender.try_broadcast_all(vec![in rt.alloc(); 1, 2]?).is_ok());
     let four = vec![in rt.alloc(); 3, 4]?;
@@ -50,14 +36,7 @@ fn sends_a_list<P: Port<u64, WakerSlot>>(
 }
 
 // Of `broadcast_blocking`.
-#[test]
-fn blocking_sends(rt: HostRuntime) -> Result<(), Fail> {
-    let (sender, receiver) = broadcast(&rt, rt.alloc(), 1)?;
-    blocks(&rt, sender, receiver);
-    Ok(())
-}
-
-fn blocks<P: Port<u64, WakerSlot>>(
+pub fn blocks<P: Port<u64, WakerSlot>>(
     rt: &impl Abort,
     sender: Sender<u64, P>,
     mut receiver: Receiver<u64, P>,
@@ -70,17 +49,8 @@ fn blocks<P: Port<u64, WakerSlot>>(
     assert!(rt; matches!(sender.broadcast_blocking(9), Err(SendError(9))));
 }
 
-// Of `clone`, and then of `new_receiver`.
-#[test]
-fn handles_of_a_sender(rt: HostRuntime) -> Result<(), Fail> {
-    let (sender, receiver) = broadcast(&rt, rt.alloc(), 1)?;
-    clones(&rt, sender, receiver)?;
-
-    let (sender, one) = broadcast(&rt, rt.alloc(), 2)?;
-    adds_a_receiver(&rt, sender, one)
-}
-
-fn clones<P: Port<u64, WakerSlot>>(
+// Of `clone`.
+pub fn clones<P: Port<u64, WakerSlot>>(
     rt: &impl Abort,
     sender: Sender<u64, P>,
     mut receiver: Receiver<u64, P>,
@@ -94,10 +64,11 @@ fn clones<P: Port<u64, WakerSlot>>(
     Ok(())
 }
 
-fn adds_a_receiver<P: Port<u64, WakerSlot>>(
+// Of `new_receiver`.
+pub fn adds_a_receiver<P: Port<u64, WakerSlot>>(
     rt: &impl Abort,
-    sender: Sender<u64, P>,
-    mut one: Receiver<u64, P>,
+    sender: &Sender<u64, P>,
+    one: &mut Receiver<u64, P>,
 ) -> Result<(), Fail> {
     assert!(rt; sender.try_broadcast(1).is_ok());
     let mut two = sender.new_receiver()?;

@@ -1,20 +1,19 @@
 //! Of `sender/settings.rt`.
-use async_broadcast::{Port, Receiver, SendError, Sender, TryRecvError, WakerSlot, broadcast};
+use async_broadcast::{Port, Receiver, SendError, Sender, TryRecvError, WakerSlot};
 use std::process::Abort;
 use std::test::Fail;
 
 // Of the calls that say how a channel is.
-#[test]
-fn what_a_sender_says(rt: HostRuntime) -> Result<(), Fail> {
-    let (sender, receiver) = broadcast(&rt, rt.alloc(), 1)?;
-    says(&rt, sender, receiver)
-}
-
-fn says<P: Port<u64, WakerSlot>>(
+pub fn says<P: Port<u64, WakerSlot>>(
     rt: &impl Abort,
     sender: Sender<u64, P>,
     receiver: Receiver<u64, P>,
 ) -> Result<(), Fail> {
+    says_what_is_kept(rt, &sender);
+    counts_handles(rt, &sender, receiver)
+}
+
+fn says_what_is_kept<P: Port<u64, WakerSlot>>(rt: &impl Abort, sender: &Sender<u64, P>) {
     assert!(rt; sender.capacity() == 1);
     assert!(rt; sender.is_empty());
     assert!(rt; !sender.is_full());
@@ -22,7 +21,13 @@ fn says<P: Port<u64, WakerSlot>>(
     assert!(rt; !sender.is_empty());
     assert!(rt; sender.is_full());
     assert!(rt; sender.len() == 1);
+}
 
+fn counts_handles<P: Port<u64, WakerSlot>>(
+    rt: &impl Abort,
+    sender: &Sender<u64, P>,
+    receiver: Receiver<u64, P>,
+) -> Result<(), Fail> {
     let _sender = sender.clone()?;
     assert!(rt; sender.sender_count() == 2);
     let other = receiver.clone()?;
@@ -33,22 +38,8 @@ fn says<P: Port<u64, WakerSlot>>(
     Ok(())
 }
 
-// Of `overflow`, `await_active`, `close` and `is_closed`.
-#[test]
-fn modes_by_a_sender(rt: HostRuntime) -> Result<(), Fail> {
-    let (sender, receiver) = broadcast(&rt, rt.alloc(), 1)?;
-    changes_modes(&rt, sender, receiver);
-
-    let (sender, receiver) = broadcast(&rt, rt.alloc(), 1)?;
-    sees_the_end(&rt, sender, receiver);
-    Ok(())
-}
-
-fn changes_modes<P: Port<u64, WakerSlot>>(
-    rt: &impl Abort,
-    mut sender: Sender<u64, P>,
-    receiver: Receiver<u64, P>,
-) {
+// Of `overflow`, `await_active` and `close`.
+pub fn changes_modes<P: Port<u64, WakerSlot>>(rt: &impl Abort, sender: &mut Sender<u64, P>) {
     assert!(rt; !sender.overflow());
     sender.set_overflow(true);
     assert!(rt; sender.overflow());
@@ -59,33 +50,22 @@ fn changes_modes<P: Port<u64, WakerSlot>>(
     assert!(rt; !sender.close());
 }
 
-fn sees_the_end<P: Port<u64, WakerSlot>>(
+// Of `is_closed`.
+pub fn sees_the_end<P: Port<u64, WakerSlot>>(
     rt: &impl Abort,
-    sender: Sender<u64, P>,
-    receiver: Receiver<u64, P>,
+    sender: &Sender<u64, P>,
+    receiver: &Receiver<u64, P>,
 ) {
     assert!(rt; !sender.is_closed());
     receiver.close();
     assert!(rt; sender.is_closed());
 }
 
-// Of `set_capacity`, `set_overflow` and `set_await_active`.
-#[test]
-fn changes_by_a_sender(rt: HostRuntime) -> Result<(), Fail> {
-    let (sender, receiver) = broadcast(&rt, rt.alloc(), 2)?;
-    shrinks(&rt, sender, receiver)?;
-
-    let (sender, receiver) = broadcast(&rt, rt.alloc(), 1)?;
-    overflows(&rt, sender, receiver);
-
-    let (sender, receiver) = broadcast(&rt, rt.alloc(), 1)?;
-    awaits_nobody(&rt, sender, receiver)
-}
-
-fn shrinks<P: Port<u64, WakerSlot>>(
+// Of `set_capacity`.
+pub fn shrinks<P: Port<u64, WakerSlot>>(
     rt: &impl Abort,
-    mut sender: Sender<u64, P>,
-    mut receiver: Receiver<u64, P>,
+    sender: &mut Sender<u64, P>,
+    receiver: &mut Receiver<u64, P>,
 ) -> Result<(), Fail> {
     assert!(rt; sender.try_broadcast(1).is_ok());
     assert!(rt; sender.try_broadcast(2).is_ok());
@@ -95,10 +75,11 @@ fn shrinks<P: Port<u64, WakerSlot>>(
     Ok(())
 }
 
-fn overflows<P: Port<u64, WakerSlot>>(
+// Of `set_overflow`.
+pub fn overflows<P: Port<u64, WakerSlot>>(
     rt: &impl Abort,
-    mut sender: Sender<u64, P>,
-    mut receiver: Receiver<u64, P>,
+    sender: &mut Sender<u64, P>,
+    receiver: &mut Receiver<u64, P>,
 ) {
     sender.set_overflow(true);
     assert!(rt; matches!(sender.try_broadcast(1), Ok(None)));
@@ -107,7 +88,8 @@ fn overflows<P: Port<u64, WakerSlot>>(
     assert!(rt; matches!(receiver.try_recv(), Ok(Ok(2))));
 }
 
-fn awaits_nobody<P: Port<u64, WakerSlot>>(
+// Of `set_await_active`.
+pub fn awaits_nobody<P: Port<u64, WakerSlot>>(
     rt: &impl Abort,
     mut sender: Sender<u64, P>,
     receiver: Receiver<u64, P>,
