@@ -1,6 +1,7 @@
 //! Counterparts of those tests of async-broadcast that have threads.
 use crate::scripts::{Answer, Hands, Script, Step, of_try_recv, run};
-use async_broadcast::broadcast;
+use crate::steps::{Receiving, Sending};
+use async_broadcast::{Port, WakerSlot, broadcast};
 use std::alloc::Global;
 use std::process::Abort;
 use std::sync::Wait;
@@ -63,33 +64,65 @@ const WAITING_RECEIVES: Script = &[
     (Step::Receive(1), Answer::Ended),
 ];
 
-/// Plays two threads: one has two senders of a channel of capacity 2, the other two receivers.
-fn two_threads<R>(rt: R, alloc: Global, sends: Script, receives: Script) -> Result<(), Fail>
+/// The handles of a thread with two senders.
+fn two_senders<P: Port<u64, WakerSlot>>(
+    alloc: Global,
+    sender: Sending<P>,
+) -> Result<Hands<P>, Fail> {
+    let mut hands = Hands::new(alloc);
+    hands.senders.push(sender.clone()?)?;
+    hands.senders.push(sender)?;
+    Ok(hands)
+}
+
+/// The handles of a thread with two receivers.
+fn two_receivers<P: Port<u64, WakerSlot>>(
+    alloc: Global,
+    receiver: Receiving<P>,
+) -> Result<Hands<P>, Fail> {
+    let mut hands = Hands::new(alloc);
+    hands.receivers.push(receiver.clone()?)?;
+    hands.receivers.push(receiver)?;
+    Ok(hands)
+}
+
+/// A thread with two senders, and one with two receivers.
+fn two_threads<P: Port<u64, WakerSlot>>(
+    alloc: Global,
+    (sender, receiver): (Sending<P>, Receiving<P>),
+    sends: Script,
+    receives: Script,
+) -> Result<Vec<(Hands<P>, Script)>, Fail> {
+    let mut threads = Vec::new(alloc);
+    threads.push((two_senders(alloc, sender)?, sends))?;
+    threads.push((two_receivers(alloc, receiver)?, receives))?;
+    Ok(threads)
+}
+
+/// Plays two threads over a channel of capacity 2.
+fn play_two<R>(rt: R, alloc: Global, sends: Script, receives: Script) -> Result<(), Fail>
 where
     R: Threads + Wait + Abort + Copy + Send + Drop + 'static,
 {
-    let (sender, receiver) = broadcast(rt, alloc, 2)?;
-    let (mut sending, mut receiving) = (Hands::new(alloc), Hands::new(alloc));
-    sending.senders.push(sender.clone()?)?;
-    sending.senders.push(sender)?;
-    receiving.receivers.push(receiver.clone()?)?;
-    receiving.receivers.push(receiver)?;
-    let mut threads = Vec::new(alloc);
-    threads.push((sending, sends))?;
-    threads.push((receiving, receives))?;
-    run(rt, alloc, &[2, 2, 2], threads)
+    let channel = broadcast(rt, alloc, 2)?;
+    run(
+        rt,
+        alloc,
+        &[2, 2, 2],
+        two_threads(alloc, channel, sends, receives)?,
+    )
 }
 
 // A full channel refuses, what was sent is received, and the last sender closes.
 #[test]
 fn parallel(rt: HostRuntime) -> Result<(), Fail> {
-    two_threads(rt, rt.alloc(), PARALLEL_SENDS, PARALLEL_RECEIVES)
+    play_two(rt, rt.alloc(), PARALLEL_SENDS, PARALLEL_RECEIVES)
 }
 
 // The same, where both sides wait, and two more messages go through.
 #[test]
 fn parallel_async(rt: HostRuntime) -> Result<(), Fail> {
-    two_threads(rt, rt.alloc(), WAITING_SENDS, WAITING_RECEIVES)
+    play_two(rt, rt.alloc(), WAITING_SENDS, WAITING_RECEIVES)
 }
 
 const OVERFLOW_SENDS: Script = &[
@@ -118,23 +151,49 @@ const OVERFLOW_SECOND: Script = &[
 // A receiver that reads nothing misses what is dropped, and others get all messages.
 #[test]
 fn overflow(rt: HostRuntime) -> Result<(), Fail> {
-    let alloc = rt.alloc();
-    let (sender, mut lagging) = broadcast(rt, alloc, 2)?;
+    let (sender, lagging) = broadcast(rt, rt.alloc(), 2)?;
+    one_lags(rt, rt.alloc(), sender, lagging)
+}
+
+fn one_lags<R, P>(
+    rt: R,
+    alloc: Global,
+    sender: Sending<P>,
+    mut lagging: Receiving<P>,
+) -> Result<(), Fail>
+where
+    R: Threads + Wait + Abort + Copy + Send + Drop + 'static,
+    P: Port<u64, WakerSlot> + Send + 'static,
+{
     lagging.set_overflow(true);
+    run(
+        rt,
+        alloc,
+        &[3, 2],
+        overflow_threads(alloc, sender, &lagging)?,
+    )?;
+    for answer in [Answer::Missed(1), Answer::Message(8), Answer::Message(9)] {
+        assert!(&rt; of_try_recv(lagging.try_recv()) == answer);
+    }
+    Ok(())
+}
+
+/// A thread that sends, and two that receive by clones.
+fn overflow_threads<P: Port<u64, WakerSlot>>(
+    alloc: Global,
+    sender: Sending<P>,
+    receiver: &Receiving<P>,
+) -> Result<Vec<(Hands<P>, Script)>, Fail> {
     let mut threads = Vec::new(alloc);
     let mut hands = Hands::new(alloc);
     hands.senders.push(sender)?;
     threads.push((hands, OVERFLOW_SENDS))?;
     for script in [OVERFLOW_FIRST, OVERFLOW_SECOND] {
         let mut hands = Hands::new(alloc);
-        hands.receivers.push(lagging.clone()?)?;
+        hands.receivers.push(receiver.clone()?)?;
         threads.push((hands, script))?;
     }
-    run(rt, alloc, &[3, 2], threads)?;
-    for answer in [Answer::Missed(1), Answer::Message(8), Answer::Message(9)] {
-        assert!(rt; of_try_recv(lagging.try_recv()) == answer);
-    }
-    Ok(())
+    Ok(threads)
 }
 
 const OPEN_SENDS: Script = &[
@@ -165,14 +224,25 @@ const OPEN_RECEIVES: Script = &[
 // Sends wait while the only receiver is inactive, and are refused where they don't wait.
 #[test]
 fn open_channel(rt: HostRuntime) -> Result<(), Fail> {
-    let alloc = rt.alloc();
-    let (sender, receiver) = broadcast(rt, alloc, 2)?;
-    let (mut sending, mut receiving) = (Hands::new(alloc), Hands::new(alloc));
-    sending.senders.push(sender.clone()?)?;
-    sending.senders.push(sender)?;
+    let (sender, receiver) = broadcast(rt, rt.alloc(), 2)?;
+    run(
+        rt,
+        rt.alloc(),
+        &[2, 2, 2],
+        open_threads(rt.alloc(), sender, receiver)?,
+    )
+}
+
+/// A thread with two senders, and one whose receiver is inactive.
+fn open_threads<P: Port<u64, WakerSlot>>(
+    alloc: Global,
+    sender: Sending<P>,
+    receiver: Receiving<P>,
+) -> Result<Vec<(Hands<P>, Script)>, Fail> {
+    let mut receiving = Hands::new(alloc);
     receiving.inactive = receiver.deactivate().ok();
     let mut threads = Vec::new(alloc);
-    threads.push((sending, OPEN_SENDS))?;
+    threads.push((two_senders(alloc, sender)?, OPEN_SENDS))?;
     threads.push((receiving, OPEN_RECEIVES))?;
-    run(rt, alloc, &[2, 2, 2], threads)
+    Ok(threads)
 }

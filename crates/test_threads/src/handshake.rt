@@ -1,12 +1,13 @@
 //! Two threads that answer each other over two channels.
 use crate::steps::{Receiving, Sending, reaches};
 use async_broadcast::{Port, WakerSlot, broadcast};
-use std::alloc::AllocError;
+use std::alloc::Global;
 use std::process::Abort;
 use std::sync::Arc;
 use std::sync::atomic::{AtomicU64, Ordering};
 use std::test::Fail;
 use std::thread;
+use std::thread::Threads;
 
 /// How many messages each thread sends.
 const ROUNDS: u64 = 500;
@@ -16,11 +17,30 @@ const ROUNDS: u64 = 500;
 fn handshake(rt: HostRuntime) -> Result<(), Fail> {
     let (to_second, from_first) = broadcast(rt, rt.alloc(), 1)?;
     let (to_first, from_second) = broadcast(rt, rt.alloc(), 1)?;
-    let finished = Arc::new(rt.alloc(), AtomicU64::new(0))?;
+    both_finish(
+        rt,
+        rt.alloc(),
+        (to_second, from_second),
+        (to_first, from_first),
+    )
+}
+
+// Plays the two threads, each with its sender and its receiver.
+fn both_finish<R, P>(
+    rt: R,
+    alloc: Global,
+    (to_second, from_second): (Sending<P>, Receiving<P>),
+    (to_first, from_first): (Sending<P>, Receiving<P>),
+) -> Result<(), Fail>
+where
+    R: Threads + Abort + Copy + Send + Drop + 'static,
+    P: Port<u64, WakerSlot> + Send + 'static,
+{
+    let finished = Arc::new(alloc, AtomicU64::new(0))?;
     let (one, two) = (Arc::try_clone(&finished)?, Arc::try_clone(&finished)?);
     let first = thread::spawn(&rt, move || ask(&rt, to_second, from_second, &one))?;
     let second = thread::spawn(&rt, move || answer(&rt, to_first, from_first, &two))?;
-    assert!(rt; reaches(&finished, 2), "both threads finish");
+    assert!(&rt; reaches(&finished, 2), "both threads finish");
     first.join(&rt);
     second.join(&rt);
     Ok(())

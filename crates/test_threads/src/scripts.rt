@@ -9,7 +9,7 @@ use std::sync::atomic::{AtomicU64, Ordering};
 use std::sync::{Arc, Barrier, Wait};
 use std::test::Fail;
 use std::thread;
-use std::thread::Threads;
+use std::thread::{JoinHandle, Threads};
 
 /// What a thread does, with its sender or receiver of this number.
 #[derive(Clone, Copy)]
@@ -164,6 +164,31 @@ fn play<R: Abort + Wait, P: Port<u64, WakerSlot>>(
     shared.finished.fetch_add(1, Ordering::SeqCst);
 }
 
+/// No thread is finished yet. As many meet at each barrier as its number in `meet` says.
+fn shared_by(alloc: Global, meet: &[usize]) -> Result<Arc<Shared>, Fail> {
+    let mut barriers = Vec::new(alloc);
+    for met in meet {
+        barriers.push(Barrier::new(*met))?;
+    }
+    let finished = AtomicU64::new(0);
+    Ok(Arc::new(alloc, Shared { barriers, finished })?)
+}
+
+/// Starts a thread that plays a script.
+fn start<R, P>(
+    rt: R,
+    shared: &Arc<Shared>,
+    hands: Hands<P>,
+    script: Script,
+) -> Result<JoinHandle<()>, Fail>
+where
+    R: Threads + Wait + Abort + Copy + Send + Drop + 'static,
+    P: Port<u64, WakerSlot> + Send + 'static,
+{
+    let own = Arc::try_clone(shared)?;
+    Ok(thread::spawn(&rt, move || play(&rt, &own, hands, script))?)
+}
+
 /// Plays each script in a thread of its own, and fails unless all of them end. As many threads meet
 /// at each barrier as its number in `meet` says.
 pub fn run<R, P>(
@@ -177,16 +202,10 @@ where
     P: Port<u64, WakerSlot> + Send + 'static,
 {
     let count = threads.len() as u64;
-    let mut barriers = Vec::new(alloc);
-    for met in meet {
-        barriers.push(Barrier::new(*met))?;
-    }
-    let finished = AtomicU64::new(0);
-    let shared = Arc::new(alloc, Shared { barriers, finished })?;
+    let shared = shared_by(alloc, meet)?;
     let mut started = Vec::new(alloc);
     for (hands, script) in threads {
-        let own = Arc::try_clone(&shared)?;
-        started.push(thread::spawn(&rt, move || play(&rt, &own, hands, script))?)?;
+        started.push(start(rt, &shared, hands, script)?)?;
     }
     assert!(&rt; reaches(&shared.finished, count), "all threads end");
     for thread in started {
