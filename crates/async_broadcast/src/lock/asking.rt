@@ -16,6 +16,7 @@ use std::alloc::Allocator;
 use std::sync::Wait;
 
 impl<T: Clone, R: Wait + Clone, A: Allocator + Copy> Lock<T, R, A> {
+    // Makes a call under the lock, and then wakes whom it told.
     #[inline(always)]
     fn make(&self, call: Call<T>, wake: Wake<WakerSlot<A>>) -> Reply<T>
         requires { HasPositiveCapacity call }
@@ -83,6 +84,7 @@ impl<T: Clone, R: Wait + Clone, A: Allocator + Copy> Ask<T, WakerSlot<A>> for Lo
         channel.wake(woken);
         Ok(reply)
     }
+
     // An answered poll has taken its listener off the list, and no other poll can have put it
     // back: so the call would change nothing, and isn't made.
     #[inline(always)]
