@@ -59,6 +59,7 @@ impl<T: Drop, N: Notice, A: Allocator + Copy> Parts<T, N, A> {
     ghost use Rattle.bcast_model.specs.Next.{tell_if_ready};
 
     /// A new channel, and the key of its first receiver.
+    #[inline(always)]
     pub fn starting_at(alloc: A, cap: usize, first: u64) -> Result<(Self, usize), AllocError>
         requires capacity { 0 < cap }
         requires number { first + 1 < 2 ^ 64 }

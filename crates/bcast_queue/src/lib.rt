@@ -73,6 +73,7 @@ impl<T, A: Allocator> Queue<T, A> {
     /// - `AllocError`: memory is refused for `room` messages.
     ///
     /// Source: the queue that `broadcast` of async-broadcast makes.
+    #[inline(always)]
     pub fn new(alloc: A, first: u64, room: usize) -> Result<Queue<T, A>, AllocError>
         requires { 0 < room }
         ensures { IfOk result (λ q. q ≡ queue_with first [] [] room) }

@@ -46,6 +46,7 @@ impl<A: Allocator> Cursors<A> {
     /// # Errors
     ///
     /// `AllocError`: memory for the receiver was refused, and nothing changed.
+    #[inline(always)]
     pub fn add(&mut self, number: u64) -> Result<usize, AllocError>
         ensures fresh { IfOk result (λ key. map.get self.old key ≡ None) }
         ensures ok { IfOk result (λ key. self.new ≡ map.insert self.old key number) }

@@ -57,6 +57,7 @@ impl<T: Drop, A: Allocator + Copy> Store<T, A> {
     /// - `AllocError`: memory is refused for `room` messages or for the receiver.
     ///
     /// Source: the parts that `broadcast` of async-broadcast makes.
+    #[inline(always)]
     pub fn new(alloc: A, first: u64, room: usize) -> Result<(Self, usize), AllocError>
         requires room { 0 < room }
         requires number { first + 1 < 2 ^ 64 }

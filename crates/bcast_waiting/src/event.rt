@@ -107,6 +107,7 @@ impl<I: Copy + Eq + Indexed, N: Notice, A: Allocator> Event<I, N, A> {
     /// # Errors
     ///
     /// `AllocError`: there was no room for it, and memory for more was refused.
+    #[inline(always)]
     pub fn reserve_for(&mut self, id: I) -> Result<(), AllocError>
         ensures ok { OnOk result (I.number id < self.new.room) }
         ensures succeeds { I.number id < self.old.room → IsOk result }

@@ -80,6 +80,7 @@ impl<I: Copy + Eq + Indexed, N: Notice, A: Allocator> Slots<I, N, A> {
 
     // Takes memory for the positions of all ids whose numbers are below `room`, and for twice as
     // many slots.
+    #[inline(always)]
     pub fn reserve(&mut self, room: usize) -> Result<(), AllocError>
         ensures ok { OnOk result (room ≤ self.new.room) }
         ensures succeeds { room ≤ self.old.room → IsOk result }
