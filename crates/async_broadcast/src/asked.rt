@@ -79,12 +79,6 @@ pub(crate) fn try_recv<T: Clone, S, P: Ask<T, S>>(
     ask!(port, TryRecv(key))
 }
 
-pub(crate) fn end_future<T: Clone, S, P: Ask<T, S>>(port: &P, key: usize)
-    ensures { P.gave port.now (Call.EndFuture key) Reply.EndFuture }
-{
-    make!(port, EndFuture(key))
-}
-
 pub(crate) fn close<T: Clone, S, P: Ask<T, S>>(port: &P) -> bool
     ensures { P.gave port.now Call.Close (Reply.Close result) }
 {

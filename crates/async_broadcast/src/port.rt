@@ -63,8 +63,9 @@ pub trait Ask<T: Clone, S>: Sized + Drop {
         Ok(self.ask(call, wake))
     }
 
-    /// Gives up the receive of this receiver, whose last poll was answered or not. Asks
-    /// `EndFuture`, unless the port can tell that it would change nothing, as after an answer.
+    /// Gives up the receive of the receiver `key`. `is_answered`: its future's last poll was
+    /// answered, other than for want of memory. Asks `EndFuture`; a port may leave that out if it
+    /// would change nothing.
     fn end_future(&self, key: usize, is_answered: bool)
         ensures { gave self.now (Call.EndFuture key) Reply.EndFuture }
     {

@@ -85,7 +85,7 @@ impl<T: Clone, P: Port<T, WakerSlot<A>>, A: Allocator + Copy> Sender<T, P, A> {
     ///
     /// - `Closed`: the channel is closed.
     /// - `Inactive`: there is no active receiver.
-    /// - `Full`: the list has more messages than the channel has room for.
+    /// - `Full`: the list has more messages than the channel has room, or message numbers, for.
     ///
     /// ```rust
     /// let (sender, mut receiver) = broadcast(&rt, rt.alloc(), 3)?;

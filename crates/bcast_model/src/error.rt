@@ -11,7 +11,7 @@ mod text;
 #[derive(Clone, Copy, Drop, PartialEq, Eq)]
 pub enum TrySendError<T> {
     /// There is no room: for one message, the channel is full, and overflow is off; for a list,
-    /// overflow on or off, the channel has room for fewer messages than the list has.
+    /// overflow on or off, the list has more messages than there are places, or message numbers.
     Full(T),
     /// The channel is closed.
     Closed(T),

@@ -21,7 +21,7 @@ use std::alloc::{AllocError, Allocator, Global};
 #[must_use]
 pub struct Recv<'a, T: Clone, P: Ask<T, WakerSlot<A>>, A: Allocator = Global> {
     receiver: &'a mut Receiver<T, P, A>,
-    // Whether the last poll was answered.
+    // Whether the last poll was answered, other than for want of memory.
     is_answered: bool,
 }
 

@@ -16,7 +16,7 @@ use std::alloc::Allocator;
 use std::sync::Wait;
 
 impl<T: Clone, R: Wait + Clone, A: Allocator + Copy> Lock<T, R, A> {
-    // Makes a call under the lock, and then wakes whom it told.
+    // Makes a call under the lock, and then wakes the threads that it has something for.
     #[inline(always)]
     fn make(&self, call: Call<T>, wake: Wake<WakerSlot<A>>) -> Reply<T>
         requires { HasPositiveCapacity call }
