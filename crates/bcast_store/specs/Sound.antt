@@ -24,4 +24,5 @@ owing_at cursors number = count_values (owes number) cursors
 pub record IsSound {T : Type 0} (q : Queued T) (cursors : Cursors) : Type 0 where
   pub owed_by : (i : ℕ) → i < length q.messages
       → get_or q.owed i 0 ≡ owing_at cursors (q.front + i)
-  pub reach : (key cursor : ℕ) → get cursors key ≡ Some cursor → cursor ≤ q.front + length q.messages
+  pub reach : (key cursor : ℕ) → get cursors key ≡ Some cursor
+      → cursor ≤ q.front + length q.messages

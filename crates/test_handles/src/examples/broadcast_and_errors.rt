@@ -1,7 +1,5 @@
 //! Of `lock.rt` and `lib.rt`.
-use async_broadcast::{
-    NoMemory, Port, Receiver, Sender, TryRecvError, TrySendError, WakerSlot, broadcast,
-};
+use async_broadcast::{NoMemory, Port, Receiver, Sender, TryRecvError, TrySendError, WakerSlot};
 use futures::StreamExt;
 use futures::executor::block_on;
 use std::alloc::AllocGlobal;

@@ -1,7 +1,5 @@
 //! Of `future/send.rt` and `future/recv.rt`.
-use async_broadcast::{
-    Port, Receiver, RecvError, SendError, Sender, TryRecvError, WakerSlot, broadcast,
-};
+use async_broadcast::{Port, Receiver, RecvError, SendError, Sender, TryRecvError, WakerSlot};
 use futures::executor::block_on;
 use futures::task::Poll;
 use futures::test::MockTask;
