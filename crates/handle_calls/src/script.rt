@@ -80,7 +80,21 @@ fn play_channel<S: Wait + RandomSource + AllocGlobal, R: Read + Drop, W: Write>(
     script: &mut Script<R>,
     output: &mut W,
 ) -> Result<Option<Opening>, Fault> {
+    let tasks = tasks_of(rt, alloc)?;
     let (sender, receiver) = broadcast(rt, alloc, capacity.count)?;
+    play_handles(alloc, tasks, futures, sender, receiver, script, output)
+}
+
+/// Plays the lines of a sender and a receiver.
+fn play_handles<P: Port<u64, WakerSlot>, R: Read + Drop, W: Write>(
+    alloc: Global,
+    tasks: Vec<MockTask>,
+    futures: Futures,
+    sender: Sender<u64, P>,
+    receiver: Receiver<u64, P>,
+    script: &mut Script<R>,
+    output: &mut W,
+) -> Result<Option<Opening>, Fault> {
     let mut makers = Makers {
         sender: None,
         receiver: None,
@@ -90,7 +104,7 @@ fn play_channel<S: Wait + RandomSource + AllocGlobal, R: Read + Drop, W: Write>(
         Futures::Sends => makers.sender = sender.clone().ok(),
         Futures::Receive => makers.receiver = receiver.clone().ok(),
     }
-    let mut session = Session::new(alloc, tasks_of(rt, alloc)?);
+    let mut session = Session::new(alloc, tasks);
     session.handles.add_sender(Ok(sender))?;
     session.handles.add_receiver(Ok(receiver))?;
     let mut held = Held::new(alloc, &mut makers);
