@@ -2,7 +2,7 @@
 ghost use Rattle.std.specs.Prelude.{◌<◌, ◌≤◌};
 
 use crate::streams::Taker;
-use async_broadcast::broadcast;
+use async_broadcast::{Port, Receiver, Sender, WakerSlot, broadcast};
 use bcast_text::ending::Ending;
 use bcast_text::threads::outcome::print_seen;
 use bcast_threads::plan::{Plan, run as run_plan, threads};
@@ -126,12 +126,29 @@ fn order_is_kept<R: Wait + Clone, W: Write>(
     output: &mut W,
 ) -> io::Result<()> {
     let (sender, receiver) = broadcast(rt.clone()?, alloc, 3)?;
+    send_three(&sender, output)?;
+    receive_three(alloc, receiver, output)
+}
+
+/// Sends three messages, and closes the channel.
+fn send_three<P: Port<u64, WakerSlot>, W: Write>(
+    sender: &Sender<u64, P>,
+    output: &mut W,
+) -> io::Result<()> {
     for msg in [2u64, 0, 1] {
         if sender.try_broadcast(msg).is_err() {
             output.write_all(b"not sent\n")?;
         }
     }
     sender.close();
+    Ok(())
+}
+
+fn receive_three<P: Port<u64, WakerSlot>, W: Write>(
+    alloc: Global,
+    receiver: Receiver<u64, P>,
+    output: &mut W,
+) -> io::Result<()> {
     let list = receive_all(alloc, receiver, 3)?;
     writeln!(output, "received {:?}", list.as_slice())
 }
@@ -151,10 +168,21 @@ fn no_memory_closes<R: Wait + Clone, W: Write>(
             output.write_all(b"not sent\n")?;
         }
     }
+    receive_in_vain(&heap, &sender, receiver, awaited, output)
+}
+
+/// Receives with too little memory, and writes what is kept for another receiver.
+fn receive_in_vain<P: Port<u64, WakerSlot>, W: Write>(
+    heap: &LocalHeap,
+    sender: &Sender<u64, P>,
+    receiver: Receiver<u64, P>,
+    awaited: usize,
+    output: &mut W,
+) -> io::Result<()> {
     let Ok(other) = receiver.clone() else {
         return output.write_all(b"no clone\n");
     };
-    let is_err = receive_all(&heap, receiver, awaited).is_err();
+    let is_err = receive_all(heap, receiver, awaited).is_err();
     let is_closed = sender.is_closed();
     writeln!(
         output,
