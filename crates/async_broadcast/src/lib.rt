@@ -1,4 +1,5 @@
-//! A bounded broadcast channel: every active receiver gets each message.
+//! A bounded broadcast channel: every active receiver gets each message, or is told how many it
+//! missed.
 //!
 //! What was refused comes as an error, which hands back a message that was not sent.
 //!

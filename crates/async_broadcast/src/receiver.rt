@@ -13,12 +13,16 @@ use std::marker::PhantomData;
 
 mod settings;
 
-/// Receives each message that a channel accepts, from the receiver's start on.
+/// Receives each message that a channel accepts, from the receiver's start on, or is told how many
+/// it missed.
 ///
 /// `clone` makes another one with the same messages still to read, `new_receiver` one that starts
-/// with the next message. A receiver is also a stream. The channel closes when its last receiver
-/// is dropped, unless an inactive one is left. Contracts name its `port`, and the `key` under
-/// which the channel has its cursor.
+/// with the next message. The channel closes when its last receiver is dropped, unless an inactive
+/// one is left. Contracts name its `port`, and the `key` under which the channel has its cursor.
+///
+/// A receiver is also a stream, which passes over what it missed, and ends when every message was
+/// read and the channel is closed. Its item is an `AllocError` if there was no memory for a notice
+/// or for a clone of a message; nothing changed then, and the stream goes on.
 ///
 /// ```rust
 /// let (sender, mut receiver) = broadcast(&rt, rt.alloc(), 1)?;
@@ -55,7 +59,7 @@ impl<T: Clone, P: Port<T, WakerSlot<A>>, A: Allocator + Copy> Receiver<T, P, A> 
 
     /// Receives the next message, if there is one.
     ///
-    /// Never waits.
+    /// Waits for no message; behind a lock it waits for the lock.
     ///
     /// # Errors
     ///

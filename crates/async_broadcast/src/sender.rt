@@ -42,8 +42,8 @@ impl<T: Clone, P: Port<T, WakerSlot<A>>, A: Allocator + Copy> Sender<T, P, A> {
 
     /// Sends a message, unless the channel has no room for it or nobody to receive it.
     ///
-    /// Never waits. `Ok(Some(oldest))` hands back the message that a full channel dropped for
-    /// this one, in overflow mode.
+    /// Waits for no room and no receiver; behind a lock it waits for the lock. `Ok(Some(oldest))`
+    /// hands back the message that a full channel dropped for this one, in overflow mode.
     ///
     /// # Errors
     ///
@@ -74,10 +74,11 @@ impl<T: Clone, P: Port<T, WakerSlot<A>>, A: Allocator + Copy> Sender<T, P, A> {
     /// Sends a whole list of messages in one step, unless the channel is closed, has nobody to
     /// receive them, or has no room for all of them.
     ///
-    /// Never waits, and takes no memory. An accepted list stands last, in its order, and no other
-    /// message comes between. No message is dropped for it, in overflow mode too. Who waits to
-    /// receive is told once for the whole list. The channel closes if the list gets the last
-    /// message number. An empty list is accepted or refused as any other, and changes nothing.
+    /// Waits as `try_broadcast` does, and takes no memory. An accepted list stands last, in its
+    /// order, and no other message comes between. No message is dropped for it, in overflow mode
+    /// too. Who waits to receive is told once for the whole list. The channel closes if the list
+    /// gets the last message number. An empty list is accepted or refused as any other, and changes
+    /// nothing.
     ///
     /// # Errors
     ///

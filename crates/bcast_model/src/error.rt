@@ -11,7 +11,7 @@ mod text;
 #[derive(Clone, Copy, Drop, PartialEq, Eq)]
 pub enum TrySendError<T> {
     /// There is no room: for one message, the channel is full, and overflow is off; for a list,
-    /// overflow on or off, the list has more messages than there are places, or message numbers.
+    /// overflow on or off, it has less room, or fewer message numbers, than the list needs.
     Full(T),
     /// The channel is closed.
     Closed(T),

@@ -8,7 +8,8 @@ use std::alloc::AllocError;
 #[derive(Clone, Copy, PartialEq, Debug, Drop)]
 pub enum SendPoll<T> {
     /// The message was accepted, and the oldest one is handed back if overflow dropped it;
-    /// or the message comes back, since nobody can receive it.
+    /// or the message comes back: the channel is closed, or there is no active receiver and sends
+    /// do not await one.
     Ready(Result<Option<T>, SendError<T>>),
     /// The send must wait. The message comes back.
     Wait(T),

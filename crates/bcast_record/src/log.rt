@@ -107,8 +107,8 @@ impl<T: Copy + Clone, R: Named, A: Allocator + Copy> Log<T, R, A> {
     ///
     /// # Errors
     ///
-    /// - `NoMemory(call)`: no memory for the entry, or for copies of the call's list for the entry
-    ///   and the receipt. The call was not made: nothing changed.
+    /// - `NoMemory(call)`: no memory for the entry, or for copies of the call's list for the entry,
+    ///   the receipt and the reply. The call was not made: nothing changed.
     pub fn step(
         &mut self,
         seat: &mut Seat<R>,

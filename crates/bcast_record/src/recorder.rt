@@ -93,8 +93,8 @@ impl<T: Copy + Clone, R: Named, A: Allocator + Copy> Recorder<T, R, A> {
     ///
     /// # Errors
     ///
-    /// - `NoMemory(call)`: no memory for the entry, or for copies of the call's list for the entry
-    ///   and the receipt. The call was not made.
+    /// - `NoMemory(call)`: no memory for the entry, or for copies of the call's list for the entry,
+    ///   the receipt and the reply. The call was not made.
     pub fn call(
         &self,
         rt: &impl Wait,

@@ -113,8 +113,8 @@ fn write_other_ways<W: Write>(
     Ok(())
 }
 
-/// Plays a script, lines on topics, or else a trace, with reads, writes and requests for memory that
-/// fail in turn.
+/// Plays a script, lines on topics, or else a trace, with reads, writes and requests for memory
+/// that fail in turn.
 fn failing_case<W: Write>(alloc: Global, name: &str, text: &str, output: &mut W) -> io::Result<()> {
     match name {
         "script" => failing_lines(alloc, Player::Script, text, output),

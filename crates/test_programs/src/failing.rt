@@ -93,8 +93,8 @@ fn write_count<W: Write>(
     writeln!(output, "{player:?}: {failure:?} {count}, and then none")
 }
 
-/// Plays the beginnings of a script, or of lines on topics. Each ends at its end, or in the line that
-/// is cut.
+/// Plays the beginnings of a script, or of lines on topics. Each ends at its end, or in the line
+/// that is cut.
 pub fn cut_after_each_byte<W: Write>(
     alloc: Global,
     player: Player,

@@ -6,7 +6,8 @@ use std::io::Write;
 
 /// Plays each of `lines` as the line after `first`, and alone if there is no `first`.
 ///
-/// `first` is the program and its first line, as `script cap 2` or `topics open a 1`, or `trace` alone.
+/// `first` is the program and its first line, as `script cap 2` or `topics open a 1`, or `trace`
+/// alone.
 pub fn refused_lines<W: Write>(
     alloc: Global,
     first: &str,

@@ -34,8 +34,9 @@ impl<T: Clone, A: Allocator + Copy> Hub<T, A> {
 
     /// Answers one request.
     ///
-    /// A topic is opened with `Inner::new(capacity)`, whose first receiver is deactivated: so it
-    /// stays open while nobody follows it. The other requests make one call on the topic's channel.
+    /// A topic is opened with `Inner::new(alloc, capacity)`, whose first receiver is deactivated:
+    /// so it stays open while nobody follows it. The other requests make one call on the topic's
+    /// channel.
     pub fn ask(&mut self, request: Request<T, A>) -> Answer<T>
         requires { OpensPositive request }
         ensures { Asks T.is_clone (topic_of self.old) request result (topic_of self.new) }

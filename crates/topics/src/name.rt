@@ -2,7 +2,7 @@
 ghost use Rattle.std.specs.Prelude.{IsTrue, ◌↔◌};
 ghost use Rattle.topics.specs.Name.{IsName};
 
-/// Whether `word` is a topic's name: 1 to 32 lower case letters, digits and dots.
+/// Whether `word` is a topic's name: 1 to 32 letters from a to z, digits and dots.
 pub fn is_name(word: &str) -> bool
     ensures { IsTrue result ↔ IsName word.now }
 {

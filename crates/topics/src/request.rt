@@ -25,7 +25,7 @@ pub enum Request<T, A: Allocator = Global> {
 /// What a hub answers: the first that fits.
 #[derive(PartialEq, Drop)]
 pub enum Answer<T> {
-    /// The name is none: a name has 1 to 32 lower case letters, digits and dots.
+    /// The name is none: a name has 1 to 32 letters from a to z, digits and dots.
     BadName,
     /// To `Open`: a topic of this name was opened before.
     Exists,

@@ -101,7 +101,7 @@ impl<S: Clone> Config<S> {
     }
 
     /// Shows a watcher the latest settings, and how many it missed before them. None: it has seen
-    /// them, or none are set.
+    /// them, none are set, or there is no such watcher.
     ///
     /// # Errors
     ///

@@ -15,7 +15,8 @@ use std::alloc::{AllocError, Allocator, Global};
 
 /// Receives the next message of its receiver.
 ///
-/// Its output is that of `recv_blocking`. Polled again after its output it receives anew.
+/// Its output is that of `recv_blocking`; it is an `AllocError` also if there was no memory for a
+/// notice, and then nothing changed. Polled again after its output it receives anew.
 ///
 /// Source: `Recv` of async-broadcast 0.7.2.
 #[must_use]

@@ -104,7 +104,8 @@ impl<T: Drop, N: Notice, A: Allocator + Copy> Inner<T, N, A> {
         sent
     }
 
-    /// A place for a send that may wait, and its position among those that wait.
+    /// Gives a place to a send that may wait, with the memory that it needs to wait. It joins those
+    /// that wait with the first poll of it that must wait.
     ///
     /// # Errors
     ///
