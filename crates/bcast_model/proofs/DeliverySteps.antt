@@ -1,6 +1,6 @@
 -- What each call gives a receiver, and which messages it keeps.
 use Rattle.std.proofs.Common.{◌≡◌, ◌⊎◌, inl, inr, ℕ, ◌+◌, ◌-◌, ◌≤◌, Bool, true, false, cond, [], Option, Some, None, Ok, Err, Result, nat_lt, refl, sym, ap, ◌∙◌, subst, arith}
-use Rattle.std.proofs.lemmas.Bool.{cases_lt}
+use Rattle.std.proofs.lemmas.Bool.{cases_lt, false≢true}
 use Rattle.std.proofs.lemmas.Grind.{common_steps}
 use Rattle.std.specs.Prelude.{alloc_error}
 use Rattle.bcast_model.specs.declared.error.TryRecvError.{TryRecvError}
@@ -25,9 +25,6 @@ use Rattle.bcast_model.proofs.DeliveryAnswers.{Gives, entries_of, IsAnswer, give
 
 skipping : (cursor front : ℕ) → (front - cursor ≡ 0) ⊎ (cursor + (front - cursor) ≡ front)
 skipping cursor front = elim (cases_lt front cursor) [ inl e ↦ inl (omega (arith, e)) | inr e ↦ inr (omega (arith, e)) ]
-
-receives_none : {A : Type 0} → false ≡ true → A
-receives_none e = cc
 
 module _ {T : Type 0} where
   -- ---- how the calls spell their answers
@@ -133,7 +130,7 @@ module _ {T : Type 0} where
   gives_received is_clone h key cursor (call.PollNext reader) r low is reads legal =
       let same : reader ≡ key = grind (arith, common_steps, reads) in
       rw same (gives_next is_clone h key cursor r low is (rw same at legal))
-  gives_received is_clone h key cursor c r low is reads legal = receives_none reads
+  gives_received is_clone h key cursor c r low is reads legal = absurd (false≢true reads)
 
   -- what each call gives each receiver
   pub gives_call : (is_clone : T → T → Type 0) (h : History T) (key cursor : ℕ) (c : Call T) (r : Reply T) → h.first ≤ h.floor → cursor_of h.control key ≡ Some cursor → Legal is_clone (view_of h) c r

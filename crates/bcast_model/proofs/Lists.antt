@@ -87,10 +87,6 @@ module _ {A : Type 0} where
     distinct_left [] others d = tt
     distinct_left (id ∷ ids) others d = (all_left (λ other. same id other ≡ false) ids others d.0, distinct_left ids others d.1)
 
-    pub distinct_right : (ids others : List A) → IsDistinct same (ids ++ others) → IsDistinct same others
-    distinct_right [] others d = d
-    distinct_right (id ∷ ids) others d = distinct_right ids others d.1
-
     pub distinct_without : (id : A) (ids : List A) → IsDistinct same ids → IsDistinct same (without same id ids)
     distinct_without id [] d = d
     distinct_without id (other ∷ ids) d = elim (same id other) as (λ b. IsDistinct same (cond b (without same id ids) (other ∷ without same id ids))) [

@@ -6,11 +6,6 @@ use Rattle.std.proofs.lemmas.List.Sums.{sum_by-cons}
 use Rattle.bcast_queue.specs.Queue.{one_more_from, one_fewer_from}
 use Rattle.bcast_queue.proofs.Front.{nobody}
 
-pub length-one_more_from : (i : ℕ) (ns : List ℕ) → length (one_more_from i ns) ≡ length ns
-length-one_more_from zero ns = length-map ns (λ n. n + 1)
-length-one_more_from (suc i) [] = refl
-length-one_more_from (suc i) (n ∷ ns) = ap suc (length-one_more_from i ns)
-
 pub length-one_fewer_from : (i : ℕ) (ns : List ℕ) → length (one_fewer_from i ns) ≡ length ns
 length-one_fewer_from zero ns = length-map ns (λ n. n - 1)
 length-one_fewer_from (suc i) [] = refl

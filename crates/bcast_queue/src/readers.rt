@@ -90,7 +90,7 @@ impl<T: Clone, A: Allocator> Queue<T, A> {
         let mut total = before;
         take_reader(&mut self.ring, &mut self.behind, &mut total, index, steps);
         add_reader(&mut self.ring, self.behind, &mut total, index + 1, steps);
-        // Unless the message is the last one, as many owe as before, and nothing is written.
+        // Unless the message is the last one, as many owe as before, and the total isn't written.
         if total != before {
             self.total = total;
         }

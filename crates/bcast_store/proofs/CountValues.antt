@@ -1,13 +1,13 @@
 -- How many cursors pass a test, after a change of the map.
 use Rattle.std.proofs.Common.{◌≡◌, ℕ, ◌+◌, ◌<◌, Bool, true, false, cond, eqb, List, [], ◌∷◌, Option, Some, None, count_by, refl, sym, ap, ◌∙◌, arith, T, Ordering, eqb-true, eq-eqb}
 use Rattle.std.specs.declared.cmp.Ordering.TheVariants.{Less, Equal, Greater}
-use Rattle.std.specs.Ordering.{nat_cmp, is_lt, is_eq, eq_by_cmp}
+use Rattle.std.specs.Ordering.{nat_cmp, is_eq, eq_by_cmp}
 use Rattle.std.specs.Cmp.{nat_cmp_total, ranked, unsigned_tied}
-use Rattle.std.specs.Prelude.{◌&&◌}
 use Rattle.std.specs.FinMap as map
 use Rattle.std.specs.FinMap.{FinMap, entries, find, entries-insert, get-entries, get-insert, get-remove, same_map, nat_cmp-IsAntisymmetric}
 use Rattle.std.specs.FinMap.Entries.{put, by_order, below_all}
 use Rattle.std.proofs.lemmas.List.Sums.{sum_by-cons}
+use Rattle.bcast_model.proofs.Least.{both_true, below-lt}
 use Rattle.bcast_store.specs.CountValues.{passes, count_values}
 
 -- one if it passes
@@ -25,29 +25,13 @@ module _ {V : Type 0} (p : V → Bool) where
   count_cons : (e : ℕ × V) (es : List (ℕ × V)) → count_by passing (e ∷ es) ≡ cond (p e.1) 1 0 + count_by passing es
   count_cons e es = sum_by-cons (λ x. cond (passing x) 1 0) e es
 
-  first : (a b : Bool) → T (a && b) → T a
-  first true b h = tt
-  first false b h = h
-
-  second : (a b : Bool) → T (a && b) → T b
-  second true b h = h
-  second false b h = absurd h
-
-  lt_from : (x y : ℕ) → T (is_lt (nat_cmp x y)) → x < y
-  lt_from x y h = go (nat_cmp x y) refl h
-    where
-      go : (r : Ordering) → r ≡ nat_cmp x y → T (is_lt r) → x < y
-      go Less e l = ranked x y Less e
-      go Equal e l = absurd l
-      go Greater e l = absurd l
-
   -- a key below each key is not found
   missing : (k j : ℕ) (es : List (ℕ × V)) → k < j → T (below_all nat_cmp j es) → find nat_cmp k es ≡ None
   missing k j [] h below = refl
   missing k j (e ∷ es) h below =
-      let above = lt_from j e.0 (first _ _ below) in
+      let above = below-lt j e.0 (both_true _ _ below).0 in
       let apart : eq_by_cmp nat_cmp k e.0 ≡ false = unsigned_tied k e.0 ∙ differ k e.0 (omega arith) in
-      ap (λ b. cond b (Some e.1) (find nat_cmp k es)) apart ∙ missing k j es h (second _ _ below)
+      ap (λ b. cond b (Some e.1) (find nat_cmp k es)) apart ∙ missing k j es h (both_true _ _ below).1
     where
       differ : (x y : ℕ) → x < y → eqb x y ≡ false
       differ x y l = grind arith
@@ -55,11 +39,11 @@ module _ {V : Type 0} (p : V → Bool) where
   -- the new value counts, and the old one no more
   count-put : (k : ℕ) (v : V) (es : List (ℕ × V)) → T (map.is_sorted nat_cmp es) → count_by passing (put nat_cmp k v es) + one_if p (find nat_cmp k es) ≡ count_by passing es + cond (p v) 1 0
   count-put k v [] h = omega (arith, count_cons (k, v) [])
-  count-put k v (e ∷ es) h = go (count-put k v es (second _ _ h)) (nat_cmp k e.0) refl
+  count-put k v (e ∷ es) h = go (count-put k v es (both_true _ _ h).1) (nat_cmp k e.0) refl
     where
       go : count_by passing (put nat_cmp k v es) + one_if p (find nat_cmp k es) ≡ count_by passing es + cond (p v) 1 0 → (r : Ordering) → r ≡ nat_cmp k e.0 → count_by passing (by_order r ((k, v) ∷ e ∷ es) ((e.0, v) ∷ es) (e ∷ put nat_cmp k v es)) + one_if p (cond (is_eq r) (Some e.1) (find nat_cmp k es)) ≡ count_by passing (e ∷ es) + cond (p v) 1 0
       go rest Less is =
-          let none : find nat_cmp k es ≡ None = missing k e.0 es (ranked k e.0 Less is) (first _ _ h) in
+          let none : find nat_cmp k es ≡ None = missing k e.0 es (ranked k e.0 Less is) (both_true _ _ h).0 in
           omega (arith, count_cons (k, v) (e ∷ es), ap (one_if p) none)
       go rest Equal is = omega (arith, count_cons (e.0, v) es, count_cons e es)
       go rest Greater is = omega (arith, count_cons e (put nat_cmp k v es), count_cons e es, rest)

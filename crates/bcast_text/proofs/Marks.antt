@@ -1,5 +1,5 @@
 -- Marks at the places of numbers.
-use Rattle.std.proofs.Common.{arith, ◌≡◌, ◌↔◌, ◌⊎◌, inl, inr, ℕ, suc, zero, ◌<◌, ◌≤◌, List, [], ◌∷◌, Bool, true, false, length, take, replicate, slice_set, refl, sym, ◌∙◌, ⊎_elim}
+use Rattle.std.proofs.Common.{arith, ◌≡◌, ◌↔◌, ◌⊎◌, inl, inr, ℕ, suc, zero, ◌<◌, ◌≤◌, List, [], ◌∷◌, Bool, true, false, length, take, replicate, slice_set, sym, ◌∙◌, ⊎_elim}
 use Rattle.std.specs.Prelude.{fold, All, Contains, IsTrue, IfOk, Result, Ok, Err, map}
 use Rattle.std.proofs.lemmas.List.{length-set, get_or-set_other, get_or-replicate, length-replicate, take_all}
 use Rattle.std.proofs.lemmas.List.Elements.{All-get_or, All-from_get_or, All-map}
@@ -11,10 +11,6 @@ use Rattle.bcast_text.specs.Order.{IsMarked, HoldsEachOnce, IsOneOrder}
 -- marks after one more number
 abbrev pub with_mark : List Bool → ℕ → List Bool
 with_mark marks n = slice_set marks n true
-
-pub length_marked : (list : List ℕ) (marks : List Bool) → length (fold with_mark marks list) ≡ length marks
-length_marked [] marks = refl
-length_marked (x ∷ xs) marks = length_marked xs (with_mark marks x) ∙ length-set marks x true
 
 stays : (marks : List Bool) (x n : ℕ) → n < length marks → IsMarked marks n → IsMarked (with_mark marks x) n
 stays marks x n within m =

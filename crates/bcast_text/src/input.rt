@@ -8,7 +8,7 @@ ghost use Rattle.bcast_text.specs.Run.{Answered, IsRun, IsRefused, IsNumbered};
 use crate::ending::Ending;
 use crate::lines::{Found, Lines};
 use std::alloc::{AllocError, Allocator};
-use std::io::{BufWriter, Read, Write};
+use std::io::{Read, Write};
 use std::{io, str};
 
 /// Why a line was not run to its end.

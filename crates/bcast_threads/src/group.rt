@@ -1,5 +1,5 @@
 //! Threads that are started one by one, and joined together.
-ghost use Rattle.std.specs.Prelude.{◌≡◌, ◌+◌, ◌<◌, ◌≤◌, [], IfOk, OnOk, length, vec_len, vec_capacity};
+ghost use Rattle.std.specs.Prelude.{◌≡◌, ◌+◌, ◌<◌, ◌≤◌, [], OnOk, length, vec_len, vec_capacity};
 
 use std::io;
 use std::thread::{Builder, JoinHandle, Threads};

@@ -3,7 +3,7 @@
 #![tactic(auto)]
 
 use anyhow::Result;
-use async_broadcast::{Port, Receiver, Sender, WakerSlot, broadcast};
+use async_broadcast::{Port, Receiver, WakerSlot, broadcast};
 use futures::executor::block_on;
 use futures::future::{Either, select};
 use std::alloc::AllocGlobal;

@@ -1,4 +1,4 @@
-//! The channel that most tests begin with.
+//! The channel that the tests of clones begin with.
 use bcast_core::{Inner, Notice};
 use std::alloc::{AllocError, Global};
 use std::process::Abort;

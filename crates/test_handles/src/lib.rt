@@ -1,7 +1,7 @@
 //! Tests of `async_broadcast` in one thread: the examples of its documentation, many tasks, and
 //! what handles see of their channel.
 //!
-//! `examples` has a file for each file of `async_broadcast/src` whose documentation has examples.
+//! `examples` has those of the documentation: the first line of each file says of which.
 #![tactic(auto)]
 
 #[cfg(test)]

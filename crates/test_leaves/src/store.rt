@@ -1,6 +1,4 @@
 //! The calls of both stores, each made only if it may be made.
-use bcast_plain::Store as Plain;
-use bcast_store::Store;
 use std::alloc::{AllocError, Global};
 
 mod compared;

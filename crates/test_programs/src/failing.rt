@@ -1,5 +1,5 @@
 //! Reads, writes and requests for memory that fail, each in turn.
-use crate::play::{Played, Player, Way, in_pieces, play};
+use crate::play::{Played, Player, in_pieces, play};
 use bcast_text::ending::Ending;
 use linked_list_allocator::LocalHeap;
 use std::alloc::Global;

@@ -3,7 +3,6 @@ ghost use Rattle.std.specs.Prelude.{◌<◌, ◌≤◌};
 
 use crate::streams::Taker;
 use async_broadcast::{Port, Receiver, Sender, WakerSlot, broadcast};
-use bcast_text::ending::Ending;
 use bcast_text::threads::outcome::print_seen;
 use bcast_threads::plan::{Plan, run as run_plan, threads};
 use bcast_threads::work::{receive_all, send_all};
@@ -153,8 +152,8 @@ fn receive_three<P: Port<u64, WakerSlot>, W: Write>(
     writeln!(output, "received {:?}", list.as_slice())
 }
 
-/// A receiver that finds no memory closes the channel, whatever other receivers there are: before
-/// its first message, if it awaits as many as there are, and else at one of them.
+/// A receiver that finds no memory closes the channel, whether it takes memory for all messages at
+/// first or for one after another, and another receiver keeps what it has still to read.
 fn no_memory_closes<R: Wait + Clone, W: Write>(
     rt: &R,
     alloc: Global,
@@ -168,11 +167,11 @@ fn no_memory_closes<R: Wait + Clone, W: Write>(
             output.write_all(b"not sent\n")?;
         }
     }
-    receive_in_vain(&heap, &sender, receiver, awaited, output)
+    receive_without_memory(&heap, &sender, receiver, awaited, output)
 }
 
 /// Receives with too little memory, and writes what is kept for another receiver.
-fn receive_in_vain<P: Port<u64, WakerSlot>, W: Write>(
+fn receive_without_memory<P: Port<u64, WakerSlot>, W: Write>(
     heap: &LocalHeap,
     sender: &Sender<u64, P>,
     receiver: Receiver<u64, P>,
