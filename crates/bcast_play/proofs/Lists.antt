@@ -1,13 +1,13 @@
 -- Traces whose calls are made as one list.
-use Rattle.std.proofs.Common.{◌≡◌, ◌⊎◌, inl, inr, ◌<◌, ℕ, suc, ◌+◌, arith, List, true, false, [], ◌∷◌, ◌++◌, Option, Some, None, Result, Ok, Err, OnOk, map, length, drop, get_or, codes, refl, sym, ap, subst, ◌∙◌, append-nil, append_assoc}
+use Rattle.std.proofs.Common.{◌≡◌, ◌≢◌, ◌⊎◌, inl, inr, ◌<◌, ℕ, suc, ◌+◌, arith, List, true, false, [], ◌∷◌, ◌++◌, Option, Some, None, Result, Ok, Err, OnOk, map, length, drop, get_or, codes, refl, sym, ap, subst, ◌∙◌, append-nil, append_assoc}
 use Rattle.std.proofs.Math.Seq.{drop-cons}
 use Rattle.std.proofs.KnownBytes.{Appends-nil, Appends-trans, Appends-kept}
 use Rattle.std.specs.Io.KnownBytes.{Appends, Keeps}
 use Rattle.bcast_model.specs.declared.run.Reply.{Reply}
-use Rattle.bcast_text.specs.Run.{AreAnswered, IsRun}
+use Rattle.bcast_text.specs.Run.{AreAnswered, EndsLines, IsRun}
 use Rattle.bcast_text.specs.TraceReply as replies
 use Rattle.bcast_text.specs.declared.ending.Ending.{Ending}
-use Rattle.bcast_text.specs.declared.ending.Ending.TheVariants.{Done}
+use Rattle.bcast_text.specs.declared.ending.Ending.TheVariants.{Done, Differ, WrongArguments, NotACall, NoMemory, NoThread, InputFailed, OutputFailed}
 use Rattle.std.specs.Prelude.{MatchOption}
 use Rattle.bcast_play.specs.TraceRun.{OpensNone, AsksForNone}
 use Rattle.std.specs.Fmt.{decimal}
@@ -50,6 +50,7 @@ module _ {longest : ℕ} {input before mid : Option (List ℕ)} {s t : Collected
       written = subst (Appends before before) (sym no_text) (Appends-nil before);
     };
     done = run.done;
+    ends = run.ends;
     not_a_call = run.not_a_call;
   }
 
@@ -114,3 +115,14 @@ run_opened run =
     let end = run.done refl in
     ap (λ c. is_some c.opening) end.1
     ∙ opened_by _ run.answered.lines run.answered.text run.last run.answered.answered (λ none. end.2 (sym run.answered.count ∙ none))
+
+-- an ending is one of a run over lines, if it is one unless a write failed
+pub unfailed_ends : (e : Ending) → (e ≢ OutputFailed → EndsLines e) → EndsLines e
+unfailed_ends Done h = tt
+unfailed_ends Differ h = h (λ is. absurd (cc))
+unfailed_ends (WrongArguments program) h = h (λ is. absurd (cc))
+unfailed_ends (NotACall line) h = tt
+unfailed_ends NoMemory h = tt
+unfailed_ends NoThread h = h (λ is. absurd (cc))
+unfailed_ends InputFailed h = tt
+unfailed_ends OutputFailed h = tt

@@ -1,7 +1,7 @@
 //! The calls of a trace played as one list.
 ghost use Rattle.std.specs.Prelude.{◌≡◌, ◌≢◌, ◌⊎◌, ℕ, List, None, Err, OnOk, map, string_bytes, false};
 ghost use Rattle.std.specs.Io.KnownBytes.{Appends, Keeps};
-ghost use Rattle.bcast_text.specs.Run.{IsRun};
+ghost use Rattle.bcast_text.specs.Run.{EndsLines, IsRun};
 ghost use Rattle.bcast_play.specs.Channels.{collected_of};
 ghost use Rattle.bcast_play.specs.ListRun.{Collected, IsCollected, IsNoListLine, IsPlayed, IsList, played_text, nothing_yet};
 
@@ -127,6 +127,7 @@ pub fn list<A: Allocator + Copy, R: Read + Drop, W: Write>(
         (W.contents output.old) (W.contents output.new) nothing_yet last result }
     ensures unwritten { result ≢ Ending.Done → result ≢ Ending.OutputFailed
         → Keeps (W.contents output.old) (W.contents output.new) }
+    ensures ends { EndsLines result }
 {
     let mut collector = Collector::new(alloc, heap);
     let ending = run_lines(alloc, input, LONGEST, output, &mut collector);

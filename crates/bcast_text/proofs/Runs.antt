@@ -95,6 +95,7 @@ module _ {S : Type 0} {refuses : S → List ℕ → Type 0} {may_be_empty : Bool
     count = 0;
     answered = none_yet answers input before s;
     done = λ is. absurd (cc);
+    ends = tt;
     not_a_call = λ number is. absurd (cc);
   }
 
@@ -106,5 +107,6 @@ module _ {S : Type 0} {refuses : S → List ℕ → Type 0} {may_be_empty : Bool
     count = run.count;
     answered = nothing_more answers run.answered same;
     done = run.done;
+    ends = run.ends;
     not_a_call = run.not_a_call;
   }

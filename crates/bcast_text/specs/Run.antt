@@ -4,7 +4,7 @@ use Rattle.std.specs.Str.{IsUtf8}
 use Rattle.std.specs.Io.KnownBytes.{Appends, IsAtEnd}
 use Rattle.bcast_text.specs.Lines.{ReadsLines, BeginsTooLong}
 use Rattle.bcast_text.specs.declared.ending.Ending.{Ending}
-use Rattle.bcast_text.specs.declared.ending.Ending.TheVariants.{Done, NotACall}
+use Rattle.bcast_text.specs.declared.ending.Ending.TheVariants.{Done, Differ, WrongArguments, NotACall, NoThread}
 
 module _ {S : Type 0} (answers : S → List ℕ → List ℕ → S → Type 0) where
   -- from the state old on, the lines are answered in turn, and these texts together are the text
@@ -24,6 +24,13 @@ module _ {S : Type 0} (answers : S → List ℕ → List ℕ → S → Type 0) w
     pub read : ReadsLines input lines left
     pub answered : AreAnswered old lines text new
     pub written : Appends before after text
+
+-- how a run over lines may end
+abbrev pub EndsLines : Ending → Type 0
+EndsLines Differ = ⊥
+EndsLines (WrongArguments program) = ⊥
+EndsLines NoThread = ⊥
+EndsLines other = ⊤
 
 module _ {S : Type 0} (refuses : S → List ℕ → Type 0) (may_be_empty : Bool) (longest : ℕ) where
   -- why what is left of an input does not begin with a call, in this state, as line of this number
@@ -50,6 +57,7 @@ module _ {S : Type 0} (refuses : S → List ℕ → Type 0) (may_be_empty : Bool
     pub last : S
     pub count : ℕ
     pub answered : Answered answers input left before after old last count
+    pub ends : EndsLines ending
     pub done : ending ≡ Done → IsAtEnd left × (new ≡ last) × (count ≡ 0 → may_be_empty ≡ true)
     pub not_a_call : (number : ℕ) → ending ≡ NotACall number
         → (number ≡ count + 1) × IsRefused left last number

@@ -3,7 +3,7 @@ ghost use Rattle.std.specs.Prelude.{◌≡◌, ◌≢◌, ◌≤◌, ◌⊎◌, 
 ghost use Rattle.std.specs.Str.{IsUtf8};
 ghost use Rattle.std.specs.Io.KnownBytes.{Appends, Keeps, IsAtEnd};
 ghost use Rattle.bcast_text.specs.Lines.{unread, longest_of};
-ghost use Rattle.bcast_text.specs.Run.{Answered, IsRun, IsRefused, IsNumbered};
+ghost use Rattle.bcast_text.specs.Run.{Answered, EndsLines, IsRun, IsRefused, IsNumbered};
 
 use crate::ending::Ending;
 use crate::lines::{Found, Lines};
@@ -153,6 +153,7 @@ where
     ensures done { result ≡ Err Ending.Done → IsAtEnd (unread R.remaining lines.old)
         × (program.new ≡ program.old) × (number ≤ 1 → P.MAY_BE_EMPTY ≡ true) }
     ensures not_a_call { IfErr result (IsNumbered number) }
+    ensures ends { IfErr result EndsLines }
     ensures refused { (line : ℕ) → result ≡ Err (Ending.NotACall line)
         → IsRefused P.refuses P.MAY_BE_EMPTY (longest_of lines.old)
         (unread R.remaining lines.old) (P.state program.old) number }
@@ -184,6 +185,7 @@ fn run_text<W: Write, P: RunLine>(
         → output.new ≡ output.old) }
     ensures not_done { result ≢ Err Ending.Done }
     ensures not_a_call { IfErr result (IsNumbered number) }
+    ensures ends { IfErr result EndsLines }
     ensures refused { (line : ℕ) → result ≡ Err (Ending.NotACall line)
         → (IsUtf8 text.now → ⊥) ⊎ P.refuses (P.state program.old) text.now }
 {

@@ -1,5 +1,5 @@
 //! The followers of topics by name, and the requests that lines ask for.
-ghost use Rattle.std.specs.Prelude.{◌≡◌, ℕ, List, Some, None, Err, IfOk, OnOk, string_bytes};
+ghost use Rattle.std.specs.Prelude.{◌≡◌, ◌≢◌, ℕ, List, Some, None, Err, IfOk, OnOk, string_bytes};
 ghost use Rattle.std.specs.Map.{update};
 ghost use Rattle.std.specs.Str.{bytes_eq};
 ghost use Rattle.topics.specs.Request.{OpensPositive};
@@ -42,6 +42,7 @@ pub fn request_by<A: Allocator + Copy>(
     ensures positive { IfOk result OpensPositive }
     ensures refused { result ≡ Err Fault.NotACall
         → IsAboutNobody (follower_of followers.now) line.entry }
+    ensures unwritten { result ≢ Err Fault.OutputFailed }
 {
     match line {
         Line::Open(topic, capacity) => {
@@ -76,6 +77,7 @@ fn known<A: Allocator + Copy>(
     ensures found { IfOk result (λ found. follower_of followers.now name.now
         ≡ Some (record { topic = string_bytes found.0; key = found.1 })) }
     ensures refused { result ≡ Err Fault.NotACall → follower_of followers.now name.now ≡ None }
+    ensures unwritten { result ≢ Err Fault.OutputFailed }
 {
     let follower = followers.get(name).ok_or(Fault::NotACall)?;
     let topic = String::from_str(alloc, follower.topic.as_str())?;

@@ -21,6 +21,7 @@ returns-in-Err g c written = record {
   last = g.P.RunLine.state c.loop-number.program;
   count = c.loop-number.number - 1;
   answered = nothing_more g.P.RunLine.answers c.loop-number.invariant.answered (c.in-Err.ensures.unwritten written);
+  ends = c.in-Err.ensures.ends;
   done = λ is.
       let ended = c.in-Err.ensures.done (ap Err is) in
       (ended.0, ap g.P.RunLine.state ended.1, λ none. ended.2 (omega (arith, none)));
