@@ -21,7 +21,6 @@ mod snapshot;
 /// One call on it is one atomic event; a lock round it makes a channel for many threads. A receiver
 /// is named by its key, and a pending send by its place: a key or place may be given again after
 /// its holder has left.
-#[derive(Drop)]
 pub struct Inner<T, N: Notice, A: Allocator = Global> {
     parts: Parts<T, N, A>,
 }
@@ -38,6 +37,15 @@ impl<T, N: Notice, A: Allocator> Model for Inner<T, N, A> {
     ghost view = { λ s. s.parts };
 
     ghost invariant = { λ s. IsShown s.parts };
+}
+
+/// Drops the messages that are kept, and the notices of those who wait.
+///
+/// It isn't derived, so a crate that drops a channel cites this and proves the drop of no part anew.
+impl<T: Drop, N: Notice, A: Allocator> Drop for Inner<T, N, A> {
+    fn drop(self) {
+        let Inner { parts: _ } = self;
+    }
 }
 
 impl<T: Drop, N: Notice, A: Allocator + Copy> Inner<T, N, A> {
