@@ -36,16 +36,28 @@ fn script_case<W: Write>(
     output: &mut W,
 ) -> io::Result<()> {
     let played = play(alloc, alloc, player, text.as_bytes(), in_pieces(8192));
+    write_played(alloc, player, text, &played, output)
+}
+
+/// Writes what was written of `text` and how that ended, and what other ways to play it differ.
+fn write_played<W: Write>(
+    alloc: Global,
+    player: Player,
+    text: &str,
+    played: &Played,
+    output: &mut W,
+) -> io::Result<()> {
     output.write_all(played.wrote.as_slice())?;
     writeln!(output, "-- {:?}", played.ending)?;
-    write_other_ways(alloc, player, text, &played, output)
+    write_other_ways(alloc, player, text, played, output)
 }
 
 /// Writes what a trace writes, and whose notices its calls tell.
 fn told_case<W: Write>(alloc: Global, text: &str, output: &mut W) -> io::Result<()> {
-    let played = play(alloc, alloc, Player::Trace, text.as_bytes(), in_pieces(7));
     trace_case(alloc, text, output)?;
-    write_notices(alloc, text, listed_from(alloc, &played)?.as_slice(), output)
+    let played = play(alloc, alloc, Player::Trace, text.as_bytes(), in_pieces(7));
+    let listed = listed_from(alloc, &played)?;
+    write_notices(alloc, text, listed.as_slice(), output)
 }
 
 /// Writes what a trace writes, and how it ends; and whether the list of its calls does the same,
@@ -58,14 +70,24 @@ fn trace_case<W: Write>(alloc: Global, text: &str, output: &mut W) -> io::Result
         text.as_bytes(),
         in_pieces(8192),
     );
-    output.write_all(played.wrote.as_slice())?;
-    writeln!(output, "-- {:?}", played.ending)?;
-    write_other_ways(alloc, Player::Trace, text, &played, output)?;
+    write_played(alloc, Player::Trace, text, &played, output)?;
     if played.ending == Ending::Done {
         write_wrong(alloc, text, output)?;
     }
+    let listed = listed_from(alloc, &played)?;
+    write_listed(alloc, text, played.ending, listed.as_slice(), output)
+}
+
+/// Plays the list of a trace's calls, which should end so and write this.
+fn write_listed<W: Write>(
+    alloc: Global,
+    text: &str,
+    ending: Ending,
+    wanted: &[u8],
+    output: &mut W,
+) -> io::Result<()> {
     let listed = play(alloc, alloc, Player::List, text.as_bytes(), in_pieces(7));
-    if listed.is(played.ending, listed_from(alloc, &played)?.as_slice()) {
+    if listed.is(ending, wanted) {
         return output.write_all(b"-- the list: the same without views\n");
     }
     listed.describe("the list", output)

@@ -1,5 +1,5 @@
 //! Reads, writes and requests for memory that fail, each in turn.
-use crate::play::{Played, Player, in_pieces, play};
+use crate::play::{Played, Player, Way, in_pieces, play};
 use bcast_text::ending::Ending;
 use linked_list_allocator::LocalHeap;
 use std::alloc::Global;
@@ -35,12 +35,25 @@ fn each_call_fails<W: Write>(
         } else {
             way.writes = calls;
         }
-        let played = play(alloc, alloc, player, text.as_bytes(), way);
-        if write_unless_failed(&played, &whole, failure, output)? {
+        if is_played(alloc, player, text, way, &whole, failure, output)? {
             return write_count(player, failure, calls > 9, output);
         }
     }
     output.write_all(b"it never ends\n")
+}
+
+/// Whether `text` is played in this way as in `whole`. Else it must end as `failure`.
+fn is_played<W: Write>(
+    alloc: Global,
+    player: Player,
+    text: &str,
+    way: Way,
+    whole: &Played,
+    failure: Ending,
+    output: &mut W,
+) -> io::Result<bool> {
+    let played = play(alloc, alloc, player, text.as_bytes(), way);
+    write_unless_failed(&played, whole, failure, output)
 }
 
 /// Plays `text` over ever larger heaps until there is memory for it.
@@ -57,13 +70,25 @@ pub fn too_little_memory<W: Write>(
     };
     let whole = play(alloc, alloc, player, text.as_bytes(), in_pieces(7));
     for amount in 1..4096 {
-        let heap = LocalHeap::new(alloc, least + 16 * amount)?;
-        let played = play(alloc, &heap, player, text.as_bytes(), in_pieces(7));
-        if write_unless_failed(&played, &whole, Ending::NoMemory, output)? {
+        if is_played_over(alloc, player, text, least + 16 * amount, &whole, output)? {
             return write_count(player, Ending::NoMemory, amount > 1000, output);
         }
     }
     output.write_all(b"it never ends\n")
+}
+
+/// Whether `text` is played over a heap of this size as in `whole`. Else it must lack memory.
+fn is_played_over<W: Write>(
+    alloc: Global,
+    player: Player,
+    text: &str,
+    size: usize,
+    whole: &Played,
+    output: &mut W,
+) -> io::Result<bool> {
+    let heap = LocalHeap::new(alloc, size)?;
+    let played = play(alloc, &heap, player, text.as_bytes(), in_pieces(7));
+    write_unless_failed(&played, whole, Ending::NoMemory, output)
 }
 
 /// Whether `played` is the same as `whole`. If it is something else than a failure after the same

@@ -39,12 +39,32 @@ pub fn with_memory<'a>(
     requires { HasPositiveCapacity call.now }
     ensures { IfOk result (λ made. IfSome made HasPositiveCapacity) }
 {
-    Ok(match call {
-        Call::TryBroadcast(number) => Some(Call::TryBroadcast(Heavy::new(heap, *number)?)),
-        Call::AttemptSend(number) => Some(Call::AttemptSend(Heavy::new(heap, *number)?)),
-        Call::PollSend(place, number) => Some(Call::PollSend(*place, Heavy::new(heap, *number)?)),
-        call => without_message(call),
-    })
+    let Some(number) = number_of(call) else {
+        return Ok(without_message(call));
+    };
+    let msg = Heavy::new(heap, number)?;
+    Ok(Some(with_message(call, msg)))
+}
+
+/// The number that the call sends, if it sends one.
+fn number_of(call: &Call<u64>) -> Option<u64> {
+    match call {
+        Call::TryBroadcast(number) | Call::AttemptSend(number) | Call::PollSend(_, number) => {
+            Some(*number)
+        }
+        _ => None,
+    }
+}
+
+/// The same call of those that send one message, with this one.
+fn with_message<'a>(call: &Call<u64>, msg: Heavy<'a>) -> Call<Heavy<'a>>
+    ensures { HasPositiveCapacity result }
+{
+    match call {
+        Call::AttemptSend(_) => Call::AttemptSend(msg),
+        Call::PollSend(place, _) => Call::PollSend(*place, msg),
+        _ => Call::TryBroadcast(msg),
+    }
 }
 
 /// The same call, if it has no message, sends no list and is no accessor.

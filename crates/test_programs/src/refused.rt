@@ -1,5 +1,5 @@
 //! Lines that are no calls.
-use crate::play::{Player, in_pieces, play};
+use crate::play::{Played, Player, in_pieces, play};
 use std::alloc::Global;
 use std::io;
 use std::io::Write;
@@ -36,15 +36,22 @@ pub fn refused<W: Write>(
     line: &str,
     output: &mut W,
 ) -> io::Result<()> {
-    let mut text = String::from_str(alloc, first)?;
-    if !first.is_empty() {
-        text.push_str("\n")?;
-    }
-    text.push_str(line)?;
-    let cut = play(alloc, alloc, player, text.as_str().as_bytes(), in_pieces(7));
-    text.push_str("\n")?;
-    let whole = play(alloc, alloc, player, text.as_str().as_bytes(), in_pieces(7));
     write!(output, "{line:?} ")?;
+    let end = if first.is_empty() { "" } else { "\n" };
+    let text = format!(in alloc; "{first}{end}{line}\n")?;
+    let cut = text.as_str().strip_suffix('\n').unwrap_or("");
+    let whole = play(alloc, alloc, player, text.as_str().as_bytes(), in_pieces(7));
+    let cut = play(alloc, alloc, player, cut.as_bytes(), in_pieces(7));
+    write_both(player, &whole, &cut, output)
+}
+
+/// Writes what came of a text, and of that text without its last LF if it differs.
+fn write_both<W: Write>(
+    player: Player,
+    whole: &Played,
+    cut: &Played,
+    output: &mut W,
+) -> io::Result<()> {
     whole.describe(name_of(player), output)?;
     if !cut.is(whole.ending, whole.wrote.as_slice()) {
         cut.describe("without a last LF", output)?;

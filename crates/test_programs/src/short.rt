@@ -73,24 +73,32 @@ fn is_refused(reply: &Reply<Heavy<'_>>) -> bool {
     )
 }
 
+/// A block of a heap, of no use but that nobody else has it.
+type Block<'a> = Vec<u8, &'a LocalHeap>;
+
 /// Takes what memory the heap has but `left` bytes.
-fn fill<'a>(
-    alloc: Global,
-    heap: &'a LocalHeap,
-    left: usize,
-) -> Result<Vec<Vec<u8, &'a LocalHeap>>, AllocError> {
-    let kept = Vec::<u8, &LocalHeap>::with_capacity(heap, left)?;
+fn fill<'a>(alloc: Global, heap: &'a LocalHeap, left: usize) -> Result<Vec<Block<'a>>, AllocError> {
+    let _kept = Vec::<u8, &LocalHeap>::with_capacity(heap, left)?;
     let mut taken = Vec::new(alloc);
     for size in BLOCKS {
-        for _ in 0..HEAP {
-            match Vec::<u8, &LocalHeap>::with_capacity(heap, size) {
-                Ok(block) => taken.push(block)?,
-                Err(_) => break,
-            }
-        }
+        take_all(heap, size, &mut taken)?;
     }
-    drop(kept);
     Ok(taken)
+}
+
+/// Takes blocks of this size until the heap has none.
+fn take_all<'a>(
+    heap: &'a LocalHeap,
+    size: usize,
+    taken: &mut Vec<Block<'a>>,
+) -> Result<(), AllocError> {
+    for _ in 0..HEAP {
+        let Ok(block) = Vec::<u8, &LocalHeap>::with_capacity(heap, size) else {
+            break;
+        };
+        taken.push(block)?;
+    }
+    Ok(())
 }
 
 /// A channel on a heap, and one that always has memory.
@@ -117,6 +125,19 @@ impl<'a> Pair<'a> {
             short,
             other,
         })
+    }
+
+    /// Makes the call of a line, if it has one.
+    fn play_line(
+        &mut self,
+        alloc: Global,
+        line: &str,
+        left: usize,
+    ) -> Result<Option<Outcome>, AllocError> {
+        match read_line(alloc, line)? {
+            Some(Line::Call(_, call)) => self.make(alloc, left, call),
+            _ => Ok(Some(Outcome::Same)),
+        }
     }
 
     /// Makes a call with `left` bytes of memory, and again with more of it if it was refused. None:
@@ -156,23 +177,31 @@ impl<'a> Pair<'a> {
 
 /// Plays the calls of a trace, each with `left` bytes of memory at first.
 fn play(alloc: Global, text: &str, left: usize) -> Result<Outcome, AllocError> {
-    let heap = LocalHeap::new(alloc, HEAP)?;
-    let ample = LocalHeap::new(alloc, HEAP)?;
-    let mut lines = text.lines();
-    let Some(opening) = lines.next().and_then(read_opening) else {
+    let (first, calls) = text.split_once('\n').unwrap_or((text, ""));
+    let Some(opening) = read_opening(first) else {
         return Ok(Outcome::Wrong(0));
     };
-    let Ok(mut pair) = Pair::open(alloc, &heap, &ample, opening) else {
-        return Ok(Outcome::Same);
-    };
+    let heap = LocalHeap::new(alloc, HEAP)?;
+    let ample = LocalHeap::new(alloc, HEAP)?;
+    match Pair::open(alloc, &heap, &ample, opening) {
+        Ok(mut pair) => play_calls(alloc, &mut pair, calls, left),
+        Err(_) => Ok(Outcome::Same),
+    }
+}
+
+/// Makes the calls of lines, of which the first is the second of its trace.
+fn play_calls(
+    alloc: Global,
+    pair: &mut Pair<'_>,
+    calls: &str,
+    left: usize,
+) -> Result<Outcome, AllocError> {
     let mut outcome = Outcome::Same;
-    for (index, line) in lines.enumerate() {
-        if let Some(Line::Call(_, call)) = read_line(alloc, line)? {
-            match pair.make(alloc, left, call)? {
-                None => return Ok(Outcome::Wrong(index.saturating_add(2))),
-                Some(Outcome::Refused) => outcome = Outcome::Refused,
-                Some(_) => {}
-            }
+    for (index, line) in calls.lines().enumerate() {
+        match pair.play_line(alloc, line, left)? {
+            None => return Ok(Outcome::Wrong(index.saturating_add(2))),
+            Some(Outcome::Refused) => outcome = Outcome::Refused,
+            Some(_) => {}
         }
     }
     Ok(outcome)

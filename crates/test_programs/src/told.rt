@@ -40,6 +40,25 @@ impl Noted {
         Ok(())
     }
 
+    /// Makes the calls of lines, and writes after which line the notices of which lines were told.
+    fn run_lines<W: Write>(
+        &mut self,
+        alloc: Global,
+        calls: &str,
+        wrote: &mut Vec<u8>,
+        output: &mut W,
+    ) -> io::Result<()> {
+        for (index, line) in calls.lines().enumerate() {
+            self.run_line(alloc, line, wrote)?;
+            if self.is_any_told() {
+                write!(output, "-- line {} tells", index.saturating_add(2))?;
+                self.write_told(output)?;
+                output.write_all(b"\n")?;
+            }
+        }
+        Ok(())
+    }
+
     /// Writes which lines' notices were told since the last look, each as often as it was told.
     fn write_told<W: Write>(&self, output: &mut W) -> io::Result<()> {
         for (index, count) in self.counts.iter().enumerate() {
@@ -65,10 +84,7 @@ pub fn write_notices<W: Write>(
     listed: &[u8],
     output: &mut W,
 ) -> io::Result<()> {
-    let mut lines = text.lines();
-    let Some(first) = lines.next() else {
-        return output.write_all(b"-- no line\n");
-    };
+    let (first, calls) = text.split_once('\n').unwrap_or((text, ""));
     let Some(opening) = read_opening(first) else {
         return output.write_all(b"-- no channel\n");
     };
@@ -79,14 +95,7 @@ pub fn write_notices<W: Write>(
     };
     let mut wrote = Vec::new(alloc);
     writeln!(&mut wrote, "{first}")?;
-    for (index, line) in lines.enumerate() {
-        noted.run_line(alloc, line, &mut wrote)?;
-        if noted.is_any_told() {
-            write!(output, "-- line {} tells", index.saturating_add(2))?;
-            noted.write_told(output)?;
-            output.write_all(b"\n")?;
-        }
-    }
+    noted.run_lines(alloc, calls, &mut wrote, output)?;
     if wrote.as_slice() != listed {
         output.write_all(b"-- other replies with notices\n")?;
     }
