@@ -2,7 +2,7 @@
 //! topics, driven by lines.
 #![tactic(auto)]
 
-ghost use Rattle.std.specs.Prelude.{◌≡◌, ◌≢◌, ◌⊎◌, IfOk, IfErr};
+ghost use Rattle.std.specs.Prelude.{◌≢◌};
 ghost use Rattle.bcast_text.specs.ScriptCommand.{IsInRange};
 ghost use Rattle.bcast.specs.Run.{HasWritten};
 
@@ -18,12 +18,16 @@ use std::sync::Wait;
 use std::thread::Threads;
 
 fn main(rt: HostRuntime) -> ExitCode {
-    let ending = match command(rt) {
-        Ok(command) => match BufWriter::new(rt.alloc(), rt.stdout()) {
-            Ok(mut output) => run(&rt, rt.alloc(), command, rt.stdin(), &mut output),
-            Err(_) => Ending::NoMemory,
+    let ending = match arguments(&rt) {
+        Ok(Some(words)) => match Command::from_words(words.as_slice()) {
+            Some(command) => match BufWriter::new(rt.alloc(), rt.stdout()) {
+                Ok(mut output) => run(&rt, rt.alloc(), command, rt.stdin(), &mut output),
+                Err(_) => Ending::NoMemory,
+            },
+            None => Ending::WrongArguments(Program::Bcast),
         },
-        Err(ending) => ending,
+        Ok(None) => Ending::WrongArguments(Program::Bcast),
+        Err(AllocError) => Ending::NoMemory,
     };
     report(&rt, ending)
 }
@@ -45,18 +49,4 @@ fn run<R: Threads + Wait + Clone + Send + 'static, I: Read + Drop, W: Write>(
         Command::Topics => hub_script(alloc, input, output),
         Command::Threads(s, r, m) => threads(rt, alloc, s, r, m, output),
     }
-}
-
-/// What the arguments ask for, or how the run ends at once.
-fn command(rt: HostRuntime) -> Result<Command, Ending>
-    ensures ok { IfOk result IsInRange }
-    ensures err { IfErr result (λ ending. (ending ≡ Ending.WrongArguments Program.Bcast)
-        ⊎ (ending ≡ Ending.NoMemory)) }
-{
-    let words = match arguments(&rt) {
-        Ok(Some(words)) => words,
-        Ok(None) => return Err(Ending::WrongArguments(Program::Bcast)),
-        Err(AllocError) => return Err(Ending::NoMemory),
-    };
-    Command::from_words(words.as_slice()).ok_or(Ending::WrongArguments(Program::Bcast))
 }

@@ -2,44 +2,44 @@
 //! with the replies and views that the channel gives.
 #![tactic(auto)]
 
-ghost use Rattle.std.specs.Prelude.{◌≡◌, ◌⊎◌, IfErr};
+ghost use Rattle.std.specs.Prelude.{◌≢◌};
+ghost use Rattle.replay.specs.Run.{HasWritten};
 
 use bcast_play::{list, trace};
 use bcast_text::arguments::arguments;
 use bcast_text::ending::{Ending, Program, report};
 use bcast_text::trace::command::Command;
-use std::alloc::AllocError;
-use std::io::BufWriter;
+use std::alloc::{AllocError, Global};
+use std::io::{BufWriter, Read, Write};
 use std::process::ExitCode;
 
 fn main(rt: HostRuntime) -> ExitCode {
-    let ending = match command(rt) {
-        Ok(command) => run(rt, command),
-        Err(ending) => ending,
+    let ending = match arguments(&rt) {
+        Ok(Some(words)) => match Command::from_words(words.as_slice()) {
+            Some(command) => match BufWriter::new(rt.alloc(), rt.stdout()) {
+                Ok(mut output) => run(rt.alloc(), command, rt.stdin(), &mut output),
+                Err(_) => Ending::NoMemory,
+            },
+            None => Ending::WrongArguments(Program::Replay),
+        },
+        Ok(None) => Ending::WrongArguments(Program::Replay),
+        Err(AllocError) => Ending::NoMemory,
     };
     report(&rt, ending)
 }
 
-/// Plays the trace that standard input holds, and writes to standard output.
-fn run(rt: HostRuntime, command: Command) -> Ending {
-    let Ok(mut output) = BufWriter::new(rt.alloc(), rt.stdout()) else {
-        return Ending::NoMemory;
-    };
-    match command {
-        Command::Trace => trace(rt.alloc(), rt.alloc(), rt.stdin(), &mut output),
-        Command::List => list(rt.alloc(), rt.alloc(), rt.stdin(), &mut output),
-    }
-}
-
-/// What the arguments ask for, or how the run ends at once.
-fn command(rt: HostRuntime) -> Result<Command, Ending>
-    ensures { IfErr result (λ ending. (ending ≡ Ending.WrongArguments Program.Replay)
-        ⊎ (ending ≡ Ending.NoMemory)) }
+/// Plays the trace that `input` holds, as `command` asks, and returns how it ended.
+fn run<I: Read + Drop, W: Write>(
+    alloc: Global,
+    command: Command,
+    input: I,
+    output: &mut W,
+) -> Ending
+    ensures { result ≢ Ending.OutputFailed → HasWritten command (I.remaining input)
+        (W.contents output.old) (W.contents output.new) result }
 {
-    let words = match arguments(&rt) {
-        Ok(Some(words)) => words,
-        Ok(None) => return Err(Ending::WrongArguments(Program::Replay)),
-        Err(AllocError) => return Err(Ending::NoMemory),
-    };
-    Command::from_words(words.as_slice()).ok_or(Ending::WrongArguments(Program::Replay))
+    match command {
+        Command::Trace => trace(alloc, alloc, input, output),
+        Command::List => list(alloc, alloc, input, output),
+    }
 }

@@ -1,0 +1,2 @@
+-- what a run has written
+pub mod Run
