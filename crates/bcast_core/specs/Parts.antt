@@ -1,6 +1,8 @@
 -- How the state of a channel is put together. No public clause cites this module.
-use Rattle.std.specs.Prelude.{◌≡◌, ℕ, ◌+◌, ◌*◌, ◌<◌, Bool, true, is_some}
+use Rattle.std.specs.Prelude.{◌≡◌, ℕ, ◌+◌, ◌*◌, ◌<◌, Bool, true, false, is_some}
 use Rattle.std.specs.FinMap.{get}
+use Rattle.std.specs.FinSet as set
+use Rattle.bcast_model.specs.Listeners.{no_listeners}
 use Rattle.bcast_model.specs.Control.{Control, Cursors}
 use Rattle.bcast_model.specs.View.{View}
 use Rattle.bcast_model.specs.Legal.{Legal}
@@ -35,6 +37,12 @@ seen_of store control = record {
   end = end_of store;
   control = control;
 }
+
+-- a new channel of this capacity, with these messages and receivers: one sender, and it is open
+abbrev pub new_with : {T : Type 0} → Stored T → Receives → ℕ → View T
+new_with store receives capacity =
+    let sends : Sends = record { places = set.empty; waiting = no_listeners } in
+    seen_of store (control_of store sends receives 1 0 false false true capacity)
 
 -- each receiver's stream and future find room among the listeners
 abbrev pub HaveRoom : Cursors → ℕ → Type 0

@@ -1,12 +1,11 @@
 //! What the state of a channel consists of, and the steps that its calls are made of.
-ghost use Rattle.std.specs.Prelude.{◌≡◌, ◌==◌, ◌↔◌, ◌^◌, ◌+◌, ◌-◌, ◌<◌, false, true, length, IfOk};
+ghost use Rattle.std.specs.Prelude.{◌≡◌, ◌==◌, ◌↔◌, false, true, length};
 ghost use Rattle.std.specs.FinMap.{len};
-ghost use Rattle.bcast_model.specs.History.{opening};
 
 use bcast_store::Store;
 use bcast_waiting::notice::Notice;
 use bcast_waiting::{ReceiveList, SendList};
-use std::alloc::{AllocError, Allocator, Global};
+use std::alloc::{Allocator, Global};
 use std::marker::Model;
 
 mod handles;
@@ -52,23 +51,19 @@ impl<T, N: Notice, A: Allocator> Model for Parts<T, N, A> {
 
 impl<T: Drop, N: Notice, A: Allocator + Copy> Parts<T, N, A> {
     ghost use Rattle.bcast_model.specs.Listeners.{no_listeners};
-    ghost use Rattle.bcast_model.specs.History.{view_of};
     ghost use Rattle.bcast_model.specs.Control.{has_no_receiver, is_deserted, close, close_if_deserted};
     ghost use Rattle.bcast_model.specs.View.{is_full, sends_are_ready};
     ghost use Rattle.bcast_model.specs.Control.{cursor_of};
     ghost use Rattle.bcast_model.specs.Next.{tell_if_ready};
+    ghost use Rattle.bcast_core.specs.Parts.{HaveRoom, new_with};
 
-    /// A new channel, and the key of its first receiver.
+    /// A new channel with these messages and receivers, and one sender.
     #[inline(always)]
-    pub fn starting_at(alloc: A, cap: usize, first: u64) -> Result<(Self, usize), AllocError>
-        requires capacity { 0 < cap }
-        requires number { first + 1 < 2 ^ 64 }
-        ensures { IfOk result (λ made. made.0 ≡ view_of (opening cap first made.1)) }
+    pub fn new(alloc: A, cap: usize, store: Store<T, A>, receives: ReceiveList<N, A>) -> Self
+        requires { HaveRoom store.cursors receives.room }
+        ensures { result ≡ new_with store receives cap }
     {
-        let (store, key) = Store::new(alloc, first, cap)?;
-        let mut receives = ReceiveList::new(alloc);
-        receives.reserve_for(key)?;
-        let parts = Parts {
+        Parts {
             store,
             sends: SendList::new(alloc),
             receives,
@@ -78,8 +73,7 @@ impl<T: Drop, N: Notice, A: Allocator + Copy> Parts<T, N, A> {
             overflow: false,
             await_active: true,
             capacity: cap,
-        };
-        Ok((parts, key))
+        }
     }
 
     /// Whether the channel is closed.

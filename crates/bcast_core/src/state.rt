@@ -4,6 +4,8 @@ ghost use Rattle.std.specs.FinMap.{len};
 ghost use Rattle.bcast_model.specs.History.{opening};
 
 use crate::parts::Parts;
+use bcast_store::Store;
+use bcast_waiting::ReceiveList;
 use bcast_waiting::notice::Notice;
 use std::alloc::{AllocError, Allocator, Global};
 use std::marker::Model;
@@ -81,7 +83,12 @@ impl<T: Drop, N: Notice, A: Allocator + Copy> Inner<T, N, A> {
         ensures opened { IfOk result (λ made. Represents made.0 (opening cap first made.1)) }
         ensures valid { IfOk result (λ made. IsValid {T = T} (opening cap first made.1)) }
     {
-        let (parts, key) = Parts::starting_at(alloc, cap, first)?;
+        let mut store = Store::new(alloc, first, cap)?;
+        let key = store.add(first)?;
+        let mut receives = ReceiveList::new(alloc);
+        receives.reserve_for(key)?;
+        // Put together last: a greater value would be copied at each step that may be refused.
+        let parts = Parts::new(alloc, cap, store, receives);
         Ok((Inner { parts }, key))
     }
 

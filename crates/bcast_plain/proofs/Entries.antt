@@ -6,7 +6,6 @@ use Rattle.std.specs.Ordering.{nat_cmp, eq_by_cmp}
 use Rattle.std.specs.Cmp.{nat_cmp_is, nat_cmp_total, unsigned_tied}
 use Rattle.std.specs.FinMap.{nat_cmp-IsAntisymmetric, empty, empty_of_len, get, insert, remove, len, values, entries, entries_sorted, find, is_sorted, same_entries_map, entries-from_sorted, entries-insert, get-from_sorted, get-remove, len-entries}
 use Rattle.std.specs.FinMap.Entries.{put, by_order, below_all, is_sorted-where_key, find-where_key}
-use Rattle.std.proofs.lemmas.Option.{none-some}
 use Rattle.bcast_model.specs.Control.{Cursors}
 use Rattle.bcast_plain.specs.Plain.{cursors_of, IsRising}
 use Rattle.bcast_store.proofs.Least.{cursors_ext, both_true, below-lt, find_head, later}
@@ -90,9 +89,3 @@ remove_entry es k s =
 -- no receiver
 pub cursors_of-nil : cursors_of [] ≡ empty
 cursors_of-nil = empty_of_len (cursors_of []) (len-list [] tt)
-
--- one receiver
-pub first_entry : (c : ℕ) → IsRising ((0, c) ∷ []) × (cursors_of ((0, c) ∷ []) ≡ insert empty 0 c)
-first_entry c =
-    let p = push_entry [] 0 c tt (λ q d f. absurd (none-some d f)) in
-    (p.0, p.1 ∙ ap (λ m. insert m 0 c) cursors_of-nil)

@@ -46,11 +46,11 @@ made_free m made i = elim (get m made) as (λ o. get m made ≡ o → o ≡ None
   | Some c ↦ λ e. absurd (let l = i.before made c e in omega arith)
 ] refl
 
--- one receiver
-pub made_first : (to : ℕ) → IsMade (insert empty 0 to) 1
-made_first to =
-    made_added empty 0 to (record {
-      fits = omega arith;
+-- no receiver
+pub made_none : IsMade empty 0
+made_none =
+    record {
       before = λ k c e. absurd (none-some c (sym (get-empty nat_cmp k) ∙ e));
+      fits = omega arith;
       count = let z = len-empty nat_cmp ℕ in omega (arith, z);
-    }) (omega arith)
+    }

@@ -1,10 +1,10 @@
 -- What always holds of a store holds after each call.
-use Rattle.std.proofs.Common.{◌≡◌, ◌≢◌, ℕ, ◌+◌, ◌-◌, ◌^◌, ◌<◌, ◌≤◌, cond, List, [], ◌∷◌, ◌++◌, length, drop, max, Some, None, is_some, sym, ap, ◌∙◌, subst, arith, length-append, length-drop}
+use Rattle.std.proofs.Common.{◌≡◌, ◌≢◌, ℕ, ◌+◌, ◌-◌, ◌^◌, ◌<◌, ◌≤◌, List, [], ◌∷◌, ◌++◌, length, drop, max, Some, None, sym, ap, ◌∙◌, subst, arith, length-append, length-drop}
 use Rattle.std.proofs.lemmas.Grind.{common_steps}
 use Rattle.std.specs.Ordering.{nat_cmp}
 use Rattle.std.specs.Cmp.{nat_cmp_total, unsigned_tied}
 use Rattle.std.proofs.lemmas.Option.{none-some}
-use Rattle.std.specs.FinMap.{get, insert, empty, entries, find, len, values, get-empty, get-entries, get-insert, len-empty, len-entries, len-insert}
+use Rattle.std.specs.FinMap.{get, insert, empty, entries, find, len, values, get-empty, get-entries, get-insert, len-empty, len-entries}
 use Rattle.bcast_model.specs.Control.{Cursors}
 use Rattle.bcast_model.specs.History.{least}
 use Rattle.bcast_store.specs.Stored.{Stored, IsSettled, end_of, with_cursors}
@@ -29,15 +29,15 @@ some_cursor : (m : Cursors) → 0 < len m → (key : ℕ) × (cursor : ℕ) × (
 some_cursor m h = let r = some_entry (entries m) (let n = len-entries m in omega (arith, n)) in (r.0, r.1, get-entries m r.0 ∙ r.2)
 
 module _ {T : Type 0} where
-  -- one receiver, and no message
-  pub settled_new : (first key room : ℕ) → first + 1 < 2 ^ 64 → IsSettled {T = T} (record { front = first; queue = []; cursors = insert empty key first; room = room })
-  settled_new first key room number =
+  -- no receiver, and no message
+  pub settled_new : (first room : ℕ) → first < 2 ^ 64 → IsSettled {T = T} (record { front = first; queue = []; cursors = nobody; room = room })
+  settled_new first room number =
       record {
-        front = let l = least-le-limit (first + 0) (values (insert nobody key first)) in omega (arith, l);
-        reach = λ k c e. reached (first + 0) nobody key first k c (λ r d f. absurd (none-some d (sym (get-empty nat_cmp r) ∙ f))) (omega arith) e;
+        front = let l = least-le-limit (first + 0) (values nobody) in omega (arith, l);
+        reach = λ k c e. absurd (none-some c (sym (get-empty nat_cmp k) ∙ e));
         fits = omega arith;
         end_fits = omega arith;
-        receivers_fit = let a = len-insert nat_cmp_total nobody key first ∙ ap (λ o. cond (is_some o) (len nobody) (len nobody + 1)) (get-empty nat_cmp key) in let z = len-empty nat_cmp ℕ in omega (arith, a, z);
+        receivers_fit = let z = len-empty nat_cmp ℕ in omega (arith, z);
       }
 
   -- a message comes, while somebody is there to read it

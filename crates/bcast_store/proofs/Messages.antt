@@ -5,11 +5,11 @@ use Rattle.std.proofs.lemmas.Option.{none-some, slice_get_within, get_or_from_sl
 use Rattle.std.specs.Prelude.{Result, Ok, Err, OnErr}
 use Rattle.std.specs.Option.{ForSome}
 use Rattle.std.specs.Ordering.{nat_cmp}
-use Rattle.std.specs.FinMap.{len, empty, insert, get-empty}
+use Rattle.std.specs.FinMap.{len, empty, get-empty}
 use Rattle.bcast_model.specs.Control.{Cursors}
 use Rattle.bcast_queue.specs.Queue.{last_item, Queued, queue_with}
 use Rattle.bcast_store.specs.Sound.{IsSound, store_of}
-use Rattle.bcast_store.proofs.Owing.{all_owe, few_owe, reached}
+use Rattle.bcast_store.proofs.Owing.{all_owe, few_owe}
 
 module _ {T : Type 0} where
   pub same_sound : (a b : Queued T) (m n : Cursors) → a ≡ b → m ≡ n → IsSound b n → IsSound a m
@@ -40,12 +40,12 @@ module _ {T : Type 0} where
         reach = λ key cursor at. let l = s.reach key cursor at in omega (arith, size);
       }
 
-  -- one receiver, and no message
-  pub sound_new : (first key room : ℕ) → IsSound {T = T} (queue_with first [] [] room) (insert empty key first)
-  sound_new first key room =
+  -- no receiver, and no message
+  pub sound_new : (first room : ℕ) → IsSound {T = T} (queue_with first [] [] room) empty
+  sound_new first room =
       record {
         owed_by = λ i h. absurd (omega arith);
-        reach = λ other cursor at. reached (first + 0) empty key first other cursor (λ r e f. absurd (none-some e (sym (get-empty nat_cmp r) ∙ f))) (omega arith) at;
+        reach = λ key cursor at. absurd (none-some cursor (sym (get-empty nat_cmp key) ∙ at));
       }
 
 pub on_err : {A E : Type 0} (r : Result A E) (P : Type 0) → P → OnErr r P

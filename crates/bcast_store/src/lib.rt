@@ -4,7 +4,7 @@
 ghost use Rattle.std.specs.Prelude.{◌≡◌, ◌==◌, ◌+◌, ◌^◌, ◌<◌, ◌≤◌, [], ◌∷◌, ◌++◌, length, drop, slice_get};
 ghost use Rattle.std.specs.Prelude.{IfOk, OnOk, OnErr, IfNone, IfSome, OnSome};
 ghost use Rattle.std.specs.Option.{option_copied};
-ghost use Rattle.std.specs.FinMap.{empty, entries, get, insert, len};
+ghost use Rattle.std.specs.FinMap.{empty, entries, get, len};
 ghost use Rattle.bcast_store.specs.Stored.{IsSettled, end_of};
 
 use crate::cursors::Cursors;
@@ -47,31 +47,31 @@ impl<T, A: Allocator> Model for Store<T, A> {
 }
 
 impl<T: Drop, A: Allocator + Copy> Store<T, A> {
-    /// A store with no message and one receiver, and that receiver's key.
+    /// A store with no message and no receiver.
     ///
     /// `first` is the number of the first message, and `room` how many messages fit. Takes memory
     /// for all of them.
     ///
     /// # Errors
     ///
-    /// - `AllocError`: memory is refused for `room` messages or for the receiver.
+    /// - `AllocError`: memory is refused for `room` messages.
     ///
-    /// Source: the parts that `broadcast` of async-broadcast makes.
+    /// Source: the queue that `broadcast` of async-broadcast makes.
     #[inline(always)]
-    pub fn new(alloc: A, first: u64, room: usize) -> Result<(Self, usize), AllocError>
-        requires room { 0 < room }
-        requires number { first + 1 < 2 ^ 64 }
-        ensures { IfOk result (λ made. made.0 ≡ record {
+    pub fn new(alloc: A, first: u64, room: usize) -> Result<Self, AllocError>
+        requires { 0 < room }
+        ensures { IfOk result (λ store. store ≡ record {
           front = first;
           queue = [];
-          cursors = insert empty made.1 first;
+          cursors = empty;
           room = room;
         }) }
     {
         let queue = Queue::new(alloc, first, room)?;
-        let mut cursors = Cursors::new(alloc);
-        let key = cursors.add(first)?;
-        Ok((Store { queue, cursors }, key))
+        Ok(Store {
+            queue,
+            cursors: Cursors::new(alloc),
+        })
     }
 
     /// Says what holds of every store, to a proof that needs it. Does nothing.

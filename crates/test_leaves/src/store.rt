@@ -69,11 +69,12 @@ struct Played<S: Tried> {
 }
 
 impl<S: Tried> Played<S> {
-    // A store that has one receiver, of this key.
-    fn new(alloc: Global, store: S, key: usize) -> Result<Self, AllocError> {
-        let mut keys = Vec::new(alloc);
-        keys.push(key)?;
-        Ok(Played { store, keys })
+    // A store without a receiver, which gets one at its end.
+    fn new(alloc: Global, store: S) -> Result<Self, AllocError> {
+        let keys = Vec::new(alloc);
+        let mut played = Played { store, keys };
+        played.change(Call::AddAtEnd)?;
+        Ok(played)
     }
 
     // The key of a receiver, if there is one.

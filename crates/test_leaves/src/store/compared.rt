@@ -106,13 +106,11 @@ fn long_list<F: Tried, S: Tried>(
 }
 
 fn new_fast(alloc: Global, room: usize) -> Result<Played<Store<u8>>, AllocError> {
-    let (store, key) = Store::new(alloc, 7, room.max(1))?;
-    Played::new(alloc, store, key)
+    Played::new(alloc, Store::new(alloc, 7, room.max(1))?)
 }
 
 fn new_slow(alloc: Global, room: usize) -> Result<Played<Plain<u8>>, AllocError> {
-    let (store, key) = Plain::new(alloc, 7, room.max(1))?;
-    Played::new(alloc, store, key)
+    Played::new(alloc, Plain::new(alloc, 7, room.max(1))?)
 }
 
 #[test]

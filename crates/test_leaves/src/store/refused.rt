@@ -77,9 +77,18 @@ fn reads<T: Text, A: Allocator + Copy>(store: &mut Store<T, A>, key: usize) -> O
     Some(store.read(key, number).ok()?.is_whole())
 }
 
+// A store with room for one message, and the key of its receiver.
+fn with_receiver<T: Text, A: Allocator + Copy>(
+    alloc: A,
+) -> Result<(Store<T, A>, usize), AllocError> {
+    let mut store = Store::new(alloc, 7, 1)?;
+    let key = add(&mut store, 7)?;
+    Ok((store, key))
+}
+
 // Two receivers read a message, with what memory there is.
 fn two_read<T: Text, A: Allocator + Copy>(alloc: A, msg: T) -> Result<Refused, AllocError> {
-    let Ok((mut store, first)) = Store::new(alloc, 7, 1) else {
+    let Ok((mut store, first)) = with_receiver(alloc) else {
         return Ok(Refused {
             new: true,
             grow: false,
@@ -138,8 +147,8 @@ fn refused_memory_changes_nothing(rt: HostRuntime) -> Result<(), Fail> {
 
 // How many receivers a store has when one more is refused, if it is else as it was made.
 fn refused_receiver<A: Allocator + Copy>(alloc: A) -> Result<Option<usize>, AllocError> {
-    let (mut store, _) = Store::<u8, A>::new(alloc, 7, 1)?;
-    for added in 1..64 {
+    let mut store = Store::<u8, A>::new(alloc, 7, 1)?;
+    for added in 0..64 {
         if add(&mut store, 7).is_err() {
             let is_same = store.receivers() == added && store.end() == 7;
             return Ok(if is_same { Some(added) } else { None });
@@ -157,7 +166,7 @@ fn a_refused_receiver_is_not_added(rt: HostRuntime) -> Result<(), Fail> {
 
 // Whether more room was refused: for four messages in place of three, and then for six.
 fn grow_twice(heap: &LocalHeap) -> Result<(bool, bool), AllocError> {
-    let (mut store, _) = Store::<u64, &LocalHeap>::new(heap, 7, 3)?;
+    let mut store = Store::<u64, &LocalHeap>::new(heap, 7, 3)?;
     Ok((store.grow(4).is_err(), store.grow(6).is_err()))
 }
 

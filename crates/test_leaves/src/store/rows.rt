@@ -126,13 +126,13 @@ fn first_wrong<S: Tried>(
 // Makes the calls of a table in both stores, with this front and room for two messages.
 fn run(rt: &impl Abort, alloc: Global, front: u64, rows: &[Row]) -> Result<(), AllocError> {
     assert!(rt; front < 9);
-    let (fast, key) = Store::new(alloc, front, 2)?;
+    let fast = Store::new(alloc, front, 2)?;
     assert_eq!(rt; fast.room(), 2);
-    let fast = Played::new(alloc, fast, key)?;
+    let fast = Played::new(alloc, fast)?;
     assert_eq!(rt; first_wrong(fast, alloc, rows)?, None);
-    let (slow, key) = Plain::new(alloc, front, 2)?;
+    let slow = Plain::new(alloc, front, 2)?;
     assert_eq!(rt; slow.room(), 2);
-    let slow = Played::new(alloc, slow, key)?;
+    let slow = Played::new(alloc, slow)?;
     assert_eq!(rt; first_wrong(slow, alloc, rows)?, None);
     Ok(())
 }

@@ -1,9 +1,33 @@
+-- A new channel has its first receiver.
+use Rattle.std.proofs.Common.{◌≡◌, [], sym, ap, ◌∙◌, subst}
+use Rattle.std.specs.FinMap.{empty, insert}
 use Rattle.bcast_model.specs.History.{opening}
 use Rattle.bcast_model.proofs.Opening.{opening_valid}
+use Rattle.bcast_store.specs.Stored.{Stored}
+use Rattle.bcast_waiting.specs.Lists.{Receives}
+use Rattle.bcast_core.specs.Parts.{HaveRoom}
+use Rattle.bcast_core.proofs.Opened.{opened}
+use Rattle.bcast_core.proofs.Rooms.{room_empty, room_inserted}
 use Rattle.bcast_core.proofs.state.Inner.starting_at.Goals as goal
+use Rattle.bcast_core.proofs.state.Inner.starting_at.Goals.{In_ok-reserve_for}
+
+store_is : (g : _) (c : In_ok-reserve_for g)
+    → c.add.new.self ≡ record { front = c.args.first; queue = []; cursors = insert empty c.in_ok-key.key c.args.first; room = c.args.cap }
+store_is g c = c.in_ok-key.ensures.ok ∙ ap (λ (s : Stored g.row.T.Denot). record s { cursors = insert s.cursors c.in_ok-key.key c.args.first }) c.in_ok-store.ensures
+
+pub new-parts-requires : goal.new-parts-requires
+new-parts-requires g c =
+    subst (λ (s : Stored g.row.T.Denot). HaveRoom s.cursors c.reserve_for.new.self.room) (sym (store_is g c))
+    (room_inserted empty c.in_ok-key.key c.args.first c.reserve_for.new.self.room c.in_ok-reserve_for.ensures.ok (room_empty c.reserve_for.new.self.room))
+
+pub returns-clause-opened : goal.returns-clause-opened
+returns-clause-opened g c =
+    c.new-parts.ensures
+    ∙ opened c.add.new.self c.reserve_for.new.self c.args.first c.in_ok-key.key c.args.cap c.requires.capacity c.ranges.cap.fits c.requires.number (store_is g (goal.at.returns-clause-opened g c).In_ok-reserve_for)
+    (ap (λ (r : Receives). r.waiting) c.reserve_for.ensures.same ∙ c.new-receives.ensures)
 
 pub returns-clause-valid : goal.returns-clause-valid
-returns-clause-valid g c = opening_valid c.args.cap c.args.first c.in_ok-parts.key c.requires.capacity c.ranges.cap.fits c.requires.number
+returns-clause-valid g c = opening_valid c.args.cap c.args.first c.in_ok-key.key c.requires.capacity c.ranges.cap.fits c.requires.number
 
 pub invariant_of-result : goal.invariant_of-result
-invariant_of-result g c = (opening c.args.cap c.args.first c.in_ok-parts.key, returns-clause-valid g c, c.in_ok-parts.ensures)
+invariant_of-result g c = (opening c.args.cap c.args.first c.in_ok-key.key, returns-clause-valid g c, returns-clause-opened g c)
