@@ -3,7 +3,7 @@ ghost use Rattle.std.specs.Prelude.{IfOk};
 ghost use Rattle.bcast_model.specs.Next.{HasPositiveCapacity};
 
 use bcast_core::{Call, Messages, Reply, TrySendError};
-use bcast_record::Entry;
+use bcast_record::{Entry, copy_of_reply};
 use std::alloc::{AllocError, Global};
 
 /// A call on a channel whose first receiver has the key 0.
@@ -59,8 +59,12 @@ impl Step {
         }
     }
 
-    /// Whether the entry is of this call, which this seat made, and of its reply.
+    /// Whether the entry is of this call, which this seat made, and of its reply, as a copy of it
+    /// says.
     pub(crate) fn is_stored(self, seat: usize, entry: &Entry<u64>) -> bool {
-        self.is(&entry.call) && self.is_answered(&entry.reply) && entry.seat == seat
+        let Ok(reply) = copy_of_reply(&entry.reply) else {
+            return false;
+        };
+        self.is(&entry.call) && self.is_answered(&reply) && entry.seat == seat
     }
 }
