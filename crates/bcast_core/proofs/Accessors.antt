@@ -1,8 +1,7 @@
 -- Calls that only read, and calls under another name.
-use Rattle.std.proofs.Common.{◌≡◌, true, false, cond, not, ◌&&◌, refl, sym, ap, ◌∙◌, subst}
+use Rattle.std.proofs.Common.{◌≡◌, not, sym, ap, ◌∙◌, subst}
 use Rattle.bcast_model.specs.declared.run.Call.{Call}
 use Rattle.bcast_model.specs.declared.run.Reply.{Reply}
-use Rattle.bcast_model.specs.Control.{tell_a_sender}
 use Rattle.bcast_model.specs.Next.{may_tell, tell_if_ready}
 use Rattle.bcast_model.specs.Laws.{HasRange}
 use Rattle.bcast_model.specs.View.{View, sends_are_ready}
@@ -13,14 +12,10 @@ use Rattle.bcast_model.specs.Effect.{sets}
 use Rattle.bcast_model.specs.Steps.{settle}
 use Rattle.std.specs.FinMap.{len}
 use Rattle.bcast_model.proofs.Answers.{answers}
-use Rattle.bcast_core.proofs.Settle.{settle_idle}
+use Rattle.bcast_core.proofs.Settle.{settle_idle, told_nobody}
 use Rattle.bcast_core.proofs.Does.{valid_shown}
 
 module _ {T : Type 0} where
-  -- where sends were ready already nobody is told
-  told_nobody : (v : View T) → tell_if_ready (not (sends_are_ready v)) v ≡ v
-  told_nobody v = elim (sends_are_ready v) as (λ b. cond (not b && b) (record v { control = tell_a_sender v.control }) v ≡ v) [ true ↦ refl | false ↦ refl ]
-
   -- a call that only reads leaves the state as it is
   pub answers_read : {is_clone : T → T → Type 0} {v : View T} {c : Call T} {r : Reply T} → IsShown v → Legal is_clone v c r → effect v c r ≡ sets v.control → may_tell v.control (sends_are_ready v) c ≡ not (sends_are_ready v)
       → HasRange c (len v.control.cursors) → Answers is_clone v c r v

@@ -1,13 +1,14 @@
 -- What is seen of the state after an effect.
-use Rattle.std.proofs.Common.{◌≡◌, ℕ, ◌+◌, ◌-◌, ◌≤◌, List, [], ◌∷◌, ◌++◌, length, max, drop, Some, refl, ◌∙◌, arith, append-nil}
+use Rattle.std.proofs.Common.{◌≡◌, ℕ, ◌+◌, ◌-◌, ◌≤◌, List, [], ◌∷◌, ◌++◌, length, max, drop, Some, true, false, cond, not, ◌&&◌, refl, ◌∙◌, arith, append-nil}
 use Rattle.std.specs.Ordering.{nat_cmp}
 use Rattle.std.specs.FinMap.{get, insert, len, values, entries, find, len-entries, get-entries}
-use Rattle.bcast_model.specs.Control.{Control, Cursors, close, close_if_deserted}
+use Rattle.bcast_model.specs.Control.{Control, Cursors, close, close_if_deserted, tell_a_sender}
 use Rattle.bcast_model.specs.History.{least, front_of}
-use Rattle.bcast_model.specs.View.{View}
+use Rattle.bcast_model.specs.View.{View, sends_are_ready}
 use Rattle.bcast_model.specs.Laws.{IsValidView}
 use Rattle.bcast_model.specs.Effect.{Effect, sets}
 use Rattle.bcast_model.specs.Steps.{settle}
+use Rattle.bcast_model.specs.Next.{tell_if_ready}
 pub use Rattle.bcast_model.proofs.Cases.{cursors-close, cursors-accepting}
 use Rattle.bcast_model.proofs.Cases.{deserted_is}
 pub use Rattle.bcast_model.proofs.DeliveryMaps.{inserted}
@@ -56,6 +57,10 @@ module _ {T : Type 0} where
 
   pub settle_idle : (v : View T) → IsValidView v → settle v (sets v.control) ≡ v
   settle_idle v valid = settle_stays v v.control valid.low
+
+  -- where sends were ready already nobody is told
+  pub told_nobody : (v : View T) → tell_if_ready (not (sends_are_ready v)) v ≡ v
+  told_nobody v = elim (sends_are_ready v) as (λ b. cond (not b && b) (record v { control = tell_a_sender v.control }) v ≡ v) [ true ↦ refl | false ↦ refl ]
 
   -- closing leaves the front
   pub low_close_if_deserted : (v : View T) (c : Control) → least v.end (values c.cursors) ≤ v.front → least v.end (values (close_if_deserted c).cursors) ≤ v.front

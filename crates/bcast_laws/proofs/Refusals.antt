@@ -23,10 +23,10 @@ use Rattle.bcast_model.specs.Valid.{IsValid, IsValidView}
 use Rattle.bcast_model.proofs.Views.{valid_view}
 use Rattle.bcast_model.proofs.DeliveryLists.{past_end}
 use Rattle.bcast_model.specs.Handles.{has_next}
-use Rattle.bcast_model.proofs.Cases.{test_is}
+use Rattle.bcast_model.proofs.Cases.{test_is, uncloned}
 use Rattle.bcast_laws.specs.Sends.{is_refused}
 use Rattle.bcast_laws.proofs.Sends.{apart}
-use Rattle.bcast_laws.proofs.RefusedHandles.{uncloned, same_cloned, same_deactivated, same_sender}
+use Rattle.bcast_laws.proofs.RefusedHandles.{same_cloned, same_deactivated, same_sender}
 
 not_not : (b : Bool) → not (not b) ≡ true → b ≡ true
 not_not true e = refl

@@ -5,13 +5,9 @@ use Rattle.bcast_model.specs.declared.error.HandleError.TheVariants as handle
 use Rattle.bcast_model.specs.declared.run.Reply.TheVariants as reply
 use Rattle.bcast_model.specs.Control.{Control}
 use Rattle.bcast_model.specs.Legal.{count_reply}
-use Rattle.bcast_model.specs.Handles.{has_next, clone_receiver, deactivate, without_receiver}
+use Rattle.bcast_model.specs.Handles.{has_next, deactivate, without_receiver}
 use Rattle.bcast_laws.specs.Sends.{is_refused}
 use Rattle.bcast_laws.proofs.Sends.{apart}
-
-pub uncloned : (c : Control) (cursor : Option ℕ) → clone_receiver c cursor None ≡ c
-uncloned c None = refl
-uncloned c (Some cursor) = refl
 
 pub same_cloned : (T : Type 0) (none has : Bool) (c more : Control) → is_refused {T = T} (reply.CloneInactive (cond (not none) (cond has (Ok tt) (Err handle.TooMany)) (Err handle.Gone))) ≡ true → cond (none || not has) c more ≡ c
 same_cloned T true has c more e = refl

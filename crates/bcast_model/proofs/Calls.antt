@@ -1,12 +1,12 @@
 -- What each call does to what is seen keeps a history valid.
-use Rattle.std.proofs.Common.{◌≡◌, inr, ℕ, ◌==◌, true, not, Option, Some, None, is_some, refl}
+use Rattle.std.proofs.Common.{inr, ℕ, ◌==◌, true, not, Option, is_some, refl}
 use Rattle.std.specs.FinMap.{len}
 use Rattle.bcast_model.specs.declared.run.Call.{Call}
 use Rattle.bcast_model.specs.declared.run.Call.TheVariants as call
 use Rattle.bcast_model.specs.declared.run.Reply.{Reply}
 use Rattle.bcast_model.specs.declared.run.Reply.TheVariants as reply
 use Rattle.bcast_model.specs.ListenerId.{stream_of, future_of}
-use Rattle.bcast_model.specs.Control.{Control, close, place_ended, pair_ended, cursor_of}
+use Rattle.bcast_model.specs.Control.{close, place_ended, pair_ended, cursor_of}
 use Rattle.bcast_model.specs.Handles.{begin_send, new_receiver, activate, clone_receiver, new_sender, clone_inactive, drop_receiver, deactivate, drop_sender, drop_inactive}
 use Rattle.bcast_model.specs.Receiving.{receive, skipped_to, receive_poll, try_recv_reply}
 use Rattle.bcast_model.specs.Next.{is_out_of_memory, chosen_id, may_tell}
@@ -15,7 +15,7 @@ use Rattle.bcast_model.specs.Legal.{Legal}
 use Rattle.bcast_model.specs.Effect.{sets}
 use Rattle.bcast_model.specs.Effects.{effect, resize}
 use Rattle.bcast_model.specs.Laws.{HasRange, IsValidView}
-use Rattle.bcast_model.proofs.Cases.{test_is}
+use Rattle.bcast_model.proofs.Cases.{test_is, uncloned}
 use Rattle.bcast_model.proofs.Lift.{KeepsValid}
 use Rattle.bcast_model.proofs.Kept.{kept_idle, kept_close, keeps_sets}
 use Rattle.bcast_model.proofs.Sends.{kept_begin_send, kept_end_send, keeps_offer, keeps_poll_send}
@@ -58,10 +58,6 @@ module _ {T : Type 0} (is_clone : T → T → Type 0) where
       (kept_made v valid (new_receiver v.control v.end) (not (v.control.inactive == 0)) reply.ActivateCloned r (λ _. refl) (λ _. refl) legal (kept_new_receiver v valid) refl range)
   keeps_valid (call.CloneReceiver key) r v valid range legal = keeps_sets v valid (clone_receiver v.control (cursor_of v.control key) (chosen_id r))
       (kept_made v valid (clone_receiver v.control (cursor_of v.control key)) (is_some (cursor_of v.control key)) reply.CloneReceiver r (λ _. refl) (λ _. refl) legal (λ made. kept_clone_receiver v valid key (cursor_of v.control key) made refl) (uncloned v.control (cursor_of v.control key)) range)
-    where
-      uncloned : (c : Control) (cursor : Option ℕ) → clone_receiver c cursor None ≡ c
-      uncloned c None = refl
-      uncloned c (Some cursor) = refl
   keeps_valid call.DropSender r v valid range legal = keeps_sets v valid (drop_sender v.control) (kept_drop_sender v valid)
   keeps_valid call.DropInactive r v valid range legal = keeps_sets v valid (drop_inactive v.control) (kept_drop_inactive v valid)
   keeps_valid (call.DropReceiver key) r v valid range legal = keeps_sets v valid (drop_receiver v.control key (cursor_of v.control key)) (kept_drop_receiver v valid key (cursor_of v.control key))

@@ -4,6 +4,7 @@ use Rattle.std.proofs.lemmas.Grind.{common_steps}
 use Rattle.bcast_model.specs.Control.{Control, last_end, tell_a_sender, tell_receivers, closing, close, is_deserted, close_if_deserted, accepting, with_cursor}
 use Rattle.bcast_model.specs.History.{History, with_control, view_of}
 use Rattle.bcast_model.specs.View.{View, sends_are_ready}
+use Rattle.bcast_model.specs.Handles.{clone_receiver}
 use Rattle.bcast_model.specs.Next.{end_call}
 use Rattle.bcast_model.specs.Receiving.{receive}
 
@@ -20,6 +21,11 @@ deserted_is P c gone stays = test_is P (is_deserted c) (close c) c (λ _. gone) 
 
 pub accepting_is : (P : Control → Type 0) (c : Control) (end : ℕ) → P (close (tell_receivers c)) → (((end + 1) == last_end) ≡ false → P (tell_receivers c)) → P (accepting c end)
 accepting_is P c end last more = test_is P ((end + 1) == last_end) (close (tell_receivers c)) (tell_receivers c) (λ _. last) more
+
+-- a receiver that is cloned under no key leaves all as it was
+pub uncloned : (c : Control) (cursor : Option ℕ) → clone_receiver c cursor None ≡ c
+uncloned c None = refl
+uncloned c (Some cursor) = refl
 
 -- ---- closing and accepting leave the capacity and the cursors
 pub capacity-close : (c : Control) → (close c).capacity ≡ c.capacity

@@ -1,5 +1,5 @@
 -- What each call does to the receivers' cursors.
-use Rattle.std.proofs.Common.{◌≡◌, inl, inr, ℕ, ◌+◌, ◌-◌, ◌≤◌, ◌==◌, ◌||◌, not, max, Bool, true, false, cond, Option, Some, None, Result, nat_lt, refl, sym, subst, arith}
+use Rattle.std.proofs.Common.{◌≡◌, inl, inr, ℕ, ◌+◌, ◌-◌, ◌≤◌, ◌==◌, ◌||◌, not, max, Bool, true, false, cond, Option, Some, None, Result, nat_lt, refl, sym, ap, subst, arith}
 use Rattle.std.proofs.lemmas.Grind.{common_steps}
 use Rattle.std.specs.FinMap.{get}
 use Rattle.bcast_model.specs.declared.error.TrySendError.{TrySendError}
@@ -19,7 +19,7 @@ use Rattle.bcast_model.specs.Replies.{is_out_of_memory, chosen_id}
 use Rattle.bcast_model.specs.Handles.{has_next, drop_receiver, deactivate, drop_sender, drop_inactive, new_sender, clone_inactive, without_receiver, clone_receiver}
 use Rattle.bcast_model.specs.Effects.{resize}
 use Rattle.bcast_model.specs.Deliveries.{receives_for}
-use Rattle.bcast_model.proofs.Cases.{test_is, cursors-close, cursors-close_if_deserted, cursors-accepting}
+use Rattle.bcast_model.proofs.Cases.{test_is, uncloned, cursors-close, cursors-close_if_deserted, cursors-accepting}
 use Rattle.bcast_model.proofs.SendAll.{cursors-offer_all}
 use Rattle.bcast_model.proofs.DeliveryMaps.{CursorsChange, stay, rise, make_at_end, make_where, leave, cursors-listens, cursors-begin_send}
 
@@ -57,10 +57,6 @@ deactivated c front end key receives (Some cursor) =
 cloned : (c : Control) (front end key : ℕ) (receives : ℕ → Bool) (other : ℕ) (cursor : Option ℕ) → get c.cursors other ≡ cursor → get c.cursors key ≡ None → CursorsChange front end receives c.cursors (clone_receiver c cursor (Some key)).cursors
 cloned c front end key receives other None is free = stay refl
 cloned c front end key receives other (Some cursor) is free = make_where key other cursor free is refl
-
-uncloned : (c : Control) (cursor : Option ℕ) → (clone_receiver c cursor None).cursors ≡ c.cursors
-uncloned c None = refl
-uncloned c (Some cursor) = refl
 
 cursors-drop_sender : (c : Control) → (drop_sender c).cursors ≡ c.cursors
 cursors-drop_sender c = elim (c.senders == 0) as (λ b. (cond b c (close_if_deserted (record c { senders = c.senders - 1 }))).cursors ≡ c.cursors) [ true ↦ refl | false ↦ cursors-close_if_deserted (record c { senders = c.senders - 1 }) ]
@@ -129,9 +125,9 @@ module _ {T : Type 0} where
   changes is_clone v call.ActivateCloned r (inl (gone, is)) = rw is (stay refl)
   changes is_clone v call.ActivateCloned r (inr (there, inl (key, is, free))) = rw is (make_at_end key free refl)
   changes is_clone v call.ActivateCloned r (inr (there, inr is)) = rw is (stay refl)
-  changes is_clone v (call.CloneReceiver other) r (inl (gone, is)) = rw is (stay (uncloned v.control (cursor_of v.control other)))
+  changes is_clone v (call.CloneReceiver other) r (inl (gone, is)) = rw is (stay (ap (λ (c : Control). c.cursors) (uncloned v.control (cursor_of v.control other))))
   changes is_clone v (call.CloneReceiver other) r (inr (there, inl (key, is, free))) = rw is (cloned v.control _ _ key _ other (cursor_of v.control other) refl free)
-  changes is_clone v (call.CloneReceiver other) r (inr (there, inr is)) = rw is (stay (uncloned v.control (cursor_of v.control other)))
+  changes is_clone v (call.CloneReceiver other) r (inr (there, inr is)) = rw is (stay (ap (λ (c : Control). c.cursors) (uncloned v.control (cursor_of v.control other))))
   changes is_clone v call.DropSender r legal = stay (cursors-drop_sender v.control)
   changes is_clone v call.DropInactive r legal = stay (cursors-drop_inactive v.control)
   changes is_clone v (call.DropReceiver key) r legal = left v.control _ _ key _ (cursor_of v.control key)

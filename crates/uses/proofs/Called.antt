@@ -1,5 +1,5 @@
 -- What a call leaves of what is seen, but for who is told.
-use Rattle.std.proofs.Common.{◌≡◌, ℕ, true, false, cond, not, ◌&&◌, Option, Some, None, Result, Ok, Err, OnOk, OnErr, refl, sym, ap, ◌∙◌, subst}
+use Rattle.std.proofs.Common.{◌≡◌, ℕ, not, ◌&&◌, Option, Some, None, Result, Ok, Err, OnOk, OnErr, refl, sym, ap, ◌∙◌, subst}
 use Rattle.std.specs.Prelude.{IsSome}
 use Rattle.bcast_model.specs.declared.run.Call.{Call}
 use Rattle.bcast_model.specs.declared.run.Reply.{Reply}
@@ -15,15 +15,12 @@ use Rattle.bcast_model.proofs.Answers.{shown_after}
 use Rattle.bcast_model.proofs.Cases.{test_is}
 use Rattle.bcast_model.proofs.Steps.{steps}
 use Rattle.bcast_core.proofs.Does.{valid_shown}
-use Rattle.bcast_core.proofs.Settle.{settle_idle}
+use Rattle.bcast_core.proofs.Settle.{settle_idle, told_nobody}
 
 module _ {T : Type 0} where
   -- a sender is told
   abbrev pub told : View T → View T
   told v = record v { control = tell_a_sender v.control }
-
-  told_nobody : (v : View T) → tell_if_ready (not (sends_are_ready v)) v ≡ v
-  told_nobody v = elim (sends_are_ready v) as (λ b. cond (not b && b) (told v) v ≡ v) [ true ↦ refl | false ↦ refl ]
 
   module _ {is_clone : T → T → Type 0} {v w : View T} {c : Call T} {r : Reply T} (a : Answers is_clone v c r w) where
     pub valid : IsValidView v
