@@ -5,7 +5,7 @@
 /// Source: the waker that a listener of the crate event-listener holds.
 pub trait Notice: Drop {
     /// Says that the listener is told.
-    fn tell(&mut self);
+    fn tell(&self);
 }
 
 /// A notice that says nothing.
@@ -13,5 +13,5 @@ pub trait Notice: Drop {
 pub struct Silent;
 
 impl Notice for Silent {
-    fn tell(&mut self) {}
+    fn tell(&self) {}
 }

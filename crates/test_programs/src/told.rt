@@ -14,7 +14,7 @@ use std::rc::Rc;
 struct Counted(Rc<Cell<u64>>);
 
 impl Notice for Counted {
-    fn tell(&mut self) {
+    fn tell(&self) {
         self.0.set(self.0.get().wrapping_add(1));
     }
 }
