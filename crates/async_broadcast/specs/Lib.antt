@@ -5,6 +5,7 @@ pub mod Ports
 pub mod OfKind
 -- polls and futures
 pub mod Polls
+pub mod TaskWakers
 pub mod Futures
 -- which waiting threads are woken
 pub mod Woken

@@ -40,6 +40,9 @@ struct Channel<T: Clone, A: Allocator> {
     news: Condvar,
 }
 
+// The state, while the lock is held.
+type Locked<'a, T, A> = MutexGuard<'a, State<T, A>>;
+
 impl<T: Clone, A: Allocator> Channel<T, A> {
     // Best once the lock is free.
     #[inline(always)]
@@ -49,7 +52,7 @@ impl<T: Clone, A: Allocator> Channel<T, A> {
 
     // Tries once before it waits, since most often the lock is free.
     #[inline(always)]
-    fn lock(&self, rt: &impl Wait) -> MutexGuard<'_, State<T, A>> {
+    fn lock(&self, rt: &impl Wait) -> Locked<'_, T, A> {
         match self.state.try_lock() {
             Some(state) => state,
             None => self.state.lock(rt),
@@ -63,7 +66,7 @@ impl<T: Clone, A: Allocator + Copy> Channel<T, A> {
     #[inline(always)]
     fn try_broadcast_and_wake(
         &self,
-        mut state: MutexGuard<'_, State<T, A>>,
+        mut state: Locked<'_, T, A>,
         msg: T,
     ) -> Result<Option<T>, TrySendError<T>>
         ensures { IsPossible T.is_clone (Call.TryBroadcast msg) (Reply.TryBroadcast result) }
@@ -77,7 +80,7 @@ impl<T: Clone, A: Allocator + Copy> Channel<T, A> {
     #[inline(always)]
     fn try_recv_and_wake(
         &self,
-        mut state: MutexGuard<'_, State<T, A>>,
+        mut state: Locked<'_, T, A>,
         key: usize,
     ) -> Result<Result<T, TryRecvError>, AllocError>
         ensures { IsPossible T.is_clone (Call.TryRecv key) (Reply.TryRecv result) }

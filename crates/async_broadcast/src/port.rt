@@ -66,11 +66,14 @@ pub trait Ask<T: Clone, S>: Sized + Drop {
     /// Gives up the receive of the receiver `key`. `is_answered`: its future's last poll was
     /// answered, other than for want of memory. Asks `EndFuture`; a port may leave that out if it
     /// would change nothing.
-    fn end_future(&self, key: usize, is_answered: bool)
+    ///
+    /// Returns the notice of the receive that was given up, or one that wakes nobody if the port
+    /// doesn't give notices back.
+    fn end_future(&self, key: usize, is_answered: bool) -> Wake<S>
         ensures { gave self.now (Call.EndFuture key) Reply.EndFuture }
     {
         match self.ask(Call::EndFuture(key), Wake::none()) {
-            Reply::EndFuture => {}
+            Reply::EndFuture => Wake::none(),
             _ => unreachable!(),
         }
     }

@@ -1,34 +1,43 @@
 //! What wakes the task that a poll left waiting.
-ghost use Rattle.std.specs.Prelude.{◌≡◌, IsSome, is_none};
+ghost use Rattle.std.specs.Prelude.{◌≡◌, not, IsSome, IfSome, is_some, is_none};
 ghost use Rattle.futures.specs.Task.{IsArmed, Keeps};
 
 use bcast_core::Notice;
 use futures::spin::lock;
 use futures::task::{Context, Poll, Source, Waker};
 use std::alloc::{Allocator, Global};
+use std::marker::Model;
 use std::sync::{Arc, Mutex};
 
-/// Where a task's waker is kept between the polls of a future or a receiver.
+/// Where a task's waker is kept between the polls of a future or a receiver, if its port doesn't
+/// give notices back.
 pub type WakerSlot<A = Global> = Arc<Mutex<Option<Waker>>, A>;
 
 /// The notice of a poll: wakes the poll's task when it is told, or nobody.
 #[derive(Drop)]
 pub struct Wake<S = WakerSlot> {
+    // The task's waker, of a notice that its port gives back to the next poll.
+    waker: Option<Waker>,
+    // Where the waker is kept, of any other.
     slot: Option<S>,
 }
 
 impl<S> Wake<S> {
     /// A notice that wakes nobody, for a call that never waits.
     pub fn none() -> Self {
-        Wake { slot: None }
+        Wake {
+            waker: None,
+            slot: None,
+        }
     }
 }
 
 impl<A: Allocator> Notice for Wake<WakerSlot<A>> {
-    fn tell(&self) {
+    fn tell(&mut self) {
+        // A waker that is dropped wakes its task.
+        self.waker = None;
         if let Some(slot) = &self.slot {
             if let Some(mut waker) = lock(&**slot) {
-                // A waker that is dropped wakes its task.
                 *waker = None;
             }
         }
@@ -43,22 +52,46 @@ pub trait Registers<S> {
     ghost is_refused: { Self → Bool };
 
     /// Registers the poll's task, and makes a notice for it. None: there was no memory for one.
+    ///
+    /// For a port that doesn't give notices back: all notices made here share the task's waker.
     fn register(&mut self, cx: &mut Context<'_>) -> Option<Wake<S>>
         ensures refused { is_refused self.new ≡ is_none result }
         ensures registered { IsArmed cx.new }
         ensures kept { Keeps cx.old cx.new };
+
+    /// Registers the poll's task in a notice: a new one, or the one that the last poll left, which
+    /// the port gave back. Returns whether the notice has the task's waker then; it has none if
+    /// there was no memory for one.
+    fn register_in(&mut self, wake: &mut Wake<S>, cx: &mut Context<'_>) -> bool
+        ensures refused { is_refused self.new ≡ not result }
+        ensures waker { is_some wake.new.waker ≡ result }
+        ensures registered { IsArmed cx.new }
+        ensures kept { Keeps cx.old cx.new };
 }
 
-/// Keeps a task's waker between polls. All notices made here share it, so that a newer notice
-/// doesn't wake the task by the drop of an older one.
+/// Registers the task of a future or a receiver, from one poll to the next.
 #[derive(Drop)]
 pub(crate) struct TaskWaker<A: Allocator> {
     source: Source,
     alloc: A,
-    // Made by the first poll, and then kept: dropped with a waker in it, it wakes the task.
+    // Shared by all notices that `register` makes, so that a newer one doesn't wake the task by the
+    // drop of an older one. Made by the first poll, and then kept: dropped with a waker in it, it
+    // wakes the task.
     slot: Option<WakerSlot<A>>,
+    // The waker of a notice that was not needed any more, for the next notice.
+    unused: Option<Waker>,
     // Whether the last poll found no memory for a notice.
     is_refused: bool,
+}
+
+impl<A: Allocator> Model for TaskWaker<A> {
+    ghost use Rattle.async_broadcast.specs.TaskWakers.{TaskWaker as Seen, task_waker_code};
+
+    ghost Value = { Seen };
+
+    ghost coded = { task_waker_code };
+
+    ghost view = { λ task. record { is_refused = task.is_refused } };
 }
 
 impl<A: Allocator + Copy> TaskWaker<A> {
@@ -67,6 +100,7 @@ impl<A: Allocator + Copy> TaskWaker<A> {
             source: Source::new(),
             alloc,
             slot: None,
+            unused: None,
             is_refused: false,
         }
     }
@@ -74,20 +108,19 @@ impl<A: Allocator + Copy> TaskWaker<A> {
     pub(crate) fn alloc(&self) -> A {
         self.alloc
     }
+}
 
-    fn notice(&mut self, cx: &mut Context<'_>) -> Option<Wake<WakerSlot<A>>>
-        ensures slot { IsSome self.old.slot → self.new.slot ≡ self.old.slot }
-        ensures registered { IsArmed cx.new }
-        ensures kept { Keeps cx.old cx.new }
+impl<A: Allocator> TaskWaker<A> {
+    /// Keeps the waker of a notice that came back and is not needed any more: dropped, it would
+    /// wake the task.
+    #[inline(always)]
+    pub(crate) fn keep(&mut self, wake: Wake<WakerSlot<A>>)
+        ensures { self.new ≡ self.old }
     {
-        if self.slot.is_none() {
-            self.slot = Arc::new(self.alloc, Mutex::new(None)).ok();
+        let Wake { waker, slot: _ } = wake;
+        if waker.is_some() {
+            self.unused = waker;
         }
-        let Some(slot) = &self.slot else {
-            let _: Poll<()> = cx.yield_now();
-            return None;
-        };
-        notice_in(slot, &self.source, cx)
     }
 }
 
@@ -96,19 +129,54 @@ impl<A: Allocator + Copy> Registers<WakerSlot<A>> for TaskWaker<A> {
 
     #[inline(never)]
     fn register(&mut self, cx: &mut Context<'_>) -> Option<Wake<WakerSlot<A>>>
-        ensures slot { IsSome self.old.slot → self.new.slot ≡ self.old.slot }
         ensures refused { self.new.is_refused ≡ is_none result }
         ensures registered { IsArmed cx.new }
         ensures kept { Keeps cx.old cx.new }
     {
-        let notice = self.notice(cx);
+        let notice = notice_in(&mut self.slot, self.alloc, &self.source, cx);
         self.is_refused = notice.is_none();
         notice
     }
+
+    fn register_in(&mut self, wake: &mut Wake<WakerSlot<A>>, cx: &mut Context<'_>) -> bool
+        ensures refused { self.new.is_refused ≡ not result }
+        ensures waker { is_some wake.new.waker ≡ result }
+        ensures registered { IsArmed cx.new }
+        ensures kept { Keeps cx.old cx.new }
+    {
+        if wake.waker.is_none() {
+            wake.waker = self.unused.take();
+        }
+        let _: Poll<()> = cx.register(&self.source, &mut wake.waker);
+        let has_waker = wake.waker.is_some();
+        self.is_refused = !has_waker;
+        has_waker
+    }
+}
+
+// The notice of a task whose waker is kept in this slot, which the first call makes.
+fn notice_in<A: Allocator + Copy>(
+    slot: &mut Option<WakerSlot<A>>,
+    alloc: A,
+    source: &Source,
+    cx: &mut Context<'_>,
+) -> Option<Wake<WakerSlot<A>>>
+    ensures slot { IsSome slot.old → slot.new ≡ slot.old }
+    ensures registered { IsArmed cx.new }
+    ensures kept { Keeps cx.old cx.new }
+{
+    if slot.is_none() {
+        *slot = Arc::new(alloc, Mutex::new(None)).ok();
+    }
+    let Some(slot) = &*slot else {
+        let _: Poll<()> = cx.yield_now();
+        return None;
+    };
+    register_at(slot, source, cx)
 }
 
 // A context that finds no memory for a waker leaves none, and has its task polled again.
-fn notice_in<A: Allocator + Copy>(
+fn register_at<A: Allocator + Copy>(
     slot: &WakerSlot<A>,
     source: &Source,
     cx: &mut Context<'_>,
@@ -126,5 +194,8 @@ fn notice_in<A: Allocator + Copy>(
         return None;
     }
     let slot = Arc::try_clone(slot).ok()?;
-    Some(Wake { slot: Some(slot) })
+    Some(Wake {
+        waker: None,
+        slot: Some(slot),
+    })
 }

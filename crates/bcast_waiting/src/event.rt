@@ -247,25 +247,25 @@ impl<I: Copy + Eq + Indexed, N: Notice, A: Allocator> Event<I, N, A> {
         ensures { self.new ≡ record self.old { listeners = wait_again I.eq id self.old.listeners } }
     {
         if self.is_untold(id) {
-            self.renew(id, notice);
+            self.swap_notice(id, notice);
         } else {
             self.consume(id);
             self.join(id, notice);
         }
     }
 
-    /// Gives a listener that is not told another notice. It keeps its position.
+    /// Gives a listener another notice, and returns the one it had. It keeps its position. The same
+    /// notice comes back if it is not listed.
     ///
     /// Takes constant time.
     ///
     /// Source: a poll of an `EventListener` with another waker.
-    pub fn renew(&mut self, id: I, notice: N)
-        requires { is_in I.eq id (untold_ids self.old.listeners) ≡ true }
+    pub fn swap_notice(&mut self, id: I, notice: N) -> N
         ensures { self.new ≡ self.old }
     {
         let Some(position) = self.slots.find(id) else {
-            unreachable!()
+            return notice;
         };
-        self.slots.renew(position, notice);
+        self.slots.swap_notice(position, notice)
     }
 }

@@ -5,7 +5,7 @@
 /// Source: the waker that a listener of the crate event-listener holds.
 pub trait Notice: Drop {
     /// Says that the listener is told.
-    fn tell(&self);
+    fn tell(&mut self);
 }
 
 /// A notice that says nothing.
@@ -13,5 +13,5 @@ pub trait Notice: Drop {
 pub struct Silent;
 
 impl Notice for Silent {
-    fn tell(&self) {}
+    fn tell(&mut self) {}
 }

@@ -10,6 +10,7 @@ use crate::indexed::Indexed;
 use crate::notice::Notice;
 use std::alloc::{AllocError, Allocator};
 use std::marker::Model;
+use std::mem::replace;
 
 // Slots in the order in which they were filled. A slot keeps its position when its listener leaves,
 // until the empty slots are taken out.
@@ -151,22 +152,25 @@ impl<I: Copy + Eq + Indexed, N: Notice, A: Allocator> Slots<I, N, A> {
         self.listeners[position] = None;
     }
 
-    // Gives the listener in a slot another notice.
-    pub fn renew(&mut self, position: usize, notice: N)
+    // Gives the listener in a slot another notice, and returns the one it had. The same notice
+    // comes back if the slot is empty.
+    pub fn swap_notice(&mut self, position: usize, notice: N) -> N
         requires { position < length self.old.ids }
         ensures { self.new ≡ self.old }
     {
-        if let Some(listener) = &mut self.listeners[position] {
-            listener.notice = notice;
+        match &mut self.listeners[position] {
+            Some(listener) => replace(&mut listener.notice, notice),
+            None => notice,
         }
     }
 
     // Calls the notice of the listener in a slot. Returns whether there is one.
-    fn tell_at(&self, position: usize) -> bool
-        requires { position < length self.now.ids }
-        ensures { result ≡ is_some (slice_index_or self.now.ids position None) }
+    fn tell_at(&mut self, position: usize) -> bool
+        requires { position < length self.old.ids }
+        ensures there { result ≡ is_some (slice_index_or self.old.ids position None) }
+        ensures same { self.new ≡ self.old }
     {
-        match &self.listeners[position] {
+        match &mut self.listeners[position] {
             Some(listener) => {
                 listener.notice.tell();
                 true
@@ -177,14 +181,16 @@ impl<I: Copy + Eq + Indexed, N: Notice, A: Allocator> Slots<I, N, A> {
 
     // Calls the notices of the next `count` listeners, from a position on. Returns the
     // position behind the last of them.
-    pub fn tell(&self, from: usize, count: usize) -> usize
-        requires within { from ≤ length self.now.ids }
-        requires enough { front self.now.ids from + count ≤ length (listed self.now.ids) }
-        ensures within { result ≤ length self.now.ids }
-        ensures told { front self.now.ids result ≡ front self.now.ids from + count }
+    pub fn tell(&mut self, from: usize, count: usize) -> usize
+        requires within { from ≤ length self.old.ids }
+        requires enough { front self.old.ids from + count ≤ length (listed self.old.ids) }
+        ensures within { result ≤ length self.new.ids }
+        ensures told { front self.new.ids result ≡ front self.new.ids from + count }
+        ensures same { self.new ≡ self.old }
     {
+        let end = self.len();
         let mut left = count;
-        for position in from..self.len() {
+        for position in from..end {
             if left == 0 {
                 return position;
             }
@@ -192,7 +198,7 @@ impl<I: Copy + Eq + Indexed, N: Notice, A: Allocator> Slots<I, N, A> {
                 left -= 1;
             }
         }
-        self.len()
+        end
     }
 
     // Takes out the empty slots. The others keep their order.

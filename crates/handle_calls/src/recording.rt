@@ -5,10 +5,11 @@ ghost use Rattle.bcast_model.specs.PollLaws.{must_wait};
 ghost use Rattle.bcast_model.specs.Next.{HasPositiveCapacity};
 ghost use Rattle.async_broadcast.specs.Kinds.{IsOfKind, may_wait, is_answer};
 
-use async_broadcast::{Ask, Call, Port, Registers, Reply, Wake};
+use async_broadcast::{Ask, Call, Port, Registers, Reply, Wake, WakerSlot};
+use bcast_core::Notice;
 use futures::task::Context;
 use replies::{Outcome, reply_to, waited_reply_to};
-use std::alloc::{AllocError, Global};
+use std::alloc::{AllocError, Allocator, Global};
 use std::cell::Cell;
 use std::rc::Rc;
 
@@ -97,22 +98,27 @@ impl State {
     }
 }
 
-impl<S: Drop> Ask<u64, S> for RecordingPort {
+impl<A: Allocator> Ask<u64, WakerSlot<A>> for RecordingPort {
     ghost use Rattle.async_broadcast.specs.Kinds.{IsOfKind};
 
     ghost gave = { λ _ call reply. IsOfKind call reply };
 
     ghost of_kind = { λ _ call reply gave. gave };
 
-    fn ask(&self, call: Call<u64>, _wake: Wake<S>) -> Reply<u64>
+    // A port that lets polls wait tells them at once.
+    fn ask(&self, call: Call<u64>, mut wake: Wake<WakerSlot<A>>) -> Reply<u64>
         requires { HasPositiveCapacity call }
         ensures { IsOfKind call result }
     {
         self.state.record(&call);
-        reply_to(self.state.outcome.get(), call)
+        let outcome = self.state.outcome.get();
+        if outcome == Outcome::Wait {
+            wake.tell();
+        }
+        reply_to(outcome, call)
     }
 
-    fn poll<W: Registers<S>>(
+    fn poll<W: Registers<WakerSlot<A>>>(
         &self,
         call: Call<u64>,
         task: &mut W,
@@ -136,7 +142,7 @@ impl<S: Drop> Ask<u64, S> for RecordingPort {
     }
 }
 
-impl<S: Drop> Port<u64, S> for RecordingPort {
+impl<A: Allocator> Port<u64, WakerSlot<A>> for RecordingPort {
     ghost use Rattle.std.specs.Prelude.{⊤};
 
     ghost lacks_memory = { λ _. ⊤ };

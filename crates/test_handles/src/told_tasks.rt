@@ -2,6 +2,7 @@
 use async_broadcast::{Port, Receiver, Send, Sender, Snapshot, WakerSlot, broadcast};
 use futures::executor::{LocalPool, LocalSpawner};
 use futures::task::{Context, Poll, Source, Waker};
+use futures::test::MockTask;
 use futures::{Future, Stream};
 use std::alloc::{AllocGlobal, Global};
 use std::process::Abort;
@@ -204,6 +205,23 @@ fn play<R: Wait + Clone + AllocGlobal + RandomSource>(
     })
 }
 
+/// Whether a task is woken by the drop of receives, each of which it polls once.
+fn is_woken_by_drops<R: Wait + Clone + AllocGlobal + RandomSource>(
+    rt: &R,
+    alloc: Global,
+    receives: u64,
+) -> Result<bool, Fail> {
+    let (_sender, mut receiver) = broadcast::<u64, R, Global>(rt.clone()?, alloc, 1)?;
+    let task = MockTask::new(rt)?;
+    for _ in 0..receives {
+        let mut receive = receiver.recv_direct();
+        let Poll::Pending = task.enter(|cx| receive.poll(cx)) else {
+            return Err(Fail::from("a receive is answered"));
+        };
+    }
+    Ok(task.is_woken())
+}
+
 // No call is made beside the polls of tasks that were woken, and each of them polls once whenever
 // it is woken. So the polls of a row follow one another, and are compared with the bound of the law
 // that told polls come to rest: at most n (n + 1) / 2, where n listeners wait. That a task that is
@@ -219,6 +237,16 @@ fn told_tasks_come_to_rest(rt: HostRuntime) -> Result<(), Fail> {
             2 * seen.polls <= seen.listeners * (seen.listeners + 1),
             "{name}"
         );
+    }
+    Ok(())
+}
+
+// A dropped receive leaves its waker to the next one.
+#[test]
+fn dropped_receives_wake_no_task(rt: HostRuntime) -> Result<(), Fail> {
+    for receives in [1, 2, 3] {
+        let is_woken = is_woken_by_drops(&rt, rt.alloc(), receives)?;
+        assert!(rt; !is_woken, "{receives} receives");
     }
     Ok(())
 }

@@ -17,7 +17,7 @@ struct Noted<'a> {
 }
 
 impl Notice for Noted<'_> {
-    fn tell(&self) {
+    fn tell(&mut self) {
         let told = self.told.get();
         self.told
             .set(told.wrapping_mul(10).wrapping_add(self.digit));
@@ -29,7 +29,8 @@ impl Notice for Noted<'_> {
 enum Step {
     // Waits, with a notice of this digit.
     Wait(Id, u64),
-    Renew(Id, u64),
+    // Gives it a notice of the first digit, and gets one of the second back.
+    SwapNotice(Id, u64, u64),
     Tell(usize),
     TellAll,
     Consume(Id, Option<bool>),
@@ -78,16 +79,18 @@ const GIVES_UP: &[Step] = &[
     Step::Len(0),
 ];
 
-const RENEWED: &[Step] = &[
+const OTHER_NOTICES: &[Step] = &[
     Step::Wait(STREAM, 1),
     Step::Wait(FUTURE, 2),
-    Step::Renew(STREAM, 3),
+    Step::SwapNotice(STREAM, 3, 1),
+    Step::SwapNotice(FAR, 9, 9),
     Step::Wait(FUTURE, 4),
     Step::Tell(1),
     Step::Called(3),
+    Step::SwapNotice(FUTURE, 6, 4),
     Step::Wait(STREAM, 5),
     Step::TellAll,
-    Step::Called(345),
+    Step::Called(365),
     Step::Told(2),
     Step::Len(2),
 ];
@@ -122,15 +125,6 @@ fn wait<N: Notice, A: Allocator>(
     Ok(event.is_untold(id))
 }
 
-// Gives a listener another notice, if it is not told.
-fn renew<N: Notice, A: Allocator>(event: &mut Event<Id, N, A>, id: Id, notice: N) -> bool {
-    let is_untold = event.is_untold(id);
-    if is_untold {
-        event.renew(id, notice);
-    }
-    is_untold
-}
-
 // Takes a listener out that gave up. Whether it is gone.
 fn abandon<N: Notice, A: Allocator>(event: &mut Event<Id, N, A>, id: Id) -> bool {
     event.abandon(id);
@@ -145,7 +139,9 @@ fn is_right<'a>(
 ) -> Result<bool, AllocError> {
     match step {
         Step::Wait(id, digit) => wait(event, id, Noted { digit, told }),
-        Step::Renew(id, digit) => Ok(renew(event, id, Noted { digit, told })),
+        Step::SwapNotice(id, digit, had) => {
+            Ok(event.swap_notice(id, Noted { digit, told }).digit == had)
+        }
         Step::Tell(count) => {
             event.tell(count);
             Ok(event.told() >= count)
@@ -183,7 +179,7 @@ fn notices_are_called_in_their_order(rt: HostRuntime) -> Result<(), Fail> {
             FRONT_FIRST,
         ),
         ("a told one that gives up tells the next", GIVES_UP),
-        ("the new notice is called", RENEWED),
+        ("the new notice is called", OTHER_NOTICES),
         ("listeners leave in any order", ANY_ORDER),
     ];
     for (name, steps) in tables {

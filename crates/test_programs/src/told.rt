@@ -14,7 +14,7 @@ use std::rc::Rc;
 struct Counted(Rc<Cell<u64>>);
 
 impl Notice for Counted {
-    fn tell(&self) {
+    fn tell(&mut self) {
         self.0.set(self.0.get().wrapping_add(1));
     }
 }

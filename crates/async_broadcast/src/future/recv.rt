@@ -118,13 +118,12 @@ impl<T: Clone, P: Ask<T, WakerSlot<A>>, A: Allocator> Drop for Recv<'_, T, P, A>
             (Call.EndFuture self.entry.receiver.now.key) Reply.EndFuture }
         ensures back { self.exit.0.now ≡ self.entry.receiver.now }
     {
-        let is_answered = self.is_answered;
-        let receiver = &*self.receiver;
-        receiver.port.end_future(receiver.key, is_answered);
         let Recv {
-            receiver: _,
-            is_answered: _,
+            receiver,
+            is_answered,
         } = self;
+        let wake = receiver.port.end_future(receiver.key, is_answered);
+        receiver.waker.keep(wake);
     }
 }
 

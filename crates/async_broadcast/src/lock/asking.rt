@@ -7,7 +7,7 @@ ghost use Rattle.bcast_model.specs.PollLaws.{must_wait};
 ghost use Rattle.async_broadcast.specs.Kinds.{IsOfKind};
 ghost use Rattle.async_broadcast.specs.Polls.{is_any_poll};
 
-use super::Lock;
+use super::{Lock, Locked};
 use crate::port::Ask;
 use crate::wake::{Registers, Wake, WakerSlot};
 use bcast_core::{Call, Reply};
@@ -18,19 +18,17 @@ use std::sync::Wait;
 impl<T: Clone, R: Wait + Clone, A: Allocator + Copy> Lock<T, R, A> {
     // Makes a call under the lock, and then wakes the threads that it has something for.
     #[inline(always)]
-    fn make(&self, call: Call<T>, wake: Wake<WakerSlot<A>>) -> Reply<T>
+    fn make(&self, mut state: Locked<'_, T, A>, call: Call<T>, wake: Wake<WakerSlot<A>>) -> Reply<T>
         requires { HasPositiveCapacity call }
         ensures possible { IsPossible T.is_clone call result }
         ensures kind { IsOfKind call result }
     {
-        let channel = &*self.channel;
-        let mut state = channel.lock(&self.rt);
         if state.has_no_thread() {
             return state.make_alone(call, wake);
         }
         let (reply, woken) = state.step(call, wake);
         drop(state);
-        channel.wake(woken);
+        self.channel.wake(woken);
         reply
     }
 }
@@ -47,7 +45,8 @@ impl<T: Clone, R: Wait + Clone, A: Allocator + Copy> Ask<T, WakerSlot<A>> for Lo
         requires { HasPositiveCapacity call }
         ensures { IsPossible T.is_clone call result }
     {
-        self.make(call, wake)
+        let state = self.channel.lock(&self.rt);
+        self.make(state, call, wake)
     }
 
     #[inline(always)]
@@ -88,14 +87,17 @@ impl<T: Clone, R: Wait + Clone, A: Allocator + Copy> Ask<T, WakerSlot<A>> for Lo
     // An answered poll has taken its listener off the list, and no other poll can have put it
     // back: so the call would change nothing, and isn't made.
     #[inline(always)]
-    fn end_future(&self, key: usize, is_answered: bool)
+    fn end_future(&self, key: usize, is_answered: bool) -> Wake<WakerSlot<A>>
         ensures { IsPossible T.is_clone (Call.EndFuture key) Reply.EndFuture }
     {
-        if !is_answered {
-            match self.make(Call::EndFuture(key), Wake::none()) {
-                Reply::EndFuture => {}
-                _ => unreachable!(),
-            }
+        if is_answered {
+            return Wake::none();
+        }
+        let mut state = self.channel.lock(&self.rt);
+        let wake = state.swap_notice(&Call::EndFuture(key), Wake::none());
+        match self.make(state, Call::EndFuture(key), Wake::none()) {
+            Reply::EndFuture => wake,
+            _ => unreachable!(),
         }
     }
 }

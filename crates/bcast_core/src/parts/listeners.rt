@@ -47,6 +47,15 @@ impl<T: Drop, N: Notice, A: Allocator + Copy> Parts<T, N, A> {
         self.sends.wait(place, notice);
     }
 
+    /// Gives the send of this place another notice, and returns the one it had. The same notice
+    /// comes back if it doesn't wait.
+    #[inline(always)]
+    pub fn swap_place_notice(&mut self, place: usize, notice: N) -> N
+        ensures { self.new ≡ self.old }
+    {
+        self.sends.swap_notice(place, notice)
+    }
+
     /// The send of this place was answered.
     #[inline(always)]
     pub fn place_answered(&mut self, place: usize)
@@ -81,13 +90,13 @@ impl<T: Drop, N: Notice, A: Allocator + Copy> Parts<T, N, A> {
         self.receives.is_untold(key, kind)
     }
 
-    /// A receiver's listener waits on, with another notice.
+    /// Gives a receiver's listener another notice, and returns the one it had. The same notice
+    /// comes back if it doesn't wait.
     #[inline(always)]
-    pub fn renew_pair(&mut self, key: usize, kind: Kind, notice: N)
-        requires { is_untold self.old.control (key, kind) ≡ true }
+    pub fn swap_pair_notice(&mut self, key: usize, kind: Kind, notice: N) -> N
         ensures { self.new ≡ self.old }
     {
-        self.receives.renew(key, kind, notice);
+        self.receives.swap_notice(key, kind, notice)
     }
 
     /// A receiver's listener was answered.

@@ -187,7 +187,7 @@ impl<T: Clone, N: Notice, A: Allocator + Copy> Parts<T, N, A> {
         ensures steps { steps.new ≡ steps.old + tries_of self.old.control (stream_of key) }
     {
         if self.is_untold(key, Kind::Stream) {
-            self.renew_pair(key, Kind::Stream, notice);
+            self.swap_pair_notice(key, Kind::Stream, notice);
             return Ok(Err(TryRecvError::Empty));
         }
         self.poll(key, Kind::Stream, at, notice, steps)

@@ -82,6 +82,25 @@ impl<T: Clone, N: Notice, A: Allocator + Copy> Inner<T, N, A> {
         }
     }
 
+    /// Gives the listener of this call another notice, and returns the one it had: a poll's own
+    /// listener, and for `EndFuture` that of the future. The same notice comes back if that
+    /// listener doesn't wait, and from every other call. Nothing else changes.
+    #[inline(always)]
+    pub fn swap_notice(&mut self, call: &Call<T>, notice: N) -> N
+        ensures { self.new ≡ self.old }
+    {
+        match call {
+            Call::PollSend(place, _) => self.parts.swap_place_notice(*place, notice),
+            Call::PollFuture(key) | Call::EndFuture(key) => {
+                self.parts.swap_pair_notice(*key, Kind::Future, notice)
+            }
+            Call::PollRecv(key) | Call::PollNext(key) => {
+                self.parts.swap_pair_notice(*key, Kind::Stream, notice)
+            }
+            _ => notice,
+        }
+    }
+
     /// Receives as `try_recv` does, by a future. If there is nothing it waits: `notice` is told
     /// once it is to be polled again.
     ///

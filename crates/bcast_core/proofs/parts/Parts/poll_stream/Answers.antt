@@ -13,6 +13,6 @@ returns-then-is_untold-clause-reply g c =
 pub returns-then-is_untold-clause-ok : goal.returns-then-is_untold-clause-ok
 returns-then-is_untold-clause-ok g c =
     let untold = sym c.is_untold.ensures ∙ c.if-is_untold.true in
-    c.renew_pair.ensures
+    c.swap_pair_notice.ensures
     ∙ untold_stays c.args.self.now (stream_of c.args.key) c.args.at c.requires.valid untold
     (ap is_empty_reply (untold_empty c.args.self.now (stream_of c.args.key) c.args.at c.requires.valid untold c.requires.at))

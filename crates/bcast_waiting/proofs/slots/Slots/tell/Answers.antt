@@ -1,27 +1,26 @@
 -- One slot more.
-use Rattle.std.proofs.Common.{◌+◌, cond, ap, ◌∙◌, sym, arith}
+use Rattle.std.proofs.Common.{◌+◌, ◌<◌, cond, None, get_or, is_some, length, ap, ◌∙◌, sym, arith}
 use Rattle.bcast_waiting.specs.Slots.{front}
-use Rattle.bcast_waiting.proofs.InSlots.{front-more, front_all}
+use Rattle.bcast_waiting.proofs.InSlots.{front-more}
 use Rattle.bcast_waiting.proofs.slots.Slots.tell.Goals as goal
 use Rattle.bcast_waiting.proofs.slots.Slots.tell.Goals.{then-tell_at, else-tell_at}
-
--- the loop passes all slots
-pub returns-clause-told : goal.returns-clause-told
-returns-clause-told g c =
-    let ids = c.args.self.now.ids in
-    let all = front_all ids c.loop-position.position (omega arith) in
-    let end = front_all ids c.len.result (omega arith) in
-    omega (arith, c.loop-position.invariant, c.requires.enough, all, end)
 
 pub loop-position-preserved : goal.loop-position-preserved
 loop-position-preserved g c =
     let ids = c.args.self.now.ids in
-    let more = front-more ids c.loop-position.position (omega arith) ∙ ap (λ b. front ids c.loop-position.position + cond b 1 0) (sym c.tell_at.ensures) in
-    elim c.if-tell_at.branch [
-      | then-tell_at w ↦
-          let told = more ∙ ap (λ b. front ids c.loop-position.position + cond b 1 0) w.if-tell_at.true in
-          omega (arith, told, c.loop-position.invariant)
-      | else-tell_at w ↦
-          let untold = more ∙ ap (λ b. front ids c.loop-position.position + cond b 1 0) w.if-tell_at.false in
-          omega (arith, untold, c.loop-position.invariant)
-    ]
+    let position = c.loop-position.position in
+    let told = c.loop-position.invariant.told in
+    let within : position < length ids = omega (arith, c.loop-position-test.true, c.len-end.ensures) in
+    let there = ap (λ s. is_some (get_or s.ids position None)) (sym c.loop-position.invariant.same) ∙ sym c.tell_at.ensures.there in
+    let more = front-more ids position within ∙ ap (λ b. front ids position + cond b 1 0) there in
+    record {
+      same = c.tell_at.ensures.same ∙ c.loop-position.invariant.same;
+      told = elim c.if-tell_at.branch [
+        | then-tell_at w ↦
+            let one = more ∙ ap (λ b. front ids position + cond b 1 0) w.if-tell_at.true in
+            omega (arith, one, told)
+        | else-tell_at w ↦
+            let none = more ∙ ap (λ b. front ids position + cond b 1 0) w.if-tell_at.false in
+            omega (arith, none, told)
+      ];
+    }

@@ -1,7 +1,11 @@
--- How many are told so far.
-use Rattle.std.proofs.Common.{◌≡◌, ◌+◌}
-use Rattle.bcast_waiting.specs.Slots.{front}
+-- The slots stay as they are, and how many are told so far.
+use Rattle.std.proofs.Common.{◌≡◌, ℕ, ◌+◌}
+use Rattle.bcast_waiting.specs.Slots.{Slots, front}
 use Rattle.bcast_waiting.proofs.slots.Slots.tell.Given as goal
 
+pub record IsTold {I : Type 0} (before now : Slots I) (position left from count : ℕ) : Type 0 where
+  pub same : now ≡ before
+  pub told : front before.ids position + left ≡ front before.ids from + count
+
 abbrev pub invariant-loop-position : goal.invariant-loop-position
-invariant-loop-position g l = front l.self.ids l.position + l.left ≡ front l.self.ids l.from + l.count
+invariant-loop-position g l = IsTold l.initial.self l.self l.position l.left l.from l.count
