@@ -259,6 +259,9 @@ impl<T: Clone, R: Wait + Clone, A: Allocator + Copy> Port<T, WakerSlot<A>> for L
         if state.is_idle() {
             return state.try_recv_alone(key);
         }
+        if state.has_no_thread() {
+            return state.try_recv_and_tell(key);
+        }
         channel.try_recv_and_wake(state, key)
     }
 

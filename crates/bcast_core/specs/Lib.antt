@@ -6,3 +6,5 @@ pub mod InfallibleClones
 pub mod Snapshot
 -- how often a receive poll looks for a message
 pub mod Tries
+-- which calls are those of futures and streams
+pub mod TaskCalls

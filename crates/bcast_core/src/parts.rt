@@ -175,6 +175,7 @@ impl<T: Drop, N: Notice, A: Allocator + Copy> Parts<T, N, A> {
     }
 
     /// Tells the first waiting send, if this call is to and sends are ready.
+    #[inline(always)]
     pub fn tell_if_ready(&mut self, may: bool)
         ensures { self.new ≡ tell_if_ready may self.old }
     {

@@ -13,6 +13,7 @@ ghost use Rattle.bcast_model.specs.Deliveries.{AtEachPoint, AreAllExact};
 ghost use Rattle.bcast_model.specs.Laws.{WaitsAsItsTry};
 ghost use Rattle.bcast_model.specs.ToldPolls.{ComesToRest};
 ghost use Rattle.bcast_core.specs.InfallibleClones.{is_receive_refused};
+ghost use Rattle.bcast_core.specs.TaskCalls.{is_of_task};
 
 use crate::state::Inner;
 use crate::tries::Steps;
@@ -42,6 +43,9 @@ pub fn step<T: Clone, N: Notice, A: Allocator + Copy>(
 }
 
 // The same, with steps that nobody counts. That the reply is possible follows from `answers`.
+//
+// The calls of futures and streams are compiled into their callers. All others stand in a function
+// of their own: a function that has all 37 is too large to be compiled in.
 #[inline(always)]
 fn make_call<T: Clone, N: Notice, A: Allocator + Copy, L: Ledger>(
     inner: &mut Inner<T, N, A>,
@@ -56,19 +60,14 @@ fn make_call<T: Clone, N: Notice, A: Allocator + Copy, L: Ledger>(
     ensures answers { Answers T.is_clone inner.old call result inner.new }
     ensures sure { ((msg : T) → T.is_infallible msg) → is_receive_refused result ≡ false }
 {
-    inner.invariant_holds();
     let mut steps = Steps::<L>::new(blank);
     match call {
-        Call::TryBroadcast(msg) => Reply::TryBroadcast(inner.try_broadcast(msg)),
-        Call::TryBroadcastAll(msgs) => Reply::TryBroadcastAll(inner.offer_all_and_tell(msgs)),
-        Call::AttemptSend(msg) => Reply::AttemptSend(inner.attempt_send(msg)),
         Call::BeginSend => Reply::BeginSend(inner.begin_send()),
         Call::PollSend(place, msg) => Reply::PollSend(inner.poll_send(place, msg, notice)),
         Call::EndSend(place) => {
             inner.end_send(place);
             Reply::EndSend
         }
-        Call::TryRecv(key) => Reply::TryRecv(inner.try_recv(key)),
         Call::PollFuture(key) => Reply::PollFuture(inner.poll_future(key, notice, &mut steps)),
         Call::EndFuture(key) => {
             inner.end_future(key);
@@ -76,6 +75,27 @@ fn make_call<T: Clone, N: Notice, A: Allocator + Copy, L: Ledger>(
         }
         Call::PollRecv(key) => Reply::PollRecv(inner.poll_recv(key, notice, &mut steps)),
         Call::PollNext(key) => Reply::PollNext(inner.poll_next(key, notice, &mut steps)),
+        call => make_at_once(inner, call),
+    }
+}
+
+// The calls that no future and no stream makes: they leave no notice.
+#[inline(never)]
+fn make_at_once<T: Clone, N: Notice, A: Allocator + Copy>(
+    inner: &mut Inner<T, N, A>,
+    call: Call<T>,
+) -> Reply<T>
+    requires capacity { HasPositiveCapacity call }
+    requires at_once { is_of_task call ≡ false }
+    ensures answers { Answers T.is_clone inner.old call result inner.new }
+    ensures sure { ((msg : T) → T.is_infallible msg) → is_receive_refused result ≡ false }
+{
+    inner.invariant_holds();
+    match call {
+        Call::TryBroadcast(msg) => Reply::TryBroadcast(inner.try_broadcast(msg)),
+        Call::TryBroadcastAll(msgs) => Reply::TryBroadcastAll(inner.offer_all_and_tell(msgs)),
+        Call::AttemptSend(msg) => Reply::AttemptSend(inner.attempt_send(msg)),
+        Call::TryRecv(key) => Reply::TryRecv(inner.try_recv(key)),
         Call::Close => Reply::Close(inner.close()),
         Call::SetCapacity(n) => Reply::SetCapacity(inner.set_capacity(n)),
         Call::SetOverflow(on) => {
@@ -119,6 +139,7 @@ fn make_call<T: Clone, N: Notice, A: Allocator + Copy, L: Ledger>(
         ),
         Call::SenderCount => Reply::SenderCount(inner.sender_count()),
         Call::EndNumber => Reply::EndNumber(inner.end_number()),
+        _ => unreachable!(),
     }
 }
 

@@ -175,14 +175,26 @@ impl<I: Copy + Eq + Indexed, N: Notice, A: Allocator> Event<I, N, A> {
     /// Takes time for those that were not told yet alone, amortised.
     ///
     /// Source: `Event::notify`.
+    #[inline(always)]
     pub fn tell(&mut self, count: usize)
         ensures { self.new ≡ record self.old { listeners = tell count self.old.listeners } }
     {
         let end = count.min(self.len);
         if self.told < end {
-            self.told_end = self.slots.tell(self.told_end, end - self.told);
-            self.told = end;
+            self.tell_up_to(end);
         }
+    }
+
+    // Tells the listeners before `end`, some of whom aren't told yet. In a function of its own, so
+    // that a call with nobody to tell costs one test.
+    #[inline(never)]
+    fn tell_up_to(&mut self, end: usize)
+        requires more { self.old.listeners.told < end }
+        requires within { end ≤ length self.old.listeners.ids }
+        ensures { self.new ≡ record self.old { listeners = tell end self.old.listeners } }
+    {
+        self.told_end = self.slots.tell(self.told_end, end - self.told);
+        self.told = end;
     }
 
     /// Tells every listener, as [`Event::tell`] does.

@@ -3,6 +3,7 @@ ghost use Rattle.std.specs.Prelude.{◌≡◌, true, false, IfOk, IfErr, OnErr};
 ghost use Rattle.futures.specs.Task.{IsArmed, Keeps};
 ghost use Rattle.bcast_model.specs.Next.{HasPositiveCapacity};
 ghost use Rattle.bcast_model.specs.Answers.{IsPossible};
+ghost use Rattle.bcast_model.specs.Legal.{Legal};
 ghost use Rattle.bcast_model.specs.PollLaws.{must_wait};
 ghost use Rattle.async_broadcast.specs.Kinds.{IsOfKind};
 ghost use Rattle.async_broadcast.specs.Polls.{is_any_poll};
@@ -20,12 +21,30 @@ impl<T: Clone, R: Wait + Clone, A: Allocator + Copy> Lock<T, R, A> {
     #[inline(always)]
     fn make(&self, mut state: Locked<'_, T, A>, call: Call<T>, wake: Wake<WakerSlot<A>>) -> Reply<T>
         requires { HasPositiveCapacity call }
+        ensures legal { Legal T.is_clone state.entry.value.inner call result }
         ensures possible { IsPossible T.is_clone call result }
         ensures kind { IsOfKind call result }
     {
         if state.has_no_thread() {
             return state.make_alone(call, wake);
         }
+        self.make_and_wake(state, call, wake)
+    }
+
+    // The same while threads wait. In a function of its own, so that a call that finds none clears
+    // no memory for what this one needs.
+    #[inline(always)]
+    fn make_and_wake(
+        &self,
+        mut state: Locked<'_, T, A>,
+        call: Call<T>,
+        wake: Wake<WakerSlot<A>>,
+    ) -> Reply<T>
+        requires { HasPositiveCapacity call }
+        ensures legal { Legal T.is_clone state.entry.value.inner call result }
+        ensures possible { IsPossible T.is_clone call result }
+        ensures kind { IsOfKind call result }
+    {
         let (reply, woken) = state.step(call, wake);
         drop(state);
         self.channel.wake(woken);
@@ -70,18 +89,11 @@ impl<T: Clone, R: Wait + Clone, A: Allocator + Copy> Ask<T, WakerSlot<A>> for Lo
         ensures answered { IfOk result (λ reply. is_any_poll call ≡ true
             → must_wait reply ≡ false → (task.new ≡ task.old) × (cx.new ≡ cx.old)) }
     {
-        let channel = &*self.channel;
-        let mut state = channel.lock(&self.rt);
+        let mut state = self.channel.lock(&self.rt);
         let Some(wake) = state.notice_for(&call, task, cx) else {
             return Err(call);
         };
-        if state.has_no_thread() {
-            return Ok(state.make_alone(call, wake));
-        }
-        let (reply, woken) = state.step(call, wake);
-        drop(state);
-        channel.wake(woken);
-        Ok(reply)
+        Ok(self.make(state, call, wake))
     }
 
     // An answered poll has taken its listener off the list, and no other poll can have put it

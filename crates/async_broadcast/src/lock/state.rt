@@ -8,7 +8,7 @@ ghost use Rattle.bcast_core.specs.Snapshot.{Shows};
 ghost use Rattle.async_broadcast.specs.Kinds.{IsOfKind};
 ghost use Rattle.async_broadcast.specs.Snapshots.{ShowsSomeState};
 ghost use Rattle.async_broadcast.specs.Woken.{HasNoThread, IsIdle, HasWokenSender, HasWokenReceiver};
-ghost use Rattle.async_broadcast.specs.Woken.{NotesSender, NotesReceiver, MovesReceivers, EndsWait, news_of, one_more, one_less};
+ghost use Rattle.async_broadcast.specs.Woken.{NotesSender, NotesReceiver, MovesReceivers, news_of};
 
 use crate::wake::{Wake, WakerSlot};
 use bcast_core::{Call, Inner, Reply, Snapshot, TryRecvError, TrySendError, step};
@@ -16,6 +16,7 @@ use std::alloc::{AllocError, Allocator};
 use std::sync::Condvar;
 
 mod notice;
+mod threads;
 
 #[derive(Drop)]
 pub(super) struct State<T: Clone, A: Allocator> {
@@ -176,6 +177,21 @@ impl<T: Clone, A: Allocator + Copy> State<T, A> {
         self.inner.try_recv_alone(key)
     }
 
+    /// Receives while no thread waits. A send of a task may wait.
+    #[inline(always)]
+    pub(super) fn try_recv_and_tell(
+        &mut self,
+        key: usize,
+    ) -> Result<Result<T, TryRecvError>, AllocError>
+        requires { HasNoThread self.old }
+        ensures answers { Answers T.is_clone self.old.inner (Call.TryRecv key)
+            (Reply.TryRecv result) self.new.inner }
+        ensures possible { IsPossible T.is_clone (Call.TryRecv key) (Reply.TryRecv result) }
+        ensures threads { self.new ≡ record self.old { inner = self.new.inner } }
+    {
+        self.inner.try_recv(key)
+    }
+
     /// Receives, and says whom to wake after it.
     #[inline(never)]
     pub(super) fn try_recv(
@@ -229,47 +245,6 @@ impl<T: Clone, A: Allocator + Copy> State<T, A> {
         self.inner.invariant_holds();
         let snapshot = self.inner.snapshot(alloc)?;
         Ok(snapshot)
-    }
-
-    /// A thread is about to wait to send.
-    pub(super) fn begin_to_send(&mut self)
-        ensures { self.new ≡ record self.old { senders = one_more self.old.senders } }
-    {
-        self.senders = self.senders.wrapping_add(1);
-    }
-
-    /// A thread has waited to send, and tries again.
-    pub(super) fn try_to_send(&mut self)
-        ensures { self.new ≡ record self.old {
-          senders = one_less self.old.senders;
-          is_sender_woken = false;
-        } }
-    {
-        self.senders = self.senders.wrapping_sub(1);
-        self.is_sender_woken = false;
-    }
-
-    /// A thread that has nothing to receive is about to wait for a message. Returns what it knows.
-    pub(super) fn begin_to_receive(&mut self) -> (u64, bool)
-        ensures known { result ≡ news_of self.old }
-        ensures idle { self.new ≡ record self.old {
-          idle_receivers = one_more self.old.idle_receivers;
-        } }
-    {
-        self.idle_receivers = self.idle_receivers.wrapping_add(1);
-        self.news()
-    }
-
-    /// A thread that began to wait when it knew this much has waited, and tries again.
-    pub(super) fn try_to_receive(&mut self, known: (u64, bool))
-        ensures { EndsWait known self.old self.new }
-    {
-        if self.news() == known {
-            self.idle_receivers = self.idle_receivers.wrapping_sub(1);
-        } else {
-            self.due_receivers = self.due_receivers.wrapping_sub(1);
-        }
-        self.is_receiver_woken = false;
     }
 
     // What changes when a receiver that had read everything has something to receive.

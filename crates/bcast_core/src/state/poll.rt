@@ -137,7 +137,6 @@ impl<T: Clone, N: Notice, A: Allocator + Copy> Inner<T, N, A> {
     /// `AllocError` as for `try_recv`; nothing changed.
     ///
     /// Source: `Receiver::poll_recv` of async-broadcast.
-    #[inline(always)]
     pub fn poll_recv<L: Ledger>(
         &mut self,
         key: usize,
@@ -188,7 +187,6 @@ impl<T: Drop, N: Notice, A: Allocator + Copy> Inner<T, N, A> {
     /// its place. One that doesn't wait changes nothing.
     ///
     /// Source: the drop of `Recv` of async-broadcast.
-    #[inline(always)]
     pub fn end_future(&mut self, key: usize)
         ensures { Answers NoClone self.old (call.EndFuture key) reply.EndFuture self.new }
     {

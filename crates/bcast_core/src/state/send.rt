@@ -110,7 +110,6 @@ impl<T: Drop, N: Notice, A: Allocator + Copy> Inner<T, N, A> {
     /// # Errors
     ///
     /// `AllocError`: memory for it was refused, and nothing changed.
-    #[inline(always)]
     pub fn begin_send(&mut self) -> Result<usize, AllocError>
         ensures { Answers NoClone self.old call.BeginSend (reply.BeginSend result) self.new }
     {
