@@ -20,7 +20,7 @@ use Rattle.bcast_model.specs.View.{View}
 use Rattle.bcast_model.proofs.Polls.{waits_as_its_try}
 use Rattle.bcast_model.proofs.Receives.{empty_at}
 use Rattle.bcast_core.proofs.Does.{valid_shown}
-use Rattle.async_broadcast.specs.Polls.{is_any_poll}
+use Rattle.bcast_core.specs.TaskCalls.{is_any_poll}
 
 pub apart : false ≡ true → ⊥
 apart e = cc

@@ -3,8 +3,7 @@ pub mod Kinds
 pub mod Ports
 -- the replies of a channel are such
 pub mod OfKind
--- polls and futures
-pub mod Polls
+-- futures and streams
 pub mod TaskWakers
 pub mod Futures
 -- which waiting threads are woken

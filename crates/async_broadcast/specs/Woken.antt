@@ -3,6 +3,7 @@ use Rattle.std.specs.Prelude.{◌≡◌, ℕ, ◌+◌, ◌-◌, ◌%◌, ◌^◌
 use Rattle.bcast_model.specs.Control.{is_ready}
 use Rattle.bcast_model.specs.Listeners.{no_listeners}
 use Rattle.bcast_model.specs.View.{is_full}
+use Rattle.bcast_core.specs.Alone.{NobodyWaits}
 use Rattle.async_broadcast.specs.declared.lock.state.State.{State}
 use Rattle.async_broadcast.specs.declared.lock.state.Woken.{Woken}
 
@@ -26,6 +27,11 @@ module _ {T A : Type 0} where
   -- and no send of a task
   abbrev pub IsIdle : State T A → Type 0
   IsIdle s = HasNoThread s × (s.inner.control.waiting_sends ≡ no_listeners)
+
+  -- nobody waits: no thread, no send and no receive of a task
+  pub record IsAlone (s : State T A) : Type 0 where
+    pub threads : HasNoThread s
+    pub tasks : NobodyWaits s.inner.control
 
   -- where sends are ready and a thread waits to send, one was woken that hasn't tried yet
   abbrev pub HasWokenSender : State T A → Type 0

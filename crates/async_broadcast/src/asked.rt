@@ -58,12 +58,6 @@ pub(crate) fn try_broadcast_all<T: Clone, S, P: Ask<T, S>>(
     ask!(port, TryBroadcastAll(msgs))
 }
 
-pub(crate) fn begin_send<T: Clone, S, P: Ask<T, S>>(port: &P) -> Result<usize, AllocError>
-    ensures { P.gave port.now Call.BeginSend (Reply.BeginSend result) }
-{
-    ask!(port, BeginSend)
-}
-
 pub(crate) fn end_send<T: Clone, S, P: Ask<T, S>>(port: &P, place: usize)
     ensures { P.gave port.now (Call.EndSend place) Reply.EndSend }
 {

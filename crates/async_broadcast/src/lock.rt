@@ -244,8 +244,11 @@ impl<T: Clone, R: Wait + Clone, A: Allocator + Copy> Port<T, WakerSlot<A>> for L
     {
         let channel = &*self.channel;
         let mut state = channel.lock(&self.rt);
-        if state.has_no_thread() {
+        if state.is_alone() {
             return state.try_broadcast_alone(msg);
+        }
+        if state.has_no_thread() {
+            return state.try_broadcast_and_tell(msg);
         }
         channel.try_broadcast_and_wake(state, msg)
     }

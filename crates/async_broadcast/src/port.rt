@@ -63,6 +63,16 @@ pub trait Ask<T: Clone, S>: Sized + Drop {
         Ok(self.ask(call, wake))
     }
 
+    /// Asks `BeginSend`.
+    fn begin_send(&self) -> Result<usize, AllocError>
+        ensures { gave self.now Call.BeginSend (Reply.BeginSend result) }
+    {
+        match self.ask(Call::BeginSend, Wake::none()) {
+            Reply::BeginSend(begun) => begun,
+            _ => unreachable!(),
+        }
+    }
+
     /// Gives up the receive of the receiver `key`. `is_answered`: its future's last poll was
     /// answered, other than for want of memory. Asks `EndFuture`; a port may leave that out if it
     /// would change nothing.

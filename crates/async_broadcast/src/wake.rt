@@ -124,6 +124,18 @@ impl<A: Allocator> TaskWaker<A> {
     }
 }
 
+impl<A: Allocator + Copy> TaskWaker<A> {
+    /// Registers the task of a poll that asks nothing. In a function of its own, so that a poll
+    /// that asks clears no memory for a notice.
+    #[inline(never)]
+    pub(crate) fn register_alone(&mut self, cx: &mut Context<'_>)
+        ensures registered { IsArmed cx.new }
+        ensures kept { Keeps cx.old cx.new }
+    {
+        self.register(cx);
+    }
+}
+
 impl<A: Allocator + Copy> Registers<WakerSlot<A>> for TaskWaker<A> {
     ghost is_refused = { λ task. task.is_refused };
 

@@ -1,8 +1,9 @@
 -- If no send waits, a call tells no sender.
-use Rattle.std.proofs.Common.{◌≡◌, ℕ, Bool, true, false, cond, ◌&&◌, Option, Some, None, Result, Ok, Err, OnOk, OnErr, refl, sym, ap, ◌∙◌}
+use Rattle.std.proofs.Common.{◌≡◌, ℕ, Bool, true, false, cond, ◌&&◌, Option, Some, None, Result, Ok, Err, IfOk, OnOk, OnErr, refl, sym, ap, ◌∙◌}
 use Rattle.bcast_model.specs.declared.error.TrySendError.{TrySendError}
 use Rattle.bcast_model.specs.Listeners.{no_listeners, tell, tell_all}
-use Rattle.bcast_model.specs.Control.{tell_a_sender, tell_receivers}
+use Rattle.std.specs.declared.alloc.AllocError.{AllocError}
+use Rattle.bcast_model.specs.Control.{tell_a_sender, tell_receivers, with_place}
 use Rattle.bcast_model.specs.Effect.{sets}
 use Rattle.bcast_model.specs.Next.{tell_if_ready}
 use Rattle.bcast_model.specs.Receiving.{receive}
@@ -35,3 +36,9 @@ module _ {T : Type 0} where
 
   pub offer_idle : (old new : View T) (msg : T) → new ≡ settle old (offer old msg) → old.control.waiting_sends ≡ no_listeners → new.control.waiting_sends ≡ no_listeners
   offer_idle old new msg is idle = ap (λ (v : View T). v.control.waiting_sends) is ∙ accept_idle old msg (refusal old msg) idle
+
+  -- and so does a place that is given
+  pub begin_idle : (old new : View T) (r : Result ℕ AllocError) → IfOk r (λ place. new ≡ record old { control = with_place old.control place }) → OnErr r (new ≡ old)
+      → old.control.waiting_sends ≡ no_listeners → new.control.waiting_sends ≡ no_listeners
+  begin_idle old new (Ok place) ok err idle = ap (λ (v : View T). v.control.waiting_sends) ok ∙ idle
+  begin_idle old new (Err e) ok err idle = ap (λ (v : View T). v.control.waiting_sends) err ∙ idle

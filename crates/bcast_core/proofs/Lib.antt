@@ -13,3 +13,6 @@ pub mod Runs
 pub mod Opened
 pub mod Idle
 pub mod Untold
+pub mod Alone
+pub mod Known
+pub mod SendWaits

@@ -8,3 +8,5 @@ pub mod Snapshot
 pub mod Tries
 -- which calls are those of futures and streams
 pub mod TaskCalls
+-- a channel where nobody waits
+pub mod Alone

@@ -8,6 +8,8 @@ use bcast_waiting::{ReceiveList, SendList};
 use std::alloc::{Allocator, Global};
 use std::marker::Model;
 
+mod alone;
+mod answers;
 mod handles;
 mod leaving;
 mod listeners;

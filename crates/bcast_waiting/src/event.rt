@@ -1,5 +1,5 @@
 //! The listeners in the order of registering, of which a front part is told.
-ghost use Rattle.std.specs.Prelude.{◌≡◌, ◌<◌, ◌≤◌, true, false, OnOk, IfOk, IsOk, length};
+ghost use Rattle.std.specs.Prelude.{◌≡◌, ◌↔◌, ◌<◌, ◌≤◌, true, false, OnOk, IfOk, IsOk, length};
 ghost use Rattle.bcast_model.specs.Listeners.{no_listeners, tell, tell_all, join, consume, abandon, wait_again, is_in, untold_ids, AreInOrder};
 ghost use Rattle.bcast_waiting.specs.Event.{is_told};
 
@@ -77,6 +77,15 @@ impl<I: Copy + Eq + Indexed, N: Notice, A: Allocator> Event<I, N, A> {
         ensures { result ≡ length self.now.listeners.ids }
     {
         self.len
+    }
+
+    /// Whether nobody is listed.
+    #[inline(always)]
+    pub fn is_empty(&self) -> bool
+        ensures { (result ≡ true) ↔ (self.now.listeners ≡ no_listeners) }
+    {
+        self.invariant_holds();
+        self.len == 0
     }
 
     /// The ids of the listeners, from the front.

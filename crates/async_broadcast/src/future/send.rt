@@ -8,7 +8,7 @@ use crate::asked;
 use crate::asked::polls;
 use crate::port::Ask;
 use crate::sender::Sender;
-use crate::wake::{Registers, TaskWaker, WakerSlot};
+use crate::wake::{TaskWaker, WakerSlot};
 use bcast_core::{Call, NoMemory, Reply, SendError, SendPoll};
 use futures::Future;
 use futures::task::{Context, Poll};
@@ -86,7 +86,7 @@ impl<T: Clone, P: Ask<T, WakerSlot<A>>, A: Allocator + Copy> Sender<T, P, A> {
         ensures refused { IfErr result (λ error. (error.0 ≡ msg)
             × P.gave self.now.port Call.BeginSend (Reply.BeginSend (Err alloc_error))) }
     {
-        match asked::begin_send::<T, WakerSlot<A>, P>(&self.port) {
+        match self.port.begin_send() {
             Ok(place) => Ok(Send {
                 sender: self,
                 place: Some(place),
@@ -179,11 +179,11 @@ impl<T: Clone, P: Ask<T, WakerSlot<A>>, A: Allocator + Copy> Future for Send<'_,
         ensures port { self.new.sender.now.port ≡ self.old.sender.now.port }
     {
         let Some(place) = self.place else {
-            let _notice = self.waker.register(cx);
+            self.waker.register_alone(cx);
             return Poll::Pending;
         };
         let Some(msg) = self.msg.take() else {
-            let _notice = self.waker.register(cx);
+            self.waker.register_alone(cx);
             return Poll::Pending;
         };
         let sender = self.sender;

@@ -6,14 +6,15 @@ ghost use Rattle.bcast_model.specs.Answers.{IsPossible};
 ghost use Rattle.bcast_model.specs.Legal.{Legal};
 ghost use Rattle.bcast_model.specs.PollLaws.{must_wait};
 ghost use Rattle.async_broadcast.specs.Kinds.{IsOfKind};
-ghost use Rattle.async_broadcast.specs.Polls.{is_any_poll};
+ghost use Rattle.bcast_core.specs.TaskCalls.{is_any_poll};
 
+use super::state::polls::is_any_poll;
 use super::{Lock, Locked};
 use crate::port::Ask;
 use crate::wake::{Registers, Wake, WakerSlot};
 use bcast_core::{Call, Reply};
 use futures::task::Context;
-use std::alloc::Allocator;
+use std::alloc::{AllocError, Allocator};
 use std::sync::Wait;
 
 impl<T: Clone, R: Wait + Clone, A: Allocator + Copy> Lock<T, R, A> {
@@ -49,6 +50,33 @@ impl<T: Clone, R: Wait + Clone, A: Allocator + Copy> Lock<T, R, A> {
         drop(state);
         self.channel.wake(woken);
         reply
+    }
+
+    // Makes a poll while threads wait, or another call. In a function of its own, as the one before.
+    #[inline(always)]
+    fn poll_and_wake<W: Registers<WakerSlot<A>>>(
+        &self,
+        mut state: Locked<'_, T, A>,
+        call: Call<T>,
+        task: &mut W,
+        cx: &mut Context<'_>,
+    ) -> Result<Reply<T>, Call<T>>
+        requires { HasPositiveCapacity call }
+        ensures asked { IfOk result (IsPossible T.is_clone call) }
+        ensures back { IfErr result (λ back. back ≡ call) }
+        ensures notice { IfOk result (λ reply. must_wait reply ≡ true
+            → W.is_refused task.new ≡ false) }
+        ensures refused { OnErr result (W.is_refused task.new ≡ true) }
+        ensures registered { IfOk result (λ reply. must_wait reply ≡ true → IsArmed cx.new) }
+        ensures again { OnErr result (IsArmed cx.new) }
+        ensures kept { Keeps cx.old cx.new }
+        ensures answered { IfOk result (λ reply. is_any_poll call ≡ true
+            → must_wait reply ≡ false → (task.new ≡ task.old) × (cx.new ≡ cx.old)) }
+    {
+        let Some(wake) = state.notice_for(&call, task, cx) else {
+            return Err(call);
+        };
+        Ok(self.make_and_wake(state, call, wake))
     }
 }
 
@@ -90,10 +118,30 @@ impl<T: Clone, R: Wait + Clone, A: Allocator + Copy> Ask<T, WakerSlot<A>> for Lo
             → must_wait reply ≡ false → (task.new ≡ task.old) × (cx.new ≡ cx.old)) }
     {
         let mut state = self.channel.lock(&self.rt);
-        let Some(wake) = state.notice_for(&call, task, cx) else {
+        if !state.has_no_thread() || !is_any_poll(&call) {
+            return self.poll_and_wake(state, call, task, cx);
+        }
+        if state.answers_poll(&call) {
+            return Ok(state.answer_poll(call));
+        }
+        let Some(wake) = state.registered(&call, task, cx) else {
             return Err(call);
         };
-        Ok(self.make(state, call, wake))
+        Ok(state.wait_poll(call, wake))
+    }
+
+    #[inline(always)]
+    fn begin_send(&self) -> Result<usize, AllocError>
+        ensures { IsPossible T.is_clone Call.BeginSend (Reply.BeginSend result) }
+    {
+        let mut state = self.channel.lock(&self.rt);
+        if state.is_idle() {
+            return state.begin_send_alone();
+        }
+        match self.make(state, Call::BeginSend, Wake::none()) {
+            Reply::BeginSend(begun) => begun,
+            _ => unreachable!(),
+        }
     }
 
     // An answered poll has taken its listener off the list, and no other poll can have put it

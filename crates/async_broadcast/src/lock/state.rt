@@ -7,7 +7,7 @@ ghost use Rattle.bcast_model.specs.Answers.{Answers, IsPossible};
 ghost use Rattle.bcast_core.specs.Snapshot.{Shows};
 ghost use Rattle.async_broadcast.specs.Kinds.{IsOfKind};
 ghost use Rattle.async_broadcast.specs.Snapshots.{ShowsSomeState};
-ghost use Rattle.async_broadcast.specs.Woken.{HasNoThread, IsIdle, HasWokenSender, HasWokenReceiver};
+ghost use Rattle.async_broadcast.specs.Woken.{HasNoThread, HasWokenSender, HasWokenReceiver};
 ghost use Rattle.async_broadcast.specs.Woken.{NotesSender, NotesReceiver, MovesReceivers, news_of};
 
 use crate::wake::{Wake, WakerSlot};
@@ -15,7 +15,9 @@ use bcast_core::{Call, Inner, Reply, Snapshot, TryRecvError, TrySendError, step}
 use std::alloc::{AllocError, Allocator};
 use std::sync::Condvar;
 
+mod alone;
 mod notice;
+pub(super) mod polls;
 mod threads;
 
 #[derive(Drop)]
@@ -75,14 +77,6 @@ impl<T: Clone, A: Allocator + Copy> State<T, A> {
         (self.senders | self.idle_receivers | self.due_receivers) == 0
     }
 
-    /// Whether no thread waits, and no send of a task.
-    #[inline(always)]
-    pub(super) fn is_idle(&self) -> bool
-        ensures { result ≡ true → IsIdle self.now }
-    {
-        self.has_no_thread() && self.inner.no_send_waits()
-    }
-
     /// Makes one call while no thread waits.
     #[inline(always)]
     pub(super) fn make_alone(&mut self, call: Call<T>, wake: Wake<WakerSlot<A>>) -> Reply<T>
@@ -128,9 +122,9 @@ impl<T: Clone, A: Allocator + Copy> State<T, A> {
         step(&mut self.inner, call, wake)
     }
 
-    /// Sends while no thread waits.
+    /// Sends while no thread waits. Tasks may wait.
     #[inline(always)]
-    pub(super) fn try_broadcast_alone(&mut self, msg: T) -> Result<Option<T>, TrySendError<T>>
+    pub(super) fn try_broadcast_and_tell(&mut self, msg: T) -> Result<Option<T>, TrySendError<T>>
         requires { HasNoThread self.old }
         ensures answers { Answers T.is_clone self.old.inner (Call.TryBroadcast msg)
             (Reply.TryBroadcast result) self.new.inner }
@@ -160,21 +154,6 @@ impl<T: Clone, A: Allocator + Copy> State<T, A> {
         let answer = self.inner.try_broadcast(msg);
         let woken = self.whom_to_wake(known);
         (answer, woken)
-    }
-
-    /// Receives while no thread waits, and no send. So it calls no notice.
-    #[inline(always)]
-    pub(super) fn try_recv_alone(
-        &mut self,
-        key: usize,
-    ) -> Result<Result<T, TryRecvError>, AllocError>
-        requires { IsIdle self.old }
-        ensures answers { Answers T.is_clone self.old.inner (Call.TryRecv key)
-            (Reply.TryRecv result) self.new.inner }
-        ensures possible { IsPossible T.is_clone (Call.TryRecv key) (Reply.TryRecv result) }
-        ensures threads { self.new ≡ record self.old { inner = self.new.inner } }
-    {
-        self.inner.try_recv_alone(key)
     }
 
     /// Receives while no thread waits. A send of a task may wait.

@@ -1,6 +1,9 @@
 //! Sending, and the settings that make room.
-ghost use Rattle.std.specs.Prelude.{◌≡◌, ◌^◌, ◌+◌, ◌<◌, ◌≤◌, ◌∷◌, length, if◌then◌else◌, OnOk, OnErr};
+ghost use Rattle.std.specs.Prelude.{◌≡◌, ◌==◌, ◌^◌, ◌+◌, ◌<◌, ◌≤◌, [], ◌∷◌, ◌++◌, false, length, if◌then◌else◌};
+ghost use Rattle.std.specs.Prelude.{Ok, Err, IfOk, IfErr, OnOk, OnErr, Option};
 ghost use Rattle.std.specs.FinMap.{len};
+ghost use Rattle.bcast_model.specs.declared.error.TrySendError.{TrySendError};
+ghost use Rattle.bcast_model.specs.Sending.{reply_to_try, reply_to_attempt};
 
 use super::Parts;
 use bcast_model::error::{SendError, TrySendError};
@@ -10,7 +13,7 @@ use bcast_waiting::notice::Notice;
 use std::alloc::{AllocError, Allocator};
 
 impl<T: Drop, N: Notice, A: Allocator + Copy> Parts<T, N, A> {
-    ghost use Rattle.bcast_model.specs.Control.{has_place};
+    ghost use Rattle.bcast_model.specs.Control.{has_place, last_end};
     ghost use Rattle.bcast_model.specs.Laws.{IsValidView};
     ghost use Rattle.bcast_model.specs.declared.run.SendPoll.TheVariants as send;
     ghost use Rattle.bcast_model.specs.Steps.{settle, with_message, with_messages};
@@ -31,6 +34,21 @@ impl<T: Drop, N: Notice, A: Allocator + Copy> Parts<T, N, A> {
         oldest
     }
 
+    // Puts a message last, for every receiver. Returns whether it has the last number.
+    #[inline(always)]
+    pub(super) fn put(&mut self, msg: T) -> bool
+        requires someone { 0 < len self.old.control.cursors }
+        requires room { length self.old.queue < self.old.control.room }
+        requires number { self.old.end + 1 < 2 ^ 64 }
+        ensures seen { self.new ≡ record self.old
+            { queue = self.old.queue ++ msg ∷ []; end = self.old.end + 1 } }
+        ensures last { result ≡ (self.old.end + 1 == last_end) }
+    {
+        let number = self.store.end();
+        self.store.push(msg);
+        number + 1 == u64::MAX
+    }
+
     // Puts a message last, for every receiver, all of whom are told. The last number closes the
     // channel.
     #[inline(always)]
@@ -40,10 +58,9 @@ impl<T: Drop, N: Notice, A: Allocator + Copy> Parts<T, N, A> {
         requires number { self.old.end + 1 < 2 ^ 64 }
         ensures { self.new ≡ with_message self.old msg }
     {
-        let number = self.store.end();
-        self.store.push(msg);
+        let is_last = self.put(msg);
         self.receives.tell_all();
-        if number + 1 == u64::MAX {
+        if is_last {
             self.close();
         }
     }
@@ -95,12 +112,25 @@ impl<T: Drop, N: Notice, A: Allocator + Copy> Parts<T, N, A> {
         Ok(())
     }
 
-    /// Accepts a message, or hands it back with the reason.
+    // Makes room for a message that is to be accepted, which comes back with the oldest message if
+    // that was dropped; or hands it back with the reason.
     #[inline(always)]
-    pub fn offer(&mut self, msg: T) -> Result<Option<T>, TrySendError<T>>
+    pub(super) fn admit(&mut self, msg: T) -> Result<(T, Option<T>), TrySendError<T>>
         requires { IsValidView self.old }
-        ensures reply { result ≡ try_broadcast_reply self.old msg }
-        ensures effect { self.new ≡ settle self.old (offer self.old msg) }
+        ensures same { IfOk result (λ admitted. admitted.0 ≡ msg) }
+        ensures reply { IfOk result (λ admitted. try_broadcast_reply self.old msg ≡ Ok admitted.1) }
+        ensures effect { OnOk result (settle self.old (offer self.old msg)
+            ≡ with_message self.new msg) }
+
+        ensures control { self.new.control ≡ self.old.control }
+        ensures is_open { OnOk result (self.new.control.closed ≡ false) }
+        ensures someone { OnOk result (0 < len self.new.control.cursors) }
+        ensures room { OnOk result (length self.new.queue < self.new.control.room) }
+        ensures number { OnOk result (self.new.end + 1 < 2 ^ 64) }
+
+        ensures refused { IfErr result (λ error. try_broadcast_reply self.old msg ≡ Err error) }
+        ensures err { OnErr result (self.new ≡ self.old) }
+        ensures nothing { OnErr result (settle self.old (offer self.old msg) ≡ self.old) }
     {
         if self.is_closed() {
             return Err(TrySendError::Closed(msg));
@@ -109,15 +139,25 @@ impl<T: Drop, N: Notice, A: Allocator + Copy> Parts<T, N, A> {
             return Err(TrySendError::Inactive(msg));
         }
         if !self.is_full() {
-            self.accept(msg);
-            return Ok(None);
+            return Ok((msg, None));
         }
         if !self.overflow() {
             return Err(TrySendError::Full(msg));
         }
         let oldest = self.drop_oldest();
+        Ok((msg, Some(oldest)))
+    }
+
+    /// Accepts a message, or hands it back with the reason.
+    #[inline(always)]
+    pub fn offer(&mut self, msg: T) -> Result<Option<T>, TrySendError<T>>
+        requires { IsValidView self.old }
+        ensures reply { result ≡ try_broadcast_reply self.old msg }
+        ensures effect { self.new ≡ settle self.old (offer self.old msg) }
+    {
+        let (msg, oldest) = self.admit(msg)?;
         self.accept(msg);
-        Ok(Some(oldest))
+        Ok(oldest)
     }
 
     /// The same for a send that may wait.
@@ -128,18 +168,7 @@ impl<T: Drop, N: Notice, A: Allocator + Copy> Parts<T, N, A> {
         ensures effect { self.new ≡ settle self.old (offer self.old msg) }
     {
         let await_active = self.await_active();
-        match self.offer(msg) {
-            Ok(back) => SendPoll::Ready(Ok(back)),
-            Err(TrySendError::Closed(msg)) => SendPoll::Ready(Err(SendError(msg))),
-            Err(TrySendError::Full(msg)) => SendPoll::Wait(msg),
-            Err(TrySendError::Inactive(msg)) => {
-                if await_active {
-                    SendPoll::Wait(msg)
-                } else {
-                    SendPoll::Ready(Err(SendError(msg)))
-                }
-            }
-        }
+        attempted(await_active, self.offer(msg))
     }
 
     /// A poll of a pending send.
@@ -181,5 +210,28 @@ impl<T: Drop, N: Notice, A: Allocator + Copy> Parts<T, N, A> {
         self.store.drop_first(excess);
         self.capacity = n;
         Ok(())
+    }
+}
+
+// What a try was answered, as the answer of a send that may wait.
+#[inline(always)]
+pub(super) fn attempted<T: Drop>(
+    await_active: bool,
+    tried: Result<Option<T>, TrySendError<T>>,
+) -> SendPoll<T>
+    ensures { (back : Option T) → (error : Option (TrySendError T))
+        → tried ≡ reply_to_try back error → result ≡ reply_to_attempt await_active back error }
+{
+    match tried {
+        Ok(back) => SendPoll::Ready(Ok(back)),
+        Err(TrySendError::Closed(msg)) => SendPoll::Ready(Err(SendError(msg))),
+        Err(TrySendError::Full(msg)) => SendPoll::Wait(msg),
+        Err(TrySendError::Inactive(msg)) => {
+            if await_active {
+                SendPoll::Wait(msg)
+            } else {
+                SendPoll::Ready(Err(SendError(msg)))
+            }
+        }
     }
 }

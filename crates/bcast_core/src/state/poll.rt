@@ -1,8 +1,7 @@
 //! Receiving by a future or a stream, which wait if there is nothing.
-ghost use Rattle.std.specs.Prelude.{◌≡◌, ◌+◌, ◌&&◌, not, Ok, Err, IfOk, IfErr, IsOk};
+ghost use Rattle.std.specs.Prelude.{◌≡◌, ◌+◌, not, Ok, Err, IfOk, IfErr, IsOk};
 ghost use Rattle.bcast_model.specs.Legal.{NoClone};
 ghost use Rattle.bcast_model.specs.Answers.{Answers};
-ghost use Rattle.bcast_model.specs.PollLaws.{is_poll, try_finds_nothing};
 ghost use Rattle.bcast_model.specs.ListenerId.{stream_of};
 ghost use Rattle.bcast_model.specs.Receiving;
 ghost use Rattle.bcast_core.specs.Tries.{tries_of};
@@ -13,14 +12,14 @@ use super::Inner;
 use crate::tries::Steps;
 use bcast_model::error::{RecvError, TryRecvError};
 use bcast_model::listener::Kind;
-use bcast_model::run::Call;
 use bcast_waiting::notice::Notice;
 use futures::task::Poll;
 use std::alloc::{AllocError, Allocator};
 use std::sync::ledger::Ledger;
 
 // What `try_recv` answered, as a future's answer.
-fn future_reply<T: Drop>(
+#[inline(always)]
+pub(super) fn future_reply<T: Drop>(
     received: Result<Result<T, TryRecvError>, AllocError>,
 ) -> Result<Poll<Result<T, RecvError>>, AllocError>
     ensures ok { IfOk received (λ answer. result ≡ Ok (Receiving.future_reply answer)) }
@@ -35,7 +34,8 @@ fn future_reply<T: Drop>(
 }
 
 // The same as the answer of `poll_recv`.
-fn stream_reply<T: Drop>(
+#[inline(always)]
+pub(super) fn stream_reply<T: Drop>(
     received: Result<Result<T, TryRecvError>, AllocError>,
 ) -> Result<Poll<Option<Result<T, RecvError>>>, AllocError>
     ensures ok { IfOk received (λ answer. result ≡ Ok (Receiving.stream_reply answer)) }
@@ -50,7 +50,8 @@ fn stream_reply<T: Drop>(
 }
 
 // The same as the answer of `poll_next`, if so many messages were skipped.
-fn next_reply<T: Drop>(
+#[inline(always)]
+pub(super) fn next_reply<T: Drop>(
     skips: u64,
     received: Result<Result<T, TryRecvError>, AllocError>,
 ) -> Result<Poll<Option<(T, u64)>>, AllocError>
@@ -66,41 +67,6 @@ fn next_reply<T: Drop>(
 }
 
 impl<T: Clone, N: Notice, A: Allocator + Copy> Inner<T, N, A> {
-    /// Whether this is a poll that would be answered. False of a poll that would wait, as one of a
-    /// place that is not in use, and of every other call.
-    #[inline(always)]
-    pub fn answers_poll(&self, call: &Call<T>) -> bool
-        ensures { result ≡ is_poll self.now.control call.now
-            && not (try_finds_nothing self.now call.now) }
-    {
-        match call {
-            Call::PollSend(place, _) => self.parts.answers_send(*place),
-            Call::PollFuture(key) | Call::PollRecv(key) | Call::PollNext(key) => {
-                !self.parts.finds_nothing(*key)
-            }
-            _ => false,
-        }
-    }
-
-    /// Gives the listener of this call another notice, and returns the one it had: a poll's own
-    /// listener, and for `EndFuture` that of the future. The same notice comes back if that
-    /// listener doesn't wait, and from every other call. Nothing else changes.
-    #[inline(always)]
-    pub fn swap_notice(&mut self, call: &Call<T>, notice: N) -> N
-        ensures { self.new ≡ self.old }
-    {
-        match call {
-            Call::PollSend(place, _) => self.parts.swap_place_notice(*place, notice),
-            Call::PollFuture(key) | Call::EndFuture(key) => {
-                self.parts.swap_pair_notice(*key, Kind::Future, notice)
-            }
-            Call::PollRecv(key) | Call::PollNext(key) => {
-                self.parts.swap_pair_notice(*key, Kind::Stream, notice)
-            }
-            _ => notice,
-        }
-    }
-
     /// Receives as `try_recv` does, by a future. If there is nothing it waits: `notice` is told
     /// once it is to be polled again.
     ///

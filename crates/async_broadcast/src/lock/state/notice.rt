@@ -3,7 +3,7 @@ ghost use Rattle.std.specs.Prelude.{◌≡◌, true, false, OnSome, IfSome, IfNo
 ghost use Rattle.futures.specs.Task.{IsArmed, Keeps};
 ghost use Rattle.bcast_model.specs.Legal.{Legal};
 ghost use Rattle.bcast_model.specs.PollLaws.{must_wait};
-ghost use Rattle.async_broadcast.specs.Polls.{is_any_poll};
+ghost use Rattle.bcast_core.specs.TaskCalls.{is_any_poll};
 
 use super::State;
 use crate::wake::{Registers, Wake, WakerSlot};
@@ -59,7 +59,7 @@ impl<T: Clone, A: Allocator + Copy> State<T, A> {
     // The notice of a poll that must wait. The notice of the poll before it has the task's waker,
     // and is used again.
     #[inline(never)]
-    fn registered<W: Registers<WakerSlot<A>>>(
+    pub(in crate::lock) fn registered<W: Registers<WakerSlot<A>>>(
         &mut self,
         call: &Call<T>,
         task: &mut W,

@@ -5,8 +5,8 @@ use Rattle.bcast_model.proofs.Clones.{answers_any}
 use Rattle.async_broadcast.proofs.lock.state.State.try_broadcast_alone.Goals as goal
 
 pub returns-clause-answers : goal.returns-clause-answers
-returns-clause-answers g c = answers_any c.try_broadcast.ensures
+returns-clause-answers g c = answers_any c.try_broadcast_alone.ensures
 
 pub returns-clause-possible : goal.returns-clause-possible
 returns-clause-possible g c =
-    possible {is_clone = g.T.Clone.is_clone} refl (answers_any c.try_broadcast.ensures)
+    possible {is_clone = g.T.Clone.is_clone} refl (answers_any c.try_broadcast_alone.ensures)
