@@ -40,4 +40,4 @@ pub use lock::{Lock, LockInactiveReceiver, LockReceiver, LockSender, broadcast};
 pub use port::{Ask, Port};
 pub use receiver::Receiver;
 pub use sender::Sender;
-pub use wake::{Registers, Wake, WakerSlot};
+pub use wake::{Registers, TaskWaker, Wake, WakerSlot};

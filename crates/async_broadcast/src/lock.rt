@@ -1,5 +1,5 @@
 //! The channel of several handles, behind one lock.
-ghost use Rattle.std.specs.Prelude.{◌≡◌, ◌<◌, true, not, IfOk};
+ghost use Rattle.std.specs.Prelude.{◌≡◌, ◌<◌, true, IfOk};
 ghost use Rattle.bcast_model.specs.Answers.{IsPossible};
 ghost use Rattle.async_broadcast.specs.Kinds.{may_wait, is_answer};
 ghost use Rattle.async_broadcast.specs.Snapshots.{ShowsSomeState};
@@ -9,14 +9,14 @@ use crate::port::Port;
 use crate::receiver::Receiver;
 use crate::sender::Sender;
 use crate::wake::{Wake, WakerSlot};
-use bcast_core::{Call, Inner, Reply, SendPoll, Snapshot, TryRecvError, TrySendError};
+use bcast_core::{Call, Inner, Reply, Snapshot, TryRecvError, TrySendError};
 use state::{State, Woken};
 use std::alloc::{AllocError, Allocator, Global};
 use std::sync::{Arc, Condvar, Mutex, MutexGuard, Wait};
-use std::thread::yield_now;
 
 mod asking;
 mod state;
+mod waiting;
 
 /// The port of a channel that `broadcast` made. All ports of the channel share one lock, and each
 /// call waits for it.
@@ -137,100 +137,60 @@ pub fn broadcast<T: Clone, R: Wait + Clone, A: Allocator + Copy>(
     requires { 0 < cap }
 {
     let (inner, key) = Inner::new(alloc, cap)?;
-    let channel = Channel {
-        state: Mutex::new(State::new(inner)),
-        ready: Condvar::new(),
-        news: Condvar::new(),
-    };
-    let channel = Arc::new(alloc, channel)?;
-    let port = Lock { channel, rt };
+    let port = Lock::new(rt, alloc, inner)?;
     let other = port.same().ok_or(AllocError)?;
     Ok((Sender::over(port, alloc), Receiver::over(other, key, alloc)))
 }
 
 impl<T: Clone, R: Wait + Clone, A: Allocator + Copy> Lock<T, R, A> {
-    // For the handles' function of this name.
-    pub(crate) fn snapshot(&self, alloc: A) -> Result<Snapshot<T, A>, AllocError>
+    /// The port of a channel that its caller made. `broadcast` makes both.
+    ///
+    /// The handles that `inner` counts are made over it and over its `same`: of a new `Inner`, one
+    /// sender, and one receiver with the key that came with it. `rt` is what waits for the lock,
+    /// and `alloc` gives the memory of what the ports share.
+    ///
+    /// # Errors
+    ///
+    /// - `AllocError`: no memory for what the ports share. The channel is dropped.
+    ///
+    /// ```rust
+    /// let (inner, key) = Inner::starting_at(rt.alloc(), 2, 100)?;
+    /// let port = Lock::new(&rt, rt.alloc(), inner)?;
+    /// let other = port.same().ok_or("no memory")?;
+    /// let sender = Sender::over(port, rt.alloc());
+    /// let mut receiver = Receiver::over(other, key, rt.alloc());
+    /// assert!(rt; sender.try_broadcast(7).is_ok());
+    /// assert!(rt; matches!(receiver.try_recv(), Ok(Ok(7))));
+    /// assert!(rt; sender.snapshot()?.end == 101);
+    /// ```
+    ///
+    /// Source: this crate's own.
+    pub fn new(
+        rt: R,
+        alloc: A,
+        inner: Inner<T, Wake<WakerSlot<A>>, A>,
+    ) -> Result<Self, AllocError> {
+        let channel = Channel {
+            state: Mutex::new(State::new(inner)),
+            ready: Condvar::new(),
+            news: Condvar::new(),
+        };
+        let channel = Arc::new(alloc, channel)?;
+        Ok(Lock { channel, rt })
+    }
+
+    /// What is seen of the channel, as a value. Its memory is of `alloc`.
+    ///
+    /// # Errors
+    ///
+    /// - `AllocError`: no memory for the lists, or for the clone of a message. Nothing changed.
+    ///
+    /// Source: this crate's own.
+    pub fn snapshot(&self, alloc: A) -> Result<Snapshot<T, A>, AllocError>
         ensures { IfOk result (λ snapshot. ShowsSomeState T.is_clone snapshot) }
     {
         self.channel.lock(&self.rt).snapshot(alloc)
     }
-
-    fn send_waiting(&self, msg: T) -> Reply<T>
-        ensures reply { IsPossible T.is_clone (Call.AttemptSend msg) result }
-        ensures answered { is_answer result ≡ true }
-    {
-        let channel = &*self.channel;
-        let mut left = msg;
-        let mut has_yielded = false;
-        let mut state = channel.lock(&self.rt);
-        for _ in self.rt.forever() {
-            let (reply, woken) = state.step(Call::AttemptSend(left), Wake::none());
-            match reply {
-                Reply::AttemptSend(SendPoll::Ready(answer)) => {
-                    drop(state);
-                    channel.wake(woken);
-                    return Reply::AttemptSend(SendPoll::Ready(answer));
-                }
-                Reply::AttemptSend(SendPoll::Wait(back)) => left = back,
-                _ => unreachable!(),
-            }
-            channel.wake(woken);
-            if !has_yielded {
-                // Others may make room at once, and then nobody has to be woken.
-                has_yielded = true;
-                drop(state);
-                yield_now();
-                state = channel.lock(&self.rt);
-                continue;
-            }
-            has_yielded = false;
-            state.begin_to_send();
-            state = channel.ready.wait(&self.rt, state);
-            state.try_to_send();
-        }
-        unreachable!()
-    }
-
-    fn receive_waiting(&self, key: usize) -> Reply<T>
-        ensures reply { IsPossible T.is_clone (Call.TryRecv key) result }
-        ensures answered { is_answer result ≡ true }
-    {
-        let channel = &*self.channel;
-        let mut has_yielded = false;
-        let mut state = channel.lock(&self.rt);
-        for _ in self.rt.forever() {
-            let (reply, woken) = state.step(Call::TryRecv(key), Wake::none());
-            let Reply::TryRecv(answer) = reply else {
-                unreachable!()
-            };
-            if !is_empty(&answer) {
-                drop(state);
-                channel.wake(woken);
-                return Reply::TryRecv(answer);
-            }
-            channel.wake(woken);
-            if !has_yielded {
-                // Several messages may come at once, and are then received without another wait.
-                has_yielded = true;
-                drop(state);
-                yield_now();
-                state = channel.lock(&self.rt);
-                continue;
-            }
-            has_yielded = false;
-            let known = state.begin_to_receive();
-            state = channel.news.wait(&self.rt, state);
-            state.try_to_receive(known);
-        }
-        unreachable!()
-    }
-}
-
-fn is_empty<T>(answer: &Result<Result<T, TryRecvError>, AllocError>) -> bool
-    ensures { is_answer (Reply.TryRecv answer.now) ≡ not result }
-{
-    matches!(answer, Ok(Err(TryRecvError::Empty)))
 }
 
 impl<T: Clone, R: Wait + Clone, A: Allocator + Copy> Port<T, WakerSlot<A>> for Lock<T, R, A> {

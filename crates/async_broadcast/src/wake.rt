@@ -69,9 +69,10 @@ pub trait Registers<S> {
         ensures kept { Keeps cx.old cx.new };
 }
 
-/// Registers the task of a future or a receiver, from one poll to the next.
+/// Registers the task of a future or a receiver, from one poll to the next. Handles and futures keep
+/// one; code that polls a port by itself makes one for each of its futures.
 #[derive(Drop)]
-pub(crate) struct TaskWaker<A: Allocator> {
+pub struct TaskWaker<A: Allocator = Global> {
     source: Source,
     alloc: A,
     // Shared by all notices that `register` makes, so that a newer one doesn't wake the task by the
@@ -95,7 +96,8 @@ impl<A: Allocator> Model for TaskWaker<A> {
 }
 
 impl<A: Allocator + Copy> TaskWaker<A> {
-    pub(crate) fn new(alloc: A) -> Self {
+    /// Of a task that was not registered yet. Takes its memory from `alloc`, at its first poll.
+    pub fn new(alloc: A) -> Self {
         TaskWaker {
             source: Source::new(),
             alloc,

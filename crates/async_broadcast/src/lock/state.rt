@@ -57,7 +57,13 @@ impl Woken {
 }
 
 impl<T: Clone, A: Allocator + Copy> State<T, A> {
-    pub(super) fn new(inner: Inner<T, Wake<WakerSlot<A>>, A>) -> Self {
+    /// No thread waits, and none was woken.
+    pub(super) fn new(inner: Inner<T, Wake<WakerSlot<A>>, A>) -> Self
+        ensures channel { result.inner ≡ inner }
+        ensures threads { HasNoThread result }
+        ensures sender { result.is_sender_woken ≡ false }
+        ensures receiver { result.is_receiver_woken ≡ false }
+    {
         State {
             inner,
             senders: 0,
