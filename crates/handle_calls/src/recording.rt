@@ -15,12 +15,13 @@ use std::rc::Rc;
 
 mod replies;
 
-/// What ports were asked since the last look: nothing, one call, or so many, the last of which is
-/// kept.
+/// What ports were asked since the last look: nothing, one call, two in this order, or so many, the
+/// last of which is kept.
 #[derive(Debug, Drop)]
 pub enum Record {
     Nothing,
     Once(Call<u64>),
+    Twice(Call<u64>, Call<u64>),
     Times(u64, Call<u64>),
 }
 
@@ -91,7 +92,8 @@ impl State {
         };
         let record = match self.record.replace(Record::Nothing) {
             Record::Nothing => Record::Once(call),
-            Record::Once(_) => Record::Times(2, call),
+            Record::Once(first) => Record::Twice(first, call),
+            Record::Twice(_, _) => Record::Times(3, call),
             Record::Times(count, _) => Record::Times(count.wrapping_add(1), call),
         };
         self.record.replace(record);
