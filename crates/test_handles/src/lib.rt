@@ -1,9 +1,12 @@
-//! Tests of `async_broadcast` in one thread: the examples of its documentation, many tasks, and
-//! what handles see of their channel.
+//! Tests of `async_broadcast` in one thread: the examples of its documentation, the original's own
+//! tests, tasks that wait, and what handles see of their channel.
 //!
-//! `examples` has those of the documentation: the first line of each file says of which.
+//! `examples` has those of the documentation: the first line of each file says of which. Tests of
+//! `counterparts` have the names of the original's.
 #![tactic(auto)]
 
+#[cfg(test)]
+mod counterparts;
 #[cfg(test)]
 mod examples;
 #[cfg(test)]

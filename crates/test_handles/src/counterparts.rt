@@ -1,0 +1,164 @@
+//! Counterparts of those tests of async-broadcast that have one thread, and of the example of its
+//! first page.
+ghost use Rattle.std.specs.Prelude.{◌<◌};
+
+use async_broadcast::{Port, Receiver, Sender, WakerSlot, broadcast};
+use std::alloc::AllocGlobal;
+use std::process::Abort;
+use std::random::RandomSource;
+use std::sync::Wait;
+use std::test::Fail;
+use steps::{Answer, Rows, Step, play};
+
+mod polled;
+mod steps;
+
+/// Makes the calls of a test on a channel of this capacity.
+fn play_on<R: Abort + Wait + RandomSource + AllocGlobal>(
+    rt: &R,
+    cap: usize,
+    rows: Rows,
+) -> Result<(), Fail>
+    requires { 0 < cap }
+{
+    play(rt, rt.alloc(), broadcast(rt, rt.alloc(), cap)?, rows)
+}
+
+const BASIC_SYNC: Rows = &[
+    (Step::CloneReceiver, Answer::Done),
+    (Step::TrySend(0, 7), Answer::Done),
+    (Step::TryRecv(0), Answer::Message(7)),
+    (Step::TryRecv(1), Answer::Message(7)),
+    (Step::CloneReceiver, Answer::Done),
+    (Step::TrySend(0, 8), Answer::Done),
+    (Step::TryRecv(0), Answer::Message(8)),
+    (Step::TryRecv(1), Answer::Message(8)),
+    (Step::TryRecv(2), Answer::Message(8)),
+];
+
+// Each receiver gets every message from its start on.
+#[test]
+fn basic_sync(rt: HostRuntime) -> Result<(), Fail> {
+    play_on(&rt, 10, BASIC_SYNC)
+}
+
+const BASIC_ASYNC: Rows = &[
+    (Step::CloneReceiver, Answer::Done),
+    (Step::Send(0, 7), Answer::Done),
+    (Step::Recv(0), Answer::Message(7)),
+    (Step::Recv(1), Answer::Message(7)),
+    (Step::CloneReceiver, Answer::Done),
+    (Step::Send(0, 8), Answer::Done),
+    (Step::Next(0), Answer::Message(8)),
+    (Step::Next(1), Answer::Message(8)),
+    (Step::Next(2), Answer::Message(8)),
+];
+
+// The same in tasks, by futures and by streams.
+#[test]
+fn basic_async(rt: HostRuntime) -> Result<(), Fail> {
+    play_on(&rt, 10, BASIC_ASYNC)
+}
+
+const BASIC_BLOCKING: Rows = &[
+    (Step::SendBlocking(0, 7), Answer::Done),
+    (Step::TryRecv(0), Answer::Message(7)),
+    (Step::SendBlocking(0, 8), Answer::Done),
+    (Step::Recv(0), Answer::Message(8)),
+    (Step::Send(0, 9), Answer::Done),
+    (Step::RecvBlocking(0), Answer::Message(9)),
+    (Step::TryRecv(0), Answer::Empty),
+];
+
+// Whichever way a message is sent, it is received in each way.
+#[test]
+fn basic_blocking(rt: HostRuntime) -> Result<(), Fail> {
+    play_on(&rt, 1, BASIC_BLOCKING)
+}
+
+const CHANNEL_SHRINK: Rows = &[
+    (Step::CloneReceiver, Answer::Done),
+    (Step::CloneReceiver, Answer::Done),
+    (Step::CloneReceiver, Answer::Done),
+    (Step::TrySend(0, 1), Answer::Done),
+    (Step::TrySend(0, 2), Answer::Done),
+    (Step::TrySend(0, 3), Answer::Done),
+    (Step::TrySend(0, 4), Answer::Done),
+    (Step::TryRecv(1), Answer::Message(1)),
+    (Step::TryRecv(1), Answer::Message(2)),
+    (Step::TryRecv(2), Answer::Message(1)),
+    (Step::TryRecv(2), Answer::Message(2)),
+    (Step::TryRecv(2), Answer::Message(3)),
+    (Step::TryRecv(3), Answer::Message(1)),
+    (Step::TryRecv(3), Answer::Message(2)),
+    (Step::TryRecv(3), Answer::Message(3)),
+    (Step::TryRecv(3), Answer::Message(4)),
+    (Step::SetCapacity(0, 2), Answer::Done),
+    (Step::TryRecv(0), Answer::Missed(2)),
+    (Step::TryRecv(0), Answer::Message(3)),
+    (Step::TryRecv(0), Answer::Message(4)),
+    (Step::TryRecv(0), Answer::Empty),
+    (Step::TryRecv(1), Answer::Message(3)),
+    (Step::TryRecv(1), Answer::Message(4)),
+    (Step::TryRecv(1), Answer::Empty),
+    (Step::TryRecv(2), Answer::Message(4)),
+    (Step::TryRecv(2), Answer::Empty),
+    (Step::TryRecv(3), Answer::Empty),
+];
+
+// A smaller capacity drops the oldest, and those that had still to read them are told how many.
+#[test]
+fn channel_shrink(rt: HostRuntime) -> Result<(), Fail> {
+    play_on(&rt, 4, CHANNEL_SHRINK)
+}
+
+const README: Rows = &[
+    (Step::CloneSender, Answer::Done),
+    (Step::CloneReceiver, Answer::Done),
+    (Step::Send(0, 7), Answer::Done),
+    (Step::Send(1, 8), Answer::Done),
+    (Step::TrySend(1, 9), Answer::Full(9)),
+    (Step::TrySend(0, 10), Answer::Full(10)),
+    (Step::Next(0), Answer::Message(7)),
+    (Step::Recv(0), Answer::Message(8)),
+    (Step::Next(1), Answer::Message(7)),
+    (Step::Recv(1), Answer::Message(8)),
+    (Step::TryRecv(0), Answer::Empty),
+    (Step::TryRecv(1), Answer::Empty),
+    (Step::DropSenders, Answer::Done),
+    (Step::TryRecv(0), Answer::Closed),
+    (Step::TryRecv(1), Answer::Closed),
+];
+
+// The example of its README.
+#[test]
+fn readme(rt: HostRuntime) -> Result<(), Fail> {
+    play_on(&rt, 2, README)
+}
+
+// The channel closes with the last of its receivers, which are inactive.
+#[test]
+fn inactive_drop(rt: HostRuntime) -> Result<(), Fail> {
+    let (sender, receiver) = broadcast::<(), _, _>(&rt, rt.alloc(), 1)?;
+    closes_by_its_inactive_receivers(&rt, &sender, receiver)
+}
+
+fn closes_by_its_inactive_receivers<P: Port<(), WakerSlot>>(
+    rt: &impl Abort,
+    sender: &Sender<(), P>,
+    receiver: Receiver<(), P>,
+) -> Result<(), Fail> {
+    let one = receiver.deactivate().ok().ok_or("no handle")?;
+    let two = one.clone()?;
+    drop(one);
+    drop(two);
+    assert!(rt; sender.is_closed());
+    Ok(())
+}
+
+// A stream that is made by `poll_recv` gives what was missed, the messages, and the end.
+#[test]
+fn poll_recv(rt: HostRuntime) -> Result<(), Fail> {
+    let (sender, receiver) = broadcast(&rt, rt.alloc(), 2)?;
+    polled::plays(&rt, sender, receiver)
+}

@@ -1,0 +1,56 @@
+//! A stream of the test's own, which is made by `poll_recv`.
+use async_broadcast::{Port, Receiver, RecvError, Sender, WakerSlot};
+use futures::executor::block_on;
+use futures::task::{Context, Poll};
+use futures::{Stream, StreamExt};
+use std::alloc::{AllocError, AllocGlobal};
+use std::process::Abort;
+use std::random::RandomSource;
+use std::sync::Wait;
+use std::test::Fail;
+
+/// What a receiver gives, and how much it missed.
+#[derive(Drop)]
+struct Polled<P: Port<u64, WakerSlot>> {
+    receiver: Receiver<u64, P>,
+}
+
+impl<P: Port<u64, WakerSlot>> Stream for Polled<P> {
+    type Item = Result<Result<u64, RecvError>, AllocError>;
+
+    fn poll_next(
+        &mut self,
+        cx: &mut Context<'_>,
+    ) -> Poll<Option<Result<Result<u64, RecvError>, AllocError>>> {
+        match self.receiver.poll_recv(cx) {
+            Ok(Poll::Ready(Some(item))) => Poll::Ready(Some(Ok(item))),
+            Ok(Poll::Ready(None)) => Poll::Ready(None),
+            Ok(Poll::Pending) => Poll::Pending,
+            Err(error) => Poll::Ready(Some(Err(error))),
+        }
+    }
+}
+
+/// Sends four messages by a channel of capacity 2 in overflow mode, awaits what the stream gives,
+/// and ends it by the drop of the sender.
+pub fn plays<R: Abort + Wait + RandomSource + AllocGlobal, P: Port<u64, WakerSlot>>(
+    rt: &R,
+    sender: Sender<u64, P>,
+    mut receiver: Receiver<u64, P>,
+) -> Result<(), Fail> {
+    receiver.set_overflow(true);
+    let mut stream = Polled { receiver };
+    for (msg, oldest) in [(1, None), (2, None), (3, Some(1)), (4, Some(2))] {
+        let sent = block_on(rt, &mut *sender.broadcast(msg)?)?;
+        assert!(rt; sent == Ok(Ok(oldest)), "message {msg}");
+    }
+    for answer in [Err(RecvError::Overflowed(2)), Ok(3), Ok(4)] {
+        assert!(rt;
+            block_on(rt, stream.next())? == Some(Ok(answer)),
+            "{answer:?}"
+        );
+    }
+    drop(sender);
+    assert!(rt; matches!(block_on(rt, stream.next())?, None));
+    Ok(())
+}
