@@ -15,6 +15,7 @@ mod arena;
 mod broadcast_and_errors;
 mod in_tasks;
 mod inactive;
+mod lock;
 mod receiver;
 mod sender;
 mod sender_settings;
@@ -69,6 +70,7 @@ enum Receives {
     IsTerminated,
     NewSender,
     Deactivate,
+    ReceiverSetAwaitActive,
 }
 
 /// Each example with the capacity of its channel.
@@ -102,6 +104,7 @@ const EXAMPLES: &[(usize, Example)] = &[
     (2, Example::Borrows(Borrows::SetCapacity)),
     (1, Example::Borrows(Borrows::SetOverflow)),
     (1, Example::Sends(Sends::SetAwaitActive)),
+    (2, Example::Receives(Receives::ReceiverSetAwaitActive)),
 ];
 
 #[test]
@@ -184,6 +187,7 @@ fn play_receives<R: Abort + Wait + RandomSource + AllocGlobal, P: Port<u64, Wake
         Receives::IsTerminated => receiver::sees_the_end(rt, sender, receiver),
         Receives::NewSender => receiver::adds_a_sender(rt, sender, receiver)?,
         Receives::Deactivate => receiver::pauses(rt, sender, receiver)?,
+        Receives::ReceiverSetAwaitActive => receiver::awaits_nobody(rt, &sender, receiver)?,
     }
     Ok(())
 }

@@ -1,5 +1,7 @@
-//! Of `receiver.rt`.
-use async_broadcast::{Port, Receiver, RecvError, Sender, TryRecvError, TrySendError, WakerSlot};
+//! Of `receiver.rt`, and of a setting of the channel, made by a receiver.
+use async_broadcast::{
+    Port, Receiver, RecvError, SendError, Sender, TryRecvError, TrySendError, WakerSlot,
+};
 use futures::StreamExt;
 use futures::executor::block_on;
 use std::alloc::AllocGlobal;
@@ -109,5 +111,21 @@ pub fn pauses<P: Port<u64, WakerSlot>>(
     let mut receiver = inactive.activate().ok().ok_or("no handle")?;
     assert!(rt; sender.try_broadcast(2).is_ok());
     assert!(rt; matches!(receiver.try_recv(), Ok(Ok(2))));
+    Ok(())
+}
+
+// Of `set_await_active`, by a receiver.
+pub fn awaits_nobody<R: Abort + Wait + RandomSource + AllocGlobal, P: Port<u64, WakerSlot>>(
+    rt: &R,
+    sender: &Sender<u64, P>,
+    mut receiver: Receiver<u64, P>,
+) -> Result<(), Fail> {
+    assert!(rt; matches!(block_on(&rt, &mut *sender.broadcast(1)?)?, Ok(Ok(None))));
+    receiver.set_await_active(false);
+    assert!(rt; !sender.await_active());
+    let _inactive = receiver.deactivate().ok().ok_or("no handle")?;
+    let refused = block_on(&rt, &mut *sender.broadcast(2)?)?;
+    assert!(rt; matches!(refused, Ok(Err(SendError(2)))));
+    assert!(rt; !sender.is_closed());
     Ok(())
 }
