@@ -1,5 +1,5 @@
 //! Tests of `async_broadcast` in one thread: the examples of its documentation, the original's own
-//! tests, tasks that wait, and what handles see of their channel.
+//! tests, tasks that wait, handles short of memory, and what handles see of their channel.
 //!
 //! `examples` has those of the documentation: the first line of each file says of which. Tests of
 //! `counterparts` have the names of the original's.
@@ -8,9 +8,13 @@
 #[cfg(test)]
 mod counterparts;
 #[cfg(test)]
+mod dropped_receives;
+#[cfg(test)]
 mod examples;
 #[cfg(test)]
 mod many_tasks;
+#[cfg(test)]
+mod short_of_memory;
 #[cfg(test)]
 mod snapshots;
 #[cfg(test)]

@@ -1,0 +1,182 @@
+//! Handles of a channel whose heap is full: what is refused comes back, and nothing is lost.
+use async_broadcast::{
+    Lock, NoMemory, Port, Receiver, Send, Sender, Snapshot, WakerSlot, broadcast,
+};
+use bcast_core::Inner;
+use futures::StreamExt;
+use futures::task::Poll;
+use futures::test::MockTask;
+use linked_list_allocator::LocalHeap;
+use slots::SlotPort;
+use std::alloc::{AllocError, AllocGlobal, Allocator, Global};
+use std::process::Abort;
+use std::random::RandomSource;
+use std::test::Fail;
+
+mod slots;
+
+/// The bytes of a channel's heap.
+const HEAP: usize = 4096;
+
+/// A block of a heap, of no use but that nobody else has it.
+type Block<'a> = Vec<u8, &'a LocalHeap>;
+
+const TEXT: &[u8] = b"a message of some length";
+
+/// A message whose clone takes memory of the heap.
+#[derive(PartialEq, Drop)]
+struct Heavy<'a> {
+    text: Vec<u8, &'a LocalHeap>,
+}
+
+impl<'a> Heavy<'a> {
+    fn new(heap: &'a LocalHeap) -> Result<Self, AllocError> {
+        let text = Vec::from_slice(heap, TEXT)?;
+        Ok(Heavy { text })
+    }
+}
+
+impl<'a> Clone for Heavy<'a> {
+    fn clone(&self) -> Result<Heavy<'a>, AllocError> {
+        let text = self.text.clone()?;
+        Ok(Heavy { text })
+    }
+}
+
+/// Takes all memory that the heap has left.
+fn fill<'a>(alloc: Global, heap: &'a LocalHeap) -> Result<Vec<Block<'a>>, AllocError> {
+    let mut taken = Vec::new(alloc);
+    for _ in 0..HEAP {
+        let Ok(block) = Vec::<u8, &LocalHeap>::with_capacity(heap, 1) else {
+            break;
+        };
+        taken.push(block)?;
+    }
+    Ok(taken)
+}
+
+// A stream whose message can't be cloned says so, and gives the message once there is memory. The
+// other receiver gets it too: it is the last to read it, so it needs no memory.
+#[test]
+fn a_stream_goes_on_after_a_refused_clone(rt: HostRuntime) -> Result<(), Fail> {
+    let heap = LocalHeap::new(rt.alloc(), HEAP)?;
+    let (sender, mut one) = broadcast(&rt, &heap, 1)?;
+    let mut two = one.clone()?;
+    assert!(rt; sender.try_broadcast(Heavy::new(&heap)?).is_ok());
+    gives_the_message_later(&rt, &heap, (&mut one, &mut two), &Heavy::new(&heap)?)
+}
+
+fn gives_the_message_later<R, T, A, P>(
+    rt: &R,
+    heap: &LocalHeap,
+    (one, two): (&mut Receiver<T, P, A>, &mut Receiver<T, P, A>),
+    msg: &T,
+) -> Result<(), Fail>
+where
+    R: Abort + RandomSource + AllocGlobal,
+    T: Clone + PartialEq,
+    A: Allocator + Copy,
+    P: Port<T, WakerSlot<A>>,
+{
+    let task = MockTask::new(rt)?;
+    let taken = fill(rt.alloc(), heap)?;
+    let refused = task.poll(&mut one.next());
+    assert!(rt;
+        matches!(refused, Poll::Ready(Some(Err(AllocError)))),
+        "no memory"
+    );
+    drop(taken);
+    let later = task.poll(&mut one.next());
+    assert!(rt; gives(&later, msg), "the message, later");
+    let _taken = fill(rt.alloc(), heap)?;
+    let moved = task.poll(&mut two.next());
+    assert!(rt; gives(&moved, msg), "the message, moved");
+    Ok(())
+}
+
+/// Whether the poll of a stream gave this message.
+fn gives<T: Clone + PartialEq>(polled: &Poll<Option<Result<T, AllocError>>>, msg: &T) -> bool {
+    matches!(polled, Poll::Ready(Some(Ok(given))) if given == msg)
+}
+
+// A send without a box hands its message back, and its place is free again.
+#[test]
+fn a_send_without_a_box_frees_its_place(rt: HostRuntime) -> Result<(), Fail> {
+    let heap = LocalHeap::new(rt.alloc(), HEAP)?;
+    let (sender, _receiver) = broadcast(&rt, &heap, 1)?;
+    hands_back_without_a_box(&rt, rt.alloc(), &heap, &sender)?;
+    expect_places(&rt, &sender.snapshot()?, &[]);
+    let _send = sender.broadcast_direct(8)?;
+    expect_places(&rt, &sender.snapshot()?, &[0]);
+    Ok(())
+}
+
+fn hands_back_without_a_box<A: Allocator + Copy, P: Port<u64, WakerSlot<A>>>(
+    rt: &impl Abort,
+    alloc: Global,
+    heap: &LocalHeap,
+    sender: &Sender<u64, P, A>,
+) -> Result<(), Fail> {
+    // The channel keeps the memory of a place, so that the box alone is refused.
+    drop(sender.broadcast_direct(1)?);
+    let _taken = fill(alloc, heap)?;
+    assert!(rt; sender.broadcast_direct(2).is_ok(), "a place");
+    assert!(rt; matches!(sender.broadcast(7), Err(NoMemory(7))), "no box");
+    Ok(())
+}
+
+/// Fails the test unless sends have these places, and none of them waits.
+fn expect_places(rt: &impl Abort, seen: &Snapshot<u64, &LocalHeap>, places: &[usize]) {
+    assert!(rt; seen.places.as_slice() == places);
+    assert!(rt; seen.waiting_sends.ids.is_empty());
+}
+
+// A send without a notice hands its message back and is pending from then on, and its drop frees
+// its place.
+#[test]
+fn a_send_without_a_notice_keeps_its_place(rt: HostRuntime) -> Result<(), Fail> {
+    let heap = LocalHeap::new(rt.alloc(), HEAP)?;
+    let (inner, key) = Inner::new(&heap, 1)?;
+    let lock = Lock::new(&rt, &heap, inner)?;
+    let port = lock.same().ok_or("no memory")?;
+    let sender = Sender::over(SlotPort { port }, &heap);
+    let mut receiver = Receiver::over(lock, key, &heap);
+    assert!(rt; sender.try_broadcast(1).is_ok());
+    let mut send = sender.broadcast_direct(7)?;
+    hands_back_without_a_notice(&rt, &heap, &mut send)?;
+    assert!(rt; matches!(receiver.try_recv(), Ok(Ok(1))));
+    assert!(rt; is_pending(&rt, &mut send)?, "with memory and room");
+    expect_places(&rt, &receiver.snapshot()?, &[0]);
+    drop(send);
+    expect_places(&rt, &receiver.snapshot()?, &[]);
+    assert!(rt; receiver.is_empty());
+    Ok(())
+}
+
+fn hands_back_without_a_notice<R, A, P>(
+    rt: &R,
+    heap: &LocalHeap,
+    send: &mut Send<'_, u64, P, A>,
+) -> Result<(), Fail>
+where
+    R: Abort + RandomSource + AllocGlobal,
+    A: Allocator + Copy,
+    P: Port<u64, WakerSlot<A>>,
+{
+    let task = MockTask::new(rt)?;
+    let _taken = fill(rt.alloc(), heap)?;
+    assert!(rt;
+        matches!(task.poll(send), Poll::Ready(Err(NoMemory(7)))),
+        "no notice"
+    );
+    assert!(rt; matches!(task.poll(send), Poll::Pending), "no more notice");
+    Ok(())
+}
+
+fn is_pending<A: Allocator + Copy, P: Port<u64, WakerSlot<A>>>(
+    rt: &(impl RandomSource + AllocGlobal),
+    send: &mut Send<'_, u64, P, A>,
+) -> Result<bool, Fail> {
+    let task = MockTask::new(rt)?;
+    Ok(matches!(task.poll(send), Poll::Pending))
+}
