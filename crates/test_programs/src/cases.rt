@@ -1,25 +1,34 @@
 //! The cases of standard input.
 use crate::arguments;
 use crate::failing::{cut_after_each_byte, each_read_and_write_fails, too_little_memory};
+use crate::lock_rows::Tally;
 use crate::play::{Played, Player, in_pieces, play};
 use crate::refused::refused_lines;
 use crate::short::write_wrong;
 use crate::told::write_notices;
 use bcast_text::ending::Ending;
-use std::alloc::Global;
+use std::alloc::{AllocGlobal, Global};
 use std::io;
 use std::io::Write;
+use std::random::RandomSource;
+use std::sync::Wait;
 
 /// Runs a case: the first line has its kind and its name.
-pub fn run<W: Write>(alloc: Global, case: &str, output: &mut W) -> io::Result<()> {
+pub fn run<R: Wait + RandomSource + AllocGlobal, W: Write>(
+    rt: &R,
+    alloc: Global,
+    case: &str,
+    tally: &mut Tally,
+    output: &mut W,
+) -> io::Result<()> {
     let (head, body) = case.split_once('\n').unwrap_or((case, ""));
     let (kind, name) = head.split_once(' ').unwrap_or((head, ""));
     writeln!(output, "# {head}")?;
     match kind {
         "script" => script_case(alloc, Player::Script, body, output),
         "topics" => script_case(alloc, Player::Topics, body, output),
-        "trace" => trace_case(alloc, body, output),
-        "told" => told_case(alloc, body, output),
+        "trace" => trace_case(rt, alloc, body, tally, output),
+        "told" => told_case(rt, alloc, body, tally, output),
         "failing" => failing_case(alloc, name, body, output),
         "refused" => refused_lines(alloc, name, body, output),
         "bcast" => arguments::bcast(alloc, body, output),
@@ -53,16 +62,28 @@ fn write_played<W: Write>(
 }
 
 /// Writes what a trace writes, and whose notices its calls tell.
-fn told_case<W: Write>(alloc: Global, text: &str, output: &mut W) -> io::Result<()> {
-    trace_case(alloc, text, output)?;
+fn told_case<R: Wait + RandomSource + AllocGlobal, W: Write>(
+    rt: &R,
+    alloc: Global,
+    text: &str,
+    tally: &mut Tally,
+    output: &mut W,
+) -> io::Result<()> {
+    trace_case(rt, alloc, text, tally, output)?;
     let played = play(alloc, alloc, Player::Trace, text.as_bytes(), in_pieces(7));
     let listed = listed_from(alloc, &played)?;
     write_notices(alloc, text, listed.as_slice(), output)
 }
 
-/// Writes what a trace writes, and how it ends; and whether the list of its calls does the same,
-/// but for the views.
-fn trace_case<W: Write>(alloc: Global, text: &str, output: &mut W) -> io::Result<()> {
+/// Writes what a trace writes, and how it ends; whether a lock does the same; and whether the list
+/// of its calls does, but for the views.
+fn trace_case<R: Wait + RandomSource + AllocGlobal, W: Write>(
+    rt: &R,
+    alloc: Global,
+    text: &str,
+    tally: &mut Tally,
+    output: &mut W,
+) -> io::Result<()> {
     let played = play(
         alloc,
         alloc,
@@ -73,6 +94,9 @@ fn trace_case<W: Write>(alloc: Global, text: &str, output: &mut W) -> io::Result
     write_played(alloc, Player::Trace, text, &played, output)?;
     if played.ending == Ending::Done {
         write_wrong(alloc, text, output)?;
+        tally.play(rt, alloc, text, output)?;
+    } else {
+        output.write_all(b"-- lock_rows: not played\n")?;
     }
     let listed = listed_from(alloc, &played)?;
     write_listed(alloc, text, played.ending, listed.as_slice(), output)

@@ -8,6 +8,7 @@ mod arguments;
 mod cases;
 mod failing;
 mod heavy;
+mod lock_rows;
 mod play;
 mod refused;
 mod short;
@@ -16,6 +17,7 @@ mod threads;
 mod told;
 mod unusual;
 
+use lock_rows::Tally;
 use std::io;
 use std::io::{Read, Write};
 
@@ -23,9 +25,12 @@ fn main(rt: HostRuntime) -> io::Result<()> {
     let mut text = String::new(rt.alloc());
     rt.stdin().read_to_string(&mut text)?;
     let mut output = rt.stdout();
+    let mut tally = Tally::new();
     for case in text.as_str().split("# ").skip(1) {
-        cases::run(rt.alloc(), case, &mut output)?;
+        cases::run(&rt, rt.alloc(), case, &mut tally, &mut output)?;
     }
+    tally.write(&mut output)?;
+    lock_rows::beside::run(&rt, rt.alloc(), &mut output)?;
     unusual::run(rt.alloc(), &mut output)?;
     arguments::run(rt.alloc(), &mut output)?;
     threads::run(&rt, rt.alloc(), &mut output)?;

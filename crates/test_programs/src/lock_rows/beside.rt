@@ -1,0 +1,162 @@
+//! Calls asked of a lock while a thread waits there.
+ghost use Rattle.bcast_model.specs.Next.{HasPositiveCapacity};
+
+use super::asking::Way;
+use super::seen::Shows;
+use super::{Outcome, Part, Row, calls_of, open_both, play_calls};
+use async_broadcast::{Lock, Port, Wake, WakerSlot};
+use bcast_core::{Call, Reply, Silent, step};
+use bcast_text::trace::opening::read_opening;
+use futures::test::MockTask;
+use std::alloc::{AllocError, AllocGlobal, Global};
+use std::io::Write;
+use std::random::RandomSource;
+use std::sync::Wait;
+use std::thread::Threads;
+use std::{io, thread};
+
+/// What a thread waits for.
+#[derive(Clone, Copy)]
+enum Awaited {
+    /// A message for the receiver of this key.
+    Message(usize),
+    /// Room for this message.
+    Room(u64),
+}
+
+/// What is asked beside a thread that waits.
+#[derive(Clone, Copy)]
+struct Case {
+    name: &'static str,
+    /// The lines of the channel before the thread begins to wait.
+    opening: &'static str,
+    first: &'static str,
+    awaited: Awaited,
+    /// The lines while it waits.
+    calls: &'static str,
+    /// The line that ends its waiting.
+    last: &'static str,
+}
+
+const CASES: &[Case] = &[
+    Case {
+        name: "a message",
+        opening: "open 2 0",
+        first: "CloneReceiver 0",
+        awaited: Awaited::Message(1),
+        calls: "SetOverflow true\nSetAwaitActive false\nSetCapacity 3\nNewSender\nDropSender\n\
+            CloneReceiver 1\nDeactivate 2\nCloneInactive\nDropInactive\nActivate\nDropReceiver 2\n\
+            BeginSend\nEndSend 0\nPollRecv 0\nPollNext 0\nPollFuture 0\nEndFuture 0\nTryRecv 0",
+        last: "TryBroadcast 5",
+    },
+    Case {
+        name: "the end",
+        opening: "open 2 0",
+        first: "CloneReceiver 0",
+        awaited: Awaited::Message(1),
+        calls: "NewSender\nDropSender\nTryRecv 0",
+        last: "DropSender",
+    },
+    Case {
+        name: "room",
+        opening: "open 1 0",
+        first: "CloneReceiver 0\nCloneReceiver 0\nTryBroadcast 1",
+        awaited: Awaited::Room(2),
+        calls: "TryBroadcast 3\nTryBroadcastAll 3 4\nAttemptSend 3\nTryRecv 1\nTryRecv 1\n\
+            BeginSend\nPollSend 0 4\nEndSend 0\nPollRecv 1\nPollFuture 1\nTryRecv 2",
+        last: "TryRecv 0",
+    },
+];
+
+/// The call that the thread makes.
+fn call_of(awaited: Awaited) -> Call<u64>
+    ensures { HasPositiveCapacity result }
+{
+    match awaited {
+        Awaited::Message(key) => Call::TryRecv(key),
+        Awaited::Room(msg) => Call::AttemptSend(msg),
+    }
+}
+
+/// Waits until it is answered.
+fn wait<P: Port<u64, WakerSlot>>(port: &P, awaited: Awaited) -> Reply<u64> {
+    match awaited {
+        Awaited::Message(key) => port.ask_waiting(Call::TryRecv(key)),
+        Awaited::Room(msg) => port.ask_waiting(Call::AttemptSend(msg)),
+    }
+}
+
+/// Lets a thread run, so that it is asleep if it waits.
+fn pause() {
+    for _ in 0..2000u64 {
+        thread::yield_now();
+    }
+}
+
+/// Makes the calls while a thread waits, and then what ends its waiting.
+fn play_beside<R: Threads, P: Port<u64, WakerSlot> + Shows + Send + 'static>(
+    rt: &R,
+    alloc: Global,
+    case: Case,
+    row: &mut Row<'_, P>,
+    port: P,
+) -> io::Result<Option<Part>> {
+    let awaited = case.awaited;
+    let thread = thread::spawn(rt, move || wait(&port, awaited))?;
+    pause();
+    let played = play_calls(alloc, row, Way::OwnBodies, 0, case.calls)?;
+    let is_ended = match calls_of(alloc, case.last)? {
+        Some(calls) => row.is_same_reply(alloc, Way::OwnBodies, false, calls),
+        None => false,
+    };
+    let reply = thread.join(rt);
+    let wanted = step(&mut row.alone, call_of(awaited), Silent);
+    match played {
+        Outcome::Differs(_, part) => Ok(Some(part)),
+        Outcome::Same(_) if !is_ended || reply != wanted => Ok(Some(Part::Reply)),
+        Outcome::Same(_) => Ok(row.differs(alloc)?),
+    }
+}
+
+/// Plays a case on a lock round one channel, and on another channel.
+fn play<R: Threads + Wait + RandomSource + AllocGlobal + Clone + Send + 'static>(
+    rt: &R,
+    alloc: Global,
+    case: Case,
+) -> io::Result<Option<Part>> {
+    let Some(opening) = read_opening(case.opening) else {
+        return Ok(Some(Part::Reply));
+    };
+    let task = MockTask::new(rt)?;
+    let (locked, alone) = open_both(alloc, opening, usize::MAX, case.first)?;
+    let port = Lock::new(rt.clone()?, alloc, locked)?;
+    let same = port.same().ok_or(AllocError)?;
+    let other = port.same().ok_or(AllocError)?;
+    let mut row = Row {
+        task: &task,
+        port: &port,
+        same: &same,
+        alone,
+    };
+    play_beside(rt, alloc, case, &mut row, other)
+}
+
+/// Plays each case, and writes what differs.
+pub fn run<R: Threads + Wait + RandomSource + AllocGlobal + Clone + Send + 'static, W: Write>(
+    rt: &R,
+    alloc: Global,
+    output: &mut W,
+) -> io::Result<()> {
+    for case in CASES {
+        write!(
+            output,
+            "lock_rows beside a thread that waits for {}: ",
+            case.name
+        )?;
+        match play(rt, alloc, *case)? {
+            None => output.write_all(b"the same\n")?,
+            Some(part) => writeln!(output, "other {part:?}")?,
+        }
+    }
+    Ok(())
+}

@@ -1,0 +1,94 @@
+//! What is seen of a lock, and of a channel that has no lock.
+use super::Part;
+use async_broadcast::{Lock, Port, Wake, WakerSlot};
+use bcast_core::{Call, Inner, Reply, Silent, Snapshot};
+use std::alloc::{AllocError, Global};
+use std::sync::Wait;
+
+/// A port that shows all that is seen of its channel.
+pub(super) trait Shows {
+    fn shows(&self, alloc: Global) -> Result<Snapshot<u64>, AllocError>;
+}
+
+impl<R: Wait + Clone> Shows for Lock<u64, R> {
+    fn shows(&self, alloc: Global) -> Result<Snapshot<u64>, AllocError> {
+        self.snapshot(alloc)
+    }
+}
+
+/// What a port sees otherwise than a channel without a lock. None: nothing.
+pub(super) fn differs<P: Port<u64, WakerSlot> + Shows>(
+    alloc: Global,
+    port: &P,
+    alone: &Inner<u64, Silent>,
+) -> Result<Option<Part>, AllocError> {
+    if accessors_of(port) != accessors_alone(alone) {
+        return Ok(Some(Part::Accessors));
+    }
+    let is_same = is_same(&port.shows(alloc)?, &alone.snapshot(alloc)?);
+    Ok((!is_same).then_some(Part::Snapshot))
+}
+
+/// What a port answers to all accessors.
+fn accessors_of<P: Port<u64, WakerSlot>>(port: &P) -> [Reply<u64>; 12] {
+    [
+        port.ask(Call::Overflow, Wake::none()),
+        port.ask(Call::AwaitActive, Wake::none()),
+        port.ask(Call::IsEmpty, Wake::none()),
+        port.ask(Call::IsFull, Wake::none()),
+        port.ask(Call::IsClosed, Wake::none()),
+        port.ask(Call::IsTerminated, Wake::none()),
+        port.ask(Call::Capacity, Wake::none()),
+        port.ask(Call::Len, Wake::none()),
+        port.ask(Call::ReceiverCount, Wake::none()),
+        port.ask(Call::InactiveReceiverCount, Wake::none()),
+        port.ask(Call::SenderCount, Wake::none()),
+        port.ask(Call::EndNumber, Wake::none()),
+    ]
+}
+
+/// The same of a channel without a lock.
+fn accessors_alone(alone: &Inner<u64, Silent>) -> [Reply<u64>; 12] {
+    [
+        Reply::Overflow(alone.overflow()),
+        Reply::AwaitActive(alone.await_active()),
+        Reply::IsEmpty(alone.is_empty()),
+        Reply::IsFull(alone.is_full()),
+        Reply::IsClosed(alone.is_closed()),
+        Reply::IsTerminated(alone.is_terminated()),
+        Reply::Capacity(alone.capacity()),
+        Reply::Len(alone.len()),
+        Reply::ReceiverCount(alone.receiver_count()),
+        Reply::InactiveReceiverCount(alone.inactive_receiver_count()),
+        Reply::SenderCount(alone.sender_count()),
+        Reply::EndNumber(alone.end_number()),
+    ]
+}
+
+fn is_same(one: &Snapshot<u64>, other: &Snapshot<u64>) -> bool {
+    has_same_messages(one, other) && has_same_handles(one, other) && has_same_lists(one, other)
+}
+
+/// Whether the messages are the same, and how many are kept.
+fn has_same_messages(one: &Snapshot<u64>, other: &Snapshot<u64>) -> bool {
+    (one.front, one.end) == (other.front, other.end)
+        && (one.capacity, one.room) == (other.capacity, other.room)
+        && one.queue.as_slice() == other.queue.as_slice()
+}
+
+/// Whether there are the same handles and settings.
+fn has_same_handles(one: &Snapshot<u64>, other: &Snapshot<u64>) -> bool {
+    (one.senders, one.inactive) == (other.senders, other.inactive)
+        && one.cursors.as_slice() == other.cursors.as_slice()
+        && (one.closed, one.overflow, one.await_active)
+            == (other.closed, other.overflow, other.await_active)
+}
+
+/// Whether the same sends and receivers wait.
+fn has_same_lists(one: &Snapshot<u64>, other: &Snapshot<u64>) -> bool {
+    one.places.as_slice() == other.places.as_slice()
+        && one.waiting_sends.ids.as_slice() == other.waiting_sends.ids.as_slice()
+        && one.waiting_sends.told == other.waiting_sends.told
+        && one.waiting_receives.ids.as_slice() == other.waiting_receives.ids.as_slice()
+        && one.waiting_receives.told == other.waiting_receives.told
+}
