@@ -8,6 +8,8 @@ use std::marker::Brand;
 use std::sync::ledger::{Blank, Ledger};
 use std::test::Fail;
 
+mod reads;
+
 fn three_messages<L: Ledger>(queue: &mut Queue<u8>, steps: &mut Steps<L>)
     requires { queue.old ≡ queue_with 0 [] [] 4 }
     ensures owed { queue.new ≡ queue_with 0 (97 ∷ 98 ∷ 99 ∷ []) (1 ∷ 2 ∷ 2 ∷ []) 4 }
