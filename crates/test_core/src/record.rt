@@ -2,4 +2,5 @@
 mod entries;
 mod logs;
 mod recorders;
+mod refused;
 mod replays;

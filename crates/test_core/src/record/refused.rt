@@ -1,0 +1,181 @@
+//! Recorders and their calls while memory is refused.
+ghost use Rattle.std.specs.Prelude.{◌≡◌};
+
+use super::entries::Step;
+use bcast_core::NoMemory;
+use bcast_record::{Finished, Journal, Named, Note, Recorder, Seat};
+use linked_list_allocator::LocalHeap;
+use std::alloc::{AllocError, Global};
+use std::marker::Brand;
+use std::sync::Wait;
+use std::sync::ledger::Blank;
+
+/// The first calls of a recorder of capacity 2 and one seat.
+const CALLS: &[&[Step]] = &[
+    &[Step::Send, Step::Receive],
+    &[Step::SendAll(&[1, 2])],
+    // So many that memory for entries is taken again.
+    &[
+        Step::Send,
+        Step::Receive,
+        Step::Send,
+        Step::Receive,
+        Step::Send,
+        Step::Receive,
+    ],
+];
+
+/// The bytes of a heap that has memory for a recorder and its entries.
+const HEAP: usize = 4096;
+
+/// Whether a new recorder finds no memory on the heap. None: it finds none and keeps some, or has
+/// another receiver or more seats than it must.
+fn is_refused<R: Named>(heap: &LocalHeap, calls: Blank, journal: Journal<Note<u64>>) -> Option<bool>
+    requires calls { (calls.name ≡ R.name) × (calls.parts ≡ R.parts) × (calls.parts ≡ 2) }
+    requires journal { journal ≡ R.book }
+{
+    match Recorder::<u64, R, &LocalHeap>::new(heap, 2, 1, calls, journal) {
+        Ok((_, key, seats)) => (key == 0 && seats.len() == 1).then_some(false),
+        Err(AllocError) => (heap.used() == 0).then_some(true),
+    }
+}
+
+#[test]
+fn a_refused_recorder_is_not_made(rt: HostRuntime) -> Result<(), AllocError> {
+    let (mut was_refused, mut last) = (false, None);
+    for size in 0..256 {
+        let heap = LocalHeap::new(rt.alloc(), size * 16)?;
+        last = is_refused::<Brand>(&heap, Blank::new(2), Journal::new());
+        assert!(rt; last.is_some(), "{size}");
+        was_refused |= last == Some(true);
+    }
+    assert!(rt; was_refused, "a recorder was refused");
+    assert!(rt; last == Some(false));
+    Ok(())
+}
+
+/// The memory of a recorder, of which each call at first finds so many bytes free.
+#[derive(Clone, Copy)]
+struct Memory<'a> {
+    heap: &'a LocalHeap,
+    left: usize,
+}
+
+impl<'a> Memory<'a> {
+    /// Takes all but what is left.
+    fn take(self, alloc: Global) -> Result<Vec<Vec<u8, &'a LocalHeap>>, AllocError> {
+        let _kept = Vec::<u8, &LocalHeap>::with_capacity(self.heap, self.left)?;
+        let mut taken = Vec::new(alloc);
+        for _ in 0..HEAP / 16 {
+            match Vec::with_capacity(self.heap, 16) {
+                Ok(block) => taken.push(block)?,
+                Err(AllocError) => break,
+            }
+        }
+        Ok(taken)
+    }
+}
+
+/// Makes a call with little memory, and again with all of it if it comes back.
+///
+/// Whether it came back. None: it came back changed or counted, or was answered otherwise than it
+/// must be.
+fn ask<'a, R: Named>(
+    rt: &impl Wait,
+    alloc: Global,
+    memory: Memory<'a>,
+    recorder: &Recorder<u64, R, &'a LocalHeap>,
+    seat: &mut Seat<R>,
+    call: Step,
+) -> Result<Option<bool>, AllocError> {
+    let (count, taken) = (seat.count(), memory.take(alloc)?);
+    let made = recorder.call(rt, seat, call.call(alloc)?);
+    drop(taken);
+    let is_refused = made.is_err();
+    let receipt = match made {
+        Ok(receipt) => receipt,
+        Err(NoMemory(back)) => {
+            if seat.count() != count || !call.is(&back) {
+                return Ok(None);
+            }
+            recorder.call(rt, seat, back).ok().ok_or(AllocError)?
+        }
+    };
+    let is_counted = receipt.place() == count && seat.count() == count.wrapping_add(1);
+    Ok((is_counted && call.is_stored(0, receipt.entry())).then_some(is_refused))
+}
+
+/// Makes the calls in order. Whether one of them came back. None: one was wrong.
+fn ask_all<'a, R: Named>(
+    rt: &impl Wait,
+    alloc: Global,
+    memory: Memory<'a>,
+    recorder: &Recorder<u64, R, &'a LocalHeap>,
+    seat: &mut Seat<R>,
+    calls: &[Step],
+) -> Result<Option<bool>, AllocError> {
+    let mut was_refused = false;
+    for call in calls {
+        match ask(rt, alloc, memory, recorder, seat, *call)? {
+            Some(is_refused) => was_refused |= is_refused,
+            None => return Ok(None),
+        }
+    }
+    Ok(Some(was_refused))
+}
+
+/// Whether the entries are those of the calls, and no others.
+fn has_all<R: Named>(finished: &Finished<u64, R, &LocalHeap>, calls: &[Step]) -> bool {
+    let mut pairs = finished.entries().iter().zip(calls);
+    finished.entries().len() == calls.len() && pairs.all(|(entry, call)| call.is_stored(0, entry))
+}
+
+/// The same on a new recorder, which has an entry for each call at its end.
+fn records<R: Named>(
+    rt: &impl Wait,
+    alloc: Global,
+    memory: Memory<'_>,
+    steps: &[Step],
+    calls: Blank,
+    journal: Journal<Note<u64>>,
+) -> Result<Option<bool>, AllocError>
+    requires calls { (calls.name ≡ R.name) × (calls.parts ≡ R.parts) × (calls.parts ≡ 2) }
+    requires journal { journal ≡ R.book }
+{
+    let (recorder, _, mut seats) = Recorder::<u64, R, &LocalHeap>::new(
+        memory.heap,
+        2,
+        1,
+        calls,
+        journal,
+    )?;
+    let seat = seats.first_mut().ok_or(AllocError)?;
+    let was_refused = ask_all(rt, alloc, memory, &recorder, seat, steps)?;
+    let finished = recorder.finish(seats).ok().ok_or(AllocError)?;
+    Ok(if has_all(&finished, steps) {
+        was_refused
+    } else {
+        None
+    })
+}
+
+#[test]
+fn a_refused_call_is_made_again(rt: HostRuntime) -> Result<(), AllocError> {
+    for calls in CALLS {
+        let (mut was_refused, mut last) = (false, None);
+        for size in 0..32 {
+            let heap = LocalHeap::new(rt.alloc(), HEAP)?;
+            let memory = Memory {
+                heap: &heap,
+                left: size * 64,
+            };
+            let (ledger, journal) = (Blank::new(2), Journal::new());
+            last = records::<Brand>(&rt, rt.alloc(), memory, calls, ledger, journal)?;
+            assert!(rt; last.is_some(), "{size}");
+            was_refused |= last == Some(true);
+        }
+        assert!(rt; was_refused, "a call was refused");
+        assert!(rt; last == Some(false));
+    }
+    Ok(())
+}
