@@ -2,8 +2,8 @@
 ghost use Rattle.std.specs.Prelude.{◌≡◌, ◌+◌, ◌<◌};
 ghost use Rattle.bcast_model.specs.Next.{HasPositiveCapacity};
 
-use bcast_core::{Call, Reply, run};
-use bcast_record::{Entry, Finished, Journal, Named, Note, Receipt, Recorder, Seat};
+use bcast_core::{Call, Inner, Reply, Silent, step};
+use bcast_record::{Finished, Journal, Named, Note, Receipt, Recorder, Seat};
 use std::alloc::{AllocError, Global};
 use std::marker::Brand;
 use std::sync::Wait;
@@ -106,19 +106,26 @@ fn are_entries<R: Named>(
     receipts.len() == calls
 }
 
-/// Whether these are the replies of the entries.
-fn are_same(entries: &[Entry<u64>], replies: &[Reply<u64>]) -> bool {
-    let mut pairs = entries.iter().zip(replies);
-    pairs.all(|(entry, reply)| entry.reply == *reply) && replies.len() == entries.len()
+/// Whether a call, made again, gets the reply that was stored.
+fn is_same(inner: &mut Inner<u64, Silent>, call: Call<u64>, stored: &Reply<u64>) -> bool {
+    match call {
+        // No recorder is asked this.
+        Call::SetCapacity(0) => false,
+        call => step(inner, call, Silent) == *stored,
+    }
 }
 
 /// Whether the calls, made again on one thread, get the replies that were stored.
 fn replays<R: Named>(alloc: Global, finished: &Finished<u64, R>) -> Result<bool, AllocError> {
+    let opening = finished.opening();
+    let (mut inner, key) = Inner::new(alloc, opening.capacity)?;
+    let mut is_all_same = key == opening.first_key;
     let calls = finished.calls(alloc)?;
-    match run(alloc, finished.opening().capacity, 0, calls) {
-        Ok(made) => Ok(are_same(finished.entries(), made.replies.as_slice())),
-        Err(_) => Err(AllocError),
+    is_all_same &= calls.len() == finished.entries().len();
+    for (call, entry) in calls.into_iter().zip(finished.entries()) {
+        is_all_same &= is_same(&mut inner, call, &entry.reply);
     }
+    Ok(is_all_same)
 }
 
 /// Whether the entries are those of the receipts, and one thread gets the same replies.
