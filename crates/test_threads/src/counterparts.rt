@@ -1,5 +1,7 @@
 //! Counterparts of those tests of async-broadcast that have threads.
-use crate::scripts::{Answer, Hands, Script, Step, of_try_recv, run};
+use crate::answers::{Answer, of_try_recv};
+use crate::hands::{Change, Hands, Script, Step};
+use crate::scripts::run;
 use crate::steps::{Receiving, Sending};
 use async_broadcast::{Port, WakerSlot, broadcast};
 use std::alloc::Global;
@@ -129,7 +131,7 @@ const OVERFLOW_SENDS: Script = &[
     (Step::Send(0, 7), Answer::Done),
     (Step::Send(0, 8), Answer::Done),
     (Step::Meet(0), Answer::Done),
-    (Step::Send(0, 9), Answer::Done),
+    (Step::Send(0, 9), Answer::Dropped(7)),
     (Step::Meet(1), Answer::Done),
 ];
 
@@ -210,13 +212,13 @@ const OPEN_SENDS: Script = &[
 
 const OPEN_RECEIVES: Script = &[
     (Step::Meet(0), Answer::Done),
-    (Step::ActivateCloned, Answer::Done),
+    (Step::Change(Change::ActivateCloned), Answer::Done),
     (Step::Receive(0), Answer::Message(7)),
     (Step::Receive(0), Answer::Message(8)),
     (Step::DropAll, Answer::Done),
     (Step::Meet(1), Answer::Done),
     (Step::Meet(2), Answer::Done),
-    (Step::Activate, Answer::Done),
+    (Step::Change(Change::Activate), Answer::Done),
     (Step::Receive(0), Answer::Message(9)),
     (Step::Receive(0), Answer::Message(10)),
 ];

@@ -1,145 +1,252 @@
 //! Threads that sleep in a call until another thread makes one.
-use crate::steps::{Receiving, Sending, pause, reaches};
-use async_broadcast::{Port, RecvError, SendError, WakerSlot, broadcast};
+use crate::answers::Answer;
+use crate::hands::{Change, Hands, Polled, Script, Step};
+use crate::sleepers::{Sleep, wakes};
+use async_broadcast::{LockReceiver, LockSender, broadcast};
+use futures::test::MockTask;
 use std::alloc::Global;
 use std::process::Abort;
-use std::sync::atomic::{AtomicU64, Ordering};
-use std::sync::{Arc, Wait};
+use std::sync::Wait;
 use std::test::Fail;
-use std::thread;
-use std::thread::{JoinHandle, Threads};
+use std::thread::Threads;
 
-// Each of two sleeping receivers gets the message, and then a list of two, and sees that the
-// channel closed.
-#[test]
-fn receivers_go_on_where_a_thread_sends_or_closes(rt: HostRuntime) -> Result<(), Fail> {
-    let (sender, receiver) = broadcast(rt, rt.alloc(), 2)?;
-    wakes_receivers(rt, rt.alloc(), sender, receiver)
-}
+/// A name, what is done before, who sleeps, and the calls after which they go on.
+type Row = (&'static str, Script, Sleep, Script);
 
-fn wakes_receivers<R, P>(
+/// Two threads that are to get this message.
+const RECEIVE: Sleep = (2, Step::Receive(0), Answer::Message(7));
+
+/// Two threads that are to see that the channel closed.
+const END: Sleep = (2, Step::Receive(0), Answer::Ended);
+
+/// On a channel of capacity 2.
+const RECEIVERS: &[Row] = &[
+    (
+        "broadcast_blocking",
+        &[],
+        RECEIVE,
+        &[(Step::Send(0, 7), Answer::Done)],
+    ),
+    (
+        "try_broadcast",
+        &[],
+        RECEIVE,
+        &[(Step::TrySend(0, 7), Answer::Done)],
+    ),
+    (
+        "try_broadcast_all",
+        &[],
+        RECEIVE,
+        &[(Step::TrySendBoth(7, 8), Answer::Done)],
+    ),
+    (
+        "a polled broadcast",
+        &[],
+        RECEIVE,
+        &[(Step::Poll(Polled::Send(7)), Answer::Done)],
+    ),
+    (
+        "close",
+        &[],
+        END,
+        &[(Step::Change(Change::Close), Answer::Is(true))],
+    ),
+    (
+        "the drop of the last sender",
+        &[],
+        END,
+        &[(Step::Change(Change::DropSenders), Answer::Done)],
+    ),
+    (
+        "a message, beside a stream",
+        &[],
+        RECEIVE,
+        &[
+            (Step::Poll(Polled::Recv), Answer::Pending),
+            (Step::Poll(Polled::Woken), Answer::Is(false)),
+            (Step::TrySend(0, 7), Answer::Done),
+            (Step::Poll(Polled::Woken), Answer::Is(true)),
+            (Step::Poll(Polled::Next), Answer::Message(7)),
+            (Step::Poll(Polled::Next), Answer::Pending),
+            (Step::Poll(Polled::Woken), Answer::Is(false)),
+            (Step::Change(Change::Close), Answer::Is(true)),
+            (Step::Poll(Polled::Woken), Answer::Is(true)),
+        ],
+    ),
+    (
+        "a message, beside a receive of a task",
+        &[],
+        RECEIVE,
+        &[(Step::Poll(Polled::HeldFuture(7)), Answer::Is(true))],
+    ),
+];
+
+/// One message, which fills a channel of capacity 1.
+const FULL: Script = &[(Step::TrySend(0, 1), Answer::Done)];
+
+/// The same, which one of two receivers has read.
+const HALF_READ: Script = &[
+    (Step::Change(Change::CloneReceiver), Answer::Done),
+    (Step::TrySend(0, 1), Answer::Done),
+    (Step::TryRecv(0), Answer::Message(1)),
+];
+
+/// The only receiver is inactive.
+const INACTIVE: Script = &[(Step::Change(Change::Deactivate), Answer::Done)];
+
+/// A thread whose message is to be accepted, and two.
+const SEND: Sleep = (1, Step::Send(0, 2), Answer::Done);
+
+const SEND_BOTH: Sleep = (2, Step::Send(0, 2), Answer::Done);
+
+/// A thread that is to drop the oldest message.
+const DROP_OLDEST: Sleep = (1, Step::Send(0, 2), Answer::Dropped(1));
+
+/// Two threads that are to be refused.
+const REFUSED: Sleep = (2, Step::Send(0, 2), Answer::Refused(2));
+
+/// On a channel of capacity 1.
+const SENDERS: &[Row] = &[
+    (
+        "try_recv",
+        FULL,
+        SEND,
+        &[(Step::TryRecv(0), Answer::Message(1))],
+    ),
+    (
+        "recv_blocking",
+        FULL,
+        SEND,
+        &[(Step::Receive(0), Answer::Message(1))],
+    ),
+    (
+        "a polled recv",
+        FULL,
+        SEND,
+        &[(Step::Poll(Polled::Future), Answer::Message(1))],
+    ),
+    (
+        "poll_recv",
+        FULL,
+        SEND,
+        &[(Step::Poll(Polled::Recv), Answer::Message(1))],
+    ),
+    (
+        "a polled stream",
+        FULL,
+        SEND,
+        &[(Step::Poll(Polled::Next), Answer::Message(1))],
+    ),
+    (
+        "a receive, beside a send of a task",
+        FULL,
+        SEND,
+        &[(Step::Poll(Polled::HeldSend(3)), Answer::Is(true))],
+    ),
+    (
+        "the drop of a receiver that lags",
+        HALF_READ,
+        SEND,
+        &[(Step::Change(Change::DropReceiver), Answer::Done)],
+    ),
+    (
+        "a receiver that lags is made inactive",
+        HALF_READ,
+        SEND,
+        &[(Step::Change(Change::Deactivate), Answer::Done)],
+    ),
+    (
+        "a capacity of two more",
+        FULL,
+        SEND_BOTH,
+        &[(Step::Change(Change::Capacity(3)), Answer::Done)],
+    ),
+    (
+        "overflow",
+        FULL,
+        DROP_OLDEST,
+        &[(Step::Change(Change::Overflow), Answer::Done)],
+    ),
+    (
+        "sends wait no more for a receiver",
+        INACTIVE,
+        REFUSED,
+        &[(Step::Change(Change::NoAwaiting), Answer::Done)],
+    ),
+    (
+        "activate",
+        INACTIVE,
+        SEND,
+        &[(Step::Change(Change::Activate), Answer::Done)],
+    ),
+    (
+        "activate_cloned",
+        INACTIVE,
+        SEND,
+        &[(Step::Change(Change::ActivateCloned), Answer::Done)],
+    ),
+    (
+        "new_receiver",
+        INACTIVE,
+        SEND,
+        &[(Step::Change(Change::NewReceiver), Answer::Done)],
+    ),
+    (
+        "close",
+        FULL,
+        REFUSED,
+        &[(Step::Change(Change::Close), Answer::Is(true))],
+    ),
+    (
+        "the drop of the last receiver",
+        FULL,
+        REFUSED,
+        &[(Step::Change(Change::DropReceiver), Answer::Done)],
+    ),
+    (
+        "the drop of the last inactive receiver",
+        INACTIVE,
+        REFUSED,
+        &[(Step::Change(Change::DropInactive), Answer::Done)],
+    ),
+];
+
+/// Plays a row over a channel.
+fn play<R>(
     rt: R,
     alloc: Global,
-    sender: Sending<P>,
-    one: Receiving<P>,
+    task: MockTask,
+    channel: (LockSender<u64, R>, LockReceiver<u64, R>),
+    row: &Row,
 ) -> Result<(), Fail>
 where
     R: Threads + Wait + Abort + Copy + Send + Drop + 'static,
-    P: Port<u64, WakerSlot> + Send + 'static,
 {
-    let steps = Arc::new(alloc, AtomicU64::new(0))?;
-    let first = start_receiver(rt, one.clone()?, &steps)?;
-    let second = start_receiver(rt, one, &steps)?;
-    wakes(&rt, alloc, &sender, &steps)?;
-    first.join(&rt);
-    second.join(&rt);
-    Ok(())
+    let (name, before, sleep, calls) = *row;
+    let mut hands = Hands::new(alloc);
+    hands.senders.push(channel.0)?;
+    hands.receivers.push(channel.1)?;
+    hands.task = Some(task);
+    assert!(&rt; hands.make_all(before), "{name}: before");
+    wakes(rt, alloc, &mut hands, (name, sleep, calls))
 }
 
-// Sends, and closes the channel, each once two receivers sleep.
-fn wakes<P: Port<u64, WakerSlot>>(
-    rt: &impl Abort,
-    alloc: Global,
-    sender: &Sending<P>,
-    steps: &AtomicU64,
-) -> Result<(), Fail> {
-    assert!(rt; reaches(steps, 2), "both wait for a message");
-    pause();
-    assert!(rt; sender.broadcast_blocking(7).is_ok());
-    assert!(rt; reaches(steps, 4), "both got it and wait again");
-    pause();
-    assert!(rt; sender.try_broadcast_all(vec![in alloc; 8, 9]?).is_ok());
-    assert!(rt; reaches(steps, 8), "both got the list and wait again");
-    pause();
-    assert!(rt; sender.close());
-    assert!(rt; reaches(steps, 10), "both saw that it closed");
-    Ok(())
-}
-
-fn start_receiver<R, P>(
-    rt: R,
-    receiver: Receiving<P>,
-    steps: &Arc<AtomicU64>,
-) -> Result<JoinHandle<()>, Fail>
-where
-    R: Threads + Wait + Abort + Copy + Send + Drop + 'static,
-    P: Port<u64, WakerSlot> + Send + 'static,
-{
-    let own = Arc::try_clone(steps)?;
-    Ok(thread::spawn(&rt, move || receive_to_the_end(&rt, receiver, &own))?)
-}
-
-// Counts a step before each call and after the last.
-fn receive_to_the_end<P: Port<u64, WakerSlot>>(
-    rt: &impl Abort,
-    mut receiver: Receiving<P>,
-    steps: &AtomicU64,
-) {
-    for number in [7, 8, 9] {
-        steps.fetch_add(1, Ordering::SeqCst);
-        let received = receiver.recv_blocking();
-        assert!(rt; matches!(received, Ok(Ok(got)) if got == number));
+// What a thread that sleeps in `recv_blocking` can receive wakes it, and it wakes the next.
+#[test]
+fn sleeping_receivers_go_on(rt: HostRuntime) -> Result<(), Fail> {
+    for row in RECEIVERS {
+        let channel = broadcast(rt, rt.alloc(), 2)?;
+        play(rt, rt.alloc(), MockTask::new(&rt)?, channel, row)?;
     }
-    steps.fetch_add(1, Ordering::SeqCst);
-    let received = receiver.recv_blocking();
-    assert!(rt; matches!(received, Ok(Err(RecvError::Closed))));
-    steps.fetch_add(1, Ordering::SeqCst);
-}
-
-// A sleeping sender gets its message into the room that a receive makes. Closing refuses the next.
-#[test]
-fn a_sender_goes_on_where_a_thread_receives_or_closes(rt: HostRuntime) -> Result<(), Fail> {
-    let (sender, receiver) = broadcast(rt, rt.alloc(), 1)?;
-    wakes_a_sender(rt, rt.alloc(), sender, receiver)
-}
-
-fn wakes_a_sender<R, P>(
-    rt: R,
-    alloc: Global,
-    sender: Sending<P>,
-    mut receiver: Receiving<P>,
-) -> Result<(), Fail>
-where
-    R: Threads + Wait + Abort + Copy + Send + Drop + 'static,
-    P: Port<u64, WakerSlot> + Send + 'static,
-{
-    let steps = Arc::new(alloc, AtomicU64::new(0))?;
-    let own = Arc::try_clone(&steps)?;
-    let thread = thread::spawn(&rt, move || send_to_the_end(&rt, sender, &own))?;
-    makes_room(&rt, &mut receiver, &steps);
-    thread.join(&rt);
-    assert!(&rt;
-        matches!(receiver.try_recv(), Ok(Ok(2))),
-        "what was sent before is kept"
-    );
     Ok(())
 }
 
-// Receives, and closes the channel, each once a sender sleeps.
-fn makes_room<P: Port<u64, WakerSlot>>(
-    rt: &impl Abort,
-    receiver: &mut Receiving<P>,
-    steps: &AtomicU64,
-) {
-    assert!(rt; reaches(steps, 1), "it waits for room");
-    pause();
-    assert!(rt; matches!(receiver.try_recv(), Ok(Ok(1))));
-    assert!(rt; reaches(steps, 2), "it sent and waits again");
-    pause();
-    assert!(rt; receiver.close());
-    assert!(rt; reaches(steps, 3), "it was refused");
-}
-
-// Counts a step before each call that must wait, and after the last.
-fn send_to_the_end<P: Port<u64, WakerSlot>>(
-    rt: &impl Abort,
-    sender: Sending<P>,
-    steps: &AtomicU64,
-) {
-    assert!(rt; sender.broadcast_blocking(1).is_ok(), "there is room");
-    steps.fetch_add(1, Ordering::SeqCst);
-    assert!(rt; sender.broadcast_blocking(2).is_ok());
-    steps.fetch_add(1, Ordering::SeqCst);
-    assert!(rt; matches!(sender.broadcast_blocking(3), Err(SendError(3))));
-    steps.fetch_add(1, Ordering::SeqCst);
+// What answers a thread that sleeps in `broadcast_blocking` wakes it, and it wakes the next.
+#[test]
+fn sleeping_senders_go_on(rt: HostRuntime) -> Result<(), Fail> {
+    for row in SENDERS {
+        let channel = broadcast(rt, rt.alloc(), 1)?;
+        play(rt, rt.alloc(), MockTask::new(&rt)?, channel, row)?;
+    }
+    Ok(())
 }

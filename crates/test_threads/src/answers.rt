@@ -1,0 +1,77 @@
+//! What threads and tasks are answered.
+use async_broadcast::{RecvError, SendError, TryRecvError, TrySendError};
+use futures::task::Poll;
+use std::alloc::AllocError;
+
+/// What a call is answered.
+#[derive(Clone, Copy, PartialEq, Eq)]
+pub enum Answer {
+    Done,
+    /// Accepted, and the oldest message is handed back.
+    Dropped(u64),
+    Full(u64),
+    Inactive(u64),
+    Closed(u64),
+    /// A send that may wait is refused.
+    Refused(u64),
+    Message(u64),
+    Missed(u64),
+    Empty,
+    /// The channel is closed, and nothing is left to receive.
+    Ended,
+    /// A poll must wait.
+    Pending,
+    Is(bool),
+    NoMemory,
+}
+
+/// The answer of a send that doesn't wait.
+pub fn of_try_send(answer: Result<Option<u64>, TrySendError<u64>>) -> Answer {
+    match answer {
+        Ok(None) => Answer::Done,
+        Ok(Some(oldest)) => Answer::Dropped(oldest),
+        Err(TrySendError::Full(back)) => Answer::Full(back),
+        Err(TrySendError::Inactive(back)) => Answer::Inactive(back),
+        Err(TrySendError::Closed(back)) => Answer::Closed(back),
+    }
+}
+
+/// The answer of a send that may wait.
+pub fn of_send(answer: Result<Option<u64>, SendError<u64>>) -> Answer {
+    match answer {
+        Ok(None) => Answer::Done,
+        Ok(Some(oldest)) => Answer::Dropped(oldest),
+        Err(SendError(back)) => Answer::Refused(back),
+    }
+}
+
+/// The answer of a receive that doesn't wait.
+pub fn of_try_recv(answer: Result<Result<u64, TryRecvError>, AllocError>) -> Answer {
+    match answer {
+        Ok(Ok(msg)) => Answer::Message(msg),
+        Ok(Err(TryRecvError::Overflowed(missed))) => Answer::Missed(missed),
+        Ok(Err(TryRecvError::Empty)) => Answer::Empty,
+        Ok(Err(TryRecvError::Closed)) => Answer::Ended,
+        Err(_) => Answer::NoMemory,
+    }
+}
+
+/// The answer of a receive that may wait.
+pub fn of_recv(answer: Result<Result<u64, RecvError>, AllocError>) -> Answer {
+    match answer {
+        Ok(Ok(msg)) => Answer::Message(msg),
+        Ok(Err(RecvError::Overflowed(missed))) => Answer::Missed(missed),
+        Ok(Err(RecvError::Closed)) => Answer::Ended,
+        Err(_) => Answer::NoMemory,
+    }
+}
+
+/// The answer of a poll of a stream.
+pub fn of_poll_recv(polled: Result<Poll<Option<Result<u64, RecvError>>>, AllocError>) -> Answer {
+    match polled {
+        Ok(Poll::Ready(Some(answer))) => of_recv(Ok(answer)),
+        Ok(Poll::Ready(None)) => Answer::Ended,
+        Ok(Poll::Pending) => Answer::Pending,
+        Err(_) => Answer::NoMemory,
+    }
+}
