@@ -4,7 +4,7 @@ use crate::failing::{cut_after_each_byte, each_read_and_write_fails, too_little_
 use crate::lock_rows::Tally;
 use crate::play::{Played, Player, in_pieces, play};
 use crate::refused::refused_lines;
-use crate::short::write_wrong;
+use crate::short::write_refused;
 use crate::told::write_notices;
 use bcast_text::ending::Ending;
 use std::alloc::{AllocGlobal, Global};
@@ -75,8 +75,8 @@ fn told_case<R: Wait + RandomSource + AllocGlobal, W: Write>(
     write_notices(alloc, text, listed.as_slice(), output)
 }
 
-/// Writes what a trace writes, and how it ends; whether a lock does the same; and whether the list
-/// of its calls does, but for the views.
+/// Writes what a trace writes, and how it ends; which of its calls are refused while there is no
+/// memory; whether a lock does the same; and whether the list of its calls does, but for the views.
 fn trace_case<R: Wait + RandomSource + AllocGlobal, W: Write>(
     rt: &R,
     alloc: Global,
@@ -93,7 +93,7 @@ fn trace_case<R: Wait + RandomSource + AllocGlobal, W: Write>(
     );
     write_played(alloc, Player::Trace, text, &played, output)?;
     if played.ending == Ending::Done {
-        write_wrong(alloc, text, output)?;
+        write_refused(alloc, text, output)?;
         tally.play(rt, alloc, text, output)?;
     } else {
         output.write_all(b"-- lock_rows: not played\n")?;
@@ -165,11 +165,6 @@ fn failing_case<W: Write>(alloc: Global, name: &str, text: &str, output: &mut W)
     match name {
         "script" => failing_lines(alloc, Player::Script, text, output),
         "topics" => failing_lines(alloc, Player::Topics, text, output),
-        "calls" => {
-            let is_often = write_wrong(alloc, text, output)? > 3;
-            let count = if is_often { "often" } else { "seldom" };
-            writeln!(output, "Calls: NoMemory {count}, and then none")
-        }
         _ => {
             failing(alloc, Player::Trace, text, output)?;
             failing(alloc, Player::List, text, output)

@@ -2,9 +2,9 @@
 ghost use Rattle.std.specs.Prelude.{IfOk, IfSome};
 ghost use Rattle.bcast_model.specs.Next.{HasPositiveCapacity};
 
-use bcast_core::Call;
+use bcast_core::{Call, Messages};
 use linked_list_allocator::LocalHeap;
-use std::alloc::AllocError;
+use std::alloc::{AllocError, Global};
 
 /// A message whose clone takes memory.
 #[derive(PartialEq, Drop)]
@@ -30,20 +30,39 @@ impl<'a> Clone for Heavy<'a> {
     }
 }
 
-/// The same call, with a message that takes its memory from the heap. None: it is an accessor, or
-/// sends a list.
+/// The same call, with messages that take their memory from the heap. None: it is an accessor.
+///
+/// A list itself takes its memory from `alloc`.
 pub fn with_memory<'a>(
+    alloc: Global,
     heap: &'a LocalHeap,
     call: &Call<u64>,
 ) -> Result<Option<Call<Heavy<'a>>>, AllocError>
     requires { HasPositiveCapacity call.now }
     ensures { IfOk result (λ made. IfSome made HasPositiveCapacity) }
 {
+    if let Call::TryBroadcastAll(numbers) = call {
+        let msgs = list_with_memory(alloc, heap, numbers.as_slice())?;
+        return Ok(Some(Call::TryBroadcastAll(msgs)));
+    }
     let Some(number) = number_of(call) else {
         return Ok(without_message(call));
     };
     let msg = Heavy::new(heap, number)?;
     Ok(Some(with_message(call, msg)))
+}
+
+/// Messages of these numbers, in a list.
+fn list_with_memory<'a>(
+    alloc: Global,
+    heap: &'a LocalHeap,
+    numbers: &[u64],
+) -> Result<Messages<Heavy<'a>>, AllocError> {
+    let mut msgs = Vec::new(alloc);
+    for number in numbers {
+        msgs.push(Heavy::new(heap, *number)?)?;
+    }
+    Ok(Messages::new(msgs))
 }
 
 /// The number that the call sends, if it sends one.
@@ -67,7 +86,7 @@ fn with_message<'a>(call: &Call<u64>, msg: Heavy<'a>) -> Call<Heavy<'a>>
     }
 }
 
-/// The same call, if it has no message, sends no list and is no accessor.
+/// The same call, if it has no message and is no accessor.
 fn without_message<'a>(call: &Call<u64>) -> Option<Call<Heavy<'a>>>
     requires { HasPositiveCapacity call.now }
     ensures { IfSome result HasPositiveCapacity }

@@ -16,13 +16,12 @@ const HEAP: usize = 1 << 14;
 /// The sizes of blocks that fill a heap.
 const BLOCKS: [usize; 8] = [4096, 1024, 512, 256, 128, 64, 32, 16];
 
-/// What came of calls that were short of memory.
-#[derive(Clone, Copy, PartialEq, Eq)]
+/// What came of the calls of a trace that were short of memory.
+#[derive(Drop)]
 enum Outcome {
-    /// None was refused.
-    Same,
-    /// Some were refused for memory, and changed nothing.
-    Refused,
+    /// The calls of these lines were refused, changed nothing, and were answered when they were
+    /// made again.
+    Refused(Vec<usize>),
     /// The call of this line answered something else, or changed something.
     Wrong(usize),
 }
@@ -133,29 +132,31 @@ impl<'a> Pair<'a> {
         alloc: Global,
         line: &str,
         left: usize,
-    ) -> Result<Option<Outcome>, AllocError> {
+    ) -> Result<Option<bool>, AllocError> {
         match read_line(alloc, line)? {
             Some(Line::Call(_, call)) => self.make(alloc, left, call),
-            _ => Ok(Some(Outcome::Same)),
+            _ => Ok(Some(false)),
         }
     }
 
-    /// Makes a call with `left` bytes of memory, and again with more of it if it was refused. None:
-    /// it changes something where it is refused, or is answered otherwise than with memory.
+    /// Makes a call with `left` bytes of memory, and again with more of it if it was refused.
+    ///
+    /// Whether it was refused. None: it changes something where it is refused, or is answered
+    /// otherwise than with memory.
     fn make(
         &mut self,
         alloc: Global,
         left: usize,
         call: Call<u64>,
-    ) -> Result<Option<Outcome>, AllocError>
+    ) -> Result<Option<bool>, AllocError>
         requires { HasPositiveCapacity call }
     {
-        let Some(wanted) = with_memory(self.ample, &call)? else {
-            return Ok(Some(Outcome::Same));
+        let Some(wanted) = with_memory(alloc, self.ample, &call)? else {
+            return Ok(Some(false));
         };
         let (Some(first), Some(again)) = (
-            with_memory(self.heap, &call)?,
-            with_memory(self.heap, &call)?,
+            with_memory(alloc, self.heap, &call)?,
+            with_memory(alloc, self.heap, &call)?,
         ) else {
             return Ok(None);
         };
@@ -165,13 +166,13 @@ impl<'a> Pair<'a> {
         drop(taken);
         let wanted = step(&mut self.other, wanted, Silent);
         if reply == wanted {
-            return Ok(Some(Outcome::Same));
+            return Ok(Some(false));
         }
         if !is_refused(&reply) || !is_unchanged {
             return Ok(None);
         }
         let is_right = step(&mut self.short, again, Silent) == wanted;
-        Ok(is_right.then_some(Outcome::Refused))
+        Ok(is_right.then_some(true))
     }
 }
 
@@ -183,10 +184,8 @@ fn play(alloc: Global, text: &str, left: usize) -> Result<Outcome, AllocError> {
     };
     let heap = LocalHeap::new(alloc, HEAP)?;
     let ample = LocalHeap::new(alloc, HEAP)?;
-    match Pair::open(alloc, &heap, &ample, opening) {
-        Ok(mut pair) => play_calls(alloc, &mut pair, calls, left),
-        Err(_) => Ok(Outcome::Same),
-    }
+    let mut pair = Pair::open(alloc, &heap, &ample, opening)?;
+    play_calls(alloc, &mut pair, calls, left)
 }
 
 /// Makes the calls of lines, of which the first is the second of its trace.
@@ -196,30 +195,46 @@ fn play_calls(
     calls: &str,
     left: usize,
 ) -> Result<Outcome, AllocError> {
-    let mut outcome = Outcome::Same;
+    let mut refused = Vec::new(alloc);
     for (index, line) in calls.lines().enumerate() {
+        let number = index.saturating_add(2);
         match pair.play_line(alloc, line, left)? {
-            None => return Ok(Outcome::Wrong(index.saturating_add(2))),
-            Some(Outcome::Refused) => outcome = Outcome::Refused,
-            Some(_) => {}
+            None => return Ok(Outcome::Wrong(number)),
+            Some(true) => refused.push(number)?,
+            Some(false) => {}
         }
     }
-    Ok(outcome)
+    Ok(Outcome::Refused(refused))
 }
 
-/// Plays the calls of a trace with ever more memory until none is refused, and writes what is
-/// wrong. How often some were refused.
-pub fn write_wrong<W: Write>(alloc: Global, text: &str, output: &mut W) -> io::Result<usize> {
+/// Plays the calls of a trace with ever more memory until none is refused. Writes the lines whose
+/// calls are refused while there is none, and what is wrong.
+pub fn write_refused<W: Write>(alloc: Global, text: &str, output: &mut W) -> io::Result<()> {
     for count in 0..HEAP / 32 {
-        match play(alloc, text, count * 16)? {
-            Outcome::Same => return Ok(count),
-            Outcome::Refused => {}
+        let lines = match play(alloc, text, count * 16)? {
+            Outcome::Refused(lines) => lines,
             Outcome::Wrong(line) => {
-                writeln!(output, "-- short of memory, line {line} is wrong")?;
-                return Ok(count);
+                return writeln!(output, "-- short of memory, line {line} is wrong");
             }
+        };
+        if count == 0 {
+            write_lines(lines.as_slice(), output)?;
+        }
+        if lines.is_empty() {
+            return Ok(());
         }
     }
-    output.write_all(b"-- memory is refused for ever\n")?;
-    Ok(0)
+    output.write_all(b"-- memory is refused for ever\n")
+}
+
+/// Writes which lines' calls were refused, and made again.
+fn write_lines<W: Write>(lines: &[usize], output: &mut W) -> io::Result<()> {
+    if lines.is_empty() {
+        return output.write_all(b"-- memory: none is taken\n");
+    }
+    output.write_all(b"-- memory: refused, and made again, in lines")?;
+    for line in lines {
+        write!(output, " {line}")?;
+    }
+    output.write_all(b"\n")
 }

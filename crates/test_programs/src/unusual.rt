@@ -29,10 +29,10 @@ pub fn run<W: Write>(alloc: Global, output: &mut W) -> io::Result<()> {
         refused(alloc, *player, first, line, output)?;
     }
     no_text(alloc, Player::Script, b"cap 2\nlen\xff\n", output)?;
+    no_text(alloc, Player::Script, b"cap 2\n\xff\n", output)?;
     no_text(alloc, Player::Topics, b"open a 1\nclose a\xff\n", output)?;
     no_text(alloc, Player::Trace, b"open 2 0\nLen -> \xff\n", output)?;
     output.write_all(b"# lines of the greatest length, and one byte more\n")?;
-    long_line(alloc, Player::Script, "cap 2\n", "a", 201, output)?;
     long_line(alloc, Player::Topics, "open a 1\n", "a", 201, output)?;
     for player in [Player::Trace, Player::List] {
         long_line(alloc, player, "open 2 0\n", "=", 1 << 20, output)?;
