@@ -93,6 +93,17 @@ fn pause() {
     }
 }
 
+impl<P: Port<u64, WakerSlot> + Shows> Row<'_, P> {
+    /// Makes the call of a line. None: the reply is the same.
+    fn ends_wait(&mut self, alloc: Global, line: &str) -> Result<Option<Part>, AllocError> {
+        let Some(calls) = calls_of(alloc, line)? else {
+            return Ok(Some(Part::Reply));
+        };
+        let is_same = self.is_same_reply(alloc, Way::OwnBodies, false, calls);
+        Ok((!is_same).then_some(Part::Reply))
+    }
+}
+
 /// Makes the calls while a thread waits, and then what ends its waiting.
 fn play_beside<R: Threads, P: Port<u64, WakerSlot> + Shows + Send + 'static>(
     rt: &R,
@@ -104,17 +115,20 @@ fn play_beside<R: Threads, P: Port<u64, WakerSlot> + Shows + Send + 'static>(
     let awaited = case.awaited;
     let thread = thread::spawn(rt, move || wait(&port, awaited))?;
     pause();
-    let played = play_calls(alloc, row, Way::OwnBodies, 0, case.calls)?;
-    let is_ended = match calls_of(alloc, case.last)? {
-        Some(calls) => row.is_same_reply(alloc, Way::OwnBodies, false, calls),
-        None => false,
+    let found = match play_calls(alloc, row, Way::OwnBodies, 0, case.calls)? {
+        Outcome::Differs(_, part) => Some(part),
+        Outcome::Same(_) => row.ends_wait(alloc, case.last)?,
     };
+    if found.is_some() {
+        // So that the thread ends.
+        row.port.ask(Call::Close, Wake::none());
+    }
     let reply = thread.join(rt);
     let wanted = step(&mut row.alone, call_of(awaited), Silent);
-    match played {
-        Outcome::Differs(_, part) => Ok(Some(part)),
-        Outcome::Same(_) if !is_ended || reply != wanted => Ok(Some(Part::Reply)),
-        Outcome::Same(_) => Ok(row.differs(alloc)?),
+    match found {
+        Some(part) => Ok(Some(part)),
+        None if reply != wanted => Ok(Some(Part::Reply)),
+        None => Ok(row.differs(alloc)?),
     }
 }
 
