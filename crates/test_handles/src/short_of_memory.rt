@@ -11,6 +11,7 @@ use slots::SlotPort;
 use std::alloc::{AllocError, AllocGlobal, Allocator, Global};
 use std::process::Abort;
 use std::random::RandomSource;
+use std::sync::Wait;
 use std::test::Fail;
 
 mod slots;
@@ -60,10 +61,19 @@ fn fill<'a>(alloc: Global, heap: &'a LocalHeap) -> Result<Vec<Block<'a>>, AllocE
 #[test]
 fn a_stream_goes_on_after_a_refused_clone(rt: HostRuntime) -> Result<(), Fail> {
     let heap = LocalHeap::new(rt.alloc(), HEAP)?;
-    let (sender, mut one) = broadcast(&rt, &heap, 1)?;
+    goes_on(&rt, &heap, Heavy::new(&heap)?, &Heavy::new(&heap)?)
+}
+
+// The message's type is a parameter, so that the handles' types name no heap.
+fn goes_on<R, T>(rt: &R, heap: &LocalHeap, msg: T, wanted: &T) -> Result<(), Fail>
+where
+    R: Abort + Wait + RandomSource + AllocGlobal,
+    T: Clone + PartialEq,
+{
+    let (sender, mut one) = broadcast(rt, rt.alloc(), 1)?;
     let mut two = one.clone()?;
-    assert!(rt; sender.try_broadcast(Heavy::new(&heap)?).is_ok());
-    gives_the_message_later(&rt, &heap, (&mut one, &mut two), &Heavy::new(&heap)?)
+    assert!(rt; sender.try_broadcast(msg).is_ok());
+    gives_the_message_later(rt, heap, (&mut one, &mut two), wanted)
 }
 
 fn gives_the_message_later<R, T, A, P>(
