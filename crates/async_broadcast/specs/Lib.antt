@@ -6,6 +6,8 @@ pub mod OfKind
 -- futures and streams
 pub mod TaskWakers
 pub mod Futures
+-- the notice of a poll, made for its task
+pub mod Made
 -- which waiting threads are woken
 pub mod Woken
 -- what is seen of a channel

@@ -1,11 +1,9 @@
--- Which of the waiting threads are woken after a call.
+-- Which threads wait for the channel behind a lock, and which of them are woken.
 use Rattle.std.specs.Prelude.{◌≡◌, ℕ, ◌+◌, ◌-◌, ◌%◌, ◌^◌, ◌<◌, ◌||◌, Bool, true, false}
 use Rattle.bcast_model.specs.Control.{is_ready}
-use Rattle.bcast_model.specs.Listeners.{no_listeners}
-use Rattle.bcast_model.specs.View.{is_full}
-use Rattle.bcast_core.specs.Alone.{NobodyWaits}
-use Rattle.async_broadcast.specs.declared.lock.state.State.{State}
-use Rattle.async_broadcast.specs.declared.lock.state.Woken.{Woken}
+use Rattle.bcast_model.specs.View.{View, is_full}
+use Rattle.async_broadcast.specs.declared.lock.threads.Threads.{Threads}
+use Rattle.async_broadcast.specs.declared.lock.threads.Woken.{Woken}
 
 -- one thread more, as the lock counts
 abbrev pub one_more : ℕ → ℕ
@@ -15,56 +13,47 @@ one_more count = (count + 1) % 2 ^ 64
 abbrev pub one_less : ℕ → ℕ
 one_less count = (count + (2 ^ 64 - 1)) % 2 ^ 64
 
-module _ {T A : Type 0} where
-  -- what changes when a receiver that had read everything has something to receive
-  abbrev pub news_of : State T A → ℕ × Bool
-  news_of s = (s.inner.end, s.inner.control.closed)
+-- no thread waits
+abbrev pub HasNoThread : Threads → Type 0
+HasNoThread t = (t.senders ≡ 0) × (t.idle_receivers ≡ 0) × (t.due_receivers ≡ 0)
 
-  -- no thread waits
-  abbrev pub HasNoThread : State T A → Type 0
-  HasNoThread s = (s.senders ≡ 0) × (s.idle_receivers ≡ 0) × (s.due_receivers ≡ 0)
+-- what changes when a receiver that had read everything has something to receive
+abbrev pub news_of : {T : Type 0} → View T → ℕ × Bool
+news_of v = (v.end, v.control.closed)
 
-  -- and no send of a task
-  abbrev pub IsIdle : State T A → Type 0
-  IsIdle s = HasNoThread s × (s.inner.control.waiting_sends ≡ no_listeners)
+-- threads that wait for a message and have nothing to receive know all that was sent
+abbrev pub KnowsNews : {T : Type 0} → View T → Threads → Type 0
+KnowsNews v t = 0 < t.idle_receivers → t.known ≡ news_of v
 
-  -- nobody waits: no thread, no send and no receive of a task
-  pub record IsAlone (s : State T A) : Type 0 where
-    pub threads : HasNoThread s
-    pub tasks : NobodyWaits s.inner.control
+-- where sends are ready and a thread waits to send, one was woken that hasn't tried yet
+abbrev pub HasWokenSender : {T : Type 0} → View T → Threads → Type 0
+HasWokenSender v t =
+    is_ready v.control (is_full v) ≡ true → 0 < t.senders → t.is_sender_woken ≡ true
 
-  -- where sends are ready and a thread waits to send, one was woken that hasn't tried yet
-  abbrev pub HasWokenSender : State T A → Type 0
-  HasWokenSender s =
-      is_ready s.inner.control (is_full s.inner) ≡ true → 0 < s.senders → s.is_sender_woken ≡ true
+-- the same for a thread that has something to receive
+abbrev pub HasWokenReceiver : Threads → Type 0
+HasWokenReceiver t = 0 < t.due_receivers → t.is_receiver_woken ≡ true
 
-  -- the same for a thread that has something to receive
-  abbrev pub HasWokenReceiver : State T A → Type 0
-  HasWokenReceiver s = 0 < s.due_receivers → s.is_receiver_woken ≡ true
+-- what is newly noted as woken is what is to be woken
+abbrev pub NotesSender : Threads → Threads → Woken → Type 0
+NotesSender old new woken = new.is_sender_woken ≡ (woken.sender || old.is_sender_woken)
 
-  -- what is newly noted as woken is what is to be woken
-  abbrev pub NotesSender : State T A → State T A → Woken → Type 0
-  NotesSender old new woken = new.is_sender_woken ≡ (woken.sender || old.is_sender_woken)
+abbrev pub NotesReceiver : Threads → Threads → Woken → Type 0
+NotesReceiver old new woken = new.is_receiver_woken ≡ (woken.receiver || old.is_receiver_woken)
 
-  abbrev pub NotesReceiver : State T A → State T A → Woken → Type 0
-  NotesReceiver old new woken = new.is_receiver_woken ≡ (woken.receiver || old.is_receiver_woken)
+-- threads that wait for a message have something to receive, if there is more than they know
+abbrev pub MovesReceivers : {T : Type 0} → View T → Threads → Threads → Type 0
+MovesReceivers v old new =
+    (news_of v ≡ old.known
+    → (new.idle_receivers ≡ old.idle_receivers) × (new.due_receivers ≡ old.due_receivers))
+    × ((news_of v ≡ old.known → ⊥)
+    → (new.idle_receivers ≡ 0)
+    × (new.due_receivers ≡ (old.due_receivers + old.idle_receivers) % 2 ^ 64))
 
-  -- threads that wait for a message have something to receive, if there is more than was known
-  abbrev pub MovesReceivers : ℕ × Bool → State T A → State T A → Type 0
-  MovesReceivers known old new =
-      (news_of new ≡ known
-      → (new.idle_receivers ≡ old.idle_receivers) × (new.due_receivers ≡ old.due_receivers))
-      × ((news_of new ≡ known → ⊥)
-      → (new.idle_receivers ≡ 0)
-      × (new.due_receivers ≡ (old.due_receivers + old.idle_receivers) % 2 ^ 64))
-
-  -- a thread that waited for a message tries again: it was counted among those that this names
-  abbrev pub EndsWait : ℕ × Bool → State T A → State T A → Type 0
-  EndsWait known old new =
-      (news_of old ≡ known
-      → new ≡ record old {
-        idle_receivers = one_less old.idle_receivers;
-        is_receiver_woken = false;
-      })
-      × ((news_of old ≡ known → ⊥)
-      → new ≡ record old { due_receivers = one_less old.due_receivers; is_receiver_woken = false })
+-- a thread that waited for a message has tried again: it was counted among those that this names
+abbrev pub EndsWait : ℕ × Bool → Threads → Threads → Type 0
+EndsWait known old new =
+    (old.known ≡ known
+    → new ≡ record old { idle_receivers = one_less old.idle_receivers; is_receiver_woken = false })
+    × ((old.known ≡ known → ⊥)
+    → new ≡ record old { due_receivers = one_less old.due_receivers; is_receiver_woken = false })

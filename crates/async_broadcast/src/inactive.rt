@@ -2,27 +2,24 @@
 ghost use Rattle.std.specs.Prelude.{◌≡◌, Ok, Err, IfOk, IfErr, ◌⊎◌};
 ghost use Rattle.async_broadcast.specs.Ports.{IsSame};
 
-use crate::asked;
+use crate::asked::{ask, make};
+use crate::handle::{Handle, Role};
 use crate::port::{Ask, Port};
-use crate::receiver::Receiver;
-use crate::wake::WakerSlot;
+use crate::receiver::{Receiver, Receiving};
+use crate::wake::{TaskWaker, WakerSlot};
 use bcast_core::{Call, HandleError, Reply};
 use std::alloc::{Allocator, Global};
-use std::marker::PhantomData;
-
-mod settings;
 
 /// Receives nothing, and can become an active receiver.
 ///
 /// While it is there, the channel isn't closed for want of receivers. Contracts name its `port`.
 ///
 /// Source: `InactiveReceiver` of async-broadcast 0.7.2.
-pub struct InactiveReceiver<T: Clone, P: Ask<T, WakerSlot<A>>, A: Allocator = Global> {
-    pub(crate) port: P,
-    // For handles made here.
-    pub(crate) alloc: A,
-    messages: PhantomData<T>,
-}
+pub type InactiveReceiver<T, P, A = Global> = Handle<T, P, Inactive, A>;
+
+/// The role of an `InactiveReceiver`.
+#[derive(Drop)]
+pub struct Inactive;
 
 impl<T: Clone, P: Port<T, WakerSlot<A>>, A: Allocator + Copy> InactiveReceiver<T, P, A> {
     /// An inactive receiver over this port, whose channel has counted it: its drop asks
@@ -32,11 +29,7 @@ impl<T: Clone, P: Port<T, WakerSlot<A>>, A: Allocator + Copy> InactiveReceiver<T
     pub fn over(port: P, alloc: A) -> Self
         ensures { result.port ≡ port }
     {
-        InactiveReceiver {
-            port,
-            alloc,
-            messages: PhantomData,
-        }
+        Handle::new(port, Inactive, alloc)
     }
 
     /// Turns the inactive receiver into an active one, whose first message is the next one that
@@ -59,18 +52,14 @@ impl<T: Clone, P: Port<T, WakerSlot<A>>, A: Allocator + Copy> InactiveReceiver<T
     /// Source: `InactiveReceiver::activate` of async-broadcast 0.7.2, which never refuses.
     pub fn activate(self) -> Result<Receiver<T, P, A>, (Self, HandleError)>
         ensures made { IfOk result (λ made. (made.port ≡ self.port)
-            × P.gave self.port Call.Activate (Reply.Activate (Ok made.key))) }
+            × P.gave self.port Call.Activate (Reply.Activate (Ok made.role.key))) }
         ensures refused { IfErr result (λ back. (back.0 ≡ self)
             × P.gave self.port Call.Activate (Reply.Activate (Err back.1))) }
     {
-        match asked::activate::<T, WakerSlot<A>, P>(&self.port) {
+        match ask!(self.port, Activate) {
             Ok(key) => {
-                let InactiveReceiver {
-                    port,
-                    alloc,
-                    messages: _,
-                } = self;
-                Ok(Receiver::over(port, key, alloc))
+                let waker = TaskWaker::new(self.alloc);
+                Ok(self.turned(Receiving { key, waker }))
             }
             Err(error) => Err((self, error)),
         }
@@ -97,18 +86,14 @@ impl<T: Clone, P: Port<T, WakerSlot<A>>, A: Allocator + Copy> InactiveReceiver<T
     pub fn activate_cloned(&self) -> Result<Receiver<T, P, A>, HandleError>
         ensures channel { IfOk result (λ made. IsSame P.gave made.port self.now.port) }
         ensures made { IfOk result (λ made. P.gave self.now.port Call.ActivateCloned
-            (Reply.ActivateCloned (Ok made.key))) }
+            (Reply.ActivateCloned (Ok made.role.key))) }
         ensures refused { IfErr result (λ error.
             ((error ≡ HandleError.Memory) × P.lacks_memory self.now.port)
             ⊎ P.gave self.now.port Call.ActivateCloned (Reply.ActivateCloned (Err error))) }
     {
-        let Some(port) = self.port.same() else {
-            return Err(HandleError::Memory);
-        };
-        match asked::activate_cloned::<T, WakerSlot<A>, P>(&self.port) {
-            Ok(key) => Ok(Receiver::over(port, key, self.alloc)),
-            Err(error) => Err(error),
-        }
+        let port = self.port.same().ok_or(HandleError::Memory)?;
+        let key = ask!(self.port, ActivateCloned)?;
+        Ok(Receiver::over(port, key, self.alloc))
     }
 
     /// Makes another inactive receiver of the channel.
@@ -137,25 +122,22 @@ impl<T: Clone, P: Port<T, WakerSlot<A>>, A: Allocator + Copy> InactiveReceiver<T
             ((error ≡ HandleError.Memory) × P.lacks_memory self.now.port)
             ⊎ P.gave self.now.port Call.CloneInactive (Reply.CloneInactive (Err error))) }
     {
-        let Some(port) = self.port.same() else {
-            return Err(HandleError::Memory);
-        };
-        match asked::clone_inactive::<T, WakerSlot<A>, P>(&self.port) {
-            Ok(()) => Ok(InactiveReceiver::over(port, self.alloc)),
-            Err(error) => Err(error),
-        }
+        let port = self.port.same().ok_or(HandleError::Memory)?;
+        ask!(self.port, CloneInactive)?;
+        Ok(InactiveReceiver::over(port, self.alloc))
     }
 }
 
-impl<T: Clone, P: Ask<T, WakerSlot<A>>, A: Allocator> Drop for InactiveReceiver<T, P, A> {
-    fn drop(self)
-        ensures { P.gave self.port Call.DropInactive Reply.DropInactive }
-    {
-        asked::drop_inactive::<T, WakerSlot<A>, P>(&self.port);
-        let InactiveReceiver {
-            port: _,
-            alloc: _,
-            messages: _,
-        } = self;
+impl<T: Clone> Role<T> for Inactive {
+    ghost use Rattle.bcast_model.specs.declared.run.Call.{Call};
+    ghost use Rattle.bcast_model.specs.declared.run.Reply.{Reply};
+
+    ghost last = { λ _. Call.DropInactive };
+
+    ghost left = { Reply.DropInactive };
+
+    #[inline(always)]
+    fn leave<S, P: Ask<T, S>>(&self, port: &P) {
+        make!(port, DropInactive)
     }
 }

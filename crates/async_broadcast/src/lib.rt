@@ -21,6 +21,7 @@
 
 mod asked;
 mod future;
+mod handle;
 mod inactive;
 mod lock;
 mod port;
@@ -35,9 +36,10 @@ pub use bcast_core::{
     TryRecvError, TrySendError, Waiting,
 };
 pub use future::{Recv, Send};
-pub use inactive::InactiveReceiver;
+pub use handle::{Handle, Role};
+pub use inactive::{Inactive, InactiveReceiver};
 pub use lock::{Lock, LockInactiveReceiver, LockReceiver, LockSender, broadcast};
 pub use port::{Ask, Port};
-pub use receiver::Receiver;
-pub use sender::Sender;
+pub use receiver::{Receiver, Receiving};
+pub use sender::{Sender, Sending};
 pub use wake::{Registers, TaskWaker, Wake, WakerSlot};

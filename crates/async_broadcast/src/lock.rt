@@ -10,12 +10,14 @@ use crate::receiver::Receiver;
 use crate::sender::Sender;
 use crate::wake::{Wake, WakerSlot};
 use bcast_core::{Call, Inner, Reply, Snapshot, TryRecvError, TrySendError};
-use state::{State, Woken};
+use channel::Channel;
 use std::alloc::{AllocError, Allocator, Global};
-use std::sync::{Arc, Condvar, Mutex, MutexGuard, Wait};
+use std::sync::{Arc, Wait};
 
 mod asking;
+mod channel;
 mod state;
+mod threads;
 mod waiting;
 
 /// The port of a channel that `broadcast` made. All ports of the channel share one lock, and each
@@ -29,67 +31,6 @@ mod waiting;
 pub struct Lock<T: Clone, R: Wait + Clone, A: Allocator = Global> {
     channel: Arc<Channel<T, A>, A>,
     rt: R,
-}
-
-#[derive(Drop)]
-struct Channel<T: Clone, A: Allocator> {
-    state: Mutex<State<T, A>>,
-    // For threads that wait to send.
-    ready: Condvar,
-    // For threads that wait for a message.
-    news: Condvar,
-}
-
-// The state, while the lock is held.
-type Locked<'a, T, A> = MutexGuard<'a, State<T, A>>;
-
-impl<T: Clone, A: Allocator> Channel<T, A> {
-    // Best once the lock is free.
-    #[inline(always)]
-    fn wake(&self, woken: Woken) {
-        woken.wake(&self.ready, &self.news);
-    }
-
-    // Tries once before it waits, since most often the lock is free.
-    #[inline(always)]
-    fn lock(&self, rt: &impl Wait) -> Locked<'_, T, A> {
-        match self.state.try_lock() {
-            Some(state) => state,
-            None => self.state.lock(rt),
-        }
-    }
-}
-
-// What is done while others may wait. In functions of their own, so that a call that finds nobody
-// waiting clears no memory for their answers.
-impl<T: Clone, A: Allocator + Copy> Channel<T, A> {
-    #[inline(always)]
-    fn try_broadcast_and_wake(
-        &self,
-        mut state: Locked<'_, T, A>,
-        msg: T,
-    ) -> Result<Option<T>, TrySendError<T>>
-        ensures { IsPossible T.is_clone (Call.TryBroadcast msg) (Reply.TryBroadcast result) }
-    {
-        let (answer, woken) = state.try_broadcast(msg);
-        drop(state);
-        self.wake(woken);
-        answer
-    }
-
-    #[inline(always)]
-    fn try_recv_and_wake(
-        &self,
-        mut state: Locked<'_, T, A>,
-        key: usize,
-    ) -> Result<Result<T, TryRecvError>, AllocError>
-        ensures { IsPossible T.is_clone (Call.TryRecv key) (Reply.TryRecv result) }
-    {
-        let (answer, woken) = state.try_recv(key);
-        drop(state);
-        self.wake(woken);
-        answer
-    }
 }
 
 /// A sender of a channel that `broadcast` made.
@@ -170,12 +111,7 @@ impl<T: Clone, R: Wait + Clone, A: Allocator + Copy> Lock<T, R, A> {
         alloc: A,
         inner: Inner<T, Wake<WakerSlot<A>>, A>,
     ) -> Result<Self, AllocError> {
-        let channel = Channel {
-            state: Mutex::new(State::new(inner)),
-            ready: Condvar::new(),
-            news: Condvar::new(),
-        };
-        let channel = Arc::new(alloc, channel)?;
+        let channel = Arc::new(alloc, Channel::new(inner))?;
         Ok(Lock { channel, rt })
     }
 
@@ -204,13 +140,11 @@ impl<T: Clone, R: Wait + Clone, A: Allocator + Copy> Port<T, WakerSlot<A>> for L
     {
         let channel = &*self.channel;
         let mut state = channel.lock(&self.rt);
-        if state.is_alone() {
-            return state.try_broadcast_alone(msg);
-        }
-        if state.has_no_thread() {
-            return state.try_broadcast_and_tell(msg);
-        }
-        channel.try_broadcast_and_wake(state, msg)
+        let locked = &mut *state;
+        let sent = locked.inner.try_broadcast(msg);
+        let woken = locked.threads.note(&locked.inner);
+        channel.unlock(state, woken);
+        sent
     }
 
     #[inline(always)]
@@ -219,13 +153,11 @@ impl<T: Clone, R: Wait + Clone, A: Allocator + Copy> Port<T, WakerSlot<A>> for L
     {
         let channel = &*self.channel;
         let mut state = channel.lock(&self.rt);
-        if state.is_idle() {
-            return state.try_recv_alone(key);
-        }
-        if state.has_no_thread() {
-            return state.try_recv_and_tell(key);
-        }
-        channel.try_recv_and_wake(state, key)
+        let locked = &mut *state;
+        let received = locked.inner.try_recv(key);
+        let woken = locked.threads.note(&locked.inner);
+        channel.unlock(state, woken);
+        received
     }
 
     fn ask_waiting(&self, call: Call<T>) -> Reply<T>

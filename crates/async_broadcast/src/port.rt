@@ -6,7 +6,7 @@ ghost use Rattle.bcast_model.specs.Next.{HasPositiveCapacity};
 ghost use Rattle.async_broadcast.specs.Kinds.{IsOfKind, may_wait, is_answer};
 ghost use Rattle.async_broadcast.specs.Ports.{IsSame};
 
-use crate::asked;
+use crate::asked::{ask, make};
 use crate::wake::{Registers, Wake};
 use bcast_core::{Call, Reply, TryRecvError, TrySendError};
 use futures::task::Context;
@@ -34,8 +34,8 @@ pub trait Ask<T: Clone, S>: Sized + Drop {
         ensures { gave self.now call result };
 
     /// Makes one of the four polls, for a task. If the poll must wait, the task is registered, and
-    /// a notice for it left there. Every poll registers its task, unless the port can tell
-    /// beforehand that it will be answered.
+    /// a notice for it left there. A port that needs the notice before it makes the poll registers
+    /// the task of every poll.
     ///
     /// # Errors
     ///
@@ -67,10 +67,7 @@ pub trait Ask<T: Clone, S>: Sized + Drop {
     fn begin_send(&self) -> Result<usize, AllocError>
         ensures { gave self.now Call.BeginSend (Reply.BeginSend result) }
     {
-        match self.ask(Call::BeginSend, Wake::none()) {
-            Reply::BeginSend(begun) => begun,
-            _ => unreachable!(),
-        }
+        ask!(self, BeginSend)
     }
 
     /// Gives up the receive of the receiver `key`. `is_answered`: its future's last poll was
@@ -82,10 +79,8 @@ pub trait Ask<T: Clone, S>: Sized + Drop {
     fn end_future(&self, key: usize, is_answered: bool) -> Wake<S>
         ensures { gave self.now (Call.EndFuture key) Reply.EndFuture }
     {
-        match self.ask(Call::EndFuture(key), Wake::none()) {
-            Reply::EndFuture => Wake::none(),
-            _ => unreachable!(),
-        }
+        make!(self, EndFuture(key));
+        Wake::none()
     }
 
     // A reply is of its call's kind.
@@ -100,14 +95,14 @@ pub trait Port<T: Clone, S>: Ask<T, S> {
     fn try_broadcast(&self, msg: T) -> Result<Option<T>, TrySendError<T>>
         ensures { Self.gave self.now (Call.TryBroadcast msg) (Reply.TryBroadcast result) }
     {
-        asked::try_broadcast::<T, S, Self>(self, msg)
+        ask!(self, TryBroadcast(msg))
     }
 
     /// Asks `TryRecv`.
     fn try_recv(&self, key: usize) -> Result<Result<T, TryRecvError>, AllocError>
         ensures { Self.gave self.now (Call.TryRecv key) (Reply.TryRecv result) }
     {
-        asked::try_recv::<T, S, Self>(self, key)
+        ask!(self, TryRecv(key))
     }
 
     /// Makes an `AttemptSend` or a `TryRecv` again and again, and waits between, until it is

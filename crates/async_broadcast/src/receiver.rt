@@ -2,23 +2,22 @@
 ghost use Rattle.std.specs.Prelude.{◌≡◌, Ok, Err, IfOk, IfErr, ◌⊎◌};
 ghost use Rattle.async_broadcast.specs.Ports.{IsSame, as_try_recv};
 
-use crate::asked;
-use crate::inactive::InactiveReceiver;
+use crate::asked::{ask, make};
+use crate::handle::{Handle, Role};
+use crate::inactive::{Inactive, InactiveReceiver};
 use crate::port::{Ask, Port};
 use crate::sender::Sender;
 use crate::wake::{TaskWaker, WakerSlot};
 use bcast_core::{Call, HandleError, RecvError, Reply, TryRecvError};
 use std::alloc::{AllocError, Allocator, Global};
-use std::marker::PhantomData;
-
-mod settings;
 
 /// Receives each message that a channel accepts, from the receiver's start on, or is told how many
 /// it missed.
 ///
 /// `clone` makes another one with the same messages still to read, `new_receiver` one that starts
 /// with the next message. The channel closes when its last receiver is dropped, unless an inactive
-/// one is left. Contracts name its `port`, and the `key` under which the channel has its cursor.
+/// one is left. Contracts name its `port`, and the `role.key` under which the channel has its
+/// cursor.
 ///
 /// A receiver is also a stream, which passes over what it missed, and ends when every message was
 /// read and the channel is closed. Its item is an `AllocError` if there was no memory for a notice
@@ -33,12 +32,15 @@ mod settings;
 /// ```
 ///
 /// Source: `Receiver` of async-broadcast 0.7.2.
-pub struct Receiver<T: Clone, P: Ask<T, WakerSlot<A>>, A: Allocator = Global> {
-    pub(crate) port: P,
+pub type Receiver<T, P, A = Global> = Handle<T, P, Receiving<A>, A>;
+
+/// The role of a `Receiver`.
+#[derive(Drop)]
+pub struct Receiving<A: Allocator = Global> {
+    // Under which the channel has the cursor.
     pub(crate) key: usize,
-    // Of the task that polls this receiver, as a stream or by a `Recv`.
+    // Of the task that polls the receiver, as a stream or by a `Recv`.
     pub(crate) waker: TaskWaker<A>,
-    messages: PhantomData<T>,
 }
 
 impl<T: Clone, P: Port<T, WakerSlot<A>>, A: Allocator + Copy> Receiver<T, P, A> {
@@ -47,14 +49,10 @@ impl<T: Clone, P: Port<T, WakerSlot<A>>, A: Allocator + Copy> Receiver<T, P, A> 
     ///
     /// Futures and handles that are made by it take their memory from `alloc`.
     pub fn over(port: P, key: usize, alloc: A) -> Self
-        ensures { (result.port ≡ port) × (result.key ≡ key) }
+        ensures { (result.port ≡ port) × (result.role.key ≡ key) }
     {
-        Receiver {
-            port,
-            key,
-            waker: TaskWaker::new(alloc),
-            messages: PhantomData,
-        }
+        let waker = TaskWaker::new(alloc);
+        Handle::new(port, Receiving { key, waker }, alloc)
     }
 
     /// Receives the next message, if there is one.
@@ -81,10 +79,11 @@ impl<T: Clone, P: Port<T, WakerSlot<A>>, A: Allocator + Copy> Receiver<T, P, A> 
     /// Source: `Receiver::try_recv` of async-broadcast 0.7.2, which never refuses for memory.
     #[inline(always)]
     pub fn try_recv(&mut self) -> Result<Result<T, TryRecvError>, AllocError>
-        ensures asked { P.gave self.old.port (Call.TryRecv self.old.key) (Reply.TryRecv result) }
+        ensures asked { P.gave self.old.port (Call.TryRecv self.old.role.key)
+            (Reply.TryRecv result) }
         ensures same { self.new ≡ self.old }
     {
-        self.port.try_recv(self.key)
+        self.port.try_recv(self.role.key)
     }
 
     /// Receives the next message, and blocks the thread while there is none and the channel is
@@ -107,11 +106,11 @@ impl<T: Clone, P: Port<T, WakerSlot<A>>, A: Allocator + Copy> Receiver<T, P, A> 
     ///
     /// Source: `Receiver::recv_blocking` of async-broadcast 0.7.2, which never refuses for memory.
     pub fn recv_blocking(&mut self) -> Result<Result<T, RecvError>, AllocError>
-        ensures asked { P.gave self.old.port (Call.TryRecv self.old.key)
+        ensures asked { P.gave self.old.port (Call.TryRecv self.old.role.key)
             (Reply.TryRecv (as_try_recv result)) }
         ensures same { self.new ≡ self.old }
     {
-        match self.port.ask_waiting(Call::TryRecv(self.key)) {
+        match self.port.ask_waiting(Call::TryRecv(self.role.key)) {
             Reply::TryRecv(Ok(Ok(msg))) => Ok(Ok(msg)),
             Reply::TryRecv(Ok(Err(TryRecvError::Overflowed(n)))) => {
                 Ok(Err(RecvError::Overflowed(n)))
@@ -140,7 +139,7 @@ impl<T: Clone, P: Port<T, WakerSlot<A>>, A: Allocator + Copy> Receiver<T, P, A> 
     pub fn is_terminated(&self) -> bool
         ensures { P.gave self.now.port Call.IsTerminated (Reply.IsTerminated result) }
     {
-        asked::is_terminated::<T, WakerSlot<A>, P>(&self.port)
+        ask!(self.port, IsTerminated)
     }
 
     /// Makes another active receiver, which has the same messages still to read.
@@ -160,20 +159,16 @@ impl<T: Clone, P: Port<T, WakerSlot<A>>, A: Allocator + Copy> Receiver<T, P, A> 
     /// Source: `Receiver::clone` of async-broadcast 0.7.2, which never refuses.
     pub fn clone(&self) -> Result<Self, HandleError>
         ensures channel { IfOk result (λ made. IsSame P.gave made.port self.now.port) }
-        ensures made { IfOk result (λ made. P.gave self.now.port (Call.CloneReceiver self.now.key)
-            (Reply.CloneReceiver (Ok made.key))) }
+        ensures made { IfOk result (λ made. P.gave self.now.port
+            (Call.CloneReceiver self.now.role.key) (Reply.CloneReceiver (Ok made.role.key))) }
         ensures refused { IfErr result (λ error.
             ((error ≡ HandleError.Memory) × P.lacks_memory self.now.port)
-            ⊎ P.gave self.now.port (Call.CloneReceiver self.now.key)
+            ⊎ P.gave self.now.port (Call.CloneReceiver self.now.role.key)
             (Reply.CloneReceiver (Err error))) }
     {
-        let Some(port) = self.port.same() else {
-            return Err(HandleError::Memory);
-        };
-        match asked::clone_receiver::<T, WakerSlot<A>, P>(&self.port, self.key) {
-            Ok(key) => Ok(Receiver::over(port, key, self.waker.alloc())),
-            Err(error) => Err(error),
-        }
+        let port = self.port.same().ok_or(HandleError::Memory)?;
+        let key = ask!(self.port, CloneReceiver(self.role.key))?;
+        Ok(Receiver::over(port, key, self.alloc))
     }
 
     /// Makes an active receiver, whose first message is the next one that is accepted.
@@ -195,19 +190,15 @@ impl<T: Clone, P: Port<T, WakerSlot<A>>, A: Allocator + Copy> Receiver<T, P, A> 
     /// Source: `Receiver::new_receiver` of async-broadcast 0.7.2, which never refuses.
     pub fn new_receiver(&self) -> Result<Self, HandleError>
         ensures channel { IfOk result (λ made. IsSame P.gave made.port self.now.port) }
-        ensures made { IfOk result
-            (λ made. P.gave self.now.port Call.NewReceiver (Reply.NewReceiver (Ok made.key))) }
+        ensures made { IfOk result (λ made. P.gave self.now.port Call.NewReceiver
+            (Reply.NewReceiver (Ok made.role.key))) }
         ensures refused { IfErr result (λ error.
             ((error ≡ HandleError.Memory) × P.lacks_memory self.now.port)
             ⊎ P.gave self.now.port Call.NewReceiver (Reply.NewReceiver (Err error))) }
     {
-        let Some(port) = self.port.same() else {
-            return Err(HandleError::Memory);
-        };
-        match asked::new_receiver::<T, WakerSlot<A>, P>(&self.port) {
-            Ok(key) => Ok(Receiver::over(port, key, self.waker.alloc())),
-            Err(error) => Err(error),
-        }
+        let port = self.port.same().ok_or(HandleError::Memory)?;
+        let key = ask!(self.port, NewReceiver)?;
+        Ok(Receiver::over(port, key, self.alloc))
     }
 
     /// Makes a sender of the channel. It doesn't open a closed one.
@@ -234,13 +225,9 @@ impl<T: Clone, P: Port<T, WakerSlot<A>>, A: Allocator + Copy> Receiver<T, P, A> 
             ((error ≡ HandleError.Memory) × P.lacks_memory self.now.port)
             ⊎ P.gave self.now.port Call.NewSender (Reply.NewSender (Err error))) }
     {
-        let Some(port) = self.port.same() else {
-            return Err(HandleError::Memory);
-        };
-        match asked::new_sender::<T, WakerSlot<A>, P>(&self.port) {
-            Ok(()) => Ok(Sender::over(port, self.waker.alloc())),
-            Err(error) => Err(error),
-        }
+        let port = self.port.same().ok_or(HandleError::Memory)?;
+        ask!(self.port, NewSender)?;
+        Ok(Sender::over(port, self.alloc))
     }
 
     /// Turns the receiver into an inactive one, which receives nothing and keeps the channel open.
@@ -265,35 +252,27 @@ impl<T: Clone, P: Port<T, WakerSlot<A>>, A: Allocator + Copy> Receiver<T, P, A> 
     /// Source: `Receiver::deactivate` of async-broadcast 0.7.2, which never refuses.
     pub fn deactivate(self) -> Result<InactiveReceiver<T, P, A>, (Self, HandleError)>
         ensures made { IfOk result (λ made. (made.port ≡ self.port)
-            × P.gave self.port (Call.Deactivate self.key) (Reply.Deactivate (Ok tt))) }
+            × P.gave self.port (Call.Deactivate self.role.key) (Reply.Deactivate (Ok tt))) }
         ensures refused { IfErr result (λ back. (back.0 ≡ self)
-            × P.gave self.port (Call.Deactivate self.key) (Reply.Deactivate (Err back.1))) }
+            × P.gave self.port (Call.Deactivate self.role.key) (Reply.Deactivate (Err back.1))) }
     {
-        match asked::deactivate::<T, WakerSlot<A>, P>(&self.port, self.key) {
-            Ok(()) => {
-                let Receiver {
-                    port,
-                    key: _,
-                    waker,
-                    messages: _,
-                } = self;
-                Ok(InactiveReceiver::over(port, waker.alloc()))
-            }
+        match ask!(self.port, Deactivate(self.role.key)) {
+            Ok(()) => Ok(self.turned(Inactive)),
             Err(error) => Err((self, error)),
         }
     }
 }
 
-impl<T: Clone, P: Ask<T, WakerSlot<A>>, A: Allocator> Drop for Receiver<T, P, A> {
-    fn drop(self)
-        ensures { P.gave self.port (Call.DropReceiver self.key) Reply.DropReceiver }
-    {
-        asked::drop_receiver::<T, WakerSlot<A>, P>(&self.port, self.key);
-        let Receiver {
-            port: _,
-            key: _,
-            waker: _,
-            messages: _,
-        } = self;
+impl<T: Clone, A: Allocator> Role<T> for Receiving<A> {
+    ghost use Rattle.bcast_model.specs.declared.run.Call.{Call};
+    ghost use Rattle.bcast_model.specs.declared.run.Reply.{Reply};
+
+    ghost last = { λ role. Call.DropReceiver role.key };
+
+    ghost left = { Reply.DropReceiver };
+
+    #[inline(always)]
+    fn leave<S, P: Ask<T, S>>(&self, port: &P) {
+        make!(port, DropReceiver(self.key))
     }
 }

@@ -3,15 +3,13 @@ ghost use Rattle.std.specs.Prelude.{◌≡◌, Ok, Err, IfOk, IfErr, ◌⊎◌};
 ghost use Rattle.bcast_model.specs.SendAll.{in_lists};
 ghost use Rattle.async_broadcast.specs.Ports.{IsSame};
 
-use crate::asked;
+use crate::asked::{ask, make};
+use crate::handle::{Handle, Role};
 use crate::port::{Ask, Port};
 use crate::receiver::Receiver;
 use crate::wake::WakerSlot;
 use bcast_core::{Call, HandleError, Messages, Reply, SendError, SendPoll, TrySendError, in_vec};
 use std::alloc::{Allocator, Global};
-use std::marker::PhantomData;
-
-mod settings;
 
 /// Sends messages to all active receivers of a channel.
 ///
@@ -19,12 +17,11 @@ mod settings;
 /// are accepted, and those that are there can still be received. Contracts name its `port`.
 ///
 /// Source: `Sender` of async-broadcast 0.7.2.
-pub struct Sender<T: Clone, P: Ask<T, WakerSlot<A>>, A: Allocator = Global> {
-    pub(crate) port: P,
-    // For futures, and for handles made here.
-    pub(crate) alloc: A,
-    messages: PhantomData<T>,
-}
+pub type Sender<T, P, A = Global> = Handle<T, P, Sending, A>;
+
+/// The role of a `Sender`.
+#[derive(Drop)]
+pub struct Sending;
 
 impl<T: Clone, P: Port<T, WakerSlot<A>>, A: Allocator + Copy> Sender<T, P, A> {
     /// A sender over this port, whose channel has counted it: its drop asks `DropSender`.
@@ -33,11 +30,7 @@ impl<T: Clone, P: Port<T, WakerSlot<A>>, A: Allocator + Copy> Sender<T, P, A> {
     pub fn over(port: P, alloc: A) -> Self
         ensures { result.port ≡ port }
     {
-        Sender {
-            port,
-            alloc,
-            messages: PhantomData,
-        }
+        Handle::new(port, Sending, alloc)
     }
 
     /// Sends a message, unless the channel has no room for it or nobody to receive it.
@@ -104,7 +97,7 @@ impl<T: Clone, P: Port<T, WakerSlot<A>>, A: Allocator + Copy> Sender<T, P, A> {
         ensures { P.gave self.now.port (Call.TryBroadcastAll msgs.items)
             (Reply.TryBroadcastAll (in_lists result)) }
     {
-        in_vec(asked::try_broadcast_all::<T, WakerSlot<A>, P>(&self.port, Messages::new(msgs)))
+        in_vec(ask!(self.port, TryBroadcastAll(Messages::new(msgs))))
     }
 
     /// Sends a message, and blocks the thread while the channel has no room for it, or, with
@@ -165,13 +158,9 @@ impl<T: Clone, P: Port<T, WakerSlot<A>>, A: Allocator + Copy> Sender<T, P, A> {
             ((error ≡ HandleError.Memory) × P.lacks_memory self.now.port)
             ⊎ P.gave self.now.port Call.NewSender (Reply.NewSender (Err error))) }
     {
-        let Some(port) = self.port.same() else {
-            return Err(HandleError::Memory);
-        };
-        match asked::new_sender::<T, WakerSlot<A>, P>(&self.port) {
-            Ok(()) => Ok(Sender::over(port, self.alloc)),
-            Err(error) => Err(error),
-        }
+        let port = self.port.same().ok_or(HandleError::Memory)?;
+        ask!(self.port, NewSender)?;
+        Ok(Sender::over(port, self.alloc))
     }
 
     /// Makes an active receiver, whose first message is the next one that is accepted.
@@ -194,31 +183,28 @@ impl<T: Clone, P: Port<T, WakerSlot<A>>, A: Allocator + Copy> Sender<T, P, A> {
     /// Source: `Sender::new_receiver` of async-broadcast 0.7.2, which never refuses.
     pub fn new_receiver(&self) -> Result<Receiver<T, P, A>, HandleError>
         ensures channel { IfOk result (λ made. IsSame P.gave made.port self.now.port) }
-        ensures made { IfOk result
-            (λ made. P.gave self.now.port Call.NewReceiver (Reply.NewReceiver (Ok made.key))) }
+        ensures made { IfOk result (λ made. P.gave self.now.port Call.NewReceiver
+            (Reply.NewReceiver (Ok made.role.key))) }
         ensures refused { IfErr result (λ error.
             ((error ≡ HandleError.Memory) × P.lacks_memory self.now.port)
             ⊎ P.gave self.now.port Call.NewReceiver (Reply.NewReceiver (Err error))) }
     {
-        let Some(port) = self.port.same() else {
-            return Err(HandleError::Memory);
-        };
-        match asked::new_receiver::<T, WakerSlot<A>, P>(&self.port) {
-            Ok(key) => Ok(Receiver::over(port, key, self.alloc)),
-            Err(error) => Err(error),
-        }
+        let port = self.port.same().ok_or(HandleError::Memory)?;
+        let key = ask!(self.port, NewReceiver)?;
+        Ok(Receiver::over(port, key, self.alloc))
     }
 }
 
-impl<T: Clone, P: Ask<T, WakerSlot<A>>, A: Allocator> Drop for Sender<T, P, A> {
-    fn drop(self)
-        ensures { P.gave self.port Call.DropSender Reply.DropSender }
-    {
-        asked::drop_sender::<T, WakerSlot<A>, P>(&self.port);
-        let Sender {
-            port: _,
-            alloc: _,
-            messages: _,
-        } = self;
+impl<T: Clone> Role<T> for Sending {
+    ghost use Rattle.bcast_model.specs.declared.run.Call.{Call};
+    ghost use Rattle.bcast_model.specs.declared.run.Reply.{Reply};
+
+    ghost last = { λ _. Call.DropSender };
+
+    ghost left = { Reply.DropSender };
+
+    #[inline(always)]
+    fn leave<S, P: Ask<T, S>>(&self, port: &P) {
+        make!(port, DropSender)
     }
 }

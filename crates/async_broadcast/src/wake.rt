@@ -9,6 +9,8 @@ use std::alloc::{Allocator, Global};
 use std::marker::Model;
 use std::sync::{Arc, Mutex};
 
+pub(crate) mod making;
+
 /// Where a task's waker is kept between the polls of a future or a receiver, if its port doesn't
 /// give notices back.
 pub type WakerSlot<A = Global> = Arc<Mutex<Option<Waker>>, A>;
@@ -59,8 +61,8 @@ pub trait Registers<S> {
         ensures registered { IsArmed cx.new }
         ensures kept { Keeps cx.old cx.new };
 
-    /// Registers the poll's task in a notice: a new one, or the one that the last poll left, which
-    /// the port gave back. Returns whether the notice has the task's waker then; it has none if
+    /// Registers the poll's task in a notice: a new one, or the one that the last poll left, where
+    /// the port keeps it. Returns whether the notice has the task's waker then; it has none if
     /// there was no memory for one.
     fn register_in(&mut self, wake: &mut Wake<S>, cx: &mut Context<'_>) -> bool
         ensures refused { is_refused self.new ≡ not result }
@@ -106,10 +108,6 @@ impl<A: Allocator + Copy> TaskWaker<A> {
             is_refused: false,
         }
     }
-
-    pub(crate) fn alloc(&self) -> A {
-        self.alloc
-    }
 }
 
 impl<A: Allocator> TaskWaker<A> {
@@ -130,7 +128,7 @@ impl<A: Allocator + Copy> TaskWaker<A> {
     /// Registers the task of a poll that asks nothing. In a function of its own, so that a poll
     /// that asks clears no memory for a notice.
     #[inline(never)]
-    pub(crate) fn register_alone(&mut self, cx: &mut Context<'_>)
+    pub(crate) fn register_only(&mut self, cx: &mut Context<'_>)
         ensures registered { IsArmed cx.new }
         ensures kept { Keeps cx.old cx.new }
     {

@@ -1,19 +1,18 @@
--- A call and its reply, but for telling a sender; and with it.
-use Rattle.std.proofs.Common.{◌≡◌, inl, inr, ℕ, ◌<◌, ◌≤◌, Bool, true, false, cond, ◌&&◌, Result, Ok, Err, IfOk, OnOk, OnErr, refl, sym, ap, ◌∙◌, subst}
+-- A call and its reply, but for telling a sender.
+use Rattle.std.proofs.Common.{◌≡◌, inl, inr, ℕ, ◌<◌, ◌≤◌, false, Result, Ok, Err, IfOk, OnOk, OnErr, refl, sym, ap, ◌∙◌, subst}
 use Rattle.std.specs.declared.alloc.AllocError.{AllocError}
-use Rattle.std.specs.FinMap.{len, values}
+use Rattle.std.specs.FinMap.{values}
 use Rattle.bcast_model.specs.declared.run.Call.{Call}
 use Rattle.bcast_model.specs.declared.run.Call.TheVariants as call
 use Rattle.bcast_model.specs.declared.run.Reply.{Reply}
 use Rattle.bcast_model.specs.declared.run.Reply.TheVariants as reply
-use Rattle.bcast_model.specs.Control.{Control, with_place, has_place, tell_a_sender}
+use Rattle.bcast_model.specs.Control.{Control, with_place, has_place}
 use Rattle.bcast_model.specs.History.{least}
 use Rattle.bcast_model.specs.Legal.{NoClone, Legal}
-use Rattle.bcast_model.specs.Next.{may_tell, tell_if_ready}
-use Rattle.bcast_model.specs.View.{View, sends_are_ready}
+use Rattle.bcast_model.specs.View.{View}
 use Rattle.bcast_model.specs.Answers.{IsShown}
 use Rattle.bcast_model.specs.Laws.{IsValidView}
-use Rattle.bcast_model.specs.Steps.{Steps, settle}
+use Rattle.bcast_model.specs.Steps.{settle}
 use Rattle.bcast_model.specs.Effect.{sets}
 use Rattle.bcast_model.specs.Effects.{effect, resize}
 use Rattle.bcast_model.proofs.Views.{valid_view}
@@ -23,15 +22,6 @@ use Rattle.bcast_core.proofs.Settle.{settle_stays, settle_idle}
 module _ {T : Type 0} where
   pub valid_shown : {v : View T} → IsShown v → IsValidView v
   valid_shown s = subst IsValidView (sym s.2) (valid_view s.0 s.1)
-
-  -- a sender is told after all else
-  pub told : {is_clone : T → T → Type 0} {old mid new : View T} {c : Call T} {r : Reply T} (may : Bool) → may ≡ may_tell old.control (sends_are_ready old) c → Does is_clone old c r mid → new ≡ tell_if_ready may mid → Steps is_clone old c r new
-  told may is does new_is = record { legal = does.legal; next = new_is ∙ (λ i. tell_if_ready (is i) (does.effect i)) }
-
-  -- and that leaves the receivers
-  pub fits_told : (may : Bool) (mid new : View T) (n : ℕ) → new ≡ tell_if_ready may mid → len mid.control.cursors < n → len new.control.cursors < n
-  fits_told may mid new n is fits = subst (λ (v : View T). len v.control.cursors < n) (sym is)
-      (elim (may && sends_are_ready mid) as (λ b. len (cond b (record mid { control = tell_a_sender mid.control }) mid).control.cursors < n) [ true ↦ fits | false ↦ fits ])
 
   -- only what stands beside the messages changes, and no receiver is kept waiting for
   pub does_sets : {is_clone : T → T → Type 0} {v new : View T} {c : Call T} {r : Reply T} (control : Control) → Legal is_clone v c r → effect v c r ≡ sets control → least v.end (values control.cursors) ≤ v.front

@@ -2,7 +2,6 @@ pub mod Settle
 pub mod Stores
 pub mod Views
 pub mod Offers
-pub mod Polls
 pub mod Receives
 pub mod Rooms
 pub mod Does
@@ -13,6 +12,6 @@ pub mod Runs
 pub mod Opened
 pub mod Idle
 pub mod Untold
-pub mod Alone
-pub mod Known
-pub mod SendWaits
+pub mod Tail
+pub mod ReceivePolls
+pub mod SendPolls

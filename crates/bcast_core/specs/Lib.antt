@@ -10,3 +10,7 @@ pub mod Tries
 pub mod TaskCalls
 -- a channel where nobody waits
 pub mod Alone
+-- who is told of a message that was accepted
+pub mod Telling
+-- which receives find nothing
+pub mod Waits

@@ -14,11 +14,3 @@ is_of_task (call.EndFuture key) = true
 is_of_task (call.PollRecv key) = true
 is_of_task (call.PollNext key) = true
 is_of_task other = false
-
--- `Send`, `Recv`, `poll_recv` and the stream: the four polls
-abbrev pub is_any_poll : {T : Type 0} → Call T → Bool
-is_any_poll (call.PollSend place msg) = true
-is_any_poll (call.PollFuture key) = true
-is_any_poll (call.PollRecv key) = true
-is_any_poll (call.PollNext key) = true
-is_any_poll other = false

@@ -17,8 +17,8 @@ pub use bcast_model::error::{
 pub use bcast_model::listener::Kind;
 pub use bcast_model::messages::{Messages, in_vec};
 pub use bcast_model::run::{Call, Reply, SendPoll};
-pub use bcast_waiting::notice::{Notice, Silent};
+pub use bcast_waiting::notice::{Given, MakesNotice, Notice, Refused, Silent};
 pub use snapshot::{Snapshot, Waiting};
 pub use state::Inner;
-pub use steps::{Ran, run, step};
+pub use steps::{Ran, poll, run, step};
 pub use tries::Steps;

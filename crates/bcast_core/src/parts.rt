@@ -8,8 +8,6 @@ use bcast_waiting::{ReceiveList, SendList};
 use std::alloc::{Allocator, Global};
 use std::marker::Model;
 
-mod alone;
-mod answers;
 mod handles;
 mod leaving;
 mod listeners;
@@ -17,6 +15,8 @@ mod making;
 mod receive;
 mod send;
 mod snapshot;
+
+pub use send::is_accepted;
 
 /// The state of a channel between the steps of a call: what is seen need not be a valid state.
 #[derive(Drop)]
@@ -52,12 +52,13 @@ impl<T, N: Notice, A: Allocator> Model for Parts<T, N, A> {
 }
 
 impl<T: Drop, N: Notice, A: Allocator + Copy> Parts<T, N, A> {
-    ghost use Rattle.bcast_model.specs.Listeners.{no_listeners};
     ghost use Rattle.bcast_model.specs.Control.{has_no_receiver, is_deserted, close, close_if_deserted};
     ghost use Rattle.bcast_model.specs.View.{is_full, sends_are_ready};
     ghost use Rattle.bcast_model.specs.Control.{cursor_of};
     ghost use Rattle.bcast_model.specs.Next.{tell_if_ready};
+    ghost use Rattle.bcast_core.specs.Alone.{NobodyWaits};
     ghost use Rattle.bcast_core.specs.Parts.{HaveRoom, new_with};
+    ghost use Rattle.bcast_core.specs.Telling.{tell_news};
 
     /// A new channel with these messages and receivers, and one sender.
     #[inline(always)]
@@ -169,19 +170,65 @@ impl<T: Drop, N: Notice, A: Allocator + Copy> Parts<T, N, A> {
             || (nobody && !self.await_active)
     }
 
-    /// Whether no send waits.
-    pub fn no_send_waits(&self) -> bool
-        ensures { (result ≡ true) ↔ (self.now.control.waiting_sends ≡ no_listeners) }
+    /// Whether nobody waits: no send, and no receiver.
+    #[inline(always)]
+    pub fn nobody_waits(&self) -> bool
+        ensures { result ≡ true → NobodyWaits self.now.control }
     {
-        self.sends.is_idle()
+        self.sends.is_idle() && self.receives.is_idle()
     }
 
-    /// Tells the first waiting send, if this call is to and sends are ready.
+    /// The last step of a call: tells the first send that waits, if sends are ready now.
     #[inline(always)]
-    pub fn tell_if_ready(&mut self, may: bool)
-        ensures { self.new ≡ tell_if_ready may self.old }
+    pub fn tell_a_sender(&mut self)
+        ensures { self.new ≡ tell_if_ready true self.old }
     {
-        if may && self.is_ready() {
+        if !self.sends.is_idle() {
+            self.tell_if_ready();
+        }
+    }
+
+    /// The last step of a call that sends: if it accepted a message all that wait to receive are
+    /// told first.
+    #[inline(always)]
+    pub fn tell_of_message(&mut self, is_accepted: bool)
+        ensures { self.new ≡ tell_if_ready true (tell_news is_accepted self.old) }
+    {
+        if !self.nobody_waits() {
+            self.tell_everyone(is_accepted);
+        }
+    }
+
+    // In a function of its own, as `tell_if_ready`.
+    #[inline(never)]
+    fn tell_everyone(&mut self, is_accepted: bool)
+        ensures { self.new ≡ tell_if_ready true (tell_news is_accepted self.old) }
+    {
+        self.tell_news(is_accepted);
+        self.tell_if_ready();
+    }
+
+    // Tells all that wait to receive, if a message was accepted, and all sends, if it closed the
+    // channel.
+    fn tell_news(&mut self, news: bool)
+        ensures { self.new ≡ tell_news news self.old }
+    {
+        if !news {
+            return;
+        }
+        self.receives.tell_all();
+        if self.closed {
+            self.sends.tell_all();
+        }
+    }
+
+    // Tells the first send that waits, if sends are ready. In a function of its own, so that a call
+    // while no send waits costs one test.
+    #[inline(never)]
+    fn tell_if_ready(&mut self)
+        ensures { self.new ≡ tell_if_ready true self.old }
+    {
+        if self.is_ready() {
             self.sends.tell_one();
         }
     }

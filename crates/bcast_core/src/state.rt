@@ -10,8 +10,6 @@ use bcast_waiting::notice::Notice;
 use std::alloc::{AllocError, Allocator, Global};
 use std::marker::Model;
 
-mod alone;
-mod answers;
 mod handles;
 mod poll;
 mod receive;

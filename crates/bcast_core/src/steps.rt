@@ -1,5 +1,5 @@
 //! Calls as data: one at a time, and a whole list.
-ghost use Rattle.std.specs.Prelude.{◌≡◌, ◌+◌, ◌^◌, ◌<◌, false, [], IfOk, IfErr};
+ghost use Rattle.std.specs.Prelude.{◌≡◌, ◌+◌, ◌^◌, ◌<◌, false, true, [], IfOk, IfErr, OnErr};
 ghost use Rattle.std.specs.List.{All, AllByRecursion};
 ghost use Rattle.bcast_model.specs.Next.{HasPositiveCapacity};
 ghost use Rattle.bcast_model.specs.Answers.{Answers, IsPossible, Represents};
@@ -14,11 +14,12 @@ ghost use Rattle.bcast_model.specs.Laws.{WaitsAsItsTry};
 ghost use Rattle.bcast_model.specs.ToldPolls.{ComesToRest};
 ghost use Rattle.bcast_core.specs.InfallibleClones.{is_receive_refused};
 ghost use Rattle.bcast_core.specs.TaskCalls.{is_of_task};
+ghost use Rattle.bcast_model.specs.PollLaws.{must_wait};
 
 use crate::state::Inner;
 use crate::tries::Steps;
 use bcast_model::run::{Call, Reply};
-use bcast_waiting::notice::{Notice, Silent};
+use bcast_waiting::notice::{Given, MakesNotice, Notice, Silent};
 use std::alloc::{Allocator, Global};
 use std::marker::Brand;
 use std::sync::ledger::{Blank, Ledger};
@@ -39,7 +40,38 @@ pub fn step<T: Clone, N: Notice, A: Allocator + Copy>(
     // If no clone fails, no receive is refused.
     ensures sure { ((msg : T) → T.is_infallible msg) → is_receive_refused result ≡ false }
 {
-    make_call::<T, N, A, Brand>(inner, call, notice, Blank::new(1))
+    match poll(inner, call, &mut Given::new(notice)) {
+        Ok(reply) => reply,
+        Err(_) => unreachable!(),
+    }
+}
+
+/// Makes a call as `step` does, with what makes the notice: `maker` is called where this is one of
+/// the four polls and must wait, and by no other call.
+///
+/// # Errors
+///
+/// The call comes back, and nothing changed: no notice was made.
+#[inline(always)]
+pub fn poll<T: Clone, N: Notice, A: Allocator + Copy, M: MakesNotice<N>>(
+    inner: &mut Inner<T, N, A>,
+    call: Call<T>,
+    maker: &mut M,
+) -> Result<Reply<T>, Call<T>>
+    requires { HasPositiveCapacity call }
+    ensures answers { IfOk result (λ reply. Answers T.is_clone inner.old call reply inner.new) }
+    ensures possible { IfOk result (IsPossible T.is_clone call) }
+    // If no clone fails, no receive is refused.
+    ensures sure { ((msg : T) → T.is_infallible msg)
+        → IfOk result (λ reply. is_receive_refused reply ≡ false) }
+
+    ensures made { IfOk result (λ reply. must_wait reply ≡ true → M.made maker.old maker.new) }
+    ensures idle { IfOk result (λ reply. must_wait reply ≡ false → maker.new ≡ maker.old) }
+    ensures back { IfErr result (λ back. back ≡ call) }
+    ensures same { OnErr result (inner.new ≡ inner.old) }
+    ensures refused { OnErr result (M.refused maker.old maker.new) }
+{
+    make_call::<T, N, A, M, Brand>(inner, call, maker, Blank::new(1))
 }
 
 // The same, with steps that nobody counts. That the reply is possible follows from `answers`.
@@ -47,35 +79,54 @@ pub fn step<T: Clone, N: Notice, A: Allocator + Copy>(
 // The calls of futures and streams are compiled into their callers. All others stand in a function
 // of their own: a function that has all 37 is too large to be compiled in.
 #[inline(always)]
-fn make_call<T: Clone, N: Notice, A: Allocator + Copy, L: Ledger>(
+fn make_call<T: Clone, N: Notice, A: Allocator + Copy, M: MakesNotice<N>, L: Ledger>(
     inner: &mut Inner<T, N, A>,
     call: Call<T>,
-    notice: N,
+    maker: &mut M,
     blank: Blank,
-) -> Reply<T>
+) -> Result<Reply<T>, Call<T>>
     requires capacity { HasPositiveCapacity call }
     requires name { blank.name ≡ L.name }
     requires parts { blank.parts ≡ L.parts }
     requires some { 0 < blank.parts }
-    ensures answers { Answers T.is_clone inner.old call result inner.new }
-    ensures sure { ((msg : T) → T.is_infallible msg) → is_receive_refused result ≡ false }
+    ensures answers { IfOk result (λ reply. Answers T.is_clone inner.old call reply inner.new) }
+    ensures sure { ((msg : T) → T.is_infallible msg)
+        → IfOk result (λ reply. is_receive_refused reply ≡ false) }
+
+    ensures made { IfOk result (λ reply. must_wait reply ≡ true → M.made maker.old maker.new) }
+    ensures idle { IfOk result (λ reply. must_wait reply ≡ false → maker.new ≡ maker.old) }
+    ensures back { IfErr result (λ back. back ≡ call) }
+    ensures same { OnErr result (inner.new ≡ inner.old) }
+    ensures refused { OnErr result (M.refused maker.old maker.new) }
 {
     let mut steps = Steps::<L>::new(blank);
     match call {
-        Call::BeginSend => Reply::BeginSend(inner.begin_send()),
-        Call::PollSend(place, msg) => Reply::PollSend(inner.poll_send(place, msg, notice)),
+        Call::BeginSend => Ok(Reply::BeginSend(inner.begin_send())),
+        Call::PollSend(place, msg) => match inner.poll_send_by(place, msg, maker) {
+            Ok(sent) => Ok(Reply::PollSend(sent)),
+            Err(msg) => Err(Call::PollSend(place, msg)),
+        },
         Call::EndSend(place) => {
             inner.end_send(place);
-            Reply::EndSend
+            Ok(Reply::EndSend)
         }
-        Call::PollFuture(key) => Reply::PollFuture(inner.poll_future(key, notice, &mut steps)),
+        Call::PollFuture(key) => match inner.poll_future_by(key, maker, &mut steps) {
+            Ok(answer) => Ok(Reply::PollFuture(answer)),
+            Err(_) => Err(Call::PollFuture(key)),
+        },
         Call::EndFuture(key) => {
             inner.end_future(key);
-            Reply::EndFuture
+            Ok(Reply::EndFuture)
         }
-        Call::PollRecv(key) => Reply::PollRecv(inner.poll_recv(key, notice, &mut steps)),
-        Call::PollNext(key) => Reply::PollNext(inner.poll_next(key, notice, &mut steps)),
-        call => make_at_once(inner, call),
+        Call::PollRecv(key) => match inner.poll_recv_by(key, maker, &mut steps) {
+            Ok(answer) => Ok(Reply::PollRecv(answer)),
+            Err(_) => Err(Call::PollRecv(key)),
+        },
+        Call::PollNext(key) => match inner.poll_next_by(key, maker, &mut steps) {
+            Ok(answer) => Ok(Reply::PollNext(answer)),
+            Err(_) => Err(Call::PollNext(key)),
+        },
+        call => Ok(make_at_once(inner, call)),
     }
 }
 
@@ -89,11 +140,12 @@ fn make_at_once<T: Clone, N: Notice, A: Allocator + Copy>(
     requires at_once { is_of_task call ≡ false }
     ensures answers { Answers T.is_clone inner.old call result inner.new }
     ensures sure { ((msg : T) → T.is_infallible msg) → is_receive_refused result ≡ false }
+    ensures at_once { must_wait result ≡ false }
 {
     inner.invariant_holds();
     match call {
         Call::TryBroadcast(msg) => Reply::TryBroadcast(inner.try_broadcast(msg)),
-        Call::TryBroadcastAll(msgs) => Reply::TryBroadcastAll(inner.offer_all_and_tell(msgs)),
+        Call::TryBroadcastAll(msgs) => Reply::TryBroadcastAll(inner.offer_all(msgs)),
         Call::AttemptSend(msg) => Reply::AttemptSend(inner.attempt_send(msg)),
         Call::TryRecv(key) => Reply::TryRecv(inner.try_recv(key)),
         Call::Close => Reply::Close(inner.close()),

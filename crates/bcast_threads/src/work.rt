@@ -26,9 +26,9 @@ pub fn receive_all<P: Port<u64, WakerSlot>, A: Allocator>(
     mut receiver: Receiver<u64, P>,
     count: usize,
 ) -> List<A>
-    ensures received { IfOk result (λ list. WereReceived (P.gave receiver.port) receiver.key
+    ensures received { IfOk result (λ list. WereReceived (P.gave receiver.port) receiver.role.key
         list.items) }
-    ensures ended { IfOk result (λ _. HasEnded (P.gave receiver.port) receiver.key) }
+    ensures ended { IfOk result (λ _. HasEnded (P.gave receiver.port) receiver.role.key) }
     ensures closed { IfErr result (λ _. WasClosed (P.gave receiver.port)) }
 {
     let list = received(alloc, &mut receiver, count);
@@ -44,8 +44,8 @@ fn received<P: Port<u64, WakerSlot>, A: Allocator>(
     count: usize,
 ) -> List<A>
     ensures received { IfOk result (λ list. WereReceived (P.gave receiver.old.port)
-        receiver.old.key list.items) }
-    ensures ended { IfOk result (λ _. HasEnded (P.gave receiver.old.port) receiver.old.key) }
+        receiver.old.role.key list.items) }
+    ensures ended { IfOk result (λ _. HasEnded (P.gave receiver.old.port) receiver.old.role.key) }
     ensures same { receiver.new ≡ receiver.old }
 {
     let mut list = Vec::with_capacity(alloc, count)?;

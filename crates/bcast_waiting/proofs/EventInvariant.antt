@@ -4,14 +4,14 @@ use Rattle.std.specs.Prelude.{remove}
 use Rattle.std.specs.Cmp.{IsEquivalence}
 use Rattle.std.specs.List.{AllByRecursion}
 use Rattle.std.proofs.lemmas.List.Edits.{length-remove}
-use Rattle.bcast_model.specs.Listeners.{is_in, consume, AreInOrder}
+use Rattle.bcast_model.specs.Listeners.{is_in, consume, untold_ids, AreInOrder}
 use Rattle.bcast_waiting.specs.Event.{is_told}
 use Rattle.bcast_waiting.specs.Slots.{Slots, listed, front, has}
 use Rattle.bcast_waiting.specs.EventInvariant.{listeners_of, IsKept}
 use Rattle.bcast_waiting.proofs.Position.{IsFirstAt}
 use Rattle.bcast_waiting.proofs.Listed.{all_more, all_push, all_remove, all_absent}
 use Rattle.bcast_waiting.proofs.Few.{at_most}
-use Rattle.bcast_waiting.proofs.Listeners.{is_told_first, consume_first, AreInOrder-removed, AreInOrder-join}
+use Rattle.bcast_waiting.proofs.Listeners.{is_told_first, untold_is, consume_first, AreInOrder-removed, AreInOrder-join}
 use Rattle.bcast_waiting.proofs.InSlots.{front_less, front_mono, front_push, listed_push, listed_left, front_left, front_kept, is_some-has, has_within, first_listed}
 
 module _ {I : Type 0} {same : I → I → Bool} {number : I → ℕ} {s : Slots I} {count told told_end : ℕ} (kept : IsKept same number s count told told_end) where
@@ -60,6 +60,17 @@ module _ {I : Type 0} {same : I → I → Bool} {number : I → ℕ} {s : Slots 
 
       pub is_told_at : Some (ltb i told_end) ≡ is_told same id (listeners_of s.ids told)
       is_told_at = ap Some (sym told_test) ∙ is_told_first same id (listeners_of s.ids told) (front s.ids i) first_at
+
+      -- who is listed is untold if its slot is after that part
+      pub untold_after : told_end ≤ i → true ≡ is_in same id (untold_ids (listeners_of s.ids told))
+      untold_after h =
+          let no : ltb i told_end ≡ false = grind (arith, h) in
+          untold_is same laws id (listeners_of s.ids told) kept.in_order (Some false) (ap Some (sym no) ∙ is_told_at)
+
+      pub untold_before : i < told_end → false ≡ is_in same id (untold_ids (listeners_of s.ids told))
+      untold_before h =
+          let yes : ltb i told_end ≡ true = grind (arith, h) in
+          untold_is same laws id (listeners_of s.ids told) kept.in_order (Some true) (ap Some (sym yes) ∙ is_told_at)
 
       ids : listed (set s.ids i None) ≡ remove (listed s.ids) (front s.ids i)
       ids = listed_left s.ids i (is_some-has same id (get_or s.ids i None) there)

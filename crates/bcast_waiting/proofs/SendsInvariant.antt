@@ -66,10 +66,6 @@ given_back change place p q e f now seen without is =
     (λ i. sends_of (without i) (is i))
     ∙ ap (λ (s : Sends). record { places = set.remove s.places place; waiting = change s.waiting }) seen
 
--- nobody is taken out where nobody waits
-pub consumed_none : (place : ℕ) (e : Event ℕ) → e.listeners ≡ no_listeners → e ≡ record e { listeners = consume same_place place e.listeners }
-consumed_none place e none = ap (λ l. record e { listeners = l }) (none ∙ sym (ap (consume same_place place) none))
-
 module _ (used : Used) (e : Event ℕ) (s : IsSound used e) where
   pub sound_wait : (place : ℕ) → HasPlace used place → IsSound used (record e { listeners = wait_again same_place place e.listeners })
   sound_wait place h = sound_of used (record e { listeners = wait_again same_place place e.listeners }) (sends_waiting used place e.listeners h (sends_in used e s)) s.room

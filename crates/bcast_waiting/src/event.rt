@@ -1,10 +1,10 @@
 //! The listeners in the order of registering, of which a front part is told.
-ghost use Rattle.std.specs.Prelude.{◌≡◌, ◌↔◌, ◌<◌, ◌≤◌, true, false, OnOk, IfOk, IsOk, length};
+ghost use Rattle.std.specs.Prelude.{◌≡◌, ◌↔◌, ◌<◌, ◌≤◌, true, false, OnOk, OnErr, IfOk, IsOk, length, option_map};
 ghost use Rattle.bcast_model.specs.Listeners.{no_listeners, tell, tell_all, join, consume, abandon, wait_again, is_in, untold_ids, AreInOrder};
 ghost use Rattle.bcast_waiting.specs.Event.{is_told};
 
 use crate::indexed::Indexed;
-use crate::notice::Notice;
+use crate::notice::{MakesNotice, Notice, Refused};
 use crate::slots::Slots;
 use std::alloc::{AllocError, Allocator, Global};
 use std::marker::Model;
@@ -46,8 +46,6 @@ impl<I: Copy + Eq + Indexed, N: Notice, A: Allocator> Model for Event<I, N, A> {
 
 impl<I: Copy + Eq + Indexed, N: Notice, A: Allocator + Copy> Event<I, N, A> {
     /// An event that nobody waits for. Takes no memory.
-    ///
-    /// Source: `Event::new`.
     pub fn new(alloc: A) -> Event<I, N, A>
         ensures { result.listeners ≡ no_listeners }
     {
@@ -63,8 +61,6 @@ impl<I: Copy + Eq + Indexed, N: Notice, A: Allocator + Copy> Event<I, N, A> {
 impl<I: Copy + Eq + Indexed, N: Notice, A: Allocator> Event<I, N, A> {
     /// What always holds: nobody is listed twice, no more are told than are listed, and no more are
     /// listed than there is room for.
-    ///
-    /// Changes nothing.
     pub fn invariant_holds(&self)
         ensures in_order { AreInOrder I.eq self.now.listeners }
         ensures fits { length self.now.listeners.ids ≤ self.now.room }
@@ -89,12 +85,6 @@ impl<I: Copy + Eq + Indexed, N: Notice, A: Allocator> Event<I, N, A> {
     }
 
     /// The ids of the listeners, from the front.
-    ///
-    /// Takes memory for the list from `alloc`. Changes nothing.
-    ///
-    /// # Errors
-    ///
-    /// `AllocError`: memory for the list was refused.
     pub fn ids<B: Allocator>(&self, alloc: B) -> Result<Vec<I, B>, AllocError>
         ensures { IfOk result (λ ids. ids.items ≡ self.now.listeners.ids) }
     {
@@ -132,10 +122,6 @@ impl<I: Copy + Eq + Indexed, N: Notice, A: Allocator> Event<I, N, A> {
     }
 
     /// Whether a listener is told, if it is listed.
-    ///
-    /// Takes constant time. Changes nothing.
-    ///
-    /// Source: a poll of an `EventListener`.
     #[inline(always)]
     pub fn is_told(&self, id: I) -> Option<bool>
         ensures { result ≡ is_told I.eq id self.now.listeners }
@@ -147,15 +133,14 @@ impl<I: Copy + Eq + Indexed, N: Notice, A: Allocator> Event<I, N, A> {
     }
 
     /// Whether a listener is listed and not told.
-    ///
-    /// Takes constant time. Changes nothing.
-    ///
-    /// Source: a poll of an `EventListener` that stays pending.
     #[inline(always)]
     pub fn is_untold(&self, id: I) -> bool
         ensures { result ≡ is_in I.eq id (untold_ids self.now.listeners) }
     {
         self.invariant_holds();
+        if self.told == self.len {
+            return false;
+        }
         match self.is_told(id) {
             Some(told) => !told,
             None => false,
@@ -163,8 +148,6 @@ impl<I: Copy + Eq + Indexed, N: Notice, A: Allocator> Event<I, N, A> {
     }
 
     /// Lists a listener, last and untold. Takes no memory, and constant time, amortised.
-    ///
-    /// Source: `Event::listen`.
     pub fn join(&mut self, id: I, notice: N)
         requires absent { is_in I.eq id self.old.listeners.ids ≡ false }
         requires room { I.number id < self.old.room }
@@ -182,8 +165,6 @@ impl<I: Copy + Eq + Indexed, N: Notice, A: Allocator> Event<I, N, A> {
     /// and front first.
     ///
     /// Takes time for those that were not told yet alone, amortised.
-    ///
-    /// Source: `Event::notify`.
     #[inline(always)]
     pub fn tell(&mut self, count: usize)
         ensures { self.new ≡ record self.old { listeners = tell count self.old.listeners } }
@@ -207,8 +188,6 @@ impl<I: Copy + Eq + Indexed, N: Notice, A: Allocator> Event<I, N, A> {
     }
 
     /// Tells every listener, as [`Event::tell`] does.
-    ///
-    /// Source: `Event::notify(usize::MAX)`.
     #[inline(always)]
     pub fn tell_all(&mut self)
         ensures { self.new ≡ record self.old { listeners = tell_all self.old.listeners } }
@@ -219,74 +198,86 @@ impl<I: Copy + Eq + Indexed, N: Notice, A: Allocator> Event<I, N, A> {
 
     /// Takes out a listener that got what it waited for, and returns whether it was told;
     /// `None` if it is not listed, which changes nothing.
-    ///
-    /// Takes constant time.
-    ///
-    /// Source: a listener of `Event` that ends as notified.
     #[inline(always)]
     pub fn consume(&mut self, id: I) -> Option<bool>
         ensures told { result ≡ is_told I.eq id self.old.listeners }
         ensures rest { self.new
             ≡ record self.old { listeners = consume I.eq id self.old.listeners } }
     {
+        match self.take(id) {
+            Some((is_told, _)) => Some(is_told),
+            None => None,
+        }
+    }
+
+    // Takes out a listener, and returns whether it was told, and its notice.
+    #[inline(always)]
+    fn take(&mut self, id: I) -> Option<(bool, Option<N>)>
+        ensures told { option_map (λ taken. taken.0) result ≡ is_told I.eq id self.old.listeners }
+        ensures rest { self.new
+            ≡ record self.old { listeners = consume I.eq id self.old.listeners } }
+    {
+        if self.len == 0 {
+            return None;
+        }
         let Some(position) = self.slots.find(id) else {
             return None;
         };
-        self.slots.clear_at(position);
+        let notice = self.slots.take_at(position);
         self.len -= 1;
         if position < self.told_end {
             self.told -= 1;
-            Some(true)
+            Some((true, notice))
         } else {
-            Some(false)
+            Some((false, notice))
         }
     }
 
-    /// Takes out a listener that gave up. If it was told, the first of the others is told in
-    /// its place, unless it is told already. If it is not listed, nothing changes.
-    ///
-    /// Takes constant time, amortised.
-    ///
-    /// Source: the drop of an `EventListener`.
+    /// Takes out a listener that gave up, and returns its notice. If it was told, the first of the
+    /// others is told in its place, unless it is told already. If it is not listed, nothing changes.
     #[inline(always)]
-    pub fn abandon(&mut self, id: I)
+    pub fn abandon(&mut self, id: I) -> Option<N>
         ensures { self.new ≡ record self.old { listeners = abandon I.eq id self.old.listeners } }
     {
-        if let Some(true) = self.consume(id) {
+        let Some((was_told, notice)) = self.take(id) else {
+            return None;
+        };
+        if was_told {
             self.tell(1);
         }
+        notice
     }
 
-    /// Lists a listener that must wait. One that is listed and not told keeps its position and gets
-    /// the new notice; any other is listed last and untold, and taken out first if it was listed.
+    /// Lists a listener that must wait, with the notice that is made for it. One that is listed and
+    /// not told keeps its position, and its notice is made into that of this poll; any other is
+    /// listed last and untold, and taken out first if it was listed.
     ///
-    /// Takes no memory, and constant time, amortised.
+    /// # Errors
     ///
-    /// Source: a future of async-broadcast that polls its listener again.
-    pub fn wait_again(&mut self, id: I, notice: N)
+    /// `Refused`: the maker made no notice, and nothing changed.
+    #[inline(always)]
+    pub fn wait_again<M: MakesNotice<N>>(&mut self, id: I, maker: &mut M) -> Result<(), Refused>
         requires room { I.number id < self.old.room }
-        ensures { self.new ≡ record self.old { listeners = wait_again I.eq id self.old.listeners } }
+        ensures waits { OnOk result (self.new
+            ≡ record self.old { listeners = wait_again I.eq id self.old.listeners }) }
+        ensures made { OnOk result (M.made maker.old maker.new) }
+        ensures same { OnErr result (self.new ≡ self.old) }
+        ensures refused { OnErr result (M.refused maker.old maker.new) }
     {
-        if self.is_untold(id) {
-            self.swap_notice(id, notice);
-        } else {
-            self.consume(id);
-            self.join(id, notice);
+        match self.slots.find(id) {
+            Some(position) => {
+                if position >= self.told_end {
+                    return self.slots.renew(position, maker);
+                }
+                let notice = maker.make()?;
+                self.consume(id);
+                self.join(id, notice);
+            }
+            None => {
+                let notice = maker.make()?;
+                self.join(id, notice);
+            }
         }
-    }
-
-    /// Gives a listener another notice, and returns the one it had. It keeps its position. The same
-    /// notice comes back if it is not listed.
-    ///
-    /// Takes constant time.
-    ///
-    /// Source: a poll of an `EventListener` with another waker.
-    pub fn swap_notice(&mut self, id: I, notice: N) -> N
-        ensures { self.new ≡ self.old }
-    {
-        let Some(position) = self.slots.find(id) else {
-            return notice;
-        };
-        self.slots.swap_notice(position, notice)
+        Ok(())
     }
 }

@@ -1,4 +1,7 @@
-//! What is called when a listener is told.
+//! What is called when a listener is told, and what makes it.
+ghost use Rattle.std.specs.Prelude.{◌≡◌, OnOk, OnErr, None, IsSome};
+
+use std::mem::replace;
 
 /// What is called once a listener is told.
 ///
@@ -14,4 +17,76 @@ pub struct Silent;
 
 impl Notice for Silent {
     fn tell(&mut self) {}
+}
+
+/// No notice was made.
+#[derive(Drop)]
+pub struct Refused;
+
+/// What makes the notice of a poll. It is called where the poll must wait, once, and nowhere else.
+pub trait MakesNotice<N> {
+    // Holds of a maker before and after it made a notice.
+    ghost made: { Self → Self → Type 0 };
+
+    // Holds of a maker before and after it made none.
+    ghost refused: { Self → Self → Type 0 };
+
+    /// Makes a notice for a listener that has none.
+    ///
+    /// # Errors
+    ///
+    /// `Refused`: there is none.
+    fn make(&mut self) -> Result<N, Refused>
+        ensures made { OnOk result (made self.old self.new) }
+        ensures refused { OnErr result (refused self.old self.new) };
+
+    /// Makes the notice of a listener, which has that of the poll before, into that of this poll.
+    ///
+    /// # Errors
+    ///
+    /// `Refused`: there is none. The notice may tell nobody then.
+    fn renew(&mut self, notice: &mut N) -> Result<(), Refused>
+        ensures made { OnOk result (made self.old self.new) }
+        ensures refused { OnErr result (refused self.old self.new) };
+}
+
+/// A maker that has its notice, and gives it once.
+#[derive(Drop)]
+pub struct Given<N> {
+    /// The notice, until it was given.
+    pub notice: Option<N>,
+}
+
+impl<N> Given<N> {
+    /// A maker that gives this notice.
+    #[inline(always)]
+    pub fn new(notice: N) -> Self
+        ensures { IsSome result.notice }
+    {
+        Given {
+            notice: Some(notice),
+        }
+    }
+}
+
+impl<N: Drop> MakesNotice<N> for Given<N> {
+    ghost use Rattle.std.specs.Prelude.{⊤};
+
+    ghost made = { λ _ _. ⊤ };
+
+    ghost refused = { λ old _. old.notice ≡ None };
+
+    #[inline(always)]
+    fn make(&mut self) -> Result<N, Refused> {
+        self.notice.take().ok_or(Refused)
+    }
+
+    #[inline(always)]
+    fn renew(&mut self, notice: &mut N) -> Result<(), Refused> {
+        let Some(given) = self.notice.take() else {
+            return Err(Refused);
+        };
+        let _ = replace(notice, given);
+        Ok(())
+    }
 }

@@ -80,12 +80,6 @@ impl<A: Allocator> Places<A> {
     }
 
     /// The places in use.
-    ///
-    /// Takes memory for the list from `alloc`.
-    ///
-    /// # Errors
-    ///
-    /// `AllocError`: memory for the list was refused.
     pub fn items<B: Allocator>(&self, alloc: B) -> Result<Vec<usize, B>, AllocError>
         ensures { IfOk result (λ places. set.from_list places.items ≡ self.now) }
     {

@@ -1,5 +1,5 @@
 //! The slots of listeners in the order of registering, of which some were left.
-ghost use Rattle.std.specs.Prelude.{◌≡◌, ◌+◌, ◌*◌, ◌<◌, ◌≤◌, Some, None, true, false, [], ◌∷◌, ◌++◌, length, map, is_some, MatchOption, OnOk, IfOk, IsOk, slice_index_or, slice_set};
+ghost use Rattle.std.specs.Prelude.{◌≡◌, ◌+◌, ◌*◌, ◌<◌, ◌≤◌, Some, None, true, false, [], ◌∷◌, ◌++◌, length, map, is_some, MatchOption, OnOk, OnErr, IfOk, IsOk, slice_index_or, slice_set};
 ghost use Rattle.std.specs.List.{filter_map, AllByRecursion};
 ghost use Rattle.bcast_waiting.specs.Listener.{slot_id, ids_in};
 ghost use Rattle.bcast_waiting.specs.Number.{IsIndexed};
@@ -7,7 +7,7 @@ ghost use Rattle.bcast_waiting.specs.Slots.{listed, front, has};
 ghost use Rattle.bcast_model.specs.Listeners.{is_in, IsDistinct};
 
 use crate::indexed::Indexed;
-use crate::notice::Notice;
+use crate::notice::{MakesNotice, Notice, Refused};
 use std::alloc::{AllocError, Allocator};
 use std::marker::Model;
 use std::mem::replace;
@@ -144,23 +144,32 @@ impl<I: Copy + Eq + Indexed, N: Notice, A: Allocator> Slots<I, N, A> {
         self.listeners.push_reserved(Some(Listener { id, notice }));
     }
 
-    // Empties a slot, which keeps its position.
-    pub fn clear_at(&mut self, position: usize)
+    // Empties a slot, which keeps its position, and returns the notice of its listener.
+    #[inline(always)]
+    pub fn take_at(&mut self, position: usize) -> Option<N>
         requires { position < length self.old.ids }
         ensures { self.new ≡ record self.old { ids = slice_set self.old.ids position None } }
     {
-        self.listeners[position] = None;
+        let left = replace(&mut self.listeners[position], None);
+        left.map(|listener| listener.notice)
     }
 
-    // Gives the listener in a slot another notice, and returns the one it had. The same notice
-    // comes back if the slot is empty.
-    pub fn swap_notice(&mut self, position: usize, notice: N) -> N
-        requires { position < length self.old.ids }
-        ensures { self.new ≡ self.old }
+    // Makes the notice of the listener in a slot into that of another poll.
+    #[inline(always)]
+    pub fn renew<M: MakesNotice<N>>(
+        &mut self,
+        position: usize,
+        maker: &mut M,
+    ) -> Result<(), Refused>
+        requires within { position < length self.old.ids }
+        requires there { is_some (slice_index_or self.old.ids position None) ≡ true }
+        ensures same { self.new ≡ self.old }
+        ensures made { OnOk result (M.made maker.old maker.new) }
+        ensures refused { OnErr result (M.refused maker.old maker.new) }
     {
         match &mut self.listeners[position] {
-            Some(listener) => replace(&mut listener.notice, notice),
-            None => notice,
+            Some(listener) => maker.renew(&mut listener.notice),
+            None => unreachable!(),
         }
     }
 

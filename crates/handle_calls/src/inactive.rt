@@ -1,7 +1,7 @@
 //! Calls on inactive receivers.
 use crate::answer::Answer;
 use crate::handles::Handles;
-use crate::settings::{of_inactive, setting_of};
+use crate::settings::{by_handle, setting_of};
 use async_broadcast::{Port, WakerSlot};
 use bcast_text::input::Fault;
 use std::alloc::Allocator;
@@ -29,7 +29,7 @@ impl<P: Port<u64, WakerSlot<A>>, A: Allocator + Copy> Handles<P, A> {
             "activate" => self.activate(index),
             "drop" => self.drop_inactive(index),
             _ => match setting_of(method, argument) {
-                Some(asked) => Ok(of_inactive(inactive, asked)),
+                Some(asked) => Ok(by_handle(inactive, asked)),
                 None => Err(Fault::NotACall),
             },
         }

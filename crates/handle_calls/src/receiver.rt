@@ -2,7 +2,7 @@
 use crate::answer::Answer;
 use crate::handles::Handles;
 use crate::held::of_recv_poll;
-use crate::settings::{of_receiver, setting_of};
+use crate::settings::{by_handle, setting_of};
 use async_broadcast::{Port, Receiver, WakerSlot};
 use bcast_text::input::Fault;
 use futures::StreamExt;
@@ -20,7 +20,7 @@ fn answer<P: Port<u64, WakerSlot<A>>, A: Allocator + Copy>(
         ("try_recv", None) => Some(Answer::of_try_recv(receiver.try_recv())),
         ("recv_blocking", None) => Some(received(receiver)),
         ("is_terminated", None) => Some(Answer::Is(receiver.is_terminated())),
-        _ => Some(of_receiver(receiver, setting_of(method, argument)?)),
+        _ => Some(by_handle(receiver, setting_of(method, argument)?)),
     }
 }
 

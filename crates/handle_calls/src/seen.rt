@@ -1,7 +1,7 @@
 //! What all handles say of their channel.
 use crate::answer::Answer;
 use crate::handles::Handles;
-use async_broadcast::{Port, WakerSlot};
+use async_broadcast::{Handle, Port, Role, WakerSlot};
 use std::alloc::Allocator;
 
 /// The answers of the ten calls that each handle has, and that change nothing.
@@ -19,21 +19,23 @@ pub struct Seen {
     pub is_closed: bool,
 }
 
-macro_rules! seen_by {
-    ($handle:expr) => {
+impl Seen {
+    fn by<P: Port<u64, WakerSlot<A>>, K: Role<u64>, A: Allocator + Copy>(
+        handle: &Handle<u64, P, K, A>,
+    ) -> Self {
         Seen {
-            capacity: $handle.capacity(),
-            len: $handle.len(),
-            receivers: $handle.receiver_count(),
-            inactive: $handle.inactive_receiver_count(),
-            senders: $handle.sender_count(),
-            overflow: $handle.overflow(),
-            await_active: $handle.await_active(),
-            is_empty: $handle.is_empty(),
-            is_full: $handle.is_full(),
-            is_closed: $handle.is_closed(),
+            capacity: handle.capacity(),
+            len: handle.len(),
+            receivers: handle.receiver_count(),
+            inactive: handle.inactive_receiver_count(),
+            senders: handle.sender_count(),
+            overflow: handle.overflow(),
+            await_active: handle.await_active(),
+            is_empty: handle.is_empty(),
+            is_full: handle.is_full(),
+            is_closed: handle.is_closed(),
         }
-    };
+    }
 }
 
 /// What the handles so far have seen: nothing, the same, or not the same.
@@ -57,17 +59,17 @@ impl<P: Port<u64, WakerSlot<A>>, A: Allocator + Copy> Handles<P, A> {
         let mut agreed = Agreed(Answer::Done);
         for sender in &self.senders {
             if let Some(sender) = sender {
-                agreed.add(seen_by!(sender));
+                agreed.add(Seen::by(sender));
             }
         }
         for receiver in &self.receivers {
             if let Some(receiver) = receiver {
-                agreed.add(seen_by!(receiver));
+                agreed.add(Seen::by(receiver));
             }
         }
         for inactive in &self.inactive {
             if let Some(inactive) = inactive {
-                agreed.add(seen_by!(inactive));
+                agreed.add(Seen::by(inactive));
             }
         }
         agreed.0

@@ -1,7 +1,7 @@
 //! Calls on senders.
 use crate::answer::Answer;
 use crate::handles::Handles;
-use crate::settings::{of_sender, setting_of};
+use crate::settings::{by_handle, setting_of};
 use async_broadcast::{Port, Sender, WakerSlot};
 use bcast_text::input::Fault;
 use bcast_text::number::numbers;
@@ -16,7 +16,7 @@ fn answer<P: Port<u64, WakerSlot<A>>, A: Allocator + Copy>(
     match (method, argument) {
         ("try_broadcast", Some(msg)) => Some(Answer::of_try_send(sender.try_broadcast(msg))),
         ("broadcast_blocking", Some(msg)) => Some(Answer::of_send(sender.broadcast_blocking(msg))),
-        _ => Some(of_sender(sender, setting_of(method, argument)?)),
+        _ => Some(by_handle(sender, setting_of(method, argument)?)),
     }
 }
 

@@ -1,7 +1,7 @@
 //! What every handle says of its channel and sets there.
 use crate::answer::Answer;
 use crate::line::Capacity;
-use async_broadcast::{InactiveReceiver, Port, Receiver, Sender, WakerSlot};
+use async_broadcast::{Handle, Port, Role, WakerSlot};
 use std::alloc::{AllocError, Allocator};
 
 /// A call that every handle has.
@@ -64,53 +64,31 @@ fn of_set(answer: Result<(), AllocError>) -> Answer {
     }
 }
 
-macro_rules! ask_setting {
-    ($handle:expr, $setting:expr) => {
-        match $setting {
-            Setting::Capacity => Answer::Count($handle.capacity()),
-            Setting::Overflow => Answer::Is($handle.overflow()),
-            Setting::AwaitActive => Answer::Is($handle.await_active()),
-            Setting::Close => Answer::Is($handle.close()),
-            Setting::IsClosed => Answer::Is($handle.is_closed()),
-            Setting::IsEmpty => Answer::Is($handle.is_empty()),
-            Setting::IsFull => Answer::Is($handle.is_full()),
-            Setting::Len => Answer::Count($handle.len()),
-            Setting::ReceiverCount => Answer::Count($handle.receiver_count()),
-            Setting::InactiveReceiverCount => Answer::Count($handle.inactive_receiver_count()),
-            Setting::SenderCount => Answer::Count($handle.sender_count()),
-            Setting::SetCapacity(capacity) => of_set($handle.set_capacity(capacity.count)),
-            Setting::SetOverflow(on) => {
-                $handle.set_overflow(on);
-                Answer::Done
-            }
-            Setting::SetAwaitActive(on) => {
-                $handle.set_await_active(on);
-                Answer::Done
-            }
+/// Makes the call by a handle.
+pub fn by_handle<P: Port<u64, WakerSlot<A>>, K: Role<u64>, A: Allocator + Copy>(
+    handle: &mut Handle<u64, P, K, A>,
+    setting: Setting,
+) -> Answer {
+    match setting {
+        Setting::Capacity => Answer::Count(handle.capacity()),
+        Setting::Overflow => Answer::Is(handle.overflow()),
+        Setting::AwaitActive => Answer::Is(handle.await_active()),
+        Setting::Close => Answer::Is(handle.close()),
+        Setting::IsClosed => Answer::Is(handle.is_closed()),
+        Setting::IsEmpty => Answer::Is(handle.is_empty()),
+        Setting::IsFull => Answer::Is(handle.is_full()),
+        Setting::Len => Answer::Count(handle.len()),
+        Setting::ReceiverCount => Answer::Count(handle.receiver_count()),
+        Setting::InactiveReceiverCount => Answer::Count(handle.inactive_receiver_count()),
+        Setting::SenderCount => Answer::Count(handle.sender_count()),
+        Setting::SetCapacity(capacity) => of_set(handle.set_capacity(capacity.count)),
+        Setting::SetOverflow(on) => {
+            handle.set_overflow(on);
+            Answer::Done
         }
-    };
-}
-
-/// Makes the call by a sender.
-pub fn of_sender<P: Port<u64, WakerSlot<A>>, A: Allocator + Copy>(
-    handle: &mut Sender<u64, P, A>,
-    setting: Setting,
-) -> Answer {
-    ask_setting!(handle, setting)
-}
-
-/// Makes the call by a receiver.
-pub fn of_receiver<P: Port<u64, WakerSlot<A>>, A: Allocator + Copy>(
-    handle: &mut Receiver<u64, P, A>,
-    setting: Setting,
-) -> Answer {
-    ask_setting!(handle, setting)
-}
-
-/// Makes the call by an inactive receiver.
-pub fn of_inactive<P: Port<u64, WakerSlot<A>>, A: Allocator + Copy>(
-    handle: &mut InactiveReceiver<u64, P, A>,
-    setting: Setting,
-) -> Answer {
-    ask_setting!(handle, setting)
+        Setting::SetAwaitActive(on) => {
+            handle.set_await_active(on);
+            Answer::Done
+        }
+    }
 }

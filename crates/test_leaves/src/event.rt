@@ -1,7 +1,7 @@
 //! Which notices are called, how often and in which order, and what a refusal of memory leaves.
 use bcast_model::listener::Kind;
 use bcast_waiting::event::Event;
-use bcast_waiting::notice::{Notice, Silent};
+use bcast_waiting::notice::{Given, MakesNotice, Notice, Silent};
 use linked_list_allocator::LocalHeap;
 use std::alloc::{AllocError, Allocator, Global};
 use std::cell::Cell;
@@ -29,12 +29,13 @@ impl Notice for Noted<'_> {
 enum Step {
     // Waits, with a notice of this digit.
     Wait(Id, u64),
-    // Gives it a notice of the first digit, and gets one of the second back.
-    SwapNotice(Id, u64, u64),
+    // Is to wait, and is refused a notice.
+    Refuse(Id),
     Tell(usize),
     TellAll,
     Consume(Id, Option<bool>),
-    Abandon(Id),
+    // Gives up, and gets a notice of this digit back.
+    Abandon(Id, Option<u64>),
     IsTold(Id, Option<bool>),
     // The digits of the notices that were called, in their order.
     Called(u64),
@@ -70,9 +71,9 @@ const GIVES_UP: &[Step] = &[
     Step::Wait(FUTURE, 2),
     Step::Wait(FAR, 3),
     Step::Tell(1),
-    Step::Abandon(FAR),
+    Step::Abandon(FAR, Some(3)),
     Step::Called(1),
-    Step::Abandon(STREAM),
+    Step::Abandon(STREAM, Some(1)),
     Step::Called(12),
     Step::Consume(FUTURE, Some(true)),
     Step::Consume(FUTURE, None),
@@ -82,17 +83,22 @@ const GIVES_UP: &[Step] = &[
 const OTHER_NOTICES: &[Step] = &[
     Step::Wait(STREAM, 1),
     Step::Wait(FUTURE, 2),
-    Step::SwapNotice(STREAM, 3, 1),
-    Step::SwapNotice(FAR, 9, 9),
+    Step::Wait(STREAM, 3),
+    Step::Abandon(FAR, None),
     Step::Wait(FUTURE, 4),
     Step::Tell(1),
     Step::Called(3),
-    Step::SwapNotice(FUTURE, 6, 4),
+    Step::Refuse(STREAM),
+    Step::Refuse(FUTURE),
+    Step::Refuse(FAR),
+    Step::Len(2),
+    Step::Told(1),
     Step::Wait(STREAM, 5),
     Step::TellAll,
-    Step::Called(365),
+    Step::Called(345),
     Step::Told(2),
-    Step::Len(2),
+    Step::Abandon(STREAM, Some(5)),
+    Step::Abandon(FUTURE, Some(4)),
 ];
 
 const ANY_ORDER: &[Step] = &[
@@ -101,8 +107,8 @@ const ANY_ORDER: &[Step] = &[
     Step::Wait(FAR, 3),
     Step::Wait(OTHER, 4),
     Step::Tell(2),
-    Step::Abandon(OTHER),
-    Step::Abandon(FUTURE),
+    Step::Abandon(OTHER, Some(4)),
+    Step::Abandon(FUTURE, Some(2)),
     Step::Consume(STREAM, Some(true)),
     Step::IsTold(FAR, Some(false)),
     Step::Wait(FUTURE, 5),
@@ -121,14 +127,26 @@ fn wait<N: Notice, A: Allocator>(
     notice: N,
 ) -> Result<bool, AllocError> {
     event.reserve_for(id)?;
-    event.wait_again(id, notice);
-    Ok(event.is_untold(id))
+    let made = event.wait_again(id, &mut Given::new(notice));
+    Ok(made.is_ok() && event.is_untold(id))
 }
 
-// Takes a listener out that gave up. Whether it is gone.
-fn abandon<N: Notice, A: Allocator>(event: &mut Event<Id, N, A>, id: Id) -> bool {
-    event.abandon(id);
-    event.is_told(id).is_none()
+// The same with a maker that has given its notice away. Whether it is refused.
+fn refuse<N: Notice, A: Allocator>(
+    event: &mut Event<Id, N, A>,
+    id: Id,
+    notice: N,
+) -> Result<bool, AllocError> {
+    event.reserve_for(id)?;
+    let mut maker = Given::new(notice);
+    let _ = maker.make();
+    Ok(event.wait_again(id, &mut maker).is_err())
+}
+
+// Takes a listener out that gave up. Whether its notice comes back, and it is gone.
+fn abandon(event: &mut Event<Id, Noted<'_>>, id: Id, digit: Option<u64>) -> bool {
+    let notice = event.abandon(id);
+    notice.map(|noted| noted.digit) == digit && event.is_told(id).is_none()
 }
 
 // Makes the call. Whether it returns what it must.
@@ -139,9 +157,7 @@ fn is_right<'a>(
 ) -> Result<bool, AllocError> {
     match step {
         Step::Wait(id, digit) => wait(event, id, Noted { digit, told }),
-        Step::SwapNotice(id, digit, had) => {
-            Ok(event.swap_notice(id, Noted { digit, told }).digit == had)
-        }
+        Step::Refuse(id) => refuse(event, id, Noted { digit: 0, told }),
         Step::Tell(count) => {
             event.tell(count);
             Ok(event.told() >= count)
@@ -151,7 +167,7 @@ fn is_right<'a>(
             Ok(event.told() == event.len())
         }
         Step::Consume(id, was_told) => Ok(event.consume(id) == was_told),
-        Step::Abandon(id) => Ok(abandon(event, id)),
+        Step::Abandon(id, digit) => Ok(abandon(event, id, digit)),
         Step::IsTold(id, is_told) => Ok(event.is_told(id) == is_told),
         Step::Called(digits) => Ok(told.get() == digits),
         Step::Told(count) => Ok(event.told() == count),
@@ -179,7 +195,7 @@ fn notices_are_called_in_their_order(rt: HostRuntime) -> Result<(), Fail> {
             FRONT_FIRST,
         ),
         ("a told one that gives up tells the next", GIVES_UP),
-        ("the new notice is called", OTHER_NOTICES),
+        ("the last notice that was made is called", OTHER_NOTICES),
         ("listeners leave in any order", ANY_ORDER),
     ];
     for (name, steps) in tables {

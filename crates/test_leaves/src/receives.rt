@@ -1,7 +1,7 @@
 //! The listeners of two receivers.
 use bcast_model::listener::Kind;
 use bcast_waiting::ReceiveList;
-use bcast_waiting::notice::Silent;
+use bcast_waiting::notice::{Given, Silent};
 use std::alloc::{AllocError, Global};
 use std::test::Fail;
 
@@ -38,8 +38,8 @@ const ROWS: &[(Call, Ids, usize)] = &[
 // Lists a listener. Whether it is not told then.
 fn wait(receives: &mut ReceiveList<Silent>, key: usize, kind: Kind) -> Result<bool, AllocError> {
     receives.reserve_for(key)?;
-    receives.wait(key, kind, Silent);
-    Ok(receives.is_untold(key, kind))
+    let made = receives.wait(key, kind, &mut Given::new(Silent));
+    Ok(made.is_ok() && receives.is_untold(key, kind))
 }
 
 fn make(receives: &mut ReceiveList<Silent>, call: Call) -> Result<bool, AllocError> {
@@ -47,7 +47,9 @@ fn make(receives: &mut ReceiveList<Silent>, call: Call) -> Result<bool, AllocErr
         Call::Wait(key, kind) => return wait(receives, key, kind),
         Call::TellAll => receives.tell_all(),
         Call::Answered(key, kind) => receives.answered(key, kind),
-        Call::GiveUp(key, kind) => receives.ended(key, kind),
+        Call::GiveUp(key, kind) => {
+            let _ = receives.ended(key, kind);
+        }
     }
     Ok(true)
 }

@@ -5,8 +5,9 @@ ghost use Rattle.futures.specs.Poll.{IfReady, OnPending};
 ghost use Rattle.async_broadcast.specs.Futures.{GivesReceived};
 
 use crate::asked::polls;
+use crate::handle::Handle;
 use crate::port::Ask;
-use crate::receiver::Receiver;
+use crate::receiver::{Receiver, Receiving};
 use crate::wake::WakerSlot;
 use bcast_core::{Call, RecvError, Reply};
 use futures::Future;
@@ -45,7 +46,7 @@ impl<T: Clone, P: Ask<T, WakerSlot<A>>, A: Allocator + Copy> Receiver<T, P, A> {
         ensures same { IfOk result
             (λ recv. recv.value.receiver.ghost_name ≡ self.entry.ghost_name) }
     {
-        let alloc = self.waker.alloc();
+        let alloc = self.alloc;
         Ok(Box::new(alloc, self.recv_direct())?)
     }
 
@@ -98,69 +99,70 @@ impl<T: Clone, P: Ask<T, WakerSlot<A>>, A: Allocator + Copy> Receiver<T, P, A> {
         &mut self,
         cx: &mut Context<'_>,
     ) -> Result<Poll<Option<Result<T, RecvError>>>, AllocError>
-        ensures asked { IfOk result (λ poll. P.gave self.old.port (Call.PollRecv self.old.key)
-            (Reply.PollRecv (Ok poll))) }
-        ensures same { (self.new.port ≡ self.old.port) × (self.new.key ≡ self.old.key) }
+        ensures asked { IfOk result (λ poll. P.gave self.old.port
+            (Call.PollRecv self.old.role.key) (Reply.PollRecv (Ok poll))) }
+        ensures same { (self.new.port ≡ self.old.port)
+            × (self.new.role.key ≡ self.old.role.key) }
         ensures notice { IfOk result (λ poll. OnPending poll
-            (self.new.waker.is_refused ≡ false)) }
-        ensures refused { IfErr result (λ error. (self.new.waker.is_refused ≡ true)
-            ⊎ P.gave self.old.port (Call.PollRecv self.old.key) (Reply.PollRecv (Err error))) }
+            (self.new.role.waker.is_refused ≡ false)) }
+        ensures refused { IfErr result (λ error. (self.new.role.waker.is_refused ≡ true)
+            ⊎ P.gave self.old.port (Call.PollRecv self.old.role.key)
+            (Reply.PollRecv (Err error))) }
         ensures registered { IfOk result (λ poll. OnPending poll (IsArmed cx.new)) }
         ensures kept { Keeps cx.old cx.new }
     {
-        polls::poll_recv::<T, WakerSlot<A>, P, _>(&self.port, self.key, &mut self.waker, cx)
+        let Receiving { key, waker } = &mut self.role;
+        polls::poll_recv::<T, WakerSlot<A>, P, _>(&self.port, *key, waker, cx)
     }
 }
 
 impl<T: Clone, P: Ask<T, WakerSlot<A>>, A: Allocator> Drop for Recv<'_, T, P, A> {
     fn drop(self)
         ensures asked { P.gave self.entry.receiver.now.port
-            (Call.EndFuture self.entry.receiver.now.key) Reply.EndFuture }
+            (Call.EndFuture self.entry.receiver.now.role.key) Reply.EndFuture }
         ensures back { self.exit.0.now ≡ self.entry.receiver.now }
     {
         let Recv {
             receiver,
             is_answered,
         } = self;
-        let wake = receiver.port.end_future(receiver.key, is_answered);
-        receiver.waker.keep(wake);
+        let wake = receiver.port.end_future(receiver.role.key, is_answered);
+        receiver.role.waker.keep(wake);
     }
 }
 
 impl<T: Clone, P: Ask<T, WakerSlot<A>>, A: Allocator + Copy> Future for Recv<'_, T, P, A> {
     type Output = Result<Result<T, RecvError>, AllocError>;
 
-    ghost gives = { λ r out. GivesReceived P.gave r.receiver.now.port r.receiver.now.key out };
+    ghost gives = { λ r. GivesReceived P.gave r.receiver.now.port r.receiver.now.role.key };
 
     fn poll(&mut self, cx: &mut Context<'_>) -> Poll<Result<Result<T, RecvError>, AllocError>>
         ensures value { IfReady result
-            (GivesReceived P.gave self.old.receiver.now.port self.old.receiver.now.key) }
+            (GivesReceived P.gave self.old.receiver.now.port self.old.receiver.now.role.key) }
         ensures again { OnPending result ⊤ }
         ensures same { OnPending result ((out : _)
-            → GivesReceived P.gave self.new.receiver.now.port self.new.receiver.now.key out
-            → GivesReceived P.gave self.old.receiver.now.port self.old.receiver.now.key out) }
+            → GivesReceived P.gave self.new.receiver.now.port self.new.receiver.now.role.key
+            out
+            → GivesReceived P.gave self.old.receiver.now.port self.old.receiver.now.role.key
+            out) }
         ensures registered { OnPending result (Covers cx.new (λ _. ⊥)) }
         ensures kept { Keeps cx.old cx.new }
 
         ensures waits { OnPending result (P.gave self.old.receiver.now.port
-            (Call.PollFuture self.old.receiver.now.key) (Reply.PollFuture (Ok Poll.Pending))) }
-        ensures notice { OnPending result (self.new.receiver.now.waker.is_refused ≡ false) }
+            (Call.PollFuture self.old.receiver.now.role.key) (Reply.PollFuture (Ok Poll.Pending))) }
+        ensures notice { OnPending result (self.new.receiver.now.role.waker.is_refused ≡ false) }
         ensures refused { IfReady result (λ out. IfErr out (λ error.
-            (self.new.receiver.now.waker.is_refused ≡ true)
-            ⊎ P.gave self.old.receiver.now.port (Call.PollFuture self.old.receiver.now.key)
+            (self.new.receiver.now.role.waker.is_refused ≡ true)
+            ⊎ P.gave self.old.receiver.now.port (Call.PollFuture self.old.receiver.now.role.key)
             (Reply.PollFuture (Err error)))) }
         ensures port { self.new.receiver.now.port ≡ self.old.receiver.now.port }
-        ensures key { self.new.receiver.now.key ≡ self.old.receiver.now.key }
+        ensures key { self.new.receiver.now.role.key ≡ self.old.receiver.now.role.key }
         ensures receiver { self.new.receiver.ghost_name ≡ self.old.receiver.ghost_name }
     {
         self.is_answered = false;
         let receiver = &mut *self.receiver;
-        let Receiver {
-            port,
-            key,
-            waker,
-            ..
-        } = receiver;
+        let Handle { port, role, .. } = receiver;
+        let Receiving { key, waker } = role;
         match polls::poll_future::<T, WakerSlot<A>, P, _>(port, *key, waker, cx) {
             Ok(Poll::Ready(answer)) => {
                 self.is_answered = true;

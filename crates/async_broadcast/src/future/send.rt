@@ -4,8 +4,7 @@ ghost use Rattle.futures.specs.Task.{Covers, Keeps};
 ghost use Rattle.futures.specs.Poll.{IfReady, OnPending};
 ghost use Rattle.async_broadcast.specs.Futures.{BeganSend, GivesSent, MustWait};
 
-use crate::asked;
-use crate::asked::polls;
+use crate::asked::{make, polls};
 use crate::port::Ask;
 use crate::sender::Sender;
 use crate::wake::{TaskWaker, WakerSlot};
@@ -126,7 +125,7 @@ impl<T: Clone, P: Ask<T, WakerSlot<A>>, A: Allocator> Sender<T, P, A> {
         ensures { IfSome place (λ place. P.gave self.now.port (Call.EndSend place) Reply.EndSend) }
     {
         if let Some(place) = place {
-            asked::end_send::<T, WakerSlot<A>, P>(&self.port, place);
+            make!(self.port, EndSend(place));
         }
     }
 }
@@ -179,11 +178,11 @@ impl<T: Clone, P: Ask<T, WakerSlot<A>>, A: Allocator + Copy> Future for Send<'_,
         ensures port { self.new.sender.now.port ≡ self.old.sender.now.port }
     {
         let Some(place) = self.place else {
-            self.waker.register_alone(cx);
+            self.waker.register_only(cx);
             return Poll::Pending;
         };
         let Some(msg) = self.msg.take() else {
-            self.waker.register_alone(cx);
+            self.waker.register_only(cx);
             return Poll::Pending;
         };
         let sender = self.sender;

@@ -7,7 +7,7 @@ ghost use Rattle.async_broadcast.specs.Futures.{YieldsItems};
 
 use crate::asked::polls;
 use crate::port::Ask;
-use crate::receiver::Receiver;
+use crate::receiver::{Receiver, Receiving};
 use crate::wake::WakerSlot;
 use bcast_core::{Call, Reply};
 use futures::Stream;
@@ -19,30 +19,32 @@ use std::alloc::{AllocError, Allocator};
 impl<T: Clone, P: Ask<T, WakerSlot<A>>, A: Allocator + Copy> Stream for Receiver<T, P, A> {
     type Item = Result<T, AllocError>;
 
-    ghost yields = { λ r items last. YieldsItems P.gave r.port r.key items last };
+    ghost yields = { λ r items last. YieldsItems P.gave r.port r.role.key items last };
 
     fn poll_next(&mut self, cx: &mut Context<'_>) -> Poll<Option<Result<T, AllocError>>>
-        ensures value { IfReady result (YieldsItems P.gave self.old.port self.old.key []) }
+        ensures value { IfReady result (YieldsItems P.gave self.old.port self.old.role.key []) }
         ensures rest { IfReady result (λ next. IfSome next (λ item.
-            After (YieldsItems P.gave self.old.port self.old.key) item
-            (YieldsItems P.gave self.new.port self.new.key))) }
+            After (YieldsItems P.gave self.old.port self.old.role.key) item
+            (YieldsItems P.gave self.new.port self.new.role.key))) }
         ensures goes { IfReady result (λ next. OnSome next ⊤) }
         ensures again { OnPending result ⊤ }
-        ensures same { OnPending result (Within (YieldsItems P.gave self.old.port self.old.key)
-            (YieldsItems P.gave self.new.port self.new.key)) }
+        ensures same { OnPending result (Within (YieldsItems P.gave self.old.port self.old.role.key)
+            (YieldsItems P.gave self.new.port self.new.role.key)) }
         ensures registered { OnPending result (Covers cx.new (λ _. ⊥)) }
         ensures kept { Keeps cx.old cx.new }
 
-        ensures waits { OnPending result (P.gave self.old.port (Call.PollNext self.old.key)
+        ensures waits { OnPending result (P.gave self.old.port (Call.PollNext self.old.role.key)
             (Reply.PollNext (Ok Poll.Pending))) }
-        ensures notice { OnPending result (self.new.waker.is_refused ≡ false) }
+        ensures notice { OnPending result (self.new.role.waker.is_refused ≡ false) }
         ensures refused { IfReady result (λ next. IfSome next (λ item. IfErr item (λ error.
-            (self.new.waker.is_refused ≡ true)
-            ⊎ P.gave self.old.port (Call.PollNext self.old.key) (Reply.PollNext (Err error))))) }
+            (self.new.role.waker.is_refused ≡ true)
+            ⊎ P.gave self.old.port (Call.PollNext self.old.role.key)
+            (Reply.PollNext (Err error))))) }
         ensures port { self.new.port ≡ self.old.port }
-        ensures key { self.new.key ≡ self.old.key }
+        ensures key { self.new.role.key ≡ self.old.role.key }
     {
-        match polls::poll_next::<T, WakerSlot<A>, P, _>(&self.port, self.key, &mut self.waker, cx) {
+        let Receiving { key, waker } = &mut self.role;
+        match polls::poll_next::<T, WakerSlot<A>, P, _>(&self.port, *key, waker, cx) {
             Ok(Poll::Ready(Some(next))) => Poll::Ready(Some(Ok(next.0))),
             Ok(Poll::Ready(None)) => Poll::Ready(None),
             Ok(Poll::Pending) => Poll::Pending,

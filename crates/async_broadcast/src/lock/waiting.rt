@@ -1,82 +1,98 @@
 //! Calls of threads that wait until they are answered.
 ghost use Rattle.std.specs.Prelude.{◌≡◌, true, not};
 ghost use Rattle.bcast_model.specs.Answers.{IsPossible};
+ghost use Rattle.bcast_model.specs.declared.run.Call.TheVariants as call;
 ghost use Rattle.async_broadcast.specs.Kinds.{is_answer};
 
 use super::Lock;
-use crate::wake::Wake;
-use bcast_core::{Call, Reply, SendPoll, TryRecvError};
+use bcast_core::{Reply, SendPoll, TryRecvError};
 use std::alloc::{AllocError, Allocator};
 use std::sync::Wait;
 use std::thread::yield_now;
 
+// What a thread did before the try that it makes now: nothing, or it yielded once, or it waited.
+#[derive(Clone, Copy, PartialEq, Eq)]
+enum Turn {
+    First,
+    Yielded,
+    Waited,
+}
+
 impl<T: Clone, R: Wait + Clone, A: Allocator + Copy> Lock<T, R, A> {
     pub(super) fn send_waiting(&self, msg: T) -> Reply<T>
-        ensures reply { IsPossible T.is_clone (Call.AttemptSend msg) result }
+        ensures reply { IsPossible T.is_clone (call.AttemptSend msg) result }
         ensures answered { is_answer result ≡ true }
     {
         let channel = &*self.channel;
         let mut left = msg;
-        let mut has_yielded = false;
+        let mut turn = Turn::First;
         let mut state = channel.lock(&self.rt);
         for _ in self.rt.forever() {
-            let (reply, woken) = state.step(Call::AttemptSend(left), Wake::none());
-            match reply {
-                Reply::AttemptSend(SendPoll::Ready(answer)) => {
-                    drop(state);
-                    channel.wake(woken);
+            let locked = &mut *state;
+            let sent = locked.inner.attempt_send(left);
+            if turn == Turn::Waited {
+                locked.threads.has_tried_to_send();
+            }
+            let waits = turn == Turn::Yielded && matches!(sent, SendPoll::Wait(_));
+            if waits {
+                locked.threads.begin_to_send();
+            }
+            let woken = locked.threads.note(&locked.inner);
+            match sent {
+                SendPoll::Ready(answer) => {
+                    channel.unlock(state, woken);
                     return Reply::AttemptSend(SendPoll::Ready(answer));
                 }
-                Reply::AttemptSend(SendPoll::Wait(back)) => left = back,
-                _ => unreachable!(),
+                SendPoll::Wait(back) => left = back,
             }
-            channel.wake(woken);
-            if !has_yielded {
+            if waits {
+                state = channel.wait_to_send(&self.rt, state, woken);
+                turn = Turn::Waited;
+            } else {
                 // Others may make room at once, and then nobody has to be woken.
-                has_yielded = true;
-                drop(state);
+                channel.unlock(state, woken);
                 yield_now();
                 state = channel.lock(&self.rt);
-                continue;
+                turn = Turn::Yielded;
             }
-            has_yielded = false;
-            state.begin_to_send();
-            state = channel.ready.wait(&self.rt, state);
-            state.try_to_send();
         }
         unreachable!()
     }
 
     pub(super) fn receive_waiting(&self, key: usize) -> Reply<T>
-        ensures reply { IsPossible T.is_clone (Call.TryRecv key) result }
+        ensures reply { IsPossible T.is_clone (call.TryRecv key) result }
         ensures answered { is_answer result ≡ true }
     {
         let channel = &*self.channel;
-        let mut has_yielded = false;
+        let mut turn = Turn::First;
+        // What was known when the thread began to wait.
+        let mut known = (0, false);
         let mut state = channel.lock(&self.rt);
         for _ in self.rt.forever() {
-            let (reply, woken) = state.step(Call::TryRecv(key), Wake::none());
-            let Reply::TryRecv(answer) = reply else {
-                unreachable!()
-            };
+            let locked = &mut *state;
+            let answer = locked.inner.try_recv(key);
+            if turn == Turn::Waited {
+                locked.threads.has_tried_to_receive(known);
+            }
+            let waits = turn == Turn::Yielded && is_empty(&answer);
+            if waits {
+                known = locked.threads.begin_to_receive(&locked.inner);
+            }
+            let woken = locked.threads.note(&locked.inner);
             if !is_empty(&answer) {
-                drop(state);
-                channel.wake(woken);
+                channel.unlock(state, woken);
                 return Reply::TryRecv(answer);
             }
-            channel.wake(woken);
-            if !has_yielded {
+            if waits {
+                state = channel.wait_to_receive(&self.rt, state, woken);
+                turn = Turn::Waited;
+            } else {
                 // Several messages may come at once, and are then received without another wait.
-                has_yielded = true;
-                drop(state);
+                channel.unlock(state, woken);
                 yield_now();
                 state = channel.lock(&self.rt);
-                continue;
+                turn = Turn::Yielded;
             }
-            has_yielded = false;
-            let known = state.begin_to_receive();
-            state = channel.news.wait(&self.rt, state);
-            state.try_to_receive(known);
         }
         unreachable!()
     }

@@ -54,8 +54,8 @@ impl<T: Drop, N: Notice, A: Allocator + Copy> Parts<T, N, A> {
         requires there { is_some (cursor_of self.old.control key) ≡ true }
         ensures { self.new ≡ settle self.old (sets (without_receiver self.old.control key)) }
     {
-        self.pair_ended(key, Kind::Stream);
-        self.pair_ended(key, Kind::Future);
+        let _ = self.pair_ended(key, Kind::Stream);
+        let _ = self.pair_ended(key, Kind::Future);
         self.remove_cursor(key);
     }
 

@@ -1,15 +1,14 @@
 //! Pending sends and receivers that wait.
-ghost use Rattle.std.specs.Prelude.{◌≡◌, ◌&&◌, ◌+◌, ◌<◌, true, false, IfOk, OnErr, is_some};
+ghost use Rattle.std.specs.Prelude.{◌≡◌, ◌+◌, ◌<◌, true, false, IfOk, OnOk, OnErr, is_some};
 ghost use Rattle.std.specs.FinMap.{get};
 
 use super::Parts;
 use bcast_model::listener::Kind;
-use bcast_waiting::notice::Notice;
+use bcast_waiting::notice::{MakesNotice, Notice, Refused};
 use std::alloc::{AllocError, Allocator};
 
 impl<T: Drop, N: Notice, A: Allocator + Copy> Parts<T, N, A> {
     ghost use Rattle.bcast_model.specs.Laws.{IsValidView};
-    ghost use Rattle.bcast_model.specs.View.{sends_are_ready};
     ghost use Rattle.bcast_core.specs.Tries.{is_untold};
     ghost use Rattle.bcast_model.specs.Control.{has_place, with_place, place_answered, place_ended, place_waits, pair_waits, pair_answered, pair_ended};
 
@@ -18,13 +17,6 @@ impl<T: Drop, N: Notice, A: Allocator + Copy> Parts<T, N, A> {
         ensures { result ≡ has_place self.now.control place }
     {
         self.sends.has(place)
-    }
-
-    /// Whether a poll of the pending send of this place would be answered.
-    pub fn answers_send(&self, place: usize) -> bool
-        ensures { result ≡ has_place self.now.control place && sends_are_ready self.now }
-    {
-        self.has_place(place) && self.is_ready()
     }
 
     /// Gives a place to a send that is to wait.
@@ -38,22 +30,21 @@ impl<T: Drop, N: Notice, A: Allocator + Copy> Parts<T, N, A> {
         self.sends.begin()
     }
 
-    /// The send of this place waits, untold.
+    /// The send of this place waits, untold, with the notice that is made for it.
     #[inline(always)]
-    pub fn place_waits(&mut self, place: usize, notice: N)
+    pub fn place_waits<M: MakesNotice<N>>(
+        &mut self,
+        place: usize,
+        maker: &mut M,
+    ) -> Result<(), Refused>
         requires { has_place self.old.control place ≡ true }
-        ensures { self.new ≡ record self.old { control = place_waits self.old.control place } }
+        ensures waits { OnOk result (self.new
+            ≡ record self.old { control = place_waits self.old.control place }) }
+        ensures made { OnOk result (M.made maker.old maker.new) }
+        ensures same { OnErr result (self.new ≡ self.old) }
+        ensures refused { OnErr result (M.refused maker.old maker.new) }
     {
-        self.sends.wait(place, notice);
-    }
-
-    /// Gives the send of this place another notice, and returns the one it had. The same notice
-    /// comes back if it doesn't wait.
-    #[inline(always)]
-    pub fn swap_place_notice(&mut self, place: usize, notice: N) -> N
-        ensures { self.new ≡ self.old }
-    {
-        self.sends.swap_notice(place, notice)
+        self.sends.wait(place, maker)
     }
 
     /// The send of this place was answered.
@@ -72,14 +63,23 @@ impl<T: Drop, N: Notice, A: Allocator + Copy> Parts<T, N, A> {
         self.sends.ended(place);
     }
 
-    /// A receiver's listener waits, untold.
+    /// A receiver's listener waits, untold, with the notice that is made for it.
     #[inline(always)]
-    pub fn pair_waits(&mut self, key: usize, kind: Kind, notice: N)
+    pub fn pair_waits<M: MakesNotice<N>>(
+        &mut self,
+        key: usize,
+        kind: Kind,
+        maker: &mut M,
+    ) -> Result<(), Refused>
         requires valid { IsValidView self.old }
         requires there { is_some (get self.old.control.cursors key) ≡ true }
-        ensures { self.new ≡ record self.old { control = pair_waits self.old.control (key, kind) } }
+        ensures waits { OnOk result (self.new
+            ≡ record self.old { control = pair_waits self.old.control (key, kind) }) }
+        ensures made { OnOk result (M.made maker.old maker.new) }
+        ensures same { OnErr result (self.new ≡ self.old) }
+        ensures refused { OnErr result (M.refused maker.old maker.new) }
     {
-        self.receives.wait(key, kind, notice);
+        self.receives.wait(key, kind, maker)
     }
 
     /// Whether a receiver's listener is listed and not told.
@@ -88,15 +88,6 @@ impl<T: Drop, N: Notice, A: Allocator + Copy> Parts<T, N, A> {
         ensures { result ≡ is_untold self.now.control (key, kind) }
     {
         self.receives.is_untold(key, kind)
-    }
-
-    /// Gives a receiver's listener another notice, and returns the one it had. The same notice
-    /// comes back if it doesn't wait.
-    #[inline(always)]
-    pub fn swap_pair_notice(&mut self, key: usize, kind: Kind, notice: N) -> N
-        ensures { self.new ≡ self.old }
-    {
-        self.receives.swap_notice(key, kind, notice)
     }
 
     /// A receiver's listener was answered.
@@ -108,12 +99,12 @@ impl<T: Drop, N: Notice, A: Allocator + Copy> Parts<T, N, A> {
         self.receives.answered(key, kind);
     }
 
-    /// A receiver's listener is dropped. What it was told is passed on.
+    /// A receiver's listener is dropped, and its notice returned. What it was told is passed on.
     #[inline(always)]
-    pub fn pair_ended(&mut self, key: usize, kind: Kind)
+    pub fn pair_ended(&mut self, key: usize, kind: Kind) -> Option<N>
         ensures { self.new
             ≡ record self.old { control = pair_ended self.old.control (key, kind) } }
     {
-        self.receives.ended(key, kind);
+        self.receives.ended(key, kind)
     }
 }

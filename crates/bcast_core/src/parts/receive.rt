@@ -1,13 +1,14 @@
 //! Receiving.
-ghost use Rattle.std.specs.Prelude.{◌≡◌, ◌⊎◌, ◌+◌, ◌<◌, max, Some, Ok, Err, IfOk, OnOk, OnErr, IsOk, IsSomeAnd, alloc_error};
+ghost use Rattle.std.specs.Prelude.{◌≡◌, ◌⊎◌, ◌+◌, ◌<◌, true, false, max, Some, Ok, Err, IfOk, OnOk, OnErr, IsOk, IsSomeAnd, alloc_error};
+ghost use Rattle.bcast_model.specs.Receiving.{is_empty_reply};
 
 use super::Parts;
 use crate::tries::Steps;
 use bcast_model::error::TryRecvError;
 use bcast_model::listener::Kind;
-use bcast_waiting::notice::Notice;
+use bcast_waiting::notice::{MakesNotice, Notice, Refused};
 use std::alloc::{AllocError, Allocator};
-use std::sync::ledger::Ledger;
+use std::sync::ledger::{Blank, Ledger};
 
 impl<T: Clone, N: Notice, A: Allocator + Copy> Parts<T, N, A> {
     ghost use Rattle.bcast_model.specs.Laws.{IsValidView};
@@ -17,10 +18,13 @@ impl<T: Clone, N: Notice, A: Allocator + Copy> Parts<T, N, A> {
     ghost use Rattle.bcast_model.specs.Effect.{sets};
     ghost use Rattle.bcast_model.specs.Control.{cursor_of};
     ghost use Rattle.bcast_model.specs.View.{kept_at};
-    ghost use Rattle.bcast_model.specs.Receiving.{try_recv_reply, is_empty_reply, IsOwed};
-    ghost use Rattle.bcast_model.specs.Control.{with_cursor};
-    ghost use Rattle.bcast_model.specs.ListenerId.{stream_of};
-    ghost use Rattle.bcast_core.specs.Tries.{tries_of};
+    ghost use Rattle.bcast_model.specs.Receiving.{try_recv_reply, IsOwed};
+    ghost use Rattle.bcast_model.specs.Control.{with_cursor, pair_answered};
+    ghost use Rattle.bcast_model.specs.Next.{tell_if_ready};
+    ghost use Rattle.bcast_core.specs.Parts.{Does};
+    ghost use Rattle.bcast_core.specs.Tries.{tries_by};
+    ghost use Rattle.bcast_core.specs.Waits.{finds_nothing};
+    ghost use Rattle.bcast_model.specs.declared.run.Call.TheVariants as call;
     ghost use Rattle.bcast_model.specs.declared.run.Reply.TheVariants as reply;
 
     // Lets a receiver that lags go on at the front.
@@ -100,17 +104,23 @@ impl<T: Clone, N: Notice, A: Allocator + Copy> Parts<T, N, A> {
         }
     }
 
-    /// Whether a receive would find nothing, and the channel is open.
+    /// The same at the receiver's cursor, with a step that nobody counts.
     #[inline(always)]
-    pub fn finds_nothing(&self, key: usize) -> bool
-        requires { IsValidView self.now }
-        ensures { result
-            ≡ is_empty_reply (try_recv_reply self.now (cursor_of self.now.control key)) }
+    pub fn try_receive<L: Ledger>(
+        &mut self,
+        key: usize,
+        blank: Blank,
+    ) -> Result<Result<T, TryRecvError>, AllocError>
+        requires valid { IsValidView self.old }
+        requires name { blank.name ≡ L.name }
+        requires parts { blank.parts ≡ L.parts }
+        requires some { 0 < blank.parts }
+        ensures does { Does T.is_clone self.old (call.TryRecv key) (reply.TryRecv result) self.new }
+        ensures sure { ((msg : T) → T.is_infallible msg) → IsOk result }
     {
-        match self.cursor(key) {
-            Some(cursor) => cursor >= self.end() && !self.is_closed(),
-            None => false,
-        }
+        let mut steps = Steps::<L>::new(blank);
+        let at = self.cursor(key);
+        self.receive(key, at, &mut steps)
     }
 
     /// Where the receiver reads on that skips what it missed, and how many messages those are.
@@ -125,14 +135,14 @@ impl<T: Clone, N: Notice, A: Allocator + Copy> Parts<T, N, A> {
         }
     }
 
-    /// The same for a listener that waits if there is nothing.
+    // Looks for a message for a listener. If that of a stream is listed and not told there is none,
+    // since no wake-up is lost: so it is not looked for.
     #[inline(always)]
-    pub fn poll<L: Ledger>(
+    fn look<L: Ledger>(
         &mut self,
         key: usize,
         kind: Kind,
         at: Option<u64>,
-        notice: N,
         steps: &mut Steps<L>,
     ) -> Result<Result<T, TryRecvError>, AllocError>
         requires valid { IsValidView self.old }
@@ -142,54 +152,84 @@ impl<T: Clone, N: Notice, A: Allocator + Copy> Parts<T, N, A> {
             (λ answer. reply.TryRecv (Ok answer)) (reply.TryRecv (Err alloc_error))
             (reply.TryRecv result) }
         ensures ok { OnOk result (self.new ≡ settle self.old
-            (sets (receive_poll self.old.front self.old.end self.old.control (key, kind) at
-            (try_recv_reply self.old at)))) }
+            (sets (receive self.old.front self.old.end self.old.control key at))) }
         ensures err { OnErr result (self.new ≡ self.old) }
         ensures sure { ((msg : T) → T.is_infallible msg) → IsOk result }
 
-        ensures steps { steps.new ≡ steps.old + 1 }
+        ensures steps { steps.new ≡ steps.old + tries_by kind self.old.control (key, kind) }
     {
-        match self.receive(key, at, steps) {
-            Ok(Err(TryRecvError::Empty)) => {
-                self.pair_waits(key, kind, notice);
-                Ok(Err(TryRecvError::Empty))
-            }
-            Ok(answer) => {
-                self.pair_answered(key, kind);
-                Ok(answer)
-            }
-            Err(refused) => Err(refused),
-        }
-    }
-
-    /// The same for the stream. If its listener is listed and not told there is nothing, since no
-    /// wake-up is lost: it waits on, and only its notice is another one.
-    #[inline(always)]
-    pub fn poll_stream<L: Ledger>(
-        &mut self,
-        key: usize,
-        at: Option<u64>,
-        notice: N,
-        steps: &mut Steps<L>,
-    ) -> Result<Result<T, TryRecvError>, AllocError>
-        requires valid { IsValidView self.old }
-        requires at { (at ≡ cursor_of self.old.control key)
-            ⊎ (at ≡ skipped_to self.old.front (cursor_of self.old.control key)) }
-        ensures reply { IsReceivedBy T.is_clone self.old key at
-            (λ answer. reply.TryRecv (Ok answer)) (reply.TryRecv (Err alloc_error))
-            (reply.TryRecv result) }
-        ensures ok { OnOk result (self.new ≡ settle self.old
-            (sets (receive_poll self.old.front self.old.end self.old.control (stream_of key) at
-            (try_recv_reply self.old at)))) }
-        ensures err { OnErr result (self.new ≡ self.old) }
-        ensures sure { ((msg : T) → T.is_infallible msg) → IsOk result }
-
-        ensures steps { steps.new ≡ steps.old + tries_of self.old.control (stream_of key) }
-    {
-        if self.is_untold(key, Kind::Stream) {
-            self.swap_pair_notice(key, Kind::Stream, notice);
+        if kind == Kind::Stream && self.is_untold(key, kind) {
             return Ok(Err(TryRecvError::Empty));
         }
-        self.poll(key, Kind::Stream, at, notice, steps)
+        self.receive(key, at, steps)
     }
+
+    /// Polls a listener, whose notice is made if it must wait. If there is something it waits no
+    /// more, and if sends are ready then the first one that waits is told.
+    ///
+    /// # Errors
+    ///
+    /// `Refused`: no notice was made, and nothing changed.
+    #[inline(always)]
+    pub fn poll<L: Ledger, M: MakesNotice<N>>(
+        &mut self,
+        key: usize,
+        kind: Kind,
+        at: Option<u64>,
+        maker: &mut M,
+        steps: &mut Steps<L>,
+    ) -> Result<Result<Result<T, TryRecvError>, AllocError>, Refused>
+        requires valid { IsValidView self.old }
+        requires at { (at ≡ cursor_of self.old.control key)
+            ⊎ (at ≡ skipped_to self.old.front (cursor_of self.old.control key)) }
+        ensures reply { IfOk result (λ received. IsReceivedBy T.is_clone self.old key at
+            (λ answer. reply.TryRecv (Ok answer)) (reply.TryRecv (Err alloc_error))
+            (reply.TryRecv received)) }
+        ensures ok { IfOk result (λ received. OnOk received (self.new ≡ tell_if_ready true
+            (settle self.old (sets (receive_poll self.old.front self.old.end self.old.control
+            (key, kind) at (try_recv_reply self.old at)))))) }
+        ensures err { IfOk result (λ received. OnErr received (self.new ≡ self.old)) }
+        ensures sure { ((msg : T) → T.is_infallible msg) → IfOk result IsOk }
+
+        ensures made { IfOk result (λ received. finds_nothing received ≡ true
+            → M.made maker.old maker.new) }
+        ensures idle { IfOk result (λ received. finds_nothing received ≡ false
+            → maker.new ≡ maker.old) }
+        ensures same { OnErr result (self.new ≡ self.old) }
+        ensures refused { OnErr result (M.refused maker.old maker.new) }
+
+        ensures steps { steps.new ≡ steps.old + tries_by kind self.old.control (key, kind) }
+    {
+        let answer = match self.look(key, kind, at, steps) {
+            Ok(answer) => answer,
+            Err(refused) => return Ok(Err(refused)),
+        };
+        if is_empty(&answer) {
+            self.pair_waits(key, kind, maker)?;
+            return Ok(Ok(answer));
+        }
+        if self.nobody_waits() {
+            return Ok(Ok(answer));
+        }
+        self.tell_of_receive(key, kind);
+        Ok(Ok(answer))
+    }
+
+    // What else there is to do for a listener that got its answer, while somebody waits.
+    #[inline(never)]
+    fn tell_of_receive(&mut self, key: usize, kind: Kind)
+        ensures { self.new ≡ tell_if_ready true
+            (record self.old { control = pair_answered self.old.control (key, kind) }) }
+    {
+        self.pair_answered(key, kind);
+        self.tell_a_sender();
+    }
+}
+
+// Whether a receive found nothing, and the channel is open.
+#[inline(always)]
+fn is_empty<T>(answer: &Result<T, TryRecvError>) -> bool
+    ensures { result ≡ is_empty_reply answer.now }
+{
+    matches!(answer, Err(TryRecvError::Empty))
 }

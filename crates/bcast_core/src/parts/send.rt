@@ -1,19 +1,24 @@
 //! Sending, and the settings that make room.
 ghost use Rattle.std.specs.Prelude.{◌≡◌, ◌==◌, ◌^◌, ◌+◌, ◌<◌, ◌≤◌, [], ◌∷◌, ◌++◌, false, length, if◌then◌else◌};
-ghost use Rattle.std.specs.Prelude.{Ok, Err, IfOk, IfErr, OnOk, OnErr, Option};
+ghost use Rattle.std.specs.Prelude.{Ok, Err, IfOk, IfErr, OnOk, OnErr, Option, is_ok, not, true};
 ghost use Rattle.std.specs.FinMap.{len};
 ghost use Rattle.bcast_model.specs.declared.error.TrySendError.{TrySendError};
 ghost use Rattle.bcast_model.specs.Sending.{reply_to_try, reply_to_attempt};
+ghost use Rattle.bcast_core.specs.Telling.{is_accepted};
 
 use super::Parts;
 use bcast_model::error::{SendError, TrySendError};
 use bcast_model::messages::Messages;
 use bcast_model::run::SendPoll;
-use bcast_waiting::notice::Notice;
+use bcast_waiting::notice::{MakesNotice, Notice};
 use std::alloc::{AllocError, Allocator};
 
 impl<T: Drop, N: Notice, A: Allocator + Copy> Parts<T, N, A> {
-    ghost use Rattle.bcast_model.specs.Control.{has_place, last_end};
+    ghost use Rattle.bcast_model.specs.Control.{has_place, place_answered, last_end};
+    ghost use Rattle.bcast_model.specs.Next.{tell_if_ready};
+    ghost use Rattle.bcast_model.specs.PollLaws.{must_wait};
+    ghost use Rattle.bcast_model.specs.declared.run.Reply.TheVariants as reply;
+    ghost use Rattle.bcast_core.specs.Telling.{tell_news, is_accepted};
     ghost use Rattle.bcast_model.specs.Laws.{IsValidView};
     ghost use Rattle.bcast_model.specs.declared.run.SendPoll.TheVariants as send;
     ghost use Rattle.bcast_model.specs.Steps.{settle, with_message, with_messages};
@@ -34,50 +39,35 @@ impl<T: Drop, N: Notice, A: Allocator + Copy> Parts<T, N, A> {
         oldest
     }
 
-    // Puts a message last, for every receiver. Returns whether it has the last number.
+    // Puts a message last, for every receiver. The last number closes the channel. Nobody is told.
     #[inline(always)]
-    pub(super) fn put(&mut self, msg: T) -> bool
+    fn accept(&mut self, msg: T)
+        requires is_open { self.old.control.closed ≡ false }
         requires someone { 0 < len self.old.control.cursors }
         requires room { length self.old.queue < self.old.control.room }
         requires number { self.old.end + 1 < 2 ^ 64 }
-        ensures seen { self.new ≡ record self.old
-            { queue = self.old.queue ++ msg ∷ []; end = self.old.end + 1 } }
-        ensures last { result ≡ (self.old.end + 1 == last_end) }
+        ensures { tell_news true self.new ≡ with_message self.old msg }
     {
         let number = self.store.end();
         self.store.push(msg);
-        number + 1 == u64::MAX
-    }
-
-    // Puts a message last, for every receiver, all of whom are told. The last number closes the
-    // channel.
-    #[inline(always)]
-    fn accept(&mut self, msg: T)
-        requires someone { 0 < len self.old.control.cursors }
-        requires room { length self.old.queue < self.old.control.room }
-        requires number { self.old.end + 1 < 2 ^ 64 }
-        ensures { self.new ≡ with_message self.old msg }
-    {
-        let is_last = self.put(msg);
-        self.receives.tell_all();
-        if is_last {
-            self.close();
+        if number + 1 == u64::MAX {
+            self.closed = true;
         }
     }
 
-    // Puts messages last, in their order, for every receiver, all of whom are told once. The last
-    // number closes the channel.
+    // Puts messages last, in their order, for every receiver. The last number closes the channel.
+    // Nobody is told.
     fn accept_all(&mut self, msgs: Messages<T>)
+        requires is_open { self.old.control.closed ≡ false }
         requires some { 0 < length msgs }
         requires someone { 0 < len self.old.control.cursors }
         requires room { length self.old.queue + length msgs ≤ self.old.control.room }
         requires number { self.old.end + length msgs < 2 ^ 64 }
-        ensures { self.new ≡ with_messages self.old msgs }
+        ensures { tell_news true self.new ≡ with_messages self.old msgs }
     {
         self.store.push_all(msgs);
-        self.receives.tell_all();
         if self.store.end() == u64::MAX {
-            self.close();
+            self.closed = true;
         }
     }
 
@@ -90,11 +80,13 @@ impl<T: Drop, N: Notice, A: Allocator + Copy> Parts<T, N, A> {
         if room < numbers { room } else { numbers }
     }
 
-    /// Accepts a whole list, or hands it back with the reason.
+    /// Accepts a whole list, or hands it back with the reason. Nobody is told: there are news if the
+    /// end rose.
     pub fn offer_all(&mut self, msgs: Messages<T>) -> Result<(), TrySendError<Messages<T>>>
         requires { IsValidView self.old }
         ensures reply { result ≡ try_broadcast_all_reply self.old msgs }
-        ensures effect { self.new ≡ settle self.old (offer_all self.old msgs) }
+        ensures effect { tell_news (not (self.new.end == self.old.end)) self.new
+            ≡ settle self.old (offer_all self.old msgs) }
     {
         if self.is_closed() {
             return Err(TrySendError::Closed(msgs));
@@ -115,7 +107,7 @@ impl<T: Drop, N: Notice, A: Allocator + Copy> Parts<T, N, A> {
     // Makes room for a message that is to be accepted, which comes back with the oldest message if
     // that was dropped; or hands it back with the reason.
     #[inline(always)]
-    pub(super) fn admit(&mut self, msg: T) -> Result<(T, Option<T>), TrySendError<T>>
+    fn admit(&mut self, msg: T) -> Result<(T, Option<T>), TrySendError<T>>
         requires { IsValidView self.old }
         ensures same { IfOk result (λ admitted. admitted.0 ≡ msg) }
         ensures reply { IfOk result (λ admitted. try_broadcast_reply self.old msg ≡ Ok admitted.1) }
@@ -148,12 +140,13 @@ impl<T: Drop, N: Notice, A: Allocator + Copy> Parts<T, N, A> {
         Ok((msg, Some(oldest)))
     }
 
-    /// Accepts a message, or hands it back with the reason.
+    /// Accepts a message, or hands it back with the reason. Nobody is told: there are news if it was
+    /// accepted.
     #[inline(always)]
     pub fn offer(&mut self, msg: T) -> Result<Option<T>, TrySendError<T>>
         requires { IsValidView self.old }
         ensures reply { result ≡ try_broadcast_reply self.old msg }
-        ensures effect { self.new ≡ settle self.old (offer self.old msg) }
+        ensures effect { tell_news (is_ok result) self.new ≡ settle self.old (offer self.old msg) }
     {
         let (msg, oldest) = self.admit(msg)?;
         self.accept(msg);
@@ -165,34 +158,72 @@ impl<T: Drop, N: Notice, A: Allocator + Copy> Parts<T, N, A> {
     pub fn attempt(&mut self, msg: T) -> SendPoll<T>
         requires { IsValidView self.old }
         ensures reply { result ≡ attempt_send_reply self.old msg }
-        ensures effect { self.new ≡ settle self.old (offer self.old msg) }
+        ensures effect { tell_news (is_accepted result) self.new
+            ≡ settle self.old (offer self.old msg) }
     {
         let await_active = self.await_active();
         attempted(await_active, self.offer(msg))
     }
 
-    /// A poll of a pending send.
+    /// A poll of a pending send, whose notice is made if it must wait. If it is answered its place
+    /// is free, and if sends are still ready then the first one that waits is told.
+    ///
+    /// # Errors
+    ///
+    /// The message comes back and nothing changed: no notice was made.
     #[inline(always)]
-    pub fn poll_send(&mut self, place: usize, msg: T, notice: N) -> SendPoll<T>
+    pub fn poll_send<M: MakesNotice<N>>(
+        &mut self,
+        place: usize,
+        msg: T,
+        maker: &mut M,
+    ) -> Result<SendPoll<T>, T>
         requires { IsValidView self.old }
-        ensures reply { result ≡ (if has_place self.old.control place
+        ensures reply { IfOk result (λ sent. sent ≡ (if has_place self.old.control place
             then attempt_send_reply self.old msg
-            else send.Wait msg) }
-        ensures effect { self.new ≡ settle self.old (poll_send self.old place msg) }
+            else send.Wait msg)) }
+        ensures effect { OnOk result (self.new
+            ≡ tell_if_ready true (settle self.old (poll_send self.old place msg))) }
+
+        ensures made { IfOk result (λ sent. must_wait (reply.PollSend sent) ≡ true
+            → M.made maker.old maker.new) }
+        ensures idle { IfOk result (λ sent. must_wait (reply.PollSend sent) ≡ false
+            → maker.new ≡ maker.old) }
+        ensures back { IfErr result (λ back. back ≡ msg) }
+        ensures same { OnErr result (self.new ≡ self.old) }
+        ensures refused { OnErr result (M.refused maker.old maker.new) }
     {
         if !self.has_place(place) {
-            return SendPoll::Wait(msg);
+            let Ok(_) = maker.make() else {
+                return Err(msg);
+            };
+            return Ok(SendPoll::Wait(msg));
         }
         match self.attempt(msg) {
             SendPoll::Ready(answer) => {
-                self.place_answered(place);
-                SendPoll::Ready(answer)
+                if self.nobody_waits() {
+                    self.place_answered(place);
+                    return Ok(SendPoll::Ready(answer));
+                }
+                self.tell_of_send(place, answer.is_ok());
+                Ok(SendPoll::Ready(answer))
             }
-            SendPoll::Wait(msg) => {
-                self.place_waits(place, notice);
-                SendPoll::Wait(msg)
-            }
+            SendPoll::Wait(msg) => match self.place_waits(place, maker) {
+                Ok(()) => Ok(SendPoll::Wait(msg)),
+                Err(_) => Err(msg),
+            },
         }
+    }
+
+    // What else there is to do for a pending send that was answered, while somebody waits.
+    #[inline(never)]
+    fn tell_of_send(&mut self, place: usize, news: bool)
+        ensures { let told = tell_news news self.old in self.new
+            ≡ tell_if_ready true (record told { control = place_answered told.control place }) }
+    {
+        self.tell_news(news);
+        self.place_answered(place);
+        self.tell_a_sender();
     }
 
     /// Sets the capacity. If fewer messages fit than are kept, the oldest are dropped.
@@ -215,10 +246,7 @@ impl<T: Drop, N: Notice, A: Allocator + Copy> Parts<T, N, A> {
 
 // What a try was answered, as the answer of a send that may wait.
 #[inline(always)]
-pub(super) fn attempted<T: Drop>(
-    await_active: bool,
-    tried: Result<Option<T>, TrySendError<T>>,
-) -> SendPoll<T>
+fn attempted<T: Drop>(await_active: bool, tried: Result<Option<T>, TrySendError<T>>) -> SendPoll<T>
     ensures { (back : Option T) → (error : Option (TrySendError T))
         → tried ≡ reply_to_try back error → result ≡ reply_to_attempt await_active back error }
 {
@@ -234,4 +262,12 @@ pub(super) fn attempted<T: Drop>(
             }
         }
     }
+}
+
+/// Whether a send was accepted.
+#[inline(always)]
+pub fn is_accepted<T>(sent: &SendPoll<T>) -> bool
+    ensures { result ≡ is_accepted sent.now }
+{
+    matches!(sent, SendPoll::Ready(Ok(_)))
 }

@@ -21,9 +21,8 @@ impl<T: Drop, N: Notice, A: Allocator + Copy> Inner<T, N, A> {
     pub fn new_sender(&mut self) -> Result<(), HandleError>
         ensures { Answers NoClone self.old call.NewSender (reply.NewSender result) self.new }
     {
-        let was_blocked = !self.parts.is_ready();
         let made = self.parts.new_sender();
-        self.parts.tell_if_ready(was_blocked);
+        self.parts.tell_a_sender();
         made
     }
 
@@ -40,9 +39,8 @@ impl<T: Drop, N: Notice, A: Allocator + Copy> Inner<T, N, A> {
         ensures { Answers NoClone self.old call.CloneInactive (reply.CloneInactive result)
             self.new }
     {
-        let was_blocked = !self.parts.is_ready();
         let made = self.parts.clone_inactive();
-        self.parts.tell_if_ready(was_blocked);
+        self.parts.tell_a_sender();
         made
     }
 
@@ -60,9 +58,8 @@ impl<T: Drop, N: Notice, A: Allocator + Copy> Inner<T, N, A> {
         ensures { Answers NoClone self.old (call.Deactivate key) (reply.Deactivate result)
             self.new }
     {
-        let was_blocked = !self.parts.is_ready();
         let made = self.parts.deactivate(key);
-        self.parts.tell_if_ready(was_blocked);
+        self.parts.tell_a_sender();
         made
     }
 
@@ -76,9 +73,8 @@ impl<T: Drop, N: Notice, A: Allocator + Copy> Inner<T, N, A> {
     pub fn new_receiver(&mut self) -> Result<usize, HandleError>
         ensures { Answers NoClone self.old call.NewReceiver (reply.NewReceiver result) self.new }
     {
-        let was_blocked = !self.parts.is_ready();
         let made = self.parts.new_receiver();
-        self.parts.tell_if_ready(was_blocked);
+        self.parts.tell_a_sender();
         made
     }
 
@@ -94,9 +90,8 @@ impl<T: Drop, N: Notice, A: Allocator + Copy> Inner<T, N, A> {
     pub fn activate(&mut self) -> Result<usize, HandleError>
         ensures { Answers NoClone self.old call.Activate (reply.Activate result) self.new }
     {
-        let was_blocked = !self.parts.is_ready();
         let made = self.parts.activate();
-        self.parts.tell_if_ready(was_blocked);
+        self.parts.tell_a_sender();
         made
     }
 
@@ -113,9 +108,8 @@ impl<T: Drop, N: Notice, A: Allocator + Copy> Inner<T, N, A> {
         ensures { Answers NoClone self.old call.ActivateCloned (reply.ActivateCloned result)
             self.new }
     {
-        let was_blocked = !self.parts.is_ready();
         let made = self.parts.activate_cloned();
-        self.parts.tell_if_ready(was_blocked);
+        self.parts.tell_a_sender();
         made
     }
 
@@ -132,9 +126,8 @@ impl<T: Drop, N: Notice, A: Allocator + Copy> Inner<T, N, A> {
         ensures { Answers NoClone self.old (call.CloneReceiver key) (reply.CloneReceiver result)
             self.new }
     {
-        let was_blocked = !self.parts.is_ready();
         let made = self.parts.clone_receiver(key);
-        self.parts.tell_if_ready(was_blocked);
+        self.parts.tell_a_sender();
         made
     }
 
@@ -144,9 +137,8 @@ impl<T: Drop, N: Notice, A: Allocator + Copy> Inner<T, N, A> {
     pub fn drop_sender(&mut self)
         ensures { Answers NoClone self.old call.DropSender reply.DropSender self.new }
     {
-        let was_blocked = !self.parts.is_ready();
         self.parts.drop_sender();
-        self.parts.tell_if_ready(was_blocked);
+        self.parts.tell_a_sender();
     }
 
     /// Counts one inactive receiver less. If neither an inactive nor an active one is left, the
@@ -156,9 +148,8 @@ impl<T: Drop, N: Notice, A: Allocator + Copy> Inner<T, N, A> {
     pub fn drop_inactive(&mut self)
         ensures { Answers NoClone self.old call.DropInactive reply.DropInactive self.new }
     {
-        let was_blocked = !self.parts.is_ready();
         self.parts.drop_inactive();
-        self.parts.tell_if_ready(was_blocked);
+        self.parts.tell_a_sender();
     }
 
     /// Takes the receiver of this key out: its stream and its future wait no more, and the messages
@@ -169,8 +160,7 @@ impl<T: Drop, N: Notice, A: Allocator + Copy> Inner<T, N, A> {
     pub fn drop_receiver(&mut self, key: usize)
         ensures { Answers NoClone self.old (call.DropReceiver key) reply.DropReceiver self.new }
     {
-        let was_blocked = !self.parts.is_ready();
         self.parts.drop_receiver(key);
-        self.parts.tell_if_ready(was_blocked);
+        self.parts.tell_a_sender();
     }
 }

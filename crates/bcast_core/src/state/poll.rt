@@ -1,8 +1,9 @@
 //! Receiving by a future or a stream, which wait if there is nothing.
-ghost use Rattle.std.specs.Prelude.{◌≡◌, ◌+◌, not, Ok, Err, IfOk, IfErr, IsOk};
+ghost use Rattle.std.specs.Prelude.{◌≡◌, ◌+◌, true, false, Ok, Err, IfOk, IfErr, OnErr, IsOk};
 ghost use Rattle.bcast_model.specs.Legal.{NoClone};
 ghost use Rattle.bcast_model.specs.Answers.{Answers};
 ghost use Rattle.bcast_model.specs.ListenerId.{stream_of};
+ghost use Rattle.bcast_model.specs.PollLaws.{must_wait};
 ghost use Rattle.bcast_model.specs.Receiving;
 ghost use Rattle.bcast_core.specs.Tries.{tries_of};
 ghost use Rattle.bcast_model.specs.declared.run.Call.TheVariants as call;
@@ -12,14 +13,14 @@ use super::Inner;
 use crate::tries::Steps;
 use bcast_model::error::{RecvError, TryRecvError};
 use bcast_model::listener::Kind;
-use bcast_waiting::notice::Notice;
+use bcast_waiting::notice::{Given, MakesNotice, Notice, Refused};
 use futures::task::Poll;
 use std::alloc::{AllocError, Allocator};
 use std::sync::ledger::Ledger;
 
 // What `try_recv` answered, as a future's answer.
 #[inline(always)]
-pub(super) fn future_reply<T: Drop>(
+fn future_reply<T: Drop>(
     received: Result<Result<T, TryRecvError>, AllocError>,
 ) -> Result<Poll<Result<T, RecvError>>, AllocError>
     ensures ok { IfOk received (λ answer. result ≡ Ok (Receiving.future_reply answer)) }
@@ -35,7 +36,7 @@ pub(super) fn future_reply<T: Drop>(
 
 // The same as the answer of `poll_recv`.
 #[inline(always)]
-pub(super) fn stream_reply<T: Drop>(
+fn stream_reply<T: Drop>(
     received: Result<Result<T, TryRecvError>, AllocError>,
 ) -> Result<Poll<Option<Result<T, RecvError>>>, AllocError>
     ensures ok { IfOk received (λ answer. result ≡ Ok (Receiving.stream_reply answer)) }
@@ -51,7 +52,7 @@ pub(super) fn stream_reply<T: Drop>(
 
 // The same as the answer of `poll_next`, if so many messages were skipped.
 #[inline(always)]
-pub(super) fn next_reply<T: Drop>(
+fn next_reply<T: Drop>(
     skips: u64,
     received: Result<Result<T, TryRecvError>, AllocError>,
 ) -> Result<Poll<Option<(T, u64)>>, AllocError>
@@ -87,11 +88,37 @@ impl<T: Clone, N: Notice, A: Allocator + Copy> Inner<T, N, A> {
         ensures sure { ((msg : T) → T.is_infallible msg) → IsOk result }
         ensures steps { steps.new ≡ steps.old + 1 }
     {
-        let was_blocked = !self.parts.is_ready();
+        match self.poll_future_by(key, &mut Given::new(notice), steps) {
+            Ok(answer) => answer,
+            Err(_) => unreachable!(),
+        }
+    }
+
+    // The same with what makes the notice, if the receive must wait. `Refused`: no notice was made,
+    // and nothing changed.
+    #[inline(always)]
+    pub(crate) fn poll_future_by<L: Ledger, M: MakesNotice<N>>(
+        &mut self,
+        key: usize,
+        maker: &mut M,
+        steps: &mut Steps<L>,
+    ) -> Result<Result<Poll<Result<T, RecvError>>, AllocError>, Refused>
+        ensures answers { IfOk result (λ answer. Answers T.is_clone self.old (call.PollFuture key)
+            (reply.PollFuture answer) self.new) }
+        ensures sure { ((msg : T) → T.is_infallible msg) → IfOk result IsOk }
+
+        ensures made { IfOk result (λ answer. must_wait (reply.PollFuture answer) ≡ true
+            → M.made maker.old maker.new) }
+        ensures idle { IfOk result (λ answer. must_wait (reply.PollFuture answer) ≡ false
+            → maker.new ≡ maker.old) }
+        ensures same { OnErr result (self.new ≡ self.old) }
+        ensures refused { OnErr result (M.refused maker.old maker.new) }
+
+        ensures steps { steps.new ≡ steps.old + 1 }
+    {
         let at = self.parts.cursor(key);
-        let received = self.parts.poll(key, Kind::Future, at, notice, steps);
-        self.parts.tell_if_ready(was_blocked);
-        future_reply(received)
+        let received = self.parts.poll(key, Kind::Future, at, maker, steps)?;
+        Ok(future_reply(received))
     }
 
     /// Receives as `try_recv` does, by the stream. `Ready(None)` says that everything was read and
@@ -114,11 +141,37 @@ impl<T: Clone, N: Notice, A: Allocator + Copy> Inner<T, N, A> {
         ensures sure { ((msg : T) → T.is_infallible msg) → IsOk result }
         ensures steps { steps.new ≡ steps.old + tries_of self.old.control (stream_of key) }
     {
-        let was_blocked = !self.parts.is_ready();
+        match self.poll_recv_by(key, &mut Given::new(notice), steps) {
+            Ok(answer) => answer,
+            Err(_) => unreachable!(),
+        }
+    }
+
+    // The same with what makes the notice, if the receive must wait. `Refused`: no notice was made,
+    // and nothing changed.
+    #[inline(always)]
+    pub(crate) fn poll_recv_by<L: Ledger, M: MakesNotice<N>>(
+        &mut self,
+        key: usize,
+        maker: &mut M,
+        steps: &mut Steps<L>,
+    ) -> Result<Result<Poll<Option<Result<T, RecvError>>>, AllocError>, Refused>
+        ensures answers { IfOk result (λ answer. Answers T.is_clone self.old (call.PollRecv key)
+            (reply.PollRecv answer) self.new) }
+        ensures sure { ((msg : T) → T.is_infallible msg) → IfOk result IsOk }
+
+        ensures made { IfOk result (λ answer. must_wait (reply.PollRecv answer) ≡ true
+            → M.made maker.old maker.new) }
+        ensures idle { IfOk result (λ answer. must_wait (reply.PollRecv answer) ≡ false
+            → maker.new ≡ maker.old) }
+        ensures same { OnErr result (self.new ≡ self.old) }
+        ensures refused { OnErr result (M.refused maker.old maker.new) }
+
+        ensures steps { steps.new ≡ steps.old + tries_of self.old.control (stream_of key) }
+    {
         let at = self.parts.cursor(key);
-        let received = self.parts.poll_stream(key, at, notice, steps);
-        self.parts.tell_if_ready(was_blocked);
-        stream_reply(received)
+        let received = self.parts.poll(key, Kind::Stream, at, maker, steps)?;
+        Ok(stream_reply(received))
     }
 
     /// The same, but what the receiver missed is skipped in this call: the number beside the
@@ -140,11 +193,37 @@ impl<T: Clone, N: Notice, A: Allocator + Copy> Inner<T, N, A> {
         ensures sure { ((msg : T) → T.is_infallible msg) → IsOk result }
         ensures steps { steps.new ≡ steps.old + tries_of self.old.control (stream_of key) }
     {
-        let was_blocked = !self.parts.is_ready();
+        match self.poll_next_by(key, &mut Given::new(notice), steps) {
+            Ok(answer) => answer,
+            Err(_) => unreachable!(),
+        }
+    }
+
+    // The same with what makes the notice, if the receive must wait. `Refused`: no notice was made,
+    // and nothing changed.
+    #[inline(always)]
+    pub(crate) fn poll_next_by<L: Ledger, M: MakesNotice<N>>(
+        &mut self,
+        key: usize,
+        maker: &mut M,
+        steps: &mut Steps<L>,
+    ) -> Result<Result<Poll<Option<(T, u64)>>, AllocError>, Refused>
+        ensures answers { IfOk result (λ answer. Answers T.is_clone self.old (call.PollNext key)
+            (reply.PollNext answer) self.new) }
+        ensures sure { ((msg : T) → T.is_infallible msg) → IfOk result IsOk }
+
+        ensures made { IfOk result (λ answer. must_wait (reply.PollNext answer) ≡ true
+            → M.made maker.old maker.new) }
+        ensures idle { IfOk result (λ answer. must_wait (reply.PollNext answer) ≡ false
+            → maker.new ≡ maker.old) }
+        ensures same { OnErr result (self.new ≡ self.old) }
+        ensures refused { OnErr result (M.refused maker.old maker.new) }
+
+        ensures steps { steps.new ≡ steps.old + tries_of self.old.control (stream_of key) }
+    {
         let (at, skips) = self.parts.skipped_to(key);
-        let received = self.parts.poll_stream(key, at, notice, steps);
-        self.parts.tell_if_ready(was_blocked);
-        next_reply(skips, received)
+        let received = self.parts.poll(key, Kind::Stream, at, maker, steps)?;
+        Ok(next_reply(skips, received))
     }
 }
 
@@ -156,8 +235,16 @@ impl<T: Drop, N: Notice, A: Allocator + Copy> Inner<T, N, A> {
     pub fn end_future(&mut self, key: usize)
         ensures { Answers NoClone self.old (call.EndFuture key) reply.EndFuture self.new }
     {
-        let was_blocked = !self.parts.is_ready();
-        self.parts.pair_ended(key, Kind::Future);
-        self.parts.tell_if_ready(was_blocked);
+        let _ = self.take_future(key);
+    }
+
+    /// Gives up the future of the receiver of this key, as `end_future` does, and returns its
+    /// notice if it waited.
+    pub fn take_future(&mut self, key: usize) -> Option<N>
+        ensures { Answers NoClone self.old (call.EndFuture key) reply.EndFuture self.new }
+    {
+        let notice = self.parts.pair_ended(key, Kind::Future);
+        self.parts.tell_a_sender();
+        notice
     }
 }

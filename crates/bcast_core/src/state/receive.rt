@@ -36,84 +36,8 @@ impl<T: Clone, N: Notice, A: Allocator + Copy> Inner<T, N, A> {
         // If no clone fails, there is a message.
         ensures sure { ((msg : T) → T.is_infallible msg) → IsOk result }
     {
-        self.try_recv_uncounted::<Brand>(key, Blank::new(1))
-    }
-
-    // The same, with steps that nobody counts.
-    #[inline(always)]
-    fn try_recv_uncounted<L: Ledger>(
-        &mut self,
-        key: usize,
-        blank: Blank,
-    ) -> Result<Result<T, TryRecvError>, AllocError>
-        requires name { blank.name ≡ L.name }
-        requires parts { blank.parts ≡ L.parts }
-        requires some { 0 < blank.parts }
-        ensures answers { Answers T.is_clone self.old (call.TryRecv key) (reply.TryRecv result)
-            self.new }
-        ensures sure { ((msg : T) → T.is_infallible msg) → IsOk result }
-    {
-        if self.no_send_waits() {
-            return self.receive_alone::<L>(key, blank);
-        }
-        let mut steps = Steps::<L>::new(blank);
-        self.receive_and_tell(key, &mut steps)
-    }
-
-    /// Whether no send waits.
-    #[inline(always)]
-    pub fn no_send_waits(&self) -> bool
-        ensures { (result ≡ true) ↔ (self.now.control.waiting_sends ≡ no_listeners) }
-    {
-        self.parts.no_send_waits()
-    }
-
-    /// Receives as `try_recv` does, while no send waits: so it calls no notice.
-    #[inline(always)]
-    pub fn try_recv_alone(&mut self, key: usize) -> Result<Result<T, TryRecvError>, AllocError>
-        requires { self.old.control.waiting_sends ≡ no_listeners }
-        ensures answers { Answers T.is_clone self.old (call.TryRecv key) (reply.TryRecv result)
-            self.new }
-        ensures sure { ((msg : T) → T.is_infallible msg) → IsOk result }
-    {
-        self.receive_alone::<Brand>(key, Blank::new(1))
-    }
-
-    // The same, with steps that nobody counts.
-    #[inline(always)]
-    fn receive_alone<L: Ledger>(
-        &mut self,
-        key: usize,
-        blank: Blank,
-    ) -> Result<Result<T, TryRecvError>, AllocError>
-        requires alone { self.old.control.waiting_sends ≡ no_listeners }
-        requires name { blank.name ≡ L.name }
-        requires parts { blank.parts ≡ L.parts }
-        requires some { 0 < blank.parts }
-        ensures answers { Answers T.is_clone self.old (call.TryRecv key) (reply.TryRecv result)
-            self.new }
-        ensures sure { ((msg : T) → T.is_infallible msg) → IsOk result }
-    {
-        let mut steps = Steps::<L>::new(blank);
-        let at = self.parts.cursor(key);
-        self.parts.receive(key, at, &mut steps)
-    }
-
-    // The same while a send waits.
-    #[inline(never)]
-    fn receive_and_tell<L: Ledger>(
-        &mut self,
-        key: usize,
-        steps: &mut Steps<L>,
-    ) -> Result<Result<T, TryRecvError>, AllocError>
-        ensures answers { Answers T.is_clone self.old (call.TryRecv key) (reply.TryRecv result)
-            self.new }
-        ensures sure { ((msg : T) → T.is_infallible msg) → IsOk result }
-    {
-        let was_blocked = !self.parts.is_ready();
-        let at = self.parts.cursor(key);
-        let received = self.parts.receive(key, at, steps);
-        self.parts.tell_if_ready(was_blocked);
+        let received = self.parts.try_receive::<Brand>(key, Blank::new(1));
+        self.parts.tell_a_sender();
         received
     }
 }

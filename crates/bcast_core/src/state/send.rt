@@ -1,15 +1,18 @@
 //! Sending, at once or by a pending send.
+ghost use Rattle.std.specs.Prelude.{◌≡◌, true, false, IfOk, IfErr, OnErr};
 ghost use Rattle.bcast_model.specs.Legal.{NoClone};
 ghost use Rattle.bcast_model.specs.SendAll.{in_lists};
 ghost use Rattle.bcast_model.specs.Answers.{Answers};
+ghost use Rattle.bcast_model.specs.PollLaws.{must_wait};
 ghost use Rattle.bcast_model.specs.declared.run.Call.TheVariants as call;
 ghost use Rattle.bcast_model.specs.declared.run.Reply.TheVariants as reply;
 
 use super::Inner;
+use crate::parts::is_accepted;
 use bcast_model::error::TrySendError;
 use bcast_model::messages::{Messages, in_vec};
 use bcast_model::run::SendPoll;
-use bcast_waiting::notice::Notice;
+use bcast_waiting::notice::{Given, MakesNotice, Notice};
 use std::alloc::{AllocError, Allocator};
 
 impl<T: Drop, N: Notice, A: Allocator + Copy> Inner<T, N, A> {
@@ -32,21 +35,8 @@ impl<T: Drop, N: Notice, A: Allocator + Copy> Inner<T, N, A> {
         ensures { Answers NoClone self.old (call.TryBroadcast msg) (reply.TryBroadcast result)
             self.new }
     {
-        if self.parts.no_send_waits() {
-            return self.parts.offer(msg);
-        }
-        self.offer_and_tell(msg)
-    }
-
-    // The same while a send waits.
-    #[inline(never)]
-    fn offer_and_tell(&mut self, msg: T) -> Result<Option<T>, TrySendError<T>>
-        ensures { Answers NoClone self.old (call.TryBroadcast msg) (reply.TryBroadcast result)
-            self.new }
-    {
-        let was_blocked = !self.parts.is_ready();
         let sent = self.parts.offer(msg);
-        self.parts.tell_if_ready(was_blocked);
+        self.parts.tell_of_message(sent.is_ok());
         sent
     }
 
@@ -69,20 +59,17 @@ impl<T: Drop, N: Notice, A: Allocator + Copy> Inner<T, N, A> {
         ensures { Answers NoClone self.old (call.TryBroadcastAll msgs.items)
             (reply.TryBroadcastAll (in_lists result)) self.new }
     {
-        in_vec(self.offer_all_and_tell(Messages::new(msgs)))
+        in_vec(self.offer_all(Messages::new(msgs)))
     }
 
     // The same for messages that are seen as their list.
-    pub(crate) fn offer_all_and_tell(
-        &mut self,
-        msgs: Messages<T>,
-    ) -> Result<(), TrySendError<Messages<T>>>
+    pub(crate) fn offer_all(&mut self, msgs: Messages<T>) -> Result<(), TrySendError<Messages<T>>>
         ensures { Answers NoClone self.old (call.TryBroadcastAll msgs)
             (reply.TryBroadcastAll result) self.new }
     {
-        let was_blocked = !self.parts.is_ready();
+        let end = self.parts.end();
         let sent = self.parts.offer_all(msgs);
-        self.parts.tell_if_ready(was_blocked);
+        self.parts.tell_of_message(self.parts.end() != end);
         sent
     }
 
@@ -98,9 +85,8 @@ impl<T: Drop, N: Notice, A: Allocator + Copy> Inner<T, N, A> {
         ensures { Answers NoClone self.old (call.AttemptSend msg) (reply.AttemptSend result)
             self.new }
     {
-        let was_blocked = !self.parts.is_ready();
         let sent = self.parts.attempt(msg);
-        self.parts.tell_if_ready(was_blocked);
+        self.parts.tell_of_message(is_accepted(&sent));
         sent
     }
 
@@ -110,12 +96,12 @@ impl<T: Drop, N: Notice, A: Allocator + Copy> Inner<T, N, A> {
     /// # Errors
     ///
     /// `AllocError`: memory for it was refused, and nothing changed.
+    #[inline(always)]
     pub fn begin_send(&mut self) -> Result<usize, AllocError>
         ensures { Answers NoClone self.old call.BeginSend (reply.BeginSend result) self.new }
     {
-        let was_blocked = !self.parts.is_ready();
         let begun = self.parts.begin_send();
-        self.parts.tell_if_ready(was_blocked);
+        self.parts.tell_a_sender();
         begun
     }
 
@@ -131,10 +117,33 @@ impl<T: Drop, N: Notice, A: Allocator + Copy> Inner<T, N, A> {
         ensures { Answers NoClone self.old (call.PollSend place msg) (reply.PollSend result)
             self.new }
     {
-        let is_answered = self.parts.answers_send(place);
-        let sent = self.parts.poll_send(place, msg, notice);
-        self.parts.tell_if_ready(is_answered);
-        sent
+        match self.poll_send_by(place, msg, &mut Given::new(notice)) {
+            Ok(sent) => sent,
+            Err(_) => unreachable!(),
+        }
+    }
+
+    // The same with what makes the notice, if the send must wait. The message comes back if no
+    // notice was made, and then nothing changed.
+    #[inline(always)]
+    pub(crate) fn poll_send_by<M: MakesNotice<N>>(
+        &mut self,
+        place: usize,
+        msg: T,
+        maker: &mut M,
+    ) -> Result<SendPoll<T>, T>
+        ensures answers { IfOk result (λ sent. Answers NoClone self.old (call.PollSend place msg)
+            (reply.PollSend sent) self.new) }
+
+        ensures made { IfOk result (λ sent. must_wait (reply.PollSend sent) ≡ true
+            → M.made maker.old maker.new) }
+        ensures idle { IfOk result (λ sent. must_wait (reply.PollSend sent) ≡ false
+            → maker.new ≡ maker.old) }
+        ensures back { IfErr result (λ back. back ≡ msg) }
+        ensures same { OnErr result (self.new ≡ self.old) }
+        ensures refused { OnErr result (M.refused maker.old maker.new) }
+    {
+        self.parts.poll_send(place, msg, maker)
     }
 
     /// Gives up the pending send of this place. If it was told, the next one that waits is told in
@@ -144,8 +153,7 @@ impl<T: Drop, N: Notice, A: Allocator + Copy> Inner<T, N, A> {
     pub fn end_send(&mut self, place: usize)
         ensures { Answers NoClone self.old (call.EndSend place) reply.EndSend self.new }
     {
-        let was_blocked = !self.parts.is_ready();
         self.parts.place_ended(place);
-        self.parts.tell_if_ready(was_blocked);
+        self.parts.tell_a_sender();
     }
 }

@@ -18,10 +18,9 @@ impl<T: Drop, N: Notice, A: Allocator + Copy> Inner<T, N, A> {
     pub fn close(&mut self) -> bool
         ensures { Answers NoClone self.old call.Close (reply.Close result) self.new }
     {
-        let was_blocked = !self.parts.is_ready();
         let was_open = !self.parts.is_closed();
         self.parts.close();
-        self.parts.tell_if_ready(was_blocked);
+        self.parts.tell_a_sender();
         was_open
     }
 
@@ -39,9 +38,8 @@ impl<T: Drop, N: Notice, A: Allocator + Copy> Inner<T, N, A> {
         ensures { Answers NoClone self.old (call.SetCapacity n) (reply.SetCapacity result)
             self.new }
     {
-        let was_blocked = !self.parts.is_ready();
         let set = self.parts.set_capacity(n);
-        self.parts.tell_if_ready(was_blocked);
+        self.parts.tell_a_sender();
         set
     }
 
@@ -51,9 +49,8 @@ impl<T: Drop, N: Notice, A: Allocator + Copy> Inner<T, N, A> {
     pub fn set_overflow(&mut self, on: bool)
         ensures { Answers NoClone self.old (call.SetOverflow on) reply.SetOverflow self.new }
     {
-        let was_blocked = !self.parts.is_ready();
         self.parts.set_overflow(on);
-        self.parts.tell_if_ready(was_blocked);
+        self.parts.tell_a_sender();
     }
 
     /// Sets whether sends wait while there is no active receiver.
@@ -62,8 +59,7 @@ impl<T: Drop, N: Notice, A: Allocator + Copy> Inner<T, N, A> {
     pub fn set_await_active(&mut self, on: bool)
         ensures { Answers NoClone self.old (call.SetAwaitActive on) reply.SetAwaitActive self.new }
     {
-        let was_blocked = !self.parts.is_ready();
         self.parts.set_await_active(on);
-        self.parts.tell_if_ready(was_blocked);
+        self.parts.tell_a_sender();
     }
 }

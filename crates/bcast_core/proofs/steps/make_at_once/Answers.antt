@@ -9,7 +9,7 @@ pub returns-in-TryBroadcast-clause-answers : goal.returns-in-TryBroadcast-clause
 returns-in-TryBroadcast-clause-answers g c = named c.in-TryBroadcast.is (answers_any c.try_broadcast.ensures)
 
 pub returns-in-TryBroadcastAll-clause-answers : goal.returns-in-TryBroadcastAll-clause-answers
-returns-in-TryBroadcastAll-clause-answers g c = named c.in-TryBroadcastAll.is (answers_any c.offer_all_and_tell.ensures)
+returns-in-TryBroadcastAll-clause-answers g c = named c.in-TryBroadcastAll.is (answers_any c.offer_all.ensures)
 
 pub returns-in-AttemptSend-clause-answers : goal.returns-in-AttemptSend-clause-answers
 returns-in-AttemptSend-clause-answers g c = named c.in-AttemptSend.is (answers_any c.attempt_send.ensures)

@@ -6,20 +6,20 @@ use Rattle.bcast_core.proofs.steps.make_call.Goals as goal
 pub returns-in-BeginSend-clause-answers : goal.returns-in-BeginSend-clause-answers
 returns-in-BeginSend-clause-answers g c = named c.in-BeginSend.is (answers_any c.begin_send.ensures)
 
-pub returns-in-PollSend-clause-answers : goal.returns-in-PollSend-clause-answers
-returns-in-PollSend-clause-answers g c = named c.in-PollSend.is (answers_any c.poll_send.ensures)
+pub returns-in-Ok-clause-answers : goal.returns-in-Ok-clause-answers
+returns-in-Ok-clause-answers g c = named c.in-PollSend.is (answers_any c.in-Ok.ensures.answers)
 
 pub returns-in-EndSend-clause-answers : goal.returns-in-EndSend-clause-answers
 returns-in-EndSend-clause-answers g c = named c.in-EndSend.is (answers_any c.end_send.ensures)
 
-pub returns-in-PollFuture-clause-answers : goal.returns-in-PollFuture-clause-answers
-returns-in-PollFuture-clause-answers g c = named c.in-PollFuture.is c.poll_future.ensures.answers
+pub returns-in-Ok-poll_future_by-clause-answers : goal.returns-in-Ok-poll_future_by-clause-answers
+returns-in-Ok-poll_future_by-clause-answers g c = named c.in-PollFuture.is c.in-Ok-poll_future_by.ensures.answers
 
 pub returns-in-EndFuture-clause-answers : goal.returns-in-EndFuture-clause-answers
 returns-in-EndFuture-clause-answers g c = named c.in-EndFuture.is (answers_any c.end_future.ensures)
 
-pub returns-in-PollRecv-clause-answers : goal.returns-in-PollRecv-clause-answers
-returns-in-PollRecv-clause-answers g c = named c.in-PollRecv.is c.poll_recv.ensures.answers
+pub returns-in-Ok-poll_recv_by-clause-answers : goal.returns-in-Ok-poll_recv_by-clause-answers
+returns-in-Ok-poll_recv_by-clause-answers g c = named c.in-PollRecv.is c.in-Ok-poll_recv_by.ensures.answers
 
-pub returns-in-PollNext-clause-answers : goal.returns-in-PollNext-clause-answers
-returns-in-PollNext-clause-answers g c = named c.in-PollNext.is c.poll_next.ensures.answers
+pub returns-in-Ok-poll_next_by-clause-answers : goal.returns-in-Ok-poll_next_by-clause-answers
+returns-in-Ok-poll_next_by-clause-answers g c = named c.in-PollNext.is c.in-Ok-poll_next_by.ensures.answers

@@ -6,6 +6,6 @@ use Rattle.bcast_threads.proofs.work.received.Given as goal
 abbrev pub invariant-loop : goal.invariant-loop
 invariant-loop g l = record {
   count : vec_len l.list ≡ l.counter;
-  received : WereReceived (g.P.Ask.gave l.receiver.port) l.receiver.key l.list.items;
+  received : WereReceived (g.P.Ask.gave l.receiver.port) l.receiver.role.key l.list.items;
   same : l.receiver ≡ l.initial.receiver;
 }

@@ -1,13 +1,13 @@
-use Rattle.std.proofs.Common.{not, ◌^◌, ap}
-use Rattle.bcast_model.proofs.Answers.{answers_as, shown_after}
-use Rattle.bcast_core.proofs.Does.{valid_shown, told, fits_told}
+use Rattle.bcast_model.proofs.Answers.{shown_after}
+use Rattle.bcast_core.proofs.Does.{valid_shown}
+use Rattle.bcast_core.proofs.Tail.{ends}
 use Rattle.bcast_core.proofs.state.Inner.activate.Goals as goal
 
 pub activate-made-requires : goal.activate-made-requires
 activate-made-requires g c = valid_shown c.self.invariant
 
 pub returns : goal.returns
-returns g c = answers_as c.self.view_is (fits_told _ c.activate-made.new.self c.tell_if_ready.new.self (2 ^ 64) c.tell_if_ready.ensures c.activate-made.ensures.fits) c.self.invariant (told (not c.is_ready-was_blocked.result) (ap not c.is_ready-was_blocked.ensures) c.activate-made.ensures.does c.tell_if_ready.ensures)
+returns g c = ends c.self.view_is c.self.invariant c.activate-made.ensures.fits c.activate-made.ensures.does c.tell_a_sender.ensures
 
 pub invariant_of-self : goal.invariant_of-self
 invariant_of-self g c = shown_after (returns g c)

@@ -1,14 +1,17 @@
-use Rattle.std.proofs.Common.{not, ap}
+use Rattle.std.proofs.Common.{true, ap, ◌∙◌}
+use Rattle.bcast_model.specs.Next.{tell_if_ready}
+use Rattle.bcast_core.specs.Telling.{tell_news}
 use Rattle.bcast_model.specs.declared.run.Reply.TheVariants as reply
-use Rattle.bcast_model.proofs.Answers.{answers_as, shown_after}
-use Rattle.bcast_core.proofs.Does.{valid_shown, told}
+use Rattle.bcast_model.proofs.Answers.{shown_after}
+use Rattle.bcast_core.proofs.Does.{valid_shown}
+use Rattle.bcast_core.proofs.Tail.{ends}
 use Rattle.bcast_core.proofs.state.Inner.attempt_send.Goals as goal
 
 pub attempt-sent-requires : goal.attempt-sent-requires
 attempt-sent-requires g c = valid_shown c.self.invariant
 
 pub returns : goal.returns
-returns g c = answers_as c.self.view_is tt c.self.invariant (told (not c.is_ready-was_blocked.result) (ap not c.is_ready-was_blocked.ensures) (record { legal = ap reply.AttemptSend c.attempt-sent.ensures.reply; effect = c.attempt-sent.ensures.effect }) c.tell_if_ready.ensures)
+returns g c = ends c.self.view_is c.self.invariant tt (record { legal = ap reply.AttemptSend c.attempt-sent.ensures.reply; effect = c.attempt-sent.ensures.effect }) (c.tell_of_message.ensures ∙ ap (λ b. tell_if_ready true (tell_news b c.attempt-sent.new.self)) c.is_accepted.ensures)
 
 pub invariant_of-self : goal.invariant_of-self
 invariant_of-self g c = shown_after (returns g c)

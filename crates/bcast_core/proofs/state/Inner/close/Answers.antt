@@ -1,13 +1,14 @@
 use Rattle.std.proofs.Common.{not, refl, ap}
 use Rattle.bcast_model.specs.declared.run.Reply.TheVariants as reply
 use Rattle.bcast_model.specs.Control.{close}
-use Rattle.bcast_model.proofs.Answers.{answers_as, shown_after}
+use Rattle.bcast_model.proofs.Answers.{shown_after}
 use Rattle.bcast_core.proofs.Settle.{low_close}
-use Rattle.bcast_core.proofs.Does.{valid_shown, told, does_sets}
+use Rattle.bcast_core.proofs.Does.{valid_shown, does_sets}
+use Rattle.bcast_core.proofs.Tail.{ends}
 use Rattle.bcast_core.proofs.state.Inner.close.Goals as goal
 
 pub returns : goal.returns
-returns g c = answers_as c.self.view_is tt c.self.invariant (told (not c.is_ready-was_blocked.result) (ap not c.is_ready-was_blocked.ensures) (does_sets (close c.self.inside.parts.control) (ap (λ b. reply.Close (not b)) c.is_closed-was_open.ensures) refl (low_close c.self.inside.parts (valid_shown c.self.invariant).low) c.close.ensures) c.tell_if_ready.ensures)
+returns g c = ends c.self.view_is c.self.invariant tt (does_sets (close c.self.inside.parts.control) (ap (λ b. reply.Close (not b)) c.is_closed-was_open.ensures) refl (low_close c.self.inside.parts (valid_shown c.self.invariant).low) c.close.ensures) c.tell_a_sender.ensures
 
 pub invariant_of-self : goal.invariant_of-self
 invariant_of-self g c = shown_after (returns g c)

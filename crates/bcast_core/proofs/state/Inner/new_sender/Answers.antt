@@ -1,13 +1,13 @@
-use Rattle.std.proofs.Common.{not, ap}
-use Rattle.bcast_model.proofs.Answers.{answers_as, shown_after}
-use Rattle.bcast_core.proofs.Does.{valid_shown, told}
+use Rattle.bcast_model.proofs.Answers.{shown_after}
+use Rattle.bcast_core.proofs.Does.{valid_shown}
+use Rattle.bcast_core.proofs.Tail.{ends}
 use Rattle.bcast_core.proofs.state.Inner.new_sender.Goals as goal
 
 pub new_sender-made-requires : goal.new_sender-made-requires
 new_sender-made-requires g c = valid_shown c.self.invariant
 
 pub returns : goal.returns
-returns g c = answers_as c.self.view_is tt c.self.invariant (told (not c.is_ready-was_blocked.result) (ap not c.is_ready-was_blocked.ensures) c.new_sender-made.ensures c.tell_if_ready.ensures)
+returns g c = ends c.self.view_is c.self.invariant tt c.new_sender-made.ensures c.tell_a_sender.ensures
 
 pub invariant_of-self : goal.invariant_of-self
 invariant_of-self g c = shown_after (returns g c)

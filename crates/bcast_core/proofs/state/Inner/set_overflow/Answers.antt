@@ -1,10 +1,11 @@
-use Rattle.std.proofs.Common.{not, refl, ap}
-use Rattle.bcast_model.proofs.Answers.{answers_as, shown_after}
-use Rattle.bcast_core.proofs.Does.{valid_shown, told, does_sets}
+use Rattle.std.proofs.Common.{refl}
+use Rattle.bcast_model.proofs.Answers.{shown_after}
+use Rattle.bcast_core.proofs.Does.{valid_shown, does_sets}
+use Rattle.bcast_core.proofs.Tail.{ends}
 use Rattle.bcast_core.proofs.state.Inner.set_overflow.Goals as goal
 
 pub returns : goal.returns
-returns g c = answers_as c.self.view_is tt c.self.invariant (told (not c.is_ready-was_blocked.result) (ap not c.is_ready-was_blocked.ensures) (does_sets (record c.self.inside.parts.control { overflow = c.args.on }) refl refl (valid_shown c.self.invariant).low c.set_overflow.ensures) c.tell_if_ready.ensures)
+returns g c = ends c.self.view_is c.self.invariant tt (does_sets (record c.self.inside.parts.control { overflow = c.args.on }) refl refl (valid_shown c.self.invariant).low c.set_overflow.ensures) c.tell_a_sender.ensures
 
 pub invariant_of-self : goal.invariant_of-self
 invariant_of-self g c = shown_after (returns g c)

@@ -1,20 +1,17 @@
-use Rattle.std.proofs.Common.{refl, sym, ap}
-use Rattle.bcast_model.specs.declared.run.Call.TheVariants as call
+use Rattle.std.proofs.Common.{true, ap, ◌∙◌}
 use Rattle.bcast_model.specs.declared.run.Reply.TheVariants as reply
-use Rattle.bcast_model.specs.Next.{may_tell}
-use Rattle.bcast_model.specs.View.{sends_are_ready}
-use Rattle.bcast_model.proofs.Answers.{answers_as, shown_after}
-use Rattle.bcast_core.proofs.Does.{valid_shown, told}
-use Rattle.bcast_core.proofs.Idle.{told_none, offer_idle}
+use Rattle.bcast_model.specs.Next.{tell_if_ready}
+use Rattle.bcast_model.proofs.Answers.{shown_after}
+use Rattle.bcast_core.specs.Telling.{tell_news}
+use Rattle.bcast_core.proofs.Does.{valid_shown}
+use Rattle.bcast_core.proofs.Tail.{ends}
 use Rattle.bcast_core.proofs.state.Inner.try_broadcast.Goals as goal
 
-pub offer-requires : goal.offer-requires
-offer-requires g c = valid_shown c.self.invariant
+pub offer-sent-requires : goal.offer-sent-requires
+offer-sent-requires g c = valid_shown c.self.invariant
 
-pub returns-then-no_send_waits : goal.returns-then-no_send_waits
-returns-then-no_send_waits g c =
-    let may = may_tell {T = g.row.T.Denot} c.self.inside.parts.control (sends_are_ready c.self.inside.parts) (call.TryBroadcast c.args.msg) in
-    answers_as c.self.view_is tt c.self.invariant (told may refl (record { legal = ap reply.TryBroadcast c.offer.ensures.reply; effect = c.offer.ensures.effect }) (sym (told_none c.offer.new.self may (offer_idle c.self.inside.parts c.offer.new.self c.args.msg c.offer.ensures.effect (c.no_send_waits.ensures.0 c.if-no_send_waits.true)))))
+pub returns : goal.returns
+returns g c = ends c.self.view_is c.self.invariant tt (record { legal = ap reply.TryBroadcast c.offer-sent.ensures.reply; effect = c.offer-sent.ensures.effect }) (c.tell_of_message.ensures ∙ ap (λ b. tell_if_ready true (tell_news b c.offer-sent.new.self)) c.is_ok.ensures.value)
 
 pub invariant_of-self : goal.invariant_of-self
-invariant_of-self g c = shown_after (returns-then-no_send_waits g c)
+invariant_of-self g c = shown_after (returns g c)

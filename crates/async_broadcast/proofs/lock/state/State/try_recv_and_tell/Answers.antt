@@ -1,7 +1,0 @@
--- The reply is one that the channel may give.
-use Rattle.std.proofs.Common.{refl}
-use Rattle.bcast_model.proofs.Answers.{possible}
-use Rattle.async_broadcast.proofs.lock.state.State.try_recv_and_tell.Goals as goal
-
-pub returns-clause-possible : goal.returns-clause-possible
-returns-clause-possible g c = possible refl c.try_recv.ensures.answers

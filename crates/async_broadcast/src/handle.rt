@@ -1,0 +1,77 @@
+//! What all handles are.
+ghost use Rattle.std.specs.Prelude.{◌≡◌};
+
+use crate::port::Ask;
+use crate::wake::WakerSlot;
+use bcast_core::{Call, Reply};
+use std::alloc::{Allocator, Global};
+use std::marker::PhantomData;
+
+mod settings;
+
+/// A handle of a channel: a `Sender`, a `Receiver` or an `InactiveReceiver`, by its role.
+///
+/// Contracts name its `port`, and of a receiver `role.key`.
+pub struct Handle<T: Clone, P: Ask<T, WakerSlot<A>>, K: Role<T>, A: Allocator = Global> {
+    pub(crate) port: P,
+    pub(crate) role: K,
+    // For futures, and for handles made here.
+    pub(crate) alloc: A,
+    messages: PhantomData<T>,
+}
+
+/// What the channel of a handle counts it as.
+pub trait Role<T: Clone>: Sized + Drop {
+    ghost use Rattle.bcast_model.specs.declared.run.Call.{Call};
+    ghost use Rattle.bcast_model.specs.declared.run.Reply.{Reply};
+
+    // What the handle's drop asks.
+    ghost last: { Self → Call T };
+
+    // The reply to it.
+    ghost left: { Reply T };
+
+    /// Asks what the handle's drop asks.
+    fn leave<S, P: Ask<T, S>>(&self, port: &P)
+        ensures { P.gave port.now (last self.now) left };
+}
+
+impl<T: Clone, P: Ask<T, WakerSlot<A>>, K: Role<T>, A: Allocator> Handle<T, P, K, A> {
+    pub(crate) fn new(port: P, role: K, alloc: A) -> Self
+        ensures { (result.port ≡ port) × (result.role ≡ role) }
+    {
+        Handle {
+            port,
+            role,
+            alloc,
+            messages: PhantomData,
+        }
+    }
+
+    // The handle in another role. Asks nothing.
+    pub(crate) fn turned<J: Role<T>>(self, role: J) -> Handle<T, P, J, A>
+        ensures { (result.port ≡ self.port) × (result.role ≡ role) }
+    {
+        let Handle {
+            port,
+            role: _,
+            alloc,
+            messages: _,
+        } = self;
+        Handle::new(port, role, alloc)
+    }
+}
+
+impl<T: Clone, P: Ask<T, WakerSlot<A>>, K: Role<T>, A: Allocator> Drop for Handle<T, P, K, A> {
+    fn drop(self)
+        ensures { P.gave self.port (K.last self.role) K.left }
+    {
+        self.role.leave::<WakerSlot<A>, P>(&self.port);
+        let Handle {
+            port: _,
+            role: _,
+            alloc: _,
+            messages: _,
+        } = self;
+    }
+}

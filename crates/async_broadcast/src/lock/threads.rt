@@ -1,0 +1,174 @@
+//! The threads that wait for the channel, and whom to wake of them.
+ghost use Rattle.std.specs.Prelude.{◌≡◌, true, false, IfSome, IfNone};
+ghost use Rattle.bcast_model.specs.Control.{is_ready};
+ghost use Rattle.bcast_model.specs.View.{is_full};
+ghost use Rattle.async_broadcast.specs.Woken.{HasNoThread, KnowsNews, HasWokenSender, HasWokenReceiver};
+ghost use Rattle.async_broadcast.specs.Woken.{NotesSender, NotesReceiver, MovesReceivers, EndsWait, news_of, one_more, one_less};
+
+use crate::wake::{Wake, WakerSlot};
+use bcast_core::Inner;
+use std::alloc::Allocator;
+
+/// The threads that wait, to send or for a message, and whom to wake of them.
+///
+/// Of each kind at most one is woken at a time. It wakes the next after its own call, so that few
+/// threads want the lock at once.
+#[derive(Drop)]
+pub(super) struct Threads {
+    // How many threads wait to send, and whether one of them was woken and hasn't tried yet.
+    senders: u64,
+    is_sender_woken: bool,
+    // How many threads wait for a message: those that have nothing to receive, and those that have.
+    idle_receivers: u64,
+    due_receivers: u64,
+    // What those that have nothing to receive know (`news`).
+    known: (u64, bool),
+    // Whether one of the others was woken and hasn't tried yet.
+    is_receiver_woken: bool,
+}
+
+/// Whom to wake: a thread that waits to send, one that waits for a message.
+pub(super) struct Woken {
+    pub(super) sender: bool,
+    pub(super) receiver: bool,
+}
+
+impl Threads {
+    /// No thread waits, and none was woken.
+    pub(super) fn none() -> Threads
+        ensures threads { HasNoThread result }
+        ensures sender { result.is_sender_woken ≡ false }
+        ensures receiver { result.is_receiver_woken ≡ false }
+    {
+        Threads {
+            senders: 0,
+            is_sender_woken: false,
+            idle_receivers: 0,
+            due_receivers: 0,
+            known: (0, false),
+            is_receiver_woken: false,
+        }
+    }
+
+    /// Whether no thread waits.
+    #[inline(always)]
+    pub(super) fn is_empty(&self) -> bool
+        ensures { result ≡ true → HasNoThread self.now }
+    {
+        // One test in place of three.
+        (self.senders | self.idle_receivers | self.due_receivers) == 0
+    }
+
+    /// Notes whom the last call on the channel has something for, and returns whom to wake of them.
+    /// `None`: no thread waits.
+    #[inline(always)]
+    pub(super) fn note<T: Clone, A: Allocator + Copy>(
+        &mut self,
+        inner: &Inner<T, Wake<WakerSlot<A>>, A>,
+    ) -> Option<Woken>
+        ensures knows { KnowsNews inner.now self.new }
+        ensures sends { HasWokenSender inner.now self.new }
+        ensures receives { HasWokenReceiver self.new }
+
+        ensures nobody { IfNone result (self.new ≡ self.old) }
+        ensures sender { IfSome result (NotesSender self.old self.new) }
+        ensures receiver { IfSome result (NotesReceiver self.old self.new) }
+        ensures moved { MovesReceivers inner.now self.old self.new }
+        ensures senders { self.new.senders ≡ self.old.senders }
+    {
+        if self.is_empty() {
+            return None;
+        }
+        Some(self.note_call(inner))
+    }
+
+    // In a function of its own, so that a call while no thread waits costs one test.
+    #[inline(never)]
+    fn note_call<T: Clone, A: Allocator + Copy>(
+        &mut self,
+        inner: &Inner<T, Wake<WakerSlot<A>>, A>,
+    ) -> Woken
+        ensures knows { KnowsNews inner.now self.new }
+        ensures sends { HasWokenSender inner.now self.new }
+        ensures receives { HasWokenReceiver self.new }
+        ensures sender { NotesSender self.old self.new result }
+        ensures receiver { NotesReceiver self.old self.new result }
+        ensures moved { MovesReceivers inner.now self.old self.new }
+        ensures senders { self.new.senders ≡ self.old.senders }
+    {
+        let news = news(inner);
+        if news != self.known {
+            self.known = news;
+            self.due_receivers = self.due_receivers.wrapping_add(self.idle_receivers);
+            self.idle_receivers = 0;
+        }
+        let receiver = self.due_receivers > 0 && !self.is_receiver_woken;
+        self.is_receiver_woken |= receiver;
+        let sender = self.senders > 0 && !self.is_sender_woken && sends_are_ready(inner);
+        self.is_sender_woken |= sender;
+        Woken { sender, receiver }
+    }
+
+    /// A thread is about to wait to send.
+    pub(super) fn begin_to_send(&mut self)
+        ensures { self.new ≡ record self.old { senders = one_more self.old.senders } }
+    {
+        self.senders = self.senders.wrapping_add(1);
+    }
+
+    /// A thread that waited to send has tried again.
+    pub(super) fn has_tried_to_send(&mut self)
+        ensures { self.new ≡ record self.old {
+          senders = one_less self.old.senders;
+          is_sender_woken = false;
+        } }
+    {
+        self.senders = self.senders.wrapping_sub(1);
+        self.is_sender_woken = false;
+    }
+
+    /// A thread that has nothing to receive is about to wait for a message. Returns what it knows.
+    pub(super) fn begin_to_receive<T: Clone, A: Allocator + Copy>(
+        &mut self,
+        inner: &Inner<T, Wake<WakerSlot<A>>, A>,
+    ) -> (u64, bool)
+        ensures known { result ≡ news_of inner.now }
+        ensures idle { self.new ≡ record self.old {
+          idle_receivers = one_more self.old.idle_receivers;
+          known = news_of inner.now;
+        } }
+    {
+        self.idle_receivers = self.idle_receivers.wrapping_add(1);
+        self.known = news(inner);
+        self.known
+    }
+
+    /// A thread that began to wait when it knew this much has tried again.
+    pub(super) fn has_tried_to_receive(&mut self, known: (u64, bool))
+        ensures { EndsWait known self.old self.new }
+    {
+        if self.known == known {
+            self.idle_receivers = self.idle_receivers.wrapping_sub(1);
+        } else {
+            self.due_receivers = self.due_receivers.wrapping_sub(1);
+        }
+        self.is_receiver_woken = false;
+    }
+}
+
+// What changes when a receiver that had read everything has something to receive.
+fn news<T: Clone, A: Allocator + Copy>(inner: &Inner<T, Wake<WakerSlot<A>>, A>) -> (u64, bool)
+    ensures { result ≡ news_of inner.now }
+{
+    (inner.end_number(), inner.is_closed())
+}
+
+fn sends_are_ready<T: Clone, A: Allocator + Copy>(inner: &Inner<T, Wake<WakerSlot<A>>, A>) -> bool
+    ensures { result ≡ is_ready inner.now.control (is_full inner.now) }
+{
+    if inner.receiver_count() == 0 {
+        inner.is_closed() || !inner.await_active()
+    } else {
+        inner.is_closed() || inner.overflow() || !inner.is_full()
+    }
+}

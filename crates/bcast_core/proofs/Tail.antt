@@ -1,0 +1,103 @@
+-- The last step of a call, which tells those who wait.
+use Rattle.std.proofs.Common.{◌≡◌, ℕ, ◌+◌, ◌≤◌, ◌==◌, Bool, true, false, not, cond, Option, Some, None, length, min, max, is_ok, refl, sym, ap, ◌∙◌, subst, arith}
+use Rattle.std.proofs.lemmas.Grind.{common_steps}
+use Rattle.std.specs.FinMap.{len}
+use Rattle.bcast_model.specs.declared.error.TrySendError.{TrySendError}
+use Rattle.bcast_model.specs.declared.error.TrySendError.TheVariants as unsent
+use Rattle.bcast_model.specs.declared.run.Call.{Call}
+use Rattle.bcast_model.specs.declared.run.Reply.{Reply}
+use Rattle.bcast_model.specs.Listeners.{Listeners, tell, tell_all}
+use Rattle.bcast_model.specs.ListenerId.{Pair}
+use Rattle.bcast_model.specs.Control.{Cursors, tell_a_sender, pair_waits}
+use Rattle.bcast_model.specs.Effects.{effect}
+use Rattle.bcast_model.specs.Laws.{HasRange, IsValidView}
+use Rattle.bcast_model.specs.Next.{may_tell, tell_if_ready}
+use Rattle.bcast_model.specs.Sending.{reply_to_attempt, reply_to_try}
+use Rattle.bcast_model.specs.Steps.{Steps, settle}
+use Rattle.bcast_model.specs.View.{View, sends_are_ready}
+use Rattle.bcast_model.specs.Answers.{Answers, IsShown}
+use Rattle.bcast_model.proofs.Answers.{answers_as}
+use Rattle.bcast_model.proofs.Calls.{keeps_valid}
+use Rattle.bcast_model.proofs.WaitingSends.{OneIsTold}
+use Rattle.bcast_core.specs.Alone.{NobodyWaits}
+use Rattle.bcast_core.specs.Parts.{Does}
+use Rattle.bcast_core.specs.Telling.{is_accepted, tell_news}
+use Rattle.bcast_core.proofs.Does.{valid_shown}
+use Rattle.bcast_core.proofs.Idle.{told_none}
+
+-- where one is told already, telling one changes nothing
+told_one : (l : Listeners ℕ) → OneIsTold l → tell 1 l ≡ l
+told_one l told =
+    let same : max l.told (min 1 (length l.ids)) ≡ l.told = grind (arith, common_steps, told) in
+    λ i. record l { told = same i }
+
+module _ {T : Type 0} where
+  -- so every call may tell one last: where it needn't, no wake-up is lost
+  tell_once : (may : Bool) (w : View T) → (may ≡ false → sends_are_ready w ≡ true → OneIsTold w.control.waiting_sends) → tell_if_ready true w ≡ tell_if_ready may w
+  tell_once true w told = refl
+  tell_once false w told = elim (sends_are_ready w) as (λ b. sends_are_ready w ≡ b → cond b (record w { control = tell_a_sender w.control }) w ≡ w) [
+    | true ↦ λ ready. (λ i. record w { control = record w.control { waiting_sends = told_one w.control.waiting_sends (told refl ready) i } })
+    | false ↦ λ blocked. refl
+  ] refl
+
+  -- in a valid state nobody is told
+  pub told_valid : (v : View T) → IsValidView v → tell_if_ready true v ≡ v
+  told_valid v valid = tell_once false v (λ _. valid.wake_ups.sends)
+
+  -- nor once a receiver waits in it
+  pub told_waiting : (v : View T) (pair : Pair) → IsValidView v → tell_if_ready true (record v { control = pair_waits v.control pair }) ≡ record v { control = pair_waits v.control pair }
+  told_waiting v pair valid = tell_once false (record v { control = pair_waits v.control pair }) (λ _. valid.wake_ups.sends)
+
+  pub told_last : {is_clone : T → T → Type 0} {old mid new : View T} {c : Call T} {r : Reply T} → IsValidView old → HasRange c (len mid.control.cursors) → Does is_clone old c r mid → new ≡ tell_if_ready true mid → Steps is_clone old c r new
+  told_last {is_clone = is_clone} {old = old} {c = c} {r = r} valid range does new_is =
+      let few = subst (λ (v : View T). HasRange c (len v.control.cursors)) does.effect range in
+      let keeps = keeps_valid is_clone c r old valid few does.legal in
+      record {
+        legal = does.legal;
+        next = new_is ∙ ap (tell_if_ready true) does.effect ∙ tell_once (may_tell old.control (sends_are_ready old) c) (settle old (effect old c r)) keeps.told;
+      }
+
+  cursors_told : (v : View T) → (tell_if_ready true v).control.cursors ≡ v.control.cursors
+  cursors_told v = elim (sends_are_ready v) as (λ b. (cond b (record v { control = tell_a_sender v.control }) v).control.cursors ≡ v.control.cursors) [ true ↦ refl | false ↦ refl ]
+
+  pub ends : {is_clone : T → T → Type 0} {was old mid new : View T} {c : Call T} {r : Reply T} → was ≡ old → IsShown was → HasRange c (len mid.control.cursors) → Does is_clone was c r mid → new ≡ tell_if_ready true mid → Answers is_clone old c r new
+  ends {mid = mid} {c = c} same shown range does new_is =
+      let fits = subst (λ (cursors : Cursors). HasRange c (len cursors)) (sym (ap (λ (v : View T). v.control.cursors) new_is ∙ cursors_told mid)) range in
+      answers_as same fits shown (told_last (valid_shown shown) range does new_is)
+
+  -- where nobody waits nobody is told of a message
+  pub news_alone : (news : Bool) (v : View T) → NobodyWaits v.control → tell_news news v ≡ v
+  news_alone false v alone = refl
+  news_alone true v alone =
+      let receives = ap tell_all alone.receives ∙ sym alone.receives in
+      let sends = ap tell_all alone.sends ∙ sym alone.sends in
+      elim v.control.closed as (λ b. record v { control = cond b (record v.control { waiting_receives = tell_all v.control.waiting_receives; waiting_sends = tell_all v.control.waiting_sends }) (record v.control { waiting_receives = tell_all v.control.waiting_receives }) } ≡ v) [
+        | true ↦ (λ i. record v { control = record v.control { waiting_receives = receives i; waiting_sends = sends i } })
+        | false ↦ (λ i. record v { control = record v.control { waiting_receives = receives i } })
+      ]
+
+  pub tail_alone : (news : Bool) (v : View T) → NobodyWaits v.control → tell_if_ready true (tell_news news v) ≡ v
+  tail_alone news v alone = ap (tell_if_ready true) (news_alone news v alone) ∙ told_none v true alone.sends
+
+  -- an attempt is accepted where the try is
+  pub accepted_same : (await_active : Bool) (back : Option T) (error : Option (TrySendError T)) → is_accepted (reply_to_attempt await_active back error) ≡ is_ok (reply_to_try back error)
+  accepted_same await_active back None = refl
+  accepted_same await_active back (Some (unsent.Closed msg)) = refl
+  accepted_same true back (Some (unsent.Inactive msg)) = refl
+  accepted_same false back (Some (unsent.Inactive msg)) = refl
+  accepted_same await_active back (Some (unsent.Full msg)) = refl
+
+pub same_number : (n : ℕ) → (n == n) ≡ true
+same_number n = grind (arith, common_steps)
+
+pub other_number : (n m more : ℕ) → m ≡ n + more → 1 ≤ more → (m == n) ≡ false
+other_number n m more is some = grind (arith, common_steps, is, some)
+
+module _ {T : Type 0} where
+  -- there are no news where the end is the same
+  pub no_news : (v : View T) → tell_news (not (v.end == v.end)) v ≡ v
+  no_news v = ap (λ b. tell_news (not b) v) (same_number v.end)
+
+  -- and there are where it rose
+  pub some_news : (v new : View T) (more : ℕ) → new.end ≡ v.end + more → 1 ≤ more → tell_news (not (new.end == v.end)) new ≡ tell_news true new
+  some_news v new more is some = ap (λ b. tell_news (not b) new) (other_number v.end new.end more is some)

@@ -1,0 +1,17 @@
+use Rattle.std.proofs.Common.{true, not, ◌==◌, ap, ◌∙◌}
+use Rattle.bcast_model.specs.Next.{tell_if_ready}
+use Rattle.bcast_core.specs.Telling.{tell_news}
+use Rattle.bcast_model.specs.declared.run.Reply.TheVariants as reply
+use Rattle.bcast_model.proofs.Answers.{shown_after}
+use Rattle.bcast_core.proofs.Does.{valid_shown}
+use Rattle.bcast_core.proofs.Tail.{ends}
+use Rattle.bcast_core.proofs.state.Inner.offer_all.Goals as goal
+
+pub offer_all-sent-requires : goal.offer_all-sent-requires
+offer_all-sent-requires g c = valid_shown c.self.invariant
+
+pub returns : goal.returns
+returns g c = ends c.self.view_is c.self.invariant tt (record { legal = ap reply.TryBroadcastAll c.offer_all-sent.ensures.reply; effect = c.offer_all-sent.ensures.effect }) (c.tell_of_message.ensures ∙ (λ i. tell_if_ready true (tell_news (not (c.end.ensures i == c.end-end.ensures i)) c.offer_all-sent.new.self)))
+
+pub invariant_of-self : goal.invariant_of-self
+invariant_of-self g c = shown_after (returns g c)

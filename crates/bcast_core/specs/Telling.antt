@@ -1,0 +1,26 @@
+-- Who is told of a message that was accepted. No public clause cites this module.
+use Rattle.std.specs.Prelude.{Bool, false, is_ok, if◌then◌else◌}
+use Rattle.bcast_model.specs.declared.run.SendPoll.{SendPoll}
+use Rattle.bcast_model.specs.declared.run.SendPoll.TheVariants as send
+use Rattle.bcast_model.specs.Listeners.{tell_all}
+use Rattle.bcast_model.specs.Control.{Control, tell_receivers}
+use Rattle.bcast_model.specs.View.{View}
+
+-- everyone that waits to receive is told; and everyone that waits to send, if the message closed
+-- the channel
+abbrev pub told_of_message : Control → Control
+told_of_message c =
+    if c.closed
+    then record (tell_receivers c) { waiting_sends = tell_all c.waiting_sends }
+    else tell_receivers c
+
+module _ {T : Type 0} where
+  -- what is seen after that, if a message was accepted
+  abbrev pub tell_news : Bool → View T → View T
+  tell_news is_accepted v =
+      if is_accepted then record v { control = told_of_message v.control } else v
+
+  -- whether a send that may wait was accepted
+  abbrev pub is_accepted : SendPoll T → Bool
+  is_accepted (send.Ready answer) = is_ok answer
+  is_accepted (send.Wait msg) = false

@@ -1,0 +1,86 @@
+-- The slot of the listener is left.
+use Rattle.std.proofs.Common.{◌≡◌, ◌<◌, ◌≤◌, ◌-◌, true, false, cond, Some, ltb, sym, ap, ◌∙◌, subst, arith}
+use Rattle.bcast_model.specs.Listeners.{is_in, consume}
+use Rattle.bcast_waiting.specs.Event.{Event, is_told}
+use Rattle.bcast_waiting.specs.EventInvariant.{listeners_of, IsKept}
+use Rattle.bcast_waiting.proofs.Listeners.{is_told_absent, consume_absent}
+use Rattle.bcast_waiting.proofs.EventInvariant.{first_at, told_before, is_told_at, taken, IsKept-left}
+use Rattle.bcast_waiting.proofs.event.Event.take.Goals as goal
+use Rattle.bcast_waiting.proofs.event.Event.take.Goals.{After-take_at-notice}
+
+pub returns-in_default-clause-told : goal.returns-in_default-clause-told
+returns-in_default-clause-told g c =
+    let absent = subst (λ e. is_in g.I.PartialEq.eq c.args.id e.listeners.ids ≡ false) c.self.view_is c.in_default.ensures in
+    is_told_absent g.I.PartialEq.eq c.args.id c.args.self.now.listeners absent
+
+pub returns-in_default-clause-rest : goal.returns-in_default-clause-rest
+returns-in_default-clause-rest g c =
+    let absent = subst (λ e. is_in g.I.PartialEq.eq c.args.id e.listeners.ids ≡ false) c.self.view_is c.in_default.ensures in
+    λ i. record { listeners = sym (consume_absent g.I.PartialEq.eq c.args.id c.args.self.now.listeners absent) i; room = c.args.self.now.room }
+
+pub overflow_sub-self : goal.overflow_sub-self
+overflow_sub-self g c =
+    let at = first_at c.self.invariant g.met.I.Eq.laws c.args.id c.in-Some.position c.in-Some.ensures in
+    omega (arith, at.within, c.self.invariant.counted)
+
+pub overflow_sub-self-then-position-self : goal.overflow_sub-self-then-position-self
+overflow_sub-self-then-position-self g c =
+    let less = told_before c.self.invariant g.met.I.Eq.laws c.args.id c.in-Some.position c.in-Some.ensures c.if-position-self.true in
+    omega (arith, less)
+
+-- how many are told without it
+told_less : (i end told : _) → i < end → told - 1 ≡ cond (ltb i end) (told - 1) told
+told_less i end told h = grind (arith, h)
+
+told_same : (i end told : _) → end ≤ i → told ≡ cond (ltb i end) (told - 1) told
+told_same i end told h = grind (arith, h)
+
+kept : (g : _) (c : After-take_at-notice g) (rest : _) → rest ≡ cond (ltb c.in-Some.position c.self.inside.told_end) (c.self.inside.told - 1) c.self.inside.told → IsKept g.I.PartialEq.eq g.I.Indexed.number c.take_at-notice.new.self (c.self.inside.len - 1) rest c.self.inside.told_end
+kept g c rest is =
+    let e = c.self.inside in
+    subst (λ s. IsKept g.I.PartialEq.eq g.I.Indexed.number s (e.len - 1) rest e.told_end) (sym c.take_at-notice.ensures)
+    (IsKept-left c.self.invariant g.met.I.Eq.laws c.args.id c.in-Some.position c.in-Some.ensures rest is)
+
+-- who is left
+left : (g : _) (c : After-take_at-notice g) (rest : _) → rest ≡ cond (ltb c.in-Some.position c.self.inside.told_end) (c.self.inside.told - 1) c.self.inside.told → ◌≡◌ {A = Event g.row.I.Denot} (record { listeners = listeners_of c.take_at-notice.new.self.ids rest; room = c.take_at-notice.new.self.room }) (record c.args.self.now { listeners = consume g.I.PartialEq.eq c.args.id c.args.self.now.listeners })
+left g c rest is =
+    let e = c.self.inside in
+    let listeners =
+    ap (λ s. listeners_of s.ids rest) c.take_at-notice.ensures
+    ∙ taken c.self.invariant g.met.I.Eq.laws c.args.id c.in-Some.position c.in-Some.ensures rest is in
+    (λ i. record { listeners = listeners i; room = (c.take_at-notice.ensures i).room })
+    ∙ ap (λ (e : Event g.row.I.Denot). record e { listeners = consume g.I.PartialEq.eq c.args.id e.listeners }) c.self.view_is
+
+-- what the result says of the list as it was
+told_then : (g : _) (c : After-take_at-notice g) → Some (ltb c.in-Some.position c.self.inside.told_end) ≡ is_told g.I.PartialEq.eq c.args.id c.args.self.now.listeners
+told_then g c =
+    is_told_at c.self.invariant g.met.I.Eq.laws c.args.id c.in-Some.position c.in-Some.ensures
+    ∙ ap (λ e. is_told g.I.PartialEq.eq c.args.id e.listeners) c.self.view_is
+
+pub invariant_of-self : goal.invariant_of-self
+invariant_of-self g c =
+    kept g (goal.at.invariant_of-self g c).After-take_at-notice _ (told_less c.in-Some.position c.self.inside.told_end c.self.inside.told c.if-position-self.true)
+
+pub invariant_of-self-else-position-self : goal.invariant_of-self-else-position-self
+invariant_of-self-else-position-self g c =
+    kept g (goal.at.invariant_of-self-else-position-self g c).After-take_at-notice _ (told_same c.in-Some.position c.self.inside.told_end c.self.inside.told c.if-position-self.false)
+
+pub returns-then-position-self-clause-told : goal.returns-then-position-self-clause-told
+returns-then-position-self-clause-told g c =
+    let less = c.if-position-self.true in
+    let yes : ltb c.in-Some.position c.self.inside.told_end ≡ true = grind (arith, less) in
+    ap Some (sym yes) ∙ told_then g (goal.at.returns-then-position-self-clause-told g c).After-take_at-notice
+
+pub returns-else-position-self-clause-told : goal.returns-else-position-self-clause-told
+returns-else-position-self-clause-told g c =
+    let more = c.if-position-self.false in
+    let no : ltb c.in-Some.position c.self.inside.told_end ≡ false = grind (arith, more) in
+    ap Some (sym no) ∙ told_then g (goal.at.returns-else-position-self-clause-told g c).After-take_at-notice
+
+pub returns-then-position-self-clause-rest : goal.returns-then-position-self-clause-rest
+returns-then-position-self-clause-rest g c =
+    left g (goal.at.returns-then-position-self-clause-rest g c).After-take_at-notice _ (told_less c.in-Some.position c.self.inside.told_end c.self.inside.told c.if-position-self.true)
+
+pub returns-else-position-self-clause-rest : goal.returns-else-position-self-clause-rest
+returns-else-position-self-clause-rest g c =
+    left g (goal.at.returns-else-position-self-clause-rest g c).After-take_at-notice _ (told_same c.in-Some.position c.self.inside.told_end c.self.inside.told c.if-position-self.false)
