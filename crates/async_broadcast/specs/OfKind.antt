@@ -8,12 +8,9 @@ use Rattle.bcast_model.specs.declared.run.Call.{Call}
 use Rattle.bcast_model.specs.declared.run.Call.TheVariants as call
 use Rattle.bcast_model.specs.declared.run.Reply.{Reply}
 use Rattle.bcast_model.specs.declared.run.Reply.TheVariants as reply
-use Rattle.bcast_model.specs.Control.{Cursors, has_no_receiver, has_place}
-use Rattle.bcast_model.specs.View.{View}
-use Rattle.bcast_model.specs.History.{view_of}
-use Rattle.bcast_model.specs.Sending.{reply_to_attempt, attempt_send_reply}
-use Rattle.bcast_model.specs.Legal.{Legal, IsReceived, IsMade, IsMadeFrom}
-use Rattle.bcast_model.specs.Answers.{IsPossible}
+use Rattle.bcast_model.specs.Words.{Cursors, has_no_receiver, has_place, View, view_of}
+use Rattle.bcast_model.specs.Words.{reply_to_attempt, attempt_send_reply, Legal, IsReceived, IsMade}
+use Rattle.bcast_model.specs.Words.{IsMadeFrom, IsPossible}
 use Rattle.async_broadcast.specs.Kinds.{IsA, HandsBack, IsOfKind}
 
 module _ {T : Type 0} where

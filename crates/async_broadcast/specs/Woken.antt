@@ -1,7 +1,6 @@
 -- Which threads wait for the channel behind a lock, and which of them are woken.
 use Rattle.std.specs.Prelude.{◌≡◌, ℕ, ◌+◌, ◌-◌, ◌%◌, ◌^◌, ◌<◌, ◌||◌, Bool, true, false}
-use Rattle.bcast_model.specs.Control.{is_ready}
-use Rattle.bcast_model.specs.View.{View, is_full}
+use Rattle.bcast_model.specs.Words.{is_ready, View, is_full}
 use Rattle.async_broadcast.specs.declared.lock.threads.Threads.{Threads}
 use Rattle.async_broadcast.specs.declared.lock.threads.Woken.{Woken}
 

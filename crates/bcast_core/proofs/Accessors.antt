@@ -2,17 +2,11 @@
 use Rattle.std.proofs.Common.{◌≡◌, not, sym, ap, ◌∙◌, subst}
 use Rattle.bcast_model.specs.declared.run.Call.{Call}
 use Rattle.bcast_model.specs.declared.run.Reply.{Reply}
-use Rattle.bcast_model.specs.Next.{may_tell, tell_if_ready}
-use Rattle.bcast_model.specs.Laws.{HasRange}
-use Rattle.bcast_model.specs.View.{View, sends_are_ready}
-use Rattle.bcast_model.specs.Answers.{IsShown, Answers}
-use Rattle.bcast_model.specs.Legal.{Legal}
-use Rattle.bcast_model.specs.Effects.{effect}
-use Rattle.bcast_model.specs.Effect.{sets}
-use Rattle.bcast_model.specs.Steps.{settle}
+use Rattle.bcast_model.specs.Words.{may_tell, tell_if_ready, HasRange, View, sends_are_ready}
+use Rattle.bcast_model.specs.Words.{IsShown, Answers, Legal, effect, sets, settle}
 use Rattle.std.specs.FinMap.{len}
 use Rattle.bcast_model.proofs.Answers.{answers}
-use Rattle.bcast_core.proofs.Settle.{settle_idle, told_nobody}
+use Rattle.bcast_core.proofs.Settle.{settle_same, told_nobody}
 use Rattle.bcast_core.proofs.Does.{valid_shown}
 
 module _ {T : Type 0} where
@@ -22,7 +16,7 @@ module _ {T : Type 0} where
   answers_read {v = v} {c = c} {r = r} shown legal idle may range =
       answers range shown (record {
         legal = legal;
-        next = sym (ap (λ x. tell_if_ready x (settle v (effect v c r))) may ∙ ap (λ (w : View T). tell_if_ready (not (sends_are_ready v)) w) (ap (settle v) idle ∙ settle_idle v (valid_shown shown)) ∙ told_nobody v);
+        next = sym (ap (λ x. tell_if_ready x (settle v (effect v c r))) may ∙ ap (λ (w : View T). tell_if_ready (not (sends_are_ready v)) w) (ap (settle v) idle ∙ settle_same v (valid_shown shown)) ∙ told_nobody v);
       })
 
   -- the same call under another name

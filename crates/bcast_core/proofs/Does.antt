@@ -6,18 +6,11 @@ use Rattle.bcast_model.specs.declared.run.Call.{Call}
 use Rattle.bcast_model.specs.declared.run.Call.TheVariants as call
 use Rattle.bcast_model.specs.declared.run.Reply.{Reply}
 use Rattle.bcast_model.specs.declared.run.Reply.TheVariants as reply
-use Rattle.bcast_model.specs.Control.{Control, with_place, has_place}
-use Rattle.bcast_model.specs.History.{least}
-use Rattle.bcast_model.specs.Legal.{NoClone, Legal}
-use Rattle.bcast_model.specs.View.{View}
-use Rattle.bcast_model.specs.Answers.{IsShown}
-use Rattle.bcast_model.specs.Laws.{IsValidView}
-use Rattle.bcast_model.specs.Steps.{settle}
-use Rattle.bcast_model.specs.Effect.{sets}
-use Rattle.bcast_model.specs.Effects.{effect, resize}
+use Rattle.bcast_model.specs.Words.{Control, with_place, has_place, least, NoClone, Legal, View}
+use Rattle.bcast_model.specs.Words.{IsShown, IsValidView, settle, sets, effect, resize}
 use Rattle.bcast_model.proofs.Views.{valid_view}
 use Rattle.bcast_core.specs.Parts.{Does}
-use Rattle.bcast_core.proofs.Settle.{settle_stays, settle_idle}
+use Rattle.bcast_core.proofs.Settle.{settle_stays, settle_same}
 
 module _ {T : Type 0} where
   pub valid_shown : {v : View T} → IsShown v → IsValidView v
@@ -30,7 +23,7 @@ module _ {T : Type 0} where
 
   -- nothing changes
   pub does_nothing : {is_clone : T → T → Type 0} {v new : View T} {c : Call T} {r : Reply T} → IsValidView v → Legal is_clone v c r → effect v c r ≡ sets v.control → new ≡ v → Does is_clone v c r new
-  does_nothing {v = v} valid legal is new_is = record { legal = legal; effect = new_is ∙ sym (settle_idle v valid) ∙ ap (settle v) (sym is) }
+  does_nothing {v = v} valid legal is new_is = record { legal = legal; effect = new_is ∙ sym (settle_same v valid) ∙ ap (settle v) (sym is) }
 
   pub does_begin : (v new : View T) (r : Result ℕ AllocError) → IsValidView v → IfOk r (λ place. has_place v.control place ≡ false) → IfOk r (λ place. new ≡ record v { control = with_place v.control place }) → OnErr r (new ≡ v)
       → Does NoClone v call.BeginSend (reply.BeginSend r) new

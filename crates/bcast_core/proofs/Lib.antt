@@ -10,7 +10,6 @@ pub mod Respelt
 pub mod Accessors
 pub mod Runs
 pub mod Opened
-pub mod Idle
 pub mod Untold
 pub mod Tail
 pub mod ReceivePolls

@@ -5,14 +5,9 @@ use Rattle.std.specs.FinMap.{get, len}
 use Rattle.bcast_model.specs.declared.error.HandleError.{HandleError}
 use Rattle.bcast_model.specs.declared.error.HandleError.TheVariants as handle
 use Rattle.bcast_model.specs.declared.run.Reply.{Reply}
-use Rattle.bcast_model.specs.Control.{Control, Cursors, with_cursor}
-use Rattle.bcast_model.specs.Handles.{has_next}
-use Rattle.bcast_model.specs.Legal.{IsMade}
-use Rattle.bcast_model.specs.View.{View}
-use Rattle.bcast_model.specs.Laws.{IsValidView}
-use Rattle.bcast_model.specs.Effect.{sets}
-use Rattle.bcast_model.specs.Steps.{settle}
-use Rattle.bcast_core.proofs.Settle.{settle_idle}
+use Rattle.bcast_model.specs.Words.{Control, Cursors, with_cursor, has_next, IsMade, View}
+use Rattle.bcast_model.specs.Words.{IsValidView, sets, settle}
+use Rattle.bcast_core.proofs.Settle.{settle_same}
 
 pub none_left : (n : ℕ) → n ≡ 0 → (n == 0) ≡ true
 none_left n e = grind (arith, common_steps, e)
@@ -49,7 +44,7 @@ module _ {T : Type 0} where
       → ((key : ℕ) → effect_of (Ok key) ≡ with_cursor v.control key cursor) → ((e : HandleError) → effect_of (Err e) ≡ v.control)
       → IfOk r (λ key. new ≡ settle v (sets (with_cursor v.control key cursor))) → OnErr r (new ≡ v) → new ≡ settle v (sets (effect_of r))
   made_effect v new effect_of cursor (Ok key) valid is idle ok err = ok ∙ ap (λ c. settle v (sets c)) (sym (is key))
-  made_effect v new effect_of cursor (Err e) valid is idle ok err = err ∙ sym (settle_idle v valid) ∙ ap (λ c. settle v (sets c)) (sym (idle e))
+  made_effect v new effect_of cursor (Err e) valid is idle ok err = err ∙ sym (settle_same v valid) ∙ ap (λ c. settle v (sets c)) (sym (idle e))
 
   -- the count of receivers after it
   pub made_fits : (v new : View T) (cursor : ℕ) (r : Result ℕ HandleError) → IsValidView v → IfOk r (λ key. new ≡ settle v (sets (with_cursor v.control key cursor))) → IfOk r (λ key. len (with_cursor v.control key cursor).cursors < 2 ^ 64) → OnErr r (new ≡ v)

@@ -3,14 +3,11 @@ use Rattle.std.proofs.Common.{◌≡◌, ℕ, ◌+◌, ◌-◌, ◌<◌, ◌≤�
 use Rattle.std.proofs.lemmas.Grind.{common_steps}
 use Rattle.std.specs.FinMap.{len, values}
 use Rattle.bcast_model.specs.declared.error.TrySendError.{TrySendError}
-use Rattle.bcast_model.specs.Control.{has_no_receiver, accepting}
-use Rattle.bcast_model.specs.History.{least}
-use Rattle.bcast_model.specs.View.{View, is_full}
-use Rattle.bcast_model.specs.Laws.{IsValidView}
-use Rattle.bcast_model.specs.Steps.{settle, with_message, with_messages}
-use Rattle.bcast_model.specs.Sending.{accept, accept_unless, offer, refusal}
-use Rattle.bcast_model.specs.SendAll.{free_room, refusal_of_all, accept_all, accept_all_unless, offer_all}
-use Rattle.bcast_core.proofs.Settle.{settle_to, settle_idle, least_raised, cursors-accepting}
+use Rattle.bcast_model.specs.Words.{has_no_receiver, accepting, least, View, is_full, IsValidView}
+use Rattle.bcast_model.specs.Words.{settle, with_message, with_messages, accept, accept_unless}
+use Rattle.bcast_model.specs.Words.{offer, refusal, free_room, refusal_of_all, accept_all}
+use Rattle.bcast_model.specs.Words.{accept_all_unless, offer_all}
+use Rattle.bcast_core.proofs.Settle.{settle_to, settle_same, least_raised, cursors-accepting}
 
 -- whether a list has more messages than there is room for
 pub fits_room : (room count r n : ℕ) → r ≡ room → n ≡ count → n ≤ r → nat_lt room count ≡ false
@@ -18,6 +15,13 @@ fits_room room count r n is same few = grind (arith, common_steps, is, same, few
 
 pub exceeds_room : (room count r n : ℕ) → r ≡ room → n ≡ count → r < n → nat_lt room count ≡ true
 exceeds_room room count r n is same many = grind (arith, common_steps, is, same, many)
+
+-- the test whether two numbers are equal
+pub are_equal : (a b : ℕ) → a ≡ b → (a == b) ≡ true
+are_equal a b same = grind (arith, common_steps, same)
+
+pub are_unequal : (a b : ℕ) → (a ≡ b → ⊥) → (a == b) ≡ false
+are_unequal a b other = grind (arith, common_steps, other)
 
 pub not_zero : (n : ℕ) → (n == 0) ≡ false → 0 < n
 not_zero n e = grind (arith, common_steps, e)
@@ -56,12 +60,12 @@ module _ {T : Type 0} where
   offer_all_nothing v [] valid opened some n =
       let fits : nat_lt (free_room v) 0 ≡ false = grind (arith, common_steps) in
       let is : refusal_of_all v [] ≡ None = rw (opened, some, fits) refl in
-      ap (λ o. settle v (accept_all_unless v [] o)) is ∙ settle_idle v valid
+      ap (λ o. settle v (accept_all_unless v [] o)) is ∙ settle_same v valid
   offer_all_nothing v (msg ∷ rest) valid opened some n = let none = is_zero (length (msg ∷ rest)) n in absurd (omega (arith, none))
 
   -- and where the list is refused
   pub offer_all_refused : (v : View T) (msgs : List T) (error : TrySendError (List T)) → IsValidView v → refusal_of_all v msgs ≡ Some error → settle v (offer_all v msgs) ≡ v
-  offer_all_refused v msgs error valid is = ap (λ o. settle v (accept_all_unless v msgs o)) is ∙ settle_idle v valid
+  offer_all_refused v msgs error valid is = ap (λ o. settle v (accept_all_unless v msgs o)) is ∙ settle_same v valid
 
   -- the oldest message makes room for it
   pub offer_dropping : (v w : View T) (msg oldest : T) → IsValidView v → refusal v msg ≡ None → has_no_receiver v.control ≡ false → is_full v ≡ true

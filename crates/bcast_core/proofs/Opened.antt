@@ -2,17 +2,16 @@
 use Rattle.std.proofs.Common.{◌≡◌, ℕ, ◌+◌, ◌^◌, ◌<◌, ◌≤◌, true, false, [], sym, ap, ◌∙◌, arith}
 use Rattle.std.specs.FinMap.{empty, insert}
 use Rattle.std.specs.FinSet as set
-use Rattle.bcast_model.specs.Listeners.{no_listeners}
-use Rattle.bcast_model.specs.History.{opening, view_of}
+use Rattle.bcast_model.specs.Words.{no_listeners, opening, view_of, Pair}
 use Rattle.bcast_model.proofs.Opening.{view_of-opening}
 use Rattle.bcast_store.specs.Stored.{Stored, end_of}
-use Rattle.bcast_waiting.specs.Lists.{Receives}
+use Rattle.bcast_waiting.specs.Event.{Event}
 use Rattle.bcast_core.specs.Parts.{new_with}
 use Rattle.bcast_core.proofs.Settle.{same_view}
 
 module _ {T : Type 0} where
-  pub opened : (store : Stored T) (receives : Receives) (first key cap : ℕ) → 1 ≤ cap → cap < 2 ^ 64 → first + 1 < 2 ^ 64
-      → store ≡ record { front = first; queue = []; cursors = insert empty key first; room = cap } → receives.waiting ≡ no_listeners → new_with store receives cap ≡ view_of (opening cap first key)
+  pub opened : (store : Stored T) (receives : Event Pair) (first key cap : ℕ) → 1 ≤ cap → cap < 2 ^ 64 → first + 1 < 2 ^ 64
+      → store ≡ record { front = first; queue = []; cursors = insert empty key first; room = cap } → receives.listeners ≡ no_listeners → new_with store receives cap ≡ view_of (opening cap first key)
   opened store receives first key cap some few below store_is waiting_is =
       let end : end_of store ≡ first = ap end_of store_is ∙ omega arith in
       same_view (new_with store receives cap) (record { front = first; queue = []; end = first; control = (opening {T = T} cap first key).control })

@@ -8,22 +8,14 @@ use Rattle.bcast_model.specs.declared.error.TryRecvError.TheVariants as unread
 use Rattle.bcast_model.specs.declared.run.Call.{Call}
 use Rattle.bcast_model.specs.declared.run.Reply.{Reply}
 use Rattle.bcast_model.specs.declared.run.Reply.TheVariants as reply
-use Rattle.bcast_model.specs.ListenerId.{Pair, same_pair}
-use Rattle.bcast_model.specs.Listeners.{consume, no_listeners}
-use Rattle.bcast_model.specs.Control.{pair_waits, pair_answered}
-use Rattle.bcast_model.specs.Effect.{sets}
-use Rattle.bcast_model.specs.Effects.{effect}
-use Rattle.bcast_model.specs.Laws.{HasRange, IsValidView}
-use Rattle.bcast_model.specs.Legal.{IsReceived, Legal}
-use Rattle.bcast_model.specs.Next.{tell_if_ready}
-use Rattle.bcast_model.specs.PollLaws.{must_wait}
-use Rattle.bcast_model.specs.Receiving.{IsOwed, future_reply, is_empty_reply, listens, next_reply, receive, receive_poll, stream_reply, try_recv_reply}
-use Rattle.bcast_model.specs.Steps.{Steps, settle}
-use Rattle.bcast_model.specs.View.{View}
-use Rattle.bcast_core.specs.Alone.{NobodyWaits}
-use Rattle.bcast_core.specs.Waits.{finds_nothing}
-use Rattle.bcast_core.proofs.Idle.{told_none}
-use Rattle.bcast_core.proofs.Tail.{told_last, told_valid, told_waiting}
+use Rattle.bcast_model.specs.Words.{Pair, same_pair, consume, no_listeners, pair_waits}
+use Rattle.bcast_model.specs.Words.{pair_answered, sets, effect, HasRange, IsValidView, IsReceived}
+use Rattle.bcast_model.specs.Words.{Legal, tell_if_ready, must_wait, IsOwed, future_reply}
+use Rattle.bcast_model.specs.Words.{is_empty_reply, listens, next_reply, receive, receive_poll}
+use Rattle.bcast_model.specs.Words.{stream_reply, try_recv_reply, Steps, settle, View}
+use Rattle.bcast_core.specs.Telling.{NobodyWaits}
+use Rattle.bcast_core.specs.Tries.{finds_nothing}
+use Rattle.bcast_core.proofs.Tail.{told_none, told_last, told_valid, told_waiting}
 use Rattle.bcast_core.proofs.Receives.{poll_waits, settle_empty}
 use Rattle.bcast_core.proofs.Respelt.{IsTryRecv, does_spelt}
 
@@ -46,10 +38,10 @@ module _ {T : Type 0} where
       waits ∙ sym (told_waiting v pair valid) ∙ ap (tell_if_ready true) (sym waits ∙ poll_waits v mid new pair at valid empty mid_is new_is)
 
   -- one that finds something while nobody waits is a receive
-  pub poll_alone : (v new : View T) (pair : Pair) (at : Option ℕ) → NobodyWaits new.control → is_empty_reply (try_recv_reply v at) ≡ false
+  pub poll_nobody : (v new : View T) (pair : Pair) (at : Option ℕ) → NobodyWaits new.control → is_empty_reply (try_recv_reply v at) ≡ false
       → new ≡ settle v (sets (receive v.front v.end v.control pair.0 at))
       → new ≡ tell_if_ready true (settle v (sets (receive_poll v.front v.end v.control pair at (try_recv_reply v at))))
-  poll_alone v new pair at alone found is =
+  poll_nobody v new pair at alone found is =
       let none = ap (λ (x : View T). x.control.waiting_receives) (sym is) ∙ alone.receives in
       sym (told_none new true alone.sends) ∙ ap (tell_if_ready true) (is ∙ poll_is_receive v pair at none found)
 
@@ -83,21 +75,3 @@ module _ {T : Type 0} where
       → must_wait (wrap spelt) ≡ finds_nothing received
   waits_same word wrap (Ok answer) spelt is_ok is_err waits refused = ap (λ s. must_wait (wrap s)) is_ok ∙ waits answer
   waits_same word wrap (Err e) spelt is_ok is_err waits refused = ap (λ s. must_wait (wrap s)) is_err ∙ refused e
-
-  pub future_waits : (answer : Result T TryRecvError) → must_wait (reply.PollFuture (Ok (future_reply answer))) ≡ is_empty_reply answer
-  future_waits (Ok msg) = refl
-  future_waits (Err (unread.Overflowed n)) = refl
-  future_waits (Err unread.Closed) = refl
-  future_waits (Err unread.Empty) = refl
-
-  pub stream_waits : (answer : Result T TryRecvError) → must_wait (reply.PollRecv (Ok (stream_reply answer))) ≡ is_empty_reply answer
-  stream_waits (Ok msg) = refl
-  stream_waits (Err (unread.Overflowed n)) = refl
-  stream_waits (Err unread.Closed) = refl
-  stream_waits (Err unread.Empty) = refl
-
-  pub next_waits : (skips : ℕ) (answer : Result T TryRecvError) → must_wait (reply.PollNext (Ok (next_reply skips answer))) ≡ is_empty_reply answer
-  next_waits skips (Ok msg) = refl
-  next_waits skips (Err (unread.Overflowed n)) = refl
-  next_waits skips (Err unread.Closed) = refl
-  next_waits skips (Err unread.Empty) = refl

@@ -1,5 +1,5 @@
 -- What a receive that finds nothing does, in what is seen.
-use Rattle.std.proofs.Common.{◌≡◌, ◌⊎◌, inl, inr, ℕ, ◌-◌, ◌≤◌, Bool, true, false, cond, length, Option, Some, None, Result, Ok, Err, is_some, nat_lt, slice_get, List, refl, sym, ap, ◌∙◌, arith}
+use Rattle.std.proofs.Common.{◌≡◌, ◌⊎◌, inl, inr, ℕ, ◌-◌, ◌<◌, ◌≤◌, Bool, true, false, cond, length, Option, Some, None, Result, Ok, Err, is_some, nat_lt, slice_get, List, refl, sym, ap, ◌∙◌, arith}
 use Rattle.std.specs.Prelude.{alloc_error}
 use Rattle.std.proofs.lemmas.Grind.{common_steps}
 use Rattle.std.proofs.lemmas.Option.{none-some, slice_get_cases}
@@ -7,15 +7,12 @@ use Rattle.bcast_model.specs.declared.error.TryRecvError.{TryRecvError}
 use Rattle.bcast_model.specs.declared.error.TryRecvError.TheVariants as unread
 use Rattle.bcast_model.specs.declared.run.Reply.{Reply}
 use Rattle.bcast_model.specs.declared.run.Reply.TheVariants as reply
-use Rattle.bcast_model.specs.ListenerId.{Pair}
-use Rattle.bcast_model.specs.Control.{Control, pair_waits, cursor_of}
-use Rattle.bcast_model.specs.Receiving.{recv_reply, receive, skipped_to, is_empty_reply, listens, receive_poll, try_recv_reply}
-use Rattle.bcast_model.specs.Legal.{IsReceived}
-use Rattle.bcast_model.specs.View.{View, kept_at}
-use Rattle.bcast_model.specs.Laws.{IsValidView}
-use Rattle.bcast_model.specs.Effect.{sets}
-use Rattle.bcast_model.specs.Steps.{settle}
-use Rattle.bcast_core.proofs.Settle.{settle_stays, settle_idle}
+use Rattle.bcast_model.specs.Words.{Pair, Control, pair_waits, cursor_of, recv_reply, receive}
+use Rattle.bcast_model.specs.Words.{skipped_to, is_empty_reply, listens, receive_poll}
+use Rattle.bcast_model.specs.Words.{try_recv_reply, IsReceived, View, kept_at, IsValidView, sets}
+use Rattle.bcast_model.specs.Words.{settle}
+use Rattle.bcast_core.proofs.Respelt.{answer_of}
+use Rattle.bcast_core.proofs.Settle.{settle_stays, settle_same}
 
 -- it changes nothing
 receive_at_end : (front end : ℕ) (c : Control) (key : ℕ) (at : Option ℕ) (cursor : ℕ) → at ≡ Some cursor → front ≤ cursor → end ≤ cursor → receive front end c key at ≡ c
@@ -25,17 +22,18 @@ receive_at_end front end c key at cursor is from beyond =
     ap (receive front end c key) is ∙ rw (a, b) refl
 
 module _ {T : Type 0} where
-  -- the answer that a reply of `try_recv` holds
-  abbrev answer_of : Result T TryRecvError → Reply T → Result T TryRecvError
-  answer_of none (reply.TryRecv (Ok answer)) = answer
-  answer_of none r = none
-
   -- whether a receive is answered `Empty` doesn't depend on clones
   pub empty_exactly : {is_clone : T → T → Type 0} {owed : Type 0} (exact answer : Result T TryRecvError)
       → IsReceived is_clone owed (λ a. reply.TryRecv (Ok a)) (reply.TryRecv (Err alloc_error)) exact (reply.TryRecv (Ok answer)) → is_empty_reply answer ≡ is_empty_reply exact
   empty_exactly exact answer (inl is) = ap (λ r. is_empty_reply (answer_of exact r)) is
   empty_exactly exact answer (inr (o, inl clone)) = ap (λ r. is_empty_reply (answer_of exact r)) clone.reply ∙ sym (ap is_empty_reply clone.exactly)
   empty_exactly exact answer (inr (o, inr is)) = ap (λ r. is_empty_reply (answer_of exact r)) is
+
+  -- a receiver that lags is told how many messages it missed
+  pub lagging : (v : View T) (at : Option ℕ) (cursor front : ℕ) → at ≡ Some cursor → front ≡ v.front → cursor < front → try_recv_reply v at ≡ Err (unread.Overflowed (front - cursor))
+  lagging v at cursor front is same lags =
+      let below : nat_lt cursor v.front ≡ true = grind (arith, common_steps, lags, same) in
+      ap (try_recv_reply v) is ∙ rw below (ap (λ n. Err (unread.Overflowed (n - cursor))) (sym same))
 
   found_none : (closed : Bool) (o : Option T) → is_empty_reply (recv_reply closed o) ≡ true → o ≡ None
   found_none closed None e = refl
@@ -69,7 +67,7 @@ module _ {T : Type 0} where
   receive_empty v key at valid e = let a = empty_at v at valid e in receive_at_end v.front v.end v.control key at a.0 a.1 a.2 a.3
 
   pub settle_empty : (v mid : View T) (key : ℕ) (at : Option ℕ) → IsValidView v → is_empty_reply (try_recv_reply v at) ≡ true → mid ≡ settle v (sets (receive v.front v.end v.control key at)) → mid ≡ v
-  settle_empty v mid key at valid e is = is ∙ ap (λ c. settle v (sets c)) (receive_empty v key at valid e) ∙ settle_idle v valid
+  settle_empty v mid key at valid e is = is ∙ ap (λ c. settle v (sets c)) (receive_empty v key at valid e) ∙ settle_same v valid
 
   -- so a poll only waits
   pub poll_waits : (v mid new : View T) (pair : Pair) (at : Option ℕ) → IsValidView v → is_empty_reply (try_recv_reply v at) ≡ true

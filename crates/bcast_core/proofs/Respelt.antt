@@ -7,21 +7,14 @@ use Rattle.bcast_model.specs.declared.run.Call.{Call}
 use Rattle.bcast_model.specs.declared.run.Call.TheVariants as call
 use Rattle.bcast_model.specs.declared.run.Reply.{Reply}
 use Rattle.bcast_model.specs.declared.run.Reply.TheVariants as reply
-use Rattle.bcast_model.specs.ListenerId.{Pair}
-use Rattle.bcast_model.specs.Receiving.{receive, receive_poll, try_recv_reply, IsOwed}
-use Rattle.bcast_model.specs.Legal.{IsReceived, Legal}
-use Rattle.bcast_model.specs.View.{View}
-use Rattle.bcast_model.specs.Laws.{IsValidView}
-use Rattle.bcast_model.specs.Effect.{sets}
-use Rattle.bcast_model.specs.Steps.{settle}
-use Rattle.bcast_model.specs.Effects.{effect}
-use Rattle.bcast_model.specs.Control.{cursor_of}
+use Rattle.bcast_model.specs.Words.{Pair, receive, receive_poll, try_recv_reply, IsOwed, IsReceived}
+use Rattle.bcast_model.specs.Words.{Legal, View, IsValidView, sets, settle, effect, cursor_of}
 use Rattle.bcast_core.specs.Parts.{Does}
 use Rattle.bcast_core.proofs.Does.{does_nothing}
 
 module _ {T : Type 0} where
   -- the answer that a reply of `try_recv` holds, if it wasn't refused
-  abbrev answer_of : Result T TryRecvError → Reply T → Result T TryRecvError
+  abbrev pub answer_of : Result T TryRecvError → Reply T → Result T TryRecvError
   answer_of none (reply.TryRecv (Ok answer)) = answer
   answer_of none r = none
 

@@ -3,14 +3,8 @@ use Rattle.std.proofs.Common.{◌≡◌, List, [], ◌∷◌, ◌++◌, length, 
 use Rattle.std.proofs.lemmas.List.{nil_from_length}
 use Rattle.bcast_model.specs.declared.run.Call.{Call}
 use Rattle.bcast_model.specs.declared.run.Reply.{Reply}
-use Rattle.bcast_model.specs.History.{History, view_of}
-use Rattle.bcast_model.specs.Legal.{Legal}
-use Rattle.bcast_model.specs.Next.{next}
-use Rattle.bcast_model.specs.Valid.{IsValid}
-use Rattle.bcast_model.specs.Run.{IsRun, end_of_run}
-use Rattle.bcast_model.specs.Deliveries.{AtEachPoint}
-use Rattle.bcast_model.specs.Laws.{WaitsAsItsTry}
-use Rattle.bcast_model.specs.ToldPolls.{ComesToRest}
+use Rattle.bcast_model.specs.Words.{History, view_of, Legal, next, IsValid, IsRun, end_of_run}
+use Rattle.bcast_model.specs.Words.{AtEachPoint, WaitsAsItsTry, ComesToRest}
 use Rattle.bcast_model.proofs.Views.{valid_view}
 use Rattle.bcast_model.proofs.Polls.{waits_as_its_try}
 use Rattle.bcast_model.proofs.ToldPolls.{comes_to_rest}

@@ -5,23 +5,19 @@ use Rattle.bcast_model.specs.declared.run.SendPoll.{SendPoll}
 use Rattle.bcast_model.specs.declared.run.SendPoll.TheVariants as send
 use Rattle.bcast_model.specs.declared.run.Call.TheVariants as call
 use Rattle.bcast_model.specs.declared.run.Reply.TheVariants as reply
-use Rattle.bcast_model.specs.Listeners.{consume}
-use Rattle.bcast_model.specs.ListenerId.{same_place}
-use Rattle.bcast_model.specs.Control.{has_no_receiver, has_place, place_answered, place_waits, tell_a_sender}
-use Rattle.bcast_model.specs.Sending.{reply_to_attempt, accept_unless, with_place_answered, offer, refusal, attempt_send_reply, poll_send, handed_back}
-use Rattle.bcast_model.specs.View.{View, is_full, sends_are_ready}
-use Rattle.bcast_model.specs.Answers.{Answers, IsShown}
-use Rattle.bcast_model.specs.Laws.{IsValidView}
-use Rattle.bcast_model.specs.Legal.{NoClone}
-use Rattle.bcast_model.specs.Effect.{sets}
-use Rattle.bcast_model.specs.Next.{tell_if_ready}
-use Rattle.bcast_model.specs.Steps.{settle}
+use Rattle.bcast_model.specs.Words.{consume, same_place, has_no_receiver, has_place, place_answered}
+use Rattle.bcast_model.specs.Words.{place_waits, tell_a_sender, reply_to_attempt, accept_unless}
+use Rattle.bcast_model.specs.Words.{with_place_answered, offer, refusal, attempt_send_reply}
+use Rattle.bcast_model.specs.Words.{poll_send, handed_back, View, is_full, sends_are_ready, Answers}
+use Rattle.bcast_model.specs.Words.{IsShown, IsValidView, NoClone, sets, tell_if_ready, settle}
+use Rattle.bcast_model.specs.Words.{must_wait}
+use Rattle.bcast_model.proofs.Polls.{attempt_waits}
 use Rattle.bcast_model.proofs.Answers.{shown_after}
-use Rattle.bcast_core.specs.Alone.{NobodyWaits}
+use Rattle.bcast_core.specs.Telling.{NobodyWaits}
 use Rattle.bcast_core.specs.Telling.{tell_news}
-use Rattle.bcast_core.proofs.Idle.{told_none}
-use Rattle.bcast_core.proofs.Settle.{settle_stays, settle_idle}
-use Rattle.bcast_core.proofs.Tail.{ends, news_alone, told_valid}
+use Rattle.bcast_core.proofs.Tail.{told_none}
+use Rattle.bcast_core.proofs.Settle.{settle_stays, settle_same}
+use Rattle.bcast_core.proofs.Tail.{ends, news_nobody, told_valid}
 
 not_false : (b : Bool) → false ≡ not b → b ≡ true
 not_false true e = refl
@@ -32,24 +28,9 @@ not_true true e = cc
 not_true false e = refl
 
 module _ {T : Type 0} where
+  -- whether an attempt is to wait
   abbrev waits : SendPoll T → Bool
-  waits (send.Ready answer) = false
-  waits (send.Wait msg) = true
-
-  attempted_waits : (msg : T) (back : Option T) (closed nobody await_active overflow full : Bool)
-      → waits (reply_to_attempt await_active back (cond closed (Some (unsent.Closed msg)) (cond nobody (Some (unsent.Inactive msg)) (cond (full && not overflow) (Some (unsent.Full msg)) None))))
-      ≡ not (closed || (not nobody && (overflow || not full)) || (nobody && not await_active))
-  attempted_waits msg back true nobody await_active overflow full = refl
-  attempted_waits msg back false true true overflow full = refl
-  attempted_waits msg back false true false overflow full = refl
-  attempted_waits msg back false false await_active true true = refl
-  attempted_waits msg back false false await_active true false = refl
-  attempted_waits msg back false false await_active false true = refl
-  attempted_waits msg back false false await_active false false = refl
-
-  -- a send waits exactly where sends are not ready
-  waits_unless_ready : (v : View T) (msg : T) → waits (attempt_send_reply v msg) ≡ not (sends_are_ready v)
-  waits_unless_ready v msg = attempted_waits msg (handed_back v) v.control.closed (has_no_receiver v.control) v.control.await_active v.control.overflow (is_full v)
+  waits sent = must_wait (reply.PollSend sent)
 
   pub is_refused : (v : View T) (msg again : T) → attempt_send_reply v msg ≡ send.Wait again → settle v (offer v msg) ≡ settle v (sets v.control)
   is_refused v msg again is = elim (refusal v msg) as (λ o. reply_to_attempt v.control.await_active (handed_back v) o ≡ send.Wait again → settle v (accept_unless v msg o) ≡ settle v (sets v.control)) [
@@ -59,37 +40,37 @@ module _ {T : Type 0} where
 
   -- an attempt that is to wait changes nothing
   pub attempt_stays : (v mid : View T) (msg again : T) → IsValidView v → attempt_send_reply v msg ≡ send.Wait again → mid ≡ settle v (offer v msg) → mid ≡ v
-  attempt_stays v mid msg again valid is mid_is = mid_is ∙ is_refused v msg again is ∙ settle_idle v valid
+  attempt_stays v mid msg again valid is mid_is = mid_is ∙ is_refused v msg again is ∙ settle_same v valid
 
   -- a poll of a place that is not in use changes nothing
   pub poll_unplaced : (v : View T) (place : ℕ) (msg : T) → IsValidView v → has_place v.control place ≡ false → v ≡ tell_if_ready true (settle v (poll_send v place msg))
   poll_unplaced v place msg valid none =
       sym (told_valid v valid)
-      ∙ ap (tell_if_ready true) (sym (settle_idle v valid)
+      ∙ ap (tell_if_ready true) (sym (settle_same v valid)
       ∙ ap (λ b. settle v (cond b (cond (sends_are_ready v) (with_place_answered (offer v msg) place) (sets (place_waits v.control place))) (sets v.control))) (sym none))
 
   -- a poll that is answered frees its place after all else
   pub poll_answered : (v mid new : View T) (place : ℕ) (msg : T) (answer : _) → has_place v.control place ≡ true → attempt_send_reply v msg ≡ send.Ready answer
       → mid ≡ settle v (offer v msg) → new ≡ tell_if_ready true (record mid { control = place_answered mid.control place }) → new ≡ tell_if_ready true (settle v (poll_send v place msg))
   poll_answered v mid new place msg answer there is mid_is new_is =
-      let ready = not_false (sends_are_ready v) (sym (ap waits is) ∙ waits_unless_ready v msg) in
+      let ready = not_false (sends_are_ready v) (sym (ap waits is) ∙ attempt_waits v msg) in
       new_is ∙ ap (tell_if_ready true) (ap (λ (x : View T). record x { control = place_answered x.control place }) mid_is
       ∙ sym (ap (λ b. settle v (cond b (cond (sends_are_ready v) (with_place_answered (offer v msg) place) (sets (place_waits v.control place))) (sets v.control))) there
       ∙ ap (λ b. settle v (cond b (with_place_answered (offer v msg) place) (sets (place_waits v.control place)))) ready))
 
   -- nobody is told of it where nobody waits
-  pub poll_alone : (v mid new : View T) (place : ℕ) (msg : T) (answer : _) (news : Bool) → has_place v.control place ≡ true → attempt_send_reply v msg ≡ send.Ready answer → NobodyWaits mid.control
+  pub poll_nobody : (v mid new : View T) (place : ℕ) (msg : T) (answer : _) (news : Bool) → has_place v.control place ≡ true → attempt_send_reply v msg ≡ send.Ready answer → NobodyWaits mid.control
       → tell_news news mid ≡ settle v (offer v msg) → new ≡ record mid { control = place_answered mid.control place } → new ≡ tell_if_ready true (settle v (poll_send v place msg))
-  poll_alone v mid new place msg answer news there is alone mid_is new_is =
+  poll_nobody v mid new place msg answer news there is alone mid_is new_is =
       let freed : View T = record mid { control = place_answered mid.control place } in
-      poll_answered v mid new place msg answer there is (sym (news_alone news mid alone) ∙ mid_is)
+      poll_answered v mid new place msg answer there is (sym (news_nobody news mid alone) ∙ mid_is)
       (new_is ∙ sym (told_none freed true (ap (consume same_place place) alone.sends)))
 
   -- a poll that is not waits, and nobody is told
   pub poll_waits : (v mid new : View T) (place : ℕ) (msg again : T) → IsValidView v → has_place v.control place ≡ true → attempt_send_reply v msg ≡ send.Wait again
       → mid ≡ settle v (offer v msg) → new ≡ record mid { control = place_waits mid.control place } → new ≡ tell_if_ready true (settle v (poll_send v place msg))
   poll_waits v mid new place msg again valid there is mid_is new_is =
-      let blocked = not_true (sends_are_ready v) (sym (ap waits is) ∙ waits_unless_ready v msg) in
+      let blocked = not_true (sends_are_ready v) (sym (ap waits is) ∙ attempt_waits v msg) in
       let waiting : View T = record v { control = place_waits v.control place } in
       new_is ∙ ap (λ (x : View T). record x { control = place_waits x.control place }) (attempt_stays v mid msg again valid is mid_is)
       ∙ sym (ap (λ b. cond b (record waiting { control = tell_a_sender waiting.control }) waiting) blocked)

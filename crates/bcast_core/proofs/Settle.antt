@@ -2,13 +2,9 @@
 use Rattle.std.proofs.Common.{◌≡◌, ℕ, ◌+◌, ◌-◌, ◌≤◌, List, [], ◌∷◌, ◌++◌, length, max, drop, Some, true, false, cond, not, ◌&&◌, refl, ◌∙◌, arith, append-nil}
 use Rattle.std.specs.Ordering.{nat_cmp}
 use Rattle.std.specs.FinMap.{get, insert, len, values, entries, find, len-entries, get-entries}
-use Rattle.bcast_model.specs.Control.{Control, Cursors, close, close_if_deserted, tell_a_sender}
-use Rattle.bcast_model.specs.History.{least, front_of}
-use Rattle.bcast_model.specs.View.{View, sends_are_ready}
-use Rattle.bcast_model.specs.Laws.{IsValidView}
-use Rattle.bcast_model.specs.Effect.{Effect, sets}
-use Rattle.bcast_model.specs.Steps.{settle}
-use Rattle.bcast_model.specs.Next.{tell_if_ready}
+use Rattle.bcast_model.specs.Words.{Control, Cursors, close, close_if_deserted, tell_a_sender}
+use Rattle.bcast_model.specs.Words.{least, front_of, View, sends_are_ready, IsValidView, Effect}
+use Rattle.bcast_model.specs.Words.{sets, settle, tell_if_ready}
 pub use Rattle.bcast_model.proofs.Cases.{cursors-close, cursors-accepting}
 use Rattle.bcast_model.proofs.Cases.{deserted_is}
 pub use Rattle.bcast_model.proofs.DeliveryMaps.{inserted}
@@ -55,8 +51,8 @@ module _ {T : Type 0} where
       let none : v.front - v.front ≡ 0 = omega arith in
       settle_to v (sets c) (record v { control = c }) front (rw none (append-nil v.queue)) end refl
 
-  pub settle_idle : (v : View T) → IsValidView v → settle v (sets v.control) ≡ v
-  settle_idle v valid = settle_stays v v.control valid.low
+  pub settle_same : (v : View T) → IsValidView v → settle v (sets v.control) ≡ v
+  settle_same v valid = settle_stays v v.control valid.low
 
   -- where sends were ready already nobody is told
   pub told_nobody : (v : View T) → tell_if_ready (not (sends_are_ready v)) v ≡ v

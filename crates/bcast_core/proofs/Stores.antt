@@ -1,10 +1,7 @@
 -- What is seen of a store, after its cursors changed.
 use Rattle.std.proofs.Common.{◌≡◌, ◌+◌, ◌-◌, length, max, drop, refl, ap, arith, append-nil, length-drop}
 use Rattle.std.specs.FinMap.{values}
-use Rattle.bcast_model.specs.Control.{Control}
-use Rattle.bcast_model.specs.History.{least}
-use Rattle.bcast_model.specs.Effect.{sets}
-use Rattle.bcast_model.specs.Steps.{settle}
+use Rattle.bcast_model.specs.Words.{Control, least, sets, settle}
 use Rattle.bcast_model.proofs.Least.{least-le-limit}
 use Rattle.bcast_store.specs.Stored.{Stored, end_of, with_cursors}
 use Rattle.bcast_core.specs.Parts.{seen_of}

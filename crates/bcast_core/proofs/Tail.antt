@@ -1,29 +1,23 @@
--- The last step of a call, which tells those who wait.
-use Rattle.std.proofs.Common.{◌≡◌, ℕ, ◌+◌, ◌≤◌, ◌==◌, Bool, true, false, not, cond, Option, Some, None, length, min, max, is_ok, refl, sym, ap, ◌∙◌, subst, arith}
+-- The last step of a call, which tells those who wait. Answers of state calls take their lemmas
+-- from here.
+use Rattle.std.proofs.Common.{◌≡◌, ℕ, ◌+◌, ◌≤◌, ◌==◌, Bool, true, false, not, cond, ◌&&◌, Option, Some, None, length, min, max, is_ok, refl, sym, ap, ◌∙◌, subst, arith}
 use Rattle.std.proofs.lemmas.Grind.{common_steps}
 use Rattle.std.specs.FinMap.{len}
 use Rattle.bcast_model.specs.declared.error.TrySendError.{TrySendError}
 use Rattle.bcast_model.specs.declared.error.TrySendError.TheVariants as unsent
 use Rattle.bcast_model.specs.declared.run.Call.{Call}
 use Rattle.bcast_model.specs.declared.run.Reply.{Reply}
-use Rattle.bcast_model.specs.Listeners.{Listeners, tell, tell_all}
-use Rattle.bcast_model.specs.ListenerId.{Pair}
-use Rattle.bcast_model.specs.Control.{Cursors, tell_a_sender, pair_waits}
-use Rattle.bcast_model.specs.Effects.{effect}
-use Rattle.bcast_model.specs.Laws.{HasRange, IsValidView}
-use Rattle.bcast_model.specs.Next.{may_tell, tell_if_ready}
-use Rattle.bcast_model.specs.Sending.{reply_to_attempt, reply_to_try}
-use Rattle.bcast_model.specs.Steps.{Steps, settle}
-use Rattle.bcast_model.specs.View.{View, sends_are_ready}
-use Rattle.bcast_model.specs.Answers.{Answers, IsShown}
-use Rattle.bcast_model.proofs.Answers.{answers_as}
+use Rattle.bcast_model.specs.Words.{Listeners, no_listeners, tell, tell_all, Pair, Cursors}
+use Rattle.bcast_model.specs.Words.{tell_a_sender, pair_waits, effect, HasRange, IsValidView}
+use Rattle.bcast_model.specs.Words.{may_tell, tell_if_ready, reply_to_attempt, reply_to_try, Steps}
+use Rattle.bcast_model.specs.Words.{settle, View, sends_are_ready, Answers, IsShown}
+pub use Rattle.bcast_model.proofs.Answers.{answers_as, shown_after}
 use Rattle.bcast_model.proofs.Calls.{keeps_valid}
 use Rattle.bcast_model.proofs.WaitingSends.{OneIsTold}
-use Rattle.bcast_core.specs.Alone.{NobodyWaits}
+use Rattle.bcast_core.specs.Telling.{NobodyWaits}
 use Rattle.bcast_core.specs.Parts.{Does}
 use Rattle.bcast_core.specs.Telling.{is_accepted, tell_news}
-use Rattle.bcast_core.proofs.Does.{valid_shown}
-use Rattle.bcast_core.proofs.Idle.{told_none}
+pub use Rattle.bcast_core.proofs.Does.{valid_shown, does_begin, does_resize, does_sets}
 
 -- where one is told already, telling one changes nothing
 told_one : (l : Listeners ℕ) → OneIsTold l → tell 1 l ≡ l
@@ -32,6 +26,14 @@ told_one l told =
     λ i. record l { told = same i }
 
 module _ {T : Type 0} where
+  -- nobody is told if nobody waits
+  pub told_none : (v : View T) (may : Bool) → v.control.waiting_sends ≡ no_listeners → tell_if_ready may v ≡ v
+  told_none v may nobody =
+      elim (may && sends_are_ready v) as (λ b. cond b (record v { control = tell_a_sender v.control }) v ≡ v) [
+        | true ↦ (λ i. record v { control = record v.control { waiting_sends = (ap (tell 1) nobody ∙ sym nobody) i } })
+        | false ↦ refl
+      ]
+
   -- so every call may tell one last: where it needn't, no wake-up is lost
   tell_once : (may : Bool) (w : View T) → (may ≡ false → sends_are_ready w ≡ true → OneIsTold w.control.waiting_sends) → tell_if_ready true w ≡ tell_if_ready may w
   tell_once true w told = refl
@@ -66,9 +68,9 @@ module _ {T : Type 0} where
       answers_as same fits shown (told_last (valid_shown shown) range does new_is)
 
   -- where nobody waits nobody is told of a message
-  pub news_alone : (news : Bool) (v : View T) → NobodyWaits v.control → tell_news news v ≡ v
-  news_alone false v alone = refl
-  news_alone true v alone =
+  pub news_nobody : (news : Bool) (v : View T) → NobodyWaits v.control → tell_news news v ≡ v
+  news_nobody false v alone = refl
+  news_nobody true v alone =
       let receives = ap tell_all alone.receives ∙ sym alone.receives in
       let sends = ap tell_all alone.sends ∙ sym alone.sends in
       elim v.control.closed as (λ b. record v { control = cond b (record v.control { waiting_receives = tell_all v.control.waiting_receives; waiting_sends = tell_all v.control.waiting_sends }) (record v.control { waiting_receives = tell_all v.control.waiting_receives }) } ≡ v) [
@@ -76,8 +78,8 @@ module _ {T : Type 0} where
         | false ↦ (λ i. record v { control = record v.control { waiting_receives = receives i } })
       ]
 
-  pub tail_alone : (news : Bool) (v : View T) → NobodyWaits v.control → tell_if_ready true (tell_news news v) ≡ v
-  tail_alone news v alone = ap (tell_if_ready true) (news_alone news v alone) ∙ told_none v true alone.sends
+  pub tail_nobody : (news : Bool) (v : View T) → NobodyWaits v.control → tell_if_ready true (tell_news news v) ≡ v
+  tail_nobody news v alone = ap (tell_if_ready true) (news_nobody news v alone) ∙ told_none v true alone.sends
 
   -- an attempt is accepted where the try is
   pub accepted_same : (await_active : Bool) (back : Option T) (error : Option (TrySendError T)) → is_accepted (reply_to_attempt await_active back error) ≡ is_ok (reply_to_try back error)

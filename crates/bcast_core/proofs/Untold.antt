@@ -3,13 +3,8 @@ use Rattle.std.proofs.Common.{◌≡◌, ◌⊎◌, inl, inr, ℕ, ◌≤◌, tr
 use Rattle.std.specs.FinMap.{get}
 use Rattle.std.proofs.lemmas.Grind.{common_steps}
 use Rattle.bcast_model.specs.declared.error.TryRecvError.TheVariants as unread
-use Rattle.bcast_model.specs.Listeners.{untold_ids}
-use Rattle.bcast_model.specs.ListenerId.{Pair, same_pair}
-use Rattle.bcast_model.specs.Control.{cursor_of}
-use Rattle.bcast_model.specs.Receiving.{skipped_to, try_recv_reply}
-use Rattle.bcast_model.specs.View.{View}
-use Rattle.bcast_model.specs.Valid.{WouldWait}
-use Rattle.bcast_model.specs.Laws.{IsValidView}
+use Rattle.bcast_model.specs.Words.{untold_ids, Pair, same_pair, cursor_of, skipped_to}
+use Rattle.bcast_model.specs.Words.{try_recv_reply, View, WouldWait, IsValidView}
 use Rattle.bcast_model.proofs.Lists.{all_in}
 use Rattle.bcast_model.proofs.Receives.{empty_at_end}
 use Rattle.bcast_model.proofs.Tests.{test_pair}

@@ -1,17 +1,14 @@
 -- What is seen of the state's parts.
 use Rattle.std.proofs.Common.{◌≡◌, ℕ, Bool, sym, ap, ◌∙◌}
-use Rattle.bcast_model.specs.Control.{Control, Cursors}
-use Rattle.bcast_model.specs.View.{View}
-use Rattle.bcast_model.specs.Effect.{sets}
-use Rattle.bcast_model.specs.Steps.{settle}
+use Rattle.bcast_model.specs.Words.{Control, Cursors, View, sets, settle, Pair}
 use Rattle.bcast_store.specs.Stored.{Stored, with_cursors}
-use Rattle.bcast_waiting.specs.Lists.{Sends, Receives}
+use Rattle.bcast_waiting.specs.Words.{Event, Sends}
 use Rattle.bcast_core.specs.Parts.{control_of, seen_of}
 use Rattle.bcast_core.proofs.Stores.{settle-with_cursors}
 
 module _ {T : Type 0} where
   -- other cursors lead to the view that their effect settles to
-  pub view-with_cursors : (s now : Stored T) (sends : Sends) (receives : Receives) (senders inactive : ℕ) (closed overflow await_active : Bool) (capacity : ℕ) (cursors : Cursors) (v : View T)
+  pub view-with_cursors : (s now : Stored T) (sends : Sends) (receives : Event Pair) (senders inactive : ℕ) (closed overflow await_active : Bool) (capacity : ℕ) (cursors : Cursors) (v : View T)
       → now ≡ with_cursors s cursors
       → seen_of s (control_of s sends receives senders inactive closed overflow await_active capacity) ≡ v
       → seen_of now (control_of now sends receives senders inactive closed overflow await_active capacity) ≡ settle v (sets (record v.control { cursors = cursors }))

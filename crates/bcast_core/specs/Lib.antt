@@ -4,13 +4,9 @@ pub mod Parts
 pub mod InfallibleClones
 -- what a snapshot of a channel says
 pub mod Snapshot
--- how often a receive poll looks for a message
+-- how often a receive poll looks for a message, and when it finds nothing
 pub mod Tries
 -- which calls are those of futures and streams
 pub mod TaskCalls
--- a channel where nobody waits
-pub mod Alone
--- who is told of a message that was accepted
+-- who waits, and who is told of a message that was accepted
 pub mod Telling
--- which receives find nothing
-pub mod Waits

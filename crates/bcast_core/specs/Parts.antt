@@ -2,19 +2,15 @@
 use Rattle.std.specs.Prelude.{◌≡◌, ℕ, ◌+◌, ◌*◌, ◌<◌, Bool, true, false, is_some}
 use Rattle.std.specs.FinMap.{get}
 use Rattle.std.specs.FinSet as set
-use Rattle.bcast_model.specs.Listeners.{no_listeners}
-use Rattle.bcast_model.specs.Control.{Control, Cursors}
-use Rattle.bcast_model.specs.View.{View}
-use Rattle.bcast_model.specs.Legal.{Legal}
-use Rattle.bcast_model.specs.Effects.{effect}
-use Rattle.bcast_model.specs.Steps.{settle}
+use Rattle.bcast_model.specs.Words.{no_listeners, Control, Cursors, View, Legal, effect, settle}
+use Rattle.bcast_model.specs.Words.{Pair}
 use Rattle.bcast_model.specs.declared.run.Call.{Call}
 use Rattle.bcast_model.specs.declared.run.Reply.{Reply}
 use Rattle.bcast_store.specs.Stored.{Stored, end_of}
-use Rattle.bcast_waiting.specs.Lists.{Sends, Receives}
+use Rattle.bcast_waiting.specs.Words.{Event, Sends}
 
 -- what stands beside the messages
-abbrev pub control_of : {T : Type 0} → Stored T → Sends → Receives
+abbrev pub control_of : {T : Type 0} → Stored T → Sends → Event Pair
     → ℕ → ℕ → Bool → Bool → Bool → ℕ → Control
 control_of store sends receives senders inactive closed overflow await_active capacity = record {
   cursors = store.cursors;
@@ -27,7 +23,7 @@ control_of store sends receives senders inactive closed overflow await_active ca
   room = store.room;
   places = sends.places;
   waiting_sends = sends.waiting;
-  waiting_receives = receives.waiting;
+  waiting_receives = receives.listeners;
 }
 
 abbrev pub seen_of : {T : Type 0} → Stored T → Control → View T
@@ -39,7 +35,7 @@ seen_of store control = record {
 }
 
 -- a new channel of this capacity, with these messages and receivers: one sender, and it is open
-abbrev pub new_with : {T : Type 0} → Stored T → Receives → ℕ → View T
+abbrev pub new_with : {T : Type 0} → Stored T → Event Pair → ℕ → View T
 new_with store receives capacity =
     let sends : Sends = record { places = set.empty; waiting = no_listeners } in
     seen_of store (control_of store sends receives 1 0 false false true capacity)

@@ -4,8 +4,7 @@ use Rattle.std.specs.List.{AllZip}
 use Rattle.std.specs.List.Sorted.{IsStrictlyIncreasing}
 use Rattle.std.specs.FinMap.{entries}
 use Rattle.std.specs.FinSet as set
-use Rattle.bcast_model.specs.Listeners.{Listeners}
-use Rattle.bcast_model.specs.View.{View}
+use Rattle.bcast_model.specs.Words.{Listeners, View}
 use Rattle.bcast_core.specs.declared.snapshot.Snapshot.{Snapshot}
 use Rattle.bcast_core.specs.declared.snapshot.Waiting.{Waiting}
 

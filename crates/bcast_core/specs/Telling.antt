@@ -1,10 +1,13 @@
--- Who is told of a message that was accepted. No public clause cites this module.
-use Rattle.std.specs.Prelude.{Bool, false, is_ok, if◌then◌else◌}
+-- Who waits, and who is told of a message that was accepted. No public clause cites this module.
+use Rattle.std.specs.Prelude.{◌≡◌, Bool, false, is_ok, if◌then◌else◌}
 use Rattle.bcast_model.specs.declared.run.SendPoll.{SendPoll}
 use Rattle.bcast_model.specs.declared.run.SendPoll.TheVariants as send
-use Rattle.bcast_model.specs.Listeners.{tell_all}
-use Rattle.bcast_model.specs.Control.{Control, tell_receivers}
-use Rattle.bcast_model.specs.View.{View}
+use Rattle.bcast_model.specs.Words.{no_listeners, tell_all, Control, tell_receivers, View}
+
+-- no send waits, and no receiver
+pub record NobodyWaits (c : Control) : Type 0 where
+  pub sends : c.waiting_sends ≡ no_listeners
+  pub receives : c.waiting_receives ≡ no_listeners
 
 -- everyone that waits to receive is told; and everyone that waits to send, if the message closed
 -- the channel

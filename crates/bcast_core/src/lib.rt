@@ -9,7 +9,6 @@ mod parts;
 mod snapshot;
 mod state;
 mod steps;
-mod tries;
 
 pub use bcast_model::error::{
     HandleError, NoMemory, RecvError, SendError, TryRecvError, TrySendError,
@@ -17,8 +16,8 @@ pub use bcast_model::error::{
 pub use bcast_model::listener::Kind;
 pub use bcast_model::messages::{Messages, in_vec};
 pub use bcast_model::run::{Call, Reply, SendPoll};
+pub use bcast_queue::Steps;
 pub use bcast_waiting::notice::{Given, MakesNotice, Notice, Refused, Silent};
 pub use snapshot::{Snapshot, Waiting};
 pub use state::Inner;
 pub use steps::{Ran, poll, run, step};
-pub use tries::Steps;

@@ -2,9 +2,10 @@
 ghost use Rattle.std.specs.Prelude.{◌≡◌, ◌==◌, ◌↔◌, false, true, length};
 ghost use Rattle.std.specs.FinMap.{len};
 
+use bcast_model::listener::Kind;
 use bcast_store::Store;
 use bcast_waiting::notice::Notice;
-use bcast_waiting::{ReceiveList, SendList};
+use bcast_waiting::{Event, SendList};
 use std::alloc::{Allocator, Global};
 use std::marker::Model;
 
@@ -23,7 +24,7 @@ pub use send::is_accepted;
 pub struct Parts<T, N: Notice, A: Allocator = Global> {
     store: Store<T, A>,
     sends: SendList<N, A>,
-    receives: ReceiveList<N, A>,
+    receives: Event<(usize, Kind), N, A>,
     senders: usize,
     inactive: usize,
     closed: bool,
@@ -33,8 +34,7 @@ pub struct Parts<T, N: Notice, A: Allocator = Global> {
 }
 
 impl<T, N: Notice, A: Allocator> Model for Parts<T, N, A> {
-    ghost use Rattle.bcast_model.specs.View.{View};
-    ghost use Rattle.bcast_model.specs.Encodings.{view_code};
+    ghost use Rattle.bcast_model.specs.Words.{View, view_code};
     ghost use Rattle.bcast_core.specs.Parts.{seen_of, control_of};
 
     ghost Value = { View T };
@@ -52,17 +52,20 @@ impl<T, N: Notice, A: Allocator> Model for Parts<T, N, A> {
 }
 
 impl<T: Drop, N: Notice, A: Allocator + Copy> Parts<T, N, A> {
-    ghost use Rattle.bcast_model.specs.Control.{has_no_receiver, is_deserted, close, close_if_deserted};
-    ghost use Rattle.bcast_model.specs.View.{is_full, sends_are_ready};
-    ghost use Rattle.bcast_model.specs.Control.{cursor_of};
-    ghost use Rattle.bcast_model.specs.Next.{tell_if_ready};
-    ghost use Rattle.bcast_core.specs.Alone.{NobodyWaits};
+    ghost use Rattle.bcast_model.specs.Words.{has_no_receiver, is_deserted, close};
+    ghost use Rattle.bcast_model.specs.Words.{close_if_deserted, is_full, sends_are_ready};
+    ghost use Rattle.bcast_model.specs.Words.{cursor_of, tell_if_ready};
     ghost use Rattle.bcast_core.specs.Parts.{HaveRoom, new_with};
-    ghost use Rattle.bcast_core.specs.Telling.{tell_news};
+    ghost use Rattle.bcast_core.specs.Telling.{tell_news, NobodyWaits};
 
     /// A new channel with these messages and receivers, and one sender.
     #[inline(always)]
-    pub fn new(alloc: A, cap: usize, store: Store<T, A>, receives: ReceiveList<N, A>) -> Self
+    pub fn new(
+        alloc: A,
+        cap: usize,
+        store: Store<T, A>,
+        receives: Event<(usize, Kind), N, A>,
+    ) -> Self
         requires { HaveRoom store.cursors receives.room }
         ensures { result ≡ new_with store receives cap }
     {
@@ -175,7 +178,7 @@ impl<T: Drop, N: Notice, A: Allocator + Copy> Parts<T, N, A> {
     pub fn nobody_waits(&self) -> bool
         ensures { result ≡ true → NobodyWaits self.now.control }
     {
-        self.sends.is_idle() && self.receives.is_idle()
+        self.sends.nobody_waits() && self.receives.is_empty()
     }
 
     /// The last step of a call: tells the first send that waits, if sends are ready now.
@@ -183,7 +186,7 @@ impl<T: Drop, N: Notice, A: Allocator + Copy> Parts<T, N, A> {
     pub fn tell_a_sender(&mut self)
         ensures { self.new ≡ tell_if_ready true self.old }
     {
-        if !self.sends.is_idle() {
+        if !self.sends.nobody_waits() {
             self.tell_if_ready();
         }
     }

@@ -4,8 +4,9 @@ ghost use Rattle.std.specs.FinMap.{len};
 ghost use Rattle.bcast_model.specs.History.{opening};
 
 use crate::parts::Parts;
+use bcast_model::listener::Kind;
 use bcast_store::Store;
-use bcast_waiting::ReceiveList;
+use bcast_waiting::Event;
 use bcast_waiting::notice::Notice;
 use std::alloc::{AllocError, Allocator, Global};
 use std::marker::Model;
@@ -28,9 +29,7 @@ pub struct Inner<T, N: Notice, A: Allocator = Global> {
 }
 
 impl<T, N: Notice, A: Allocator> Model for Inner<T, N, A> {
-    ghost use Rattle.bcast_model.specs.View.{View};
-    ghost use Rattle.bcast_model.specs.Encodings.{view_code};
-    ghost use Rattle.bcast_model.specs.Answers.{IsShown};
+    ghost use Rattle.bcast_model.specs.Words.{View, view_code, IsShown};
 
     ghost Value = { View T };
 
@@ -51,8 +50,7 @@ impl<T: Drop, N: Notice, A: Allocator> Drop for Inner<T, N, A> {
 }
 
 impl<T: Drop, N: Notice, A: Allocator + Copy> Inner<T, N, A> {
-    ghost use Rattle.bcast_model.specs.Valid.{IsValid};
-    ghost use Rattle.bcast_model.specs.Answers.{Represents, IsShown};
+    ghost use Rattle.bcast_model.specs.Words.{IsValid, Represents, IsShown};
 
     /// A new channel of this capacity, and the key of its first receiver.
     ///
@@ -85,8 +83,8 @@ impl<T: Drop, N: Notice, A: Allocator + Copy> Inner<T, N, A> {
     {
         let mut store = Store::new(alloc, first, cap)?;
         let key = store.add(first)?;
-        let mut receives = ReceiveList::new(alloc);
-        receives.reserve_for(key)?;
+        let mut receives = Event::new(alloc);
+        receives.reserve_for((key, Kind::Future))?;
         // Put together last: a greater value would be copied at each step that may be refused.
         let parts = Parts::new(alloc, cap, store, receives);
         Ok((Inner { parts }, key))

@@ -1,28 +1,20 @@
 //! Calls as data: one at a time, and a whole list.
 ghost use Rattle.std.specs.Prelude.{◌≡◌, ◌+◌, ◌^◌, ◌<◌, false, true, [], IfOk, IfErr, OnErr};
 ghost use Rattle.std.specs.List.{All, AllByRecursion};
-ghost use Rattle.bcast_model.specs.Next.{HasPositiveCapacity};
-ghost use Rattle.bcast_model.specs.Answers.{Answers, IsPossible, Represents};
-ghost use Rattle.bcast_model.specs.History.{opening};
-ghost use Rattle.bcast_model.specs.Run.{IsRun, end_of_run};
-ghost use Rattle.bcast_model.specs.Valid.{IsValid};
-ghost use Rattle.bcast_model.specs.Legal.{NoClone, ClonesEqual};
-ghost use Rattle.bcast_model.specs.Missed.{dropped_in, MissesWhatWasDropped};
+ghost use Rattle.bcast_model.specs.Words.{HasPositiveCapacity, Answers, IsPossible, Represents};
+ghost use Rattle.bcast_model.specs.Words.{opening, IsRun, end_of_run, IsValid, NoClone};
+ghost use Rattle.bcast_model.specs.Words.{ClonesEqual, dropped_in, MissesWhatWasDropped};
+ghost use Rattle.bcast_model.specs.Words.{AtEachPoint, AreAllExact, WaitsAsItsTry, ComesToRest};
+ghost use Rattle.bcast_model.specs.Words.{must_wait};
 ghost use Rattle.std.specs.List.Sorted.{IsStrictlyIncreasing};
-ghost use Rattle.bcast_model.specs.Deliveries.{AtEachPoint, AreAllExact};
-ghost use Rattle.bcast_model.specs.Laws.{WaitsAsItsTry};
-ghost use Rattle.bcast_model.specs.ToldPolls.{ComesToRest};
 ghost use Rattle.bcast_core.specs.InfallibleClones.{is_receive_refused};
 ghost use Rattle.bcast_core.specs.TaskCalls.{is_of_task};
-ghost use Rattle.bcast_model.specs.PollLaws.{must_wait};
 
 use crate::state::Inner;
-use crate::tries::Steps;
 use bcast_model::run::{Call, Reply};
+use bcast_queue::Uncounted;
 use bcast_waiting::notice::{Given, MakesNotice, Notice, Silent};
 use std::alloc::{Allocator, Global};
-use std::marker::Brand;
-use std::sync::ledger::{Blank, Ledger};
 
 /// Makes the one state call that `call` names, and returns its reply.
 ///
@@ -71,35 +63,8 @@ pub fn poll<T: Clone, N: Notice, A: Allocator + Copy, M: MakesNotice<N>>(
     ensures same { OnErr result (inner.new ≡ inner.old) }
     ensures refused { OnErr result (M.refused maker.old maker.new) }
 {
-    make_call::<T, N, A, M, Brand>(inner, call, maker, Blank::new(1))
-}
-
-// The same, with steps that nobody counts. That the reply is possible follows from `answers`.
-//
-// The calls of futures and streams are compiled into their callers. All others stand in a function
-// of their own: a function that has all 37 is too large to be compiled in.
-#[inline(always)]
-fn make_call<T: Clone, N: Notice, A: Allocator + Copy, M: MakesNotice<N>, L: Ledger>(
-    inner: &mut Inner<T, N, A>,
-    call: Call<T>,
-    maker: &mut M,
-    blank: Blank,
-) -> Result<Reply<T>, Call<T>>
-    requires capacity { HasPositiveCapacity call }
-    requires name { blank.name ≡ L.name }
-    requires parts { blank.parts ≡ L.parts }
-    requires some { 0 < blank.parts }
-    ensures answers { IfOk result (λ reply. Answers T.is_clone inner.old call reply inner.new) }
-    ensures sure { ((msg : T) → T.is_infallible msg)
-        → IfOk result (λ reply. is_receive_refused reply ≡ false) }
-
-    ensures made { IfOk result (λ reply. must_wait reply ≡ true → M.made maker.old maker.new) }
-    ensures idle { IfOk result (λ reply. must_wait reply ≡ false → maker.new ≡ maker.old) }
-    ensures back { IfErr result (λ back. back ≡ call) }
-    ensures same { OnErr result (inner.new ≡ inner.old) }
-    ensures refused { OnErr result (M.refused maker.old maker.new) }
-{
-    let mut steps = Steps::<L>::new(blank);
+    // The calls of futures and streams are compiled into their callers. All others stand in a
+    // function of their own: a function that has all 37 is too large to be compiled in.
     match call {
         Call::BeginSend => Ok(Reply::BeginSend(inner.begin_send())),
         Call::PollSend(place, msg) => match inner.poll_send_by(place, msg, maker) {
@@ -110,7 +75,7 @@ fn make_call<T: Clone, N: Notice, A: Allocator + Copy, M: MakesNotice<N>, L: Led
             inner.end_send(place);
             Ok(Reply::EndSend)
         }
-        Call::PollFuture(key) => match inner.poll_future_by(key, maker, &mut steps) {
+        Call::PollFuture(key) => match inner.poll_future_by(key, maker, &mut Uncounted) {
             Ok(answer) => Ok(Reply::PollFuture(answer)),
             Err(_) => Err(Call::PollFuture(key)),
         },
@@ -118,11 +83,11 @@ fn make_call<T: Clone, N: Notice, A: Allocator + Copy, M: MakesNotice<N>, L: Led
             inner.end_future(key);
             Ok(Reply::EndFuture)
         }
-        Call::PollRecv(key) => match inner.poll_recv_by(key, maker, &mut steps) {
+        Call::PollRecv(key) => match inner.poll_recv_by(key, maker, &mut Uncounted) {
             Ok(answer) => Ok(Reply::PollRecv(answer)),
             Err(_) => Err(Call::PollRecv(key)),
         },
-        Call::PollNext(key) => match inner.poll_next_by(key, maker, &mut steps) {
+        Call::PollNext(key) => match inner.poll_next_by(key, maker, &mut Uncounted) {
             Ok(answer) => Ok(Reply::PollNext(answer)),
             Err(_) => Err(Call::PollNext(key)),
         },
@@ -131,6 +96,7 @@ fn make_call<T: Clone, N: Notice, A: Allocator + Copy, M: MakesNotice<N>, L: Led
 }
 
 // The calls that no future and no stream makes: they leave no notice.
+#[tactic(auto, using(crate::proofs::Accessors::named, crate::proofs::Accessors::answers_read, bcast_model::proofs::Clones::answers_any))]
 #[inline(never)]
 fn make_at_once<T: Clone, N: Notice, A: Allocator + Copy>(
     inner: &mut Inner<T, N, A>,

@@ -8,15 +8,12 @@ use Rattle.bcast_model.specs.declared.error.TryRecvError.TheVariants as unread
 use Rattle.bcast_model.specs.declared.run.Call.{Call}
 use Rattle.bcast_model.specs.declared.run.Call.TheVariants as call
 use Rattle.bcast_model.specs.declared.run.Reply.{Reply}
-use Rattle.bcast_model.specs.ListenerId.{Pair, stream_of, future_of}
-use Rattle.bcast_model.specs.Control.{Control, pair_waits, pair_answered, cursor_of}
-use Rattle.bcast_model.specs.View.{View, kept_at, sends_are_ready}
-use Rattle.bcast_model.specs.Effect.{Effect, sets}
-use Rattle.bcast_model.specs.Receiving.{receive, listens, skipped_to, receive_poll, is_empty_reply, recv_reply, try_recv_reply}
-use Rattle.bcast_model.specs.Effects.{set_unless_refused, effect}
-use Rattle.bcast_model.specs.History.{History, view_of, remember, front_number, numbered}
-use Rattle.bcast_model.specs.Next.{is_out_of_memory, may_tell, next}
-use Rattle.bcast_model.specs.Deliveries.{receives_for}
+use Rattle.bcast_model.specs.Words.{Pair, stream_of, future_of, Control, pair_waits, pair_answered}
+use Rattle.bcast_model.specs.Words.{cursor_of, View, kept_at, sends_are_ready, Effect, sets}
+use Rattle.bcast_model.specs.Words.{receive, listens, skipped_to, receive_poll, is_empty_reply}
+use Rattle.bcast_model.specs.Words.{recv_reply, try_recv_reply, set_unless_refused, effect, History}
+use Rattle.bcast_model.specs.Words.{view_of, remember, front_number, numbered, is_out_of_memory}
+use Rattle.bcast_model.specs.Words.{may_tell, next, receives_for}
 use Rattle.bcast_model.proofs.Cases.{test_is, receive_is, tell_is}
 use Rattle.bcast_model.proofs.Views.{numbered-queue, first_under}
 use Rattle.bcast_model.proofs.DeliveryMaps.{inserted_other}

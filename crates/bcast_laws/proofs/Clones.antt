@@ -5,16 +5,10 @@ use Rattle.std.specs.Prelude.{is_some}
 use Rattle.bcast_model.specs.declared.run.Call.TheVariants as call
 use Rattle.bcast_model.specs.declared.run.Reply.{Reply}
 use Rattle.bcast_model.specs.declared.run.Reply.TheVariants as reply
-use Rattle.bcast_model.specs.Handles.{clone_receiver}
+use Rattle.bcast_model.specs.Words.{clone_receiver, Control, cursor_of, View, try_recv_reply}
+use Rattle.bcast_model.specs.Words.{History, view_of, next, Legal, IsValid}
 use Rattle.std.specs.FinMap.{get}
-use Rattle.bcast_model.specs.Control.{Control, cursor_of}
-use Rattle.bcast_model.specs.View.{View}
-use Rattle.bcast_model.specs.Receiving.{try_recv_reply}
-use Rattle.bcast_model.specs.History.{History, view_of}
-use Rattle.bcast_model.specs.Next.{next}
 use Rattle.bcast_model.proofs.Answers.{cursors-next}
-use Rattle.bcast_model.specs.Legal.{Legal}
-use Rattle.bcast_model.specs.Valid.{IsValid}
 use Rattle.bcast_model.proofs.DeliveryMaps.{inserted, inserted_other}
 use Rattle.bcast_laws.proofs.Sends.{apart}
 use Rattle.bcast_laws.proofs.Answers.{others_answer}

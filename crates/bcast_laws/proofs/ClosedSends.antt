@@ -6,11 +6,9 @@ use Rattle.bcast_model.specs.declared.run.SendPoll.TheVariants as send
 use Rattle.bcast_model.specs.declared.run.Call.TheVariants as call
 use Rattle.bcast_model.specs.declared.run.Reply.{Reply}
 use Rattle.bcast_model.specs.declared.run.Reply.TheVariants as reply
-use Rattle.bcast_model.specs.Control.{has_no_receiver, has_place}
-use Rattle.bcast_model.specs.View.{View, is_full}
-use Rattle.bcast_model.specs.Sending.{refusal, reply_to_try, reply_to_attempt, handed_back, attempt_send_reply}
-use Rattle.bcast_model.specs.SendAll.{free_room, reply_to_all}
-use Rattle.bcast_model.specs.Legal.{Legal}
+use Rattle.bcast_model.specs.Words.{has_no_receiver, has_place, View, is_full, refusal}
+use Rattle.bcast_model.specs.Words.{reply_to_try, reply_to_attempt, handed_back, attempt_send_reply}
+use Rattle.bcast_model.specs.Words.{free_room, reply_to_all, Legal}
 use Rattle.bcast_laws.proofs.Closing.{IsClosed}
 
 module _ {T : Type 0} where

@@ -5,18 +5,17 @@ use Rattle.bcast_model.specs.declared.error.TryRecvError.{TryRecvError}
 use Rattle.bcast_model.specs.declared.run.Call.{Call}
 use Rattle.bcast_model.specs.declared.run.Call.TheVariants as call
 use Rattle.bcast_model.specs.declared.run.Reply.{Reply}
-use Rattle.bcast_model.specs.ListenerId.{Pair, stream_of, future_of}
-use Rattle.bcast_model.specs.Control.{Control, tell_receivers, close, close_if_deserted, accepting, has_place, place_waits, pair_waits, pair_answered, cursor_of}
-use Rattle.bcast_model.specs.View.{View, sends_are_ready}
-use Rattle.bcast_model.specs.Effect.{Effect, sets}
-use Rattle.bcast_model.specs.Sending.{refusal, accept_unless, offer, with_place_answered, poll_send}
-use Rattle.bcast_model.specs.SendAll.{offer_all}
-use Rattle.bcast_model.specs.Receiving.{receive, listens, skipped_to, receive_poll, is_empty_reply, try_recv_reply}
-use Rattle.bcast_model.specs.Effects.{resize, set_unless_refused, effect}
-use Rattle.bcast_model.specs.History.{History, view_of, remember}
-use Rattle.bcast_model.specs.Next.{is_out_of_memory, chosen_id, may_tell, next}
-use Rattle.bcast_model.specs.Handles.{has_next, begin_send, new_receiver, activate, clone_receiver, new_sender, clone_inactive, without_receiver, drop_receiver, deactivate, drop_sender, drop_inactive}
-use Rattle.bcast_model.specs.Run.{end_of_run}
+use Rattle.bcast_model.specs.Words.{Pair, stream_of, future_of, Control, tell_receivers, close}
+use Rattle.bcast_model.specs.Words.{close_if_deserted, accepting, has_place, place_waits}
+use Rattle.bcast_model.specs.Words.{pair_waits, pair_answered, cursor_of, View, sends_are_ready}
+use Rattle.bcast_model.specs.Words.{Effect, sets, refusal, accept_unless, offer}
+use Rattle.bcast_model.specs.Words.{with_place_answered, poll_send, offer_all, receive, listens}
+use Rattle.bcast_model.specs.Words.{skipped_to, receive_poll, is_empty_reply, try_recv_reply}
+use Rattle.bcast_model.specs.Words.{resize, set_unless_refused, effect, History, view_of, remember}
+use Rattle.bcast_model.specs.Words.{is_out_of_memory, chosen_id, may_tell, next, has_next}
+use Rattle.bcast_model.specs.Words.{begin_send, new_receiver, activate, clone_receiver, new_sender}
+use Rattle.bcast_model.specs.Words.{clone_inactive, without_receiver, drop_receiver, deactivate}
+use Rattle.bcast_model.specs.Words.{drop_sender, drop_inactive, end_of_run}
 use Rattle.bcast_model.proofs.SendAll.{offer_all_is}
 use Rattle.bcast_model.proofs.Cases.{test_is, close_is, deserted_is, accepting_is, receive_is, tell_is}
 

@@ -4,10 +4,7 @@ use Rattle.std.specs.FinMap.{len, values, entries, len-entries}
 use Rattle.bcast_model.specs.declared.run.Call.TheVariants as call
 use Rattle.bcast_model.specs.declared.run.Reply.{Reply}
 use Rattle.bcast_model.specs.declared.run.Reply.TheVariants as reply
-use Rattle.bcast_model.specs.History.{least}
-use Rattle.bcast_model.specs.Legal.{Legal}
-use Rattle.bcast_model.specs.Valid.{IsValidView}
-use Rattle.bcast_model.specs.View.{View}
+use Rattle.bcast_model.specs.Words.{least, Legal, IsValidView, View}
 
 pub empty : {A : Type 0} (items : List A) → length items ≤ 0 → items ≡ []
 empty [] short = refl

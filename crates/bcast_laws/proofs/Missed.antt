@@ -8,14 +8,10 @@ use Rattle.bcast_model.specs.declared.run.Call.{Call}
 use Rattle.bcast_model.specs.declared.run.Call.TheVariants as call
 use Rattle.bcast_model.specs.declared.run.Reply.{Reply}
 use Rattle.bcast_model.specs.declared.run.Reply.TheVariants as reply
-use Rattle.bcast_model.specs.Control.{with_cursor, cursor_of}
-use Rattle.bcast_model.specs.View.{View, kept_at, sends_are_ready}
-use Rattle.bcast_model.specs.Effect.{sets}
-use Rattle.bcast_model.specs.Receiving.{receive, recv_reply, try_recv_reply}
-use Rattle.bcast_model.specs.Effects.{effect}
-use Rattle.bcast_model.specs.History.{History, view_of, remember, front_number, end_number, queue_of}
-use Rattle.bcast_model.specs.Next.{may_tell, next}
-use Rattle.bcast_model.specs.Valid.{IsValid}
+use Rattle.bcast_model.specs.Words.{with_cursor, cursor_of, View, kept_at, sends_are_ready, sets}
+use Rattle.bcast_model.specs.Words.{receive, recv_reply, try_recv_reply, effect, History, view_of}
+use Rattle.bcast_model.specs.Words.{remember, front_number, end_number, queue_of, may_tell, next}
+use Rattle.bcast_model.specs.Words.{IsValid}
 use Rattle.bcast_model.proofs.Cases.{tell_is}
 use Rattle.bcast_model.proofs.Views.{valid_view, lagging}
 use Rattle.bcast_model.proofs.DeliveryLists.{past_end}

@@ -3,12 +3,8 @@ use Rattle.std.proofs.Common.{◌≡◌, inl, inr, ℕ, List, [], ◌∷◌, Opt
 use Rattle.std.specs.Prelude.{IsSomeAnd}
 use Rattle.bcast_model.specs.declared.run.Call.{Call}
 use Rattle.bcast_model.specs.declared.run.Reply.{Reply}
-use Rattle.bcast_model.specs.History.{History, numbered}
-use Rattle.bcast_model.specs.Legal.{IsGiven, ClonesEqual}
-use Rattle.bcast_model.specs.Next.{next}
-use Rattle.bcast_model.specs.Valid.{IsValid}
-use Rattle.bcast_model.specs.Run.{IsRun, end_of_run}
-use Rattle.bcast_model.specs.Deliveries.{AreAllExact, AtEachPoint}
+use Rattle.bcast_model.specs.Words.{History, numbered, IsGiven, ClonesEqual, next, IsValid, IsRun}
+use Rattle.bcast_model.specs.Words.{end_of_run, AreAllExact, AtEachPoint}
 use Rattle.bcast_model.proofs.DeliveryLemmas.{deliveries_exact}
 use Rattle.bcast_laws.specs.Order.{IsGivenAs, AtSomePoint, HasOneOrder}
 

@@ -9,20 +9,17 @@ use Rattle.bcast_model.specs.declared.run.Call.{Call}
 use Rattle.bcast_model.specs.declared.run.Call.TheVariants as call
 use Rattle.bcast_model.specs.declared.run.Reply.{Reply}
 use Rattle.bcast_model.specs.declared.run.Reply.TheVariants as reply
-use Rattle.bcast_model.specs.Control.{Control, tell_a_sender, closing, with_cursor, cursor_of}
-use Rattle.bcast_model.specs.View.{View, kept_at, sends_are_ready}
-use Rattle.bcast_model.specs.Effect.{Effect, sets}
-use Rattle.bcast_model.specs.Sending.{refusal, reply_to_try, reply_to_attempt, handed_back, accept_unless}
-use Rattle.bcast_model.specs.SendAll.{refusal_of_all, reply_to_all, accept_all_unless}
-use Rattle.bcast_model.specs.Receiving.{receive, recv_reply, skipped_count, skipped_to, future_reply, stream_reply, next_reply, try_recv_reply, IsOwed}
-use Rattle.bcast_model.specs.Legal.{Legal, IsReceived}
-use Rattle.bcast_model.specs.Effects.{set_unless_refused, effect}
-use Rattle.bcast_model.specs.History.{History, view_of, remember, with_control}
-use Rattle.bcast_model.specs.Next.{is_out_of_memory, tell_if_ready, end_call, may_tell, next}
-use Rattle.bcast_model.specs.Valid.{IsValid, IsValidView}
+use Rattle.bcast_model.specs.Words.{Control, tell_a_sender, closing, with_cursor, cursor_of, View}
+use Rattle.bcast_model.specs.Words.{kept_at, sends_are_ready, Effect, sets, refusal, reply_to_try}
+use Rattle.bcast_model.specs.Words.{reply_to_attempt, handed_back, accept_unless, refusal_of_all}
+use Rattle.bcast_model.specs.Words.{reply_to_all, accept_all_unless, receive, recv_reply}
+use Rattle.bcast_model.specs.Words.{skipped_count, skipped_to, future_reply, stream_reply}
+use Rattle.bcast_model.specs.Words.{next_reply, try_recv_reply, IsOwed, Legal, IsReceived}
+use Rattle.bcast_model.specs.Words.{set_unless_refused, effect, History, view_of, remember}
+use Rattle.bcast_model.specs.Words.{with_control, is_out_of_memory, tell_if_ready, end_call}
+use Rattle.bcast_model.specs.Words.{may_tell, next, IsValid, IsValidView, has_next}
 use Rattle.bcast_model.proofs.Views.{valid_view}
 use Rattle.bcast_model.proofs.DeliveryLists.{past_end}
-use Rattle.bcast_model.specs.Handles.{has_next}
 use Rattle.bcast_model.proofs.Cases.{test_is, uncloned}
 use Rattle.bcast_laws.specs.Sends.{is_refused}
 use Rattle.bcast_laws.proofs.Sends.{apart}

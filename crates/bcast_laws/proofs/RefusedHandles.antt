@@ -3,9 +3,7 @@ use Rattle.std.proofs.Common.{◌≡◌, ℕ, ◌+◌, ◌||◌, not, Bool, true
 use Rattle.std.specs.Prelude.{is_some}
 use Rattle.bcast_model.specs.declared.error.HandleError.TheVariants as handle
 use Rattle.bcast_model.specs.declared.run.Reply.TheVariants as reply
-use Rattle.bcast_model.specs.Control.{Control}
-use Rattle.bcast_model.specs.Legal.{count_reply}
-use Rattle.bcast_model.specs.Handles.{has_next, deactivate, without_receiver}
+use Rattle.bcast_model.specs.Words.{Control, count_reply, has_next, deactivate, without_receiver}
 use Rattle.bcast_laws.specs.Sends.{is_refused}
 use Rattle.bcast_laws.proofs.Sends.{apart}
 

@@ -8,12 +8,9 @@ use Rattle.bcast_model.specs.declared.run.Call.{Call}
 use Rattle.bcast_model.specs.declared.run.Call.TheVariants as call
 use Rattle.bcast_model.specs.declared.run.Reply.{Reply}
 use Rattle.bcast_model.specs.declared.run.Reply.TheVariants as reply
-use Rattle.bcast_model.specs.Control.{cursor_of}
-use Rattle.bcast_model.specs.History.{History, view_of, end_number, numbered}
-use Rattle.bcast_model.specs.Legal.{Legal, IsGiven}
-use Rattle.bcast_model.specs.Valid.{IsValid}
-use Rattle.bcast_model.specs.Run.{IsRun, end_of_run}
-use Rattle.bcast_model.specs.Deliveries.{AreExact, AreAllExact, AtEachPoint, deliveries_of, last_cursor_of}
+use Rattle.bcast_model.specs.Words.{cursor_of, History, view_of, end_number, numbered, Legal}
+use Rattle.bcast_model.specs.Words.{IsGiven, IsValid, IsRun, end_of_run, AreExact, AreAllExact}
+use Rattle.bcast_model.specs.Words.{AtEachPoint, deliveries_of, last_cursor_of}
 use Rattle.bcast_model.proofs.Answers.{next_valid, cursors-next}
 use Rattle.bcast_model.proofs.DeliveryLemmas.{deliveries_exact}
 use Rattle.bcast_model.proofs.DeliveryLists.{past_end}

@@ -8,17 +8,13 @@ use Rattle.bcast_model.specs.declared.run.Call.{Call}
 use Rattle.bcast_model.specs.declared.run.Call.TheVariants as call
 use Rattle.bcast_model.specs.declared.run.Reply.{Reply}
 use Rattle.bcast_model.specs.declared.run.Reply.TheVariants as reply
-use Rattle.bcast_model.specs.Control.{has_no_receiver, has_place, place_waits}
-use Rattle.bcast_model.specs.View.{View, is_full, sends_are_ready}
-use Rattle.bcast_model.specs.Effect.{Effect, sets}
-use Rattle.bcast_model.specs.Sending.{refusal, reply_to_try, reply_to_attempt, handed_back, attempt_send_reply, accept_unless, offer, with_place_answered, poll_send}
-use Rattle.bcast_model.specs.SendAll.{free_room, refusal_of_all, reply_to_all, accept_all, accept_all_unless}
-use Rattle.bcast_model.specs.Effects.{effect}
-use Rattle.bcast_model.specs.Replies.{is_out_of_memory}
-use Rattle.bcast_model.specs.History.{History, view_of}
-use Rattle.bcast_model.specs.Next.{next}
-use Rattle.bcast_model.specs.Legal.{Legal}
-use Rattle.bcast_model.specs.Laws.{must_wait}
+use Rattle.bcast_model.specs.Words.{has_no_receiver, has_place, place_waits, View, is_full}
+use Rattle.bcast_model.specs.Words.{sends_are_ready, Effect, sets, refusal, reply_to_try}
+use Rattle.bcast_model.specs.Words.{reply_to_attempt, handed_back, attempt_send_reply}
+use Rattle.bcast_model.specs.Words.{accept_unless, offer, with_place_answered, poll_send, free_room}
+use Rattle.bcast_model.specs.Words.{refusal_of_all, reply_to_all, accept_all, accept_all_unless}
+use Rattle.bcast_model.specs.Words.{effect, is_out_of_memory, History, view_of, next, Legal}
+use Rattle.bcast_model.specs.Words.{must_wait}
 use Rattle.bcast_model.proofs.Cases.{test_is}
 use Rattle.bcast_model.proofs.Polls.{send_waits_unready}
 use Rattle.bcast_laws.specs.Sends.{sent_by, messages_of, returned_by, returned_all_by, is_accepted}

@@ -8,11 +8,9 @@ use Rattle.bcast_model.specs.declared.error.TryRecvError.TheVariants as unread
 use Rattle.bcast_model.specs.declared.run.Call.TheVariants as call
 use Rattle.bcast_model.specs.declared.run.Reply.{Reply}
 use Rattle.bcast_model.specs.declared.run.Reply.TheVariants as reply
-use Rattle.bcast_model.specs.Control.{cursor_of}
-use Rattle.bcast_model.specs.View.{View, kept_at}
-use Rattle.bcast_model.specs.Valid.{IsValidView}
-use Rattle.bcast_model.specs.Receiving.{IsOwed, recv_reply, skipped_count, skipped_to, future_reply, stream_reply, next_reply, try_recv_reply}
-use Rattle.bcast_model.specs.Legal.{Legal, IsReceived}
+use Rattle.bcast_model.specs.Words.{cursor_of, View, kept_at, IsValidView, IsOwed, recv_reply}
+use Rattle.bcast_model.specs.Words.{skipped_count, skipped_to, future_reply, stream_reply}
+use Rattle.bcast_model.specs.Words.{next_reply, try_recv_reply, Legal, IsReceived}
 use Rattle.bcast_laws.specs.Closing.{AnswersClosed}
 use Rattle.bcast_laws.proofs.Kept.{empty}
 

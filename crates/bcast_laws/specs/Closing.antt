@@ -9,12 +9,7 @@ use Rattle.bcast_model.specs.declared.run.Call.{Call}
 use Rattle.bcast_model.specs.declared.run.Call.TheVariants as call
 use Rattle.bcast_model.specs.declared.run.Reply.{Reply}
 use Rattle.bcast_model.specs.declared.run.Reply.TheVariants as reply
-use Rattle.bcast_model.specs.Control.{has_place}
-use Rattle.bcast_model.specs.View.{View}
-use Rattle.bcast_model.specs.History.{History}
-use Rattle.bcast_model.specs.Legal.{Legal}
-use Rattle.bcast_model.specs.Valid.{IsValidView}
-use Rattle.bcast_model.specs.Run.{end_of_run}
+use Rattle.bcast_model.specs.Words.{has_place, View, History, Legal, IsValidView, end_of_run}
 
 -- no calls open a closed channel, and each send on it is refused with its message
 pub record StaysClosed {T : Type 0} (is_clone : T → T → Type 0) : Type 0 where

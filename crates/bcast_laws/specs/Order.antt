@@ -2,13 +2,8 @@
 use Rattle.std.specs.Prelude.{◌≡◌, ℕ, ◌+◌, ◌⊎◌, List, [], ◌∷◌, slice_get, Some, IsSomeAnd}
 use Rattle.bcast_model.specs.declared.run.Call.{Call}
 use Rattle.bcast_model.specs.declared.run.Reply.{Reply}
-use Rattle.bcast_model.specs.Control.{cursor_of}
-use Rattle.bcast_model.specs.History.{History, numbered}
-use Rattle.bcast_model.specs.Legal.{IsGiven, ClonesEqual}
-use Rattle.bcast_model.specs.Next.{next}
-use Rattle.bcast_model.specs.Valid.{IsValid}
-use Rattle.bcast_model.specs.Run.{IsRun, end_of_run}
-use Rattle.bcast_model.specs.Deliveries.{deliveries_of}
+use Rattle.bcast_model.specs.Words.{cursor_of, History, numbered, IsGiven, ClonesEqual, next}
+use Rattle.bcast_model.specs.Words.{IsValid, IsRun, end_of_run, deliveries_of}
 
 -- a receiver that is there now is given this message, as the one of this number: its first delivery
 -- has the number of its cursor now, and each later one the next number

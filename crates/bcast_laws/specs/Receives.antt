@@ -6,14 +6,8 @@ use Rattle.bcast_model.specs.declared.run.Call.{Call}
 use Rattle.bcast_model.specs.declared.run.Call.TheVariants as call
 use Rattle.bcast_model.specs.declared.run.Reply.{Reply}
 use Rattle.bcast_model.specs.declared.run.Reply.TheVariants as reply
-use Rattle.bcast_model.specs.Control.{cursor_of}
-use Rattle.bcast_model.specs.View.{View}
-use Rattle.bcast_model.specs.History.{History, view_of}
-use Rattle.bcast_model.specs.Receiving.{try_recv_reply}
-use Rattle.bcast_model.specs.Legal.{Legal}
-use Rattle.bcast_model.specs.Next.{next}
-use Rattle.bcast_model.specs.Valid.{IsValid, IsValidView}
-use Rattle.bcast_model.specs.Deliveries.{receives_for}
+use Rattle.bcast_model.specs.Words.{cursor_of, View, History, view_of, try_recv_reply, Legal, next}
+use Rattle.bcast_model.specs.Words.{IsValid, IsValidView, receives_for}
 
 -- `len` is never over `capacity`, and no message is kept where nobody receives
 pub record KeepsAtMostCapacity {T : Type 0} (is_clone : T → T → Type 0) : Type 0 where

@@ -4,14 +4,9 @@ use Rattle.bcast_model.specs.declared.run.Call.{Call}
 use Rattle.bcast_model.specs.declared.run.Call.TheVariants as call
 use Rattle.bcast_model.specs.declared.run.Reply.{Reply}
 use Rattle.bcast_model.specs.declared.run.Reply.TheVariants as reply
-use Rattle.bcast_model.specs.Control.{cursor_of}
-use Rattle.bcast_model.specs.History.{History, view_of, end_number, numbered}
-use Rattle.bcast_model.specs.ReceiveReplies.{IsGiven}
-use Rattle.bcast_model.specs.Legal.{Legal}
-use Rattle.bcast_model.specs.Next.{next}
-use Rattle.bcast_model.specs.Valid.{IsValid}
-use Rattle.bcast_model.specs.Run.{IsRun, end_of_run}
-use Rattle.bcast_model.specs.Deliveries.{deliveries_of, last_cursor_of}
+use Rattle.bcast_model.specs.Words.{cursor_of, History, view_of, end_number, numbered, IsGiven}
+use Rattle.bcast_model.specs.Words.{Legal, next, IsValid, IsRun, end_of_run, deliveries_of}
+use Rattle.bcast_model.specs.Words.{last_cursor_of}
 
 module _ {T : Type 0} where
   -- `try_broadcast_all`: the state after this list was accepted

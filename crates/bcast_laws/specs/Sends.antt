@@ -7,12 +7,7 @@ use Rattle.bcast_model.specs.declared.run.Call.{Call}
 use Rattle.bcast_model.specs.declared.run.Call.TheVariants as call
 use Rattle.bcast_model.specs.declared.run.Reply.{Reply}
 use Rattle.bcast_model.specs.declared.run.Reply.TheVariants as reply
-use Rattle.bcast_model.specs.Errors.{unsent_message}
-use Rattle.bcast_model.specs.View.{View}
-use Rattle.bcast_model.specs.History.{History, view_of}
-use Rattle.bcast_model.specs.Legal.{Legal}
-use Rattle.bcast_model.specs.Next.{next}
-use Rattle.bcast_model.specs.Valid.{IsValid}
+use Rattle.bcast_model.specs.Words.{unsent_message, View, History, view_of, Legal, next, IsValid}
 
 module _ {T : Type 0} where
   -- `try_broadcast`, `Send`: the message that a call sends

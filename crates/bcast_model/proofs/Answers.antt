@@ -3,16 +3,10 @@ use Rattle.std.proofs.Common.{◌≡◌, Bool, ◌&&◌, refl, sym, ap, ◌∙�
 use Rattle.std.specs.FinMap.{len}
 use Rattle.bcast_model.specs.declared.run.Call.{Call}
 use Rattle.bcast_model.specs.declared.run.Reply.{Reply}
-use Rattle.bcast_model.specs.Control.{Cursors, tell_a_sender}
-use Rattle.bcast_model.specs.View.{View, sends_are_ready}
-use Rattle.bcast_model.specs.Legal.{Legal}
-use Rattle.bcast_model.specs.Effects.{effect}
-use Rattle.bcast_model.specs.History.{History, view_of, remember}
-use Rattle.bcast_model.specs.Next.{tell_if_ready, may_tell, next}
-use Rattle.bcast_model.specs.Valid.{IsValid}
-use Rattle.bcast_model.specs.Answers.{Represents, IsShown, IsPossible, Answers}
-use Rattle.bcast_model.specs.Steps.{settle, next_view, Steps}
-use Rattle.bcast_model.specs.Laws.{HasRange}
+use Rattle.bcast_model.specs.Words.{Cursors, tell_a_sender, View, sends_are_ready, Legal, effect}
+use Rattle.bcast_model.specs.Words.{History, view_of, remember, tell_if_ready, may_tell, next}
+use Rattle.bcast_model.specs.Words.{IsValid, Represents, IsShown, IsPossible, Answers, settle}
+use Rattle.bcast_model.specs.Words.{next_view, Steps, HasRange}
 use Rattle.bcast_model.proofs.Cases.{test_is}
 use Rattle.bcast_model.proofs.Views.{valid_view}
 use Rattle.bcast_model.proofs.Lift.{KeepsValid, valid_told, view_of-told}

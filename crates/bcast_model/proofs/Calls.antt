@@ -5,16 +5,13 @@ use Rattle.bcast_model.specs.declared.run.Call.{Call}
 use Rattle.bcast_model.specs.declared.run.Call.TheVariants as call
 use Rattle.bcast_model.specs.declared.run.Reply.{Reply}
 use Rattle.bcast_model.specs.declared.run.Reply.TheVariants as reply
-use Rattle.bcast_model.specs.ListenerId.{stream_of, future_of}
-use Rattle.bcast_model.specs.Control.{close, place_ended, pair_ended, cursor_of}
-use Rattle.bcast_model.specs.Handles.{begin_send, new_receiver, activate, clone_receiver, new_sender, clone_inactive, drop_receiver, deactivate, drop_sender, drop_inactive}
-use Rattle.bcast_model.specs.Receiving.{receive, skipped_to, receive_poll, try_recv_reply}
-use Rattle.bcast_model.specs.Next.{is_out_of_memory, chosen_id, may_tell}
-use Rattle.bcast_model.specs.View.{View, sends_are_ready}
-use Rattle.bcast_model.specs.Legal.{Legal}
-use Rattle.bcast_model.specs.Effect.{sets}
-use Rattle.bcast_model.specs.Effects.{effect, resize}
-use Rattle.bcast_model.specs.Laws.{HasRange, IsValidView}
+use Rattle.bcast_model.specs.Words.{stream_of, future_of, close, place_ended, pair_ended, cursor_of}
+use Rattle.bcast_model.specs.Words.{begin_send, new_receiver, activate, clone_receiver, new_sender}
+use Rattle.bcast_model.specs.Words.{clone_inactive, drop_receiver, deactivate, drop_sender}
+use Rattle.bcast_model.specs.Words.{drop_inactive, receive, skipped_to, receive_poll}
+use Rattle.bcast_model.specs.Words.{try_recv_reply, is_out_of_memory, chosen_id, may_tell, View}
+use Rattle.bcast_model.specs.Words.{sends_are_ready, Legal, sets, effect, resize, HasRange}
+use Rattle.bcast_model.specs.Words.{IsValidView}
 use Rattle.bcast_model.proofs.Cases.{test_is, uncloned}
 use Rattle.bcast_model.proofs.Lift.{KeepsValid}
 use Rattle.bcast_model.proofs.Kept.{kept_idle, kept_close, keeps_sets}

@@ -1,12 +1,10 @@
 -- The conditional parts of a call, each by its cases.
 use Rattle.std.proofs.Common.{◌≡◌, ℕ, ◌+◌, ◌<◌, ◌≤◌, ◌==◌, ◌&&◌, Bool, true, false, cond, Option, Some, None, nat_lt, refl, arith}
 use Rattle.std.proofs.lemmas.Grind.{common_steps}
-use Rattle.bcast_model.specs.Control.{Control, last_end, tell_a_sender, tell_receivers, closing, close, is_deserted, close_if_deserted, accepting, with_cursor}
-use Rattle.bcast_model.specs.History.{History, with_control, view_of}
-use Rattle.bcast_model.specs.View.{View, sends_are_ready}
-use Rattle.bcast_model.specs.Handles.{clone_receiver}
-use Rattle.bcast_model.specs.Next.{end_call}
-use Rattle.bcast_model.specs.Receiving.{receive}
+use Rattle.bcast_model.specs.Words.{Control, last_end, tell_a_sender, tell_receivers, closing}
+use Rattle.bcast_model.specs.Words.{close, is_deserted, close_if_deserted, accepting, with_cursor}
+use Rattle.bcast_model.specs.Words.{History, with_control, view_of, View, sends_are_ready}
+use Rattle.bcast_model.specs.Words.{clone_receiver, end_call, receive}
 
 -- a value that is one of two, where the test was computed
 pub test_is : {A : Type 0} (P : A → Type 0) (b : Bool) (x y : A) → (b ≡ true → P x) → (b ≡ false → P y) → P (cond b x y)

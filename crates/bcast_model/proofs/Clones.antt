@@ -4,12 +4,8 @@ use Rattle.bcast_model.specs.declared.error.TryRecvError.{TryRecvError}
 use Rattle.bcast_model.specs.declared.run.Call.{Call}
 use Rattle.bcast_model.specs.declared.run.Call.TheVariants as call
 use Rattle.bcast_model.specs.declared.run.Reply.{Reply}
-use Rattle.bcast_model.specs.History.{History, view_of}
-use Rattle.bcast_model.specs.Legal.{Legal, IsGiven, NoClone, ClonesEqual, IsReceived}
-use Rattle.bcast_model.specs.Next.{next}
-use Rattle.bcast_model.specs.View.{View}
-use Rattle.bcast_model.specs.Answers.{Answers}
-use Rattle.bcast_model.specs.Run.{IsRun}
+use Rattle.bcast_model.specs.Words.{History, view_of, Legal, IsGiven, NoClone, ClonesEqual}
+use Rattle.bcast_model.specs.Words.{IsReceived, next, View, Answers, IsRun}
 
 module _ {T : Type 0} where
   module _ (p q : T → T → Type 0) (wider : (msg given : T) → p msg given → IsGiven q msg given) where

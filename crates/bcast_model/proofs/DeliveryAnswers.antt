@@ -7,11 +7,9 @@ use Rattle.std.specs.Prelude.{IsSomeAnd}
 use Rattle.std.specs.FinMap.{get, insert}
 use Rattle.bcast_model.specs.declared.error.TryRecvError.{TryRecvError}
 use Rattle.bcast_model.specs.declared.error.TryRecvError.TheVariants as unread
-use Rattle.bcast_model.specs.Control.{Cursors, with_cursor, cursor_of}
-use Rattle.bcast_model.specs.History.{History, view_of, front_number, end_number, numbered}
-use Rattle.bcast_model.specs.View.{kept_at}
-use Rattle.bcast_model.specs.Receiving.{receive, recv_reply, try_recv_reply}
-use Rattle.bcast_model.specs.Legal.{IsGiven}
+use Rattle.bcast_model.specs.Words.{Cursors, with_cursor, cursor_of, History, view_of, front_number}
+use Rattle.bcast_model.specs.Words.{end_number, numbered, kept_at, receive, recv_reply}
+use Rattle.bcast_model.specs.Words.{try_recv_reply, IsGiven}
 use Rattle.bcast_model.proofs.Views.{numbered-queue, first_under}
 use Rattle.bcast_model.proofs.DeliveryMaps.{inserted}
 use Rattle.bcast_model.proofs.DeliveryLists.{within_missed, within_given, past_end}

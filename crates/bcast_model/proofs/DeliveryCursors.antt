@@ -7,18 +7,15 @@ use Rattle.bcast_model.specs.declared.error.TryRecvError.{TryRecvError}
 use Rattle.bcast_model.specs.declared.run.Call.{Call}
 use Rattle.bcast_model.specs.declared.run.Call.TheVariants as call
 use Rattle.bcast_model.specs.declared.run.Reply.{Reply}
-use Rattle.bcast_model.specs.ListenerId.{Pair, stream_of, future_of}
-use Rattle.bcast_model.specs.Control.{Control, close_if_deserted, has_place, with_cursor, place_waits, cursor_of}
-use Rattle.bcast_model.specs.View.{View, sends_are_ready}
-use Rattle.bcast_model.specs.Effect.{Effect, sets}
-use Rattle.bcast_model.specs.Sending.{refusal, accept_unless, offer, with_place_answered, poll_send}
-use Rattle.bcast_model.specs.Receiving.{receive, skipped_to, receive_poll, is_empty_reply, try_recv_reply}
-use Rattle.bcast_model.specs.Legal.{Legal}
-use Rattle.bcast_model.specs.Effects.{resize, set_unless_refused, effect}
-use Rattle.bcast_model.specs.Replies.{is_out_of_memory, chosen_id}
-use Rattle.bcast_model.specs.Handles.{has_next, drop_receiver, deactivate, drop_sender, drop_inactive, new_sender, clone_inactive, without_receiver, clone_receiver}
-use Rattle.bcast_model.specs.Effects.{resize}
-use Rattle.bcast_model.specs.Deliveries.{receives_for}
+use Rattle.bcast_model.specs.Words.{Pair, stream_of, future_of, Control, close_if_deserted}
+use Rattle.bcast_model.specs.Words.{has_place, with_cursor, place_waits, cursor_of, View}
+use Rattle.bcast_model.specs.Words.{sends_are_ready, Effect, sets, refusal, accept_unless, offer}
+use Rattle.bcast_model.specs.Words.{with_place_answered, poll_send, receive, skipped_to}
+use Rattle.bcast_model.specs.Words.{receive_poll, is_empty_reply, try_recv_reply, Legal, resize}
+use Rattle.bcast_model.specs.Words.{set_unless_refused, effect, is_out_of_memory, chosen_id}
+use Rattle.bcast_model.specs.Words.{has_next, drop_receiver, deactivate, drop_sender, drop_inactive}
+use Rattle.bcast_model.specs.Words.{new_sender, clone_inactive, without_receiver, clone_receiver}
+use Rattle.bcast_model.specs.Words.{receives_for}
 use Rattle.bcast_model.proofs.Cases.{test_is, uncloned, cursors-close, cursors-close_if_deserted, cursors-accepting}
 use Rattle.bcast_model.proofs.SendAll.{cursors-offer_all}
 use Rattle.bcast_model.proofs.DeliveryMaps.{CursorsChange, stay, rise, make_at_end, make_where, leave, cursors-listens, cursors-begin_send}

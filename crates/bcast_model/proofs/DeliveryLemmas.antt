@@ -4,13 +4,9 @@ use Rattle.std.proofs.lemmas.Option.{none-some}
 use Rattle.std.specs.Prelude.{IsSomeAnd, is_some}
 use Rattle.bcast_model.specs.declared.run.Call.{Call}
 use Rattle.bcast_model.specs.declared.run.Reply.{Reply}
-use Rattle.bcast_model.specs.History.{History, numbered}
-use Rattle.bcast_model.specs.Legal.{IsGiven}
-use Rattle.bcast_model.specs.Control.{cursor_of}
-use Rattle.bcast_model.specs.Next.{next}
-use Rattle.bcast_model.specs.Valid.{IsValid}
-use Rattle.bcast_model.specs.Run.{IsRun, end_of_run}
-use Rattle.bcast_model.specs.Deliveries.{given_to, deliveries_of, AreExact, AreAllExact, AtEachPoint}
+use Rattle.bcast_model.specs.Words.{History, numbered, IsGiven, cursor_of, next, IsValid, IsRun}
+use Rattle.bcast_model.specs.Words.{end_of_run, given_to, deliveries_of, AreExact, AreAllExact}
+use Rattle.bcast_model.specs.Words.{AtEachPoint}
 use Rattle.bcast_model.proofs.DeliverySteps.{gives_call}
 use Rattle.bcast_model.proofs.DeliveryMessages.{numbered_stays}
 use Rattle.bcast_model.proofs.DeliveryLists.{in_parts}

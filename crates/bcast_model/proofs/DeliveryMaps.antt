@@ -5,10 +5,7 @@ use Rattle.std.proofs.lemmas.Option.{none-some, same_Some}
 use Rattle.std.specs.Cmp.{nat_cmp_total, unsigned_tied}
 use Rattle.std.specs.Ordering.{nat_cmp, eq_by_cmp}
 use Rattle.std.specs.FinMap.{get, insert, remove, get-insert, get-remove}
-use Rattle.bcast_model.specs.ListenerId.{Pair}
-use Rattle.bcast_model.specs.Control.{Control, Cursors}
-use Rattle.bcast_model.specs.Receiving.{listens}
-use Rattle.bcast_model.specs.Handles.{begin_send}
+use Rattle.bcast_model.specs.Words.{Pair, Control, Cursors, listens, begin_send}
 
 -- ---- a map of cursors, at one key
 pub got_insert : (m : Cursors) (key cursor other c : ℕ) → get (insert m key cursor) other ≡ Some c → ((other ≡ key) × (c ≡ cursor)) ⊎ (get m other ≡ Some c)

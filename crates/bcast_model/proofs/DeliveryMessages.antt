@@ -2,10 +2,7 @@
 use Rattle.std.proofs.Common.{◌≡◌, ℕ, ◌-◌, true, false, cond, List, [], ◌∷◌, ◌++◌, None, Some, nat_lt, slice_get}
 use Rattle.bcast_model.specs.declared.run.Call.{Call}
 use Rattle.bcast_model.specs.declared.run.Reply.{Reply}
-use Rattle.bcast_model.specs.Effects.{effect}
-use Rattle.bcast_model.specs.History.{History, view_of, numbered}
-use Rattle.bcast_model.specs.Next.{next}
-use Rattle.bcast_model.specs.Run.{end_of_run}
+use Rattle.bcast_model.specs.Words.{effect, History, view_of, numbered, next, end_of_run}
 use Rattle.bcast_model.proofs.DeliveryLists.{in_longer}
 
 module _ {T : Type 0} where

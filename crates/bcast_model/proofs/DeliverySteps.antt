@@ -9,15 +9,12 @@ use Rattle.bcast_model.specs.declared.run.Call.{Call}
 use Rattle.bcast_model.specs.declared.run.Call.TheVariants as call
 use Rattle.bcast_model.specs.declared.run.Reply.{Reply}
 use Rattle.bcast_model.specs.declared.run.Reply.TheVariants as reply
-use Rattle.bcast_model.specs.ListenerId.{stream_of, future_of}
-use Rattle.bcast_model.specs.Control.{Cursors, cursor_of}
-use Rattle.bcast_model.specs.History.{History, view_of, front_number, end_number}
-use Rattle.bcast_model.specs.Receiving.{receive, recv_reply, recv_reply_at, try_recv_reply, is_empty_reply, skipped_count, skipped_to, future_reply, stream_reply, next_reply, IsOwed}
-use Rattle.bcast_model.specs.Legal.{Legal, IsReceived}
-use Rattle.bcast_model.specs.View.{kept_at}
-use Rattle.bcast_model.specs.Effects.{effect}
-use Rattle.bcast_model.specs.Next.{next}
-use Rattle.bcast_model.specs.Deliveries.{receives_for, given_by, given_to}
+use Rattle.bcast_model.specs.Words.{stream_of, future_of, Cursors, cursor_of, History, view_of}
+use Rattle.bcast_model.specs.Words.{front_number, end_number, receive, recv_reply, recv_reply_at}
+use Rattle.bcast_model.specs.Words.{try_recv_reply, is_empty_reply, skipped_count, skipped_to}
+use Rattle.bcast_model.specs.Words.{future_reply, stream_reply, next_reply, IsOwed, Legal}
+use Rattle.bcast_model.specs.Words.{IsReceived, kept_at, effect, next, receives_for, given_by}
+use Rattle.bcast_model.specs.Words.{given_to}
 use Rattle.bcast_model.proofs.Answers.{cursors-next}
 use Rattle.bcast_model.proofs.DeliveryMaps.{cursors-listens, stands_or_left}
 use Rattle.bcast_model.proofs.DeliveryCursors.{changes}

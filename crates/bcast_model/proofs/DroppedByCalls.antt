@@ -5,14 +5,9 @@ use Rattle.std.specs.List.{range_with_len}
 use Rattle.bcast_model.specs.declared.run.Call.{Call}
 use Rattle.bcast_model.specs.declared.run.Call.TheVariants as call
 use Rattle.bcast_model.specs.declared.run.Reply.{Reply}
-use Rattle.bcast_model.specs.Control.{Control}
-use Rattle.bcast_model.specs.Effect.{Effect, sets}
-use Rattle.bcast_model.specs.Sending.{refusal, handed_back}
-use Rattle.bcast_model.specs.Legal.{Legal}
-use Rattle.bcast_model.specs.Effects.{resize, effect}
-use Rattle.bcast_model.specs.History.{History, view_of, front_number, end_number, queue_of}
-use Rattle.bcast_model.specs.Replies.{is_out_of_memory}
-use Rattle.bcast_model.specs.Missed.{dropped_by}
+use Rattle.bcast_model.specs.Words.{Control, Effect, sets, refusal, handed_back, Legal, resize}
+use Rattle.bcast_model.specs.Words.{effect, History, view_of, front_number, end_number, queue_of}
+use Rattle.bcast_model.specs.Words.{is_out_of_memory, dropped_by}
 use Rattle.bcast_model.proofs.Front.{IsBounded, length-queue}
 use Rattle.bcast_model.proofs.SendAll.{floor-offer_all}
 use Rattle.bcast_model.proofs.DroppedBySends.{FloorChange, stays, passes, hands_back-sent, hands_back-attempted, floor-send, floor-poll_send}

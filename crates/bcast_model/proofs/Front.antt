@@ -1,9 +1,7 @@
 -- The front among the floor, the end and the cursors.
 use Rattle.std.proofs.Common.{◌≡◌, ℕ, ◌+◌, ◌-◌, ◌≤◌, length, max, Some, arith, length-drop}
 use Rattle.std.specs.FinMap.{values}
-use Rattle.bcast_model.specs.Control.{cursor_of}
-use Rattle.bcast_model.specs.History.{History, front_number, end_number, queue_of}
-use Rattle.bcast_model.specs.Valid.{IsValid}
+use Rattle.bcast_model.specs.Words.{cursor_of, History, front_number, end_number, queue_of, IsValid}
 use Rattle.bcast_model.proofs.Least.{least-le-limit, least-le-cursor}
 
 -- the bounds that each call keeps

@@ -2,14 +2,9 @@
 use Rattle.std.proofs.Common.{◌≡◌, inl, inr, ℕ, ◌+◌, ◌^◌, ◌<◌, ◌≤◌, ◌==◌, ◌-◌, Bool, true, false, not, List, length, drop, ◌++◌, Some, [], refl, sym, ap, ◌∙◌, subst, arith, append-nil, length-append, length-drop}
 use Rattle.std.proofs.lemmas.Grind.{common_steps}
 use Rattle.std.specs.FinMap.{get, insert, len}
-use Rattle.bcast_model.specs.Listeners.{Listeners, untold_ids}
-use Rattle.bcast_model.specs.ListenerId.{Pair}
-use Rattle.bcast_model.specs.Control.{Control, Places, is_ready, close, close_if_deserted, with_cursor}
-use Rattle.bcast_model.specs.Valid.{WouldWait}
-use Rattle.bcast_model.specs.View.{View, sends_are_ready}
-use Rattle.bcast_model.specs.Effect.{sets}
-use Rattle.bcast_model.specs.Steps.{settle}
-use Rattle.bcast_model.specs.Laws.{IsValidView}
+use Rattle.bcast_model.specs.Words.{Listeners, untold_ids, Pair, Control, Places, is_ready, close}
+use Rattle.bcast_model.specs.Words.{close_if_deserted, with_cursor, WouldWait, View}
+use Rattle.bcast_model.specs.Words.{sends_are_ready, sets, settle, IsValidView}
 use Rattle.bcast_model.proofs.Lists.{all_more}
 use Rattle.bcast_model.proofs.Least.{len_insert}
 use Rattle.bcast_model.proofs.Cases.{close_is, deserted_is}

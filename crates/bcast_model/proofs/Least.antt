@@ -11,8 +11,7 @@ use Rattle.std.specs.Prelude.{T, ◌&&◌, nat_lt, ◌==◌}
 use Rattle.std.specs.Ordering.{is_lt}
 use Rattle.std.specs.declared.cmp.Ordering.TheVariants.{Less, Equal, Greater}
 use Rattle.std.proofs.lemmas.Option.{none-some, same_Some}
-use Rattle.bcast_model.specs.Control.{Cursors}
-use Rattle.bcast_model.specs.History.{least}
+use Rattle.bcast_model.specs.Words.{Cursors, least}
 
 -- it is no greater than a cursor
 least_found : (limit q c : ℕ) (es : List (ℕ × ℕ)) → find nat_cmp q es ≡ Some c → least limit (map (λ e. e.1) es) ≤ c

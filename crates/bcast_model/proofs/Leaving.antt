@@ -1,12 +1,9 @@
 -- What handles keep that leave.
 use Rattle.std.proofs.Common.{ℕ, ◌+◌, ◌-◌, ◌^◌, ◌<◌, ◌≤◌, ◌==◌, Option, Some, None, arith}
 use Rattle.std.proofs.lemmas.Grind.{common_steps}
-use Rattle.bcast_model.specs.Listeners.{abandon}
-use Rattle.bcast_model.specs.ListenerId.{Pair, same_pair}
-use Rattle.bcast_model.specs.Control.{Control, close_if_deserted, pair_ended}
-use Rattle.bcast_model.specs.Handles.{has_next, without_receiver, drop_receiver, deactivate, drop_sender, drop_inactive}
-use Rattle.bcast_model.specs.View.{View}
-use Rattle.bcast_model.specs.Laws.{IsValidView}
+use Rattle.bcast_model.specs.Words.{abandon, Pair, same_pair, Control, close_if_deserted}
+use Rattle.bcast_model.specs.Words.{pair_ended, has_next, without_receiver, drop_receiver}
+use Rattle.bcast_model.specs.Words.{deactivate, drop_sender, drop_inactive, View, IsValidView}
 use Rattle.bcast_model.proofs.Cases.{test_is}
 use Rattle.bcast_model.proofs.WaitingReceives.{receives_abandoned}
 use Rattle.bcast_model.proofs.Sound.{IsSound, IsKept, sound_without, sound_counts}

@@ -4,15 +4,11 @@ use Rattle.std.proofs.lemmas.List.{drop-drop, drop-append-le}
 use Rattle.std.proofs.lemmas.Bool.{cases_lt}
 use Rattle.std.specs.FinMap.{len, values}
 use Rattle.std.specs.List.{AllByRecursion}
-use Rattle.bcast_model.specs.Listeners.{Listeners, untold_ids, tell}
-use Rattle.bcast_model.specs.Control.{Control, tell_a_sender}
-use Rattle.bcast_model.specs.History.{History, least, end_number, front_number, queue_of, with_control, view_of, remember}
-use Rattle.bcast_model.specs.View.{sends_are_ready, View}
-use Rattle.bcast_model.specs.Next.{tell_if_ready, end_call}
-use Rattle.bcast_model.specs.Valid.{IsValid, IsValidControl, WouldWait}
-use Rattle.bcast_model.specs.Effect.{Effect}
-use Rattle.bcast_model.specs.Steps.{settle}
-use Rattle.bcast_model.specs.Laws.{IsValidView}
+use Rattle.bcast_model.specs.Words.{Listeners, untold_ids, tell, Control, tell_a_sender, History}
+use Rattle.bcast_model.specs.Words.{least, end_number, front_number, queue_of, with_control}
+use Rattle.bcast_model.specs.Words.{view_of, remember, sends_are_ready, View, tell_if_ready}
+use Rattle.bcast_model.specs.Words.{end_call, IsValid, IsValidControl, WouldWait, Effect, settle}
+use Rattle.bcast_model.specs.Words.{IsValidView}
 use Rattle.bcast_model.proofs.Lists.{all_more}
 use Rattle.bcast_model.proofs.Least.{least-le-limit, least-le-cursor, least-greatest}
 use Rattle.bcast_model.proofs.Cases.{test_is, tell_is}

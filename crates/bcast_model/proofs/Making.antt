@@ -6,14 +6,9 @@ use Rattle.std.specs.FinMap.{get, insert, len, values}
 use Rattle.bcast_model.specs.declared.error.HandleError.{HandleError}
 use Rattle.bcast_model.specs.declared.error.HandleError.TheVariants as handle
 use Rattle.bcast_model.specs.declared.run.Reply.{Reply}
-use Rattle.bcast_model.specs.Control.{Control, Cursors, with_cursor}
-use Rattle.bcast_model.specs.Handles.{has_next, new_receiver, activate, clone_receiver, new_sender, clone_inactive}
-use Rattle.bcast_model.specs.History.{least}
-use Rattle.bcast_model.specs.Legal.{IsMadeFrom}
-use Rattle.bcast_model.specs.Next.{chosen_id}
-use Rattle.bcast_model.specs.View.{View, sends_are_ready}
-use Rattle.bcast_model.specs.Effects.{resize}
-use Rattle.bcast_model.specs.Laws.{IsValidView}
+use Rattle.bcast_model.specs.Words.{Control, Cursors, with_cursor, has_next, new_receiver, activate}
+use Rattle.bcast_model.specs.Words.{clone_receiver, new_sender, clone_inactive, least, IsMadeFrom}
+use Rattle.bcast_model.specs.Words.{chosen_id, View, sends_are_ready, resize, IsValidView}
 use Rattle.bcast_model.proofs.Least.{len_insert}
 use Rattle.bcast_model.proofs.Cases.{test_is}
 use Rattle.bcast_model.proofs.Sound.{IsNoLower, IsKept, sound_counts}

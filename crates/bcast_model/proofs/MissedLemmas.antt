@@ -7,14 +7,10 @@ use Rattle.std.specs.List.{AllByRecursion, Contains}
 use Rattle.std.specs.List.Sorted.{IsStrictlyIncreasing}
 use Rattle.bcast_model.specs.declared.run.Call.{Call}
 use Rattle.bcast_model.specs.declared.run.Reply.{Reply}
-use Rattle.bcast_model.specs.History.{History, view_of}
-use Rattle.bcast_model.specs.Control.{cursor_of}
-use Rattle.bcast_model.specs.Legal.{Legal}
-use Rattle.bcast_model.specs.Next.{HasPositiveCapacity, next}
-use Rattle.bcast_model.specs.Valid.{IsValid}
-use Rattle.bcast_model.specs.Run.{IsRun, end_of_run}
-use Rattle.bcast_model.specs.Deliveries.{given_to, deliveries_of}
-use Rattle.bcast_model.specs.Missed.{dropped_by, dropped_in, WasDropped, TellsDropped, MissesOnlyDropped, MissesWhatWasDropped}
+use Rattle.bcast_model.specs.Words.{History, view_of, cursor_of, Legal, HasPositiveCapacity, next}
+use Rattle.bcast_model.specs.Words.{IsValid, IsRun, end_of_run, given_to, deliveries_of, dropped_by}
+use Rattle.bcast_model.specs.Words.{dropped_in, WasDropped, TellsDropped, MissesOnlyDropped}
+use Rattle.bcast_model.specs.Words.{MissesWhatWasDropped}
 use Rattle.bcast_model.proofs.DeliveryLists.{in_parts}
 use Rattle.bcast_model.proofs.DeliverySteps.{gives_call}
 use Rattle.bcast_model.proofs.Front.{IsBounded, bounded_valid}

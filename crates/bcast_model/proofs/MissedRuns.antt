@@ -6,13 +6,8 @@ use Rattle.std.specs.List.{AllByRecursion, Contains}
 use Rattle.std.specs.FinMap.{get}
 use Rattle.bcast_model.specs.declared.run.Call.{Call}
 use Rattle.bcast_model.specs.declared.run.Reply.{Reply}
-use Rattle.bcast_model.specs.History.{History, view_of}
-use Rattle.bcast_model.specs.Control.{cursor_of}
-use Rattle.bcast_model.specs.Legal.{Legal}
-use Rattle.bcast_model.specs.Next.{HasPositiveCapacity, next}
-use Rattle.bcast_model.specs.Run.{IsRun, end_of_run}
-use Rattle.bcast_model.specs.Deliveries.{given_to}
-use Rattle.bcast_model.specs.Missed.{dropped_by, dropped_in, WasDropped}
+use Rattle.bcast_model.specs.Words.{History, view_of, cursor_of, Legal, HasPositiveCapacity, next}
+use Rattle.bcast_model.specs.Words.{IsRun, end_of_run, given_to, dropped_by, dropped_in, WasDropped}
 use Rattle.bcast_model.proofs.Views.{floor_under}
 use Rattle.bcast_model.proofs.DeliverySteps.{gives_call}
 use Rattle.bcast_model.proofs.Front.{IsBounded, front-le-cursor}

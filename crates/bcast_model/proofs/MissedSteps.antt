@@ -4,13 +4,8 @@ use Rattle.std.specs.List.{Contains, range_with_len}
 use Rattle.std.specs.FinMap.{get}
 use Rattle.bcast_model.specs.declared.run.Call.{Call}
 use Rattle.bcast_model.specs.declared.run.Reply.{Reply}
-use Rattle.bcast_model.specs.History.{History, view_of, front_number, end_number}
-use Rattle.bcast_model.specs.Control.{cursor_of}
-use Rattle.bcast_model.specs.Legal.{Legal}
-use Rattle.bcast_model.specs.Effects.{effect}
-use Rattle.bcast_model.specs.Next.{HasPositiveCapacity, next}
-use Rattle.bcast_model.specs.Deliveries.{receives_for}
-use Rattle.bcast_model.specs.Missed.{dropped_by}
+use Rattle.bcast_model.specs.Words.{History, view_of, front_number, end_number, cursor_of, Legal}
+use Rattle.bcast_model.specs.Words.{effect, HasPositiveCapacity, next, receives_for, dropped_by}
 use Rattle.bcast_model.proofs.Views.{floor_under}
 use Rattle.bcast_model.proofs.Answers.{cursors-next}
 use Rattle.bcast_model.proofs.DeliveryMaps.{came_from}

@@ -6,8 +6,7 @@ use Rattle.std.proofs.lemmas.List.{drop_all}
 use Rattle.std.specs.Ordering.{nat_cmp, eq_by_cmp}
 use Rattle.std.specs.Cmp.{nat_cmp_total}
 use Rattle.std.specs.FinMap.{get, insert, empty, values, get-insert, get-empty, len-insert, len-empty}
-use Rattle.bcast_model.specs.History.{History, opening, front_number, view_of}
-use Rattle.bcast_model.specs.Valid.{IsValid}
+use Rattle.bcast_model.specs.Words.{History, opening, front_number, view_of, IsValid}
 use Rattle.bcast_model.proofs.Least.{least-le-limit}
 use Rattle.bcast_model.proofs.Lift.{same_view}
 

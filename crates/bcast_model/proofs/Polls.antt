@@ -43,6 +43,9 @@ module _ {T : Type 0} where
   unready_waits false false false true await_active back msg = refl
   unready_waits false false false false await_active back msg = refl
 
+  pub attempt_waits : (v : View T) (msg : T) → must_wait (reply.PollSend (attempt_send_reply v msg)) ≡ not (sends_are_ready v)
+  attempt_waits v msg = unready_waits v.control.closed (has_no_receiver v.control) v.control.overflow (is_full v) v.control.await_active (handed_back v) msg
+
   module _ (is_clone : T → T → Type 0) (v : View T) (place : ℕ) (msg : T) (r : Reply T) (known : has_place v.control place ≡ true) (legal : Legal is_clone v (call.PollSend place msg) r) where
     polled : must_wait r ≡ must_wait (reply.PollSend (attempt_send_reply v msg))
     polled = ap must_wait (legal ∙ ap (λ b. reply.PollSend (cond b (attempt_send_reply v msg) (send.Wait msg))) known)
@@ -51,7 +54,7 @@ module _ {T : Type 0} where
     send_waits_full = polled ∙ send_waits v.control.await_active (handed_back v) (refusal v msg)
 
     pub send_waits_unready : must_wait r ≡ not (sends_are_ready v)
-    send_waits_unready = polled ∙ unready_waits v.control.closed (has_no_receiver v.control) v.control.overflow (is_full v) v.control.await_active (handed_back v) msg
+    send_waits_unready = polled ∙ attempt_waits v msg
 
   -- ---- receives
   received_waits : (is_clone : T → T → Type 0) (owed : Type 0) (spelt : Result T TryRecvError → Reply T) (refused : Reply T) (exact : Result T TryRecvError) (r : Reply T)
@@ -67,19 +70,19 @@ module _ {T : Type 0} where
       apart : false ≡ true → ⊥
       apart e = cc
 
-  future_waits : (answer : Result T TryRecvError) → must_wait (reply.PollFuture (Ok (future_reply answer))) ≡ is_empty_reply answer
+  pub future_waits : (answer : Result T TryRecvError) → must_wait (reply.PollFuture (Ok (future_reply answer))) ≡ is_empty_reply answer
   future_waits (Ok msg) = refl
   future_waits (Err (unread.Overflowed n)) = refl
   future_waits (Err unread.Closed) = refl
   future_waits (Err unread.Empty) = refl
 
-  stream_waits : (answer : Result T TryRecvError) → must_wait (reply.PollRecv (Ok (stream_reply answer))) ≡ is_empty_reply answer
+  pub stream_waits : (answer : Result T TryRecvError) → must_wait (reply.PollRecv (Ok (stream_reply answer))) ≡ is_empty_reply answer
   stream_waits (Ok msg) = refl
   stream_waits (Err (unread.Overflowed n)) = refl
   stream_waits (Err unread.Closed) = refl
   stream_waits (Err unread.Empty) = refl
 
-  next_waits : (skips : ℕ) (answer : Result T TryRecvError) → must_wait (reply.PollNext (Ok (next_reply skips answer))) ≡ is_empty_reply answer
+  pub next_waits : (skips : ℕ) (answer : Result T TryRecvError) → must_wait (reply.PollNext (Ok (next_reply skips answer))) ≡ is_empty_reply answer
   next_waits skips (Ok msg) = refl
   next_waits skips (Err (unread.Overflowed n)) = refl
   next_waits skips (Err unread.Closed) = refl

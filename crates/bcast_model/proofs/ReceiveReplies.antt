@@ -7,11 +7,9 @@ use Rattle.bcast_model.specs.declared.error.TryRecvError.TheVariants as unread
 use Rattle.bcast_model.specs.declared.run.Call.TheVariants as call
 use Rattle.bcast_model.specs.declared.run.Reply.{Reply}
 use Rattle.bcast_model.specs.declared.run.Reply.TheVariants as reply
-use Rattle.bcast_model.specs.Receiving.{recv_reply, skipped_count, skipped_to, future_reply, stream_reply, next_reply, IsOwed, try_recv_reply}
-use Rattle.bcast_model.specs.Legal.{IsGiven, IsReceived, Legal}
-use Rattle.bcast_model.specs.View.{View}
-use Rattle.bcast_model.specs.Control.{cursor_of}
-use Rattle.bcast_model.specs.Laws.{IsGivenFrom}
+use Rattle.bcast_model.specs.Words.{recv_reply, skipped_count, skipped_to, future_reply}
+use Rattle.bcast_model.specs.Words.{stream_reply, next_reply, IsOwed, try_recv_reply, IsGiven}
+use Rattle.bcast_model.specs.Words.{IsReceived, Legal, View, cursor_of, IsGivenFrom}
 
 module _ {T : Type 0} where
   found_message : (closed : Bool) (o : Option T) (msg : T) → recv_reply closed o ≡ Ok msg → o ≡ Some msg

@@ -7,15 +7,10 @@ use Rattle.std.specs.Cmp.{nat_cmp_total}
 use Rattle.std.specs.FinMap.{get, insert, len, len-insert}
 use Rattle.bcast_model.specs.declared.error.TryRecvError.TheVariants as unread
 use Rattle.bcast_model.specs.declared.run.Reply.{Reply}
-use Rattle.bcast_model.specs.Listeners.{consume, wait_again}
-use Rattle.bcast_model.specs.ListenerId.{Pair, same_pair}
-use Rattle.bcast_model.specs.Control.{Control, Cursors, with_cursor}
-use Rattle.bcast_model.specs.Receiving.{receive, listens, skipped_to, recv_reply, is_empty_reply, receive_poll, try_recv_reply}
-use Rattle.bcast_model.specs.Next.{is_out_of_memory}
-use Rattle.bcast_model.specs.View.{View, sends_are_ready}
-use Rattle.bcast_model.specs.Effect.{sets}
-use Rattle.bcast_model.specs.Effects.{set_unless_refused}
-use Rattle.bcast_model.specs.Laws.{IsValidView}
+use Rattle.bcast_model.specs.Words.{consume, wait_again, Pair, same_pair, Control, Cursors}
+use Rattle.bcast_model.specs.Words.{with_cursor, receive, listens, skipped_to, recv_reply}
+use Rattle.bcast_model.specs.Words.{is_empty_reply, receive_poll, try_recv_reply, is_out_of_memory}
+use Rattle.bcast_model.specs.Words.{View, sends_are_ready, sets, set_unless_refused, IsValidView}
 use Rattle.bcast_model.proofs.Cases.{test_is, receive_is}
 use Rattle.bcast_model.proofs.WaitingReceives.{receives_consumed, receives_waiting}
 use Rattle.bcast_model.proofs.Sound.{IsNoLower, IsKept}

@@ -4,19 +4,15 @@ use Rattle.bcast_model.specs.declared.error.TrySendError.{TrySendError}
 use Rattle.bcast_model.specs.declared.run.Call.{Call}
 use Rattle.bcast_model.specs.declared.run.Call.TheVariants as call
 use Rattle.bcast_model.specs.declared.run.Reply.{Reply}
-use Rattle.bcast_model.specs.Listeners.{Listeners, told_ids, is_in, without}
-use Rattle.bcast_model.specs.ListenerId.{Pair, stream_of, future_of, same_place, same_pair}
-use Rattle.bcast_model.specs.Control.{Control, is_ready, tell_a_sender, tell_receivers, has_place, place_waits, pair_answered, pair_waits, cursor_of}
-use Rattle.bcast_model.specs.View.{View, sends_are_ready}
-use Rattle.bcast_model.specs.Effect.{sets}
-use Rattle.bcast_model.specs.Sending.{refusal, accept_unless, offer, with_place_answered, poll_send}
-use Rattle.bcast_model.specs.Receiving.{receive, receive_poll, listens, skipped_to, is_empty_reply, try_recv_reply}
-use Rattle.bcast_model.specs.Effects.{set_unless_refused}
-use Rattle.bcast_model.specs.Next.{is_out_of_memory, tell_if_ready}
-use Rattle.bcast_model.specs.Steps.{settle, next_view}
-use Rattle.bcast_model.specs.Valid.{AreListed}
-use Rattle.bcast_model.specs.Laws.{IsValidView}
-use Rattle.bcast_model.specs.ToldPolls.{listener_count, told_count, polls_told}
+use Rattle.bcast_model.specs.Words.{Listeners, told_ids, is_in, without, Pair, stream_of, future_of}
+use Rattle.bcast_model.specs.Words.{same_place, same_pair, Control, is_ready, tell_a_sender}
+use Rattle.bcast_model.specs.Words.{tell_receivers, has_place, place_waits, pair_answered}
+use Rattle.bcast_model.specs.Words.{pair_waits, cursor_of, View, sends_are_ready, sets, refusal}
+use Rattle.bcast_model.specs.Words.{accept_unless, offer, with_place_answered, poll_send, receive}
+use Rattle.bcast_model.specs.Words.{receive_poll, listens, skipped_to, is_empty_reply}
+use Rattle.bcast_model.specs.Words.{try_recv_reply, set_unless_refused, is_out_of_memory}
+use Rattle.bcast_model.specs.Words.{tell_if_ready, settle, next_view, AreListed, IsValidView}
+use Rattle.bcast_model.specs.Words.{listener_count, told_count, polls_told}
 use Rattle.bcast_model.proofs.Lists.{all_in}
 use Rattle.bcast_model.proofs.Listeners.{told_listed, told_some}
 use Rattle.bcast_model.proofs.Tests.{test_place, test_pair}

@@ -4,11 +4,9 @@ use Rattle.std.proofs.lemmas.Grind.{common_steps}
 use Rattle.std.specs.FinMap.{len}
 use Rattle.bcast_model.specs.declared.error.TrySendError.{TrySendError}
 use Rattle.bcast_model.specs.declared.error.TrySendError.TheVariants as unsent
-use Rattle.bcast_model.specs.Control.{has_no_receiver, accepting}
-use Rattle.bcast_model.specs.Effect.{Effect, sets}
-use Rattle.bcast_model.specs.Laws.{IsValidView}
-use Rattle.bcast_model.specs.SendAll.{free_room, refusal_of_all, accept_all, accept_all_unless, offer_all}
-use Rattle.bcast_model.specs.View.{View, sends_are_ready}
+use Rattle.bcast_model.specs.Words.{has_no_receiver, accepting, Effect, sets, IsValidView}
+use Rattle.bcast_model.specs.Words.{free_room, refusal_of_all, accept_all, accept_all_unless}
+use Rattle.bcast_model.specs.Words.{offer_all, View, sends_are_ready}
 use Rattle.bcast_model.proofs.Cases.{capacity-accepting, cursors-accepting}
 use Rattle.bcast_model.proofs.Sound.{IsAttended, IsSound}
 use Rattle.bcast_model.proofs.Lift.{KeepsValid}

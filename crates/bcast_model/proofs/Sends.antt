@@ -4,15 +4,11 @@ use Rattle.std.proofs.lemmas.Grind.{common_steps}
 use Rattle.std.specs.FinMap.{len, values}
 use Rattle.std.specs.FinSet as set
 use Rattle.bcast_model.specs.declared.error.TrySendError.TheVariants as unsent
-use Rattle.bcast_model.specs.Listeners.{consume, abandon, wait_again}
-use Rattle.bcast_model.specs.ListenerId.{same_place}
-use Rattle.bcast_model.specs.Control.{Control, has_no_receiver, tell_receivers, close, accepting, has_place, place_ended, place_waits}
-use Rattle.bcast_model.specs.Handles.{begin_send}
-use Rattle.bcast_model.specs.Sending.{refusal, accept, accept_unless, offer, with_place_answered, poll_send}
-use Rattle.bcast_model.specs.History.{least}
-use Rattle.bcast_model.specs.View.{View, is_full, sends_are_ready}
-use Rattle.bcast_model.specs.Effect.{sets}
-use Rattle.bcast_model.specs.Laws.{IsValidView}
+use Rattle.bcast_model.specs.Words.{consume, abandon, wait_again, same_place, Control}
+use Rattle.bcast_model.specs.Words.{has_no_receiver, tell_receivers, close, accepting, has_place}
+use Rattle.bcast_model.specs.Words.{place_ended, place_waits, begin_send, refusal, accept}
+use Rattle.bcast_model.specs.Words.{accept_unless, offer, with_place_answered, poll_send, least}
+use Rattle.bcast_model.specs.Words.{View, is_full, sends_are_ready, sets, IsValidView}
 use Rattle.bcast_model.proofs.Cases.{test_is, close_is, accepting_is, capacity-accepting}
 use Rattle.bcast_model.proofs.Listeners.{one_abandon}
 use Rattle.bcast_model.proofs.Tests.{test_place}

@@ -5,11 +5,8 @@ use Rattle.std.proofs.lemmas.Option.{none-some, same_Some}
 use Rattle.std.specs.Ordering.{nat_cmp, eq_by_cmp}
 use Rattle.std.specs.Cmp.{nat_cmp_total}
 use Rattle.std.specs.FinMap.{get, insert, remove, len, get-insert, get-remove, len-remove}
-use Rattle.bcast_model.specs.Listeners.{Listeners}
-use Rattle.bcast_model.specs.ListenerId.{Pair}
-use Rattle.bcast_model.specs.Control.{Control, Places, closing, close, with_cursor}
-use Rattle.bcast_model.specs.Handles.{without_receiver}
-use Rattle.bcast_model.specs.View.{View}
+use Rattle.bcast_model.specs.Words.{Listeners, Pair, Control, Places, closing, close, with_cursor}
+use Rattle.bcast_model.specs.Words.{without_receiver, View}
 use Rattle.bcast_model.proofs.Cases.{close_is}
 use Rattle.bcast_model.proofs.WaitingSends.{OneIsTold, AreSends, sends_all_told}
 use Rattle.bcast_model.proofs.WaitingReceives.{AreReceives, receives_all_told, receives_moved, receives_without}

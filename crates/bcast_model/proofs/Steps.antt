@@ -4,17 +4,10 @@ use Rattle.std.specs.FinMap.{len}
 use Rattle.bcast_model.specs.declared.run.Call.{Call}
 use Rattle.bcast_model.specs.declared.run.Call.TheVariants as call
 use Rattle.bcast_model.specs.declared.run.Reply.{Reply}
-use Rattle.bcast_model.specs.Control.{Control, Cursors, tell_a_sender}
-use Rattle.bcast_model.specs.Effect.{Effect, sets}
-use Rattle.bcast_model.specs.View.{View, sends_are_ready}
-use Rattle.bcast_model.specs.Legal.{Legal}
-use Rattle.bcast_model.specs.Effects.{effect, resize}
-use Rattle.bcast_model.specs.History.{History, view_of, remember}
-use Rattle.bcast_model.specs.Next.{is_out_of_memory, tell_if_ready, may_tell, next}
-use Rattle.bcast_model.specs.Valid.{IsValid}
-use Rattle.bcast_model.specs.Answers.{Answers}
-use Rattle.bcast_model.specs.Steps.{next_view, Steps}
-use Rattle.bcast_model.specs.Laws.{HasRange, IsValidView}
+use Rattle.bcast_model.specs.Words.{Control, Cursors, tell_a_sender, Effect, sets, View}
+use Rattle.bcast_model.specs.Words.{sends_are_ready, Legal, effect, resize, History, view_of}
+use Rattle.bcast_model.specs.Words.{remember, is_out_of_memory, tell_if_ready, may_tell, next}
+use Rattle.bcast_model.specs.Words.{IsValid, Answers, next_view, Steps, HasRange, IsValidView}
 use Rattle.bcast_model.proofs.Cases.{test_is}
 use Rattle.bcast_model.proofs.Sound.{AreSizes}
 use Rattle.bcast_model.proofs.Views.{valid_view}

@@ -3,8 +3,7 @@ use Rattle.std.proofs.Common.{◌≡◌, ◌==◌, true, false, ◌&&◌, refl, 
 use Rattle.std.proofs.lemmas.Grind.{common_steps}
 use Rattle.bcast_model.specs.declared.listener.Kind.{Kind}
 use Rattle.bcast_model.specs.declared.listener.Kind.TheVariants as kind
-use Rattle.bcast_model.specs.Listeners.{IsTest}
-use Rattle.bcast_model.specs.ListenerId.{same_place, same_kind, same_pair}
+use Rattle.bcast_model.specs.Words.{IsTest, same_place, same_kind, same_pair}
 
 pub test_place : IsTest same_place
 test_place = record { yes = λ place. grind (arith, common_steps); no = λ place other e. grind (arith, common_steps, e) }

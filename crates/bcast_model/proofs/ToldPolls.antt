@@ -10,18 +10,13 @@ use Rattle.bcast_model.specs.declared.run.Call.{Call}
 use Rattle.bcast_model.specs.declared.run.Call.TheVariants as call
 use Rattle.bcast_model.specs.declared.run.Reply.{Reply}
 use Rattle.bcast_model.specs.declared.run.Reply.TheVariants as reply
-use Rattle.bcast_model.specs.Listeners.{is_in}
-use Rattle.bcast_model.specs.ListenerId.{Pair, same_pair, same_place, stream_of, future_of}
-use Rattle.bcast_model.specs.Control.{Control, has_place, cursor_of}
-use Rattle.bcast_model.specs.View.{View, sends_are_ready}
-use Rattle.bcast_model.specs.History.{History, view_of}
-use Rattle.bcast_model.specs.Receiving.{IsOwed, try_recv_reply, skipped_to, skipped_count, future_reply, stream_reply, next_reply}
-use Rattle.bcast_model.specs.Legal.{Legal, IsReceived}
-use Rattle.bcast_model.specs.Next.{is_out_of_memory, next}
-use Rattle.bcast_model.specs.Valid.{IsValid, IsValidView, AreListed, WouldWait}
-use Rattle.bcast_model.specs.Run.{IsRun}
-use Rattle.bcast_model.specs.Laws.{HasRange, must_wait}
-use Rattle.bcast_model.specs.ToldPolls.{listener_count, told_count, polls_told, polls_listed, told_polls, ComesToRest}
+use Rattle.bcast_model.specs.Words.{is_in, Pair, same_pair, same_place, stream_of, future_of}
+use Rattle.bcast_model.specs.Words.{Control, has_place, cursor_of, View, sends_are_ready, History}
+use Rattle.bcast_model.specs.Words.{view_of, IsOwed, try_recv_reply, skipped_to, skipped_count}
+use Rattle.bcast_model.specs.Words.{future_reply, stream_reply, next_reply, Legal, IsReceived}
+use Rattle.bcast_model.specs.Words.{is_out_of_memory, next, IsValid, IsValidView, AreListed}
+use Rattle.bcast_model.specs.Words.{WouldWait, IsRun, HasRange, must_wait, listener_count}
+use Rattle.bcast_model.specs.Words.{told_count, polls_told, polls_listed, told_polls, ComesToRest}
 use Rattle.bcast_model.proofs.Lists.{all_in, some}
 use Rattle.bcast_model.proofs.Tests.{test_place, test_pair}
 use Rattle.bcast_model.proofs.Polls.{send_waits_unready}

@@ -1,10 +1,9 @@
 -- How far the listeners are from rest, and what one list does when a told listener polls.
 use Rattle.std.proofs.Common.{◌≡◌, ℕ, zero, suc, ◌+◌, ◌*◌, ◌≤◌, Bool, true, false, [], ◌∷◌, length, refl, sym, subst, arith, length-append}
 use Rattle.std.proofs.lemmas.List.{take-append-drop}
-use Rattle.bcast_model.specs.Listeners.{Listeners, told_ids, untold_ids, is_in, without, consume, wait_again, IsDistinct, AreInOrder, IsTest}
-use Rattle.bcast_model.specs.Control.{Control}
-use Rattle.bcast_model.specs.Valid.{AreListed}
-use Rattle.bcast_model.specs.ToldPolls.{listener_count, told_count}
+use Rattle.bcast_model.specs.Words.{Listeners, told_ids, untold_ids, is_in, without, consume}
+use Rattle.bcast_model.specs.Words.{wait_again, IsDistinct, AreInOrder, IsTest, Control, AreListed}
+use Rattle.bcast_model.specs.Words.{listener_count, told_count}
 use Rattle.bcast_model.proofs.Lists.{distinct_apart}
 use Rattle.bcast_model.proofs.Listeners.{told_listed, told_some, consume_listed}
 

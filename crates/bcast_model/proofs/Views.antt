@@ -3,10 +3,8 @@ use Rattle.std.proofs.Common.{◌≡◌, inl, inr, ℕ, ◌+◌, ◌-◌, ◌<�
 use Rattle.std.proofs.lemmas.Grind.{common_steps}
 use Rattle.std.proofs.lemmas.Bool.{cases_lt}
 use Rattle.std.specs.FinMap.{get, values}
-use Rattle.bcast_model.specs.History.{History, front_number, end_number, queue_of, numbered, view_of}
-use Rattle.bcast_model.specs.Valid.{IsValid}
-use Rattle.bcast_model.specs.View.{View}
-use Rattle.bcast_model.specs.Laws.{IsValidView}
+use Rattle.bcast_model.specs.Words.{History, front_number, end_number, queue_of, numbered, view_of}
+use Rattle.bcast_model.specs.Words.{IsValid, View, IsValidView}
 use Rattle.bcast_model.proofs.Least.{least-le-limit, least-le-cursor}
 
 -- ---- messages by their numbers

@@ -5,9 +5,8 @@ use Rattle.std.specs.Ordering.{nat_cmp, eq_by_cmp}
 use Rattle.std.specs.Cmp.{nat_cmp_total, unsigned_tied}
 use Rattle.std.specs.FinSet as set
 use Rattle.std.specs.List.{AllByRecursion}
-use Rattle.bcast_model.specs.Listeners.{Listeners, without, tell, tell_all, consume, abandon, wait_again, AreInOrder}
-use Rattle.bcast_model.specs.ListenerId.{same_place}
-use Rattle.bcast_model.specs.Control.{Places}
+use Rattle.bcast_model.specs.Words.{Listeners, without, tell, tell_all, consume, abandon}
+use Rattle.bcast_model.specs.Words.{wait_again, AreInOrder, same_place, Places}
 use Rattle.bcast_model.proofs.Lists.{all_more, all_without}
 use Rattle.bcast_model.proofs.Listeners.{in_order_tell, in_order_tell_all, in_order_consume, in_order_abandon, in_order_waits, abandon_ids, all_waits}
 use Rattle.bcast_model.proofs.Tests.{test_place}

@@ -1,12 +1,8 @@
 -- What may be seen of a channel is seen of some valid history.
 use Rattle.std.proofs.Common.{◌↔◌, ◌≡◌, inl, inr, ℕ, ◌+◌, ◌-◌, ◌==◌, List, [], ◌∷◌, ◌++◌, length, drop, replicate, refl, sym, subst, arith, length-append}
 use Rattle.std.proofs.lemmas.List.{length-replicate, drop_at}
-use Rattle.bcast_model.specs.Control.{Control}
-use Rattle.bcast_model.specs.History.{History, front_of, view_of}
-use Rattle.bcast_model.specs.Valid.{IsValid, IsValidControl, NoLostWakeUp}
-use Rattle.bcast_model.specs.View.{View}
-use Rattle.bcast_model.specs.Answers.{IsShown, Represents}
-use Rattle.bcast_model.specs.Laws.{IsValidView}
+use Rattle.bcast_model.specs.Words.{Control, History, front_of, view_of, IsValid, IsValidControl}
+use Rattle.bcast_model.specs.Words.{NoLostWakeUp, View, IsShown, Represents, IsValidView}
 use Rattle.bcast_model.proofs.Lift.{same_view}
 use Rattle.bcast_model.proofs.Views.{valid_view}
 

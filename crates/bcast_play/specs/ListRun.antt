@@ -3,9 +3,7 @@ use Rattle.std.specs.Prelude.{◌≡◌, ℕ, List, [], ◌∷◌, ◌++◌, ◌
 use Rattle.std.specs.Io.KnownBytes.{Appends}
 use Rattle.bcast_model.specs.declared.run.Call.{Call}
 use Rattle.bcast_model.specs.declared.run.Reply.{Reply}
-use Rattle.bcast_model.specs.History.{opening}
-use Rattle.bcast_model.specs.Run.{IsRun}
-use Rattle.bcast_model.specs.Legal.{NoClone}
+use Rattle.bcast_model.specs.Words.{opening, IsRun, NoClone}
 use Rattle.bcast_text.specs.Run as lines
 use Rattle.bcast_text.specs.Opening.{opening_text}
 use Rattle.bcast_text.specs.TraceCall as calls

@@ -5,10 +5,7 @@ use Rattle.std.specs.Map.{update}
 use Rattle.std.specs.Str.{bytes_eq}
 use Rattle.bcast_model.specs.declared.run.Call.{Call}
 use Rattle.bcast_model.specs.declared.run.Reply.{Reply}
-use Rattle.bcast_model.specs.View.{View}
-use Rattle.bcast_model.specs.History.{opening}
-use Rattle.bcast_model.specs.Answers.{Answers, Represents}
-use Rattle.bcast_model.specs.Legal.{NoClone}
+use Rattle.bcast_model.specs.Words.{View, opening, Answers, Represents, NoClone}
 use Rattle.bcast_text.specs.declared.script.line.Line.{Line}
 use Rattle.bcast_text.specs.declared.script.line.Line.TheVariants.{Cap}
 use Rattle.bcast_text.specs.ScriptLine.{text_of, IsInForm}

@@ -2,10 +2,7 @@
 use Rattle.std.specs.Prelude.{◌≡◌, ℕ, List, [], ◌∷◌, ◌++◌, ◌⊎◌, ◌≢◌, Option, Some, None, codes}
 use Rattle.bcast_model.specs.declared.run.Call.{Call}
 use Rattle.bcast_model.specs.declared.run.Reply.{Reply}
-use Rattle.bcast_model.specs.View.{View}
-use Rattle.bcast_model.specs.History.{opening}
-use Rattle.bcast_model.specs.Answers.{Answers, Represents}
-use Rattle.bcast_model.specs.Legal.{NoClone}
+use Rattle.bcast_model.specs.Words.{View, opening, Answers, Represents, NoClone}
 use Rattle.bcast_core.specs.declared.snapshot.Snapshot.{Snapshot}
 use Rattle.bcast_core.specs.Snapshot.{Shows}
 use Rattle.bcast_text.specs.Opening.{opening_text, IsOpening}

@@ -5,25 +5,24 @@ ghost use Rattle.std.specs.List.{prefix_len};
 ghost use Rattle.bcast_queue.specs.Queue.{one_more_from, one_fewer_from};
 ghost use Rattle.bcast_queue.specs.Entries.{counts, messages, owed_by};
 
-use crate::{Entry, Steps};
+use crate::{Counter, Entry};
 use circular_buffer::HeapCircularBuffer;
 use std::alloc::Allocator;
-use std::sync::ledger::Ledger;
 
 // Changes the count of an entry, and returns what it is then. This is one step, and the only way
 // to a count but where a message is made.
 #[inline(always)]
-pub(crate) fn change<T, L: Ledger>(
+pub(crate) fn change<T, C: Counter>(
     entry: &mut Entry<T>,
     more: usize,
     fewer: usize,
-    steps: &mut Steps<L>,
+    steps: &mut C,
 ) -> usize
     requires enough { fewer ≤ entry.old.next }
     requires fits { entry.old.next + more < 2 ^ 64 }
     ensures value { result ≡ entry.old.next + more - fewer }
     ensures entry { entry.new ≡ record entry.old { next = result } }
-    ensures steps { steps.new ≡ steps.old + 1 }
+    ensures steps { C.total steps.new ≤ C.total steps.old + 1 }
 {
     entry.next = entry.next + more - fewer;
     steps.count();
@@ -32,12 +31,12 @@ pub(crate) fn change<T, L: Ledger>(
 
 // The same for the message at `index`.
 #[inline(always)]
-pub(crate) fn change_at<T, A: Allocator, L: Ledger>(
+pub(crate) fn change_at<T, A: Allocator, C: Counter>(
     ring: &mut HeapCircularBuffer<Entry<T>, A>,
     index: usize,
     more: usize,
     fewer: usize,
-    steps: &mut Steps<L>,
+    steps: &mut C,
 ) -> usize
     requires within { index < length ring.old.items }
     requires enough { fewer ≤ slice_index (counts ring.old) index }
@@ -46,7 +45,7 @@ pub(crate) fn change_at<T, A: Allocator, L: Ledger>(
     ensures counts { counts ring.new ≡ slice_set (counts ring.old) index result }
     ensures messages { messages ring.new ≡ messages ring.old }
     ensures capacity { ring.new.capacity ≡ ring.old.capacity }
-    ensures steps { steps.new ≡ steps.old + 1 }
+    ensures steps { C.total steps.new ≤ C.total steps.old + 1 }
 {
     let Some(entry) = ring.get_mut(index) else {
         unreachable!()
@@ -56,10 +55,10 @@ pub(crate) fn change_at<T, A: Allocator, L: Ledger>(
 
 // How many read the message at `index` next.
 #[inline(always)]
-pub(crate) fn count_at<T, A: Allocator, L: Ledger>(
+pub(crate) fn count_at<T, A: Allocator, C: Counter>(
     ring: &mut HeapCircularBuffer<Entry<T>, A>,
     index: usize,
-    steps: &mut Steps<L>,
+    steps: &mut C,
 ) -> usize
     requires within { index < length ring.old.items }
     requires fits { slice_index (counts ring.old) index < 2 ^ 64 }
@@ -67,19 +66,19 @@ pub(crate) fn count_at<T, A: Allocator, L: Ledger>(
     ensures counts { counts ring.new ≡ counts ring.old }
     ensures messages { messages ring.new ≡ messages ring.old }
     ensures capacity { ring.new.capacity ≡ ring.old.capacity }
-    ensures steps { steps.new ≡ steps.old + 1 }
+    ensures steps { C.total steps.new ≤ C.total steps.old + 1 }
 {
     change_at(ring, index, 0, 0, steps)
 }
 
 // Adds a reader of the message at `index` and of those behind it, if there are any.
 #[inline(always)]
-pub(crate) fn add_reader<T, A: Allocator, L: Ledger>(
+pub(crate) fn add_reader<T, A: Allocator, C: Counter>(
     ring: &mut HeapCircularBuffer<Entry<T>, A>,
     behind: usize,
     total: &mut usize,
     index: usize,
-    steps: &mut Steps<L>,
+    steps: &mut C,
 )
     requires summed { total.old ≡ behind + sum (counts ring.old) }
     requires fits { index < length ring.old.items → total.old + 1 < 2 ^ 64 }
@@ -88,7 +87,7 @@ pub(crate) fn add_reader<T, A: Allocator, L: Ledger>(
     ensures summed { total.new ≡ behind + sum (counts ring.new) }
     ensures messages { messages ring.new ≡ messages ring.old }
     ensures capacity { ring.new.capacity ≡ ring.old.capacity }
-    ensures steps { steps.new ≤ steps.old + 1 }
+    ensures steps { C.total steps.new ≤ C.total steps.old + 1 }
 {
     if index < ring.len() {
         *total += 1;
@@ -99,12 +98,12 @@ pub(crate) fn add_reader<T, A: Allocator, L: Ledger>(
 // Takes a reader away from the message at `index` and from those behind it, and returns how many
 // read that message next. From the first message it takes one that is behind it, if there is one.
 #[inline(always)]
-pub(crate) fn take_reader<T, A: Allocator, L: Ledger>(
+pub(crate) fn take_reader<T, A: Allocator, C: Counter>(
     ring: &mut HeapCircularBuffer<Entry<T>, A>,
     behind: &mut usize,
     total: &mut usize,
     index: usize,
-    steps: &mut Steps<L>,
+    steps: &mut C,
 ) -> usize
     requires within { index < length ring.old.items }
     requires summed { total.old ≡ behind.old + sum (counts ring.old) }
@@ -117,7 +116,7 @@ pub(crate) fn take_reader<T, A: Allocator, L: Ledger>(
     ensures total { total.new + 1 ≡ total.old }
     ensures messages { messages ring.new ≡ messages ring.old }
     ensures capacity { ring.new.capacity ≡ ring.old.capacity }
-    ensures steps { steps.new ≡ steps.old + 1 }
+    ensures steps { C.total steps.new ≤ C.total steps.old + 1 }
 {
     *total -= 1;
     if index == 0 && *behind > 0 {
@@ -130,11 +129,11 @@ pub(crate) fn take_reader<T, A: Allocator, L: Ledger>(
 
 // Drops the messages at the front that nobody reads next, if nobody is behind them. `next` is how
 // many read the first message next.
-pub(crate) fn drop_unowed<T: Drop, A: Allocator, L: Ledger>(
+pub(crate) fn drop_unowed<T: Drop, A: Allocator, C: Counter>(
     ring: &mut HeapCircularBuffer<Entry<T>, A>,
     front: &mut u64,
     next: usize,
-    steps: &mut Steps<L>,
+    steps: &mut C,
 )
     requires some { 0 < length ring.old.items }
     requires next { next ≡ slice_index (counts ring.old) 0 }
@@ -147,7 +146,8 @@ pub(crate) fn drop_unowed<T: Drop, A: Allocator, L: Ledger>(
     ensures front { front.new ≡ front.old + prefix_len (λ n. n == 0) (counts ring.old) }
     ensures numbered { front.new + length ring.new.items < 2 ^ 64 }
     ensures capacity { ring.new.capacity ≡ ring.old.capacity }
-    ensures steps { steps.new + length ring.new.items ≤ steps.old + length ring.old.items }
+    ensures steps { C.total steps.new + length ring.new.items
+        ≤ C.total steps.old + length ring.old.items }
 {
     let mut next = next;
     while next == 0 {

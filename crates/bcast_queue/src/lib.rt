@@ -10,9 +10,8 @@ ghost use Rattle.bcast_queue.specs.Queue.{last_item, queue_with, without};
 use crate::counts::change;
 use circular_buffer::HeapCircularBuffer;
 use std::alloc::{AllocError, Allocator, Global};
-use std::marker::{Brand, Model};
-use std::sync::ledger::{Blank, Ledger};
-pub use steps::Steps;
+use std::marker::Model;
+pub use steps::{Counter, Steps, Uncounted};
 
 mod counts;
 mod readers;
@@ -167,20 +166,22 @@ impl<T, A: Allocator> Queue<T, A> {
         Ok(())
     }
 
-    /// Appends `msg`, to which `owing` readers owe a read. Takes no memory.
+    /// Appends `msg`, to which `owing` readers owe a read, and returns its number. Takes no memory.
     ///
     /// Source: `queue.push_back` in `try_broadcast` of async-broadcast.
     #[inline(always)]
-    pub fn push(&mut self, msg: T, owing: usize)
+    pub fn push(&mut self, msg: T, owing: usize) -> u64
         requires fits { length self.old.messages < self.old.room }
         requires owed { 1 ≤ owing }
         requires never_falls { ForSome (last_item self.old.owed) (λ n. n ≤ owing) }
         requires numbered { self.old.front + length self.old.messages + 1 < 2 ^ 64 }
-        ensures { self.new ≡ record self.old {
+        ensures number { result ≡ self.old.front + length self.old.messages }
+        ensures pushed { self.new ≡ record self.old {
           messages = self.old.messages ++ msg ∷ [];
           owed = self.old.owed ++ owing ∷ [];
         } }
     {
+        let number = self.front + self.ring.len() as u64;
         // Whoever has read all messages reads this one next.
         let next = owing - self.total;
         match self.ring.try_push_back(Entry { message: msg, next }) {
@@ -188,37 +189,18 @@ impl<T, A: Allocator> Queue<T, A> {
             Err(_) => unreachable!(),
         }
         self.total = owing;
+        number
     }
 
     /// Takes the first message out, whoever owes it, or returns nothing if there is none.
     ///
     /// Source: `queue.pop_front` in `try_broadcast` of async-broadcast.
-    pub fn pop(&mut self) -> Option<T>
+    #[inline(always)]
+    pub fn pop<C: Counter>(&mut self, steps: &mut C) -> Option<T>
         ensures value { result ≡ slice_get self.old.messages 0 }
         ensures some { OnSome result (self.new ≡ without 1 self.old) }
         ensures none { IfNone result (self.new ≡ self.old) }
-    {
-        self.pop_uncounted::<Brand>(Blank::new(1))
-    }
-
-    // As `pop`, with steps that nobody counts.
-    fn pop_uncounted<L: Ledger>(&mut self, blank: Blank) -> Option<T>
-        requires name { blank.name ≡ L.name }
-        requires parts { blank.parts ≡ L.parts }
-        requires some_parts { 0 < blank.parts }
-        ensures value { result ≡ slice_get self.old.messages 0 }
-        ensures some { OnSome result (self.new ≡ without 1 self.old) }
-        ensures none { IfNone result (self.new ≡ self.old) }
-    {
-        self.pop_in_steps(&mut Steps::<L>::new(blank))
-    }
-
-    // As `pop`, in one step.
-    fn pop_in_steps<L: Ledger>(&mut self, steps: &mut Steps<L>) -> Option<T>
-        ensures value { result ≡ slice_get self.old.messages 0 }
-        ensures some { OnSome result (self.new ≡ without 1 self.old) }
-        ensures none { IfNone result (self.new ≡ self.old) }
-        ensures steps { steps.new ≤ steps.old + 1 }
+        ensures steps { C.total steps.new ≤ C.total steps.old + 1 }
     {
         let mut entry = self.ring.pop_front()?;
         let next = change(&mut entry, 0, 0, steps);

@@ -6,9 +6,8 @@ ghost use Rattle.std.specs.Result.{IsOkAnd};
 ghost use Rattle.bcast_queue.specs.Queue.{last_item, with_reader, without_reader, read_at};
 
 use crate::counts::{add_reader, count_at, drop_unowed, take_reader};
-use crate::{Queue, Steps};
+use crate::{Counter, Queue};
 use std::alloc::{AllocError, Allocator};
-use std::sync::ledger::Ledger;
 
 impl<T, A: Allocator> Queue<T, A> {
     /// Adds a reader of the message at `index` and of those behind it. Takes no memory.
@@ -16,11 +15,11 @@ impl<T, A: Allocator> Queue<T, A> {
     /// At an `index` that is the length it changes nothing.
     ///
     /// Source: the loop over `queue` in `Receiver::clone` of async-broadcast.
-    pub fn share<L: Ledger>(&mut self, index: usize, steps: &mut Steps<L>)
+    pub fn share<C: Counter>(&mut self, index: usize, steps: &mut C)
         requires within { index ≤ length self.old.messages }
         requires fits { ForSome (last_item self.old.owed) (λ n. n < usize.MAX) }
         ensures shared { self.new ≡ with_reader index self.old }
-        ensures steps { steps.new ≤ steps.old + 1 }
+        ensures steps { C.total steps.new ≤ C.total steps.old + 1 }
     {
         add_reader(&mut self.ring, self.behind, &mut self.total, index, steps);
     }
@@ -33,13 +32,13 @@ impl<T: Drop, A: Allocator> Queue<T, A> {
     /// At an `index` that is the length it changes nothing.
     ///
     /// Source: the reads in `drop` of a `Receiver` of async-broadcast.
-    pub fn leave<L: Ledger>(&mut self, index: usize, steps: &mut Steps<L>)
+    pub fn leave<C: Counter>(&mut self, index: usize, steps: &mut C)
         requires within { index ≤ length self.old.messages }
         requires owed { 0 < index → index < length self.old.messages
             → slice_index self.old.owed (index - 1) < slice_index self.old.owed index }
         ensures left { self.new ≡ without_reader index self.old }
-        ensures steps { steps.new + length self.new.messages
-            ≤ steps.old + length self.old.messages + 1 }
+        ensures steps { C.total steps.new + length self.new.messages
+            ≤ C.total steps.old + length self.old.messages + 1 }
     {
         if index >= self.ring.len() {
             return;
@@ -60,14 +59,14 @@ impl<T: Drop, A: Allocator> Queue<T, A> {
 impl<T: Clone, A: Allocator> Queue<T, A> {
     // Whether one reader alone owes the message at `index`, which some reader reads next.
     #[inline(always)]
-    fn is_owed_once<L: Ledger>(&mut self, index: usize, steps: &mut Steps<L>) -> bool
+    fn is_owed_once<C: Counter>(&mut self, index: usize, steps: &mut C) -> bool
         requires within { index < length self.old.messages }
         requires owed { 0 < index
             → slice_index self.old.owed (index - 1) < slice_index self.old.owed index }
         ensures once { IsTrue result ↔ (slice_index self.old.owed index ≡ 1) }
         ensures first { IsTrue result → index ≡ 0 }
         ensures same { self.new ≡ self.old }
-        ensures steps { steps.new ≤ steps.old + 1 }
+        ensures steps { C.total steps.new ≤ C.total steps.old + 1 }
     {
         let next = count_at(&mut self.ring, index, steps);
         if index > 0 {
@@ -78,13 +77,13 @@ impl<T: Clone, A: Allocator> Queue<T, A> {
 
     // Takes a reader away from the message at `index` alone, which has another.
     #[inline(always)]
-    fn read_next<L: Ledger>(&mut self, index: usize, steps: &mut Steps<L>)
+    fn read_next<C: Counter>(&mut self, index: usize, steps: &mut C)
         requires within { index < length self.old.messages }
         requires owed { 0 < index
             → slice_index self.old.owed (index - 1) < slice_index self.old.owed index }
         requires several { 1 < slice_index self.old.owed index }
         ensures read { self.new ≡ read_at index self.old }
-        ensures steps { steps.new ≤ steps.old + 2 }
+        ensures steps { C.total steps.new ≤ C.total steps.old + 2 }
     {
         let before = self.total;
         let mut total = before;
@@ -108,7 +107,7 @@ impl<T: Clone, A: Allocator> Queue<T, A> {
     ///
     /// Source: `Inner::try_recv_at` of async-broadcast.
     #[inline(always)]
-    pub fn read<L: Ledger>(&mut self, index: usize, steps: &mut Steps<L>) -> Result<T, AllocError>
+    pub fn read<C: Counter>(&mut self, index: usize, steps: &mut C) -> Result<T, AllocError>
         requires within { index < length self.old.messages }
         requires owed { 0 < index
             → slice_index self.old.owed (index - 1) < slice_index self.old.owed index }
@@ -121,10 +120,10 @@ impl<T: Clone, A: Allocator> Queue<T, A> {
         ensures ok { OnOk result (self.new ≡ read_at index self.old) }
         ensures err { OnErr result (self.new ≡ self.old) }
         ensures refused { OnErr result (1 < slice_index self.old.owed index) }
-        ensures steps { steps.new ≤ steps.old + 3 }
+        ensures steps { C.total steps.new ≤ C.total steps.old + 3 }
     {
         if self.is_owed_once(index, steps) {
-            let Some(message) = self.pop_in_steps(steps) else {
+            let Some(message) = self.pop(steps) else {
                 unreachable!()
             };
             return Ok(message);

@@ -1,14 +1,27 @@
-//! A count of steps that takes no bytes.
-ghost use Rattle.std.specs.Prelude.{◌≡◌, ◌+◌, ◌<◌};
+//! Counting steps, in a count that takes no bytes, or not at all.
+ghost use Rattle.std.specs.Prelude.{◌≡◌, ◌+◌, ◌<◌, ◌≤◌, true};
 
 use std::marker::Model;
 use std::sync::ledger::{Blank, Book, Ledger, Share};
 
-/// How many counts of messages were read or changed. It takes no bytes, and only `Queue` adds to
-/// it.
-///
-/// A caller that counts nothing calls a function over any ledger with `Blank::new(1)`, which makes
-/// its steps from that.
+/// What is told of each step, and may count it.
+pub trait Counter {
+    ghost use Rattle.std.specs.Prelude.{ℕ, Bool};
+
+    // How many steps it has counted.
+    ghost total: { Self → ℕ };
+
+    // Whether it counts every step.
+    ghost counts: { Bool };
+
+    /// One step more.
+    fn count(&mut self)
+        ensures most { total self.new ≤ total self.old + 1 }
+        ensures exact { counts ≡ true → total self.new ≡ total self.old + 1 };
+}
+
+/// A count of steps that takes no bytes. A queue counts how many counts of messages it reads or
+/// changes, and a channel how often a receive looks for a message.
 #[derive(Drop)]
 pub struct Steps<L: Ledger> {
     book: Book<L>,
@@ -27,6 +40,7 @@ impl<L: Ledger> Model for Steps<L> {
 
 impl<L: Ledger> Steps<L> {
     /// No step.
+    #[inline(always)]
     pub fn new(blank: Blank) -> Steps<L>
         requires name { blank.name ≡ L.name }
         requires parts { blank.parts ≡ L.parts }
@@ -36,11 +50,34 @@ impl<L: Ledger> Steps<L> {
         let (book, share) = blank.open::<L>();
         Steps { book, share }
     }
+}
 
-    // One step more.
-    pub(crate) fn count(&mut self)
+impl<L: Ledger> Counter for Steps<L> {
+    ghost use Rattle.std.specs.Prelude.{true};
+
+    ghost total = { λ steps. steps };
+
+    ghost counts = { true };
+
+    #[inline(always)]
+    fn count(&mut self)
         ensures { self.new ≡ self.old + 1 }
     {
         self.book.add(&mut self.share, 1);
     }
+}
+
+/// What counts no step.
+#[derive(Drop)]
+pub struct Uncounted;
+
+impl Counter for Uncounted {
+    ghost use Rattle.std.specs.Prelude.{false};
+
+    ghost total = { λ _. 0 };
+
+    ghost counts = { false };
+
+    #[inline(always)]
+    fn count(&mut self) {}
 }

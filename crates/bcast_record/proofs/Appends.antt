@@ -3,13 +3,8 @@ use Rattle.std.proofs.Common.{◌≡◌, List, [], ◌∷◌, ◌++◌, sym, ◌
 use Rattle.std.specs.List.{AllByRecursion}
 use Rattle.std.proofs.lemmas.List.{map-append}
 use Rattle.bcast_model.specs.declared.run.Call.{Call}
-use Rattle.bcast_model.specs.History.{opening}
-use Rattle.bcast_model.specs.Next.{next, HasPositiveCapacity}
-use Rattle.bcast_model.specs.Run.{IsRun, end_of_run}
-use Rattle.bcast_model.specs.Valid.{IsValid}
-use Rattle.bcast_model.specs.View.{View}
-use Rattle.bcast_model.specs.Legal.{Legal}
-use Rattle.bcast_model.specs.Answers.{Represents, Answers}
+use Rattle.bcast_model.specs.Words.{opening, next, HasPositiveCapacity, IsRun, end_of_run, IsValid}
+use Rattle.bcast_model.specs.Words.{View, Legal, Represents, Answers}
 use Rattle.bcast_model.proofs.Lists.{all_append}
 use Rattle.bcast_core.proofs.Runs.{run_more, end_more}
 use Rattle.bcast_record.specs.declared.entry.Entry.{Entry}

@@ -9,10 +9,8 @@ use Rattle.bcast_model.specs.declared.run.Call.TheVariants as call
 use Rattle.bcast_model.specs.declared.run.Reply.{Reply}
 use Rattle.bcast_model.specs.declared.run.Reply.TheVariants as reply
 use Rattle.std.specs.Prelude.{ℕ}
-use Rattle.bcast_model.specs.Control.{Cursors, has_no_receiver}
-use Rattle.bcast_model.specs.View.{View}
-use Rattle.bcast_model.specs.SendAll.{free_room, reply_to_all}
-use Rattle.bcast_model.specs.Legal.{Legal, IsReceived, IsMade, IsMadeFrom}
+use Rattle.bcast_model.specs.Words.{Cursors, has_no_receiver, View, free_room, reply_to_all, Legal}
+use Rattle.bcast_model.specs.Words.{IsReceived, IsMade, IsMadeFrom}
 use Rattle.bcast_record.specs.declared.entry.Entry.{Entry}
 use Rattle.bcast_record.specs.Copies.{list_of, IsListOf}
 

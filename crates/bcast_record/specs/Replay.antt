@@ -3,12 +3,8 @@ use Rattle.std.specs.Prelude.{◌<◌, List, map}
 use Rattle.std.specs.List.{AllByRecursion}
 use Rattle.bcast_model.specs.declared.run.Call.{Call}
 use Rattle.bcast_model.specs.declared.run.Reply.{Reply}
-use Rattle.bcast_model.specs.History.{History, opening}
-use Rattle.bcast_model.specs.Next.{HasPositiveCapacity}
-use Rattle.bcast_model.specs.Run.{IsRun, end_of_run}
-use Rattle.bcast_model.specs.Valid.{IsValid}
-use Rattle.bcast_model.specs.View.{View}
-use Rattle.bcast_model.specs.Answers.{Represents}
+use Rattle.bcast_model.specs.Words.{History, opening, HasPositiveCapacity, IsRun, end_of_run}
+use Rattle.bcast_model.specs.Words.{IsValid, View, Represents}
 use Rattle.bcast_record.specs.Recording.{Recording}
 
 module _ {T : Type 0} where

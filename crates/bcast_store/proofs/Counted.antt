@@ -2,8 +2,7 @@
 use Rattle.std.proofs.Common.{◌≡◌, inl, inr, ℕ, ◌+◌, ◌^◌, ◌<◌, ◌≤◌, All, length, get_or, arith}
 use Rattle.std.proofs.lemmas.Bool.{cases_lt}
 use Rattle.std.specs.FinMap.{len, values}
-use Rattle.bcast_model.specs.Control.{Cursors}
-use Rattle.bcast_model.specs.History.{least}
+use Rattle.bcast_model.specs.Words.{Cursors, least}
 use Rattle.bcast_queue.specs.Queue.{Queued}
 use Rattle.bcast_store.specs.Stored.{IsSettled}
 use Rattle.bcast_store.specs.Sound.{IsSound, store_of}

@@ -2,9 +2,7 @@
 use Rattle.std.specs.Prelude.{◌≡◌, ℕ, ◌+◌, ◌-◌, ◌^◌, ◌<◌, ◌≤◌, ◌⊎◌, List, length, max, drop, slice_get, Some, IsSomeAnd, refl}
 use Rattle.std.specs.Coded.{Coded, code_by, coded×, coded_ℕ, coded_list}
 use Rattle.std.specs.FinMap.{get, len, values, code}
-use Rattle.bcast_model.specs.History.{least}
-use Rattle.bcast_model.specs.Control.{Cursors}
-use Rattle.bcast_model.specs.Receiving.{IsUnreadByAnother}
+use Rattle.bcast_model.specs.Words.{least, Cursors, IsUnreadByAnother}
 
 -- the number of the first kept message, the kept messages, the receivers' cursors, and how many
 -- messages fit

@@ -1,11 +1,12 @@
 //! The cursor of each receiver.
-ghost use Rattle.std.specs.Prelude.{◌≡◌, ◌==◌, ◌<◌, ◌^◌, true, false, None, IfOk, OnOk, OnErr};
+ghost use Rattle.std.specs.Prelude.{◌≡◌, ◌<◌, ◌^◌, None, IfOk, OnOk, OnErr, IfNone, OnSome};
 ghost use Rattle.std.specs.FinMap as map;
 ghost use Rattle.slab.specs.Slab.{entries};
 
 use slab::Slab;
 use std::alloc::{AllocError, Allocator, Global};
 use std::marker::Model;
+use std::mem;
 
 /// The receivers, each under its key: the number of the message that it reads next.
 ///
@@ -76,20 +77,18 @@ impl<A: Allocator> Cursors<A> {
         self.numbers.get(key).copied()
     }
 
-    /// Lets a receiver read `number` next, and returns whether a receiver has the key; else nothing
-    /// changes.
-    pub fn set(&mut self, key: usize, number: u64) -> bool
-        ensures found { result ≡ map.contains_key self.old key }
-        ensures there { map.contains_key self.old key ≡ true
-            → self.new ≡ map.insert self.old key number }
-        ensures absent { map.contains_key self.old key ≡ false
-            → self.new ≡ self.old }
+    /// Lets a receiver read `number` next, and returns the number that it would have read; `None` if
+    /// no receiver has the key, which changes nothing.
+    #[inline(always)]
+    pub fn replace(&mut self, key: usize, number: u64) -> Option<u64>
+        ensures value { result ≡ map.get self.old key }
+        ensures some { OnSome result (self.new ≡ map.insert self.old key number) }
+        ensures none { IfNone result (self.new ≡ self.old) }
     {
         let Some(cursor) = self.numbers.get_mut(key) else {
-            return false;
+            return None;
         };
-        *cursor = number;
-        true
+        Some(mem::replace(cursor, number))
     }
 
     /// How many receivers there are.
@@ -97,13 +96,6 @@ impl<A: Allocator> Cursors<A> {
         ensures { result ≡ map.len self.now }
     {
         self.numbers.len()
-    }
-
-    /// Whether there is no receiver.
-    pub fn is_empty(&self) -> bool
-        ensures { result ≡ (map.len self.now == 0) }
-    {
-        self.numbers.is_empty()
     }
 
     /// The keys by rising order, each with the number that its receiver reads next.

@@ -9,14 +9,13 @@ ghost use Rattle.bcast_store.specs.Stored.{IsSettled, end_of};
 
 use crate::cursors::Cursors;
 use bcast_model::messages::Messages;
-use bcast_queue::Queue;
+use bcast_queue::{Queue, Uncounted};
 use std::alloc::{AllocError, Allocator, Global};
 use std::marker::Model;
 
 // Public only so that tests above can call it.
 pub mod cursors;
 mod readers;
-mod uncounted;
 
 /// The messages that a channel keeps, and the cursors of its receivers.
 ///
@@ -143,7 +142,7 @@ impl<T: Drop, A: Allocator + Copy> Store<T, A> {
     pub fn has_no_receiver(&self) -> bool
         ensures { result ≡ (len self.now.cursors == 0) }
     {
-        self.cursors.is_empty()
+        self.cursors.len() == 0
     }
 
     /// The cursor of the receiver `key`, or nothing if there is no such receiver.
@@ -174,18 +173,19 @@ impl<T: Drop, A: Allocator + Copy> Store<T, A> {
         self.cursors.entries(alloc)
     }
 
-    /// Puts `msg` last, for every receiver. Takes no memory.
+    /// Puts `msg` last, for every receiver, and returns its number. Takes no memory.
     ///
     /// Source: `queue.push_back` in `try_broadcast` of async-broadcast.
     #[inline(always)]
-    pub fn push(&mut self, msg: T)
+    pub fn push(&mut self, msg: T) -> u64
         requires someone { 0 < len self.old.cursors }
         requires room { length self.old.queue < self.old.room }
         requires number { end_of self.old + 1 < 2 ^ 64 }
-        ensures { self.new ≡ record self.old { queue = self.old.queue ++ msg ∷ [] } }
+        ensures number { result ≡ end_of self.old }
+        ensures pushed { self.new ≡ record self.old { queue = self.old.queue ++ msg ∷ [] } }
     {
         self.queue.invariant_holds();
-        self.queue.push(msg, self.cursors.len());
+        self.queue.push(msg, self.cursors.len())
     }
 
     /// Puts all these messages last, in their order, for every receiver. Takes no memory.
@@ -215,7 +215,7 @@ impl<T: Drop, A: Allocator + Copy> Store<T, A> {
         ensures none { IfNone result (self.new ≡ self.old) }
     {
         self.queue.invariant_holds();
-        self.queue.pop()
+        self.queue.pop(&mut Uncounted)
     }
 
     /// Takes the first `count` messages out, whoever is still to read them, and drops them.

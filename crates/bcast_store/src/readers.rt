@@ -4,10 +4,9 @@ ghost use Rattle.std.specs.Prelude.{IfOk, IsOk, OnOk, OnErr, IsSomeAnd, max};
 ghost use Rattle.std.specs.FinMap as map;
 ghost use Rattle.bcast_store.specs.Stored.{IsHandedOut, IsOwed, end_of, with_cursors};
 
-use crate::{Store, uncounted};
+use crate::Store;
+use bcast_queue::Uncounted;
 use std::alloc::{AllocError, Allocator};
-use std::marker::Brand;
-use std::sync::ledger::Blank;
 
 impl<T: Drop, A: Allocator + Copy> Store<T, A> {
     /// Lets the receiver `key`, which lags, go on at the front. Takes no memory.
@@ -19,7 +18,7 @@ impl<T: Drop, A: Allocator + Copy> Store<T, A> {
           cursors = map.insert self.old.cursors key self.old.front;
         } }
     {
-        self.cursors.set(key, self.queue.front());
+        self.cursors.replace(key, self.queue.front());
     }
 
     /// Adds a receiver with this cursor, and gives its key, which no other receiver has.
@@ -40,7 +39,7 @@ impl<T: Drop, A: Allocator + Copy> Store<T, A> {
         self.queue.invariant_holds();
         let key = self.cursors.add(cursor)?;
         let index = cursor.saturating_sub(self.queue.front()) as usize;
-        uncounted::share::<T, A, Brand>(&mut self.queue, index, Blank::new(1));
+        self.queue.share(index, &mut Uncounted);
         Ok(key)
     }
 
@@ -59,7 +58,7 @@ impl<T: Drop, A: Allocator + Copy> Store<T, A> {
             return false;
         };
         let index = cursor.saturating_sub(self.queue.front()) as usize;
-        uncounted::leave::<T, A, Brand>(&mut self.queue, index, Blank::new(1));
+        self.queue.leave(index, &mut Uncounted);
         self.queue.invariant_holds();
         true
     }
@@ -93,16 +92,14 @@ impl<T: Clone, A: Allocator + Copy> Store<T, A> {
     {
         self.queue.invariant_holds();
         let index = (number - self.queue.front()) as usize;
-        // Both looks for the cursor stand before the read, so that the compiler makes one of them.
-        let cursor = self.cursors.get(key).unwrap_or(number);
-        self.cursors.set(key, number + 1);
-        match uncounted::read::<T, A, Brand>(&mut self.queue, index, Blank::new(1)) {
+        let cursor = self.cursors.replace(key, number + 1).unwrap_or(number);
+        match self.queue.read(index, &mut Uncounted) {
             Ok(msg) => {
                 self.queue.invariant_holds();
                 Ok(msg)
             }
             Err(refused) => {
-                self.cursors.set(key, cursor);
+                self.cursors.replace(key, cursor);
                 Err(refused)
             }
         }

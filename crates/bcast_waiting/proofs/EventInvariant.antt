@@ -5,9 +5,7 @@ use Rattle.std.specs.Cmp.{IsEquivalence}
 use Rattle.std.specs.List.{AllByRecursion}
 use Rattle.std.proofs.lemmas.List.Edits.{length-remove}
 use Rattle.bcast_model.specs.Listeners.{is_in, consume, untold_ids, AreInOrder}
-use Rattle.bcast_waiting.specs.Event.{is_told}
-use Rattle.bcast_waiting.specs.Slots.{Slots, listed, front, has}
-use Rattle.bcast_waiting.specs.EventInvariant.{listeners_of, IsKept}
+use Rattle.bcast_waiting.specs.Words.{is_told, Slots, listed, front, has, listeners_of, IsKept}
 use Rattle.bcast_waiting.proofs.Position.{IsFirstAt}
 use Rattle.bcast_waiting.proofs.Listed.{all_more, all_push, all_remove, all_absent}
 use Rattle.bcast_waiting.proofs.Few.{at_most}

@@ -7,8 +7,7 @@ use Rattle.std.proofs.lemmas.Bool.{true≢false}
 use Rattle.std.proofs.lemmas.List.{take_more, take_all, take-map, take-append-le, take-set-le, length-take-le, map-set, get_or-map, set-get_or}
 use Rattle.std.proofs.lemmas.List.Elements.{filter_map-append}
 use Rattle.bcast_model.specs.Listeners.{is_in, IsDistinct}
-use Rattle.bcast_waiting.specs.Slots.{listed, front, has}
-use Rattle.bcast_waiting.specs.Listener.{slot_id}
+use Rattle.bcast_waiting.specs.Words.{listed, front, has, slot_id}
 use Rattle.bcast_waiting.specs.declared.slots.Listener.{Listener}
 use Rattle.bcast_waiting.proofs.Position.{IsFirstAt}
 

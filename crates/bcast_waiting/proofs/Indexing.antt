@@ -7,8 +7,7 @@ use Rattle.std.proofs.lemmas.Grind.{get_or-set_at}
 use Rattle.std.specs.List.{AllByRecursion}
 use Rattle.bcast_model.specs.Listeners.{is_in, IsDistinct}
 use Rattle.bcast_model.proofs.Tests.{test_place}
-use Rattle.bcast_waiting.specs.Slots.{listed, has}
-use Rattle.bcast_waiting.specs.Number.{IsAt, IsIndexed}
+use Rattle.bcast_waiting.specs.Words.{listed, has, IsAt, IsIndexed}
 use Rattle.bcast_waiting.proofs.InSlots.{absent_slots}
 
 module _ {I : Type 0} where

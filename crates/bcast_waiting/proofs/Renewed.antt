@@ -2,8 +2,7 @@
 use Rattle.std.proofs.Common.{◌≡◌, ℕ, ◌<◌, Option, length, set, get_or, sym, ap, ◌∙◌, subst, arith}
 use Rattle.std.specs.Vec.{vec_capacity}
 use Rattle.std.specs.declared.vec.Vec.{Vec}
-use Rattle.bcast_waiting.specs.Listener.{slot_id, ids_in, slots_of}
-use Rattle.bcast_waiting.specs.Number.{IsIndexed, AreKept}
+use Rattle.bcast_waiting.specs.Words.{slot_id, ids_in, slots_of, IsIndexed, AreKept}
 use Rattle.bcast_waiting.specs.declared.slots.Listener.{Listener}
 use Rattle.bcast_waiting.specs.declared.slots.Slots.TheInside.{Inside}
 use Rattle.bcast_waiting.proofs.InSlots.{ids-renewed}

@@ -11,9 +11,7 @@ use Rattle.bcast_model.specs.ListenerId.{same_place}
 use Rattle.bcast_model.specs.Control.{Places as Used}
 use Rattle.bcast_model.proofs.Tests.{test_place}
 use Rattle.bcast_model.proofs.WaitingSends.{HasPlace, AreSends, sends_inserted, sends_consumed, sends_abandoned, sends_waiting}
-use Rattle.bcast_waiting.specs.Event.{Event}
-use Rattle.bcast_waiting.specs.Lists.{Sends}
-use Rattle.bcast_waiting.specs.SendsInvariant.{IsSound, sends_of}
+use Rattle.bcast_waiting.specs.Words.{Event, Sends, IsSound, sends_of}
 
 -- ---- what the calls keep
 sends_in : (used : Used) (e : Event ℕ) → IsSound used e → AreSends used e.listeners

@@ -2,11 +2,10 @@
 use Rattle.std.specs.Prelude.{◌≡◌, ℕ, ◌<◌, true}
 use Rattle.std.specs.FinSet as set
 use Rattle.std.specs.List.{AllByRecursion}
-use Rattle.bcast_model.specs.Listeners.{AreInOrder}
-use Rattle.bcast_model.specs.ListenerId.{same_place}
+use Rattle.bcast_model.specs.Words.{AreInOrder, same_place}
 use Rattle.bcast_model.specs.Control.{Places as Used}
 use Rattle.bcast_waiting.specs.Event.{Event}
-use Rattle.bcast_waiting.specs.Lists.{Sends}
+use Rattle.bcast_waiting.specs.Sends.{Sends}
 
 -- what a contract sees of these places and this list
 abbrev pub sends_of : Used → Event ℕ → Sends

@@ -29,8 +29,7 @@ impl Indexed for usize {
 
 // A receiver's key has two numbers, one for each kind.
 impl Indexed for (usize, Kind) {
-    ghost use Rattle.bcast_waiting.specs.Number.{pair_number};
-    ghost use Rattle.bcast_waiting.specs.PairNumbers.{pair_number-own};
+    ghost use Rattle.bcast_waiting.specs.Words.{pair_number, pair_number-own};
 
     ghost number = { pair_number };
 

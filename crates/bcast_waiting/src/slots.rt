@@ -1,9 +1,7 @@
 //! The slots of listeners in the order of registering, of which some were left.
 ghost use Rattle.std.specs.Prelude.{◌≡◌, ◌+◌, ◌*◌, ◌<◌, ◌≤◌, Some, None, true, false, [], ◌∷◌, ◌++◌, length, map, is_some, MatchOption, OnOk, OnErr, IfOk, IsOk, slice_index_or, slice_set};
 ghost use Rattle.std.specs.List.{filter_map, AllByRecursion};
-ghost use Rattle.bcast_waiting.specs.Listener.{slot_id, ids_in};
-ghost use Rattle.bcast_waiting.specs.Number.{IsIndexed};
-ghost use Rattle.bcast_waiting.specs.Slots.{listed, front, has};
+ghost use Rattle.bcast_waiting.specs.Words.{slot_id, ids_in, IsIndexed, listed, front, has};
 ghost use Rattle.bcast_model.specs.Listeners.{is_in, IsDistinct};
 
 use crate::indexed::Indexed;
@@ -28,6 +26,18 @@ struct Listener<I, N> {
     notice: N,
 }
 
+impl<I, N> Listener<I, N> {
+    // Makes its notice into that of another poll.
+    #[inline(always)]
+    fn renew<M: MakesNotice<N>>(&mut self, maker: &mut M) -> Result<(), Refused>
+        ensures same { self.new.id ≡ self.old.id }
+        ensures made { OnOk result (M.made maker.old maker.new) }
+        ensures refused { OnErr result (M.refused maker.old maker.new) }
+    {
+        maker.renew(&mut self.notice)
+    }
+}
+
 impl<I: Copy + Eq + Indexed, N: Notice, A: Allocator> Model for Slots<I, N, A> {
     ghost use Rattle.bcast_waiting.specs.Slots.{Slots as Ids, slots_code};
 
@@ -35,8 +45,7 @@ impl<I: Copy + Eq + Indexed, N: Notice, A: Allocator> Model for Slots<I, N, A> {
 
     ghost coded = { slots_code I.code };
 
-    ghost use Rattle.bcast_waiting.specs.Listener.{slots_of, ids_in};
-    ghost use Rattle.bcast_waiting.specs.Number.{AreKept};
+    ghost use Rattle.bcast_waiting.specs.Words.{slots_of, ids_in, AreKept};
     ghost use Rattle.std.specs.Prelude.{vec_capacity};
 
     ghost view = { λ s. slots_of s.listeners s.positions };
@@ -168,7 +177,7 @@ impl<I: Copy + Eq + Indexed, N: Notice, A: Allocator> Slots<I, N, A> {
         ensures refused { OnErr result (M.refused maker.old maker.new) }
     {
         match &mut self.listeners[position] {
-            Some(listener) => maker.renew(&mut listener.notice),
+            Some(listener) => listener.renew(maker),
             None => unreachable!(),
         }
     }

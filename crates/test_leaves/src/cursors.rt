@@ -7,40 +7,37 @@ use std::test::Fail;
 #[derive(Clone, Copy)]
 enum Step {
     Add(u64, usize),
-    Set(usize, u64, bool),
+    Replace(usize, u64, Option<u64>),
     Get(usize, Option<u64>),
     Remove(usize, Option<u64>),
     Len(usize),
-    IsEmpty(bool),
 }
 
 const STEPS: &[Step] = &[
-    Step::IsEmpty(true),
+    Step::Len(0),
     Step::Add(5, 0),
     Step::Add(8, 1),
-    Step::Set(0, 6, true),
+    Step::Replace(0, 6, Some(5)),
     Step::Get(0, Some(6)),
     Step::Get(1, Some(8)),
     Step::Get(usize::MAX, None),
     Step::Len(2),
     Step::Remove(0, Some(6)),
-    Step::Set(0, 7, false),
+    Step::Replace(0, 7, None),
     Step::Get(0, None),
     Step::Len(1),
     Step::Add(9, 0),
     Step::Len(2),
-    Step::IsEmpty(false),
 ];
 
 // Makes the call. Whether it returns what it must.
 fn is_right(cursors: &mut Cursors, step: Step) -> Result<bool, AllocError> {
     match step {
         Step::Add(number, key) => Ok(cursors.add(number)? == key),
-        Step::Set(key, number, is_there) => Ok(cursors.set(key, number) == is_there),
+        Step::Replace(key, number, was) => Ok(cursors.replace(key, number) == was),
         Step::Get(key, number) => Ok(cursors.get(key) == number),
         Step::Remove(key, number) => Ok(cursors.remove(key) == number),
         Step::Len(len) => Ok(cursors.len() == len),
-        Step::IsEmpty(is_empty) => Ok(cursors.is_empty() == is_empty),
     }
 }
 

@@ -2,7 +2,7 @@
 ghost use Rattle.std.specs.Prelude.{◌≡◌, ◌+◌, ◌≤◌, ◌<◌, [], ◌∷◌};
 ghost use Rattle.bcast_queue.specs.Queue.{queue_with};
 
-use bcast_queue::{Queue, Steps};
+use bcast_queue::{Queue, Steps, Uncounted};
 use std::alloc::{AllocError, Global};
 use std::marker::Brand;
 use std::sync::ledger::{Blank, Ledger};
@@ -58,7 +58,7 @@ fn one_is_popped(queue: &mut Queue<u8>)
     ensures { queue.new ≡ queue_with 4 (101 ∷ []) (1 ∷ []) 4 }
 {
     queue.push(b'd', 2);
-    queue.pop();
+    queue.pop(&mut Uncounted);
     queue.push(b'e', 1);
 }
 

@@ -1,6 +1,6 @@
 //! The listeners of two receivers.
 use bcast_model::listener::Kind;
-use bcast_waiting::ReceiveList;
+use bcast_waiting::Event;
 use bcast_waiting::notice::{Given, Silent};
 use std::alloc::{AllocError, Global};
 use std::test::Fail;
@@ -14,6 +14,8 @@ enum Call {
 }
 
 type Ids = &'static [(usize, Kind)];
+
+type Receives = Event<(usize, Kind), Silent>;
 
 const STREAM: (usize, Kind) = (5, Kind::Stream);
 
@@ -36,19 +38,21 @@ const ROWS: &[(Call, Ids, usize)] = &[
 ];
 
 // Lists a listener. Whether it is not told then.
-fn wait(receives: &mut ReceiveList<Silent>, key: usize, kind: Kind) -> Result<bool, AllocError> {
-    receives.reserve_for(key)?;
-    let made = receives.wait(key, kind, &mut Given::new(Silent));
-    Ok(made.is_ok() && receives.is_untold(key, kind))
+fn wait(receives: &mut Receives, key: usize, kind: Kind) -> Result<bool, AllocError> {
+    receives.reserve_for((key, Kind::Future))?;
+    let made = receives.wait_again((key, kind), &mut Given::new(Silent));
+    Ok(made.is_ok() && receives.is_untold((key, kind)))
 }
 
-fn make(receives: &mut ReceiveList<Silent>, call: Call) -> Result<bool, AllocError> {
+fn make(receives: &mut Receives, call: Call) -> Result<bool, AllocError> {
     match call {
         Call::Wait(key, kind) => return wait(receives, key, kind),
         Call::TellAll => receives.tell_all(),
-        Call::Answered(key, kind) => receives.answered(key, kind),
+        Call::Answered(key, kind) => {
+            receives.consume((key, kind));
+        }
         Call::GiveUp(key, kind) => {
-            let _ = receives.ended(key, kind);
+            let _ = receives.abandon((key, kind));
         }
     }
     Ok(true)
@@ -56,7 +60,7 @@ fn make(receives: &mut ReceiveList<Silent>, call: Call) -> Result<bool, AllocErr
 
 // Whether these wait, and so many are told.
 fn waits(
-    receives: &ReceiveList<Silent>,
+    receives: &Receives,
     alloc: Global,
     ids: &[(usize, Kind)],
     told: usize,
@@ -66,7 +70,7 @@ fn waits(
 
 #[test]
 fn each_receiver_has_two_listeners(rt: HostRuntime) -> Result<(), Fail> {
-    let mut receives = ReceiveList::new(rt.alloc());
+    let mut receives = Receives::new(rt.alloc());
     for (index, (call, ids, told)) in ROWS.iter().enumerate() {
         assert!(rt; make(&mut receives, *call)?, "row {index}");
         assert!(rt; waits(&receives, rt.alloc(), ids, *told)?, "row {index}");
@@ -78,8 +82,11 @@ fn each_receiver_has_two_listeners(rt: HostRuntime) -> Result<(), Fail> {
 fn keys_too_great_are_refused(rt: HostRuntime) -> Result<(), Fail> {
     let rows = [("the greatest", usize::MAX), ("its future", usize::MAX / 2)];
     for (name, key) in rows {
-        let mut receives: ReceiveList<Silent> = ReceiveList::new(rt.alloc());
-        assert!(rt; receives.reserve_for(key).is_err(), "{name}");
+        let mut receives = Receives::new(rt.alloc());
+        assert!(rt;
+            receives.reserve_for((key, Kind::Future)).is_err(),
+            "{name}"
+        );
     }
     Ok(())
 }

@@ -44,7 +44,7 @@ trait Tried: Drop {
 
     fn entries(&self, alloc: Global) -> Result<Vec<(usize, u64)>, AllocError>;
 
-    fn try_push(&mut self, msg: u8);
+    fn try_push(&mut self, msg: u8) -> Result<(), AllocError>;
 
     fn try_pop(&mut self) -> Option<u8>;
 
@@ -111,7 +111,7 @@ impl<S: Tried> Played<S> {
     // Makes a call that gives no message. Whether it returns what it must.
     fn change(&mut self, call: Call) -> Result<bool, AllocError> {
         match call {
-            Call::Push(msg) => self.store.try_push(msg),
+            Call::Push(msg) => self.store.try_push(msg)?,
             Call::DropFirst => self.store.try_drop_first(),
             Call::Grow => self.store.try_grow()?,
             Call::Add(cursor) => self.add(cursor)?,

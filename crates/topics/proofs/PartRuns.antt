@@ -3,13 +3,8 @@ use Rattle.std.proofs.Common.{◌≡◌, ℕ, List, [], ◌∷◌, ◌++◌, map
 use Rattle.std.proofs.lemmas.Option.{same_Some}
 use Rattle.bcast_model.specs.declared.run.Call.{Call}
 use Rattle.bcast_model.specs.declared.run.Reply.{Reply}
-use Rattle.bcast_model.specs.View.{View}
-use Rattle.bcast_model.specs.History.{History, opening, view_of}
-use Rattle.bcast_model.specs.Legal.{Legal}
-use Rattle.bcast_model.specs.Next.{next}
-use Rattle.bcast_model.specs.Run.{IsRun, end_of_run}
-use Rattle.bcast_model.specs.Valid.{IsValid}
-use Rattle.bcast_model.specs.Answers.{Answers}
+use Rattle.bcast_model.specs.Words.{View, History, opening, view_of, Legal, next, IsRun, end_of_run}
+use Rattle.bcast_model.specs.Words.{IsValid, Answers}
 use Rattle.bcast_model.proofs.Opening.{opening_valid}
 use Rattle.bcast_core.proofs.Does.{valid_shown}
 use Rattle.bcast_core.proofs.Runs.{run_more, end_more}

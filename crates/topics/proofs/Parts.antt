@@ -10,9 +10,7 @@ use Rattle.std.specs.List.{zip}
 use Rattle.bcast_model.specs.declared.run.Call.{Call}
 use Rattle.bcast_model.specs.declared.run.Call.TheVariants as call
 use Rattle.bcast_model.specs.declared.run.Reply.{Reply}
-use Rattle.bcast_model.specs.View.{View}
-use Rattle.bcast_model.specs.History.{opening}
-use Rattle.bcast_model.specs.Answers.{Answers}
+use Rattle.bcast_model.specs.Words.{View, opening, Answers}
 use Rattle.topics.specs.declared.request.Request.{Request}
 use Rattle.topics.specs.declared.request.Request.TheVariants as request
 use Rattle.topics.specs.declared.request.Answer.{Answer}

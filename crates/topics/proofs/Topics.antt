@@ -10,10 +10,7 @@ use Rattle.std.proofs.lemmas.Bool.{false_from_ne_true}
 use Rattle.std.proofs.lemmas.Map.Text.{hash_map_updates_text}
 use Rattle.bcast_model.specs.declared.run.Call.TheVariants as call
 use Rattle.bcast_model.specs.declared.run.Reply.TheVariants as reply
-use Rattle.bcast_model.specs.Legal.{NoClone}
-use Rattle.bcast_model.specs.View.{View}
-use Rattle.bcast_model.specs.History.{opening}
-use Rattle.bcast_model.specs.Answers.{Answers, Represents}
+use Rattle.bcast_model.specs.Words.{NoClone, View, opening, Answers, Represents}
 use Rattle.topics.specs.Hub.{IsNew}
 
 module _ {Y X S : Type 0} (name : List ℕ) (m n : HashMap (String Y) X S) (topic : X) (puts : UpdatesBy string_eq (λ k. bytes_eq name (string_bytes k)) m n (Some topic)) where

@@ -3,19 +3,13 @@ use Rattle.std.proofs.Common.{◌≡◌, ℕ, not, ◌&&◌, Option, Some, None,
 use Rattle.std.specs.Prelude.{IsSome}
 use Rattle.bcast_model.specs.declared.run.Call.{Call}
 use Rattle.bcast_model.specs.declared.run.Reply.{Reply}
-use Rattle.bcast_model.specs.Control.{tell_a_sender}
-use Rattle.bcast_model.specs.Effect.{sets}
-use Rattle.bcast_model.specs.Effects.{effect}
-use Rattle.bcast_model.specs.Steps.{settle}
-use Rattle.bcast_model.specs.Next.{may_tell, tell_if_ready}
-use Rattle.bcast_model.specs.View.{View, sends_are_ready}
-use Rattle.bcast_model.specs.Answers.{Answers}
-use Rattle.bcast_model.specs.Laws.{IsValidView}
+use Rattle.bcast_model.specs.Words.{tell_a_sender, sets, effect, settle, may_tell, tell_if_ready}
+use Rattle.bcast_model.specs.Words.{View, sends_are_ready, Answers, IsValidView}
 use Rattle.bcast_model.proofs.Answers.{shown_after}
 use Rattle.bcast_model.proofs.Cases.{test_is}
 use Rattle.bcast_model.proofs.Steps.{steps}
 use Rattle.bcast_core.proofs.Does.{valid_shown}
-use Rattle.bcast_core.proofs.Settle.{settle_idle, told_nobody}
+use Rattle.bcast_core.proofs.Settle.{settle_same, told_nobody}
 
 module _ {T : Type 0} where
   -- a sender is told
@@ -39,7 +33,7 @@ module _ {T : Type 0} where
     pub unchanged : effect v c r ≡ sets v.control → may_tell v.control (sends_are_ready v) c ≡ not (sends_are_ready v) → w ≡ v
     unchanged is may =
         (steps a).next ∙ ap (λ b. tell_if_ready b (settle v (effect v c r))) may
-        ∙ ap (tell_if_ready (not (sends_are_ready v))) (ap (settle v) is ∙ settle_idle v valid) ∙ told_nobody v
+        ∙ ap (tell_if_ready (not (sends_are_ready v))) (ap (settle v) is ∙ settle_same v valid) ∙ told_nobody v
 
 -- what holds of a call that succeeded, or that failed
 pub on_ok : {A E P : Type 0} (r : Result A E) → P → OnOk r P

@@ -11,17 +11,10 @@ use Rattle.bcast_model.specs.declared.error.HandleError.{HandleError}
 use Rattle.bcast_model.specs.declared.error.TrySendError.{TrySendError}
 use Rattle.bcast_model.specs.declared.run.Call.TheVariants as call
 use Rattle.bcast_model.specs.declared.run.Reply.TheVariants as reply
-use Rattle.bcast_model.specs.Listeners.{Listeners}
-use Rattle.bcast_model.specs.History.{least}
-use Rattle.bcast_model.specs.ListenerId.{stream_of}
-use Rattle.bcast_model.specs.Control.{Control, with_cursor, pair_waits, pair_answered, cursor_of, accepting}
-use Rattle.bcast_model.specs.Effect.{sets}
-use Rattle.bcast_model.specs.Receiving.{receive, listens, skipped_to, is_empty_reply, try_recv_reply}
-use Rattle.bcast_model.specs.Sending.{accept}
-use Rattle.bcast_model.specs.Steps.{settle}
-use Rattle.bcast_model.specs.View.{View, is_full}
-use Rattle.bcast_model.specs.Answers.{Answers}
-use Rattle.bcast_model.specs.Laws.{IsValidView}
+use Rattle.bcast_model.specs.Words.{Listeners, least, stream_of, Control, with_cursor, pair_waits}
+use Rattle.bcast_model.specs.Words.{pair_answered, cursor_of, accepting, sets, receive, listens}
+use Rattle.bcast_model.specs.Words.{skipped_to, is_empty_reply, try_recv_reply, accept, settle}
+use Rattle.bcast_model.specs.Words.{View, is_full, Answers, IsValidView}
 use Rattle.bcast_model.proofs.Cases.{receive_is, test_is}
 use Rattle.bcast_model.proofs.Least.{least-le-cursor, len_insert}
 use Rattle.bcast_core.proofs.Settle.{inserted, somebody, cursors-accepting}

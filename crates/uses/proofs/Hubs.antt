@@ -9,16 +9,9 @@ use Rattle.std.specs.FinMap.{FinMap, contains_key, insert, remove, len, empty, l
 use Rattle.bcast_model.specs.declared.error.TryRecvError.{TryRecvError}
 use Rattle.bcast_model.specs.declared.run.Call.TheVariants as call
 use Rattle.bcast_model.specs.declared.run.Reply.TheVariants as reply
-use Rattle.bcast_model.specs.Control.{Control, with_cursor, cursor_of}
-use Rattle.bcast_model.specs.Effect.{sets}
-use Rattle.bcast_model.specs.Handles.{deactivate}
-use Rattle.bcast_model.specs.History.{opening, view_of}
-use Rattle.bcast_model.specs.Legal.{NoClone}
-use Rattle.bcast_model.specs.Receiving.{receive}
-use Rattle.bcast_model.specs.Steps.{settle}
-use Rattle.bcast_model.specs.View.{View}
-use Rattle.bcast_model.specs.Answers.{Represents, Answers}
-use Rattle.bcast_model.specs.Laws.{ReceivedIsGiven, IsGivenFrom}
+use Rattle.bcast_model.specs.Words.{Control, with_cursor, cursor_of, sets, deactivate, opening}
+use Rattle.bcast_model.specs.Words.{view_of, NoClone, receive, settle, View, Represents, Answers}
+use Rattle.bcast_model.specs.Words.{ReceivedIsGiven, IsGivenFrom}
 use Rattle.bcast_model.proofs.Cases.{receive_is}
 use Rattle.bcast_core.proofs.Settle.{inserted}
 use Rattle.uses.specs.Hub.{IsHub, IsOpened, event_of}

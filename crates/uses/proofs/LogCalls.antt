@@ -13,18 +13,12 @@ use Rattle.bcast_model.specs.declared.error.TryRecvError.TheVariants as unread_e
 use Rattle.bcast_model.specs.declared.run.Call.TheVariants as call
 use Rattle.bcast_model.specs.declared.run.Reply.{Reply}
 use Rattle.bcast_model.specs.declared.run.Reply.TheVariants as reply
-use Rattle.bcast_model.specs.Control.{Control, cursor_of, with_cursor}
-use Rattle.bcast_model.specs.Effect.{sets}
-use Rattle.bcast_model.specs.Handles.{clone_receiver}
-use Rattle.bcast_model.specs.Receiving.{IsOwed, recv_reply, receive, try_recv_reply}
-use Rattle.bcast_model.specs.Legal.{ClonesEqual}
-use Rattle.bcast_model.specs.Steps.{settle}
-use Rattle.bcast_model.specs.View.{View, kept_at}
-use Rattle.bcast_model.specs.Answers.{Answers}
-use Rattle.bcast_model.specs.Laws.{IsValidView}
+use Rattle.bcast_model.specs.Words.{Control, cursor_of, with_cursor, sets, clone_receiver, IsOwed}
+use Rattle.bcast_model.specs.Words.{recv_reply, receive, try_recv_reply, ClonesEqual, settle, View}
+use Rattle.bcast_model.specs.Words.{kept_at, Answers, IsValidView}
 use Rattle.bcast_model.proofs.Cases.{receive_is}
 use Rattle.bcast_model.proofs.Clones.{answers_exact}
-use Rattle.bcast_core.proofs.Settle.{settle_idle}
+use Rattle.bcast_core.proofs.Settle.{settle_same}
 use Rattle.uses.specs.Log.{kept_from, unread, record_of, IsReader, IsLog, IsRead, KeepsReaders, KeepsUnread}
 use Rattle.uses.specs.Reading.{IsTaken}
 use Rattle.uses.proofs.Called.{told, some_of, valid, after, unchanged}
@@ -50,7 +44,7 @@ module _ {T : Type 0} where
     -- nothing is read
     reads_none : (cursor : Option ℕ) → item_of (try_recv_reply v cursor) ≡ None → unread v key ≡ [] → Leaves cursor v.control
     reads_none cursor none empty =
-        subst (λ u. IsTaken v u key (item_of (try_recv_reply v cursor))) (sym (settle_idle v valid))
+        subst (λ u. IsTaken v u key (item_of (try_recv_reply v cursor))) (sym (settle_same v valid))
         (subst (IsTaken v v key) (sym none) (record { log = log; first = tt; none = empty; others = λ other differs. refl; readers = λ other is. is }))
 
     item_found : (closed : Bool) (o : Option T) → item_of (recv_reply closed o) ≡ o

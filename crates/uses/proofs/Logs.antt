@@ -6,13 +6,8 @@ use Rattle.std.specs.Prelude.{IsSome}
 use Rattle.std.specs.FinMap.{get, empty}
 use Rattle.bcast_model.specs.declared.run.Call.TheVariants as call
 use Rattle.bcast_model.specs.declared.run.Reply.TheVariants as reply
-use Rattle.bcast_model.specs.Control.{Control, with_cursor}
-use Rattle.bcast_model.specs.Effect.{sets}
-use Rattle.bcast_model.specs.History.{opening, view_of}
-use Rattle.bcast_model.specs.Steps.{settle, with_message}
-use Rattle.bcast_model.specs.Valid.{IsValid}
-use Rattle.bcast_model.specs.View.{View}
-use Rattle.bcast_model.specs.Answers.{Represents, Answers}
+use Rattle.bcast_model.specs.Words.{Control, with_cursor, sets, opening, view_of, settle}
+use Rattle.bcast_model.specs.Words.{with_message, IsValid, View, Represents, Answers}
 use Rattle.bcast_model.proofs.Cases.{accepting_is, close_is}
 use Rattle.bcast_model.proofs.Least.{least-le-cursor}
 use Rattle.bcast_model.proofs.Views.{valid_view}

@@ -9,12 +9,9 @@ use Rattle.bcast_model.specs.declared.error.TryRecvError.TheVariants as unread
 use Rattle.bcast_model.specs.declared.run.Call.TheVariants as call
 use Rattle.bcast_model.specs.declared.run.Reply.{Reply}
 use Rattle.bcast_model.specs.declared.run.Reply.TheVariants as reply
-use Rattle.bcast_model.specs.Control.{cursor_of}
-use Rattle.bcast_model.specs.Receiving.{recv_reply, skipped_count, skipped_to, next_reply, IsOwed, try_recv_reply}
-use Rattle.bcast_model.specs.Legal.{IsGiven, IsReceived}
-use Rattle.bcast_model.specs.View.{View, kept_at}
-use Rattle.bcast_model.specs.Answers.{Answers}
-use Rattle.bcast_model.specs.Laws.{IsValidView}
+use Rattle.bcast_model.specs.Words.{cursor_of, recv_reply, skipped_count, skipped_to, next_reply}
+use Rattle.bcast_model.specs.Words.{IsOwed, try_recv_reply, IsGiven, IsReceived, View, kept_at}
+use Rattle.bcast_model.specs.Words.{Answers, IsValidView}
 use Rattle.uses.specs.declared.config_watcher.Change.{Change}
 use Rattle.uses.specs.Config.{IsConfig, IsLatest, IsUpToDate, change_of}
 use Rattle.uses.proofs.Called.{valid}

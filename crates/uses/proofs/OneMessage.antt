@@ -9,14 +9,8 @@ use Rattle.bcast_model.specs.declared.run.Call.{Call}
 use Rattle.bcast_model.specs.declared.run.Call.TheVariants as call
 use Rattle.bcast_model.specs.declared.run.Reply.{Reply}
 use Rattle.bcast_model.specs.declared.run.Reply.TheVariants as reply
-use Rattle.bcast_model.specs.Effects.{effect}
-use Rattle.bcast_model.specs.History.{opening}
-use Rattle.bcast_model.specs.View.{View}
-use Rattle.bcast_model.specs.Sending.{refusal, accept_unless}
-use Rattle.bcast_model.specs.Steps.{settle}
-use Rattle.bcast_model.specs.Legal.{IsGiven}
-use Rattle.bcast_model.specs.Answers.{Represents, Answers}
-use Rattle.bcast_model.specs.Laws.{ReceivedIsGiven}
+use Rattle.bcast_model.specs.Words.{effect, opening, View, refusal, accept_unless, settle, IsGiven}
+use Rattle.bcast_model.specs.Words.{Represents, Answers, ReceivedIsGiven}
 use Rattle.uses.proofs.Called.{after}
 
 module _ {T : Type 0} (msg : T) where

@@ -6,13 +6,9 @@ use Rattle.std.specs.FinMap.{get, empty}
 use Rattle.bcast_model.specs.declared.error.TrySendError.{TrySendError}
 use Rattle.bcast_model.specs.declared.run.Call.TheVariants as call
 use Rattle.bcast_model.specs.declared.run.Reply.TheVariants as reply
-use Rattle.bcast_model.specs.Control.{has_no_receiver, accepting, close, tell_receivers, last_end}
-use Rattle.bcast_model.specs.History.{opening, view_of}
-use Rattle.bcast_model.specs.Sending.{refusal, handed_back}
-use Rattle.bcast_model.specs.Steps.{with_message}
-use Rattle.bcast_model.specs.Valid.{IsValid}
-use Rattle.bcast_model.specs.View.{View, is_full}
-use Rattle.bcast_model.specs.Answers.{Answers, Represents}
+use Rattle.bcast_model.specs.Words.{has_no_receiver, accepting, close, tell_receivers, last_end}
+use Rattle.bcast_model.specs.Words.{opening, view_of, refusal, handed_back, with_message, IsValid}
+use Rattle.bcast_model.specs.Words.{View, is_full, Answers, Represents}
 use Rattle.bcast_model.proofs.Least.{len_some}
 use Rattle.bcast_model.proofs.Views.{valid_view}
 use Rattle.bcast_core.proofs.Settle.{inserted}

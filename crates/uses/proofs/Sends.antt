@@ -5,11 +5,9 @@ use Rattle.std.proofs.lemmas.Option.{none-some}
 use Rattle.bcast_model.specs.declared.error.TrySendError.{TrySendError}
 use Rattle.bcast_model.specs.declared.run.Call.TheVariants as call
 use Rattle.bcast_model.specs.declared.run.Reply.TheVariants as reply
-use Rattle.bcast_model.specs.Control.{has_no_receiver}
-use Rattle.bcast_model.specs.Sending.{refusal, reply_to_try, handed_back, try_broadcast_reply, accept, accept_unless}
-use Rattle.bcast_model.specs.Steps.{settle, with_message}
-use Rattle.bcast_model.specs.View.{View, is_full}
-use Rattle.bcast_model.specs.Answers.{Answers}
+use Rattle.bcast_model.specs.Words.{has_no_receiver, refusal, reply_to_try, handed_back}
+use Rattle.bcast_model.specs.Words.{try_broadcast_reply, accept, accept_unless, settle}
+use Rattle.bcast_model.specs.Words.{with_message, View, is_full, Answers}
 use Rattle.bcast_core.proofs.Offers.{offer_accepted}
 use Rattle.uses.proofs.Called.{told, valid, after, unchanged}
 

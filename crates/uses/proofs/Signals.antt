@@ -9,13 +9,8 @@ use Rattle.bcast_model.specs.declared.error.HandleError.{HandleError}
 use Rattle.bcast_model.specs.declared.error.TryRecvError.{TryRecvError}
 use Rattle.bcast_model.specs.declared.run.Call.TheVariants as call
 use Rattle.bcast_model.specs.declared.run.Reply.TheVariants as reply
-use Rattle.bcast_model.specs.Control.{cursor_of}
-use Rattle.bcast_model.specs.Effect.{sets}
-use Rattle.bcast_model.specs.Effects.{effect}
-use Rattle.bcast_model.specs.Receiving.{recv_reply, receive, try_recv_reply}
-use Rattle.bcast_model.specs.View.{View}
-use Rattle.bcast_model.specs.Answers.{Answers}
-use Rattle.bcast_model.specs.Laws.{IsValidView}
+use Rattle.bcast_model.specs.Words.{cursor_of, sets, effect, recv_reply, receive, try_recv_reply}
+use Rattle.bcast_model.specs.Words.{View, Answers, IsValidView}
 use Rattle.bcast_model.proofs.Cases.{receive_is}
 use Rattle.bcast_core.proofs.Settle.{inserted}
 use Rattle.uses.specs.Signal.{signal_of, IsSignal, AddsWorker, is_closed_reply}

@@ -4,13 +4,10 @@ use Rattle.std.specs.FinMap.{get, len}
 use Rattle.futures.specs.declared.task.Poll.{Poll}
 use Rattle.futures.specs.declared.task.Poll.TheVariants as poll
 use Rattle.bcast_model.specs.declared.error.TrySendError.{TrySendError}
-use Rattle.bcast_model.specs.Errors.{unsent_message}
-use Rattle.bcast_model.specs.History.{opening}
-use Rattle.bcast_model.specs.Legal.{IsGiven, NoClone}
+use Rattle.bcast_model.specs.Words.{unsent_message, opening, IsGiven, NoClone, View, Answers}
+use Rattle.bcast_model.specs.Words.{Represents}
 use Rattle.bcast_model.specs.declared.run.Call.TheVariants as call
 use Rattle.bcast_model.specs.declared.run.Reply.TheVariants as reply
-use Rattle.bcast_model.specs.View.{View}
-use Rattle.bcast_model.specs.Answers.{Answers, Represents}
 use Rattle.uses.specs.declared.config_watcher.Change.{Change}
 
 module _ {S : Type 0} where

@@ -4,10 +4,7 @@ use Rattle.std.specs.FinMap.{len}
 use Rattle.bcast_model.specs.declared.error.TryRecvError.{TryRecvError}
 use Rattle.bcast_model.specs.declared.run.Call.TheVariants as call
 use Rattle.bcast_model.specs.declared.run.Reply.TheVariants as reply
-use Rattle.bcast_model.specs.View.{View}
-use Rattle.bcast_model.specs.History.{opening}
-use Rattle.bcast_model.specs.Legal.{NoClone}
-use Rattle.bcast_model.specs.Answers.{Answers, Represents}
+use Rattle.bcast_model.specs.Words.{View, opening, NoClone, Answers, Represents}
 
 module _ {E : Type 0} where
   -- a full hub refuses, and the hub itself keeps the channel open by a sender and an inactive

@@ -5,9 +5,7 @@ use Rattle.std.specs.declared.alloc.AllocError.{AllocError}
 use Rattle.bcast_model.specs.declared.error.TryRecvError.{TryRecvError}
 use Rattle.bcast_model.specs.declared.run.Call.TheVariants as call
 use Rattle.bcast_model.specs.declared.run.Reply.TheVariants as reply
-use Rattle.bcast_model.specs.ReceiveReplies.{NoClone}
-use Rattle.bcast_model.specs.View.{View}
-use Rattle.bcast_model.specs.Answers.{Answers}
+use Rattle.bcast_model.specs.Words.{NoClone, View, Answers}
 
 module _ {T : Type 0} where
   -- the kept messages from this cursor on

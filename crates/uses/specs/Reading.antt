@@ -4,12 +4,8 @@ use Rattle.bcast_model.specs.declared.error.TryRecvError.{TryRecvError}
 use Rattle.bcast_model.specs.declared.error.TrySendError.{TrySendError}
 use Rattle.bcast_model.specs.declared.run.Call.TheVariants as call
 use Rattle.bcast_model.specs.declared.run.Reply.TheVariants as reply
-use Rattle.bcast_model.specs.Control.{has_no_receiver}
-use Rattle.bcast_model.specs.History.{opening}
-use Rattle.bcast_model.specs.ReceiveReplies.{NoClone, ClonesEqual}
-use Rattle.bcast_model.specs.Valid.{IsValid}
-use Rattle.bcast_model.specs.View.{View}
-use Rattle.bcast_model.specs.Answers.{Answers, Represents}
+use Rattle.bcast_model.specs.Words.{has_no_receiver, opening, NoClone, ClonesEqual, IsValid, View}
+use Rattle.bcast_model.specs.Words.{Answers, Represents}
 use Rattle.uses.specs.Log.{unread, record_of, IsReader, IsLog, KeepsReaders, AddsUnread, KeepsUnread}
 
 module _ {T : Type 0} where

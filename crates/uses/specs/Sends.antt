@@ -2,8 +2,7 @@
 use Rattle.std.specs.Prelude.{◌==◌, if◌then◌else◌, length, Option, None, Result, Ok, Err}
 use Rattle.bcast_model.specs.declared.error.TrySendError.{TrySendError}
 use Rattle.bcast_model.specs.declared.error.TrySendError.TheVariants as unsent
-use Rattle.bcast_model.specs.Control.{has_no_receiver}
-use Rattle.bcast_model.specs.View.{View}
+use Rattle.bcast_model.specs.Words.{has_no_receiver, View}
 
 module _ {T : Type 0} where
   -- `try_broadcast`: the first reason that fits to refuse the message, or none

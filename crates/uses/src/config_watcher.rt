@@ -1,8 +1,7 @@
 //! Settings that change, for watchers that may look late.
 ghost use Rattle.std.specs.Prelude.{◌≡◌, ◌+◌, ◌<◌, ◌^◌, [], ◌∷◌, false, Some, IfOk, IfErr, IfSome, IfNone, OnOk, OnErr, IsOk};
 ghost use Rattle.std.specs.FinMap.{get};
-ghost use Rattle.bcast_model.specs.Answers.{Answers};
-ghost use Rattle.bcast_model.specs.Legal.{NoClone};
+ghost use Rattle.bcast_model.specs.Words.{Answers, NoClone};
 ghost use Rattle.bcast_model.specs.declared.run.Call.TheVariants as call;
 ghost use Rattle.bcast_model.specs.declared.run.Reply.TheVariants as reply;
 ghost use Rattle.uses.specs.Config.{IsUnset, IsSet, IsLatest, IsUpToDate, KeepsOthers, IsLook, set_answer, change_of};
@@ -24,8 +23,7 @@ pub struct Config<S> {
 }
 
 impl<S> Model for Config<S> {
-    ghost use Rattle.bcast_model.specs.View.{View};
-    ghost use Rattle.bcast_model.specs.Encodings.{view_code};
+    ghost use Rattle.bcast_model.specs.Words.{View, view_code};
     ghost use Rattle.uses.specs.Config.{IsConfig};
 
     ghost Value = { View S };

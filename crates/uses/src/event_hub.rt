@@ -1,10 +1,7 @@
 //! Events for subscribers that come and go.
 ghost use Rattle.std.specs.Prelude.{◌≡◌, ◌+◌, ◌<◌, ◌∷◌, [], ◌++◌, IfOk, IfErr, IfSome, IsOk, OnOk, OnErr};
-ghost use Rattle.bcast_model.specs.Errors.{unsent_message};
-ghost use Rattle.bcast_model.specs.History.{opening};
-ghost use Rattle.bcast_model.specs.Legal.{NoClone};
-ghost use Rattle.bcast_model.specs.Laws.{IsGivenFrom};
-ghost use Rattle.bcast_model.specs.Answers.{Answers, Represents};
+ghost use Rattle.bcast_model.specs.Words.{unsent_message, opening, NoClone, IsGivenFrom, Answers};
+ghost use Rattle.bcast_model.specs.Words.{Represents};
 ghost use Rattle.bcast_model.specs.declared.run.Call.TheVariants as call;
 ghost use Rattle.bcast_model.specs.declared.run.Reply.TheVariants as reply;
 ghost use Rattle.uses.specs.Hub.{IsOpened, IsNextEvent, event_of};
@@ -24,8 +21,7 @@ pub struct EventHub<E> {
 }
 
 impl<E> Model for EventHub<E> {
-    ghost use Rattle.bcast_model.specs.View.{View};
-    ghost use Rattle.bcast_model.specs.Encodings.{view_code};
+    ghost use Rattle.bcast_model.specs.Words.{View, view_code};
     ghost use Rattle.uses.specs.Hub.{IsHub};
 
     ghost Value = { View E };

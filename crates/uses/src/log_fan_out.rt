@@ -1,9 +1,6 @@
 //! A log whose readers agree on the order.
 ghost use Rattle.std.specs.Prelude.{◌≡◌, ◌↔◌, ◌<◌, ◌∷◌, [], false, IfOk, IfErr, IfSome, IfNone, OnOk, OnErr, IsErrOf};
-ghost use Rattle.bcast_model.specs.Errors.{unsent_message};
-ghost use Rattle.bcast_model.specs.Legal.{NoClone};
-ghost use Rattle.bcast_model.specs.History.{opening};
-ghost use Rattle.bcast_model.specs.Answers.{Answers, Represents};
+ghost use Rattle.bcast_model.specs.Words.{unsent_message, NoClone, opening, Answers, Represents};
 ghost use Rattle.bcast_model.specs.declared.run.Call.TheVariants as call;
 ghost use Rattle.bcast_model.specs.declared.run.Reply.TheVariants as reply;
 ghost use Rattle.uses.specs.Sends.{send_answer, send_reply};
@@ -23,8 +20,7 @@ pub struct Log {
 }
 
 impl Model for Log {
-    ghost use Rattle.bcast_model.specs.View.{View};
-    ghost use Rattle.bcast_model.specs.Encodings.{view_code};
+    ghost use Rattle.bcast_model.specs.Words.{View, view_code};
     ghost use Rattle.uses.specs.Log.{IsLog};
     ghost use Rattle.std.specs.Prelude.{ℕ};
     ghost use Rattle.std.specs.Coded.{coded_ℕ};

@@ -1,9 +1,7 @@
 //! A call on a channel behind its lock, and a poll, whose notice is made under the same lock.
 ghost use Rattle.std.specs.Prelude.{◌≡◌, true, false, IfOk, IfErr, OnErr};
 ghost use Rattle.futures.specs.Task.{IsArmed, Keeps};
-ghost use Rattle.bcast_model.specs.Next.{HasPositiveCapacity};
-ghost use Rattle.bcast_model.specs.Answers.{IsPossible};
-ghost use Rattle.bcast_model.specs.PollLaws.{must_wait};
+ghost use Rattle.bcast_model.specs.Words.{HasPositiveCapacity, IsPossible, must_wait};
 
 use super::Lock;
 use crate::port::Ask;

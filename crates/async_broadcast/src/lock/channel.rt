@@ -12,10 +12,10 @@ use std::sync::{Condvar, Mutex, MutexGuard, Wait};
 #[derive(Drop)]
 pub(super) struct Channel<T: Clone, A: Allocator> {
     state: Mutex<State<T, A>>,
-    // For threads that wait to send.
-    ready: Condvar,
-    // For threads that wait for a message.
-    news: Condvar,
+    /// Notified once a thread that waits to send is to try again.
+    pub(super) ready: Condvar,
+    /// Notified once a thread that waits for a message is to try again.
+    pub(super) news: Condvar,
 }
 
 /// The state, while the lock is held.
@@ -43,13 +43,13 @@ impl<T: Clone, A: Allocator + Copy> Channel<T, A> {
     #[inline(always)]
     pub(super) fn unlock(&self, state: Locked<'_, T, A>, woken: Option<Woken>) {
         if let Some(woken) = woken {
-            self.unlock_and_wake(state, woken);
+            self.unlock_for(state, woken);
         }
     }
 
     // In a function of its own, so that a call while no thread waits costs one test.
     #[inline(never)]
-    fn unlock_and_wake(&self, state: Locked<'_, T, A>, woken: Woken) {
+    fn unlock_for(&self, state: Locked<'_, T, A>, woken: Woken) {
         drop(state);
         self.wake(woken);
     }
@@ -65,29 +65,18 @@ impl<T: Clone, A: Allocator + Copy> Channel<T, A> {
         }
     }
 
-    /// Gives the lock back until there may be room for a message. Wakes these threads first.
-    pub(super) fn wait_to_send<'a>(
+    /// Wakes the threads that the call has something for, and gives the lock back until the
+    /// condition is notified.
+    pub(super) fn wait<'a>(
         &'a self,
         rt: &impl Wait,
+        condition: &Condvar,
         state: Locked<'a, T, A>,
         woken: Option<Woken>,
     ) -> Locked<'a, T, A> {
         if let Some(woken) = woken {
             self.wake(woken);
         }
-        self.ready.wait(rt, state)
-    }
-
-    /// Gives the lock back until there may be more to receive. Wakes these threads first.
-    pub(super) fn wait_to_receive<'a>(
-        &'a self,
-        rt: &impl Wait,
-        state: Locked<'a, T, A>,
-        woken: Option<Woken>,
-    ) -> Locked<'a, T, A> {
-        if let Some(woken) = woken {
-            self.wake(woken);
-        }
-        self.news.wait(rt, state)
+        condition.wait(rt, state)
     }
 }

@@ -1,7 +1,6 @@
 //! The threads that wait for the channel, and whom to wake of them.
 ghost use Rattle.std.specs.Prelude.{◌≡◌, true, false, IfSome, IfNone};
-ghost use Rattle.bcast_model.specs.Control.{is_ready};
-ghost use Rattle.bcast_model.specs.View.{is_full};
+ghost use Rattle.bcast_model.specs.Words.{is_ready, is_full};
 ghost use Rattle.async_broadcast.specs.Woken.{HasNoThread, KnowsNews, HasWokenSender, HasWokenReceiver};
 ghost use Rattle.async_broadcast.specs.Woken.{NotesSender, NotesReceiver, MovesReceivers, EndsWait, news_of, one_more, one_less};
 

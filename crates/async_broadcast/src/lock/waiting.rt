@@ -46,7 +46,7 @@ impl<T: Clone, R: Wait + Clone, A: Allocator + Copy> Lock<T, R, A> {
                 SendPoll::Wait(back) => left = back,
             }
             if waits {
-                state = channel.wait_to_send(&self.rt, state, woken);
+                state = channel.wait(&self.rt, &channel.ready, state, woken);
                 turn = Turn::Waited;
             } else {
                 // Others may make room at once, and then nobody has to be woken.
@@ -84,7 +84,7 @@ impl<T: Clone, R: Wait + Clone, A: Allocator + Copy> Lock<T, R, A> {
                 return Reply::TryRecv(answer);
             }
             if waits {
-                state = channel.wait_to_receive(&self.rt, state, woken);
+                state = channel.wait(&self.rt, &channel.news, state, woken);
                 turn = Turn::Waited;
             } else {
                 // Several messages may come at once, and are then received without another wait.

@@ -9,12 +9,8 @@ use bcast_waiting::notice::Notice;
 use std::alloc::Allocator;
 
 impl<T: Drop, N: Notice, A: Allocator + Copy> Parts<T, N, A> {
-    ghost use Rattle.bcast_model.specs.Laws.{IsValidView};
-    ghost use Rattle.bcast_model.specs.Control.{with_cursor};
-    ghost use Rattle.bcast_model.specs.Handles.{without_receiver};
-    ghost use Rattle.bcast_model.specs.Steps.{settle};
-    ghost use Rattle.bcast_model.specs.Effect.{sets};
-    ghost use Rattle.bcast_model.specs.Control.{cursor_of};
+    ghost use Rattle.bcast_model.specs.Words.{IsValidView, with_cursor, without_receiver, settle};
+    ghost use Rattle.bcast_model.specs.Words.{sets, cursor_of};
 
     /// Adds a receiver that reads the message of this number next, under a key that none has.
     pub fn add_receiver(&mut self, cursor: u64) -> Result<usize, HandleError>
@@ -31,7 +27,7 @@ impl<T: Drop, N: Notice, A: Allocator + Copy> Parts<T, N, A> {
         let Ok(key) = self.store.add(cursor) else {
             return Err(HandleError::Memory);
         };
-        let Ok(()) = self.receives.reserve_for(key) else {
+        let Ok(()) = self.receives.reserve_for((key, Kind::Future)) else {
             self.store.remove(key);
             return Err(HandleError::Memory);
         };

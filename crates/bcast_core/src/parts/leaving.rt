@@ -1,6 +1,5 @@
 //! The calls that drop a handle, without telling a sender.
-ghost use Rattle.bcast_model.specs.Legal.{NoClone};
-ghost use Rattle.bcast_model.specs.Laws.{IsValidView};
+ghost use Rattle.bcast_model.specs.Words.{NoClone, IsValidView};
 ghost use Rattle.bcast_core.specs.Parts.{Does};
 ghost use Rattle.bcast_model.specs.declared.run.Call.TheVariants as call;
 ghost use Rattle.bcast_model.specs.declared.run.Reply.TheVariants as reply;

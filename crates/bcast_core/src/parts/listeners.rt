@@ -79,7 +79,7 @@ impl<T: Drop, N: Notice, A: Allocator + Copy> Parts<T, N, A> {
         ensures same { OnErr result (self.new ≡ self.old) }
         ensures refused { OnErr result (M.refused maker.old maker.new) }
     {
-        self.receives.wait(key, kind, maker)
+        self.receives.wait_again((key, kind), maker)
     }
 
     /// Whether a receiver's listener is listed and not told.
@@ -87,7 +87,7 @@ impl<T: Drop, N: Notice, A: Allocator + Copy> Parts<T, N, A> {
     pub fn is_untold(&self, key: usize, kind: Kind) -> bool
         ensures { result ≡ is_untold self.now.control (key, kind) }
     {
-        self.receives.is_untold(key, kind)
+        self.receives.is_untold((key, kind))
     }
 
     /// A receiver's listener was answered.
@@ -96,7 +96,7 @@ impl<T: Drop, N: Notice, A: Allocator + Copy> Parts<T, N, A> {
         ensures { self.new
             ≡ record self.old { control = pair_answered self.old.control (key, kind) } }
     {
-        self.receives.answered(key, kind);
+        self.receives.consume((key, kind));
     }
 
     /// A receiver's listener is dropped, and its notice returned. What it was told is passed on.
@@ -105,6 +105,6 @@ impl<T: Drop, N: Notice, A: Allocator + Copy> Parts<T, N, A> {
         ensures { self.new
             ≡ record self.old { control = pair_ended self.old.control (key, kind) } }
     {
-        self.receives.ended(key, kind)
+        self.receives.abandon((key, kind))
     }
 }

@@ -3,27 +3,20 @@ ghost use Rattle.std.specs.Prelude.{◌≡◌, ◌⊎◌, ◌+◌, ◌<◌, true
 ghost use Rattle.bcast_model.specs.Receiving.{is_empty_reply};
 
 use super::Parts;
-use crate::tries::Steps;
 use bcast_model::error::TryRecvError;
 use bcast_model::listener::Kind;
+use bcast_queue::Counter;
 use bcast_waiting::notice::{MakesNotice, Notice, Refused};
 use std::alloc::{AllocError, Allocator};
-use std::sync::ledger::{Blank, Ledger};
 
 impl<T: Clone, N: Notice, A: Allocator + Copy> Parts<T, N, A> {
-    ghost use Rattle.bcast_model.specs.Laws.{IsValidView};
-    ghost use Rattle.bcast_model.specs.Legal.{IsReceivedBy};
-    ghost use Rattle.bcast_model.specs.Receiving.{receive, receive_poll, skipped_count, skipped_to};
-    ghost use Rattle.bcast_model.specs.Steps.{settle};
-    ghost use Rattle.bcast_model.specs.Effect.{sets};
-    ghost use Rattle.bcast_model.specs.Control.{cursor_of};
-    ghost use Rattle.bcast_model.specs.View.{kept_at};
-    ghost use Rattle.bcast_model.specs.Receiving.{try_recv_reply, IsOwed};
-    ghost use Rattle.bcast_model.specs.Control.{with_cursor, pair_answered};
-    ghost use Rattle.bcast_model.specs.Next.{tell_if_ready};
+    ghost use Rattle.bcast_model.specs.Words.{IsValidView, IsReceivedBy, receive, receive_poll};
+    ghost use Rattle.bcast_model.specs.Words.{skipped_count, skipped_to, settle, sets, cursor_of};
+    ghost use Rattle.bcast_model.specs.Words.{kept_at, try_recv_reply, IsOwed, with_cursor};
+    ghost use Rattle.bcast_model.specs.Words.{pair_answered, tell_if_ready};
     ghost use Rattle.bcast_core.specs.Parts.{Does};
     ghost use Rattle.bcast_core.specs.Tries.{tries_by};
-    ghost use Rattle.bcast_core.specs.Waits.{finds_nothing};
+    ghost use Rattle.bcast_core.specs.Tries.{finds_nothing};
     ghost use Rattle.bcast_model.specs.declared.run.Call.TheVariants as call;
     ghost use Rattle.bcast_model.specs.declared.run.Reply.TheVariants as reply;
 
@@ -63,11 +56,11 @@ impl<T: Clone, N: Notice, A: Allocator + Copy> Parts<T, N, A> {
     /// `at` is the receiver's cursor, or the greater of it and the front if what it missed is
     /// skipped.
     #[inline(always)]
-    pub fn receive<L: Ledger>(
+    pub fn receive<C: Counter>(
         &mut self,
         key: usize,
         at: Option<u64>,
-        steps: &mut Steps<L>,
+        steps: &mut C,
     ) -> Result<Result<T, TryRecvError>, AllocError>
         requires valid { IsValidView self.old }
         requires at { (at ≡ cursor_of self.old.control key)
@@ -80,47 +73,28 @@ impl<T: Clone, N: Notice, A: Allocator + Copy> Parts<T, N, A> {
         ensures err { OnErr result (self.new ≡ self.old) }
         ensures sure { ((msg : T) → T.is_infallible msg) → IsOk result }
 
-        ensures steps { steps.new ≡ steps.old + 1 }
+        ensures steps { C.counts ≡ true → C.total steps.new ≡ C.total steps.old + 1 }
     {
         steps.count();
         let Some(cursor) = at else {
             return Ok(Err(TryRecvError::Closed));
         };
-        let front = self.front();
+        let front = self.store.front();
         if cursor < front {
             self.skip(key);
             return Ok(Err(TryRecvError::Overflowed(front - cursor)));
         }
-        if cursor < self.end() {
+        if cursor < self.store.end() {
             return match self.read(key, cursor) {
                 Ok(msg) => Ok(Ok(msg)),
                 Err(refused) => Err(refused),
             };
         }
-        if self.is_closed() {
+        if self.closed {
             Ok(Err(TryRecvError::Closed))
         } else {
             Ok(Err(TryRecvError::Empty))
         }
-    }
-
-    /// The same at the receiver's cursor, with a step that nobody counts.
-    #[inline(always)]
-    pub fn try_receive<L: Ledger>(
-        &mut self,
-        key: usize,
-        blank: Blank,
-    ) -> Result<Result<T, TryRecvError>, AllocError>
-        requires valid { IsValidView self.old }
-        requires name { blank.name ≡ L.name }
-        requires parts { blank.parts ≡ L.parts }
-        requires some { 0 < blank.parts }
-        ensures does { Does T.is_clone self.old (call.TryRecv key) (reply.TryRecv result) self.new }
-        ensures sure { ((msg : T) → T.is_infallible msg) → IsOk result }
-    {
-        let mut steps = Steps::<L>::new(blank);
-        let at = self.cursor(key);
-        self.receive(key, at, &mut steps)
     }
 
     /// Where the receiver reads on that skips what it missed, and how many messages those are.
@@ -138,12 +112,12 @@ impl<T: Clone, N: Notice, A: Allocator + Copy> Parts<T, N, A> {
     // Looks for a message for a listener. If that of a stream is listed and not told there is none,
     // since no wake-up is lost: so it is not looked for.
     #[inline(always)]
-    fn look<L: Ledger>(
+    fn look<C: Counter>(
         &mut self,
         key: usize,
         kind: Kind,
         at: Option<u64>,
-        steps: &mut Steps<L>,
+        steps: &mut C,
     ) -> Result<Result<T, TryRecvError>, AllocError>
         requires valid { IsValidView self.old }
         requires at { (at ≡ cursor_of self.old.control key)
@@ -156,7 +130,8 @@ impl<T: Clone, N: Notice, A: Allocator + Copy> Parts<T, N, A> {
         ensures err { OnErr result (self.new ≡ self.old) }
         ensures sure { ((msg : T) → T.is_infallible msg) → IsOk result }
 
-        ensures steps { steps.new ≡ steps.old + tries_by kind self.old.control (key, kind) }
+        ensures steps { C.counts ≡ true → C.total steps.new
+            ≡ C.total steps.old + tries_by kind self.old.control (key, kind) }
     {
         if kind == Kind::Stream && self.is_untold(key, kind) {
             return Ok(Err(TryRecvError::Empty));
@@ -171,13 +146,13 @@ impl<T: Clone, N: Notice, A: Allocator + Copy> Parts<T, N, A> {
     ///
     /// `Refused`: no notice was made, and nothing changed.
     #[inline(always)]
-    pub fn poll<L: Ledger, M: MakesNotice<N>>(
+    pub fn poll<C: Counter, M: MakesNotice<N>>(
         &mut self,
         key: usize,
         kind: Kind,
         at: Option<u64>,
         maker: &mut M,
-        steps: &mut Steps<L>,
+        steps: &mut C,
     ) -> Result<Result<Result<T, TryRecvError>, AllocError>, Refused>
         requires valid { IsValidView self.old }
         requires at { (at ≡ cursor_of self.old.control key)
@@ -198,7 +173,8 @@ impl<T: Clone, N: Notice, A: Allocator + Copy> Parts<T, N, A> {
         ensures same { OnErr result (self.new ≡ self.old) }
         ensures refused { OnErr result (M.refused maker.old maker.new) }
 
-        ensures steps { steps.new ≡ steps.old + tries_by kind self.old.control (key, kind) }
+        ensures steps { C.counts ≡ true → C.total steps.new
+            ≡ C.total steps.old + tries_by kind self.old.control (key, kind) }
     {
         let answer = match self.look(key, kind, at, steps) {
             Ok(answer) => answer,

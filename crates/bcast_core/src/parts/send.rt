@@ -14,17 +14,14 @@ use bcast_waiting::notice::{MakesNotice, Notice};
 use std::alloc::{AllocError, Allocator};
 
 impl<T: Drop, N: Notice, A: Allocator + Copy> Parts<T, N, A> {
-    ghost use Rattle.bcast_model.specs.Control.{has_place, place_answered, last_end};
-    ghost use Rattle.bcast_model.specs.Next.{tell_if_ready};
-    ghost use Rattle.bcast_model.specs.PollLaws.{must_wait};
+    ghost use Rattle.bcast_model.specs.Words.{has_place, place_answered, last_end, tell_if_ready};
+    ghost use Rattle.bcast_model.specs.Words.{must_wait, IsValidView, settle, with_message};
+    ghost use Rattle.bcast_model.specs.Words.{with_messages, try_broadcast_reply, offer};
+    ghost use Rattle.bcast_model.specs.Words.{attempt_send_reply, poll_send, free_room};
+    ghost use Rattle.bcast_model.specs.Words.{try_broadcast_all_reply, offer_all, resize};
     ghost use Rattle.bcast_model.specs.declared.run.Reply.TheVariants as reply;
     ghost use Rattle.bcast_core.specs.Telling.{tell_news, is_accepted};
-    ghost use Rattle.bcast_model.specs.Laws.{IsValidView};
     ghost use Rattle.bcast_model.specs.declared.run.SendPoll.TheVariants as send;
-    ghost use Rattle.bcast_model.specs.Steps.{settle, with_message, with_messages};
-    ghost use Rattle.bcast_model.specs.Sending.{try_broadcast_reply, offer, attempt_send_reply, poll_send};
-    ghost use Rattle.bcast_model.specs.SendAll.{free_room, try_broadcast_all_reply, offer_all};
-    ghost use Rattle.bcast_model.specs.Effects.{resize};
 
     // Takes the oldest message out, whoever is still to read it.
     fn drop_oldest(&mut self) -> T
@@ -48,8 +45,7 @@ impl<T: Drop, N: Notice, A: Allocator + Copy> Parts<T, N, A> {
         requires number { self.old.end + 1 < 2 ^ 64 }
         ensures { tell_news true self.new ≡ with_message self.old msg }
     {
-        let number = self.store.end();
-        self.store.push(msg);
+        let number = self.store.push(msg);
         if number + 1 == u64::MAX {
             self.closed = true;
         }
@@ -124,16 +120,16 @@ impl<T: Drop, N: Notice, A: Allocator + Copy> Parts<T, N, A> {
         ensures err { OnErr result (self.new ≡ self.old) }
         ensures nothing { OnErr result (settle self.old (offer self.old msg) ≡ self.old) }
     {
-        if self.is_closed() {
+        if self.closed {
             return Err(TrySendError::Closed(msg));
         }
-        if self.has_no_receiver() {
+        if self.store.has_no_receiver() {
             return Err(TrySendError::Inactive(msg));
         }
-        if !self.is_full() {
+        if self.store.len() != self.capacity {
             return Ok((msg, None));
         }
-        if !self.overflow() {
+        if !self.overflow {
             return Err(TrySendError::Full(msg));
         }
         let oldest = self.drop_oldest();

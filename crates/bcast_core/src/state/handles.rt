@@ -1,6 +1,5 @@
 //! Handles that are made, and handles that are dropped.
-ghost use Rattle.bcast_model.specs.Legal.{NoClone};
-ghost use Rattle.bcast_model.specs.Answers.{Answers};
+ghost use Rattle.bcast_model.specs.Words.{NoClone, Answers};
 ghost use Rattle.bcast_model.specs.declared.run.Call.TheVariants as call;
 ghost use Rattle.bcast_model.specs.declared.run.Reply.TheVariants as reply;
 

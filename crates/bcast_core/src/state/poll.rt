@@ -1,18 +1,15 @@
 //! Receiving by a future or a stream, which wait if there is nothing.
 ghost use Rattle.std.specs.Prelude.{◌≡◌, ◌+◌, true, false, Ok, Err, IfOk, IfErr, OnErr, IsOk};
-ghost use Rattle.bcast_model.specs.Legal.{NoClone};
-ghost use Rattle.bcast_model.specs.Answers.{Answers};
-ghost use Rattle.bcast_model.specs.ListenerId.{stream_of};
-ghost use Rattle.bcast_model.specs.PollLaws.{must_wait};
+ghost use Rattle.bcast_model.specs.Words.{NoClone, Answers, stream_of, must_wait};
 ghost use Rattle.bcast_model.specs.Receiving;
 ghost use Rattle.bcast_core.specs.Tries.{tries_of};
 ghost use Rattle.bcast_model.specs.declared.run.Call.TheVariants as call;
 ghost use Rattle.bcast_model.specs.declared.run.Reply.TheVariants as reply;
 
 use super::Inner;
-use crate::tries::Steps;
 use bcast_model::error::{RecvError, TryRecvError};
 use bcast_model::listener::Kind;
+use bcast_queue::{Counter, Steps};
 use bcast_waiting::notice::{Given, MakesNotice, Notice, Refused};
 use futures::task::Poll;
 use std::alloc::{AllocError, Allocator};
@@ -97,11 +94,11 @@ impl<T: Clone, N: Notice, A: Allocator + Copy> Inner<T, N, A> {
     // The same with what makes the notice, if the receive must wait. `Refused`: no notice was made,
     // and nothing changed.
     #[inline(always)]
-    pub(crate) fn poll_future_by<L: Ledger, M: MakesNotice<N>>(
+    pub(crate) fn poll_future_by<C: Counter, M: MakesNotice<N>>(
         &mut self,
         key: usize,
         maker: &mut M,
-        steps: &mut Steps<L>,
+        steps: &mut C,
     ) -> Result<Result<Poll<Result<T, RecvError>>, AllocError>, Refused>
         ensures answers { IfOk result (λ answer. Answers T.is_clone self.old (call.PollFuture key)
             (reply.PollFuture answer) self.new) }
@@ -114,7 +111,7 @@ impl<T: Clone, N: Notice, A: Allocator + Copy> Inner<T, N, A> {
         ensures same { OnErr result (self.new ≡ self.old) }
         ensures refused { OnErr result (M.refused maker.old maker.new) }
 
-        ensures steps { steps.new ≡ steps.old + 1 }
+        ensures steps { C.counts ≡ true → C.total steps.new ≡ C.total steps.old + 1 }
     {
         let at = self.parts.cursor(key);
         let received = self.parts.poll(key, Kind::Future, at, maker, steps)?;
@@ -150,11 +147,11 @@ impl<T: Clone, N: Notice, A: Allocator + Copy> Inner<T, N, A> {
     // The same with what makes the notice, if the receive must wait. `Refused`: no notice was made,
     // and nothing changed.
     #[inline(always)]
-    pub(crate) fn poll_recv_by<L: Ledger, M: MakesNotice<N>>(
+    pub(crate) fn poll_recv_by<C: Counter, M: MakesNotice<N>>(
         &mut self,
         key: usize,
         maker: &mut M,
-        steps: &mut Steps<L>,
+        steps: &mut C,
     ) -> Result<Result<Poll<Option<Result<T, RecvError>>>, AllocError>, Refused>
         ensures answers { IfOk result (λ answer. Answers T.is_clone self.old (call.PollRecv key)
             (reply.PollRecv answer) self.new) }
@@ -167,7 +164,8 @@ impl<T: Clone, N: Notice, A: Allocator + Copy> Inner<T, N, A> {
         ensures same { OnErr result (self.new ≡ self.old) }
         ensures refused { OnErr result (M.refused maker.old maker.new) }
 
-        ensures steps { steps.new ≡ steps.old + tries_of self.old.control (stream_of key) }
+        ensures steps { C.counts ≡ true → C.total steps.new
+            ≡ C.total steps.old + tries_of self.old.control (stream_of key) }
     {
         let at = self.parts.cursor(key);
         let received = self.parts.poll(key, Kind::Stream, at, maker, steps)?;
@@ -202,11 +200,11 @@ impl<T: Clone, N: Notice, A: Allocator + Copy> Inner<T, N, A> {
     // The same with what makes the notice, if the receive must wait. `Refused`: no notice was made,
     // and nothing changed.
     #[inline(always)]
-    pub(crate) fn poll_next_by<L: Ledger, M: MakesNotice<N>>(
+    pub(crate) fn poll_next_by<C: Counter, M: MakesNotice<N>>(
         &mut self,
         key: usize,
         maker: &mut M,
-        steps: &mut Steps<L>,
+        steps: &mut C,
     ) -> Result<Result<Poll<Option<(T, u64)>>, AllocError>, Refused>
         ensures answers { IfOk result (λ answer. Answers T.is_clone self.old (call.PollNext key)
             (reply.PollNext answer) self.new) }
@@ -219,7 +217,8 @@ impl<T: Clone, N: Notice, A: Allocator + Copy> Inner<T, N, A> {
         ensures same { OnErr result (self.new ≡ self.old) }
         ensures refused { OnErr result (M.refused maker.old maker.new) }
 
-        ensures steps { steps.new ≡ steps.old + tries_of self.old.control (stream_of key) }
+        ensures steps { C.counts ≡ true → C.total steps.new
+            ≡ C.total steps.old + tries_of self.old.control (stream_of key) }
     {
         let (at, skips) = self.parts.skipped_to(key);
         let received = self.parts.poll(key, Kind::Stream, at, maker, steps)?;

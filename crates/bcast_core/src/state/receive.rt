@@ -1,17 +1,14 @@
 //! Receiving at once.
-ghost use Rattle.std.specs.Prelude.{◌≡◌, ◌↔◌, ◌<◌, true, IsOk};
+ghost use Rattle.std.specs.Prelude.{◌≡◌, IsOk};
 ghost use Rattle.bcast_model.specs.Answers.{Answers};
-ghost use Rattle.bcast_model.specs.Listeners.{no_listeners};
 ghost use Rattle.bcast_model.specs.declared.run.Call.TheVariants as call;
 ghost use Rattle.bcast_model.specs.declared.run.Reply.TheVariants as reply;
 
 use super::Inner;
-use crate::tries::Steps;
 use bcast_model::error::TryRecvError;
+use bcast_queue::Uncounted;
 use bcast_waiting::notice::Notice;
 use std::alloc::{AllocError, Allocator};
-use std::marker::Brand;
-use std::sync::ledger::{Blank, Ledger};
 
 impl<T: Clone, N: Notice, A: Allocator + Copy> Inner<T, N, A> {
     /// Gives the receiver of this key its next message: the message itself, or a clone of it if
@@ -36,7 +33,8 @@ impl<T: Clone, N: Notice, A: Allocator + Copy> Inner<T, N, A> {
         // If no clone fails, there is a message.
         ensures sure { ((msg : T) → T.is_infallible msg) → IsOk result }
     {
-        let received = self.parts.try_receive::<Brand>(key, Blank::new(1));
+        let at = self.parts.cursor(key);
+        let received = self.parts.receive(key, at, &mut Uncounted);
         self.parts.tell_a_sender();
         received
     }

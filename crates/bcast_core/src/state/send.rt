@@ -1,9 +1,6 @@
 //! Sending, at once or by a pending send.
 ghost use Rattle.std.specs.Prelude.{◌≡◌, true, false, IfOk, IfErr, OnErr};
-ghost use Rattle.bcast_model.specs.Legal.{NoClone};
-ghost use Rattle.bcast_model.specs.SendAll.{in_lists};
-ghost use Rattle.bcast_model.specs.Answers.{Answers};
-ghost use Rattle.bcast_model.specs.PollLaws.{must_wait};
+ghost use Rattle.bcast_model.specs.Words.{NoClone, in_lists, Answers, must_wait};
 ghost use Rattle.bcast_model.specs.declared.run.Call.TheVariants as call;
 ghost use Rattle.bcast_model.specs.declared.run.Reply.TheVariants as reply;
 

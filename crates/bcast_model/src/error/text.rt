@@ -1,8 +1,7 @@
 //! What the errors print.
 ghost use Rattle.std.specs.Prelude.{Some, codes};
-ghost use Rattle.bcast_model.specs.Errors.{handle_error_text, recv_error_text};
-ghost use Rattle.bcast_model.specs.Errors.{try_recv_error_text, try_send_error_text};
-ghost use Rattle.bcast_model.specs.Errors.{try_send_error_debug};
+ghost use Rattle.bcast_model.specs.Words.{handle_error_text, recv_error_text, try_recv_error_text};
+ghost use Rattle.bcast_model.specs.Words.{try_send_error_text, try_send_error_debug};
 
 use super::{HandleError, NoMemory, RecvError, SendError, TryRecvError, TrySendError};
 use std::error::Error;

@@ -2,10 +2,9 @@
 ghost use Rattle.std.specs.Prelude.{◌≡◌, ◌<◌, [], ◌∷◌, Ok};
 ghost use Rattle.bcast_queue.specs.Queue.{queue_with};
 
-use bcast_queue::{Queue, Steps};
+use bcast_queue::{Queue, Uncounted};
 use std::alloc::{AllocError, Global};
-use std::marker::{Brand, Model};
-use std::sync::ledger::{Blank, Ledger};
+use std::marker::Model;
 use std::test::Fail;
 
 // A message that knows whether it is a copy. To a contract it is the letter.
@@ -55,54 +54,48 @@ fn two_are_pushed(queue: &mut Queue<Letter>)
     queue.push(new_letter(b'b'), 2);
 }
 
-fn one_reads<L: Ledger>(
-    queue: &mut Queue<Letter>,
-    steps: &mut Steps<L>,
-) -> Result<Letter, AllocError>
+fn one_reads(queue: &mut Queue<Letter>) -> Result<Letter, AllocError>
     requires { queue.old ≡ queue_with 0 (97 ∷ 98 ∷ []) (2 ∷ 2 ∷ []) 3 }
     ensures answer { result ≡ Ok 97 }
     ensures owed { queue.new ≡ queue_with 0 (97 ∷ 98 ∷ []) (1 ∷ 2 ∷ []) 3 }
 {
-    queue.read(0, steps)
+    queue.read(0, &mut Uncounted)
 }
 
-fn the_other_reads<L: Ledger>(
-    queue: &mut Queue<Letter>,
-    steps: &mut Steps<L>,
-) -> Result<Letter, AllocError>
+fn the_other_reads(queue: &mut Queue<Letter>) -> Result<Letter, AllocError>
     requires { queue.old ≡ queue_with 0 (97 ∷ 98 ∷ []) (1 ∷ 2 ∷ []) 3 }
     ensures answer { result ≡ Ok 97 }
     ensures owed { queue.new ≡ queue_with 1 (98 ∷ []) (2 ∷ []) 3 }
 {
-    queue.read(0, steps)
+    queue.read(0, &mut Uncounted)
 }
 
-fn a_third_comes<L: Ledger>(queue: &mut Queue<Letter>, steps: &mut Steps<L>)
+fn a_third_comes(queue: &mut Queue<Letter>)
     requires { queue.old ≡ queue_with 1 (98 ∷ []) (2 ∷ []) 3 }
     ensures { queue.new ≡ queue_with 1 (98 ∷ []) (3 ∷ []) 3 }
 {
-    queue.share(0, steps);
+    queue.share(0, &mut Uncounted);
 }
 
-fn one_of_three_leaves<L: Ledger>(queue: &mut Queue<Letter>, steps: &mut Steps<L>)
+fn one_of_three_leaves(queue: &mut Queue<Letter>)
     requires { queue.old ≡ queue_with 1 (98 ∷ []) (3 ∷ []) 3 }
     ensures { queue.new ≡ queue_with 1 (98 ∷ []) (2 ∷ []) 3 }
 {
-    queue.leave(0, steps);
+    queue.leave(0, &mut Uncounted);
 }
 
-fn one_of_two_leaves<L: Ledger>(queue: &mut Queue<Letter>, steps: &mut Steps<L>)
+fn one_of_two_leaves(queue: &mut Queue<Letter>)
     requires { queue.old ≡ queue_with 1 (98 ∷ []) (2 ∷ []) 3 }
     ensures { queue.new ≡ queue_with 1 (98 ∷ []) (1 ∷ []) 3 }
 {
-    queue.leave(0, steps);
+    queue.leave(0, &mut Uncounted);
 }
 
-fn the_last_leaves<L: Ledger>(queue: &mut Queue<Letter>, steps: &mut Steps<L>)
+fn the_last_leaves(queue: &mut Queue<Letter>)
     requires { queue.old ≡ queue_with 1 (98 ∷ []) (1 ∷ []) 3 }
     ensures { queue.new ≡ queue_with 2 [] [] 3 }
 {
-    queue.leave(0, steps);
+    queue.leave(0, &mut Uncounted);
 }
 
 // Whether the answer is this letter, and a copy or the message itself.
@@ -123,32 +116,27 @@ fn has(queue: &Queue<Letter>, front: u64, messages: &[u8]) -> bool {
 
 // Makes the rows one after the other. Whether each leaves the front and the messages that it must,
 // and each read is answered as it must be.
-fn make_rows<L: Ledger>(alloc: Global, blank: Blank) -> Result<bool, AllocError>
-    requires name { blank.name ≡ L.name }
-    requires parts { blank.parts ≡ L.parts }
-    requires some_parts { 0 < blank.parts }
-{
-    let mut steps = Steps::<L>::new(blank);
+fn make_rows(alloc: Global) -> Result<bool, AllocError> {
     let mut queue = Queue::new(alloc, 0, 3)?;
     two_are_pushed(&mut queue);
     let mut has_all = has(&queue, 0, b"ab");
-    has_all &= is(&one_reads(&mut queue, &mut steps)?, b'a', true);
+    has_all &= is(&one_reads(&mut queue)?, b'a', true);
     has_all &= has(&queue, 0, b"ab");
-    has_all &= is(&the_other_reads(&mut queue, &mut steps)?, b'a', false);
+    has_all &= is(&the_other_reads(&mut queue)?, b'a', false);
     has_all &= has(&queue, 1, b"b");
-    a_third_comes(&mut queue, &mut steps);
+    a_third_comes(&mut queue);
     has_all &= has(&queue, 1, b"b");
-    one_of_three_leaves(&mut queue, &mut steps);
+    one_of_three_leaves(&mut queue);
     has_all &= has(&queue, 1, b"b");
-    one_of_two_leaves(&mut queue, &mut steps);
+    one_of_two_leaves(&mut queue);
     has_all &= has(&queue, 1, b"b");
-    the_last_leaves(&mut queue, &mut steps);
+    the_last_leaves(&mut queue);
     has_all &= has(&queue, 2, b"");
     Ok(has_all)
 }
 
 #[test]
 fn two_read_and_a_third_comes(rt: HostRuntime) -> Result<(), Fail> {
-    assert!(rt; make_rows::<Brand>(rt.alloc(), Blank::new(1))?);
+    assert!(rt; make_rows(rt.alloc())?);
     Ok(())
 }

@@ -1,6 +1,6 @@
 //! The same calls to both stores: every short list of calls, and long lists by a fixed seed.
+use super::slow::Plain;
 use super::{Call, Played, Tried};
-use bcast_plain::Store as Plain;
 use bcast_store::Store;
 use std::alloc::{AllocError, Global};
 use std::test::Fail;
@@ -109,8 +109,8 @@ fn new_fast(alloc: Global, room: usize) -> Result<Played<Store<u8>>, AllocError>
     Played::new(alloc, Store::new(alloc, 7, room.max(1))?)
 }
 
-fn new_slow(alloc: Global, room: usize) -> Result<Played<Plain<u8>>, AllocError> {
-    Played::new(alloc, Plain::new(alloc, 7, room.max(1))?)
+fn new_slow(alloc: Global, room: usize) -> Result<Played<Plain>, AllocError> {
+    Played::new(alloc, Plain::new(alloc, 7, room.max(1)))
 }
 
 #[test]

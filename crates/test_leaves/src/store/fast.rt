@@ -28,10 +28,11 @@ impl Tried for Store<u8> {
         self.cursors(alloc)
     }
 
-    fn try_push(&mut self, msg: u8) {
+    fn try_push(&mut self, msg: u8) -> Result<(), AllocError> {
         if !self.has_no_receiver() && self.len() < self.room() && self.end() < u64::MAX {
             self.push(msg);
         }
+        Ok(())
     }
 
     fn try_pop(&mut self) -> Option<u8> {

@@ -164,6 +164,66 @@ fn a_refused_receiver_is_not_added(rt: HostRuntime) -> Result<(), Fail> {
     Ok(())
 }
 
+// Whether a message leaves with all receivers that there are, once one more was refused.
+fn message_leaves<A: Allocator + Copy>(alloc: A) -> Result<bool, AllocError> {
+    let mut store = Store::<u8, A>::new(alloc, 7, 1)?;
+    add(&mut store, 7)?;
+    push(&mut store, b'a');
+    for _more in 0..64 {
+        if add(&mut store, 7).is_err() {
+            for key in 0..64 {
+                store.remove(key);
+            }
+            return Ok(store.has_no_receiver() && store.is_empty() && store.front() == 8);
+        }
+    }
+    Ok(false)
+}
+
+#[test]
+fn a_refused_receiver_owes_nothing(rt: HostRuntime) -> Result<(), Fail> {
+    let heap = LocalHeap::new(rt.alloc(), 512)?;
+    assert!(rt; message_leaves(&heap)?);
+    Ok(())
+}
+
+// Whether a receiver that lags stays where it was once its read was refused, or nothing if it was
+// not refused.
+fn lags_still<T: Text, A: Allocator + Copy>(alloc: A, msg: T) -> Result<Option<bool>, AllocError> {
+    let (mut store, first) = with_receiver(alloc)?;
+    push(&mut store, msg);
+    let Some(msg) = store.pop() else {
+        return Ok(Some(false));
+    };
+    push(&mut store, msg);
+    add(&mut store, 8)?;
+    if reads(&mut store, first).is_some() {
+        return Ok(None);
+    }
+    Ok(Some(store.cursor(first) == Some(7)))
+}
+
+// As above, on a heap; an error if it doesn't even have room for the message.
+fn run_behind(heap: &LocalHeap) -> Result<Option<bool>, AllocError> {
+    let bytes = Vec::from_slice(heap, TEXT.as_slice())?;
+    lags_still(heap, Message { bytes })
+}
+
+#[test]
+fn a_refused_read_skips_nothing(rt: HostRuntime) -> Result<(), Fail> {
+    let mut refused = false;
+    for size in 4..64 {
+        let heap = LocalHeap::new(rt.alloc(), size * 16)?;
+        let Ok(Some(lags)) = run_behind(&heap) else {
+            continue
+        };
+        assert!(rt; lags, "{size}");
+        refused = true;
+    }
+    assert!(rt; refused, "refused");
+    Ok(())
+}
+
 // Whether more room was refused: for four messages in place of three, and then for six.
 fn grow_twice(heap: &LocalHeap) -> Result<(bool, bool), AllocError> {
     let mut store = Store::<u64, &LocalHeap>::new(heap, 7, 3)?;

@@ -2,15 +2,9 @@ use Rattle.std.proofs.Common.{◌≡◌, false, [], ◌∷◌, ◌++◌, length,
 use Rattle.std.specs.Vec.Iter.{into_iter_items}
 use Rattle.std.specs.List.{All, AllByRecursion}
 use Rattle.std.proofs.lemmas.List.Elements.{All-append, All-cons, All-nil}
-use Rattle.bcast_model.specs.Legal.{Legal, NoClone}
-use Rattle.bcast_model.specs.Next.{HasPositiveCapacity}
-use Rattle.bcast_model.specs.History.{opening}
-use Rattle.bcast_model.specs.Valid.{IsValid}
-use Rattle.bcast_model.specs.Answers.{Represents}
-use Rattle.bcast_model.specs.Run.{IsRun, end_of_run}
-use Rattle.bcast_model.specs.Deliveries.{AtEachPoint, AreAllExact}
-use Rattle.bcast_model.specs.Laws.{WaitsAsItsTry}
-use Rattle.bcast_model.specs.ToldPolls.{ComesToRest}
+use Rattle.bcast_model.specs.Words.{Legal, NoClone, HasPositiveCapacity, opening, IsValid}
+use Rattle.bcast_model.specs.Words.{Represents, IsRun, end_of_run, AtEachPoint, AreAllExact}
+use Rattle.bcast_model.specs.Words.{WaitsAsItsTry, ComesToRest}
 use Rattle.bcast_model.proofs.Lists.{all_right}
 use Rattle.bcast_model.proofs.Clones.{run_exact}
 use Rattle.bcast_model.proofs.DeliveryLemmas.{deliveries_exact}

@@ -36,8 +36,8 @@ invariant_of-self g c =
       has_room = c.self.invariant.has_room;
     })
 
-pub returns : goal.returns
-returns g c =
+pub returns-clause-pushed : goal.returns-clause-pushed
+returns-clause-pushed g c =
     let ring = c.self.inside.ring in
     let behind = c.self.inside.behind in
     let n = c.args.owing - c.self.inside.total in

@@ -17,7 +17,7 @@ invariant-loop-next g l =
       front : l.front + prefix_len nobody (counts l.ring) ≡ l.initial.front + prefix_len nobody (counts l.initial.ring);
       numbered : l.front + length l.ring.items < 2 ^ 64;
       fits : sum (counts l.ring) < 2 ^ 64;
-      steps : l.steps + length l.ring.items ≤ l.initial.steps + length l.initial.ring.items;
+      steps : g.C.Counter.total l.steps + length l.ring.items ≤ g.C.Counter.total l.initial.steps + length l.initial.ring.items;
     }
 
 abbrev pub decreases-loop-next : goal.decreases-loop-next

@@ -17,5 +17,5 @@ pub invariant_of-self-2 : goal.invariant_of-self-2
 invariant_of-self-2 g c =
     let end = ap end_of c.self.view_is in
     let index = c.saturating_sub-index.ensures ∙ ap (λ x. c.args.cursor - x) c.front.ensures in
-    same_sound _ _ _ _ (c.share.ensures ∙ ap (λ x. with_reader x c.self.inside.queue) index) c.in_ok-key.ensures.ok
+    same_sound _ _ _ _ (c.share.ensures.shared ∙ ap (λ x. with_reader x c.self.inside.queue) index) c.in_ok-key.ensures.ok
     (sound_joined c.self.inside.queue c.self.inside.cursors c.in_ok-key.key c.args.cursor c.self.invariant c.invariant_holds.ensures.lengths c.in_ok-key.ensures.fresh (omega (arith, end, c.requires)))

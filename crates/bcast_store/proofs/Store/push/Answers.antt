@@ -11,5 +11,5 @@ push-requires-clause-never_falls g c = λ n is.
 pub invariant_of-self : goal.invariant_of-self
 invariant_of-self g c =
     let q = c.self.inside.queue in
-    let pushed = c.push.ensures ∙ ap (λ n. record q { messages = q.messages ++ c.args.msg ∷ []; owed = q.owed ++ n ∷ [] }) c.len.ensures in
+    let pushed = c.push.ensures.pushed ∙ ap (λ n. record q { messages = q.messages ++ c.args.msg ∷ []; owed = q.owed ++ n ∷ [] }) c.len.ensures in
     same_sound _ _ _ _ pushed refl (sound_push c.self.inside.queue c.args.msg c.self.inside.cursors c.self.invariant c.invariant_holds.ensures.lengths)

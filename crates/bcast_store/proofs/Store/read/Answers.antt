@@ -12,7 +12,7 @@ use Rattle.bcast_store.proofs.Messages.{same_sound, same_store}
 use Rattle.bcast_store.proofs.Reading.{is_reading, reading_up, sound_read, store_read}
 use Rattle.bcast_store.proofs.HandedOut.{owed_by_another, handed_out}
 use Rattle.bcast_store.proofs.Store.read.Goals as goal
-use Rattle.bcast_store.proofs.Store.read.Goals.{After-set-in-Err}
+use Rattle.bcast_store.proofs.Store.read.Goals.{After-replace-in-Err}
 
 -- a cursor that is put back
 put_back : (m : Cursors) (key cursor other : ℕ) → get m key ≡ Some cursor → insert (insert m key other) key cursor ≡ m
@@ -26,13 +26,13 @@ put_back m key cursor other at =
     by_key q true e = sym (ap (get m) (eqb-true q key (sym (unsigned_tied q key) ∙ e)) ∙ at)
     by_key q false e = refl
 
-back : (g : _) (c : After-set-in-Err g) → c.set-in-Err.new.self ≡ c.self.inside.cursors
+back : (g : _) (c : After-replace-in-Err g) → c.replace-in-Err.new.self ≡ c.self.inside.cursors
 back g c =
     let r = is_reading c.self.inside.queue c.self.inside.cursors c.args.self.now c.args.key c.args.number c.front.result c.self.view_is c.front.ensures c.requires.at c.requires.below in
-    let set = c.set.ensures.there (ap is_some r.at) in
+    let set = rw (c.replace.ensures.value ∙ r.at) at c.replace.ensures.some in
     let there = ap (λ m. get m c.args.key) set ∙ inserted c.self.inside.cursors c.args.key (c.args.number + 1) in
-    let value : c.unwrap_or-cursor.result ≡ r.cursor = rw (c.get.ensures ∙ r.at) at c.unwrap_or-cursor.ensures in
-    c.set-in-Err.ensures.there (ap is_some there)
+    let value : c.unwrap_or-cursor.result ≡ r.cursor = rw (c.replace.ensures.value ∙ r.at) at c.unwrap_or-cursor.ensures in
+    (rw (c.replace-in-Err.ensures.value ∙ there) at c.replace-in-Err.ensures.some)
     ∙ ap (λ m. insert m c.args.key c.unwrap_or-cursor.result) set
     ∙ ap (insert (insert c.self.inside.cursors c.args.key (c.args.number + 1)) c.args.key) value
     ∙ put_back c.self.inside.cursors c.args.key r.cursor (c.args.number + 1) r.at
@@ -46,13 +46,13 @@ pub invariant_of-self : goal.invariant_of-self
 invariant_of-self g c =
     let r = is_reading c.self.inside.queue c.self.inside.cursors c.args.self.now c.args.key c.args.number c.front.result c.self.view_is c.front.ensures c.requires.at c.requires.below in
     let n = c.invariant_holds.ensures in
-    let set = c.set.ensures.there (ap is_some r.at) in
+    let set = rw (c.replace.ensures.value ∙ r.at) at c.replace.ensures.some in
     same_sound _ _ _ _ c.in-Ok.ensures.ok set
     (sound_read c.self.inside.queue c.self.inside.cursors c.args.key c.args.number (c.args.number - c.front.result) c.self.invariant r (record { lengths = n.lengths; owed = n.owed }))
 
 pub invariant_of-self-in-Err : goal.invariant_of-self-in-Err
 invariant_of-self-in-Err g c =
-    same_sound _ _ _ _ c.in-Err.ensures.err (back g (goal.at.invariant_of-self-in-Err g c).After-set-in-Err) c.self.invariant
+    same_sound _ _ _ _ c.in-Err.ensures.err (back g (goal.at.invariant_of-self-in-Err g c).After-replace-in-Err) c.self.invariant
 
 pub returns-in-Ok-clause-given : goal.returns-in-Ok-clause-given
 returns-in-Ok-clause-given g c =
@@ -66,9 +66,9 @@ returns-in-Ok-clause-ok g c =
     let r = is_reading c.self.inside.queue c.self.inside.cursors c.args.self.now c.args.key c.args.number c.front.result c.self.view_is c.front.ensures c.requires.at c.requires.below in
     let n = c.invariant_holds.ensures in
     let m = c.invariant_holds-in-Ok.ensures in
-    let set = c.set.ensures.there (ap is_some r.at) in
+    let set = rw (c.replace.ensures.value ∙ r.at) at c.replace.ensures.some in
     let after = subst IsCounted c.in-Ok.ensures.ok (record { lengths = m.lengths; owed = m.owed }) in
-    same_store c.read.new.queue (read_at (c.args.number - c.front.result) c.self.inside.queue) c.set.new.self (insert c.self.inside.cursors c.args.key (c.args.number + 1)) c.in-Ok.ensures.ok set
+    same_store c.read.new.self (read_at (c.args.number - c.front.result) c.self.inside.queue) c.replace.new.self (insert c.self.inside.cursors c.args.key (c.args.number + 1)) c.in-Ok.ensures.ok set
     ∙ store_read c.self.inside.queue c.self.inside.cursors c.args.key c.args.number (c.args.number - c.front.result) c.self.invariant r (record { lengths = n.lengths; owed = n.owed }) after
     ∙ ap (λ (s : Stored g.row.T.Denot). with_cursors s (insert s.cursors c.args.key (c.args.number + 1))) c.self.view_is
 
@@ -80,6 +80,6 @@ returns-in-Err-clause-owed g c =
 
 pub returns-in-Err-clause-err : goal.returns-in-Err-clause-err
 returns-in-Err-clause-err g c =
-    same_store c.read.new.queue c.self.inside.queue c.set-in-Err.new.self c.self.inside.cursors c.in-Err.ensures.err
-    (back g (goal.at.returns-in-Err-clause-err g c).After-set-in-Err)
+    same_store c.read.new.self c.self.inside.queue c.replace-in-Err.new.self c.self.inside.cursors c.in-Err.ensures.err
+    (back g (goal.at.returns-in-Err-clause-err g c).After-replace-in-Err)
     ∙ c.self.view_is

@@ -29,7 +29,7 @@ pub invariant_of-self-2 : goal.invariant_of-self-2
 invariant_of-self-2 g c =
     let at = sym c.in-Some.ensures.value in
     let index = c.saturating_sub-index.ensures ∙ ap (λ x. c.in-Some.cursor - x) c.front.ensures in
-    same_sound _ _ _ _ (c.leave.ensures ∙ ap (λ x. without_reader x c.self.inside.queue) index) c.remove.ensures.rest
+    same_sound _ _ _ _ (c.leave.ensures.left ∙ ap (λ x. without_reader x c.self.inside.queue) index) c.remove.ensures.rest
     (sound_left c.self.inside.queue c.self.inside.cursors c.args.key c.in-Some.cursor c.self.invariant c.invariant_holds.ensures.lengths at)
 
 pub returns-clause-rest : goal.returns-clause-rest
@@ -37,9 +37,9 @@ returns-clause-rest g c =
     let q = c.self.inside.queue in
     let at = sym c.in-Some.ensures.value in
     let index = c.saturating_sub-index.ensures ∙ ap (λ x. c.in-Some.cursor - x) c.front.ensures in
-    let is : c.leave.new.queue ≡ without_reader (c.in-Some.cursor - c.self.inside.queue.front) c.self.inside.queue = c.leave.ensures ∙ ap (λ x. without_reader x c.self.inside.queue) index in
+    let is : c.leave.new.self ≡ without_reader (c.in-Some.cursor - c.self.inside.queue.front) c.self.inside.queue = c.leave.ensures.left ∙ ap (λ x. without_reader x c.self.inside.queue) index in
     let n = c.invariant_holds-2.ensures in
     let after = subst IsCounted is (record { lengths = n.lengths; owed = n.owed }) in
-    same_store c.leave.new.queue (without_reader (c.in-Some.cursor - c.self.inside.queue.front) c.self.inside.queue) c.remove.new.self (remove c.self.inside.cursors c.args.key) is c.remove.ensures.rest
+    same_store c.leave.new.self (without_reader (c.in-Some.cursor - c.self.inside.queue.front) c.self.inside.queue) c.remove.new.self (remove c.self.inside.cursors c.args.key) is c.remove.ensures.rest
     ∙ store_left c.self.inside.queue c.self.inside.cursors c.args.key c.in-Some.cursor c.self.invariant c.invariant_holds.ensures.lengths at after
     ∙ ap (λ (s : Stored g.row.T.Denot). with_cursors s (remove s.cursors c.args.key)) c.self.view_is

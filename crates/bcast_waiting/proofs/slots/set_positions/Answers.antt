@@ -1,8 +1,7 @@
 -- Each id in a slot has an entry of its own.
 use Rattle.std.proofs.Common.{◌≡◌, ℕ, ◌+◌, ◌<◌, List, Option, None, Some, length, get_or, set, sym, ap, ◌∙◌, subst, arith}
 use Rattle.std.proofs.lemmas.List.{get_or-map}
-use Rattle.bcast_waiting.specs.Listener.{slot_id, ids_in}
-use Rattle.bcast_waiting.specs.Number.{IsAt}
+use Rattle.bcast_waiting.specs.Words.{slot_id, ids_in, IsAt}
 use Rattle.bcast_waiting.specs.declared.slots.Listener.{Listener}
 use Rattle.bcast_waiting.proofs.Indexing.{in_slot, entries_more, entries_same}
 use Rattle.bcast_waiting.proofs.slots.set_positions.Goals as goal

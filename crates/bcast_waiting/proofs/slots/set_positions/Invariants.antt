@@ -1,7 +1,6 @@
 -- The ids in the slots so far have their entries.
 use Rattle.std.proofs.Common.{◌≡◌, ℕ, ◌<◌, Some, None, get_or}
-use Rattle.bcast_waiting.specs.Listener.{ids_in}
-use Rattle.bcast_waiting.specs.Number.{IsAt}
+use Rattle.bcast_waiting.specs.Words.{ids_in, IsAt}
 use Rattle.bcast_waiting.proofs.slots.set_positions.Given as goal
 
 abbrev pub invariant-loop-position : goal.invariant-loop-position

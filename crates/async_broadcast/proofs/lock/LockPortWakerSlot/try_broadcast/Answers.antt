@@ -6,3 +6,8 @@ use Rattle.async_broadcast.proofs.lock.LockPortWakerSlot.try_broadcast.Goals as 
 
 pub returns : goal.returns
 returns g c = possible {is_clone = g.T.Clone.is_clone} refl (answers_any c.try_broadcast-sent.ensures)
+
+pub invariant_of-locked : goal.invariant_of-locked
+invariant_of-locked g c =
+    let noted = c.note-woken.ensures in
+    record { knows = noted.knows; sends = noted.sends; receives = noted.receives }

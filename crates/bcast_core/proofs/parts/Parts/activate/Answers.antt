@@ -1,10 +1,6 @@
 use Rattle.std.proofs.Common.{◌-◌, inl, inr, not, Some, Err, refl, sym, ap, ◌∙◌}
 use Rattle.bcast_model.specs.declared.run.Reply.TheVariants as reply
-use Rattle.bcast_model.specs.Control.{with_cursor}
-use Rattle.bcast_model.specs.Handles.{activate}
-use Rattle.bcast_model.specs.View.{View}
-use Rattle.bcast_model.specs.Effect.{sets}
-use Rattle.bcast_model.specs.Steps.{settle}
+use Rattle.bcast_model.specs.Words.{with_cursor, activate, View, sets, settle}
 use Rattle.bcast_core.proofs.Does.{does_nothing}
 use Rattle.bcast_core.proofs.Making.{none_left, some_left}
 use Rattle.bcast_core.proofs.parts.Parts.activate.Goals as goal

@@ -1,8 +1,6 @@
 use Rattle.std.proofs.Common.{◌+◌, ◌||◌, not, cond, refl, sym, ap, ◌∙◌}
 use Rattle.bcast_model.specs.declared.run.Reply.TheVariants as reply
-use Rattle.bcast_model.specs.Handles.{has_next}
-use Rattle.bcast_model.specs.Legal.{count_reply}
-use Rattle.bcast_model.specs.Effect.{sets}
+use Rattle.bcast_model.specs.Words.{has_next, count_reply, sets}
 use Rattle.bcast_core.proofs.Does.{does_sets, does_nothing}
 use Rattle.bcast_core.proofs.Making.{none_left, some_left, at_most, below_most}
 use Rattle.bcast_core.proofs.parts.Parts.clone_inactive.Goals as goal

@@ -1,9 +1,6 @@
 use Rattle.std.proofs.Common.{inl, inr, Some, None, is_some, refl, sym, ap, ◌∙◌}
 use Rattle.bcast_model.specs.declared.run.Reply.TheVariants as reply
-use Rattle.bcast_model.specs.Handles.{clone_receiver}
-use Rattle.bcast_model.specs.Next.{chosen_id}
-use Rattle.bcast_model.specs.Effect.{sets}
-use Rattle.bcast_model.specs.Control.{cursor_of}
+use Rattle.bcast_model.specs.Words.{clone_receiver, chosen_id, sets, cursor_of}
 use Rattle.bcast_core.proofs.Does.{does_nothing}
 use Rattle.bcast_core.proofs.Making.{not_some, is_made, made_effect, made_fits}
 use Rattle.bcast_core.proofs.parts.Parts.clone_receiver.Goals as goal

@@ -1,8 +1,6 @@
 use Rattle.std.proofs.Common.{is_some, refl, sym, ap, ◌∙◌}
 use Rattle.bcast_model.specs.declared.run.Reply.TheVariants as reply
-use Rattle.bcast_model.specs.Handles.{deactivate}
-use Rattle.bcast_model.specs.Legal.{count_reply}
-use Rattle.bcast_model.specs.Effect.{sets}
+use Rattle.bcast_model.specs.Words.{deactivate, count_reply, sets}
 use Rattle.bcast_core.proofs.Does.{does_nothing}
 use Rattle.bcast_core.proofs.Making.{not_some, at_most}
 use Rattle.bcast_core.proofs.parts.Parts.deactivate.Goals as goal

@@ -1,6 +1,5 @@
 use Rattle.std.proofs.Common.{refl, sym, ap, ◌∙◌}
-use Rattle.bcast_model.specs.Handles.{drop_receiver}
-use Rattle.bcast_model.specs.Effect.{sets}
+use Rattle.bcast_model.specs.Words.{drop_receiver, sets}
 use Rattle.bcast_core.proofs.Does.{does_nothing}
 use Rattle.bcast_core.proofs.Making.{is_gone}
 use Rattle.bcast_core.proofs.parts.Parts.drop_receiver.Goals as goal

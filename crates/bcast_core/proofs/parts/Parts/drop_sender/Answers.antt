@@ -1,7 +1,5 @@
 use Rattle.std.proofs.Common.{◌-◌, cond, refl, ap, ◌∙◌, arith}
-use Rattle.bcast_model.specs.Control.{close_if_deserted}
-use Rattle.bcast_model.specs.View.{View}
-use Rattle.bcast_model.specs.Effect.{sets}
+use Rattle.bcast_model.specs.Words.{close_if_deserted, View, sets}
 use Rattle.bcast_core.proofs.Settle.{low_close_if_deserted}
 use Rattle.bcast_core.proofs.Does.{does_sets, does_nothing}
 use Rattle.bcast_core.proofs.Making.{none_left, some_left}

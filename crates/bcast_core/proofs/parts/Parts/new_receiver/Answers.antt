@@ -1,7 +1,6 @@
 use Rattle.std.proofs.Common.{Ok, refl, sym, ap}
 use Rattle.bcast_model.specs.declared.run.Reply.TheVariants as reply
-use Rattle.bcast_model.specs.Handles.{new_receiver}
-use Rattle.bcast_model.specs.Next.{chosen_id}
+use Rattle.bcast_model.specs.Words.{new_receiver, chosen_id}
 use Rattle.bcast_core.proofs.Making.{is_made, made_effect, made_fits}
 use Rattle.bcast_core.proofs.parts.Parts.new_receiver.Goals as goal
 

@@ -1,8 +1,7 @@
 use Rattle.std.proofs.Common.{length, refl, sym, ap, ◌∙◌}
 use Rattle.bcast_model.specs.declared.error.TrySendError.TheVariants as unsent
-use Rattle.bcast_model.specs.SendAll.{free_room}
+use Rattle.bcast_model.specs.Words.{free_room, View}
 use Rattle.bcast_core.proofs.Offers.{fits_room, exceeds_room, not_zero, offer_all_accepted, offer_all_nothing, offer_all_refused}
-use Rattle.bcast_model.specs.View.{View}
 use Rattle.bcast_core.proofs.Tail.{no_news, some_news}
 use Rattle.bcast_core.proofs.parts.Parts.offer_all.Goals as goal
 

@@ -1,7 +1,7 @@
-use Rattle.std.proofs.Common.{Result, Ok, Err, OnErr, ap, sym, subst, ◌∙◌, is_some}
+use Rattle.std.proofs.Common.{Result, Ok, Err, OnErr, refl, ap, sym, subst, ◌∙◌, is_some}
 use Rattle.std.specs.FinMap.{get}
 use Rattle.bcast_model.specs.Laws.{IsValidView}
-use Rattle.bcast_core.proofs.ReceivePolls.{poll_alone, poll_found, poll_listens}
+use Rattle.bcast_core.proofs.ReceivePolls.{poll_nobody, poll_found, poll_listens}
 use Rattle.bcast_core.proofs.Receives.{empty_exactly, empty_there, settle_empty}
 use Rattle.bcast_core.proofs.parts.Parts.poll.Goals as goal
 
@@ -33,9 +33,12 @@ returns-then-is_empty-clause-ok g c =
 pub returns-then-nobody_waits-clause-ok : goal.returns-then-nobody_waits-clause-ok
 returns-then-nobody_waits-clause-ok g c =
     let found = sym (empty_exactly _ _ c.in-Ok.ensures.reply) ∙ sym c.is_empty.ensures ∙ c.if-is_empty.false in
-    poll_alone c.args.self.now c.look.new.self (c.args.key, c.args.kind) c.args.at (c.nobody_waits.ensures c.if-nobody_waits.true) found c.in-Ok.ensures.ok
+    poll_nobody c.args.self.now c.look.new.self (c.args.key, c.args.kind) c.args.at (c.nobody_waits.ensures c.if-nobody_waits.true) found c.in-Ok.ensures.ok
 
 pub returns-clause-ok : goal.returns-clause-ok
 returns-clause-ok g c =
     let found = sym (empty_exactly _ _ c.in-Ok.ensures.reply) ∙ sym c.is_empty.ensures ∙ c.if-is_empty.false in
     poll_found c.args.self.now c.look.new.self c.tell_of_receive.new.self (c.args.key, c.args.kind) c.args.at found c.in-Ok.ensures.ok c.tell_of_receive.ensures
+
+pub returns-then-nobody_waits-clause-idle : goal.returns-then-nobody_waits-clause-idle
+returns-then-nobody_waits-clause-idle g c = λ _. refl

@@ -1,6 +1,6 @@
 use Rattle.std.proofs.Common.{sym, ap, ◌∙◌}
 use Rattle.bcast_core.specs.Telling.{is_accepted, tell_news}
-use Rattle.bcast_core.proofs.SendPolls.{attempt_stays, poll_alone, poll_answered, poll_unplaced, poll_waits}
+use Rattle.bcast_core.proofs.SendPolls.{attempt_stays, poll_nobody, poll_answered, poll_unplaced, poll_waits}
 use Rattle.bcast_core.proofs.parts.Parts.poll_send.Goals as goal
 
 pub returns-then-not-has_place-clause-effect : goal.returns-then-not-has_place-clause-effect
@@ -9,7 +9,7 @@ returns-then-not-has_place-clause-effect g c =
 
 pub returns-then-nobody_waits-clause-effect : goal.returns-then-nobody_waits-clause-effect
 returns-then-nobody_waits-clause-effect g c =
-    poll_alone c.args.self.now c.attempt.new.self c.place_answered.new.self c.args.place c.args.msg c.in-Ready.answer (is_accepted c.attempt.result) (sym c.has_place.ensures ∙ c.if-not-has_place.false) (sym c.attempt.ensures.reply ∙ c.in-Ready.is)
+    poll_nobody c.args.self.now c.attempt.new.self c.place_answered.new.self c.args.place c.args.msg c.in-Ready.answer (is_accepted c.attempt.result) (sym c.has_place.ensures ∙ c.if-not-has_place.false) (sym c.attempt.ensures.reply ∙ c.in-Ready.is)
     (c.nobody_waits.ensures c.if-nobody_waits.true) c.attempt.ensures.effect c.place_answered.ensures
 
 pub returns-else-nobody_waits-clause-effect : goal.returns-else-nobody_waits-clause-effect

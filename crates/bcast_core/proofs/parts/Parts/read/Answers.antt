@@ -1,7 +1,5 @@
 use Rattle.std.proofs.Common.{◌+◌, ap, ◌∙◌, is_some}
-use Rattle.bcast_model.specs.Effect.{sets}
-use Rattle.bcast_model.specs.Steps.{settle}
-use Rattle.bcast_model.specs.View.{View}
+use Rattle.bcast_model.specs.Words.{sets, settle, View}
 use Rattle.std.specs.FinMap.{get, insert}
 use Rattle.std.proofs.lemmas.Result.{on_ok_weaker}
 use Rattle.bcast_core.proofs.Views.{view-with_cursors}

@@ -1,7 +1,6 @@
 use Rattle.std.proofs.Common.{cond, is_some, sym, ap, ◌∙◌, subst}
 use Rattle.std.specs.FinMap.{get, remove}
-use Rattle.bcast_model.specs.Effect.{sets}
-use Rattle.bcast_model.specs.Steps.{settle}
+use Rattle.bcast_model.specs.Words.{sets, settle}
 use Rattle.bcast_store.specs.Stored.{Stored, with_cursors}
 use Rattle.bcast_core.specs.Parts.{HaveRoom}
 use Rattle.bcast_core.proofs.Views.{view-with_cursors}

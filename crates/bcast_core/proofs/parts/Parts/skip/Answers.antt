@@ -1,6 +1,5 @@
 use Rattle.std.proofs.Common.{sym, ap, ◌∙◌, subst, arith, is_some}
-use Rattle.bcast_model.specs.Control.{with_cursor}
-use Rattle.bcast_model.specs.View.{View}
+use Rattle.bcast_model.specs.Words.{with_cursor, View}
 use Rattle.bcast_core.specs.Parts.{HaveRoom, control_of, seen_of}
 use Rattle.bcast_core.proofs.Settle.{settle_stays, low_inserted}
 use Rattle.std.specs.FinMap.{get}

@@ -1,6 +1,4 @@
-use Rattle.bcast_model.proofs.Answers.{shown_after}
-use Rattle.bcast_core.proofs.Does.{valid_shown}
-use Rattle.bcast_core.proofs.Tail.{ends}
+use Rattle.bcast_core.proofs.Tail.{ends, shown_after, valid_shown}
 use Rattle.bcast_core.proofs.state.Inner.activate_cloned.Goals as goal
 
 pub activate_cloned-made-requires : goal.activate_cloned-made-requires

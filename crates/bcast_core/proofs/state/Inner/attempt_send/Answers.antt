@@ -2,9 +2,7 @@ use Rattle.std.proofs.Common.{true, ap, ◌∙◌}
 use Rattle.bcast_model.specs.Next.{tell_if_ready}
 use Rattle.bcast_core.specs.Telling.{tell_news}
 use Rattle.bcast_model.specs.declared.run.Reply.TheVariants as reply
-use Rattle.bcast_model.proofs.Answers.{shown_after}
-use Rattle.bcast_core.proofs.Does.{valid_shown}
-use Rattle.bcast_core.proofs.Tail.{ends}
+use Rattle.bcast_core.proofs.Tail.{ends, shown_after, valid_shown}
 use Rattle.bcast_core.proofs.state.Inner.attempt_send.Goals as goal
 
 pub attempt-sent-requires : goal.attempt-sent-requires

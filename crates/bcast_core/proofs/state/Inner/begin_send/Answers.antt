@@ -1,6 +1,4 @@
-use Rattle.bcast_model.proofs.Answers.{shown_after}
-use Rattle.bcast_core.proofs.Does.{valid_shown, does_begin}
-use Rattle.bcast_core.proofs.Tail.{ends}
+use Rattle.bcast_core.proofs.Tail.{does_begin, ends, shown_after, valid_shown}
 use Rattle.bcast_core.proofs.state.Inner.begin_send.Goals as goal
 
 pub returns : goal.returns

@@ -1,10 +1,8 @@
 use Rattle.std.proofs.Common.{not, refl, ap}
 use Rattle.bcast_model.specs.declared.run.Reply.TheVariants as reply
 use Rattle.bcast_model.specs.Control.{close}
-use Rattle.bcast_model.proofs.Answers.{shown_after}
 use Rattle.bcast_core.proofs.Settle.{low_close}
-use Rattle.bcast_core.proofs.Does.{valid_shown, does_sets}
-use Rattle.bcast_core.proofs.Tail.{ends}
+use Rattle.bcast_core.proofs.Tail.{does_sets, ends, shown_after, valid_shown}
 use Rattle.bcast_core.proofs.state.Inner.close.Goals as goal
 
 pub returns : goal.returns

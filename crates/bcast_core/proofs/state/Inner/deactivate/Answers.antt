@@ -1,6 +1,4 @@
-use Rattle.bcast_model.proofs.Answers.{shown_after}
-use Rattle.bcast_core.proofs.Does.{valid_shown}
-use Rattle.bcast_core.proofs.Tail.{ends}
+use Rattle.bcast_core.proofs.Tail.{ends, shown_after, valid_shown}
 use Rattle.bcast_core.proofs.state.Inner.deactivate.Goals as goal
 
 pub deactivate-made-requires : goal.deactivate-made-requires

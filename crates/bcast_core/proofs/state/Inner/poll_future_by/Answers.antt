@@ -2,12 +2,10 @@ use Rattle.std.proofs.Common.{refl, sym, ◌∙◌, subst}
 use Rattle.bcast_model.specs.declared.listener.Kind.TheVariants as kind
 use Rattle.bcast_model.specs.declared.run.Call.TheVariants as call
 use Rattle.bcast_model.specs.declared.run.Reply.TheVariants as reply
-use Rattle.bcast_model.specs.Receiving.{future_reply}
-use Rattle.bcast_model.specs.Control.{cursor_of}
-use Rattle.bcast_model.specs.Answers.{IsShown}
-use Rattle.bcast_model.proofs.Answers.{answers_as, shown_after}
-use Rattle.bcast_core.proofs.Does.{valid_shown}
-use Rattle.bcast_core.proofs.ReceivePolls.{future_waits, steps_polled, waits_same}
+use Rattle.bcast_model.specs.Words.{future_reply, cursor_of, IsShown}
+use Rattle.bcast_model.proofs.Polls.{future_waits}
+use Rattle.bcast_core.proofs.Tail.{answers_as, shown_after, valid_shown}
+use Rattle.bcast_core.proofs.ReceivePolls.{steps_polled, waits_same}
 use Rattle.bcast_core.proofs.state.Inner.poll_future_by.Goals as goal
 
 pub poll-requires-clause-valid : goal.poll-requires-clause-valid

@@ -1,7 +1,5 @@
 use Rattle.std.proofs.Common.{refl}
-use Rattle.bcast_model.proofs.Answers.{shown_after}
-use Rattle.bcast_core.proofs.Does.{valid_shown, does_sets}
-use Rattle.bcast_core.proofs.Tail.{ends}
+use Rattle.bcast_core.proofs.Tail.{does_sets, ends, shown_after, valid_shown}
 use Rattle.bcast_core.proofs.state.Inner.set_await_active.Goals as goal
 
 pub returns : goal.returns

@@ -1,6 +1,4 @@
-use Rattle.bcast_model.proofs.Answers.{shown_after}
-use Rattle.bcast_core.proofs.Does.{valid_shown, does_resize}
-use Rattle.bcast_core.proofs.Tail.{ends}
+use Rattle.bcast_core.proofs.Tail.{does_resize, ends, shown_after, valid_shown}
 use Rattle.bcast_core.proofs.state.Inner.set_capacity.Goals as goal
 
 pub set_capacity-set-requires-clause-valid : goal.set_capacity-set-requires-clause-valid

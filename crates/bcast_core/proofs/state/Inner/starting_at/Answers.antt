@@ -4,7 +4,6 @@ use Rattle.std.specs.FinMap.{empty, insert}
 use Rattle.bcast_model.specs.History.{opening}
 use Rattle.bcast_model.proofs.Opening.{opening_valid}
 use Rattle.bcast_store.specs.Stored.{Stored}
-use Rattle.bcast_waiting.specs.Lists.{Receives}
 use Rattle.bcast_core.specs.Parts.{HaveRoom}
 use Rattle.bcast_core.proofs.Opened.{opened}
 use Rattle.bcast_core.proofs.Rooms.{room_empty, room_inserted}
@@ -24,7 +23,7 @@ pub returns-clause-opened : goal.returns-clause-opened
 returns-clause-opened g c =
     c.new-parts.ensures
     ∙ opened c.add.new.self c.reserve_for.new.self c.args.first c.in_ok-key.key c.args.cap c.requires.capacity c.ranges.cap.fits c.requires.number (store_is g (goal.at.returns-clause-opened g c).In_ok-reserve_for)
-    (ap (λ (r : Receives). r.waiting) c.reserve_for.ensures.same ∙ c.new-receives.ensures)
+    (c.reserve_for.ensures.listeners ∙ c.new-receives.ensures)
 
 pub returns-clause-valid : goal.returns-clause-valid
 returns-clause-valid g c = opening_valid c.args.cap c.args.first c.in_ok-key.key c.requires.capacity c.ranges.cap.fits c.requires.number

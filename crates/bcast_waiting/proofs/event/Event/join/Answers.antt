@@ -1,9 +1,7 @@
 -- Who joins was not listed.
 use Rattle.std.proofs.Common.{◌≡◌, ◌<◌, ◌+◌, false, [], ◌∷◌, ◌++◌, ap, sym, ◌∙◌, subst, arith}
 use Rattle.bcast_model.specs.Listeners.{is_in, join}
-use Rattle.bcast_waiting.specs.Event.{Event}
-use Rattle.bcast_waiting.specs.Slots.{listed}
-use Rattle.bcast_waiting.specs.EventInvariant.{IsKept}
+use Rattle.bcast_waiting.specs.Words.{Event, listed, IsKept}
 use Rattle.bcast_waiting.proofs.InSlots.{listed_push}
 use Rattle.bcast_waiting.proofs.EventInvariant.{IsKept-tidied, IsKept-join, finds_room}
 use Rattle.bcast_waiting.proofs.event.Event.join.Goals as goal

@@ -1,8 +1,7 @@
 -- The slot of the listener is left.
 use Rattle.std.proofs.Common.{◌≡◌, ◌<◌, ◌≤◌, ◌-◌, true, false, cond, Some, ltb, sym, ap, ◌∙◌, subst, arith}
 use Rattle.bcast_model.specs.Listeners.{is_in, consume}
-use Rattle.bcast_waiting.specs.Event.{Event, is_told}
-use Rattle.bcast_waiting.specs.EventInvariant.{listeners_of, IsKept}
+use Rattle.bcast_waiting.specs.Words.{Event, is_told, listeners_of, IsKept}
 use Rattle.bcast_waiting.proofs.Listeners.{is_told_absent, consume_absent}
 use Rattle.bcast_waiting.proofs.EventInvariant.{first_at, told_before, is_told_at, taken, IsKept-left}
 use Rattle.bcast_waiting.proofs.event.Event.take.Goals as goal

@@ -1,8 +1,7 @@
 -- Who waits again keeps the position if it is not told, and joins last if it is told or not listed.
 use Rattle.std.proofs.Common.{◌≡◌, true, false, cond, Result, Ok, Err, OnOk, sym, ap, ◌∙◌, subst}
 use Rattle.bcast_model.specs.Listeners.{is_in, untold_ids, join, consume}
-use Rattle.bcast_waiting.specs.Event.{Event}
-use Rattle.bcast_waiting.specs.EventInvariant.{listeners_of}
+use Rattle.bcast_waiting.specs.Words.{Event, listeners_of}
 use Rattle.bcast_waiting.proofs.Taken.{absent_without}
 use Rattle.bcast_waiting.proofs.Listed.{absent_drop}
 use Rattle.bcast_waiting.proofs.Listeners.{consume_absent}

@@ -5,8 +5,7 @@ use Rattle.std.proofs.lemmas.List.{with_items_is}
 use Rattle.std.specs.List.{AllByRecursion}
 use Rattle.std.proofs.lemmas.Fn.{filter_same}
 use Rattle.bcast_model.specs.Listeners.{IsDistinct}
-use Rattle.bcast_waiting.specs.Slots.{Slots, listed}
-use Rattle.bcast_waiting.specs.Listener.{ids_in}
+use Rattle.bcast_waiting.specs.Words.{Slots, listed, ids_in}
 use Rattle.bcast_waiting.proofs.InSlots.{ids-compacted, listed_full}
 use Rattle.bcast_waiting.proofs.slots.Slots.compact.Goals as goal
 use Rattle.bcast_waiting.proofs.slots.Slots.compact.Goals.{After-retain}

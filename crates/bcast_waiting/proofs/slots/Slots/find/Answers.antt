@@ -2,8 +2,7 @@
 use Rattle.std.proofs.Common.{◌≡◌, ◌<◌, ◌≤◌, false, None, length, get_or, sym, ap, ◌∙◌, subst, arith}
 use Rattle.std.proofs.lemmas.Grind.{get_or_default_zero}
 use Rattle.bcast_model.specs.Listeners.{is_in}
-use Rattle.bcast_waiting.specs.Slots.{listed, has}
-use Rattle.bcast_waiting.specs.Listener.{ids_in}
+use Rattle.bcast_waiting.specs.Words.{listed, has, ids_in}
 use Rattle.bcast_waiting.proofs.Indexing.{absent_beyond, absent_there}
 use Rattle.bcast_waiting.proofs.slots.Slots.find.Goals as goal
 

@@ -2,9 +2,7 @@
 use Rattle.std.proofs.Common.{◌≡◌, ◌<◌, false, Some, [], ◌∷◌, ◌++◌, length, set, sym, ap, ◌∙◌, subst, arith, length-set}
 use Rattle.std.proofs.lemmas.List.{length-map, map-append}
 use Rattle.bcast_model.specs.Listeners.{is_in}
-use Rattle.bcast_waiting.specs.Slots.{listed}
-use Rattle.bcast_waiting.specs.Listener.{slot_id, ids_in}
-use Rattle.bcast_waiting.specs.Number.{IsIndexed}
+use Rattle.bcast_waiting.specs.Words.{listed, slot_id, ids_in, IsIndexed}
 use Rattle.bcast_waiting.proofs.Indexing.{IsIndexed-push}
 use Rattle.bcast_waiting.proofs.slots.Slots.push.Goals as goal
 

@@ -2,9 +2,7 @@
 use Rattle.std.proofs.Common.{None, set, length, sym, ap, ◌∙◌, subst}
 use Rattle.std.proofs.lemmas.List.{map-set}
 use Rattle.std.specs.Vec.{with_item, vec_capacity}
-use Rattle.bcast_waiting.specs.Slots.{Slots}
-use Rattle.bcast_waiting.specs.Listener.{slot_id, ids_in, slots_of}
-use Rattle.bcast_waiting.specs.Number.{IsIndexed, AreKept}
+use Rattle.bcast_waiting.specs.Words.{Slots, slot_id, ids_in, slots_of, IsIndexed, AreKept}
 use Rattle.bcast_waiting.proofs.Indexing.{IsIndexed-left}
 use Rattle.bcast_waiting.proofs.slots.Slots.take_at.Goals as goal
 

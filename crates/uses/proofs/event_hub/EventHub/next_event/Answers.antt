@@ -10,3 +10,10 @@ returns-clause-given g c = rw (c.into_event.ensures, ← c.self.view_is) (given_
 
 pub returns-in_err-try_recv-clause-err : goal.returns-in_err-try_recv-clause-err
 returns-in_err-try_recv-clause-err g c = rw (← c.self.view_is) (on_err c.from_residual.result (receive_refused c.in_err-try_recv.ensures.answers))
+
+pub returns-clause-answers : goal.returns-clause-answers
+returns-clause-answers g c = record {
+  received = c.in_ok-try_recv.field-0;
+  event = c.into_event.ensures;
+  answers = rw (← c.self.view_is) c.in_ok-try_recv.ensures.answers;
+}
