@@ -4,15 +4,13 @@ use Rattle.std.specs.Prelude.{alloc_error}
 use Rattle.std.specs.declared.alloc.AllocError.{AllocError}
 use Rattle.std.specs.FinMap.{len}
 use Rattle.bcast_model.specs.declared.error.TryRecvError.{TryRecvError}
-use Rattle.bcast_model.specs.declared.error.TryRecvError.TheVariants as unread
 use Rattle.bcast_model.specs.declared.run.Call.{Call}
 use Rattle.bcast_model.specs.declared.run.Reply.{Reply}
-use Rattle.bcast_model.specs.declared.run.Reply.TheVariants as reply
 use Rattle.bcast_model.specs.Words.{Pair, same_pair, consume, no_listeners, pair_waits}
 use Rattle.bcast_model.specs.Words.{pair_answered, sets, effect, HasRange, IsValidView, IsReceived}
-use Rattle.bcast_model.specs.Words.{Legal, tell_if_ready, must_wait, IsOwed, future_reply}
-use Rattle.bcast_model.specs.Words.{is_empty_reply, listens, next_reply, receive, receive_poll}
-use Rattle.bcast_model.specs.Words.{stream_reply, try_recv_reply, Steps, settle, View}
+use Rattle.bcast_model.specs.Words.{Legal, tell_if_ready, must_wait, IsOwed}
+use Rattle.bcast_model.specs.Words.{is_empty_reply, listens, receive, receive_poll}
+use Rattle.bcast_model.specs.Words.{try_recv_reply, Steps, settle, View}
 use Rattle.bcast_core.specs.Telling.{NobodyWaits}
 use Rattle.bcast_core.specs.Tries.{finds_nothing}
 use Rattle.bcast_core.proofs.Tail.{told_none, told_last, told_valid, told_waiting}

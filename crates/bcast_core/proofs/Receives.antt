@@ -1,13 +1,12 @@
 -- What a receive that finds nothing does, in what is seen.
-use Rattle.std.proofs.Common.{◌≡◌, ◌⊎◌, inl, inr, ℕ, ◌-◌, ◌<◌, ◌≤◌, Bool, true, false, cond, length, Option, Some, None, Result, Ok, Err, is_some, nat_lt, slice_get, List, refl, sym, ap, ◌∙◌, arith}
+use Rattle.std.proofs.Common.{◌≡◌, ◌⊎◌, inl, inr, ℕ, ◌+◌, ◌-◌, ◌<◌, ◌≤◌, Bool, true, false, cond, length, Option, Some, None, Result, Ok, Err, is_some, nat_lt, slice_get, List, refl, sym, ap, ◌∙◌, arith}
 use Rattle.std.specs.Prelude.{alloc_error}
 use Rattle.std.proofs.lemmas.Grind.{common_steps}
-use Rattle.std.proofs.lemmas.Option.{none-some, slice_get_cases}
+use Rattle.std.proofs.lemmas.Option.{none-some, slice_get_cases, slice_get_past}
 use Rattle.bcast_model.specs.declared.error.TryRecvError.{TryRecvError}
 use Rattle.bcast_model.specs.declared.error.TryRecvError.TheVariants as unread
-use Rattle.bcast_model.specs.declared.run.Reply.{Reply}
 use Rattle.bcast_model.specs.declared.run.Reply.TheVariants as reply
-use Rattle.bcast_model.specs.Words.{Pair, Control, pair_waits, cursor_of, recv_reply, receive}
+use Rattle.bcast_model.specs.Words.{Pair, Control, pair_waits, cursor_of, recv_reply, receive, with_cursor}
 use Rattle.bcast_model.specs.Words.{skipped_to, is_empty_reply, listens, receive_poll}
 use Rattle.bcast_model.specs.Words.{try_recv_reply, IsReceived, View, kept_at, IsValidView, sets}
 use Rattle.bcast_model.specs.Words.{settle}
@@ -19,6 +18,13 @@ receive_at_end : (front end : ℕ) (c : Control) (key : ℕ) (at : Option ℕ) (
 receive_at_end front end c key at cursor is from beyond =
     let a : nat_lt cursor front ≡ false = grind (arith, common_steps, from) in
     let b : nat_lt cursor end ≡ false = grind (arith, common_steps, beyond) in
+    ap (receive front end c key) is ∙ rw (a, b) refl
+
+-- one that finds a message goes on after it
+pub receive_one : (front end : ℕ) (c : Control) (key : ℕ) (at : Option ℕ) (cursor : ℕ) → at ≡ Some cursor → front ≤ cursor → cursor < end → receive front end c key at ≡ with_cursor c key (cursor + 1)
+receive_one front end c key at cursor is from below =
+    let a : nat_lt cursor front ≡ false = grind (arith, common_steps, from) in
+    let b : nat_lt cursor end ≡ true = grind (arith, common_steps, below) in
     ap (receive front end c key) is ∙ rw (a, b) refl
 
 module _ {T : Type 0} where
@@ -34,6 +40,13 @@ module _ {T : Type 0} where
   lagging v at cursor front is same lags =
       let below : nat_lt cursor v.front ≡ true = grind (arith, common_steps, lags, same) in
       ap (try_recv_reply v) is ∙ rw below (ap (λ n. Err (unread.Overflowed (n - cursor))) (sym same))
+
+  -- at the end there is no message
+  pub at_end : (v : View T) (at : Option ℕ) (cursor : ℕ) → IsValidView v → at ≡ Some cursor → v.front ≤ cursor → v.end ≤ cursor → try_recv_reply v at ≡ recv_reply v.control.closed None
+  at_end v at cursor valid is from beyond =
+      let past_front : nat_lt cursor v.front ≡ false = grind (arith, common_steps, from) in
+      let none : kept_at v cursor ≡ None = slice_get_past v.queue (cursor - v.front) (omega (arith, valid.end, beyond)) in
+      ap (try_recv_reply v) is ∙ rw past_front (ap (recv_reply v.control.closed) none)
 
   found_none : (closed : Bool) (o : Option T) → is_empty_reply (recv_reply closed o) ≡ true → o ≡ None
   found_none closed None e = refl
@@ -55,7 +68,7 @@ module _ {T : Type 0} where
   ] refl e
 
   -- the receiver is there
-  is_there : (v : View T) (key : ℕ) (o at : Option ℕ) (cursor : ℕ) → at ≡ Some cursor → (at ≡ o) ⊎ (at ≡ skipped_to v.front o) → is_some o ≡ true
+  pub is_there : (v : View T) (key : ℕ) (o at : Option ℕ) (cursor : ℕ) → at ≡ Some cursor → (at ≡ o) ⊎ (at ≡ skipped_to v.front o) → is_some o ≡ true
   is_there v key None at cursor is (inl e) = absurd (none-some cursor (sym e ∙ is))
   is_there v key None at cursor is (inr e) = absurd (none-some cursor (sym e ∙ is))
   is_there v key (Some c) at cursor is s = refl

@@ -1,14 +1,13 @@
 -- What a poll of a pending send does, in what is seen.
-use Rattle.std.proofs.Common.{◌≡◌, ℕ, Bool, true, false, cond, not, ◌&&◌, ◌||◌, Option, Some, None, Result, Ok, Err, IfOk, OnOk, OnErr, refl, sym, ap, ◌∙◌, subst}
-use Rattle.bcast_model.specs.declared.error.TrySendError.TheVariants as unsent
+use Rattle.std.proofs.Common.{◌≡◌, ℕ, Bool, true, false, cond, not, Some, None, Result, Ok, Err, IfOk, OnOk, OnErr, refl, sym, ap, ◌∙◌, subst}
 use Rattle.bcast_model.specs.declared.run.SendPoll.{SendPoll}
 use Rattle.bcast_model.specs.declared.run.SendPoll.TheVariants as send
 use Rattle.bcast_model.specs.declared.run.Call.TheVariants as call
 use Rattle.bcast_model.specs.declared.run.Reply.TheVariants as reply
-use Rattle.bcast_model.specs.Words.{consume, same_place, has_no_receiver, has_place, place_answered}
+use Rattle.bcast_model.specs.Words.{consume, same_place, has_place, place_answered}
 use Rattle.bcast_model.specs.Words.{place_waits, tell_a_sender, reply_to_attempt, accept_unless}
 use Rattle.bcast_model.specs.Words.{with_place_answered, offer, refusal, attempt_send_reply}
-use Rattle.bcast_model.specs.Words.{poll_send, handed_back, View, is_full, sends_are_ready, Answers}
+use Rattle.bcast_model.specs.Words.{poll_send, handed_back, View, sends_are_ready, Answers}
 use Rattle.bcast_model.specs.Words.{IsShown, IsValidView, NoClone, sets, tell_if_ready, settle}
 use Rattle.bcast_model.specs.Words.{must_wait}
 use Rattle.bcast_model.proofs.Polls.{attempt_waits}

@@ -1,22 +1,20 @@
 -- The last step of a call, which tells those who wait. Answers of state calls take their lemmas
 -- from here.
-use Rattle.std.proofs.Common.{◌≡◌, ℕ, ◌+◌, ◌≤◌, ◌==◌, Bool, true, false, not, cond, ◌&&◌, Option, Some, None, length, min, max, is_ok, refl, sym, ap, ◌∙◌, subst, arith}
+use Rattle.std.proofs.Common.{◌≡◌, ℕ, ◌+◌, ◌≤◌, ◌==◌, Bool, true, false, not, cond, ◌&&◌, length, min, max, refl, sym, ap, ◌∙◌, subst, arith}
 use Rattle.std.proofs.lemmas.Grind.{common_steps}
 use Rattle.std.specs.FinMap.{len}
-use Rattle.bcast_model.specs.declared.error.TrySendError.{TrySendError}
-use Rattle.bcast_model.specs.declared.error.TrySendError.TheVariants as unsent
 use Rattle.bcast_model.specs.declared.run.Call.{Call}
 use Rattle.bcast_model.specs.declared.run.Reply.{Reply}
 use Rattle.bcast_model.specs.Words.{Listeners, no_listeners, tell, tell_all, Pair, Cursors}
 use Rattle.bcast_model.specs.Words.{tell_a_sender, pair_waits, effect, HasRange, IsValidView}
-use Rattle.bcast_model.specs.Words.{may_tell, tell_if_ready, reply_to_attempt, reply_to_try, Steps}
+use Rattle.bcast_model.specs.Words.{may_tell, tell_if_ready, Steps}
 use Rattle.bcast_model.specs.Words.{settle, View, sends_are_ready, Answers, IsShown}
 pub use Rattle.bcast_model.proofs.Answers.{answers_as, shown_after}
 use Rattle.bcast_model.proofs.Calls.{keeps_valid}
 use Rattle.bcast_model.proofs.WaitingSends.{OneIsTold}
 use Rattle.bcast_core.specs.Telling.{NobodyWaits}
 use Rattle.bcast_core.specs.Parts.{Does}
-use Rattle.bcast_core.specs.Telling.{is_accepted, tell_news}
+use Rattle.bcast_core.specs.Telling.{tell_news}
 pub use Rattle.bcast_core.proofs.Does.{valid_shown, does_begin, does_resize, does_sets}
 
 -- where one is told already, telling one changes nothing
@@ -80,14 +78,6 @@ module _ {T : Type 0} where
 
   pub tail_nobody : (news : Bool) (v : View T) → NobodyWaits v.control → tell_if_ready true (tell_news news v) ≡ v
   tail_nobody news v alone = ap (tell_if_ready true) (news_nobody news v alone) ∙ told_none v true alone.sends
-
-  -- an attempt is accepted where the try is
-  pub accepted_same : (await_active : Bool) (back : Option T) (error : Option (TrySendError T)) → is_accepted (reply_to_attempt await_active back error) ≡ is_ok (reply_to_try back error)
-  accepted_same await_active back None = refl
-  accepted_same await_active back (Some (unsent.Closed msg)) = refl
-  accepted_same true back (Some (unsent.Inactive msg)) = refl
-  accepted_same false back (Some (unsent.Inactive msg)) = refl
-  accepted_same await_active back (Some (unsent.Full msg)) = refl
 
 pub same_number : (n : ℕ) → (n == n) ≡ true
 same_number n = grind (arith, common_steps)

@@ -1,6 +1,9 @@
 -- What the calls of a queue make of what is seen of it.
-use Rattle.std.proofs.Common.{◌≡◌, ◌≢◌, ℕ, zero, suc, ◌+◌, ◌-◌, ◌<◌, ◌≤◌, get_or, set, count_by, false, cond, eqb, [], ◌∷◌, drop, length, List, refl, sym, ap, subst, ◌∙◌, arith, add-zero}
+use Rattle.std.proofs.Common.{◌≡◌, ◌≢◌, ℕ, zero, suc, ◌+◌, ◌-◌, ◌<◌, ◌≤◌, get_or, set, count_by, false, cond, eqb, [], ◌∷◌, drop, length, List, map, slice_get, sum, Some, refl, sym, ap, subst, ◌∙◌, arith, add-zero}
 use Rattle.std.proofs.lemmas.List.{length-map}
+use Rattle.std.proofs.lemmas.List.Sums.{sum_by-cons}
+use Rattle.std.proofs.lemmas.Option.{none-some, get_or_from_slice_get, slice_get-map}
+use Rattle.std.specs.Option.{option_map}
 use Rattle.circular_buffer.specs.Buffer.{Buffer}
 use Rattle.bcast_queue.specs.declared.Entry.{Entry}
 use Rattle.bcast_queue.specs.Queue.{one_fewer_from, Queued, queue_with, without, without_reader, read_at}
@@ -18,7 +21,7 @@ fewer_at_end (suc i) [] h = refl
 fewer_at_end (suc i) (n ∷ ns) h = ap (λ ms. n ∷ ms) (fewer_at_end i ns (omega arith))
 
 -- a message that one reader owes is the first
-pub once_is_first : (ns : List ℕ) (i : ℕ) → RisesFrom 1 ns → i < length ns → (0 < i → get_or ns (i - 1) 0 < get_or ns i 0) → get_or ns i 0 ≡ 1 → i ≡ 0
+once_is_first : (ns : List ℕ) (i : ℕ) → RisesFrom 1 ns → i < length ns → (0 < i → get_or ns (i - 1) 0 < get_or ns i 0) → get_or ns i 0 ≡ 1 → i ≡ 0
 once_is_first ns zero rises within before once = refl
 once_is_first ns (suc i) rises within before once =
     let at : suc i - 1 ≡ i = omega arith in
@@ -40,6 +43,35 @@ module _ {X : Type 0} where
         rises = RisesFrom-owed_by behind (counts ring) sound.counted.owed;
         lengths = length-owed_by behind (counts ring) ∙ length-map ring.items next_of ∙ sym (length-map ring.items message_of);
       })
+
+  -- the message of an entry
+  pub message_at : (front behind room : ℕ) (ring : Buffer (Entry X)) (q : Queued X) (i : ℕ) (e : Entry X) → queue_of front ring behind room ≡ q → slice_get ring.items i ≡ Some e → slice_get q.messages i ≡ Some e.message
+  message_at front behind room ring q i e seen is =
+      ap (λ (p : Queued X). slice_get p.messages i) (sym seen) ∙ slice_get-map message_of ring.items i ∙ ap (option_map message_of) is
+
+  -- how many owe the first message, by its entry
+  first_owed : (behind : ℕ) (items : List (Entry X)) (e : Entry X) → slice_get items 0 ≡ Some e → get_or (owed_by behind (map next_of items)) 0 0 ≡ behind + e.next
+  first_owed behind [] e is = absurd (none-some e is)
+  first_owed behind (x ∷ xs) e is = ap (λ (y : Entry X). behind + y.next) (get_or_from_slice_get (x ∷ xs) 0 e e is)
+
+  pub owed_first : (front behind room : ℕ) (ring : Buffer (Entry X)) (q : Queued X) (i : ℕ) (e : Entry X) → queue_of front ring behind room ≡ q → slice_get ring.items i ≡ Some e → i ≡ 0 → get_or q.owed i 0 ≡ behind + e.next
+  owed_first front behind room ring q i e seen is first =
+      ap (λ (p : Queued X). get_or p.owed i 0) (sym seen) ∙ ap (λ j. get_or (owed_by behind (counts ring)) j 0) first
+      ∙ first_owed behind ring.items e (ap (slice_get ring.items) (sym first) ∙ is)
+
+  -- these are no more than all that owe
+  pub first_fits : (behind : ℕ) (items : List (Entry X)) (e : Entry X) → slice_get items 0 ≡ Some e → behind + e.next ≤ behind + sum (map next_of items)
+  first_fits behind [] e is = absurd (none-some e is)
+  first_fits behind (x ∷ xs) e is =
+      let first = ap (λ (y : Entry X). y.next) (get_or_from_slice_get (x ∷ xs) 0 e e is) in
+      omega (arith, first, sum_by-cons (λ n. n) x.next (map next_of xs))
+
+  -- a message that isn't the first is owed by several readers
+  pub owed_more : (q : Queued X) (i : ℕ) → IsQueue q → i < length q.messages → (0 < i → get_or q.owed (i - 1) 0 < get_or q.owed i 0) → (i ≡ 0 → get_or q.owed i 0 ≢ 1) → 1 < get_or q.owed i 0
+  owed_more q i is within before other =
+      let owed = at_least 1 q.owed is.rises i 0 (omega (arith, within, is.lengths)) in
+      let several : get_or q.owed i 0 ≢ 1 = λ once. other (once_is_first q.owed i is.rises (omega (arith, within, is.lengths)) before once) once in
+      grind (arith, owed, several)
 
   without_none : (q : Queued X) (n : ℕ) → n ≡ 0 → without n q ≡ q
   without_none q n is = rw (is, add-zero) refl

@@ -9,27 +9,8 @@ use crate::{Counter, Entry};
 use circular_buffer::HeapCircularBuffer;
 use std::alloc::Allocator;
 
-// Changes the count of an entry, and returns what it is then. This is one step, and the only way
-// to a count but where a message is made.
-#[inline(always)]
-pub(crate) fn change<T, C: Counter>(
-    entry: &mut Entry<T>,
-    more: usize,
-    fewer: usize,
-    steps: &mut C,
-) -> usize
-    requires enough { fewer ≤ entry.old.next }
-    requires fits { entry.old.next + more < 2 ^ 64 }
-    ensures value { result ≡ entry.old.next + more - fewer }
-    ensures entry { entry.new ≡ record entry.old { next = result } }
-    ensures steps { C.total steps.new ≤ C.total steps.old + 1 }
-{
-    entry.next = entry.next + more - fewer;
-    steps.count();
-    entry.next
-}
-
-// The same for the message at `index`.
+// Changes how many read the message at `index` next, and returns how many that are then. This is
+// one step.
 #[inline(always)]
 pub(crate) fn change_at<T, A: Allocator, C: Counter>(
     ring: &mut HeapCircularBuffer<Entry<T>, A>,
@@ -50,25 +31,27 @@ pub(crate) fn change_at<T, A: Allocator, C: Counter>(
     let Some(entry) = ring.get_mut(index) else {
         unreachable!()
     };
-    change(entry, more, fewer, steps)
+    steps.count();
+    entry.next = entry.next + more - fewer;
+    entry.next
 }
 
-// How many read the message at `index` next.
+// How many read the message at `index` next. This is one step.
 #[inline(always)]
 pub(crate) fn count_at<T, A: Allocator, C: Counter>(
-    ring: &mut HeapCircularBuffer<Entry<T>, A>,
+    ring: &HeapCircularBuffer<Entry<T>, A>,
     index: usize,
     steps: &mut C,
 ) -> usize
-    requires within { index < length ring.old.items }
-    requires fits { slice_index (counts ring.old) index < 2 ^ 64 }
-    ensures value { result ≡ slice_index (counts ring.old) index }
-    ensures counts { counts ring.new ≡ counts ring.old }
-    ensures messages { messages ring.new ≡ messages ring.old }
-    ensures capacity { ring.new.capacity ≡ ring.old.capacity }
+    requires within { index < length ring.now.items }
+    ensures value { result ≡ slice_index (counts ring.now) index }
     ensures steps { C.total steps.new ≤ C.total steps.old + 1 }
 {
-    change_at(ring, index, 0, 0, steps)
+    let Some(entry) = ring.get(index) else {
+        unreachable!()
+    };
+    steps.count();
+    entry.next
 }
 
 // Adds a reader of the message at `index` and of those behind it, if there are any.

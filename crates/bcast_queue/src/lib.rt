@@ -7,10 +7,10 @@ ghost use Rattle.std.specs.List.Sorted.{IsNonDecreasing};
 ghost use Rattle.std.specs.Option.{ForSome, option_copied};
 ghost use Rattle.bcast_queue.specs.Queue.{last_item, queue_with, without};
 
-use crate::counts::change;
 use circular_buffer::HeapCircularBuffer;
 use std::alloc::{AllocError, Allocator, Global};
 use std::marker::Model;
+use std::ops::Range;
 pub use steps::{Counter, Steps, Uncounted};
 
 mod counts;
@@ -125,6 +125,16 @@ impl<T, A: Allocator> Queue<T, A> {
         self.front
     }
 
+    /// The numbers of the messages: from that of the first one to that of the next one.
+    ///
+    /// Source: `head_pos` and `head_pos + queue.len()` of async-broadcast.
+    pub fn numbers(&self) -> Range<u64>
+        ensures first { result.start ≡ self.now.front }
+        ensures next { result.end ≡ self.now.front + length self.now.messages }
+    {
+        self.front..self.front + self.ring.len() as u64
+    }
+
     /// How many messages fit.
     ///
     /// Source: `queue.capacity()` of async-broadcast.
@@ -202,14 +212,14 @@ impl<T, A: Allocator> Queue<T, A> {
         ensures none { IfNone result (self.new ≡ self.old) }
         ensures steps { C.total steps.new ≤ C.total steps.old + 1 }
     {
-        let mut entry = self.ring.pop_front()?;
-        let next = change(&mut entry, 0, 0, steps);
+        let entry = self.ring.pop_front()?;
+        steps.count();
         self.front += 1;
         if self.ring.is_empty() {
             self.behind = 0;
             self.total = 0;
         } else {
-            self.behind += next;
+            self.behind += entry.next;
         }
         Some(entry.message)
     }

@@ -5,7 +5,7 @@ ghost use Rattle.std.specs.Option.{ForSome, IsSomeAnd};
 ghost use Rattle.std.specs.Result.{IsOkAnd};
 ghost use Rattle.bcast_queue.specs.Queue.{last_item, with_reader, without_reader, read_at};
 
-use crate::counts::{add_reader, count_at, drop_unowed, take_reader};
+use crate::counts::{add_reader, drop_unowed, take_reader};
 use crate::{Counter, Queue};
 use std::alloc::{AllocError, Allocator};
 
@@ -57,24 +57,6 @@ impl<T: Drop, A: Allocator> Queue<T, A> {
 }
 
 impl<T: Clone, A: Allocator> Queue<T, A> {
-    // Whether one reader alone owes the message at `index`, which some reader reads next.
-    #[inline(always)]
-    fn is_owed_once<C: Counter>(&mut self, index: usize, steps: &mut C) -> bool
-        requires within { index < length self.old.messages }
-        requires owed { 0 < index
-            → slice_index self.old.owed (index - 1) < slice_index self.old.owed index }
-        ensures once { IsTrue result ↔ (slice_index self.old.owed index ≡ 1) }
-        ensures first { IsTrue result → index ≡ 0 }
-        ensures same { self.new ≡ self.old }
-        ensures steps { C.total steps.new ≤ C.total steps.old + 1 }
-    {
-        let next = count_at(&mut self.ring, index, steps);
-        if index > 0 {
-            return false;
-        }
-        self.behind + next == 1
-    }
-
     // Takes a reader away from the message at `index` alone, which has another.
     #[inline(always)]
     fn read_next<C: Counter>(&mut self, index: usize, steps: &mut C)
@@ -122,15 +104,16 @@ impl<T: Clone, A: Allocator> Queue<T, A> {
         ensures refused { OnErr result (1 < slice_index self.old.owed index) }
         ensures steps { C.total steps.new ≤ C.total steps.old + 3 }
     {
-        if self.is_owed_once(index, steps) {
+        let Some(entry) = self.ring.get(index) else {
+            unreachable!()
+        };
+        steps.count();
+        if index == 0 && self.behind + entry.next == 1 {
             let Some(message) = self.pop(steps) else {
                 unreachable!()
             };
             return Ok(message);
         }
-        let Some(entry) = self.ring.get(index) else {
-            unreachable!()
-        };
         let message = entry.message.clone()?;
         self.read_next(index, steps);
         Ok(message)

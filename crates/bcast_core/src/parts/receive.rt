@@ -8,6 +8,7 @@ use bcast_model::listener::Kind;
 use bcast_queue::Counter;
 use bcast_waiting::notice::{MakesNotice, Notice, Refused};
 use std::alloc::{AllocError, Allocator};
+use std::ops::Range;
 
 impl<T: Clone, N: Notice, A: Allocator + Copy> Parts<T, N, A> {
     ghost use Rattle.bcast_model.specs.Words.{IsValidView, IsReceivedBy, receive, receive_poll};
@@ -29,25 +30,6 @@ impl<T: Clone, N: Notice, A: Allocator + Copy> Parts<T, N, A> {
             ≡ settle self.old (sets (with_cursor self.old.control key self.old.front)) }
     {
         self.store.skip(key);
-    }
-
-    // Gives a receiver the message of this number, which is the greater of its cursor and the
-    // front.
-    #[inline(always)]
-    fn read(&mut self, key: usize, number: u64) -> Result<T, AllocError>
-        requires at { IsSomeAnd (cursor_of self.old.control key)
-            (λ cursor. number ≡ max cursor self.old.front) }
-        requires below { number < self.old.end }
-        ensures given { IfOk result (λ given. (kept_at self.old number ≡ Some given)
-            ⊎ (IsOwed self.old key (Some number)
-            × IsSomeAnd (kept_at self.old number) (λ msg. T.is_clone msg given))) }
-        ensures ok { OnOk result (self.new ≡ settle self.old
-            (sets (with_cursor self.old.control key (number + 1)))) }
-        ensures owed { OnErr result (IsOwed self.old key (Some number)) }
-        ensures err { OnErr result (self.new ≡ self.old) }
-        ensures sure { ((msg : T) → T.is_infallible msg) → IsOk result }
-    {
-        self.store.read(key, number)
     }
 
     /// Looks for a message: gives a receiver that of this number, or says why there is none. Each
@@ -79,13 +61,13 @@ impl<T: Clone, N: Notice, A: Allocator + Copy> Parts<T, N, A> {
         let Some(cursor) = at else {
             return Ok(Err(TryRecvError::Closed));
         };
-        let front = self.store.front();
+        let Range { start: front, end } = self.store.numbers();
         if cursor < front {
             self.skip(key);
             return Ok(Err(TryRecvError::Overflowed(front - cursor)));
         }
-        if cursor < self.store.end() {
-            return match self.read(key, cursor) {
+        if cursor < end {
+            return match self.store.read(key, cursor) {
                 Ok(msg) => Ok(Ok(msg)),
                 Err(refused) => Err(refused),
             };

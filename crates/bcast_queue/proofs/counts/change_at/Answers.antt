@@ -10,7 +10,7 @@ use Rattle.bcast_queue.proofs.counts.change_at.Goals as goal
 pub returns-clause-counts : goal.returns-clause-counts
 returns-clause-counts g c =
     let items = c.args.ring.now.items in
-    map-set next_of items c.args.index _ ∙ ap (set (map next_of items) c.args.index) (ap next_of c.change.ensures.entry)
+    map-set next_of items c.args.index _
 
 pub returns-clause-messages : goal.returns-clause-messages
 returns-clause-messages g c =
@@ -18,5 +18,5 @@ returns-clause-messages g c =
     let read : slice_get items c.args.index ≡ Some c.in-Some.entry.now = sym c.get_mut.ensures.value ∙ ap option_copied_mut c.in-Some.is in
     let there = slice_get-map message_of items c.args.index ∙ ap (option_map message_of) read in
     map-set message_of items c.args.index _
-    ∙ ap (set (map message_of items) c.args.index) (ap message_of c.change.ensures.entry ∙ sym (get_or_from_slice_get (map message_of items) c.args.index c.in-Some.entry.now.message c.in-Some.entry.now.message there))
+    ∙ ap (set (map message_of items) c.args.index) (sym (get_or_from_slice_get (map message_of items) c.args.index c.in-Some.entry.now.message c.in-Some.entry.now.message there))
     ∙ set-get_or (map message_of items) c.args.index c.in-Some.entry.now.message

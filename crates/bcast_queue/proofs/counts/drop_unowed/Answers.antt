@@ -1,5 +1,5 @@
 -- Each turn drops the first message, and there are fewer then.
-use Rattle.std.proofs.Common.{◌≡◌, ◌+◌, ◌<◌, length, get_or, drop, sum, sym, ap, ◌∙◌, arith, length-drop}
+use Rattle.std.proofs.Common.{◌≡◌, ◌+◌, ◌<◌, length, drop, sum, sym, ap, ◌∙◌, arith, length-drop}
 use Rattle.std.specs.List.{prefix_len}
 use Rattle.std.proofs.lemmas.List.{length-map, drop-map, drop-drop}
 use Rattle.std.proofs.lemmas.List.Sums.{sum_by-take-drop}
@@ -11,36 +11,32 @@ pub loop-next-preserved : goal.loop-next-preserved
 loop-next-preserved g c =
     let q = c.loop-next.ring in
     let p = c.pop_front.new.self in
-    let t = c.count_at-next.new.ring in
     let inv = c.loop-next.invariant in
     let rest = drop 1 (counts q) in
     let popped : counts p ≡ rest = ap counts c.pop_front.ensures.items ∙ sym (drop-map next_of 1 q.items) in
-    let value : c.count_at-next.result ≡ get_or (counts p) 0 0 = omega (arith, c.count_at-next.ensures.value) in
-    let changed : counts t ≡ counts p = c.count_at-next.ensures.counts in
-    let same : counts t ≡ rest = changed ∙ popped in
-    let kept : messages t ≡ drop 1 (messages q) = c.count_at-next.ensures.messages ∙ ap messages c.pop_front.ensures.items ∙ sym (drop-map message_of 1 q.items) in
+    let kept : messages p ≡ drop 1 (messages q) = ap messages c.pop_front.ensures.items ∙ sym (drop-map message_of 1 q.items) in
     let one : prefix_len nobody (counts q) ≡ 1 + prefix_len nobody rest =
     one_nobody (counts q) (omega (arith, inv.some, length-map q.items next_of)) (sym inv.next ∙ c.loop-next-test.true) in
-    let fewer : length t.items + 1 ≡ length q.items =
-    omega (arith, length-map t.items next_of, ap length same, length-drop 1 (counts q), length-map q.items next_of, inv.some) in
+    let fewer : length p.items + 1 ≡ length q.items =
+    omega (arith, length-map p.items next_of, ap length popped, length-drop 1 (counts q), length-map q.items next_of, inv.some) in
     let left : 0 < length p.items = grind (arith, c.if-is_empty.ensures) in
     record {
-      some = omega (arith, left, ap length changed, length-map t.items next_of, length-map p.items next_of);
-      next = value ∙ ap (λ ns. get_or ns 0 0) (sym changed);
+      some = left;
+      next = omega (arith, c.count_at-next.ensures.value);
       messages_left =
-          ap (λ ns. drop (prefix_len nobody ns) (messages t)) same
+          ap (λ ns. drop (prefix_len nobody ns) (messages p)) popped
           ∙ ap (drop (prefix_len nobody rest)) kept
           ∙ drop-drop (prefix_len nobody rest) 1 (messages q)
           ∙ ap (λ n. drop n (messages q)) (sym one)
           ∙ inv.messages_left;
       counts_left =
-          ap (λ ns. drop (prefix_len nobody ns) ns) same
+          ap (λ ns. drop (prefix_len nobody ns) ns) popped
           ∙ drop-drop (prefix_len nobody rest) 1 (counts q)
           ∙ ap (λ n. drop n (counts q)) (sym one)
           ∙ inv.counts_left;
-      capacity = c.count_at-next.ensures.capacity ∙ ap (λ b. b.capacity) c.pop_front.ensures.items ∙ inv.capacity;
-      front = omega (arith, ap (prefix_len nobody) same, one, inv.front);
+      capacity = ap (λ b. b.capacity) c.pop_front.ensures.items ∙ inv.capacity;
+      front = omega (arith, ap (prefix_len nobody) popped, one, inv.front);
       numbered = omega (arith, fewer, inv.numbered);
-      fits = omega (arith, ap sum same, sum_by-take-drop (λ x. x) (counts q) 1, inv.fits);
+      fits = omega (arith, ap sum popped, sum_by-take-drop (λ x. x) (counts q) 1, inv.fits);
       steps = omega (arith, fewer, inv.steps, c.count_at-next.ensures.steps);
     }

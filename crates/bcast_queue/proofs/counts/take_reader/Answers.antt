@@ -11,8 +11,7 @@ pub returns-then-behind-gt0-clause-owed : goal.returns-then-behind-gt0-clause-ow
 returns-then-behind-gt0-clause-owed g c =
     let ns = counts c.args.ring.now in
     let b = c.args.behind.now in
-    ap (owed_by (b - 1)) c.count_at.ensures.counts
-    ∙ one_fewer b (b - 1) ns (omega (arith, c.if-behind-gt0.true))
+    one_fewer b (b - 1) ns (omega (arith, c.if-behind-gt0.true))
     ∙ ap (λ i. one_fewer_from i (owed_by b ns)) (sym c.if-index-eq0.true)
 
 pub returns-else-index-eq0-clause-owed : goal.returns-else-index-eq0-clause-owed

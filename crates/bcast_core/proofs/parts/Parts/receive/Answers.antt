@@ -1,10 +1,48 @@
-use Rattle.std.proofs.Common.{Ok, inl, sym, ap, ◌∙◌}
-use Rattle.bcast_model.specs.View.{View}
+use Rattle.std.proofs.Common.{◌+◌, ◌<◌, ◌≤◌, None, Ok, inl, sym, ap, ◌∙◌, is_some, arith}
+use Rattle.std.specs.FinMap.{get, insert}
+use Rattle.std.proofs.lemmas.Result.{on_ok_weaker}
+use Rattle.bcast_model.specs.Words.{View, sets, settle, cursor_of, recv_reply}
 use Rattle.bcast_model.specs.declared.run.Reply.TheVariants as reply
-use Rattle.bcast_core.proofs.Receives.{lagging}
+use Rattle.bcast_core.proofs.Receives.{lagging, at_end, is_there, receive_one}
+use Rattle.bcast_core.proofs.Rooms.{room_read}
+use Rattle.bcast_core.proofs.Views.{view-with_cursors}
 use Rattle.bcast_core.proofs.parts.Parts.receive.Goals as goal
+use Rattle.bcast_core.proofs.parts.Parts.receive.Goals.{in-Ok, in-Err, then-self, else-self}
 
 pub returns-then-cursor-front-clause-reply : goal.returns-then-cursor-front-clause-reply
 returns-then-cursor-front-clause-reply g c =
-    let front = c.front-front.ensures ∙ ap (λ (v : View g.row.T.Denot). v.front) c.self.view_is in
-    inl (ap (λ a. reply.TryRecv (Ok a)) (sym (lagging c.args.self.now c.args.at c.in-Some.cursor c.front-front.result c.in-Some.is front c.if-cursor-front.true)))
+    let front = c.numbers-front.ensures.first ∙ ap (λ (v : View g.row.T.Denot). v.front) c.self.view_is in
+    inl (ap (λ a. reply.TryRecv (Ok a)) (sym (lagging c.args.self.now c.args.at c.in-Some.cursor c.numbers-front.result.start c.in-Some.is front c.if-cursor-front.true)))
+
+pub invariant_of-self : goal.invariant_of-self
+invariant_of-self g c =
+    let there = is_there c.args.self.now c.args.key (cursor_of c.args.self.now.control c.args.key) c.args.at c.in-Some.cursor c.in-Some.is c.requires.at in
+    let some = ap (λ (v : View g.row.T.Denot). is_some (get v.control.cursors c.args.key)) c.self.view_is ∙ there in
+    room_read c.read.result c.self.inside.store c.read.new.self c.args.key (c.in-Some.cursor + 1) c.self.inside.receives.room some c.read.ensures.ok c.read.ensures.err c.self.invariant
+
+pub returns-then-cursor-end-clause-ok : goal.returns-then-cursor-end-clause-ok
+returns-then-cursor-end-clause-ok g c =
+    let v = c.args.self.now in
+    let above : v.front ≤ c.in-Some.cursor = omega (arith, c.if-cursor-front.false, c.numbers-front.ensures.first, ap (λ (x : View g.row.T.Denot). x.front) c.self.view_is) in
+    let below : c.in-Some.cursor < v.end = omega (arith, c.if-cursor-end.true, c.numbers-front.ensures.next, ap (λ (x : View g.row.T.Denot). x.end) c.self.view_is) in
+    let ok = on_ok_weaker c.read.result
+    (λ is. view-with_cursors c.self.inside.store c.read.new.self _ c.self.inside.receives _ _ _ _ _ _ (insert c.self.inside.store.cursors c.args.key (c.in-Some.cursor + 1)) v is c.self.view_is
+    ∙ ap (λ m. settle v (sets (record v.control { cursors = insert m c.args.key (c.in-Some.cursor + 1) }))) (ap (λ x. x.control.cursors) c.self.view_is)
+    ∙ ap (λ m. settle v (sets m)) (sym (receive_one v.front v.end v.control c.args.key c.args.at c.in-Some.cursor c.in-Some.is above below)))
+    c.read.ensures.ok in
+    elim c.match-read.branch [
+      | in-Ok w ↦ rw w.result-is (rw w.in-Ok.is at ok)
+      | in-Err w ↦ rw w.result-is tt
+    ]
+
+pub returns-clause-reply : goal.returns-clause-reply
+returns-clause-reply g c =
+    let v = c.args.self.now in
+    let closed = ap (λ (x : View g.row.T.Denot). x.control.closed) c.self.view_is in
+    let front : v.front ≤ c.in-Some.cursor = omega (arith, c.if-cursor-front.false, c.numbers-front.ensures.first, ap (λ (x : View g.row.T.Denot). x.front) c.self.view_is) in
+    let end : v.end ≤ c.in-Some.cursor = omega (arith, c.if-cursor-end.false, c.numbers-front.ensures.next, ap (λ (x : View g.row.T.Denot). x.end) c.self.view_is) in
+    let exact = sym (at_end v c.args.at c.in-Some.cursor c.requires.valid c.in-Some.is front end) in
+    elim c.if-self.branch [
+      | then-self w ↦ inl (ap reply.TryRecv (w.result-is ∙ ap Ok (ap (λ b. recv_reply b None) (sym w.if-self.true ∙ closed) ∙ exact)))
+      | else-self w ↦ inl (ap reply.TryRecv (w.result-is ∙ ap Ok (ap (λ b. recv_reply b None) (sym w.if-self.false ∙ closed) ∙ exact)))
+    ]
