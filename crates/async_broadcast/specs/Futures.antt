@@ -1,5 +1,5 @@
 -- What futures answer, by the replies of a port.
-use Rattle.std.specs.Prelude.{◌≡◌, ℕ, List, Option, Some, None, MatchOption, Result, Ok, Err, IfOk}
+use Rattle.std.specs.Prelude.{◌≡◌, ◌⊎◌, ℕ, List, Option, Some, None, MatchOption, Result, Ok, Err, IfOk, alloc_error}
 use Rattle.std.specs.List.{AllByRecursion}
 use Rattle.std.specs.declared.alloc.AllocError.{AllocError}
 use Rattle.futures.specs.declared.task.Poll.TheVariants as poll
@@ -17,6 +17,13 @@ module _ {T P : Type 0} (gave : P → Call T → Reply T → Type 0) (port : P) 
   abbrev pub BeganSend : Option ℕ → Type 0
   BeganSend at =
       (place : ℕ) × (at ≡ Some place) × gave port call.BeginSend (reply.BeginSend (Ok place))
+
+  -- `broadcast` is refused: the port gave no place, or one that was given up again
+  abbrev pub RefusedSend : Type 0
+  RefusedSend =
+      gave port call.BeginSend (reply.BeginSend (Err alloc_error))
+      ⊎ ((place : ℕ) × gave port call.BeginSend (reply.BeginSend (Ok place))
+      × gave port (call.EndSend place) reply.EndSend)
 
   -- the port gave this reply to the send's own call: of its place, and this message
   abbrev pub Polled : Option ℕ → T → Reply T → Type 0

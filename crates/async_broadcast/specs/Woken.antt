@@ -14,7 +14,7 @@ one_less count = (count + (2 ^ 64 - 1)) % 2 ^ 64
 
 -- no thread waits
 abbrev pub HasNoThread : Threads → Type 0
-HasNoThread t = (t.senders ≡ 0) × (t.idle_receivers ≡ 0) × (t.due_receivers ≡ 0)
+HasNoThread t = (t.senders ≡ 0) × (t.caught_up_receivers ≡ 0) × (t.due_receivers ≡ 0)
 
 -- what changes when a receiver that had read everything has something to receive
 abbrev pub news_of : {T : Type 0} → View T → ℕ × Bool
@@ -22,7 +22,7 @@ news_of v = (v.end, v.control.closed)
 
 -- threads that wait for a message and have nothing to receive know all that was sent
 abbrev pub KnowsNews : {T : Type 0} → View T → Threads → Type 0
-KnowsNews v t = 0 < t.idle_receivers → t.known ≡ news_of v
+KnowsNews v t = 0 < t.caught_up_receivers → t.known ≡ news_of v
 
 -- where sends are ready and a thread waits to send, one was woken that hasn't tried yet
 abbrev pub HasWokenSender : {T : Type 0} → View T → Threads → Type 0
@@ -44,15 +44,22 @@ NotesReceiver old new woken = new.is_receiver_woken ≡ (woken.receiver || old.i
 abbrev pub MovesReceivers : {T : Type 0} → View T → Threads → Threads → Type 0
 MovesReceivers v old new =
     (news_of v ≡ old.known
-    → (new.idle_receivers ≡ old.idle_receivers) × (new.due_receivers ≡ old.due_receivers))
+    → (new.caught_up_receivers ≡ old.caught_up_receivers)
+    × (new.due_receivers ≡ old.due_receivers))
     × ((news_of v ≡ old.known → ⊥)
-    → (new.idle_receivers ≡ 0)
-    × (new.due_receivers ≡ (old.due_receivers + old.idle_receivers) % 2 ^ 64))
+    → (new.caught_up_receivers ≡ 0)
+    × (new.due_receivers ≡ (old.due_receivers + old.caught_up_receivers) % 2 ^ 64))
 
 -- a thread that waited for a message has tried again: it was counted among those that this names
 abbrev pub EndsWait : ℕ × Bool → Threads → Threads → Type 0
 EndsWait known old new =
     (old.known ≡ known
-    → new ≡ record old { idle_receivers = one_less old.idle_receivers; is_receiver_woken = false })
+    → new ≡ record old {
+      caught_up_receivers = one_less old.caught_up_receivers;
+      is_receiver_woken = false;
+    })
     × ((old.known ≡ known → ⊥)
-    → new ≡ record old { due_receivers = one_less old.due_receivers; is_receiver_woken = false })
+    → new ≡ record old {
+      due_receivers = one_less old.due_receivers;
+      is_receiver_woken = false;
+    })

@@ -2,7 +2,7 @@
 ghost use Rattle.std.specs.Prelude.{◌≡◌, ⊤, true, false, Some, None, Ok, Err, IfOk, IfErr, IfSome, IsSome, alloc_error};
 ghost use Rattle.futures.specs.Task.{Covers, Keeps};
 ghost use Rattle.futures.specs.Poll.{IfReady, OnPending};
-ghost use Rattle.async_broadcast.specs.Futures.{BeganSend, GivesSent, MustWait};
+ghost use Rattle.async_broadcast.specs.Futures.{BeganSend, GivesSent, MustWait, RefusedSend};
 
 use crate::asked::{make, polls};
 use crate::port::Ask;
@@ -52,6 +52,7 @@ impl<T: Clone, P: Ask<T, WakerSlot<A>>, A: Allocator + Copy> Sender<T, P, A> {
         ensures made { IfOk result (λ send. (send.value.msg ≡ Some msg)
             × BeganSend P.gave self.now.port send.value.place) }
         ensures back { IfErr result (λ error. error.0 ≡ msg) }
+        ensures refused { IfErr result (λ _. RefusedSend P.gave self.now.port) }
     {
         match self.broadcast_direct(msg) {
             Ok(send) => match Box::new(self.alloc, send) {

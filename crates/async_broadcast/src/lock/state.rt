@@ -1,5 +1,5 @@
 //! What the lock guards: the channel, and the threads that wait for it.
-ghost use Rattle.std.specs.Prelude.{◌≡◌, IfOk};
+ghost use Rattle.std.specs.Prelude.{◌≡◌, false, IfOk};
 ghost use Rattle.bcast_core.specs.Snapshot.{Shows};
 ghost use Rattle.async_broadcast.specs.Snapshots.{ShowsSomeState};
 ghost use Rattle.async_broadcast.specs.Woken.{HasNoThread, KnowsNews, HasWokenSender, HasWokenReceiver};
@@ -24,6 +24,8 @@ impl<T: Clone, A: Allocator + Copy> State<T, A> {
     pub(super) fn new(inner: Inner<T, Wake<WakerSlot<A>>, A>) -> Self
         ensures channel { result.inner ≡ inner }
         ensures threads { HasNoThread result.threads }
+        ensures sender { result.threads.is_sender_woken ≡ false }
+        ensures receiver { result.threads.is_receiver_woken ≡ false }
     {
         State {
             inner,

@@ -18,7 +18,7 @@ pub(super) struct Threads {
     senders: u64,
     is_sender_woken: bool,
     // How many threads wait for a message: those that have nothing to receive, and those that have.
-    idle_receivers: u64,
+    caught_up_receivers: u64,
     due_receivers: u64,
     // What those that have nothing to receive know (`news`).
     known: (u64, bool),
@@ -42,25 +42,17 @@ impl Threads {
         Threads {
             senders: 0,
             is_sender_woken: false,
-            idle_receivers: 0,
+            caught_up_receivers: 0,
             due_receivers: 0,
             known: (0, false),
             is_receiver_woken: false,
         }
     }
 
-    /// Whether no thread waits.
-    #[inline(always)]
-    pub(super) fn is_empty(&self) -> bool
-        ensures { result ≡ true → HasNoThread self.now }
-    {
-        // One test in place of three.
-        (self.senders | self.idle_receivers | self.due_receivers) == 0
-    }
-
     /// Notes whom the last call on the channel has something for, and returns whom to wake of them.
     /// `None`: no thread waits.
     #[inline(always)]
+    #[tactic(auto, using(std::proofs::lemmas::Nat::le_or_l, std::proofs::lemmas::Nat::le_or_r))]
     pub(super) fn note<T: Clone, A: Allocator + Copy>(
         &mut self,
         inner: &Inner<T, Wake<WakerSlot<A>>, A>,
@@ -75,7 +67,8 @@ impl Threads {
         ensures moved { MovesReceivers inner.now self.old self.new }
         ensures senders { self.new.senders ≡ self.old.senders }
     {
-        if self.is_empty() {
+        // One test in place of three.
+        if (self.senders | self.caught_up_receivers | self.due_receivers) == 0 {
             return None;
         }
         Some(self.note_call(inner))
@@ -98,8 +91,8 @@ impl Threads {
         let news = news(inner);
         if news != self.known {
             self.known = news;
-            self.due_receivers = self.due_receivers.wrapping_add(self.idle_receivers);
-            self.idle_receivers = 0;
+            self.due_receivers = self.due_receivers.wrapping_add(self.caught_up_receivers);
+            self.caught_up_receivers = 0;
         }
         let receiver = self.due_receivers > 0 && !self.is_receiver_woken;
         self.is_receiver_woken |= receiver;
@@ -132,12 +125,12 @@ impl Threads {
         inner: &Inner<T, Wake<WakerSlot<A>>, A>,
     ) -> (u64, bool)
         ensures known { result ≡ news_of inner.now }
-        ensures idle { self.new ≡ record self.old {
-          idle_receivers = one_more self.old.idle_receivers;
+        ensures waits { self.new ≡ record self.old {
+          caught_up_receivers = one_more self.old.caught_up_receivers;
           known = news_of inner.now;
         } }
     {
-        self.idle_receivers = self.idle_receivers.wrapping_add(1);
+        self.caught_up_receivers = self.caught_up_receivers.wrapping_add(1);
         self.known = news(inner);
         self.known
     }
@@ -147,7 +140,7 @@ impl Threads {
         ensures { EndsWait known self.old self.new }
     {
         if self.known == known {
-            self.idle_receivers = self.idle_receivers.wrapping_sub(1);
+            self.caught_up_receivers = self.caught_up_receivers.wrapping_sub(1);
         } else {
             self.due_receivers = self.due_receivers.wrapping_sub(1);
         }
