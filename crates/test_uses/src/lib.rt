@@ -1,10 +1,13 @@
-//! Tests of the four uses of a channel, of a text sent to two receivers, and of what a page shows.
+//! Tests of the four uses of a channel, of channels by name, of a text sent to two receivers, and of
+//! what a page shows.
 #![tactic(auto)]
 
 #[cfg(test)]
 mod config_watcher;
 #[cfg(test)]
 mod event_hub;
+#[cfg(test)]
+mod hubs;
 #[cfg(test)]
 mod log_fan_out;
 #[cfg(test)]

@@ -1,5 +1,5 @@
 //! Tables of requests with their answers.
-use crate::asked::{Answered, Asked, Row};
+use super::asked::{Answered, Asked, Row};
 
 /// Each table with its name. A hub begins each without topics.
 pub const TABLES: &[(&str, &[Row])] = &[

@@ -1,6 +1,6 @@
 //! Requests with their answers, asked one by one, and again as one list.
-use crate::asked::{Answered, Row, as_row, list_of, request};
-use crate::tables::TABLES;
+use super::asked::{Answered, Row, as_row, list_of, request};
+use super::tables::TABLES;
 use bcast_core::Reply;
 use std::alloc::{AllocError, Global};
 use std::process::Abort;

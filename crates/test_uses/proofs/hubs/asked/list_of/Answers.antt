@@ -3,7 +3,7 @@ use Rattle.std.proofs.Common.{[], ◌∷◌, subst, sym}
 use Rattle.std.specs.List.{AllByRecursion}
 use Rattle.bcast_model.proofs.Lists.{all_append}
 use Rattle.topics.specs.Request.{OpensPositive}
-use Rattle.test_topics.proofs.asked.list_of.Goals as goal
+use Rattle.test_uses.proofs.hubs.asked.list_of.Goals as goal
 
 pub loop-row-preserved : goal.loop-row-preserved
 loop-row-preserved g c =

@@ -1,5 +1,5 @@
 //! Hubs over heaps of every small size.
-use crate::asked::{Answered, Asked, Row, list_of};
+use super::asked::{Answered, Asked, Row, list_of};
 use bcast_core::Reply;
 use linked_list_allocator::LocalHeap;
 use std::alloc::{AllocError, Allocator};
