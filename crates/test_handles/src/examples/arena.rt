@@ -1,4 +1,4 @@
-//! Of docs/CALLING.md: a channel whose memory is an arena.
+//! Of docs/GUIDE.md: a channel whose memory is an arena.
 use async_broadcast::{Port, Receiver, Sender, WakerSlot, broadcast};
 use linked_list_allocator::LocalHeap;
 use std::alloc::Allocator;

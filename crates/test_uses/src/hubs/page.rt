@@ -1,4 +1,4 @@
-//! What docs/CALLING.md shows of topics.
+//! What docs/GUIDE.md shows of topics.
 use bcast_core::Reply;
 use std::alloc::Global;
 use std::process::Abort;
