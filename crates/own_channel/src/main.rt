@@ -1,4 +1,4 @@
-//! Channels that their program owns, and promises about them: the examples of docs/PROVING.md.
+//! Channels that their program owns, and promises about them: the examples of docs/CONTRACTS.md.
 #![tactic(auto)]
 
 mod closed;
