@@ -1,4 +1,4 @@
-# Draws a table of docs/BENCH.md as bars: each workload's time without a lock and through handles, as
+# Draws a table of docs/FIGURES.md as bars: each workload's time without a lock and through handles, as
 # a part of async-broadcast's. Rows that have no handles are left out.
 function ratio_in(cell) {
     if (!match(cell, /[(][0-9.]+[)]/)) return ""

@@ -1,4 +1,4 @@
-# Makes the table of docs/BENCH.md of the medians that the bench's pairs.py prints: a column for
+# Makes the table of docs/FIGURES.md of the medians that the bench's pairs.py prints: a column for
 # each channel, nanoseconds with the ratio to async-broadcast.
 BEGIN {
     FS = " [|] "
