@@ -1,4 +1,4 @@
-//! What docs/GUIDE.md shows of the four uses. Each function is given its caller new.
+//! The four uses, of which docs/GUIDE.md shows parts. Each function is given its caller new.
 use bcast_core::TrySendError;
 use std::process::Abort;
 use std::test::Fail;
