@@ -7,6 +7,6 @@ pub mod Snapshot
 -- how often a receive poll looks for a message, and when it finds nothing
 pub mod Tries
 -- which calls are those of futures and streams
-pub mod TaskCalls
+pub mod PollCalls
 -- who waits, and who is told of a message that was accepted
 pub mod Telling

@@ -5,10 +5,10 @@
 //! calls and replies of `bcast_model`. Clauses about a channel also name `bcast_model`.
 #![tactic(auto)]
 
+mod calls;
 mod parts;
 mod snapshot;
 mod state;
-mod steps;
 
 pub use bcast_model::error::{
     HandleError, NoMemory, RecvError, SendError, TryRecvError, TrySendError,
@@ -18,6 +18,6 @@ pub use bcast_model::messages::{Messages, in_vec};
 pub use bcast_model::run::{Call, Reply, SendPoll};
 pub use bcast_queue::Steps;
 pub use bcast_waiting::notice::{Given, MakesNotice, Notice, Refused, Silent};
+pub use calls::{Ran, poll, run, step};
 pub use snapshot::{Snapshot, Waiting};
 pub use state::Inner;
-pub use steps::{Ran, poll, run, step};

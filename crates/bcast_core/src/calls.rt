@@ -8,7 +8,7 @@ ghost use Rattle.bcast_model.specs.Words.{AtEachPoint, AreAllExact, WaitsAsItsTr
 ghost use Rattle.bcast_model.specs.Words.{must_wait};
 ghost use Rattle.std.specs.List.Sorted.{IsStrictlyIncreasing};
 ghost use Rattle.bcast_core.specs.InfallibleClones.{is_receive_refused};
-ghost use Rattle.bcast_core.specs.TaskCalls.{is_of_task};
+ghost use Rattle.bcast_core.specs.PollCalls.{is_poll_call};
 
 use crate::state::Inner;
 use bcast_model::run::{Call, Reply};
@@ -63,39 +63,30 @@ pub fn poll<T: Clone, N: Notice, A: Allocator + Copy, M: MakesNotice<N>>(
     ensures same { OnErr result (inner.new ≡ inner.old) }
     ensures refused { OnErr result (M.refused maker.old maker.new) }
 {
-    // The calls of futures and streams are compiled into their callers. All others stand in a
-    // function of their own: a function that has all 37 is too large to be compiled in.
+    // The four polls are compiled into their callers. A function that has all 37 calls is too large
+    // for that.
     match call {
-        Call::BeginSend => Ok(Reply::BeginSend(inner.begin_send())),
-        Call::PollSend(place, msg) => match inner.poll_send_by(place, msg, maker) {
-            Ok(sent) => Ok(Reply::PollSend(sent)),
-            Err(msg) => Err(Call::PollSend(place, msg)),
-        },
-        Call::EndSend(place) => {
-            inner.end_send(place);
-            Ok(Reply::EndSend)
-        }
-        Call::PollFuture(key) => match inner.poll_future_by(key, maker, &mut Uncounted) {
-            Ok(answer) => Ok(Reply::PollFuture(answer)),
-            Err(_) => Err(Call::PollFuture(key)),
-        },
-        Call::EndFuture(key) => {
-            inner.end_future(key);
-            Ok(Reply::EndFuture)
-        }
-        Call::PollRecv(key) => match inner.poll_recv_by(key, maker, &mut Uncounted) {
-            Ok(answer) => Ok(Reply::PollRecv(answer)),
-            Err(_) => Err(Call::PollRecv(key)),
-        },
-        Call::PollNext(key) => match inner.poll_next_by(key, maker, &mut Uncounted) {
-            Ok(answer) => Ok(Reply::PollNext(answer)),
-            Err(_) => Err(Call::PollNext(key)),
-        },
+        Call::PollSend(place, msg) => inner
+            .poll_send_by(place, msg, maker)
+            .map(|sent| Reply::PollSend(sent))
+            .map_err(|msg| Call::PollSend(place, msg)),
+        Call::PollFuture(key) => inner
+            .poll_future_by(key, maker, &mut Uncounted)
+            .map(|answer| Reply::PollFuture(answer))
+            .map_err(|_| Call::PollFuture(key)),
+        Call::PollRecv(key) => inner
+            .poll_recv_by(key, maker, &mut Uncounted)
+            .map(|answer| Reply::PollRecv(answer))
+            .map_err(|_| Call::PollRecv(key)),
+        Call::PollNext(key) => inner
+            .poll_next_by(key, maker, &mut Uncounted)
+            .map(|answer| Reply::PollNext(answer))
+            .map_err(|_| Call::PollNext(key)),
         call => Ok(make_at_once(inner, call)),
     }
 }
 
-// The calls that no future and no stream makes: they leave no notice.
+// All other calls: they leave no notice.
 #[tactic(auto, using(crate::proofs::Accessors::named, crate::proofs::Accessors::answers_read, bcast_model::proofs::Clones::answers_any))]
 #[inline(never)]
 fn make_at_once<T: Clone, N: Notice, A: Allocator + Copy>(
@@ -103,7 +94,7 @@ fn make_at_once<T: Clone, N: Notice, A: Allocator + Copy>(
     call: Call<T>,
 ) -> Reply<T>
     requires capacity { HasPositiveCapacity call }
-    requires at_once { is_of_task call ≡ false }
+    requires at_once { is_poll_call call ≡ false }
     ensures answers { Answers T.is_clone inner.old call result inner.new }
     ensures sure { ((msg : T) → T.is_infallible msg) → is_receive_refused result ≡ false }
     ensures at_once { must_wait result ≡ false }
@@ -114,6 +105,15 @@ fn make_at_once<T: Clone, N: Notice, A: Allocator + Copy>(
         Call::TryBroadcastAll(msgs) => Reply::TryBroadcastAll(inner.offer_all(msgs)),
         Call::AttemptSend(msg) => Reply::AttemptSend(inner.attempt_send(msg)),
         Call::TryRecv(key) => Reply::TryRecv(inner.try_recv(key)),
+        Call::BeginSend => Reply::BeginSend(inner.begin_send()),
+        Call::EndSend(place) => {
+            inner.end_send(place);
+            Reply::EndSend
+        }
+        Call::EndFuture(key) => {
+            inner.end_future(key);
+            Reply::EndFuture
+        }
         Call::Close => Reply::Close(inner.close()),
         Call::SetCapacity(n) => Reply::SetCapacity(inner.set_capacity(n)),
         Call::SetOverflow(on) => {

@@ -4,7 +4,7 @@ use Rattle.std.specs.List.{All}
 use Rattle.bcast_model.specs.Words.{opening, Represents, IsRun, end_of_run}
 use Rattle.bcast_core.specs.InfallibleClones.{is_receive_refused}
 use Rattle.bcast_core.proofs.Runs.{AreValid}
-use Rattle.bcast_core.proofs.steps.run.Given as goal
+use Rattle.bcast_core.proofs.calls.run.Given as goal
 
 abbrev pub invariant-loop-call : goal.invariant-loop-call
 invariant-loop-call g l = record {
