@@ -12,3 +12,5 @@ pub mod Made
 pub mod Woken
 -- what is seen of a channel
 pub mod Snapshots
+-- how what is seen is stored
+pub mod Encodings

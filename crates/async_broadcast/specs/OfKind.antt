@@ -1,5 +1,6 @@
 -- A reply that a channel may give is of its call's kind.
-use Rattle.std.proofs.Common.{inl, inr, ℕ, Bool, true, false, if◌then◌else◌, Option, Some, None, Result, Ok, refl}
+use Rattle.std.proofs.Common.{inl, inr, ℕ, Bool, true, false, if◌then◌else◌, Option, Result, Ok, Err, refl}
+use Rattle.std.specs.declared.alloc.AllocError.{AllocError}
 use Rattle.bcast_model.specs.declared.error.TryRecvError.{TryRecvError}
 use Rattle.bcast_model.specs.declared.error.HandleError.{HandleError}
 use Rattle.bcast_model.specs.declared.error.TrySendError.TheVariants as unsent
@@ -9,16 +10,18 @@ use Rattle.bcast_model.specs.declared.run.Call.TheVariants as call
 use Rattle.bcast_model.specs.declared.run.Reply.{Reply}
 use Rattle.bcast_model.specs.declared.run.Reply.TheVariants as reply
 use Rattle.bcast_model.specs.Words.{Cursors, has_no_receiver, has_place, View, view_of}
-use Rattle.bcast_model.specs.Words.{reply_to_attempt, attempt_send_reply, Legal, IsReceived, IsMade}
+use Rattle.bcast_model.specs.Words.{reply_to_attempt, attempt_send_reply, Legal, IsReceivedBy, IsMade}
+use Rattle.bcast_model.specs.Words.{cursor_of, skipped_to, skipped_count}
+use Rattle.bcast_model.specs.Words.{future_reply, stream_reply, next_reply}
 use Rattle.bcast_model.specs.Words.{IsMadeFrom, IsPossible}
 use Rattle.async_broadcast.specs.Kinds.{IsA, HandsBack, IsOfKind}
 
 module _ {T : Type 0} where
   -- a send that must wait hands its message back, whatever the channel is
   attempted-back : (closed deserted full await : Bool) (back : Option T) (msg : T)
-      → HandsBack msg (reply_to_attempt await back (if closed then Some (unsent.Closed msg)
-      else (if deserted then Some (unsent.Inactive msg)
-      else (if full then Some (unsent.Full msg) else None))))
+      → HandsBack msg (reply_to_attempt await (if closed then Err (unsent.Closed msg)
+      else (if deserted then Err (unsent.Inactive msg)
+      else (if full then Err (unsent.Full msg) else Ok back))))
   attempted-back true deserted full await back msg = tt
   attempted-back false true full true back msg = refl
   attempted-back false true full false back msg = tt
@@ -34,15 +37,12 @@ module _ {T : Type 0} where
   poll_send-back true v msg = attempt_send-back v msg
   poll_send-back false v msg = refl
 
-  received : {A : Type 0} (is_clone : T → T → Type 0) (owed : Type 0) (variant : A → Reply T)
-      (spell : Result T TryRecvError → A) (refused : A) (exact : Result T TryRecvError)
-      (r : Reply T)
-      → IsReceived is_clone owed (λ answer. variant (spell answer)) (variant refused) exact r
-      → IsA variant r
-  received is_clone owed variant spell refused exact r (inl given) = (spell exact, given)
-  received is_clone owed variant spell refused exact r (inr (owes, inl clone)) =
-      (spell (Ok clone.given), clone.reply)
-  received is_clone owed variant spell refused exact r (inr (owes, inr none)) = (refused, none)
+  received : {X : Type 0} (is_clone : T → T → Type 0) (v : View T) (key : ℕ) (cursor : Option ℕ)
+      (variant : Result X AllocError → Reply T) (word : Result T TryRecvError → X) (r : Reply T)
+      → IsReceivedBy is_clone v key cursor variant word r → IsA variant r
+  received is_clone v key cursor variant word r (inl given) = (_, given)
+  received is_clone v key cursor variant word r (inr (owes, inl clone)) = (_, clone.4)
+  received is_clone v key cursor variant word r (inr (owes, inr none)) = (_, none)
 
   made : (cursors : Cursors) (variant : Result ℕ HandleError → Reply T) (r : Reply T)
       → IsMade cursors variant r → IsA variant r
@@ -64,11 +64,17 @@ module _ {T : Type 0} where
   legal is_clone v (call.PollSend place msg) r l =
       (_, l, poll_send-back (has_place v.control place) v msg)
   legal is_clone v (call.EndSend place) r l = l
-  legal is_clone v (call.TryRecv key) r l = received is_clone _ reply.TryRecv _ _ _ r l
-  legal is_clone v (call.PollFuture key) r l = received is_clone _ reply.PollFuture _ _ _ r l
+  legal is_clone v (call.TryRecv key) r l =
+      received is_clone v key (cursor_of v.control key) reply.TryRecv (λ answer. answer) r l
+  legal is_clone v (call.PollFuture key) r l =
+      received is_clone v key (cursor_of v.control key) reply.PollFuture future_reply r l
   legal is_clone v (call.EndFuture key) r l = l
-  legal is_clone v (call.PollRecv key) r l = received is_clone _ reply.PollRecv _ _ _ r l
-  legal is_clone v (call.PollNext key) r l = received is_clone _ reply.PollNext _ _ _ r l
+  legal is_clone v (call.PollRecv key) r l =
+      received is_clone v key (cursor_of v.control key) reply.PollRecv stream_reply r l
+  legal is_clone v (call.PollNext key) r l =
+      let cursor = cursor_of v.control key in
+      received is_clone v key (skipped_to v.front cursor)
+      reply.PollNext (next_reply (skipped_count v.front cursor)) r l
   legal is_clone v call.Close r l = (_, l)
   legal is_clone v (call.SetCapacity n) r (inl given) = (_, given)
   legal is_clone v (call.SetCapacity n) r (inr none) = (_, none.0)

@@ -88,7 +88,8 @@ pub struct TaskWaker<A: Allocator = Global> {
 }
 
 impl<A: Allocator> Model for TaskWaker<A> {
-    ghost use Rattle.async_broadcast.specs.TaskWakers.{TaskWaker as Seen, task_waker_code};
+    ghost use Rattle.async_broadcast.specs.Encodings.{task_waker_code};
+    ghost use Rattle.async_broadcast.specs.TaskWakers.{TaskWaker as Seen};
 
     ghost Value = { Seen };
 

@@ -1,12 +1,12 @@
 -- What an offered message does, in what is seen.
-use Rattle.std.proofs.Common.{◌≡◌, ℕ, ◌+◌, ◌-◌, ◌<◌, ◌≤◌, ◌==◌, true, false, List, [], ◌∷◌, length, max, nat_lt, Some, None, refl, sym, ap, ◌∙◌, arith}
+use Rattle.std.proofs.Common.{◌≡◌, ℕ, ◌+◌, ◌-◌, ◌<◌, ◌≤◌, ◌==◌, true, false, cond, List, [], ◌∷◌, length, max, nat_lt, refl, sym, ap, ◌∙◌, arith}
 use Rattle.std.proofs.lemmas.Grind.{common_steps}
+use Rattle.std.specs.Prelude.{is_ok}
 use Rattle.std.specs.FinMap.{len, values}
-use Rattle.bcast_model.specs.declared.error.TrySendError.{TrySendError}
 use Rattle.bcast_model.specs.Words.{has_no_receiver, accepting, least, View, is_full, IsValidView}
-use Rattle.bcast_model.specs.Words.{settle, with_message, with_messages, accept, accept_unless}
-use Rattle.bcast_model.specs.Words.{offer, refusal, free_room, refusal_of_all, accept_all}
-use Rattle.bcast_model.specs.Words.{accept_all_unless, offer_all}
+use Rattle.bcast_model.specs.Words.{settle, with_message, with_messages, accept, try_broadcast_reply, sets}
+use Rattle.bcast_model.specs.Words.{offer, free_room, try_broadcast_all_reply, accept_all}
+use Rattle.bcast_model.specs.Words.{offer_all}
 use Rattle.bcast_core.proofs.Settle.{settle_to, settle_same, least_raised, cursors-accepting}
 
 -- whether a list has more messages than there is room for
@@ -38,42 +38,42 @@ module _ {T : Type 0} where
       omega (arith, r, valid.low)
 
   -- a message is accepted where there is room
-  pub offer_accepted : (v : View T) (msg : T) → IsValidView v → refusal v msg ≡ None → has_no_receiver v.control ≡ false → is_full v ≡ false → settle v (offer v msg) ≡ with_message v msg
+  pub offer_accepted : (v : View T) (msg : T) → IsValidView v → is_ok (try_broadcast_reply v msg) ≡ true → has_no_receiver v.control ≡ false → is_full v ≡ false → settle v (offer v msg) ≡ with_message v msg
   offer_accepted v msg valid is some full =
       let low = low_next v 1 valid some in
       let front : max (max v.front (accept v msg).floor) (least (v.end + 1) (values (accepting v.control v.end).cursors)) ≡ v.front = rw (full, cursors-accepting) (omega (arith, low)) in
       let none : v.front - v.front ≡ 0 = omega arith in
-      ap (λ o. settle v (accept_unless v msg o)) is ∙ settle_to v (accept v msg) (with_message v msg) front (rw none refl) refl refl
+      ap (λ b. settle v (cond b (accept v msg) (sets v.control))) is ∙ settle_to v (accept v msg) (with_message v msg) front (rw none refl) refl refl
 
   -- a whole list is accepted where there is room
-  pub offer_all_accepted : (v : View T) (msgs : List T) → IsValidView v → refusal_of_all v msgs ≡ None → has_no_receiver v.control ≡ false → 0 < length msgs → settle v (offer_all v msgs) ≡ with_messages v msgs
+  pub offer_all_accepted : (v : View T) (msgs : List T) → IsValidView v → is_ok (try_broadcast_all_reply v msgs) ≡ true → has_no_receiver v.control ≡ false → 0 < length msgs → settle v (offer_all v msgs) ≡ with_messages v msgs
   offer_all_accepted v [] valid is some n = absurd (omega arith)
   offer_all_accepted v (msg ∷ rest) valid is some n =
       let low = low_next v (length (msg ∷ rest)) valid some in
       let front : max (max v.front 0) (least (v.end + length (msg ∷ rest)) (values (accepting v.control (v.end + length rest)).cursors)) ≡ v.front = rw cursors-accepting (omega (arith, low)) in
       let none : v.front - v.front ≡ 0 = omega arith in
       let last : v.end + length rest ≡ v.end + length (msg ∷ rest) - 1 = omega arith in
-      ap (λ o. settle v (accept_all_unless v (msg ∷ rest) o)) is ∙ settle_to v (accept_all v (msg ∷ rest)) (with_messages v (msg ∷ rest)) front (rw none refl) refl (ap (accepting v.control) last)
+      ap (λ b. settle v (cond b (accept_all v (msg ∷ rest)) (sets v.control))) is ∙ settle_to v (accept_all v (msg ∷ rest)) (with_messages v (msg ∷ rest)) front (rw none refl) refl (ap (accepting v.control) last)
 
   -- without a message nothing changes
   pub offer_all_nothing : (v : View T) (msgs : List T) → IsValidView v → v.control.closed ≡ false → has_no_receiver v.control ≡ false → (length msgs == 0) ≡ true → settle v (offer_all v msgs) ≡ v
   offer_all_nothing v [] valid opened some n =
       let fits : nat_lt (free_room v) 0 ≡ false = grind (arith, common_steps) in
-      let is : refusal_of_all v [] ≡ None = rw (opened, some, fits) refl in
-      ap (λ o. settle v (accept_all_unless v [] o)) is ∙ settle_same v valid
+      let is : is_ok (try_broadcast_all_reply v []) ≡ true = rw (opened, some, fits) refl in
+      ap (λ b. settle v (cond b (accept_all v []) (sets v.control))) is ∙ settle_same v valid
   offer_all_nothing v (msg ∷ rest) valid opened some n = let none = is_zero (length (msg ∷ rest)) n in absurd (omega (arith, none))
 
   -- and where the list is refused
-  pub offer_all_refused : (v : View T) (msgs : List T) (error : TrySendError (List T)) → IsValidView v → refusal_of_all v msgs ≡ Some error → settle v (offer_all v msgs) ≡ v
-  offer_all_refused v msgs error valid is = ap (λ o. settle v (accept_all_unless v msgs o)) is ∙ settle_same v valid
+  pub offer_all_refused : (v : View T) (msgs : List T) → IsValidView v → is_ok (try_broadcast_all_reply v msgs) ≡ false → settle v (offer_all v msgs) ≡ v
+  offer_all_refused v msgs valid is = ap (λ b. settle v (cond b (accept_all v msgs) (sets v.control))) is ∙ settle_same v valid
 
   -- the oldest message makes room for it
-  pub offer_dropping : (v w : View T) (msg oldest : T) → IsValidView v → refusal v msg ≡ None → has_no_receiver v.control ≡ false → is_full v ≡ true
+  pub offer_dropping : (v w : View T) (msg oldest : T) → IsValidView v → is_ok (try_broadcast_reply v msg) ≡ true → has_no_receiver v.control ≡ false → is_full v ≡ true
       → v.queue ≡ oldest ∷ w.queue → w ≡ record v { front = v.front + 1; queue = w.queue } → settle v (offer v msg) ≡ with_message w msg
   offer_dropping v w msg oldest valid is some full first rest =
       let low = low_next v 1 valid some in
       let front : max (max v.front (accept v msg).floor) (least (v.end + 1) (values (accepting v.control v.end).cursors)) ≡ v.front + 1 = rw (full, cursors-accepting) (omega (arith, low)) in
       let one : (v.front + 1) - v.front ≡ 1 = omega arith in
-      ap (λ o. settle v (accept_unless v msg o)) is
+      ap (λ b. settle v (cond b (accept v msg) (sets v.control))) is
       ∙ settle_to v (accept v msg) (with_message (record v { front = v.front + 1; queue = w.queue }) msg) front (rw (one, first) refl) refl refl
       ∙ ap (λ (x : View T). with_message x msg) (sym rest)

@@ -6,33 +6,34 @@ use Rattle.std.proofs.lemmas.Option.{none-some, slice_get_cases, slice_get_past}
 use Rattle.bcast_model.specs.declared.error.TryRecvError.{TryRecvError}
 use Rattle.bcast_model.specs.declared.error.TryRecvError.TheVariants as unread
 use Rattle.bcast_model.specs.declared.run.Reply.TheVariants as reply
-use Rattle.bcast_model.specs.Words.{Pair, Control, pair_waits, cursor_of, recv_reply, receive, with_cursor}
+use Rattle.bcast_model.specs.Words.{Pair, pair_waits, cursor_of, recv_reply, receive, with_cursor}
 use Rattle.bcast_model.specs.Words.{skipped_to, is_empty_reply, listens, receive_poll}
 use Rattle.bcast_model.specs.Words.{try_recv_reply, IsReceived, View, kept_at, IsValidView, sets}
 use Rattle.bcast_model.specs.Words.{settle}
 use Rattle.bcast_core.proofs.Respelt.{answer_of}
 use Rattle.bcast_core.proofs.Settle.{settle_stays, settle_same}
 
--- it changes nothing
-receive_at_end : (front end : ℕ) (c : Control) (key : ℕ) (at : Option ℕ) (cursor : ℕ) → at ≡ Some cursor → front ≤ cursor → end ≤ cursor → receive front end c key at ≡ c
-receive_at_end front end c key at cursor is from beyond =
-    let a : nat_lt cursor front ≡ false = grind (arith, common_steps, from) in
-    let b : nat_lt cursor end ≡ false = grind (arith, common_steps, beyond) in
-    ap (receive front end c key) is ∙ rw (a, b) refl
+module _ {T : Type 0} (v : View T) (key : ℕ) (at : Option ℕ) (cursor : ℕ) (is : at ≡ Some cursor) (from : v.front ≤ cursor) where
+  -- it changes nothing
+  receive_at_end : v.end ≤ cursor → receive v key at ≡ v.control
+  receive_at_end beyond =
+      let a : nat_lt cursor v.front ≡ false = grind (arith, common_steps, from) in
+      let b : nat_lt cursor v.end ≡ false = grind (arith, common_steps, beyond) in
+      ap (receive v key) is ∙ rw (a, b) refl
 
--- one that finds a message goes on after it
-pub receive_one : (front end : ℕ) (c : Control) (key : ℕ) (at : Option ℕ) (cursor : ℕ) → at ≡ Some cursor → front ≤ cursor → cursor < end → receive front end c key at ≡ with_cursor c key (cursor + 1)
-receive_one front end c key at cursor is from below =
-    let a : nat_lt cursor front ≡ false = grind (arith, common_steps, from) in
-    let b : nat_lt cursor end ≡ true = grind (arith, common_steps, below) in
-    ap (receive front end c key) is ∙ rw (a, b) refl
+  -- one that finds a message goes on after it
+  pub receive_one : cursor < v.end → receive v key at ≡ with_cursor v.control key (cursor + 1)
+  receive_one below =
+      let a : nat_lt cursor v.front ≡ false = grind (arith, common_steps, from) in
+      let b : nat_lt cursor v.end ≡ true = grind (arith, common_steps, below) in
+      ap (receive v key) is ∙ rw (a, b) refl
 
 module _ {T : Type 0} where
   -- whether a receive is answered `Empty` doesn't depend on clones
   pub empty_exactly : {is_clone : T → T → Type 0} {owed : Type 0} (exact answer : Result T TryRecvError)
       → IsReceived is_clone owed (λ a. reply.TryRecv (Ok a)) (reply.TryRecv (Err alloc_error)) exact (reply.TryRecv (Ok answer)) → is_empty_reply answer ≡ is_empty_reply exact
   empty_exactly exact answer (inl is) = ap (λ r. is_empty_reply (answer_of exact r)) is
-  empty_exactly exact answer (inr (o, inl clone)) = ap (λ r. is_empty_reply (answer_of exact r)) clone.reply ∙ sym (ap is_empty_reply clone.exactly)
+  empty_exactly exact answer (inr (o, inl clone)) = ap (λ r. is_empty_reply (answer_of exact r)) clone.4 ∙ sym (ap is_empty_reply clone.2)
   empty_exactly exact answer (inr (o, inr is)) = ap (λ r. is_empty_reply (answer_of exact r)) is
 
   -- a receiver that lags is told how many messages it missed
@@ -76,18 +77,18 @@ module _ {T : Type 0} where
   pub empty_there : (v : View T) (key : ℕ) (at : Option ℕ) → IsValidView v → (at ≡ cursor_of v.control key) ⊎ (at ≡ skipped_to v.front (cursor_of v.control key)) → is_empty_reply (try_recv_reply v at) ≡ true → is_some (cursor_of v.control key) ≡ true
   empty_there v key at valid s e = let a = empty_at v at valid e in is_there v key (cursor_of v.control key) at a.0 a.1 s
 
-  pub receive_empty : (v : View T) (key : ℕ) (at : Option ℕ) → IsValidView v → is_empty_reply (try_recv_reply v at) ≡ true → receive v.front v.end v.control key at ≡ v.control
-  receive_empty v key at valid e = let a = empty_at v at valid e in receive_at_end v.front v.end v.control key at a.0 a.1 a.2 a.3
+  pub receive_empty : (v : View T) (key : ℕ) (at : Option ℕ) → IsValidView v → is_empty_reply (try_recv_reply v at) ≡ true → receive v key at ≡ v.control
+  receive_empty v key at valid e = let a = empty_at v at valid e in receive_at_end v key at a.0 a.1 a.2 a.3
 
-  pub settle_empty : (v mid : View T) (key : ℕ) (at : Option ℕ) → IsValidView v → is_empty_reply (try_recv_reply v at) ≡ true → mid ≡ settle v (sets (receive v.front v.end v.control key at)) → mid ≡ v
+  pub settle_empty : (v mid : View T) (key : ℕ) (at : Option ℕ) → IsValidView v → is_empty_reply (try_recv_reply v at) ≡ true → mid ≡ settle v (sets (receive v key at)) → mid ≡ v
   settle_empty v mid key at valid e is = is ∙ ap (λ c. settle v (sets c)) (receive_empty v key at valid e) ∙ settle_same v valid
 
   -- so a poll only waits
   pub poll_waits : (v mid new : View T) (pair : Pair) (at : Option ℕ) → IsValidView v → is_empty_reply (try_recv_reply v at) ≡ true
-      → mid ≡ settle v (sets (receive v.front v.end v.control pair.0 at)) → new ≡ record mid { control = pair_waits mid.control pair }
-      → new ≡ settle v (sets (receive_poll v.front v.end v.control pair at (try_recv_reply v at)))
+      → mid ≡ settle v (sets (receive v pair.0 at)) → new ≡ record mid { control = pair_waits mid.control pair }
+      → new ≡ settle v (sets (receive_poll v pair at))
   poll_waits v mid new pair at valid e mid_is new_is =
       new_is ∙ ap (λ (x : View T). record x { control = pair_waits x.control pair }) (settle_empty v mid pair.0 at valid e mid_is)
       ∙ sym (settle_stays v (pair_waits v.control pair) valid.low)
       ∙ ap (λ c. settle v (sets (pair_waits c pair))) (sym (receive_empty v pair.0 at valid e))
-      ∙ ap (λ b. settle v (sets (listens (receive v.front v.end v.control pair.0 at) pair b))) (sym e)
+      ∙ ap (λ b. settle v (sets (listens (receive v pair.0 at) pair b))) (sym e)

@@ -28,33 +28,33 @@ module _ {T : Type 0} where
 module _ {T : Type 0} {is_clone : T → T → Type 0} {owed : Type 0} where
   pub respelt : (spelt : Result T TryRecvError → Reply T) (refused : Reply T) (exact answer : Result T TryRecvError) → IsTryRecv is_clone owed exact (Ok answer) → IsReceived is_clone owed spelt refused exact (spelt answer)
   respelt spelt refused exact answer (inl is) = inl (ap (λ r. spelt (answer_of exact r)) is)
-  respelt spelt refused exact answer (inr (o, inl clone)) = inr (o, inl (record { msg = clone.msg; given = clone.given; exactly = clone.exactly; cloned = clone.cloned; reply = ap (λ r. spelt (answer_of exact r)) clone.reply }))
+  respelt spelt refused exact answer (inr (o, inl clone)) = inr (o, inl (clone.0, clone.1, clone.2, clone.3, ap (λ r. spelt (answer_of exact r)) clone.4))
   respelt spelt refused exact answer (inr (o, inr is)) = let no = ap is_refused is in cc
 
   pub respelt_refused : (spelt : Result T TryRecvError → Reply T) (refused : Reply T) (exact : Result T TryRecvError) (e : AllocError) → IsTryRecv is_clone owed exact (Err e) → IsReceived is_clone owed spelt refused exact refused
   respelt_refused spelt refused exact e (inl is) = let no = ap is_refused is in cc
-  respelt_refused spelt refused exact e (inr (o, inl clone)) = let no = ap is_refused clone.reply in cc
+  respelt_refused spelt refused exact e (inr (o, inl clone)) = let no = ap is_refused clone.4 in cc
   respelt_refused spelt refused exact e (inr (o, inr is)) = inr (o, inr refl)
 
 module _ {T : Type 0} where
   -- `try_recv`, refused or not
   pub does_receive : {is_clone : T → T → Type 0} (v new : View T) (key : ℕ) (r : Result (Result T TryRecvError) AllocError) → IsValidView v
       → IsReceived is_clone (IsOwed v key (cursor_of v.control key)) (λ a. reply.TryRecv (Ok a)) (reply.TryRecv (Err alloc_error)) (try_recv_reply v (cursor_of v.control key)) (reply.TryRecv r)
-      → OnOk r (new ≡ settle v (sets (receive v.front v.end v.control key (cursor_of v.control key)))) → OnErr r (new ≡ v) → Does is_clone v (call.TryRecv key) (reply.TryRecv r) new
+      → OnOk r (new ≡ settle v (sets (receive v key (cursor_of v.control key)))) → OnErr r (new ≡ v) → Does is_clone v (call.TryRecv key) (reply.TryRecv r) new
   does_receive v new key (Ok answer) valid legal ok err = record { legal = legal; effect = ok }
   does_receive v new key (Err e) valid legal ok err = does_nothing valid legal refl err
 
   -- a poll that was answered, or waits
   pub does_poll : {is_clone : T → T → Type 0} (v new : View T) (c : Call T) (pair : Pair) (at was : Option ℕ) (spelt : Result T TryRecvError → Reply T) (refused r : Reply T) (answer : Result T TryRecvError)
       → was ≡ at → IsTryRecv is_clone (IsOwed v pair.0 was) (try_recv_reply v was) (Ok answer)
-      → new ≡ settle v (sets (receive_poll v.front v.end v.control pair was (try_recv_reply v was))) → r ≡ spelt answer
+      → new ≡ settle v (sets (receive_poll v pair was)) → r ≡ spelt answer
       → (IsReceived is_clone (IsOwed v pair.0 at) spelt refused (try_recv_reply v at) (spelt answer) → Legal is_clone v c (spelt answer))
-      → effect v c (spelt answer) ≡ sets (receive_poll v.front v.end v.control pair at (try_recv_reply v at)) → Does is_clone v c r new
+      → effect v c (spelt answer) ≡ sets (receive_poll v pair at) → Does is_clone v c r new
   does_poll {is_clone = is_clone} v new c pair at was spelt refused r answer same legal new_is is means effect_is =
       let exactly = subst (λ o. IsTryRecv is_clone (IsOwed v pair.0 o) (try_recv_reply v o) (Ok answer)) same legal in
       subst (λ x. Does is_clone v c x new) (sym is) (record {
         legal = means (respelt spelt refused (try_recv_reply v at) answer exactly);
-        effect = new_is ∙ ap (λ o. settle v (sets (receive_poll v.front v.end v.control pair o (try_recv_reply v o)))) same ∙ ap (settle v) (sym effect_is);
+        effect = new_is ∙ ap (λ o. settle v (sets (receive_poll v pair o))) same ∙ ap (settle v) (sym effect_is);
       })
 
   -- a poll that found no memory
@@ -68,10 +68,10 @@ module _ {T : Type 0} where
   -- a poll whose answer is spelt by this word
   pub does_spelt : {is_clone : T → T → Type 0} {X : Type 0} (v new : View T) (c : Call T) (pair : Pair) (at was : Option ℕ) (word : Result T TryRecvError → X) (wrap : Result X AllocError → Reply T)
       (received : Result (Result T TryRecvError) AllocError) (spelt : Result X AllocError) → IsValidView v → was ≡ at → IsTryRecv is_clone (IsOwed v pair.0 was) (try_recv_reply v was) received
-      → OnOk received (new ≡ settle v (sets (receive_poll v.front v.end v.control pair was (try_recv_reply v was)))) → OnErr received (new ≡ v)
+      → OnOk received (new ≡ settle v (sets (receive_poll v pair was))) → OnErr received (new ≡ v)
       → IfOk received (λ answer. spelt ≡ Ok (word answer)) → IfErr received (λ e. spelt ≡ Err e)
       → ((r : Reply T) → IsReceived is_clone (IsOwed v pair.0 at) (λ a. wrap (Ok (word a))) (wrap (Err alloc_error)) (try_recv_reply v at) r → Legal is_clone v c r)
-      → ((answer : Result T TryRecvError) → effect v c (wrap (Ok (word answer))) ≡ sets (receive_poll v.front v.end v.control pair at (try_recv_reply v at)))
+      → ((answer : Result T TryRecvError) → effect v c (wrap (Ok (word answer))) ≡ sets (receive_poll v pair at))
       → effect v c (wrap (Err alloc_error)) ≡ sets v.control → Does is_clone v c (wrap spelt) new
   does_spelt v new c pair at was word wrap (Ok answer) spelt valid same legal ok err is_ok is_err means effect_ok effect_err =
       does_poll v new c pair at was (λ a. wrap (Ok (word a))) (wrap (Err alloc_error)) (wrap spelt) answer same legal ok (ap wrap is_ok) (means (wrap (Ok (word answer)))) (effect_ok answer)

@@ -1,13 +1,14 @@
 -- What a poll of a pending send does, in what is seen.
-use Rattle.std.proofs.Common.{◌≡◌, ℕ, Bool, true, false, cond, not, Some, None, Result, Ok, Err, IfOk, OnOk, OnErr, refl, sym, ap, ◌∙◌, subst}
+use Rattle.std.proofs.Common.{◌≡◌, ℕ, Bool, true, false, cond, not, Result, Ok, Err, IfOk, OnOk, OnErr, refl, sym, ap, ◌∙◌, subst}
+use Rattle.std.specs.Prelude.{is_ok}
 use Rattle.bcast_model.specs.declared.run.SendPoll.{SendPoll}
 use Rattle.bcast_model.specs.declared.run.SendPoll.TheVariants as send
 use Rattle.bcast_model.specs.declared.run.Call.TheVariants as call
 use Rattle.bcast_model.specs.declared.run.Reply.TheVariants as reply
 use Rattle.bcast_model.specs.Words.{consume, same_place, has_place, place_answered}
-use Rattle.bcast_model.specs.Words.{place_waits, tell_a_sender, reply_to_attempt, accept_unless}
-use Rattle.bcast_model.specs.Words.{with_place_answered, offer, refusal, attempt_send_reply}
-use Rattle.bcast_model.specs.Words.{poll_send, handed_back, View, sends_are_ready, Answers}
+use Rattle.bcast_model.specs.Words.{place_waits, tell_a_sender, reply_to_attempt, accept}
+use Rattle.bcast_model.specs.Words.{with_place_answered, offer, try_broadcast_reply, attempt_send_reply}
+use Rattle.bcast_model.specs.Words.{poll_send, View, sends_are_ready, Answers}
 use Rattle.bcast_model.specs.Words.{IsShown, IsValidView, NoClone, sets, tell_if_ready, settle}
 use Rattle.bcast_model.specs.Words.{must_wait}
 use Rattle.bcast_model.proofs.Polls.{attempt_waits}
@@ -32,9 +33,9 @@ module _ {T : Type 0} where
   waits sent = must_wait (reply.PollSend sent)
 
   pub is_refused : (v : View T) (msg again : T) → attempt_send_reply v msg ≡ send.Wait again → settle v (offer v msg) ≡ settle v (sets v.control)
-  is_refused v msg again is = elim (refusal v msg) as (λ o. reply_to_attempt v.control.await_active (handed_back v) o ≡ send.Wait again → settle v (accept_unless v msg o) ≡ settle v (sets v.control)) [
-    | Some error ↦ λ _. refl
-    | None ↦ λ e. (let w = ap waits e in cc)
+  is_refused v msg again is = elim (try_broadcast_reply v msg) as (λ answer. reply_to_attempt v.control.await_active answer ≡ send.Wait again → settle v (cond (is_ok answer) (accept v msg) (sets v.control)) ≡ settle v (sets v.control)) [
+    | Err error ↦ λ _. refl
+    | Ok back ↦ λ e. (let w = ap waits e in cc)
   ] is
 
   -- an attempt that is to wait changes nothing

@@ -1,11 +1,16 @@
 -- How the state of a channel is put together. No public clause cites this module.
-use Rattle.std.specs.Prelude.{◌≡◌, ℕ, ◌+◌, ◌*◌, ◌<◌, Bool, true, false, is_some}
+use Rattle.std.specs.Prelude.{◌≡◌, ℕ, ◌+◌, ◌*◌, ◌<◌, Bool, true, false, is_some, Result, Ok, Err}
+use Rattle.std.specs.declared.alloc.AllocError.{AllocError}
 use Rattle.std.specs.FinMap.{get}
 use Rattle.std.specs.FinSet as set
 use Rattle.bcast_model.specs.Words.{no_listeners, Control, Cursors, View, Legal, effect, settle}
-use Rattle.bcast_model.specs.Words.{Pair}
+use Rattle.bcast_model.specs.Words.{Pair, is_empty_reply}
+use Rattle.bcast_model.specs.declared.error.TryRecvError.{TryRecvError}
+use Rattle.bcast_model.specs.declared.listener.Kind.{Kind}
+use Rattle.bcast_model.specs.declared.listener.Kind.TheVariants as kind
 use Rattle.bcast_model.specs.declared.run.Call.{Call}
 use Rattle.bcast_model.specs.declared.run.Reply.{Reply}
+use Rattle.bcast_core.specs.Tries.{tries_of}
 use Rattle.bcast_store.specs.Stored.{Stored, end_of}
 use Rattle.bcast_waiting.specs.Words.{Event, Sends}
 
@@ -50,3 +55,13 @@ pub record Does
     (new : View T) : Type 0 where
   pub legal : Legal is_clone old c r
   pub effect : new ≡ settle old (effect old c r)
+
+-- how often a receive poll looks for a message: a future's always once
+abbrev pub tries_by : Kind → Control → Pair → ℕ
+tries_by kind.Stream c pair = tries_of c pair
+tries_by kind.Future c pair = 1
+
+-- `try_recv`: it was answered `Empty`; one that found no memory would find something
+abbrev pub finds_nothing : {T : Type 0} → Result (Result T TryRecvError) AllocError → Bool
+finds_nothing (Ok answer) = is_empty_reply answer
+finds_nothing (Err e) = false

@@ -7,7 +7,7 @@ ghost use Rattle.bcast_model.specs.Words.{ClonesEqual, dropped_in, MissesWhatWas
 ghost use Rattle.bcast_model.specs.Words.{AtEachPoint, AreAllExact, WaitsAsItsTry, ComesToRest};
 ghost use Rattle.bcast_model.specs.Words.{must_wait};
 ghost use Rattle.std.specs.List.Sorted.{IsStrictlyIncreasing};
-ghost use Rattle.bcast_core.specs.InfallibleClones.{is_receive_refused};
+ghost use Rattle.bcast_model.specs.Replies.{is_receive_refused};
 ghost use Rattle.bcast_core.specs.PollCalls.{is_poll_call};
 
 use crate::state::Inner;

@@ -1,9 +1,8 @@
 -- A receiver's answer, by the shared messages and its own cursor.
-use Rattle.std.proofs.Common.{◌≡◌, inl, inr, ◌≢◌, ℕ, ◌+◌, ◌-◌, ◌<◌, ◌≤◌, ◌==◌, true, false, cond, [], ◌++◌, Option, Some, None, Result, Err, nat_lt, slice_get, refl, sym, ap, ◌∙◌, arith, append-nil}
+use Rattle.std.proofs.Common.{◌≡◌, inl, inr, ◌≢◌, ℕ, ◌+◌, ◌-◌, ◌<◌, ◌≤◌, ◌==◌, true, false, cond, [], ◌++◌, Option, Some, None, Err, nat_lt, slice_get, refl, sym, ap, ◌∙◌, arith, append-nil}
 use Rattle.std.proofs.lemmas.Grind.{common_steps}
 use Rattle.std.proofs.lemmas.Bool.{cases_lt}
 use Rattle.std.specs.FinMap.{get}
-use Rattle.bcast_model.specs.declared.error.TryRecvError.{TryRecvError}
 use Rattle.bcast_model.specs.declared.error.TryRecvError.TheVariants as unread
 use Rattle.bcast_model.specs.declared.run.Call.{Call}
 use Rattle.bcast_model.specs.declared.run.Call.TheVariants as call
@@ -25,11 +24,11 @@ use Rattle.bcast_laws.proofs.Sends.{apart}
 abbrev KeepsOther : Control → ℕ → Control → Type 0
 KeepsOther old key new = (new.closed ≡ old.closed) × (get new.cursors key ≡ get old.cursors key)
 
-receive_keeps : (front end : ℕ) (c : Control) (key reader : ℕ) (cursor : Option ℕ) → reader ≢ key → KeepsOther c key (receive front end c reader cursor)
-receive_keeps front end c key reader None differs = (refl, refl)
-receive_keeps front end c key reader (Some cursor) differs =
+receive_keeps : {T : Type 0} (v : View T) (key reader : ℕ) (cursor : Option ℕ) → reader ≢ key → KeepsOther v.control key (receive v reader cursor)
+receive_keeps v key reader None differs = (refl, refl)
+receive_keeps v key reader (Some cursor) differs =
     let other : key ≢ reader = λ e. differs (sym e) in
-    receive_is (KeepsOther c key) front end c reader cursor (λ _. (refl, inserted_other c.cursors reader front key other)) (λ _ _. (refl, inserted_other c.cursors reader (cursor + 1) key other)) (λ _ _. (refl, refl))
+    receive_is v (KeepsOther v.control key) reader cursor (λ _. (refl, inserted_other v.control.cursors reader v.front key other)) (λ _ _. (refl, inserted_other v.control.cursors reader (cursor + 1) key other)) (λ _ _. (refl, refl))
 
 differs_too : (one reader key : ℕ) → (one == reader) ≡ true → reader ≢ key → one ≢ key
 differs_too one reader key same differs e = let is : one ≡ reader = grind (arith, common_steps, same) in differs (sym is ∙ e)
@@ -78,22 +77,22 @@ module _ {T : Type 0} where
     floor : e.floor ≡ 0
     control : KeepsOther v.control key e.control
 
-  leaves_unless : (v : View T) (key : ℕ) (c : Control) (r : Reply T) → KeepsOther v.control key c → LeavesOther v key (set_unless_refused r v c)
+  leaves_unless : (v : View T) (key : ℕ) (c : Control) (r : Reply T) → KeepsOther v.control key c → LeavesOther v key (set_unless_refused v r c)
   leaves_unless v key c r keeps = test_is (LeavesOther v key) (is_out_of_memory r) (sets v.control) (sets c) (λ _. record { accepted = refl; floor = refl; control = (refl, refl) }) (λ _. record { accepted = refl; floor = refl; control = keeps })
 
-  polled_leaves : (v : View T) (key : ℕ) (r : Reply T) (pair : Pair) (cursor : Option ℕ) (answer : Result T TryRecvError) → pair.0 ≢ key → LeavesOther v key (set_unless_refused r v (receive_poll v.front v.end v.control pair cursor answer))
-  polled_leaves v key r pair cursor answer differs =
-      let c : Control = receive v.front v.end v.control pair.0 cursor in
-      let keeps = receive_keeps v.front v.end v.control key pair.0 cursor differs in
-      leaves_unless v key (listens c pair (is_empty_reply answer)) r (test_is (KeepsOther v.control key) (is_empty_reply answer) (pair_waits c pair) (pair_answered c pair) (λ _. keeps) (λ _. keeps))
+  polled_leaves : (v : View T) (key : ℕ) (r : Reply T) (pair : Pair) (cursor : Option ℕ) → pair.0 ≢ key → LeavesOther v key (set_unless_refused v r (receive_poll v pair cursor))
+  polled_leaves v key r pair cursor differs =
+      let c : Control = receive v pair.0 cursor in
+      let keeps = receive_keeps v key pair.0 cursor differs in
+      leaves_unless v key (listens c pair (is_empty_reply (try_recv_reply v cursor))) r (test_is (KeepsOther v.control key) (is_empty_reply (try_recv_reply v cursor)) (pair_waits c pair) (pair_answered c pair) (λ _. keeps) (λ _. keeps))
 
   leaves_other : (v : View T) (key reader : ℕ) (c : Call T) (r : Reply T) → receives_for reader c ≡ true → reader ≢ key → LeavesOther v key (effect v c r)
   leaves_other v key reader (call.TryRecv one) r reads differs =
-      leaves_unless v key (receive v.front v.end v.control one (cursor_of v.control one)) r (receive_keeps v.front v.end v.control key one (cursor_of v.control one) (differs_too one reader key reads differs))
-  leaves_other v key reader (call.PollFuture one) r reads differs = polled_leaves v key r (future_of one) (cursor_of v.control one) (try_recv_reply v (cursor_of v.control one)) (differs_too one reader key reads differs)
-  leaves_other v key reader (call.PollRecv one) r reads differs = polled_leaves v key r (stream_of one) (cursor_of v.control one) (try_recv_reply v (cursor_of v.control one)) (differs_too one reader key reads differs)
+      leaves_unless v key (receive v one (cursor_of v.control one)) r (receive_keeps v key one (cursor_of v.control one) (differs_too one reader key reads differs))
+  leaves_other v key reader (call.PollFuture one) r reads differs = polled_leaves v key r (future_of one) (cursor_of v.control one) (differs_too one reader key reads differs)
+  leaves_other v key reader (call.PollRecv one) r reads differs = polled_leaves v key r (stream_of one) (cursor_of v.control one) (differs_too one reader key reads differs)
   leaves_other v key reader (call.PollNext one) r reads differs =
-      let cursor = skipped_to v.front (cursor_of v.control one) in polled_leaves v key r (stream_of one) cursor (try_recv_reply v cursor) (differs_too one reader key reads differs)
+      let cursor = skipped_to v.front (cursor_of v.control one) in polled_leaves v key r (stream_of one) cursor (differs_too one reader key reads differs)
   leaves_other v key reader c r reads differs = apart reads
 
   pub others_answer : (h : History T) (key reader : ℕ) (c : Call T) (r : Reply T) → h.first ≤ h.floor → receives_for reader c ≡ true → reader ≢ key

@@ -1,29 +1,25 @@
 -- Each send on a closed channel is refused.
-use Rattle.std.proofs.Common.{◌≡◌, ℕ, ◌&&◌, not, Bool, true, cond, nat_lt, List, length, Option, Some, None, Err, ap, ◌∙◌}
-use Rattle.bcast_model.specs.declared.error.TrySendError.{TrySendError}
+use Rattle.std.proofs.Common.{◌≡◌, ℕ, ◌&&◌, not, true, cond, nat_lt, List, length, Ok, Err, ap, ◌∙◌}
 use Rattle.bcast_model.specs.declared.error.TrySendError.TheVariants as unsent
 use Rattle.bcast_model.specs.declared.run.SendPoll.TheVariants as send
 use Rattle.bcast_model.specs.declared.run.Call.TheVariants as call
 use Rattle.bcast_model.specs.declared.run.Reply.{Reply}
 use Rattle.bcast_model.specs.declared.run.Reply.TheVariants as reply
-use Rattle.bcast_model.specs.Words.{has_no_receiver, has_place, View, is_full, refusal}
-use Rattle.bcast_model.specs.Words.{reply_to_try, reply_to_attempt, handed_back, attempt_send_reply}
-use Rattle.bcast_model.specs.Words.{free_room, reply_to_all, Legal}
+use Rattle.bcast_model.specs.Words.{has_no_receiver, has_place, View, is_full}
+use Rattle.bcast_model.specs.Words.{try_broadcast_reply, reply_to_attempt, handed_back, attempt_send_reply}
+use Rattle.bcast_model.specs.Words.{free_room, Legal}
 use Rattle.bcast_laws.proofs.Closing.{IsClosed}
 
 module _ {T : Type 0} where
-  test_closed : (closed : Bool) (other : Option (TrySendError T)) (msg : T) → closed ≡ true → cond closed (Some (unsent.Closed msg)) other ≡ Some (unsent.Closed msg)
-  test_closed closed other msg is = ap (λ b. cond b (Some (unsent.Closed msg)) other) is
-
-  refuses : (v : View T) (msg : T) → IsClosed v.control → refusal v msg ≡ Some (unsent.Closed msg)
-  refuses v msg is = test_closed v.control.closed (cond (has_no_receiver v.control) (Some (unsent.Inactive msg)) (cond (is_full v && not v.control.overflow) (Some (unsent.Full msg)) None)) msg is
+  refuses : (v : View T) (msg : T) → IsClosed v.control → try_broadcast_reply v msg ≡ Err (unsent.Closed msg)
+  refuses v msg is = ap (λ b. cond b (Err (unsent.Closed msg)) (cond (has_no_receiver v.control) (Err (unsent.Inactive msg)) (cond (is_full v && not v.control.overflow) (Err (unsent.Full msg)) (Ok (handed_back v))))) is
 
   attempt_closed : (v : View T) (msg : T) → IsClosed v.control → attempt_send_reply v msg ≡ send.Ready (Err (record { 0 = msg }))
-  attempt_closed v msg is = ap (reply_to_attempt v.control.await_active (handed_back v)) (refuses v msg is)
+  attempt_closed v msg is = ap (reply_to_attempt v.control.await_active) (refuses v msg is)
 
   module _ (is_clone : T → T → Type 0) (v : View T) (msg : T) (r : Reply T) (is : IsClosed v.control) where
     pub try_refused : Legal is_clone v (call.TryBroadcast msg) r → r ≡ reply.TryBroadcast (Err (unsent.Closed msg))
-    try_refused legal = legal ∙ ap (λ error. reply.TryBroadcast (reply_to_try (handed_back v) error)) (refuses v msg is)
+    try_refused legal = legal ∙ ap reply.TryBroadcast (refuses v msg is)
 
     pub attempt_refused : Legal is_clone v (call.AttemptSend msg) r → r ≡ reply.AttemptSend (send.Ready (Err (record { 0 = msg })))
     attempt_refused legal = legal ∙ ap reply.AttemptSend (attempt_closed v msg is)
@@ -33,4 +29,4 @@ module _ {T : Type 0} where
 
   pub all_refused : (is_clone : T → T → Type 0) (v : View T) (msgs : List T) (r : Reply T) → IsClosed v.control → Legal is_clone v (call.TryBroadcastAll msgs) r → r ≡ reply.TryBroadcastAll (Err (unsent.Closed msgs))
   all_refused is_clone v msgs r is legal =
-      legal ∙ ap (λ closed. reply.TryBroadcastAll (reply_to_all (cond closed (Some (unsent.Closed msgs)) (cond (has_no_receiver v.control) (Some (unsent.Inactive msgs)) (cond (nat_lt (free_room v) (length msgs)) (Some (unsent.Full msgs)) None))))) is
+      legal ∙ ap (λ closed. reply.TryBroadcastAll (cond closed (Err (unsent.Closed msgs)) (cond (has_no_receiver v.control) (Err (unsent.Inactive msgs)) (cond (nat_lt (free_room v) (length msgs)) (Err (unsent.Full msgs)) (Ok tt))))) is

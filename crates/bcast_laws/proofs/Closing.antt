@@ -1,14 +1,13 @@
 -- A closed channel stays closed.
-use Rattle.std.proofs.Common.{◌≡◌, ℕ, ◌+◌, ◌-◌, ◌==◌, ◌||◌, not, Bool, true, cond, List, [], ◌∷◌, length, Option, Some, None, Result, refl}
-use Rattle.bcast_model.specs.declared.error.TrySendError.{TrySendError}
-use Rattle.bcast_model.specs.declared.error.TryRecvError.{TryRecvError}
+use Rattle.std.proofs.Common.{◌≡◌, ℕ, ◌+◌, ◌-◌, ◌==◌, ◌||◌, not, Bool, true, cond, List, [], ◌∷◌, length, Option, Some, None, refl}
+use Rattle.std.specs.Prelude.{is_ok}
 use Rattle.bcast_model.specs.declared.run.Call.{Call}
 use Rattle.bcast_model.specs.declared.run.Call.TheVariants as call
 use Rattle.bcast_model.specs.declared.run.Reply.{Reply}
 use Rattle.bcast_model.specs.Words.{Pair, stream_of, future_of, Control, tell_receivers, close}
 use Rattle.bcast_model.specs.Words.{close_if_deserted, accepting, has_place, place_waits}
 use Rattle.bcast_model.specs.Words.{pair_waits, pair_answered, cursor_of, View, sends_are_ready}
-use Rattle.bcast_model.specs.Words.{Effect, sets, refusal, accept_unless, offer}
+use Rattle.bcast_model.specs.Words.{Effect, sets, try_broadcast_reply, accept, offer}
 use Rattle.bcast_model.specs.Words.{with_place_answered, poll_send, offer_all, receive, listens}
 use Rattle.bcast_model.specs.Words.{skipped_to, receive_poll, is_empty_reply, try_recv_reply}
 use Rattle.bcast_model.specs.Words.{resize, set_unless_refused, effect, History, view_of, remember}
@@ -32,10 +31,6 @@ module _ (c : Control) (is : IsClosed c) where
 
   listens_stays : (pair : Pair) (waits : Bool) → IsClosed (listens c pair waits)
   listens_stays pair waits = test_is IsClosed waits (pair_waits c pair) (pair_answered c pair) (λ _. is) (λ _. is)
-
-  receive_stays : (front end key : ℕ) (cursor : Option ℕ) → IsClosed (receive front end c key cursor)
-  receive_stays front end key None = is
-  receive_stays front end key (Some cursor) = receive_is IsClosed front end c key cursor (λ _. is) (λ _ _. is) (λ _ _. is)
 
   begin_stays : (place : Option ℕ) → IsClosed (begin_send c place)
   begin_stays None = is
@@ -78,12 +73,12 @@ drop_inactive_stays : (c : Control) → IsClosed c → IsClosed (drop_inactive c
 drop_inactive_stays c is = let now : Control = record c { inactive = c.inactive - 1 } in test_is IsClosed (c.inactive == 0) c (close_if_deserted now) (λ _. is) (λ _. deserted_stays now is)
 
 module _ {T : Type 0} where
+  receive_stays : (v : View T) (key : ℕ) (cursor : Option ℕ) → IsClosed v.control → IsClosed (receive v key cursor)
+  receive_stays v key None is = is
+  receive_stays v key (Some cursor) is = receive_is v IsClosed key cursor (λ _. is) (λ _ _. is) (λ _ _. is)
+
   offer_stays : (v : View T) (msg : T) → IsClosed v.control → IsClosed (offer v msg).control
-  offer_stays v msg is = accept_stays (refusal v msg)
-    where
-      accept_stays : (error : Option (TrySendError T)) → IsClosed (accept_unless v msg error).control
-      accept_stays None = accepting_stays v.control v.end is
-      accept_stays (Some error) = is
+  offer_stays v msg is = test_is (λ (e : Effect T). IsClosed e.control) (is_ok (try_broadcast_reply v msg)) (accept v msg) (sets v.control) (λ _. accepting_stays v.control v.end is) (λ _. is)
 
   offer_all_stays : (v : View T) (msgs : List T) → IsClosed v.control → IsClosed (offer_all v msgs).control
   offer_all_stays v msgs is = offer_all_is (λ e. IsClosed e.control) v msgs is (λ msg rest same e. accepting_stays v.control (v.end + length rest) is)
@@ -100,10 +95,10 @@ module _ {T : Type 0} where
   unless_stays : (v : View T) (e : Effect T) (r : Reply T) → IsClosed v.control → IsClosed e.control → IsClosed (cond (is_out_of_memory r) (sets v.control) e).control
   unless_stays v e r is then = test_is Closed (is_out_of_memory r) (sets v.control) e (λ _. is) (λ _. then)
 
-  poll_stays : (v : View T) (r : Reply T) (pair : Pair) (cursor : Option ℕ) (answer : Result T TryRecvError) → IsClosed v.control → IsClosed (set_unless_refused r v (receive_poll v.front v.end v.control pair cursor answer)).control
-  poll_stays v r pair cursor answer is =
-      let c : Control = receive v.front v.end v.control pair.0 cursor in
-      unless_stays v (sets (listens c pair (is_empty_reply answer))) r is (listens_stays c (receive_stays v.control is v.front v.end pair.0 cursor) pair (is_empty_reply answer))
+  poll_stays : (v : View T) (r : Reply T) (pair : Pair) (cursor : Option ℕ) → IsClosed v.control → IsClosed (set_unless_refused v r (receive_poll v pair cursor)).control
+  poll_stays v r pair cursor is =
+      let c : Control = receive v pair.0 cursor in
+      unless_stays v (sets (listens c pair (is_empty_reply (try_recv_reply v cursor)))) r is (listens_stays c (receive_stays v pair.0 cursor is) pair (is_empty_reply (try_recv_reply v cursor)))
 
   -- ---- each call
   effect_stays : (v : View T) (c : Call T) (r : Reply T) → IsClosed v.control → IsClosed (effect v c r).control
@@ -112,10 +107,10 @@ module _ {T : Type 0} where
   effect_stays v (call.AttemptSend msg) r is = offer_stays v msg is
   effect_stays v call.BeginSend r is = begin_stays v.control is (chosen_id r)
   effect_stays v (call.PollSend place msg) r is = poll_send_stays v place msg is
-  effect_stays v (call.TryRecv key) r is = unless_stays v (sets (receive v.front v.end v.control key (cursor_of v.control key))) r is (receive_stays v.control is v.front v.end key (cursor_of v.control key))
-  effect_stays v (call.PollFuture key) r is = poll_stays v r (future_of key) (cursor_of v.control key) (try_recv_reply v (cursor_of v.control key)) is
-  effect_stays v (call.PollRecv key) r is = poll_stays v r (stream_of key) (cursor_of v.control key) (try_recv_reply v (cursor_of v.control key)) is
-  effect_stays v (call.PollNext key) r is = let cursor = skipped_to v.front (cursor_of v.control key) in poll_stays v r (stream_of key) cursor (try_recv_reply v cursor) is
+  effect_stays v (call.TryRecv key) r is = unless_stays v (sets (receive v key (cursor_of v.control key))) r is (receive_stays v key (cursor_of v.control key) is)
+  effect_stays v (call.PollFuture key) r is = poll_stays v r (future_of key) (cursor_of v.control key) is
+  effect_stays v (call.PollRecv key) r is = poll_stays v r (stream_of key) (cursor_of v.control key) is
+  effect_stays v (call.PollNext key) r is = let cursor = skipped_to v.front (cursor_of v.control key) in poll_stays v r (stream_of key) cursor is
   effect_stays v call.Close r is = close_stays v.control is
   effect_stays v (call.SetCapacity n) r is = unless_stays v (resize v n) r is is
   effect_stays v call.NewSender r is = new_sender_stays v.control is

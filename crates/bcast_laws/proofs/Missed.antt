@@ -73,8 +73,8 @@ module _ {T : Type 0} where
         let r : Reply T = reply.TryRecv (Ok (Err (unread.Overflowed n))) in
         let low = lags.low in
         let test : nat_lt lags.cursor (front_number h) ≡ true = grind (arith, common_steps, low) in
-        let is : receive (front_number h) (end_number h) h.control key (cursor_of h.control key) ≡ with_cursor h.control key (front_number h) =
-        ap (receive (front_number h) (end_number h) h.control key) lags.at
+        let is : receive (view_of h) key (cursor_of h.control key) ≡ with_cursor h.control key (front_number h) =
+        ap (receive (view_of h) key) lags.at
         ∙ ap (λ b. cond b (with_cursor h.control key (front_number h)) (cond (nat_lt lags.cursor (end_number h)) (with_cursor h.control key (lags.cursor + 1)) h.control)) test in
         let recv_reply = subst Finds (sym (ap (λ c. remember h (sets c)) is)) (finds_at_front (lagging (view_of h) (valid_view h valid) key lags.cursor lags.at lags.low)) in
         tell_is Finds (may_tell h.control (sends_are_ready (view_of h)) asked) (remember h (effect (view_of h) asked r)) (λ _. recv_reply) (λ _. recv_reply)

@@ -1,7 +1,7 @@
 -- A refused call changes nothing.
 use Rattle.std.proofs.Common.{◌≡◌, inl, inr, ℕ, ◌+◌, ◌-◌, ◌≤◌, ◌==◌, ◌&&◌, not, Bool, true, false, cond, List, length, max, Option, Some, None, Result, Ok, Err, nat_lt, refl, sym, ap, ◌∙◌, arith, append-nil}
 use Rattle.std.proofs.lemmas.Grind.{common_steps}
-use Rattle.std.specs.Prelude.{alloc_error}
+use Rattle.std.specs.Prelude.{alloc_error, is_ok}
 use Rattle.bcast_model.specs.declared.error.TrySendError.{TrySendError}
 use Rattle.bcast_model.specs.declared.error.TryRecvError.{TryRecvError}
 use Rattle.bcast_model.specs.declared.error.TryRecvError.TheVariants as unread
@@ -10,9 +10,9 @@ use Rattle.bcast_model.specs.declared.run.Call.TheVariants as call
 use Rattle.bcast_model.specs.declared.run.Reply.{Reply}
 use Rattle.bcast_model.specs.declared.run.Reply.TheVariants as reply
 use Rattle.bcast_model.specs.Words.{Control, tell_a_sender, closing, with_cursor, cursor_of, View}
-use Rattle.bcast_model.specs.Words.{kept_at, sends_are_ready, Effect, sets, refusal, reply_to_try}
-use Rattle.bcast_model.specs.Words.{reply_to_attempt, handed_back, accept_unless, refusal_of_all}
-use Rattle.bcast_model.specs.Words.{reply_to_all, accept_all_unless, receive, recv_reply}
+use Rattle.bcast_model.specs.Words.{kept_at, sends_are_ready, Effect, sets, try_broadcast_reply}
+use Rattle.bcast_model.specs.Words.{reply_to_attempt, accept, try_broadcast_all_reply}
+use Rattle.bcast_model.specs.Words.{accept_all, receive, recv_reply}
 use Rattle.bcast_model.specs.Words.{skipped_count, skipped_to, future_reply, stream_reply}
 use Rattle.bcast_model.specs.Words.{next_reply, try_recv_reply, IsOwed, Legal, IsReceived}
 use Rattle.bcast_model.specs.Words.{set_unless_refused, effect, History, view_of, remember}
@@ -36,17 +36,17 @@ quiet false x y = refl
 
 module _ {T : Type 0} where
   -- ---- sends
-  same_try : (v : View T) (msg : T) (back : Option T) (error : Option (TrySendError T)) → is_refused (reply.TryBroadcast (reply_to_try back error)) ≡ true → accept_unless v msg error ≡ sets v.control
-  same_try v msg back None e = apart e
-  same_try v msg back (Some error) e = refl
+  same_try : (v : View T) (msg : T) (answer : Result (Option T) (TrySendError T)) → is_refused (reply.TryBroadcast answer) ≡ true → cond (is_ok answer) (accept v msg) (sets v.control) ≡ sets v.control
+  same_try v msg (Ok back) e = apart e
+  same_try v msg (Err error) e = refl
 
-  same_all : (v : View T) (msgs : List T) (error : Option (TrySendError (List T))) → is_refused {T = T} (reply.TryBroadcastAll (reply_to_all error)) ≡ true → accept_all_unless v msgs error ≡ sets v.control
-  same_all v msgs None e = apart e
-  same_all v msgs (Some error) e = refl
+  same_all : (v : View T) (msgs : List T) (answer : Result (Unit {0}) (TrySendError (List T))) → is_refused {T = T} (reply.TryBroadcastAll answer) ≡ true → cond (is_ok answer) (accept_all v msgs) (sets v.control) ≡ sets v.control
+  same_all v msgs (Ok done) e = apart e
+  same_all v msgs (Err error) e = refl
 
-  same_attempt : (v : View T) (msg : T) (await : Bool) (back : Option T) (error : Option (TrySendError T)) → is_refused (reply.AttemptSend (reply_to_attempt await back error)) ≡ true → accept_unless v msg error ≡ sets v.control
-  same_attempt v msg await back None e = apart e
-  same_attempt v msg await back (Some error) e = refl
+  same_attempt : (v : View T) (msg : T) (await : Bool) (answer : Result (Option T) (TrySendError T)) → is_refused (reply.AttemptSend (reply_to_attempt await answer)) ≡ true → cond (is_ok answer) (accept v msg) (sets v.control) ≡ sets v.control
+  same_attempt v msg await (Ok back) e = apart e
+  same_attempt v msg await (Err error) e = refl
 
   -- ---- receives
   same_found : (v : View T) (key cursor : ℕ) (o : Option T) → v.end ≡ v.front + length v.queue → v.front ≤ cursor → kept_at v cursor ≡ o → is_refused {T = T} (reply.TryRecv (Ok (recv_reply v.control.closed o))) ≡ true
@@ -57,7 +57,7 @@ module _ {T : Type 0} where
       let over : nat_lt cursor v.end ≡ false = grind (arith, common_steps, past, size, low) in
       ap (λ b. cond b (with_cursor v.control key (cursor + 1)) v.control) over
 
-  same_receive : (v : View T) (key : ℕ) (cursor : Option ℕ) → IsValidView v → is_refused (reply.TryRecv (Ok (try_recv_reply v cursor))) ≡ true → receive v.front v.end v.control key cursor ≡ v.control
+  same_receive : (v : View T) (key : ℕ) (cursor : Option ℕ) → IsValidView v → is_refused (reply.TryRecv (Ok (try_recv_reply v cursor))) ≡ true → receive v key cursor ≡ v.control
   same_receive v key None valid e = refl
   same_receive v key (Some cursor) valid e =
       elim (nat_lt cursor v.front) as (λ b. nat_lt cursor v.front ≡ b
@@ -67,30 +67,30 @@ module _ {T : Type 0} where
         | false ↦ λ t e. same_found v key cursor (kept_at v cursor) valid.end (grind (arith, common_steps, t)) refl e
       ] refl e
 
-  same_unless : (v : View T) (c : Control) (r : Reply T) → c ≡ v.control → set_unless_refused r v c ≡ sets v.control
+  same_unless : (v : View T) (c : Control) (r : Reply T) → c ≡ v.control → set_unless_refused v r c ≡ sets v.control
   same_unless v c r same = test_is (λ (e : Effect T). e ≡ sets v.control) (is_out_of_memory r) (sets v.control) (sets c) (λ _. refl) (λ _. ap sets same)
 
   -- a receive is refused where its exact answer is a refusal, or there is no memory
   same_received : (is_clone : T → T → Type 0) (owed : Type 0) (spelt : Result T TryRecvError → Reply T) (refused : Reply T) (exact : Result T TryRecvError) (v : View T) (c : Control) (r : Reply T)
-      → (is_refused (spelt exact) ≡ true → set_unless_refused r v c ≡ sets v.control) → ((msg : T) → is_refused (spelt (Ok msg)) ≡ false) → is_out_of_memory refused ≡ true
-      → IsReceived is_clone owed spelt refused exact r → is_refused r ≡ true → set_unless_refused r v c ≡ sets v.control
+      → (is_refused (spelt exact) ≡ true → set_unless_refused v r c ≡ sets v.control) → ((msg : T) → is_refused (spelt (Ok msg)) ≡ false) → is_out_of_memory refused ≡ true
+      → IsReceived is_clone owed spelt refused exact r → is_refused r ≡ true → set_unless_refused v r c ≡ sets v.control
   same_received is_clone owed spelt refused exact v c r same gives memory legal e = elim legal [
     | inl is ↦ same (sym (ap is_refused is) ∙ e)
     | inr s ↦ elim s.1 [
-      | inl clone ↦ apart (sym (ap is_refused clone.reply ∙ gives clone.given) ∙ e)
+      | inl clone ↦ apart (sym (ap is_refused clone.4 ∙ gives clone.1) ∙ e)
       | inr is ↦ ap (λ b. cond b (sets v.control) (sets c)) (ap is_out_of_memory is ∙ memory)
     ]
   ]
 
   -- ---- each call
   same_effect : (is_clone : T → T → Type 0) (v : View T) (c : Call T) (r : Reply T) → IsValidView v → Legal is_clone v c r → is_refused r ≡ true → effect v c r ≡ sets v.control
-  same_effect is_clone v (call.TryBroadcast msg) r valid legal e = same_try v msg (handed_back v) (refusal v msg) (sym (ap is_refused legal) ∙ e)
-  same_effect is_clone v (call.TryBroadcastAll msgs) r valid legal e = same_all v msgs (refusal_of_all v msgs) (sym (ap is_refused legal) ∙ e)
-  same_effect is_clone v (call.AttemptSend msg) r valid legal e = same_attempt v msg v.control.await_active (handed_back v) (refusal v msg) (sym (ap is_refused legal) ∙ e)
+  same_effect is_clone v (call.TryBroadcast msg) r valid legal e = same_try v msg (try_broadcast_reply v msg) (sym (ap is_refused legal) ∙ e)
+  same_effect is_clone v (call.TryBroadcastAll msgs) r valid legal e = same_all v msgs (try_broadcast_all_reply v msgs) (sym (ap is_refused legal) ∙ e)
+  same_effect is_clone v (call.AttemptSend msg) r valid legal e = same_attempt v msg v.control.await_active (try_broadcast_reply v msg) (sym (ap is_refused legal) ∙ e)
   same_effect is_clone v call.BeginSend r valid (inl (place, is, free)) e = apart (sym (ap is_refused is) ∙ e)
   same_effect is_clone v call.BeginSend r valid (inr is) e = rw is refl
   same_effect is_clone v (call.TryRecv key) r valid legal e =
-      let c : Control = receive v.front v.end v.control key (cursor_of v.control key) in
+      let c : Control = receive v key (cursor_of v.control key) in
       same_received is_clone (IsOwed v key (cursor_of v.control key)) (λ answer. reply.TryRecv (Ok answer)) (reply.TryRecv (Err alloc_error)) (try_recv_reply v (cursor_of v.control key)) v c r
       (λ refuses. same_unless v c r (same_receive v key (cursor_of v.control key) valid refuses)) (λ msg. refl) refl legal e
   same_effect is_clone v (call.PollFuture key) r valid legal e =
@@ -135,4 +135,8 @@ module _ {T : Type 0} where
   refused_same is_clone h c r valid legal e =
       let may : Bool = may_tell h.control (sends_are_ready (view_of h)) c in
       ap (λ now. end_call may (remember h now)) (same_effect is_clone (view_of h) c r (valid_view h valid) legal e) ∙ ap (end_call may) (remember-idle h)
-      ∙ ap (λ (v : View T). with_control h v.control) (untold is_clone (view_of h) c r legal e)
+      ∙ ap (with_control h) (control_told (may && sends_are_ready (view_of h))) ∙ ap (λ (v : View T). with_control h v.control) (untold is_clone (view_of h) c r legal e)
+    where
+      control_told : (b : Bool) → cond b (tell_a_sender h.control) h.control ≡ (cond b (record (view_of h) { control = tell_a_sender h.control }) (view_of h)).control
+      control_told true = refl
+      control_told false = refl

@@ -1,5 +1,6 @@
 -- What a send adds, and what comes back.
-use Rattle.std.proofs.Common.{◌≡◌, ℕ, ◌&&◌, not, Bool, true, false, cond, nat_lt, List, [], ◌∷◌, ◌++◌, length, Option, Some, None, Ok, Err, refl, sym, ap, ◌∙◌, append-nil}
+use Rattle.std.proofs.Common.{◌≡◌, ℕ, ◌&&◌, not, Bool, true, false, cond, nat_lt, List, [], ◌∷◌, ◌++◌, length, Option, Some, None, Result, Ok, Err, refl, sym, ap, ◌∙◌, append-nil}
+use Rattle.std.specs.Prelude.{is_ok}
 use Rattle.bcast_model.specs.declared.error.TrySendError.{TrySendError}
 use Rattle.bcast_model.specs.declared.error.TrySendError.TheVariants as unsent
 use Rattle.bcast_model.specs.declared.run.SendPoll.{SendPoll}
@@ -9,10 +10,10 @@ use Rattle.bcast_model.specs.declared.run.Call.TheVariants as call
 use Rattle.bcast_model.specs.declared.run.Reply.{Reply}
 use Rattle.bcast_model.specs.declared.run.Reply.TheVariants as reply
 use Rattle.bcast_model.specs.Words.{has_no_receiver, has_place, place_waits, View, is_full}
-use Rattle.bcast_model.specs.Words.{sends_are_ready, Effect, sets, refusal, reply_to_try}
+use Rattle.bcast_model.specs.Words.{sends_are_ready, Effect, sets, try_broadcast_reply}
 use Rattle.bcast_model.specs.Words.{reply_to_attempt, handed_back, attempt_send_reply}
-use Rattle.bcast_model.specs.Words.{accept_unless, offer, with_place_answered, poll_send, free_room}
-use Rattle.bcast_model.specs.Words.{refusal_of_all, reply_to_all, accept_all, accept_all_unless}
+use Rattle.bcast_model.specs.Words.{accept, offer, with_place_answered, poll_send, free_room}
+use Rattle.bcast_model.specs.Words.{try_broadcast_all_reply, accept_all}
 use Rattle.bcast_model.specs.Words.{effect, is_out_of_memory, History, view_of, next, Legal}
 use Rattle.bcast_model.specs.Words.{must_wait}
 use Rattle.bcast_model.proofs.Cases.{test_is}
@@ -35,24 +36,24 @@ module _ {T : Type 0} where
   none_added true = refl
   none_added false = refl
 
-  adds_try : (v : View T) (msg : T) (back : Option T) (error : Option (TrySendError T)) → (accept_unless v msg error).accepted ≡ added (is_accepted (reply.TryBroadcast (reply_to_try back error))) (msg ∷ [])
-  adds_try v msg back None = refl
-  adds_try v msg back (Some error) = refl
+  adds_try : (v : View T) (msg : T) (answer : Result (Option T) (TrySendError T)) → (cond (is_ok answer) (accept v msg) (sets v.control)).accepted ≡ added (is_accepted (reply.TryBroadcast answer)) (msg ∷ [])
+  adds_try v msg (Ok back) = refl
+  adds_try v msg (Err error) = refl
 
   adds_list : (v : View T) (msgs : List T) → (accept_all v msgs).accepted ≡ msgs
   adds_list v [] = refl
   adds_list v (msg ∷ msgs) = refl
 
-  adds_all : (v : View T) (msgs : List T) (error : Option (TrySendError (List T))) → (accept_all_unless v msgs error).accepted ≡ added (is_accepted {T = T} (reply.TryBroadcastAll (reply_to_all error))) msgs
-  adds_all v msgs None = adds_list v msgs
-  adds_all v msgs (Some error) = refl
+  adds_all : (v : View T) (msgs : List T) (answer : Result (Unit {0}) (TrySendError (List T))) → (cond (is_ok answer) (accept_all v msgs) (sets v.control)).accepted ≡ added (is_accepted {T = T} (reply.TryBroadcastAll answer)) msgs
+  adds_all v msgs (Ok done) = adds_list v msgs
+  adds_all v msgs (Err error) = refl
 
-  adds_attempt : (v : View T) (msg : T) (await : Bool) (back : Option T) (error : Option (TrySendError T)) → (accept_unless v msg error).accepted ≡ added (is_accepted (reply.AttemptSend (reply_to_attempt await back error))) (msg ∷ [])
-  adds_attempt v msg await back None = refl
-  adds_attempt v msg await back (Some (unsent.Closed m)) = refl
-  adds_attempt v msg true back (Some (unsent.Inactive m)) = refl
-  adds_attempt v msg false back (Some (unsent.Inactive m)) = refl
-  adds_attempt v msg await back (Some (unsent.Full m)) = refl
+  adds_attempt : (v : View T) (msg : T) (await : Bool) (answer : Result (Option T) (TrySendError T)) → (cond (is_ok answer) (accept v msg) (sets v.control)).accepted ≡ added (is_accepted (reply.AttemptSend (reply_to_attempt await answer))) (msg ∷ [])
+  adds_attempt v msg await (Ok back) = refl
+  adds_attempt v msg await (Err (unsent.Closed m)) = refl
+  adds_attempt v msg true (Err (unsent.Inactive m)) = refl
+  adds_attempt v msg false (Err (unsent.Inactive m)) = refl
+  adds_attempt v msg await (Err (unsent.Full m)) = refl
 
   -- a poll is answered as an attempt is
   as_attempt : (answer : SendPoll T) → is_accepted (reply.PollSend answer) ≡ is_accepted (reply.AttemptSend answer)
@@ -74,7 +75,7 @@ module _ {T : Type 0} where
       ≡ added (is_accepted (reply.PollSend (cond b answer (send.Wait msg)))) (msg ∷ [])) [
         | true ↦ λ known. elim (sends_are_ready v) as (λ b. sends_are_ready v ≡ b
             → (cond b (with_place_answered (offer v msg) place) (sets (place_waits v.control place))).accepted ≡ added (is_accepted (reply.PollSend answer)) (msg ∷ [])) [
-              | true ↦ λ _. adds_attempt v msg v.control.await_active (handed_back v) (refusal v msg) ∙ ap (λ b. added b (msg ∷ [])) (sym (as_attempt answer))
+              | true ↦ λ _. adds_attempt v msg v.control.await_active (try_broadcast_reply v msg) ∙ ap (λ b. added b (msg ∷ [])) (sym (as_attempt answer))
               | false ↦ λ ready.
                   let waits : must_wait (reply.PollSend answer) ≡ true = send_waits_unready is_clone v place msg (reply.PollSend answer) known (sym (ap (λ b. reply.PollSend (cond b answer (send.Wait msg))) known)) ∙ ap not ready in
                   ap (λ b. added b (msg ∷ [])) (sym (waits_unaccepted answer waits))
@@ -87,9 +88,9 @@ module _ {T : Type 0} where
 
   -- what a call adds
   adds : (is_clone : T → T → Type 0) (v : View T) (c : Call T) (r : Reply T) → Legal is_clone v c r → (effect v c r).accepted ≡ added (is_accepted r) (messages_of c)
-  adds is_clone v (call.TryBroadcast msg) r legal = rw legal (adds_try v msg (handed_back v) (refusal v msg))
-  adds is_clone v (call.TryBroadcastAll msgs) r legal = rw legal (adds_all v msgs (refusal_of_all v msgs))
-  adds is_clone v (call.AttemptSend msg) r legal = rw legal (adds_attempt v msg v.control.await_active (handed_back v) (refusal v msg))
+  adds is_clone v (call.TryBroadcast msg) r legal = rw legal (adds_try v msg (try_broadcast_reply v msg))
+  adds is_clone v (call.TryBroadcastAll msgs) r legal = rw legal (adds_all v msgs (try_broadcast_all_reply v msgs))
+  adds is_clone v (call.AttemptSend msg) r legal = rw legal (adds_attempt v msg v.control.await_active (try_broadcast_reply v msg))
   adds is_clone v (call.PollSend place msg) r legal = adds_poll is_clone v place msg r legal
   adds is_clone v (call.TryRecv key) r legal = adds_unless v _ r refl
   adds is_clone v (call.PollFuture key) r legal = adds_unless v _ r refl
@@ -105,15 +106,15 @@ module _ {T : Type 0} where
   nothing_added is_clone h c r legal refused = ap (◌++◌ h.accepted) (adds is_clone (view_of h) c r legal ∙ ap (λ b. added b (messages_of c)) refused) ∙ append-nil h.accepted
 
   -- ---- what comes back, by: closed, no receiver, full without overflow, and whether sends await a receiver
-  returns_try : (closed none full : Bool) (back : Option T) (msg : T) → is_accepted (reply.TryBroadcast (reply_to_try back (cond closed (Some (unsent.Closed msg)) (cond none (Some (unsent.Inactive msg)) (cond full (Some (unsent.Full msg)) None))))) ≡ false
-      → returned_by (reply.TryBroadcast (reply_to_try back (cond closed (Some (unsent.Closed msg)) (cond none (Some (unsent.Inactive msg)) (cond full (Some (unsent.Full msg)) None))))) ≡ Some msg
+  returns_try : (closed none full : Bool) (back : Option T) (msg : T) → is_accepted (reply.TryBroadcast (cond closed (Err (unsent.Closed msg)) (cond none (Err (unsent.Inactive msg)) (cond full (Err (unsent.Full msg)) (Ok back))))) ≡ false
+      → returned_by (reply.TryBroadcast (cond closed (Err (unsent.Closed msg)) (cond none (Err (unsent.Inactive msg)) (cond full (Err (unsent.Full msg)) (Ok back))))) ≡ Some msg
   returns_try true none full back msg e = refl
   returns_try false true full back msg e = refl
   returns_try false false true back msg e = refl
   returns_try false false false back msg e = apart (sym e)
 
-  returns_attempt : (closed none full await : Bool) (back : Option T) (msg : T) → is_accepted (reply.AttemptSend (reply_to_attempt await back (cond closed (Some (unsent.Closed msg)) (cond none (Some (unsent.Inactive msg)) (cond full (Some (unsent.Full msg)) None))))) ≡ false
-      → returned_by (reply.AttemptSend (reply_to_attempt await back (cond closed (Some (unsent.Closed msg)) (cond none (Some (unsent.Inactive msg)) (cond full (Some (unsent.Full msg)) None))))) ≡ Some msg
+  returns_attempt : (closed none full await : Bool) (back : Option T) (msg : T) → is_accepted (reply.AttemptSend (reply_to_attempt await (cond closed (Err (unsent.Closed msg)) (cond none (Err (unsent.Inactive msg)) (cond full (Err (unsent.Full msg)) (Ok back)))))) ≡ false
+      → returned_by (reply.AttemptSend (reply_to_attempt await (cond closed (Err (unsent.Closed msg)) (cond none (Err (unsent.Inactive msg)) (cond full (Err (unsent.Full msg)) (Ok back)))))) ≡ Some msg
   returns_attempt true none full await back msg e = refl
   returns_attempt false true full true back msg e = refl
   returns_attempt false true full false back msg e = refl
@@ -140,8 +141,8 @@ module _ {T : Type 0} where
       ap returned_by legal ∙ returns_poll v (has_place v.control place) m (sym (ap is_accepted legal) ∙ refused) ∙ is
   returned_back is_clone v c r msg legal is refused = none_some msg is
 
-  returns_all : (closed none full : Bool) (msgs : List T) → is_accepted {T = T} (reply.TryBroadcastAll (reply_to_all (cond closed (Some (unsent.Closed msgs)) (cond none (Some (unsent.Inactive msgs)) (cond full (Some (unsent.Full msgs)) None))))) ≡ false
-      → returned_all_by {T = T} (reply.TryBroadcastAll (reply_to_all (cond closed (Some (unsent.Closed msgs)) (cond none (Some (unsent.Inactive msgs)) (cond full (Some (unsent.Full msgs)) None))))) ≡ Some msgs
+  returns_all : (closed none full : Bool) (msgs : List T) → is_accepted {T = T} (reply.TryBroadcastAll (cond closed (Err (unsent.Closed msgs)) (cond none (Err (unsent.Inactive msgs)) (cond full (Err (unsent.Full msgs)) (Ok tt))))) ≡ false
+      → returned_all_by {T = T} (reply.TryBroadcastAll (cond closed (Err (unsent.Closed msgs)) (cond none (Err (unsent.Inactive msgs)) (cond full (Err (unsent.Full msgs)) (Ok tt))))) ≡ Some msgs
   returns_all true none full msgs e = refl
   returns_all false true full msgs e = refl
   returns_all false false true msgs e = refl

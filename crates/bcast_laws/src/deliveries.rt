@@ -1,6 +1,5 @@
 //! What the receivers of a run are given: laws of the definitions.
-ghost use Rattle.bcast_model.specs.Deliveries.{DeliveriesAreExact};
-ghost use Rattle.bcast_model.specs.Missed.{DeliveriesTile, DroppedNumbersRise, MissedWereDropped};
+ghost use Rattle.bcast_model.specs.DeliveryLaws.{DeliveriesAreExact, DeliveriesTile, DroppedNumbersRise, MissedWereDropped};
 
 /// Law: in each run the deliveries of every receiver are exact. They are the accepted messages from
 /// its start to its cursor, in order: each message itself or a clone of it, or a missed one.

@@ -7,7 +7,7 @@ use Rattle.bcast_model.specs.Words.{Cursors, tell_a_sender, View, sends_are_read
 use Rattle.bcast_model.specs.Words.{History, view_of, remember, tell_if_ready, may_tell, next}
 use Rattle.bcast_model.specs.Words.{IsValid, Represents, IsShown, IsPossible, Answers, settle}
 use Rattle.bcast_model.specs.Words.{next_view, Steps, HasRange}
-use Rattle.bcast_model.proofs.Cases.{test_is}
+use Rattle.bcast_model.proofs.Cases.{test_is, tell_is}
 use Rattle.bcast_model.proofs.Views.{valid_view}
 use Rattle.bcast_model.proofs.Lift.{KeepsValid, valid_told, view_of-told}
 use Rattle.bcast_model.proofs.Calls.{keeps_valid}
@@ -18,7 +18,7 @@ module _ {T : Type 0} where
   cursors-tell_if_ready may v = test_is (λ (w : View T). w.control.cursors ≡ v.control.cursors) (may && sends_are_ready v) (record v { control = tell_a_sender v.control }) v (λ _. refl) (λ _. refl)
 
   pub cursors-next : (h : History T) (c : Call T) (r : Reply T) → (next h c r).control.cursors ≡ (effect (view_of h) c r).control.cursors
-  cursors-next h c r = cursors-tell_if_ready (may_tell h.control (sends_are_ready (view_of h)) c) (view_of (remember h (effect (view_of h) c r)))
+  cursors-next h c r = tell_is (λ (now : History T). now.control.cursors ≡ (effect (view_of h) c r).control.cursors) (may_tell h.control (sends_are_ready (view_of h)) c) (remember h (effect (view_of h) c r)) (λ _. refl) (λ _. refl)
 
   module _ (is_clone : T → T → Type 0) (h : History T) (c : Call T) (r : Reply T) (valid : IsValid h) (few : HasRange c (len (effect (view_of h) c r).control.cursors)) (legal : Legal is_clone (view_of h) c r) where
     keeps : KeepsValid (view_of h) (effect (view_of h) c r) (may_tell h.control (sends_are_ready (view_of h)) c)

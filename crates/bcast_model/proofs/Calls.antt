@@ -9,7 +9,7 @@ use Rattle.bcast_model.specs.Words.{stream_of, future_of, close, place_ended, pa
 use Rattle.bcast_model.specs.Words.{begin_send, new_receiver, activate, clone_receiver, new_sender}
 use Rattle.bcast_model.specs.Words.{clone_inactive, drop_receiver, deactivate, drop_sender}
 use Rattle.bcast_model.specs.Words.{drop_inactive, receive, skipped_to, receive_poll}
-use Rattle.bcast_model.specs.Words.{try_recv_reply, is_out_of_memory, chosen_id, may_tell, View}
+use Rattle.bcast_model.specs.Words.{is_out_of_memory, chosen_id, may_tell, View}
 use Rattle.bcast_model.specs.Words.{sends_are_ready, Legal, sets, effect, resize, HasRange}
 use Rattle.bcast_model.specs.Words.{IsValidView}
 use Rattle.bcast_model.proofs.Cases.{test_is, uncloned}
@@ -29,15 +29,15 @@ module _ {T : Type 0} (is_clone : T → T → Type 0) where
   keeps_valid call.BeginSend r v valid range legal = keeps_sets v valid (begin_send v.control (chosen_id r)) (kept_begin_send v valid (chosen_id r))
   keeps_valid (call.PollSend place msg) r v valid range legal = keeps_poll_send v valid place msg
   keeps_valid (call.EndSend place) r v valid range legal = keeps_sets v valid (place_ended v.control place) (kept_end_send v valid place)
-  keeps_valid (call.TryRecv key) r v valid range legal = keeps_unless v valid r (receive v.front v.end v.control key (cursor_of v.control key)) (kept_receive v valid key (cursor_of v.control key) refl)
+  keeps_valid (call.TryRecv key) r v valid range legal = keeps_unless v valid r (receive v key (cursor_of v.control key)) (kept_receive v valid key (cursor_of v.control key) refl)
   keeps_valid (call.PollFuture key) r v valid range legal =
-      keeps_unless v valid r (receive_poll v.front v.end v.control (future_of key) (cursor_of v.control key) (try_recv_reply v (cursor_of v.control key))) (kept_poll v valid (future_of key) (cursor_of v.control key) refl)
+      keeps_unless v valid r (receive_poll v (future_of key) (cursor_of v.control key)) (kept_poll v valid (future_of key) (cursor_of v.control key) refl)
   keeps_valid (call.EndFuture key) r v valid range legal = keeps_sets v valid (pair_ended v.control (future_of key)) (kept_pair_dropped v valid (future_of key))
   keeps_valid (call.PollRecv key) r v valid range legal =
-      keeps_unless v valid r (receive_poll v.front v.end v.control (stream_of key) (cursor_of v.control key) (try_recv_reply v (cursor_of v.control key))) (kept_poll v valid (stream_of key) (cursor_of v.control key) refl)
+      keeps_unless v valid r (receive_poll v (stream_of key) (cursor_of v.control key)) (kept_poll v valid (stream_of key) (cursor_of v.control key) refl)
   keeps_valid (call.PollNext key) r v valid range legal =
       let cursor : Option ℕ = skipped_to v.front (cursor_of v.control key) in
-      keeps_unless v valid r (receive_poll v.front v.end v.control (stream_of key) cursor (try_recv_reply v cursor)) (kept_poll_next v valid (stream_of key) (cursor_of v.control key) refl)
+      keeps_unless v valid r (receive_poll v (stream_of key) cursor) (kept_poll_next v valid (stream_of key) (cursor_of v.control key) refl)
   keeps_valid call.Close r v valid range legal = keeps_sets v valid (close v.control) (let k = kept_idle v valid in kept_close v v.control k.sound k.fits k.told)
   keeps_valid (call.SetCapacity n) r v valid range legal = test_is (λ e. KeepsValid v e (not (sends_are_ready v))) (is_out_of_memory r) (sets v.control) (resize v n)
       (λ _. keeps_sets v valid v.control (kept_idle v valid))

@@ -1,10 +1,13 @@
 -- The conditional parts of a call, each by its cases.
-use Rattle.std.proofs.Common.{◌≡◌, ℕ, ◌+◌, ◌<◌, ◌≤◌, ◌==◌, ◌&&◌, Bool, true, false, cond, Option, Some, None, nat_lt, refl, arith}
+use Rattle.std.proofs.Common.{◌≡◌, ℕ, ◌+◌, ◌<◌, ◌≤◌, ◌==◌, ◌&&◌, Bool, true, false, cond, Option, Some, None, Result, Ok, Err, not, nat_lt, refl, arith}
 use Rattle.std.proofs.lemmas.Grind.{common_steps}
 use Rattle.bcast_model.specs.Words.{Control, last_end, tell_a_sender, tell_receivers, closing}
 use Rattle.bcast_model.specs.Words.{close, is_deserted, close_if_deserted, accepting, with_cursor}
 use Rattle.bcast_model.specs.Words.{History, with_control, view_of, View, sends_are_ready}
-use Rattle.bcast_model.specs.Words.{clone_receiver, end_call, receive}
+use Rattle.bcast_model.specs.declared.error.TrySendError.{TrySendError}
+use Rattle.bcast_model.specs.declared.error.TrySendError.TheVariants as unsent
+use Rattle.bcast_model.specs.Words.{clone_receiver, end_call, receive, has_no_receiver, is_full}
+use Rattle.bcast_model.specs.Words.{try_broadcast_reply, handed_back}
 
 -- a value that is one of two, where the test was computed
 pub test_is : {A : Type 0} (P : A → Type 0) (b : Bool) (x y : A) → (b ≡ true → P x) → (b ≡ false → P y) → P (cond b x y)
@@ -42,26 +45,38 @@ pub cursors-accepting : (c : Control) (end : ℕ) → (accepting c end).cursors 
 cursors-accepting c end = accepting_is (λ now. now.cursors ≡ c.cursors) c end (cursors-close (tell_receivers c)) (λ _. refl)
 
 -- ---- receiving and telling
--- a receive leaves who lags at the front, goes past a message, or finds none
-pub receive_is : (P : Control → Type 0) (front end : ℕ) (c : Control) (key cursor : ℕ)
-    → (cursor < front → P (with_cursor c key front)) → (front ≤ cursor → cursor < end → P (with_cursor c key (cursor + 1))) → (front ≤ cursor → end ≤ cursor → P c)
-    → P (receive front end c key (Some cursor))
-receive_is P front end c key cursor lags takes none =
-    test_is P (nat_lt cursor front) (with_cursor c key front) (cond (nat_lt cursor end) (with_cursor c key (cursor + 1)) c)
-    (λ e. lags (grind (arith, common_steps, e)))
-    (λ e. test_is P (nat_lt cursor end) (with_cursor c key (cursor + 1)) c (λ f. takes (grind (arith, common_steps, e)) (grind (arith, common_steps, f))) (λ f. none (grind (arith, common_steps, e)) (grind (arith, common_steps, f))))
+module _ {T : Type 0} (v : View T) where
+  -- a receive leaves who lags at the front, goes past a message, or finds none
+  pub receive_is : (P : Control → Type 0) (key cursor : ℕ)
+      → (cursor < v.front → P (with_cursor v.control key v.front)) → (v.front ≤ cursor → cursor < v.end → P (with_cursor v.control key (cursor + 1))) → (v.front ≤ cursor → v.end ≤ cursor → P v.control)
+      → P (receive v key (Some cursor))
+  receive_is P key cursor lags takes none =
+      test_is P (nat_lt cursor v.front) (with_cursor v.control key v.front) (cond (nat_lt cursor v.end) (with_cursor v.control key (cursor + 1)) v.control)
+      (λ e. lags (grind (arith, common_steps, e)))
+      (λ e. test_is P (nat_lt cursor v.end) (with_cursor v.control key (cursor + 1)) v.control (λ f. takes (grind (arith, common_steps, e)) (grind (arith, common_steps, f))) (λ f. none (grind (arith, common_steps, e)) (grind (arith, common_steps, f))))
 
--- ---- a receive leaves both lists of who waits
-pub waiting_sends-receive : (front end : ℕ) (c : Control) (key : ℕ) (cursor : Option ℕ) → (receive front end c key cursor).waiting_sends ≡ c.waiting_sends
-waiting_sends-receive front end c key None = refl
-waiting_sends-receive front end c key (Some cursor) = receive_is (λ now. now.waiting_sends ≡ c.waiting_sends) front end c key cursor (λ _. refl) (λ _ _. refl) (λ _ _. refl)
+  -- ---- a receive leaves both lists of who waits
+  pub waiting_sends-receive : (key : ℕ) (cursor : Option ℕ) → (receive v key cursor).waiting_sends ≡ v.control.waiting_sends
+  waiting_sends-receive key None = refl
+  waiting_sends-receive key (Some cursor) = receive_is (λ now. now.waiting_sends ≡ v.control.waiting_sends) key cursor (λ _. refl) (λ _ _. refl) (λ _ _. refl)
 
-pub waiting_receives-receive : (front end : ℕ) (c : Control) (key : ℕ) (cursor : Option ℕ) → (receive front end c key cursor).waiting_receives ≡ c.waiting_receives
-waiting_receives-receive front end c key None = refl
-waiting_receives-receive front end c key (Some cursor) = receive_is (λ now. now.waiting_receives ≡ c.waiting_receives) front end c key cursor (λ _. refl) (λ _ _. refl) (λ _ _. refl)
+  pub waiting_receives-receive : (key : ℕ) (cursor : Option ℕ) → (receive v key cursor).waiting_receives ≡ v.control.waiting_receives
+  waiting_receives-receive key None = refl
+  waiting_receives-receive key (Some cursor) = receive_is (λ now. now.waiting_receives ≡ v.control.waiting_receives) key cursor (λ _. refl) (λ _ _. refl) (λ _ _. refl)
 
 module _ {T : Type 0} where
   pub tell_is : (P : History T → Type 0) (may : Bool) (h : History T) → ((may && sends_are_ready (view_of h)) ≡ true → P (with_control h (tell_a_sender h.control))) → ((may && sends_are_ready (view_of h)) ≡ false → P h) → P (end_call may h)
-  tell_is P may h tells keeps =
-      let v : View T = view_of h in
-      test_is (λ (w : View T). P (with_control h w.control)) (may && sends_are_ready v) (record v { control = tell_a_sender v.control }) v tells keeps
+  tell_is P may h tells keeps = test_is (λ c. P (with_control h c)) (may && sends_are_ready (view_of h)) (tell_a_sender h.control) h.control tells keeps
+
+-- ---- a send is refused for one of three reasons, or accepted
+sent_is : {A E : Type 0} (P : Result A E → Type 0) (closed none full : Bool) (x y z : E) (back : A) → ((error : E) → P (Err error)) → P (Ok back) → P (cond closed (Err x) (cond none (Err y) (cond full (Err z) (Ok back))))
+sent_is P true none full x y z back refused accepted = refused x
+sent_is P false true full x y z back refused accepted = refused y
+sent_is P false false true x y z back refused accepted = refused z
+sent_is P false false false x y z back refused accepted = accepted
+
+module _ {T : Type 0} where
+  pub try_is : (P : Result (Option T) (TrySendError T) → Type 0) (v : View T) (msg : T) → ((error : TrySendError T) → try_broadcast_reply v msg ≡ Err error → P (Err error)) → (try_broadcast_reply v msg ≡ Ok (handed_back v) → P (Ok (handed_back v)))
+      → P (try_broadcast_reply v msg)
+  try_is P v msg refused accepted =
+      sent_is (λ answer. try_broadcast_reply v msg ≡ answer → P answer) v.control.closed (has_no_receiver v.control) (is_full v && not v.control.overflow) (unsent.Closed msg) (unsent.Inactive msg) (unsent.Full msg) (handed_back v) refused accepted refl

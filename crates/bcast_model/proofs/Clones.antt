@@ -1,32 +1,37 @@
 -- Fewer clones, and what a receive hands out.
-use Rattle.std.proofs.Common.{inl, inr, List, [], ◌∷◌, Result, Ok, sym, ap, ◌∙◌}
+use Rattle.std.proofs.Common.{inl, inr, ℕ, Option, List, [], ◌∷◌, Result, Ok, sym, ap, ◌∙◌}
+use Rattle.std.specs.declared.alloc.AllocError.{AllocError}
 use Rattle.bcast_model.specs.declared.error.TryRecvError.{TryRecvError}
 use Rattle.bcast_model.specs.declared.run.Call.{Call}
 use Rattle.bcast_model.specs.declared.run.Call.TheVariants as call
 use Rattle.bcast_model.specs.declared.run.Reply.{Reply}
+use Rattle.bcast_model.specs.declared.run.Reply.TheVariants as reply
 use Rattle.bcast_model.specs.Words.{History, view_of, Legal, IsGiven, NoClone, ClonesEqual}
-use Rattle.bcast_model.specs.Words.{IsReceived, next, View, Answers, IsRun}
+use Rattle.bcast_model.specs.Words.{IsReceivedBy, next, View, Answers, IsRun, cursor_of}
+use Rattle.bcast_model.specs.Words.{skipped_to, skipped_count, future_reply, stream_reply, next_reply}
 
 module _ {T : Type 0} where
   module _ (p q : T → T → Type 0) (wider : (msg given : T) → p msg given → IsGiven q msg given) where
     -- a receive that p allows is allowed by q, where q allows each clone that p does, or it is the message itself
-    received_wider : (owed : Type 0) (spelt : Result T TryRecvError → Reply T) (refused : Reply T) (exact : Result T TryRecvError) (r : Reply T) → IsReceived p owed spelt refused exact r → IsReceived q owed spelt refused exact r
-    received_wider owed spelt refused exact r legal = elim legal [
+    received_wider : {X : Type 0} (v : View T) (key : ℕ) (cursor : Option ℕ) (variant : Result X AllocError → Reply T) (word : Result T TryRecvError → X) (r : Reply T) → IsReceivedBy p v key cursor variant word r → IsReceivedBy q v key cursor variant word r
+    received_wider v key cursor variant word r legal = elim legal [
       | inl e ↦ inl e
       | inr s ↦ elim s.1 [
-        | inl clone ↦ elim (wider clone.msg clone.given clone.cloned) [
-          | inl e ↦ inl (clone.reply ∙ ap (λ msg. spelt (Ok msg)) e ∙ ap spelt (sym clone.exactly))
-          | inr cloned ↦ inr (s.0, inl (record { msg = clone.msg; given = clone.given; exactly = clone.exactly; cloned = cloned; reply = clone.reply }))
+        | inl clone ↦ elim (wider clone.0 clone.1 clone.3) [
+          | inl e ↦ inl (clone.4 ∙ ap (λ msg. variant (Ok (word (Ok msg)))) e ∙ ap (λ answer. variant (Ok (word answer))) (sym clone.2))
+          | inr cloned ↦ inr (s.0, inl (clone.0, clone.1, clone.2, cloned, clone.4))
         ]
         | inr e ↦ inr (s.0, inr e)
       ]
     ]
 
     pub legal_wider : (v : View T) (c : Call T) (r : Reply T) → Legal p v c r → Legal q v c r
-    legal_wider v (call.TryRecv key) r legal = received_wider _ _ _ _ r legal
-    legal_wider v (call.PollFuture key) r legal = received_wider _ _ _ _ r legal
-    legal_wider v (call.PollRecv key) r legal = received_wider _ _ _ _ r legal
-    legal_wider v (call.PollNext key) r legal = received_wider _ _ _ _ r legal
+    legal_wider v (call.TryRecv key) r legal = received_wider v key (cursor_of v.control key) reply.TryRecv (λ answer. answer) r legal
+    legal_wider v (call.PollFuture key) r legal = received_wider v key (cursor_of v.control key) reply.PollFuture future_reply r legal
+    legal_wider v (call.PollRecv key) r legal = received_wider v key (cursor_of v.control key) reply.PollRecv stream_reply r legal
+    legal_wider v (call.PollNext key) r legal = (
+        let cursor = cursor_of v.control key in
+        received_wider v key (skipped_to v.front cursor) reply.PollNext (next_reply (skipped_count v.front cursor)) r legal)
     legal_wider v other r legal = legal
 
   pub answers_wider : {p q : T → T → Type 0} {old new : View T} {c : Call T} {r : Reply T} → ((msg given : T) → p msg given → IsGiven q msg given) → Answers p old c r new → Answers q old c r new

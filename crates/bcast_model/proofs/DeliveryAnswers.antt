@@ -117,7 +117,7 @@ module _ {T : Type 0} where
 
   pub gives_answer : {is_clone : T → T → Type 0} (h : History T) (key cursor skips : ℕ) (answer : Result T TryRecvError) → h.first ≤ h.floor → cursor_of h.control key ≡ Some cursor
       → (skips ≡ 0) ⊎ (cursor + skips ≡ front_number h) → IsAnswer is_clone (try_recv_reply (view_of h) (Some (cursor + skips))) answer
-      → Gives is_clone h key cursor (receive (front_number h) (end_number h) h.control key (Some (cursor + skips))).cursors (entries_of skips answer)
+      → Gives is_clone h key cursor (receive (view_of h) key (Some (cursor + skips))).cursors (entries_of skips answer)
   gives_answer {is_clone = is_clone} h key cursor skips answer low is exact given =
       elim (nat_lt (cursor + skips) (front_number h)) as (λ b. nat_lt (cursor + skips) (front_number h) ≡ b
       → IsAnswer is_clone (cond b (Err (unread.Overflowed (front_number h - (cursor + skips)))) (recv_reply h.control.closed (kept_at (view_of h) (cursor + skips)))) answer

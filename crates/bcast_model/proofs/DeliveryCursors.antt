@@ -1,15 +1,14 @@
 -- What each call does to the receivers' cursors.
-use Rattle.std.proofs.Common.{◌≡◌, inl, inr, ℕ, ◌+◌, ◌-◌, ◌≤◌, ◌==◌, ◌||◌, not, max, Bool, true, false, cond, Option, Some, None, Result, nat_lt, refl, sym, ap, subst, arith}
+use Rattle.std.proofs.Common.{◌≡◌, inl, inr, ℕ, ◌+◌, ◌-◌, ◌≤◌, ◌==◌, ◌||◌, not, max, Bool, true, false, cond, Option, Some, None, nat_lt, refl, sym, ap, subst, arith}
+use Rattle.std.specs.Prelude.{is_ok}
 use Rattle.std.proofs.lemmas.Grind.{common_steps}
 use Rattle.std.specs.FinMap.{get}
-use Rattle.bcast_model.specs.declared.error.TrySendError.{TrySendError}
-use Rattle.bcast_model.specs.declared.error.TryRecvError.{TryRecvError}
 use Rattle.bcast_model.specs.declared.run.Call.{Call}
 use Rattle.bcast_model.specs.declared.run.Call.TheVariants as call
 use Rattle.bcast_model.specs.declared.run.Reply.{Reply}
 use Rattle.bcast_model.specs.Words.{Pair, stream_of, future_of, Control, close_if_deserted}
 use Rattle.bcast_model.specs.Words.{has_place, with_cursor, place_waits, cursor_of, View}
-use Rattle.bcast_model.specs.Words.{sends_are_ready, Effect, sets, refusal, accept_unless, offer}
+use Rattle.bcast_model.specs.Words.{sends_are_ready, Effect, sets, try_broadcast_reply, accept, offer}
 use Rattle.bcast_model.specs.Words.{with_place_answered, poll_send, receive, skipped_to}
 use Rattle.bcast_model.specs.Words.{receive_poll, is_empty_reply, try_recv_reply, Legal, resize}
 use Rattle.bcast_model.specs.Words.{set_unless_refused, effect, is_out_of_memory, chosen_id}
@@ -20,24 +19,25 @@ use Rattle.bcast_model.proofs.Cases.{test_is, uncloned, cursors-close, cursors-c
 use Rattle.bcast_model.proofs.SendAll.{cursors-offer_all}
 use Rattle.bcast_model.proofs.DeliveryMaps.{CursorsChange, stay, rise, make_at_end, make_where, leave, cursors-listens, cursors-begin_send}
 
-rise_from : (front end : ℕ) (receives : ℕ → Bool) (c : Control) (key from at : ℕ) → receives key ≡ true → get c.cursors key ≡ Some from → from ≤ at → CursorsChange front end receives c.cursors (receive front end c key (Some at)).cursors
-rise_from front end receives c key from at reads is le =
-    elim (nat_lt at front) as (λ b. nat_lt at front ≡ b → CursorsChange front end receives c.cursors (cond b (with_cursor c key front) (cond (nat_lt at end) (with_cursor c key (at + 1)) c)).cursors) [
-      | true ↦ λ t. rise key from front reads is (grind (arith, common_steps, t, le)) (inl (omega arith)) refl
-      | false ↦ λ t. elim (nat_lt at end) as (λ b. nat_lt at end ≡ b → CursorsChange front end receives c.cursors (cond b (with_cursor c key (at + 1)) c).cursors) [
-        | true ↦ λ u. rise key from (at + 1) reads is (omega arith) (inr (grind (arith, common_steps, u))) refl
-        | false ↦ λ u. stay refl
+module _ {T : Type 0} (v : View T) where
+  rise_from : (receives : ℕ → Bool) (key from at : ℕ) → receives key ≡ true → get v.control.cursors key ≡ Some from → from ≤ at → CursorsChange v.front v.end receives v.control.cursors (receive v key (Some at)).cursors
+  rise_from receives key from at reads is le =
+      elim (nat_lt at v.front) as (λ b. nat_lt at v.front ≡ b → CursorsChange v.front v.end receives v.control.cursors (cond b (with_cursor v.control key v.front) (cond (nat_lt at v.end) (with_cursor v.control key (at + 1)) v.control)).cursors) [
+        | true ↦ λ t. rise key from v.front reads is (grind (arith, common_steps, t, le)) (inl (omega arith)) refl
+        | false ↦ λ t. elim (nat_lt at v.end) as (λ b. nat_lt at v.end ≡ b → CursorsChange v.front v.end receives v.control.cursors (cond b (with_cursor v.control key (at + 1)) v.control).cursors) [
+          | true ↦ λ u. rise key from (at + 1) reads is (omega arith) (inr (grind (arith, common_steps, u))) refl
+          | false ↦ λ u. stay refl
+        ] refl
       ] refl
-    ] refl
 
--- a receive at the receiver's cursor, and one that goes on at the front
-rise_at : (front end : ℕ) (receives : ℕ → Bool) (c : Control) (key : ℕ) (cursor : Option ℕ) → receives key ≡ true → get c.cursors key ≡ cursor → CursorsChange front end receives c.cursors (receive front end c key cursor).cursors
-rise_at front end receives c key None reads is = stay refl
-rise_at front end receives c key (Some cursor) reads is = rise_from front end receives c key cursor cursor reads is (omega arith)
+  -- a receive at the receiver's cursor, and one that goes on at the front
+  rise_at : (receives : ℕ → Bool) (key : ℕ) (cursor : Option ℕ) → receives key ≡ true → get v.control.cursors key ≡ cursor → CursorsChange v.front v.end receives v.control.cursors (receive v key cursor).cursors
+  rise_at receives key None reads is = stay refl
+  rise_at receives key (Some cursor) reads is = rise_from receives key cursor cursor reads is (omega arith)
 
-rise_skipping : (front end : ℕ) (receives : ℕ → Bool) (c : Control) (key : ℕ) (cursor : Option ℕ) → receives key ≡ true → get c.cursors key ≡ cursor → CursorsChange front end receives c.cursors (receive front end c key (skipped_to front cursor)).cursors
-rise_skipping front end receives c key None reads is = stay refl
-rise_skipping front end receives c key (Some cursor) reads is = rise_from front end receives c key cursor (max cursor front) reads is (omega arith)
+  rise_skipping : (receives : ℕ → Bool) (key : ℕ) (cursor : Option ℕ) → receives key ≡ true → get v.control.cursors key ≡ cursor → CursorsChange v.front v.end receives v.control.cursors (receive v key (skipped_to v.front cursor)).cursors
+  rise_skipping receives key None reads is = stay refl
+  rise_skipping receives key (Some cursor) reads is = rise_from receives key cursor (max cursor v.front) reads is (omega arith)
 
 same_key : (key : ℕ) → (key == key) ≡ true
 same_key key = grind (arith, common_steps)
@@ -68,12 +68,8 @@ cursors-clone_inactive : (c : Control) → (clone_inactive c).cursors ≡ c.curs
 cursors-clone_inactive c = elim ((c.inactive == 0) || not (has_next c.inactive)) as (λ b. (cond b c (record c { inactive = c.inactive + 1 })).cursors ≡ c.cursors) [ true ↦ refl | false ↦ refl ]
 
 module _ {T : Type 0} where
-  cursors-accept_unless : (v : View T) (msg : T) (error : Option (TrySendError T)) → (accept_unless v msg error).control.cursors ≡ v.control.cursors
-  cursors-accept_unless v msg None = cursors-accepting v.control v.end
-  cursors-accept_unless v msg (Some error) = refl
-
   cursors-offer : (v : View T) (msg : T) → (offer v msg).control.cursors ≡ v.control.cursors
-  cursors-offer v msg = cursors-accept_unless v msg (refusal v msg)
+  cursors-offer v msg = test_is (λ (e : Effect T). e.control.cursors ≡ v.control.cursors) (is_ok (try_broadcast_reply v msg)) (accept v msg) (sets v.control) (λ _. cursors-accepting v.control v.end) (λ _. refl)
 
   cursors-poll_send : (v : View T) (place : ℕ) (msg : T) → (poll_send v place msg).control.cursors ≡ v.control.cursors
   cursors-poll_send v place msg =
@@ -88,11 +84,11 @@ module _ {T : Type 0} where
   unless : (v : View T) (e : Effect T) (c : Call T) (r : Reply T) → Changes v c e.control → Changes v c (cond (is_out_of_memory r) (sets v.control) e).control
   unless v e c r change = test_is (λ (e : Effect T). Changes v c e.control) (is_out_of_memory r) (sets v.control) e (λ _. stay refl) (λ _. change)
 
-  polled : (v : View T) (c : Call T) (r : Reply T) (pair : Pair) (cursor : Option ℕ) (answer : Result T TryRecvError) → Changes v c (receive v.front v.end v.control pair.0 cursor)
-      → Changes v c (set_unless_refused r v (receive_poll v.front v.end v.control pair cursor answer)).control
-  polled v c r pair cursor answer change =
-      unless v (sets (receive_poll v.front v.end v.control pair cursor answer)) c r
-      (subst (CursorsChange v.front v.end (λ key. receives_for key c) v.control.cursors) (sym (cursors-listens (receive v.front v.end v.control pair.0 cursor) pair (is_empty_reply answer))) change)
+  polled : (v : View T) (c : Call T) (r : Reply T) (pair : Pair) (cursor : Option ℕ) → Changes v c (receive v pair.0 cursor)
+      → Changes v c (set_unless_refused v r (receive_poll v pair cursor)).control
+  polled v c r pair cursor change =
+      unless v (sets (receive_poll v pair cursor)) c r
+      (subst (CursorsChange v.front v.end (λ key. receives_for key c) v.control.cursors) (sym (cursors-listens (receive v pair.0 cursor) pair (is_empty_reply (try_recv_reply v cursor)))) change)
 
   pub changes : (is_clone : T → T → Type 0) (v : View T) (c : Call T) (r : Reply T) → Legal is_clone v c r → Changes v c (effect v c r).control
   changes is_clone v (call.TryBroadcast msg) r legal = stay (cursors-offer v msg)
@@ -101,14 +97,14 @@ module _ {T : Type 0} where
   changes is_clone v call.BeginSend r legal = stay (cursors-begin_send v.control (chosen_id r))
   changes is_clone v (call.PollSend place msg) r legal = stay (cursors-poll_send v place msg)
   changes is_clone v (call.TryRecv key) r legal =
-      unless v (sets (receive v.front v.end v.control key (cursor_of v.control key))) (call.TryRecv key) r (rise_at _ _ _ v.control key (cursor_of v.control key) (same_key key) refl)
+      unless v (sets (receive v key (cursor_of v.control key))) (call.TryRecv key) r (rise_at v _ key (cursor_of v.control key) (same_key key) refl)
   changes is_clone v (call.PollFuture key) r legal =
-      polled v (call.PollFuture key) r (future_of key) (cursor_of v.control key) (try_recv_reply v (cursor_of v.control key)) (rise_at _ _ _ v.control key (cursor_of v.control key) (same_key key) refl)
+      polled v (call.PollFuture key) r (future_of key) (cursor_of v.control key) (rise_at v _ key (cursor_of v.control key) (same_key key) refl)
   changes is_clone v (call.PollRecv key) r legal =
-      polled v (call.PollRecv key) r (stream_of key) (cursor_of v.control key) (try_recv_reply v (cursor_of v.control key)) (rise_at _ _ _ v.control key (cursor_of v.control key) (same_key key) refl)
+      polled v (call.PollRecv key) r (stream_of key) (cursor_of v.control key) (rise_at v _ key (cursor_of v.control key) (same_key key) refl)
   changes is_clone v (call.PollNext key) r legal =
       let cursor = skipped_to v.front (cursor_of v.control key) in
-      polled v (call.PollNext key) r (stream_of key) cursor (try_recv_reply v cursor) (rise_skipping _ _ _ v.control key (cursor_of v.control key) (same_key key) refl)
+      polled v (call.PollNext key) r (stream_of key) cursor (rise_skipping v _ key (cursor_of v.control key) (same_key key) refl)
   changes is_clone v call.Close r legal = stay (cursors-close v.control)
   changes is_clone v (call.SetCapacity n) r legal = unless v (resize v n) (call.SetCapacity n) r (stay refl)
   changes is_clone v call.NewSender r legal = stay (cursors-new_sender v.control)

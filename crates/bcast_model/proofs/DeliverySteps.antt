@@ -10,11 +10,11 @@ use Rattle.bcast_model.specs.declared.run.Call.TheVariants as call
 use Rattle.bcast_model.specs.declared.run.Reply.{Reply}
 use Rattle.bcast_model.specs.declared.run.Reply.TheVariants as reply
 use Rattle.bcast_model.specs.Words.{stream_of, future_of, Cursors, cursor_of, History, view_of}
-use Rattle.bcast_model.specs.Words.{front_number, end_number, receive, recv_reply, recv_reply_at}
+use Rattle.bcast_model.specs.Words.{front_number, end_number, receive, recv_reply}
 use Rattle.bcast_model.specs.Words.{try_recv_reply, is_empty_reply, skipped_count, skipped_to}
 use Rattle.bcast_model.specs.Words.{future_reply, stream_reply, next_reply, IsOwed, Legal}
 use Rattle.bcast_model.specs.Words.{IsReceived, kept_at, effect, next, receives_for, given_by}
-use Rattle.bcast_model.specs.Words.{given_to}
+use Rattle.bcast_model.specs.Words.{given_to, View}
 use Rattle.bcast_model.proofs.Answers.{cursors-next}
 use Rattle.bcast_model.proofs.DeliveryMaps.{cursors-listens, stands_or_left}
 use Rattle.bcast_model.proofs.DeliveryCursors.{changes}
@@ -55,10 +55,10 @@ module _ {T : Type 0} where
   found_reached true None n e = cc
   found_reached false None n e = cc
 
-  received_reached : (closed : Bool) (front : ℕ) (message : ℕ → Option T) (cursor n : ℕ) → front ≤ cursor → recv_reply_at closed front message (Some cursor) ≡ Err (unread.Overflowed n) → ⊥
-  received_reached closed front message cursor n low e =
-      let past : nat_lt cursor front ≡ false = grind (arith, common_steps, low) in
-      found_reached closed (message cursor) n (rw past at e)
+  received_reached : (v : View T) (cursor n : ℕ) → v.front ≤ cursor → try_recv_reply v (Some cursor) ≡ Err (unread.Overflowed n) → ⊥
+  received_reached v cursor n low e =
+      let past : nat_lt cursor v.front ≡ false = grind (arith, common_steps, low) in
+      found_reached v.control.closed (kept_at v cursor) n (rw past at e)
 
   answer_reached : (is_clone : T → T → Type 0) (exact answer : Result T TryRecvError) → ((n : ℕ) → exact ≡ Err (unread.Overflowed n) → ⊥) → IsAnswer is_clone exact answer → (n : ℕ) → answer ≡ Err (unread.Overflowed n) → ⊥
   answer_reached is_clone exact answer reached (inl same) n e = reached n (sym same ∙ e)
@@ -74,23 +74,23 @@ module _ {T : Type 0} where
       subst (λ r. Gives is_clone h key cursor (cursors_after r) (given_by r)) (sym e)
       (rw (moved exact, spells exact (inl refl)) (gives exact (inl refl)))
   gives_reply is_clone h key cursor skips cursors_after after owed spelt refused exact r is moved kept spells none gives (inr (owes, inl clone)) =
-      let answer : IsAnswer is_clone exact (Ok clone.given) = inr (clone.msg, clone.given, clone.exactly, clone.cloned, refl) in
-      subst (λ r. Gives is_clone h key cursor (cursors_after r) (given_by r)) (sym clone.reply)
-      (rw (moved (Ok clone.given), spells (Ok clone.given) answer) (gives (Ok clone.given) answer))
+      let answer : IsAnswer is_clone exact (Ok clone.1) = inr (clone.0, clone.1, clone.2, clone.3, refl) in
+      subst (λ r. Gives is_clone h key cursor (cursors_after r) (given_by r)) (sym clone.4)
+      (rw (moved (Ok clone.1), spells (Ok clone.1) answer) (gives (Ok clone.1) answer))
   gives_reply is_clone h key cursor skips cursors_after after owed spelt refused exact r is moved kept spells none gives (inr (owes, inr e)) =
       subst (λ r. Gives is_clone h key cursor (cursors_after r) (given_by r)) (sym e)
       (rw (kept, none) (gives_nothing h key cursor h.control.cursors (inl is)))
 
   -- what each receive gives the receiver that makes it: at its cursor, or going on at the front
   gives_at_cursor : (is_clone : T → T → Type 0) (h : History T) (key cursor : ℕ) (cursors_after : Reply T → Cursors) (spelt : Result T TryRecvError → Reply T) (refused r : Reply T) → h.first ≤ h.floor → cursor_of h.control key ≡ Some cursor
-      → ((answer : Result T TryRecvError) → cursors_after (spelt answer) ≡ (receive (front_number h) (end_number h) h.control key (cursor_of h.control key)).cursors) → cursors_after refused ≡ h.control.cursors
+      → ((answer : Result T TryRecvError) → cursors_after (spelt answer) ≡ (receive (view_of h) key (cursor_of h.control key)).cursors) → cursors_after refused ≡ h.control.cursors
       → ((answer : Result T TryRecvError) → given_by (spelt answer) ≡ entries_of 0 answer) → given_by refused ≡ []
       → IsReceived is_clone (IsOwed (view_of h) key (cursor_of h.control key)) spelt refused (try_recv_reply (view_of h) (cursor_of h.control key)) r → Gives is_clone h key cursor (cursors_after r) (given_by r)
   gives_at_cursor is_clone h key cursor cursors_after spelt refused r low is moved kept spells none legal =
       let at : cursor_of h.control key ≡ Some (cursor + 0) = is ∙ ap Some (omega arith) in
-      gives_reply is_clone h key cursor 0 cursors_after (receive (front_number h) (end_number h) h.control key (Some (cursor + 0))).cursors
+      gives_reply is_clone h key cursor 0 cursors_after (receive (view_of h) key (Some (cursor + 0))).cursors
       (IsOwed (view_of h) key (Some (cursor + 0))) spelt refused (try_recv_reply (view_of h) (Some (cursor + 0))) r is
-      (λ answer. moved answer ∙ ap (λ o. (receive (front_number h) (end_number h) h.control key o).cursors) at) kept (λ answer given. spells answer) none
+      (λ answer. moved answer ∙ ap (λ o. (receive (view_of h) key o).cursors) at) kept (λ answer given. spells answer) none
       (λ answer given. gives_answer h key cursor 0 answer low is (inl refl) given)
       (subst (λ o. IsReceived is_clone (IsOwed (view_of h) key o) spelt refused (try_recv_reply (view_of h) o) r) at legal)
 
@@ -102,10 +102,10 @@ module _ {T : Type 0} where
       let at : skipped_to front (cursor_of h.control key) ≡ Some (cursor + skips) = ap (skipped_to front) is ∙ ap Some (omega arith) in
       let by : skipped_count front (cursor_of h.control key) ≡ skips = ap (skipped_count front) is in
       let past : front_number h ≤ cursor + skips = omega arith in
-      gives_reply is_clone h key cursor skips (λ r. (effect (view_of h) (call.PollNext key) r).control.cursors) (receive front (end_number h) h.control key (Some (cursor + skips))).cursors
+      gives_reply is_clone h key cursor skips (λ r. (effect (view_of h) (call.PollNext key) r).control.cursors) (receive (view_of h) key (Some (cursor + skips))).cursors
       (IsOwed (view_of h) key (Some (cursor + skips))) (λ answer. reply.PollNext (Ok (next_reply skips answer))) (reply.PollNext (Err alloc_error)) (try_recv_reply (view_of h) (Some (cursor + skips))) r is
-      (λ answer. cursors-listens (receive front (end_number h) h.control key (skipped_to front (cursor_of h.control key))) (stream_of key) (is_empty_reply (try_recv_reply (view_of h) (skipped_to front (cursor_of h.control key)))) ∙ ap (λ o. (receive front (end_number h) h.control key o).cursors) at) refl
-      (λ answer given. given_by-next skips answer (answer_reached is_clone _ answer (λ n e. received_reached h.control.closed front (kept_at (view_of h)) (cursor + skips) n past e) given)) refl
+      (λ answer. cursors-listens (receive (view_of h) key (skipped_to front (cursor_of h.control key))) (stream_of key) (is_empty_reply (try_recv_reply (view_of h) (skipped_to front (cursor_of h.control key)))) ∙ ap (λ o. (receive (view_of h) key o).cursors) at) refl
+      (λ answer given. given_by-next skips answer (answer_reached is_clone _ answer (λ n e. received_reached (view_of h) (cursor + skips) n past e) given)) refl
       (λ answer given. gives_answer h key cursor skips answer low is (elim (skipping cursor front) [ inl e ↦ inl e | inr e ↦ inr e ]) given)
       (subst (λ n. IsReceived is_clone (IsOwed (view_of h) key (Some (cursor + skips))) (λ answer. reply.PollNext (Ok (next_reply n answer))) (reply.PollNext (Err alloc_error)) (try_recv_reply (view_of h) (Some (cursor + skips))) r) by
       (subst (λ o. IsReceived is_clone (IsOwed (view_of h) key o) (λ answer. reply.PollNext (Ok (next_reply (skipped_count front (cursor_of h.control key)) answer))) (reply.PollNext (Err alloc_error)) (try_recv_reply (view_of h) o) r) at legal))
@@ -119,11 +119,11 @@ module _ {T : Type 0} where
   gives_received is_clone h key cursor (call.PollFuture reader) r low is reads legal =
       let same : reader ≡ key = grind (arith, common_steps, reads) in
       rw same (gives_at_cursor is_clone h key cursor (λ r. (effect (view_of h) (call.PollFuture key) r).control.cursors) (λ answer. reply.PollFuture (Ok (future_reply answer))) (reply.PollFuture (Err alloc_error)) r low is
-      (λ answer. cursors-listens (receive (front_number h) (end_number h) h.control key (cursor_of h.control key)) (future_of key) (is_empty_reply (try_recv_reply (view_of h) (cursor_of h.control key)))) refl given_by-future refl (rw same at legal))
+      (λ answer. cursors-listens (receive (view_of h) key (cursor_of h.control key)) (future_of key) (is_empty_reply (try_recv_reply (view_of h) (cursor_of h.control key)))) refl given_by-future refl (rw same at legal))
   gives_received is_clone h key cursor (call.PollRecv reader) r low is reads legal =
       let same : reader ≡ key = grind (arith, common_steps, reads) in
       rw same (gives_at_cursor is_clone h key cursor (λ r. (effect (view_of h) (call.PollRecv key) r).control.cursors) (λ answer. reply.PollRecv (Ok (stream_reply answer))) (reply.PollRecv (Err alloc_error)) r low is
-      (λ answer. cursors-listens (receive (front_number h) (end_number h) h.control key (cursor_of h.control key)) (stream_of key) (is_empty_reply (try_recv_reply (view_of h) (cursor_of h.control key)))) refl given_by-stream refl (rw same at legal))
+      (λ answer. cursors-listens (receive (view_of h) key (cursor_of h.control key)) (stream_of key) (is_empty_reply (try_recv_reply (view_of h) (cursor_of h.control key)))) refl given_by-stream refl (rw same at legal))
   gives_received is_clone h key cursor (call.PollNext reader) r low is reads legal =
       let same : reader ≡ key = grind (arith, common_steps, reads) in
       rw same (gives_next is_clone h key cursor r low is (rw same at legal))

@@ -1,13 +1,19 @@
 -- Which messages each call drops: those from the front up to the floor after it.
-use Rattle.std.proofs.Common.{◌≡◌, ℕ, ◌-◌, ◌<◌, max, Bool, true, false, cond, List, [], length, nat_lt, refl, ap, arith}
+use Rattle.std.proofs.Common.{◌≡◌, inl, inr, ℕ, ◌-◌, ◌<◌, max, Bool, true, false, cond, List, [], ◌∷◌, length, nat_lt, Option, Result, refl, ap, ◌∙◌, arith}
+use Rattle.std.specs.declared.alloc.AllocError.{AllocError}
+use Rattle.bcast_model.specs.declared.error.TryRecvError.{TryRecvError}
+use Rattle.bcast_model.specs.declared.run.Reply.TheVariants as reply
 use Rattle.std.proofs.lemmas.Grind.{common_steps}
 use Rattle.std.specs.List.{range_with_len}
 use Rattle.bcast_model.specs.declared.run.Call.{Call}
 use Rattle.bcast_model.specs.declared.run.Call.TheVariants as call
 use Rattle.bcast_model.specs.declared.run.Reply.{Reply}
-use Rattle.bcast_model.specs.Words.{Control, Effect, sets, refusal, handed_back, Legal, resize}
+use Rattle.bcast_model.specs.Words.{Control, Effect, sets, try_broadcast_reply, Legal, resize}
 use Rattle.bcast_model.specs.Words.{effect, History, view_of, front_number, end_number, queue_of}
-use Rattle.bcast_model.specs.Words.{is_out_of_memory, dropped_by}
+use Rattle.bcast_model.specs.Words.{is_out_of_memory, hands_back, dropped_by, IsReceivedBy, View}
+use Rattle.bcast_model.specs.Words.{cursor_of, skipped_to, skipped_count, future_reply}
+use Rattle.bcast_model.specs.Words.{stream_reply, next_reply}
+use Rattle.bcast_model.proofs.Cases.{test_is}
 use Rattle.bcast_model.proofs.Front.{IsBounded, length-queue}
 use Rattle.bcast_model.proofs.SendAll.{floor-offer_all}
 use Rattle.bcast_model.proofs.DroppedBySends.{FloorChange, stays, passes, hands_back-sent, hands_back-attempted, floor-send, floor-poll_send}
@@ -31,21 +37,44 @@ module _ {T : Type 0} where
   floor-unless h e true dropped change = stays refl refl
   floor-unless h e false dropped change = change
 
-  floor-receive : (h : History T) (b : Bool) (control : Control) → FloorChange h (cond b (sets h.control) (sets control)) []
-  floor-receive h true control = stays refl refl
-  floor-receive h false control = stays refl refl
+  -- ---- a call that drops nothing
+  none_dropped : (h : History T) (r : Reply T) → hands_back r ≡ false → cond (hands_back r) (front_number h ∷ []) [] ≡ []
+  none_dropped h r none = ap (λ b. cond b (front_number h ∷ []) []) none
+
+  hands_nothing : {X : Type 0} (is_clone : T → T → Type 0) (v : View T) (key : ℕ) (cursor : Option ℕ) (variant : Result X AllocError → Reply T) (word : Result T TryRecvError → X) (r : Reply T) → ((out : Result X AllocError) → hands_back (variant out) ≡ false) → IsReceivedBy is_clone v key cursor variant word r → hands_back r ≡ false
+  hands_nothing is_clone v key cursor variant word r none (inl e) = ap hands_back e ∙ none _
+  hands_nothing is_clone v key cursor variant word r none (inr (owed, inl clone)) = ap hands_back clone.4 ∙ none _
+  hands_nothing is_clone v key cursor variant word r none (inr (owed, inr e)) = ap hands_back e ∙ none _
+
+  floor-receive : (h : History T) (r : Reply T) (control : Control) → hands_back r ≡ false → FloorChange h (cond (is_out_of_memory r) (sets h.control) (sets control)) (cond (hands_back r) (front_number h ∷ []) [])
+  floor-receive h r control none = test_is (λ e. FloorChange h e (cond (hands_back r) (front_number h ∷ []) [])) (is_out_of_memory r) (sets h.control) (sets control) (λ _. stays refl (none_dropped h r none)) (λ _. stays refl (none_dropped h r none))
 
   -- ---- each call
   pub floor-effect : (is_clone : T → T → Type 0) (h : History T) (c : Call T) (r : Reply T) → IsBounded h → Legal is_clone (view_of h) c r → FloorChange h (effect (view_of h) c r) (dropped_by h c r)
   floor-effect is_clone h (call.TryBroadcast msg) r bounded legal =
-      rw (legal, hands_back-sent (handed_back (view_of h)) (refusal (view_of h) msg)) (floor-send h msg (refusal (view_of h) msg) bounded)
-  floor-effect is_clone h (call.TryBroadcastAll msgs) r bounded legal = stays (floor-offer_all (view_of h) msgs) refl
+      rw (legal, hands_back-sent (try_broadcast_reply (view_of h) msg)) (floor-send h msg bounded)
+  floor-effect is_clone h (call.TryBroadcastAll msgs) r bounded legal = stays (floor-offer_all (view_of h) msgs) (none_dropped h r (ap hands_back legal))
   floor-effect is_clone h (call.AttemptSend msg) r bounded legal =
-      rw (legal, hands_back-attempted h.control.await_active (handed_back (view_of h)) (refusal (view_of h) msg)) (floor-send h msg (refusal (view_of h) msg) bounded)
+      rw (legal, hands_back-attempted h.control.await_active (try_broadcast_reply (view_of h) msg)) (floor-send h msg bounded)
   floor-effect is_clone h (call.PollSend place msg) r bounded legal = floor-poll_send h place msg r bounded legal
   floor-effect is_clone h (call.SetCapacity n) r bounded legal = floor-unless h (resize (view_of h) n) (is_out_of_memory r) (range_with_len (front_number h) (length (queue_of h) - n)) (floor-resize h n bounded)
-  floor-effect is_clone h (call.TryRecv key) r bounded legal = floor-receive h (is_out_of_memory r) _
-  floor-effect is_clone h (call.PollFuture key) r bounded legal = floor-receive h (is_out_of_memory r) _
-  floor-effect is_clone h (call.PollRecv key) r bounded legal = floor-receive h (is_out_of_memory r) _
-  floor-effect is_clone h (call.PollNext key) r bounded legal = floor-receive h (is_out_of_memory r) _
-  floor-effect is_clone h c r bounded legal = stays refl refl
+  floor-effect is_clone h (call.TryRecv key) r bounded legal = floor-receive h r _ (hands_nothing is_clone (view_of h) key (cursor_of h.control key) reply.TryRecv (λ answer. answer) r (λ out. refl) legal)
+  floor-effect is_clone h (call.PollFuture key) r bounded legal = floor-receive h r _ (hands_nothing is_clone (view_of h) key (cursor_of h.control key) reply.PollFuture future_reply r (λ out. refl) legal)
+  floor-effect is_clone h (call.PollRecv key) r bounded legal = floor-receive h r _ (hands_nothing is_clone (view_of h) key (cursor_of h.control key) reply.PollRecv stream_reply r (λ out. refl) legal)
+  floor-effect is_clone h (call.PollNext key) r bounded legal =
+      let cursor = cursor_of h.control key in
+      floor-receive h r _ (hands_nothing is_clone (view_of h) key (skipped_to (front_number h) cursor) reply.PollNext (next_reply (skipped_count (front_number h) cursor)) r (λ out. refl) legal)
+  floor-effect is_clone h call.BeginSend r bounded (inl (place, is, free)) = stays refl (none_dropped h r (ap hands_back is))
+  floor-effect is_clone h call.BeginSend r bounded (inr is) = stays refl (none_dropped h r (ap hands_back is))
+  floor-effect is_clone h call.NewReceiver r bounded (inl (key, is, free)) = stays refl (none_dropped h r (ap hands_back is))
+  floor-effect is_clone h call.NewReceiver r bounded (inr is) = stays refl (none_dropped h r (ap hands_back is))
+  floor-effect is_clone h call.Activate r bounded (inl (gone, is)) = stays refl (none_dropped h r (ap hands_back is))
+  floor-effect is_clone h call.Activate r bounded (inr (there, inl (made, is, free))) = stays refl (none_dropped h r (ap hands_back is))
+  floor-effect is_clone h call.Activate r bounded (inr (there, inr is)) = stays refl (none_dropped h r (ap hands_back is))
+  floor-effect is_clone h call.ActivateCloned r bounded (inl (gone, is)) = stays refl (none_dropped h r (ap hands_back is))
+  floor-effect is_clone h call.ActivateCloned r bounded (inr (there, inl (made, is, free))) = stays refl (none_dropped h r (ap hands_back is))
+  floor-effect is_clone h call.ActivateCloned r bounded (inr (there, inr is)) = stays refl (none_dropped h r (ap hands_back is))
+  floor-effect is_clone h (call.CloneReceiver key) r bounded (inl (gone, is)) = stays refl (none_dropped h r (ap hands_back is))
+  floor-effect is_clone h (call.CloneReceiver key) r bounded (inr (there, inl (made, is, free))) = stays refl (none_dropped h r (ap hands_back is))
+  floor-effect is_clone h (call.CloneReceiver key) r bounded (inr (there, inr is)) = stays refl (none_dropped h r (ap hands_back is))
+  floor-effect is_clone h c r bounded legal = stays refl (none_dropped h r (ap hands_back legal))

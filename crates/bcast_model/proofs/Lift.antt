@@ -1,5 +1,5 @@
 -- What a call does to what is seen, it does to each valid history that shows it, and this stays valid.
-use Rattle.std.proofs.Common.{◌≡◌, ◌⊎◌, inl, inr, ℕ, ◌+◌, ◌-◌, ◌<◌, ◌≤◌, Bool, true, false, ◌&&◌, ◌++◌, length, max, drop, refl, sym, ap, ◌∙◌, subst, arith, length-append}
+use Rattle.std.proofs.Common.{◌≡◌, ◌⊎◌, inl, inr, ℕ, ◌+◌, ◌-◌, ◌<◌, ◌≤◌, Bool, true, false, cond, ◌&&◌, ◌++◌, length, max, drop, refl, sym, ap, ◌∙◌, subst, arith, length-append}
 use Rattle.std.proofs.lemmas.List.{drop-drop, drop-append-le}
 use Rattle.std.proofs.lemmas.Bool.{cases_lt}
 use Rattle.std.specs.FinMap.{len, values}
@@ -11,7 +11,7 @@ use Rattle.bcast_model.specs.Words.{end_call, IsValid, IsValidControl, WouldWait
 use Rattle.bcast_model.specs.Words.{IsValidView}
 use Rattle.bcast_model.proofs.Lists.{all_more}
 use Rattle.bcast_model.proofs.Least.{least-le-limit, least-le-cursor, least-greatest}
-use Rattle.bcast_model.proofs.Cases.{test_is, tell_is}
+use Rattle.bcast_model.proofs.Cases.{tell_is}
 use Rattle.bcast_model.proofs.WaitingSends.{OneIsTold, AreSends, sends_told}
 use Rattle.bcast_model.proofs.WaitingReceives.{Sleeps, AreReceives}
 use Rattle.bcast_model.proofs.Sound.{AreSizes, IsAttended, IsNoLower, IsSound}
@@ -71,10 +71,11 @@ module _ {T : Type 0} where
   ]
 
   view_of-end_call : (may : Bool) (h : History T) → view_of (end_call may h) ≡ tell_if_ready may (view_of h)
-  view_of-end_call may h =
-      let v : View T = view_of h in
-      let told : View T = record v { control = tell_a_sender v.control } in
-      test_is (λ (w : View T). view_of (with_control h w.control) ≡ w) (may && sends_are_ready v) told v (λ _. refl) (λ _. refl)
+  view_of-end_call may h = by (may && sends_are_ready (view_of h))
+    where
+      by : (ready : Bool) → view_of (with_control h (cond ready (tell_a_sender h.control) h.control)) ≡ cond ready (record (view_of h) { control = tell_a_sender h.control }) (view_of h)
+      by true = refl
+      by false = refl
 
   module _ (h : History T) (e : Effect T) (may : Bool) (valid : IsValid h) (keeps : KeepsValid (view_of h) e may) where
     end-remember : end_number (remember h e) ≡ end_number h + length e.accepted

@@ -1,5 +1,5 @@
 -- What the receivers of a run miss was dropped, and what they are given was not.
-use Rattle.std.proofs.Common.{◌≡◌, ◌⊎◌, inl, inr, ℕ, ◌+◌, ◌-◌, ◌<◌, ◌≤◌, true, false, List, [], ◌∷◌, ◌++◌, length, Some, None, slice_get, ap, arith}
+use Rattle.std.proofs.Common.{◌≡◌, ◌⊎◌, inl, inr, ℕ, ◌+◌, ◌-◌, ◌<◌, ◌≤◌, true, false, List, [], ◌∷◌, ◌++◌, length, Some, None, IsNone, ◌↔◌, slice_get, refl, ap, arith}
 use Rattle.std.proofs.lemmas.Option.{none-some}
 use Rattle.std.proofs.lemmas.List.Elements.{Contains-append_left, Contains-append_right, Contains-append_cases}
 use Rattle.std.specs.Prelude.{is_some}
@@ -105,10 +105,10 @@ module _ {T : Type 0} (is_clone : T → T → Type 0) where
   misses_from dropped h (c ∷ calls) (r ∷ replies) bounded allowed run gone under =
       let drops = drops_next is_clone h c r bounded run.0 in
       let rises = drops.rises in (
-        λ key cursor is. record {
-          missed = λ index e. missed_gone is_clone (Contains dropped) h key cursor index c r bounded gone is run.0 e;
-          given = λ index msg e there. (let kept = given_kept is_clone h key cursor index msg c r bounded is run.0 e in let below = under (cursor + index) there in omega (arith, kept, below));
-        },
+        λ key cursor index entry is at. elim entry as (λ o. slice_get (given_to key c r) index ≡ Some o → IsNone o ↔ Contains dropped (cursor + index)) [
+          | None ↦ λ e. (λ _. missed_gone is_clone (Contains dropped) h key cursor index c r bounded gone is run.0 e, λ _. refl)
+          | Some msg ↦ λ e. (λ some. cc, λ there. absurd (let kept = given_kept is_clone h key cursor index msg c r bounded is run.0 e in let below = under (cursor + index) there in omega (arith, kept, below)))
+        ] at,
         misses_from (dropped ++ dropped_by h c r) (next h c r) calls replies (bounded-next is_clone h c r allowed.0 bounded run.0) allowed.1 run.1
             (in_all (next h c r) dropped (dropped_by h c r) (gone_next is_clone (Contains dropped) h c r bounded run.0 gone))
             (λ n there. elim (Contains-append_cases dropped (dropped_by h c r) n there) [

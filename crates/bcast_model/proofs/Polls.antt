@@ -14,9 +14,10 @@ use Rattle.bcast_model.specs.declared.run.Reply.{Reply}
 use Rattle.bcast_model.specs.declared.run.Reply.TheVariants as reply
 use Rattle.bcast_model.specs.Control.{has_place, has_no_receiver, cursor_of}
 use Rattle.bcast_model.specs.View.{is_full, sends_are_ready, View}
-use Rattle.bcast_model.specs.Sending.{refusal, reply_to_try, reply_to_attempt, handed_back, attempt_send_reply, try_broadcast_reply}
+use Rattle.bcast_model.specs.Sending.{reply_to_attempt, handed_back, attempt_send_reply, try_broadcast_reply}
 use Rattle.bcast_model.specs.Receiving.{is_empty_reply, skipped_count, skipped_to, future_reply, stream_reply, next_reply, try_recv_reply, IsOwed}
-use Rattle.bcast_model.specs.Legal.{Legal, IsReceived}
+use Rattle.bcast_model.specs.Legal.{Legal}
+use Rattle.bcast_model.specs.Steps.{IsReceived}
 use Rattle.bcast_model.specs.Next.{is_out_of_memory}
 use Rattle.bcast_model.specs.Laws.{IsValidView, must_wait, is_wait_reply, is_poll, try_finds_nothing}
 use Rattle.bcast_model.proofs.Views.{lagging}
@@ -24,16 +25,16 @@ use Rattle.bcast_model.proofs.Receives.{empty_at}
 
 module _ {T : Type 0} where
   -- ---- sends
-  send_waits : (await_active : Bool) (back : Option T) (error : Option (TrySendError T)) → must_wait (reply.PollSend (reply_to_attempt await_active back error)) ≡ is_wait_reply await_active (reply_to_try back error)
-  send_waits await_active back None = refl
-  send_waits await_active back (Some (unsent.Full msg)) = refl
-  send_waits await_active back (Some (unsent.Closed msg)) = refl
-  send_waits true back (Some (unsent.Inactive msg)) = refl
-  send_waits false back (Some (unsent.Inactive msg)) = refl
+  send_waits : (await_active : Bool) (answer : Result (Option T) (TrySendError T)) → must_wait (reply.PollSend (reply_to_attempt await_active answer)) ≡ is_wait_reply await_active answer
+  send_waits await_active (Ok back) = refl
+  send_waits await_active (Err (unsent.Full msg)) = refl
+  send_waits await_active (Err (unsent.Closed msg)) = refl
+  send_waits true (Err (unsent.Inactive msg)) = refl
+  send_waits false (Err (unsent.Inactive msg)) = refl
 
   -- by: closed, no receiver, overflow, full, sends await a receiver
   unready_waits : (closed none overflow full await_active : Bool) (back : Option T) (msg : T)
-      → must_wait (reply.PollSend (reply_to_attempt await_active back (cond closed (Some (unsent.Closed msg)) (cond none (Some (unsent.Inactive msg)) (cond (full && not overflow) (Some (unsent.Full msg)) None)))))
+      → must_wait (reply.PollSend (reply_to_attempt await_active (cond closed (Err (unsent.Closed msg)) (cond none (Err (unsent.Inactive msg)) (cond (full && not overflow) (Err (unsent.Full msg)) (Ok back))))))
       ≡ not (closed || (not none && (overflow || not full)) || (none && not await_active))
   unready_waits true none overflow full await_active back msg = refl
   unready_waits false true overflow full true back msg = refl
@@ -51,7 +52,7 @@ module _ {T : Type 0} where
     polled = ap must_wait (legal ∙ ap (λ b. reply.PollSend (cond b (attempt_send_reply v msg) (send.Wait msg))) known)
 
     pub send_waits_full : must_wait r ≡ is_wait_reply v.control.await_active (try_broadcast_reply v msg)
-    send_waits_full = polled ∙ send_waits v.control.await_active (handed_back v) (refusal v msg)
+    send_waits_full = polled ∙ send_waits v.control.await_active (try_broadcast_reply v msg)
 
     pub send_waits_unready : must_wait r ≡ not (sends_are_ready v)
     send_waits_unready = polled ∙ attempt_waits v msg
@@ -62,7 +63,7 @@ module _ {T : Type 0} where
   received_waits is_clone owed spelt refused exact r waits none memory legal = elim legal [
     | inl e ↦ ap must_wait e ∙ waits exact
     | inr s ↦ elim s.1 [
-      | inl clone ↦ ap must_wait clone.reply ∙ waits (Ok clone.given) ∙ sym (ap is_empty_reply clone.exactly)
+      | inl clone ↦ ap must_wait clone.4 ∙ waits (Ok clone.1) ∙ sym (ap is_empty_reply clone.2)
       | inr e ↦ (let f = sym memory ∙ ap is_out_of_memory e ∙ none in absurd (apart f))
     ]
   ]

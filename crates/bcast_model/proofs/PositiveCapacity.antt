@@ -1,6 +1,6 @@
 -- The capacity stays positive.
 use Rattle.std.proofs.Common.{◌≡◌, ℕ, ◌+◌, ◌-◌, ◌≤◌, ◌==◌, ◌||◌, not, Bool, true, false, cond, Option, Some, None, nat_lt, refl, ◌∙◌, arith}
-use Rattle.bcast_model.specs.declared.error.TrySendError.{TrySendError}
+use Rattle.std.specs.Prelude.{is_ok}
 use Rattle.bcast_model.specs.declared.run.Call.{Call}
 use Rattle.bcast_model.specs.declared.run.Call.TheVariants as call
 use Rattle.bcast_model.specs.declared.run.Reply.{Reply}
@@ -8,7 +8,7 @@ use Rattle.bcast_model.specs.ListenerId.{Pair, stream_of, future_of}
 use Rattle.bcast_model.specs.Control.{Control, close, close_if_deserted, is_deserted, has_place, with_cursor, place_waits, cursor_of}
 use Rattle.bcast_model.specs.View.{View, sends_are_ready}
 use Rattle.bcast_model.specs.Effect.{Effect, sets}
-use Rattle.bcast_model.specs.Sending.{refusal, accept_unless, offer, with_place_answered, poll_send}
+use Rattle.bcast_model.specs.Sending.{try_broadcast_reply, accept, offer, with_place_answered, poll_send}
 use Rattle.bcast_model.specs.Receiving.{receive, listens, skipped_to, is_empty_reply, try_recv_reply}
 use Rattle.bcast_model.specs.Effects.{resize, set_unless_refused, effect}
 use Rattle.bcast_model.specs.History.{History, view_of, remember}
@@ -21,12 +21,12 @@ use Rattle.bcast_model.specs.Handles.{begin_send, new_receiver, activate, clone_
 capacity-close_if_deserted : (c : Control) → (close_if_deserted c).capacity ≡ c.capacity
 capacity-close_if_deserted c = elim (is_deserted c) as (λ b. (cond b (close c) c).capacity ≡ c.capacity) [ true ↦ capacity-close c | false ↦ refl ]
 
-capacity-receive : (front end : ℕ) (c : Control) (key : ℕ) (cursor : Option ℕ) → (receive front end c key cursor).capacity ≡ c.capacity
-capacity-receive front end c key None = refl
-capacity-receive front end c key (Some cursor) =
-    elim (nat_lt cursor front) as (λ b. (cond b (with_cursor c key front) (cond (nat_lt cursor end) (with_cursor c key (cursor + 1)) c)).capacity ≡ c.capacity) [
+capacity-receive : {T : Type 0} (v : View T) (key : ℕ) (cursor : Option ℕ) → (receive v key cursor).capacity ≡ v.control.capacity
+capacity-receive v key None = refl
+capacity-receive v key (Some cursor) =
+    elim (nat_lt cursor v.front) as (λ b. (cond b (with_cursor v.control key v.front) (cond (nat_lt cursor v.end) (with_cursor v.control key (cursor + 1)) v.control)).capacity ≡ v.control.capacity) [
       | true ↦ refl
-      | false ↦ elim (nat_lt cursor end) as (λ b. (cond b (with_cursor c key (cursor + 1)) c).capacity ≡ c.capacity) [ true ↦ refl | false ↦ refl ]
+      | false ↦ elim (nat_lt cursor v.end) as (λ b. (cond b (with_cursor v.control key (cursor + 1)) v.control).capacity ≡ v.control.capacity) [ true ↦ refl | false ↦ refl ]
     ]
 
 capacity-listens : (c : Control) (pair : Pair) (waits : Bool) → (listens c pair waits).capacity ≡ c.capacity
@@ -76,14 +76,13 @@ stays_positive old new same positive = omega (arith, same, positive)
 
 module _ {T : Type 0} where
   -- ---- each call
-  capacity-send : (v : View T) (msg : T) (error : Option (TrySendError T)) → (accept_unless v msg error).control.capacity ≡ v.control.capacity
-  capacity-send v msg None = capacity-accepting v.control v.end
-  capacity-send v msg (Some error) = refl
+  capacity-send : (v : View T) (msg : T) → (offer v msg).control.capacity ≡ v.control.capacity
+  capacity-send v msg = test_is (λ (e : Effect T). e.control.capacity ≡ v.control.capacity) (is_ok (try_broadcast_reply v msg)) (accept v msg) (sets v.control) (λ _. capacity-accepting v.control v.end) (λ _. refl)
 
   capacity-poll_send : (v : View T) (place : ℕ) (msg : T) → (poll_send v place msg).control.capacity ≡ v.control.capacity
   capacity-poll_send v place msg =
       test_is (λ (e : Effect T). e.control.capacity ≡ v.control.capacity) (has_place v.control place) (cond (sends_are_ready v) (with_place_answered (offer v msg) place) (sets (place_waits v.control place))) (sets v.control)
-      (λ _. test_is (λ (e : Effect T). e.control.capacity ≡ v.control.capacity) (sends_are_ready v) (with_place_answered (offer v msg) place) (sets (place_waits v.control place)) (λ _. capacity-send v msg (refusal v msg)) (λ _. refl))
+      (λ _. test_is (λ (e : Effect T). e.control.capacity ≡ v.control.capacity) (sends_are_ready v) (with_place_answered (offer v msg) place) (sets (place_waits v.control place)) (λ _. capacity-send v msg) (λ _. refl))
       (λ _. refl)
 
   capacity-unless : (v : View T) (control : Control) (b : Bool) → control.capacity ≡ v.control.capacity → (cond b (sets {T = T} v.control) (sets control)).control.capacity ≡ v.control.capacity
@@ -91,19 +90,19 @@ module _ {T : Type 0} where
   capacity-unless v control false same = same
 
   capacity-poll : (v : View T) (r : Reply T) (pair : Pair) (cursor : Option ℕ) (waits : Bool)
-      → (set_unless_refused r v (listens (receive v.front v.end v.control pair.0 cursor) pair waits)).control.capacity ≡ v.control.capacity
+      → (set_unless_refused v r (listens (receive v pair.0 cursor) pair waits)).control.capacity ≡ v.control.capacity
   capacity-poll v r pair cursor waits =
-      let after = receive v.front v.end v.control pair.0 cursor in
-      capacity-unless v (listens after pair waits) (is_out_of_memory r) (capacity-listens after pair waits ∙ capacity-receive v.front v.end v.control pair.0 cursor)
+      let after = receive v pair.0 cursor in
+      capacity-unless v (listens after pair waits) (is_out_of_memory r) (capacity-listens after pair waits ∙ capacity-receive v pair.0 cursor)
 
   capacity-effect : (v : View T) (c : Call T) (r : Reply T) → HasPositiveCapacity c → 1 ≤ v.control.capacity → 1 ≤ (effect v c r).control.capacity
-  capacity-effect v (call.TryBroadcast msg) r allowed positive = stays_positive _ _ (capacity-send v msg (refusal v msg)) positive
+  capacity-effect v (call.TryBroadcast msg) r allowed positive = stays_positive _ _ (capacity-send v msg) positive
   capacity-effect v (call.TryBroadcastAll msgs) r allowed positive = stays_positive _ _ (capacity-offer_all v msgs) positive
-  capacity-effect v (call.AttemptSend msg) r allowed positive = stays_positive _ _ (capacity-send v msg (refusal v msg)) positive
+  capacity-effect v (call.AttemptSend msg) r allowed positive = stays_positive _ _ (capacity-send v msg) positive
   capacity-effect v call.BeginSend r allowed positive = stays_positive _ _ (capacity-begin_send v.control (chosen_id r)) positive
   capacity-effect v (call.PollSend place msg) r allowed positive = stays_positive _ _ (capacity-poll_send v place msg) positive
   capacity-effect v (call.TryRecv key) r allowed positive =
-      stays_positive _ _ (capacity-unless v _ (is_out_of_memory r) (capacity-receive v.front v.end v.control key (cursor_of v.control key))) positive
+      stays_positive _ _ (capacity-unless v _ (is_out_of_memory r) (capacity-receive v key (cursor_of v.control key))) positive
   capacity-effect v (call.PollFuture key) r allowed positive =
       stays_positive _ _ (capacity-poll v r (future_of key) (cursor_of v.control key) (is_empty_reply (try_recv_reply v (cursor_of v.control key)))) positive
   capacity-effect v (call.PollRecv key) r allowed positive =

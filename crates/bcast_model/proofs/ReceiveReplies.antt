@@ -32,7 +32,7 @@ module _ {T : Type 0} where
   received_from is_clone owed spelt refused v cursor r given one none legal = elim legal [
     | inl e ↦ given_kept is_clone v cursor given given (one (try_recv_reply v cursor) e) (inl refl)
     | inr s ↦ elim s.1 [
-      | inl clone ↦ (let same : clone.given ≡ given = (let e = one (Ok clone.given) clone.reply in cc) in given_kept is_clone v cursor clone.msg given clone.exactly (inr (subst (is_clone clone.msg) same clone.cloned)))
+      | inl clone ↦ (let same : clone.1 ≡ given = (let e = one (Ok clone.1) clone.4 in cc) in given_kept is_clone v cursor clone.0 given clone.2 (inr (subst (is_clone clone.0) same clone.3)))
       | inr e ↦ absurd (none e)
     ]
   ]

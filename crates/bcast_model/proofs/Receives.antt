@@ -55,31 +55,31 @@ module _ {T : Type 0} where
         kept_cursor v v.control key to high low (λ f. let same = same_Some cursor v.end (sym e ∙ f) in omega arith) (omega (arith, valid.control.receivers_fit)) (kept_idle v valid)
 
     -- the receiver stands at this cursor, and starts there or after it
-    kept_from : (key cursor start : ℕ) → get v.control.cursors key ≡ Some cursor → cursor ≤ start → IsKept v (receive v.front v.end v.control key (Some start))
-    kept_from key cursor start e after = receive_is (IsKept v) v.front v.end v.control key start
+    kept_from : (key cursor start : ℕ) → get v.control.cursors key ≡ Some cursor → cursor ≤ start → IsKept v (receive v key (Some start))
+    kept_from key cursor start e after = receive_is v (IsKept v) key start
         (λ lags. kept_moved key cursor v.front e (omega (arith, valid.high)) valid.high (inl (omega arith)))
         (λ _ below. kept_moved key cursor (start + 1) e (omega arith) (omega arith) (inr (key, cursor, e, omega arith)))
         (λ _ _. kept_idle v valid)
 
-    pub kept_receive : (key : ℕ) (cursor : Option ℕ) → get v.control.cursors key ≡ cursor → IsKept v (receive v.front v.end v.control key cursor)
+    pub kept_receive : (key : ℕ) (cursor : Option ℕ) → get v.control.cursors key ≡ cursor → IsKept v (receive v key cursor)
     kept_receive key None e = kept_idle v valid
     kept_receive key (Some cursor) e = kept_from key cursor cursor e (omega arith)
 
     -- who found nothing stays, and waits; anyone else waits no more
     poll_from : (pair : Pair) (cursor start : ℕ) → get v.control.cursors pair.0 ≡ Some cursor → cursor ≤ start → (v.end ≤ start → cursor ≡ v.end)
-        → IsKept v (receive_poll v.front v.end v.control pair (Some start) (try_recv_reply v (Some start)))
-    poll_from pair cursor start e after all_read = elim (is_empty_reply (try_recv_reply v (Some start))) as (λ b. is_empty_reply (try_recv_reply v (Some start)) ≡ b → IsKept v (listens (receive v.front v.end v.control pair.0 (Some start)) pair b)) [
+        → IsKept v (receive_poll v pair (Some start))
+    poll_from pair cursor start e after all_read = elim (is_empty_reply (try_recv_reply v (Some start))) as (λ b. is_empty_reply (try_recv_reply v (Some start)) ≡ b → IsKept v (listens (receive v pair.0 (Some start)) pair b)) [
       | true ↦ λ none.
           let at = empty_at v start none in
           let idle = kept_idle v valid in
           let past : v.end ≤ start = omega (arith, valid.end, at.kept, at.read) in
-          receive_is (λ c. IsKept v (listens c pair true)) v.front v.end v.control pair.0 start
+          receive_is v (λ c. IsKept v (listens c pair true)) pair.0 start
           (λ lags. absurd (omega (arith, at.kept)))
           (λ _ below. absurd (omega arith))
           (λ _ _. kept_receives v v.control (wait_again same_pair pair v.control.waiting_receives)
           (receives_waiting v.control.cursors v.control.closed v.end v.control.waiting_receives pair (e ∙ ap (λ n. Some n) (all_read past), at.is_open) idle.sound.receives) idle)
       | false ↦ λ some.
-          let c : Control = receive v.front v.end v.control pair.0 (Some start) in
+          let c : Control = receive v pair.0 (Some start) in
           let moved : IsKept v c = kept_from pair.0 cursor start e after in
           kept_receives v c (consume same_pair pair c.waiting_receives) (receives_consumed c.cursors c.closed v.end c.waiting_receives pair moved.sound.receives) moved
     ] refl
@@ -89,13 +89,13 @@ module _ {T : Type 0} where
         let idle = kept_idle v valid in
         kept_receives v v.control (consume same_pair pair v.control.waiting_receives) (receives_consumed v.control.cursors v.control.closed v.end v.control.waiting_receives pair idle.sound.receives) idle
 
-    pub kept_poll : (pair : Pair) (cursor : Option ℕ) → get v.control.cursors pair.0 ≡ cursor → IsKept v (receive_poll v.front v.end v.control pair cursor (try_recv_reply v cursor))
+    pub kept_poll : (pair : Pair) (cursor : Option ℕ) → get v.control.cursors pair.0 ≡ cursor → IsKept v (receive_poll v pair cursor)
     kept_poll pair None e = poll_gone pair
     kept_poll pair (Some cursor) e = let r = valid.reach pair.0 cursor e in poll_from pair cursor cursor e (omega arith) (λ past. omega arith)
 
     -- the stream skips what was dropped, and finds a message then
     pub kept_poll_next : (pair : Pair) (cursor : Option ℕ) → get v.control.cursors pair.0 ≡ cursor
-        → IsKept v (receive_poll v.front v.end v.control pair (skipped_to v.front cursor) (try_recv_reply v (skipped_to v.front cursor)))
+        → IsKept v (receive_poll v pair (skipped_to v.front cursor))
     kept_poll_next pair None e = poll_gone pair
     kept_poll_next pair (Some cursor) e =
         let r = valid.reach pair.0 cursor e in
@@ -104,5 +104,5 @@ module _ {T : Type 0} where
           | inr here ↦ omega arith
         ])
 
-    pub keeps_unless : (r : Reply T) (c : Control) → IsKept v c → KeepsValid v (set_unless_refused r v c) (not (sends_are_ready v))
+    pub keeps_unless : (r : Reply T) (c : Control) → IsKept v c → KeepsValid v (set_unless_refused v r c) (not (sends_are_ready v))
     keeps_unless r c idle = test_is (λ e. KeepsValid v e (not (sends_are_ready v))) (is_out_of_memory r) (sets v.control) (sets c) (λ _. keeps_sets v valid v.control (kept_idle v valid)) (λ _. keeps_sets v valid c idle)

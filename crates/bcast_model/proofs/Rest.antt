@@ -1,15 +1,15 @@
 -- What a poll of a told listener leaves: fewer listeners, or fewer that are told.
 use Rattle.std.proofs.Common.{◌≡◌, ℕ, ◌+◌, ◌≤◌, ◌==◌, Bool, true, false, cond, not, ◌&&◌, List, length, Option, Some, None, refl, sym, ap, ◌∙◌, subst, arith}
-use Rattle.bcast_model.specs.declared.error.TrySendError.{TrySendError}
+use Rattle.std.specs.Prelude.{is_ok}
 use Rattle.bcast_model.specs.declared.run.Call.{Call}
 use Rattle.bcast_model.specs.declared.run.Call.TheVariants as call
 use Rattle.bcast_model.specs.declared.run.Reply.{Reply}
 use Rattle.bcast_model.specs.Words.{Listeners, told_ids, is_in, without, Pair, stream_of, future_of}
 use Rattle.bcast_model.specs.Words.{same_place, same_pair, Control, is_ready, tell_a_sender}
 use Rattle.bcast_model.specs.Words.{tell_receivers, has_place, place_waits, pair_answered}
-use Rattle.bcast_model.specs.Words.{pair_waits, cursor_of, View, sends_are_ready, sets, refusal}
-use Rattle.bcast_model.specs.Words.{accept_unless, offer, with_place_answered, poll_send, receive}
-use Rattle.bcast_model.specs.Words.{receive_poll, listens, skipped_to, is_empty_reply}
+use Rattle.bcast_model.specs.Words.{pair_waits, cursor_of, View, sends_are_ready, sets, try_broadcast_reply}
+use Rattle.bcast_model.specs.Words.{accept, offer, with_place_answered, poll_send, receive}
+use Rattle.bcast_model.specs.Words.{Effect, receive_poll, listens, skipped_to, is_empty_reply}
 use Rattle.bcast_model.specs.Words.{try_recv_reply, set_unless_refused, is_out_of_memory}
 use Rattle.bcast_model.specs.Words.{tell_if_ready, settle, next_view, AreListed, IsValidView}
 use Rattle.bcast_model.specs.Words.{listener_count, told_count, polls_told}
@@ -39,24 +39,24 @@ module _ {T : Type 0} (v : View T) (valid : IsValidView v) where
 
   -- ---- receives
   -- a receive that finds nothing moves nobody
-  nothing_moves : (key : ℕ) (cursor : Option ℕ) → is_empty_reply (try_recv_reply v cursor) ≡ true → receive v.front v.end v.control key cursor ≡ v.control
+  nothing_moves : (key : ℕ) (cursor : Option ℕ) → is_empty_reply (try_recv_reply v cursor) ≡ true → receive v key cursor ≡ v.control
   nothing_moves key None e = cc
   nothing_moves key (Some cursor) e =
       let at = empty_at v cursor e in
-      receive_is (λ c. c ≡ v.control) v.front v.end v.control key cursor
+      receive_is v (λ c. c ≡ v.control) key cursor
       (λ lags. absurd (omega (arith, at.kept)))
       (λ _ below. absurd (omega (arith, valid.end, at.kept, at.read)))
       (λ _ _. refl)
 
   module _ (pair : Pair) (cursor : Option ℕ) (told : is_in same_pair pair (told_ids v.control.waiting_receives) ≡ true) where
-    receive_answered : AreListed (tell_if_ready (not (sends_are_ready v)) (settle v (sets (pair_answered (receive v.front v.end v.control pair.0 cursor) pair)))).control
-        → unrest (tell_if_ready (not (sends_are_ready v)) (settle v (sets (pair_answered (receive v.front v.end v.control pair.0 cursor) pair)))).control + 1 ≤ unrest v.control
+    receive_answered : AreListed (tell_if_ready (not (sends_are_ready v)) (settle v (sets (pair_answered (receive v pair.0 cursor) pair)))).control
+        → unrest (tell_if_ready (not (sends_are_ready v)) (settle v (sets (pair_answered (receive v pair.0 cursor) pair)))).control + 1 ≤ unrest v.control
     receive_answered listed =
         let gone = one_gone same_pair test_pair pair v.control.waiting_receives valid.control.lists.receives told in
         let some = told_some same_pair test_pair pair v.control.waiting_receives told in
-        let receives = ap (λ (l : Listeners Pair). length (without same_pair pair l.ids)) (waiting_receives-receive v.front v.end v.control pair.0 cursor) in
-        let sends = ap (λ (l : Listeners ℕ). length l.ids) (waiting_sends-receive v.front v.end v.control pair.0 cursor) in
-        lowers_gone (not (sends_are_ready v)) (settle v (sets (pair_answered (receive v.front v.end v.control pair.0 cursor) pair))) (omega (arith, gone, receives, sends)) (omega (arith, some)) listed
+        let receives = ap (λ (l : Listeners Pair). length (without same_pair pair l.ids)) (waiting_receives-receive v pair.0 cursor) in
+        let sends = ap (λ (l : Listeners ℕ). length l.ids) (waiting_sends-receive v pair.0 cursor) in
+        lowers_gone (not (sends_are_ready v)) (settle v (sets (pair_answered (receive v pair.0 cursor) pair))) (omega (arith, gone, receives, sends)) (omega (arith, some)) listed
 
     receive_waits : unrest (tell_if_ready (not (sends_are_ready v)) (settle v (sets (pair_waits v.control pair)))).control + 1 ≤ unrest v.control
     receive_waits =
@@ -65,32 +65,31 @@ module _ {T : Type 0} (v : View T) (valid : IsValidView v) where
         lowers_waits (not (sends_are_ready v)) (pair_waits v.control pair) (ap (λ b. not (sends_are_ready v) && b) ready ∙ never (sends_are_ready v))
         (omega (arith, last.0)) (omega (arith, last.1))
 
-    lowers_receive : AreListed (tell_if_ready (not (sends_are_ready v)) (settle v (sets (receive_poll v.front v.end v.control pair cursor (try_recv_reply v cursor))))).control
-        → unrest (tell_if_ready (not (sends_are_ready v)) (settle v (sets (receive_poll v.front v.end v.control pair cursor (try_recv_reply v cursor))))).control + 1 ≤ unrest v.control
+    lowers_receive : AreListed (tell_if_ready (not (sends_are_ready v)) (settle v (sets (receive_poll v pair cursor)))).control
+        → unrest (tell_if_ready (not (sends_are_ready v)) (settle v (sets (receive_poll v pair cursor)))).control + 1 ≤ unrest v.control
     lowers_receive = elim (is_empty_reply (try_recv_reply v cursor)) as (λ b. is_empty_reply (try_recv_reply v cursor) ≡ b
-        → AreListed (tell_if_ready (not (sends_are_ready v)) (settle v (sets (listens (receive v.front v.end v.control pair.0 cursor) pair b)))).control
-        → unrest (tell_if_ready (not (sends_are_ready v)) (settle v (sets (listens (receive v.front v.end v.control pair.0 cursor) pair b)))).control + 1 ≤ unrest v.control) [
+        → AreListed (tell_if_ready (not (sends_are_ready v)) (settle v (sets (listens (receive v pair.0 cursor) pair b)))).control
+        → unrest (tell_if_ready (not (sends_are_ready v)) (settle v (sets (listens (receive v pair.0 cursor) pair b)))).control + 1 ≤ unrest v.control) [
           | true ↦ λ none listed. subst (λ c. unrest (tell_if_ready (not (sends_are_ready v)) (settle v (sets (pair_waits c pair)))).control + 1 ≤ unrest v.control) (sym (nothing_moves pair.0 cursor none)) receive_waits
           | false ↦ λ found listed. receive_answered listed
         ] refl
 
     lowers_unless : (r : Reply T) → is_out_of_memory r ≡ false
-        → AreListed (tell_if_ready (not (sends_are_ready v)) (settle v (set_unless_refused r v (receive_poll v.front v.end v.control pair cursor (try_recv_reply v cursor))))).control
-        → unrest (tell_if_ready (not (sends_are_ready v)) (settle v (set_unless_refused r v (receive_poll v.front v.end v.control pair cursor (try_recv_reply v cursor))))).control + 1 ≤ unrest v.control
-    lowers_unless r memory = subst (λ b. AreListed (tell_if_ready (not (sends_are_ready v)) (settle v (cond b (sets v.control) (sets (receive_poll v.front v.end v.control pair cursor (try_recv_reply v cursor)))))).control
-        → unrest (tell_if_ready (not (sends_are_ready v)) (settle v (cond b (sets v.control) (sets (receive_poll v.front v.end v.control pair cursor (try_recv_reply v cursor)))))).control + 1 ≤ unrest v.control) (sym memory) lowers_receive
+        → AreListed (tell_if_ready (not (sends_are_ready v)) (settle v (set_unless_refused v r (receive_poll v pair cursor)))).control
+        → unrest (tell_if_ready (not (sends_are_ready v)) (settle v (set_unless_refused v r (receive_poll v pair cursor)))).control + 1 ≤ unrest v.control
+    lowers_unless r memory = subst (λ b. AreListed (tell_if_ready (not (sends_are_ready v)) (settle v (cond b (sets v.control) (sets (receive_poll v pair cursor))))).control
+        → unrest (tell_if_ready (not (sends_are_ready v)) (settle v (cond b (sets v.control) (sets (receive_poll v pair cursor))))).control + 1 ≤ unrest v.control) (sym memory) lowers_receive
 
   -- ---- sends
-  offered_ids : (msg : T) (o : Option (TrySendError T)) → ((accept_unless v msg o).control.waiting_sends.ids ≡ v.control.waiting_sends.ids) × ((accept_unless v msg o).control.waiting_receives.ids ≡ v.control.waiting_receives.ids)
-  offered_ids msg (Some error) = (refl, refl)
-  offered_ids msg None = accepting_is (λ c. (c.waiting_sends.ids ≡ v.control.waiting_sends.ids) × (c.waiting_receives.ids ≡ v.control.waiting_receives.ids)) v.control v.end
+  offered_ids : (msg : T) → ((offer v msg).control.waiting_sends.ids ≡ v.control.waiting_sends.ids) × ((offer v msg).control.waiting_receives.ids ≡ v.control.waiting_receives.ids)
+  offered_ids msg = test_is (λ (e : Effect T). (e.control.waiting_sends.ids ≡ v.control.waiting_sends.ids) × (e.control.waiting_receives.ids ≡ v.control.waiting_receives.ids)) (is_ok (try_broadcast_reply v msg)) (accept v msg) (sets v.control) (λ _. accepting_is (λ c. (c.waiting_sends.ids ≡ v.control.waiting_sends.ids) × (c.waiting_receives.ids ≡ v.control.waiting_receives.ids)) v.control v.end
       (close_is (λ c. (c.waiting_sends.ids ≡ v.control.waiting_sends.ids) × (c.waiting_receives.ids ≡ v.control.waiting_receives.ids)) (tell_receivers v.control) (λ _. (refl, refl)) (λ _. (refl, refl)))
-      (λ _. (refl, refl))
+      (λ _. (refl, refl))) (λ _. (refl, refl))
 
   module _ (place : ℕ) (msg : T) (told : is_in same_place place (told_ids v.control.waiting_sends) ≡ true) where
     send_answered : (may : Bool) → AreListed (tell_if_ready may (settle v (with_place_answered (offer v msg) place))).control → unrest (tell_if_ready may (settle v (with_place_answered (offer v msg) place))).control + 1 ≤ unrest v.control
     send_answered may listed =
-        let ids = offered_ids msg (refusal v msg) in
+        let ids = offered_ids msg in
         let gone = one_gone same_place test_place place v.control.waiting_sends valid.control.lists.sends told in
         let some = told_some same_place test_place place v.control.waiting_sends told in
         let sends = ap (λ ids. length (without same_place place ids)) ids.0 in

@@ -1,13 +1,13 @@
 -- What a whole list keeps that is sent at once.
-use Rattle.std.proofs.Common.{◌≡◌, inl, ℕ, ◌+◌, ◌-◌, ◌^◌, ◌<◌, ◌≤◌, not, true, false, cond, List, [], ◌∷◌, length, nat_lt, Option, Some, None, refl, subst, arith, length-append, length-drop}
+use Rattle.std.proofs.Common.{◌≡◌, inl, ℕ, ◌+◌, ◌-◌, ◌^◌, ◌<◌, ◌≤◌, not, true, false, cond, List, [], ◌∷◌, length, nat_lt, Ok, Err, refl, subst, arith, length-append, length-drop}
 use Rattle.std.proofs.lemmas.Grind.{common_steps}
+use Rattle.std.specs.Prelude.{is_ok}
 use Rattle.std.specs.FinMap.{len}
-use Rattle.bcast_model.specs.declared.error.TrySendError.{TrySendError}
 use Rattle.bcast_model.specs.declared.error.TrySendError.TheVariants as unsent
 use Rattle.bcast_model.specs.Words.{has_no_receiver, accepting, Effect, sets, IsValidView}
-use Rattle.bcast_model.specs.Words.{free_room, refusal_of_all, accept_all, accept_all_unless}
+use Rattle.bcast_model.specs.Words.{free_room, try_broadcast_all_reply, accept_all}
 use Rattle.bcast_model.specs.Words.{offer_all, View, sends_are_ready}
-use Rattle.bcast_model.proofs.Cases.{capacity-accepting, cursors-accepting}
+use Rattle.bcast_model.proofs.Cases.{capacity-accepting, cursors-accepting, test_is}
 use Rattle.bcast_model.proofs.Sound.{IsAttended, IsSound}
 use Rattle.bcast_model.proofs.Lift.{KeepsValid}
 use Rattle.bcast_model.proofs.Kept.{not_not, kept_idle, keeps_sets}
@@ -17,16 +17,12 @@ use Rattle.bcast_model.proofs.Sends.{attended_accepting, sound_accepting, told_a
 module _ {T : Type 0} where
   -- a list is refused, or is accepted: without a message, or with a last one
   pub offer_all_is : (P : Effect T → Type 0) (v : View T) (msgs : List T) → P (sets v.control)
-      → ((msg : T) (rest : List T) → msgs ≡ msg ∷ rest → refusal_of_all v msgs ≡ None → P (accept_all v (msg ∷ rest))) → P (offer_all v msgs)
-  offer_all_is P v msgs idle accepted = by_refusal (refusal_of_all v msgs) refl
+      → ((msg : T) (rest : List T) → msgs ≡ msg ∷ rest → is_ok (try_broadcast_all_reply v msgs) ≡ true → P (accept_all v (msg ∷ rest))) → P (offer_all v msgs)
+  offer_all_is P v msgs idle accepted = test_is P (is_ok (try_broadcast_all_reply v msgs)) (accept_all v msgs) (sets v.control) (by_list msgs refl) (λ _. idle)
     where
-      by_list : (list : List T) → msgs ≡ list → refusal_of_all v msgs ≡ None → P (accept_all v list)
+      by_list : (list : List T) → msgs ≡ list → is_ok (try_broadcast_all_reply v msgs) ≡ true → P (accept_all v list)
       by_list [] is e = idle
       by_list (msg ∷ rest) is e = accepted msg rest is e
-
-      by_refusal : (o : Option (TrySendError (List T))) → refusal_of_all v msgs ≡ o → P (accept_all_unless v msgs o)
-      by_refusal (Some error) e = idle
-      by_refusal None e = by_list msgs refl e
 
   -- ---- what it leaves
   pub cursors-offer_all : (v : View T) (msgs : List T) → (offer_all v msgs).control.cursors ≡ v.control.cursors
@@ -46,12 +42,12 @@ module _ {T : Type 0} where
     pub room : count ≤ v.control.capacity - length v.queue
     pub numbers : count ≤ 18446744073709551615 - v.end
 
-  pub roomy : (v : View T) (msgs : List T) → refusal_of_all v msgs ≡ None → IsRoomy v (length msgs)
-  roomy v msgs e = elim v.control.closed as (λ b. v.control.closed ≡ b → cond b (Some (unsent.Closed msgs)) (cond (has_no_receiver v.control) (Some (unsent.Inactive msgs)) (cond (nat_lt (free_room v) (length msgs)) (Some (unsent.Full msgs)) None)) ≡ None → IsRoomy v (length msgs)) [
+  pub roomy : (v : View T) (msgs : List T) → is_ok (try_broadcast_all_reply v msgs) ≡ true → IsRoomy v (length msgs)
+  roomy v msgs e = elim v.control.closed as (λ b. v.control.closed ≡ b → is_ok {T = Unit {0}} (cond b (Err (unsent.Closed msgs)) (cond (has_no_receiver v.control) (Err (unsent.Inactive msgs)) (cond (nat_lt (free_room v) (length msgs)) (Err (unsent.Full msgs)) (Ok tt)))) ≡ true → IsRoomy v (length msgs)) [
     | true ↦ λ _ e. cc
-    | false ↦ λ opened e. elim (has_no_receiver v.control) as (λ b. has_no_receiver v.control ≡ b → cond b (Some (unsent.Inactive msgs)) (cond (nat_lt (free_room v) (length msgs)) (Some (unsent.Full msgs)) None) ≡ None → IsRoomy v (length msgs)) [
+    | false ↦ λ opened e. elim (has_no_receiver v.control) as (λ b. has_no_receiver v.control ≡ b → is_ok {T = Unit {0}} (cond b (Err (unsent.Inactive msgs)) (cond (nat_lt (free_room v) (length msgs)) (Err (unsent.Full msgs)) (Ok tt))) ≡ true → IsRoomy v (length msgs)) [
       | true ↦ λ _ e. cc
-      | false ↦ λ someone e. elim (nat_lt (free_room v) (length msgs)) as (λ b. nat_lt (free_room v) (length msgs) ≡ b → cond b (Some (unsent.Full msgs)) None ≡ None → IsRoomy v (length msgs)) [
+      | false ↦ λ someone e. elim (nat_lt (free_room v) (length msgs)) as (λ b. nat_lt (free_room v) (length msgs) ≡ b → is_ok {T = Unit {0}} (cond b (Err (unsent.Full msgs)) (Ok tt)) ≡ true → IsRoomy v (length msgs)) [
         | true ↦ λ _ e. cc
         | false ↦ λ t e.
             let fits : length msgs ≤ free_room v = grind (arith, common_steps, t) in

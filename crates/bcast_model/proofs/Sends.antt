@@ -1,13 +1,14 @@
 -- What sends keep.
-use Rattle.std.proofs.Common.{◌≡◌, ◌≢◌, ◌⊎◌, inl, inr, ℕ, ◌+◌, ◌-◌, ◌^◌, ◌<◌, ◌≤◌, ◌&&◌, true, false, cond, not, [], ◌∷◌, ◌++◌, length, max, drop, Option, Some, None, refl, arith, length-append, length-drop}
+use Rattle.std.proofs.Common.{◌≡◌, ◌≢◌, ◌⊎◌, inl, inr, ℕ, ◌+◌, ◌-◌, ◌^◌, ◌<◌, ◌≤◌, ◌&&◌, true, false, cond, not, [], ◌∷◌, ◌++◌, length, max, drop, Option, Some, None, Ok, Err, refl, arith, length-append, length-drop}
+use Rattle.std.specs.Prelude.{is_ok}
 use Rattle.std.proofs.lemmas.Grind.{common_steps}
 use Rattle.std.specs.FinMap.{len, values}
 use Rattle.std.specs.FinSet as set
 use Rattle.bcast_model.specs.declared.error.TrySendError.TheVariants as unsent
 use Rattle.bcast_model.specs.Words.{consume, abandon, wait_again, same_place, Control}
 use Rattle.bcast_model.specs.Words.{has_no_receiver, tell_receivers, close, accepting, has_place}
-use Rattle.bcast_model.specs.Words.{place_ended, place_waits, begin_send, refusal, accept}
-use Rattle.bcast_model.specs.Words.{accept_unless, offer, with_place_answered, poll_send, least}
+use Rattle.bcast_model.specs.Words.{place_ended, place_waits, begin_send, accept}
+use Rattle.bcast_model.specs.Words.{try_broadcast_reply, handed_back, offer, with_place_answered, poll_send, least}
 use Rattle.bcast_model.specs.Words.{View, is_full, sends_are_ready, sets, IsValidView}
 use Rattle.bcast_model.proofs.Cases.{test_is, close_is, accepting_is, capacity-accepting}
 use Rattle.bcast_model.proofs.Listeners.{one_abandon}
@@ -52,8 +53,8 @@ module _ {T : Type 0} where
       accepting_is (IsSound v (end + 1)) c end (sound_close v (end + 1) (tell_receivers c) told) (λ _. told)
 
   -- what is not refused finds an open channel
-  open_offer : (v : View T) (msg : T) → refusal v msg ≡ None → v.control.closed ≡ false
-  open_offer v msg e = elim v.control.closed as (λ b. cond b (Some (unsent.Closed msg)) (cond (has_no_receiver v.control) (Some (unsent.Inactive msg)) (cond (is_full v && not v.control.overflow) (Some (unsent.Full msg)) None)) ≡ None → b ≡ false) [
+  open_offer : (v : View T) (msg : T) → is_ok (try_broadcast_reply v msg) ≡ true → v.control.closed ≡ false
+  open_offer v msg e = elim v.control.closed as (λ b. is_ok (cond b (Err (unsent.Closed msg)) (cond (has_no_receiver v.control) (Err (unsent.Inactive msg)) (cond (is_full v && not v.control.overflow) (Err (unsent.Full msg)) (Ok (handed_back v))))) ≡ true → b ≡ false) [
     | true ↦ λ e. cc
     | false ↦ λ e. refl
   ] e
@@ -77,10 +78,7 @@ module _ {T : Type 0} where
         }
 
     pub keeps_offer : (msg : T) → KeepsValid v (offer v msg) (not (sends_are_ready v))
-    keeps_offer msg = elim (refusal v msg) as (λ o. refusal v msg ≡ o → KeepsValid v (accept_unless v msg o) (not (sends_are_ready v))) [
-      | Some error ↦ λ _. keeps_sets v valid v.control (kept_idle v valid)
-      | None ↦ λ e. keeps_accept msg (open_offer v msg e)
-    ] refl
+    keeps_offer msg = test_is (λ e. KeepsValid v e (not (sends_are_ready v))) (is_ok (try_broadcast_reply v msg)) (accept v msg) (sets v.control) (λ e. keeps_accept msg (open_offer v msg e)) (λ _. keeps_sets v valid v.control (kept_idle v valid))
 
     -- ---- pending sends
     pub kept_begin_send : (place : Option ℕ) → IsKept v (begin_send v.control place)

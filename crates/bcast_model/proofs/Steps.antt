@@ -1,14 +1,14 @@
 -- What is seen of a channel after a call, without a hidden history.
-use Rattle.std.proofs.Common.{◌≡◌, inl, inr, true, false, cond, arith, Bool, ◌&&◌, not, refl, sym, ap, ◌∙◌, subst}
+use Rattle.std.proofs.Common.{◌≡◌, inl, inr, true, false, cond, arith, Bool, not, refl, sym, ap, ◌∙◌, subst}
 use Rattle.std.specs.FinMap.{len}
 use Rattle.bcast_model.specs.declared.run.Call.{Call}
 use Rattle.bcast_model.specs.declared.run.Call.TheVariants as call
 use Rattle.bcast_model.specs.declared.run.Reply.{Reply}
 use Rattle.bcast_model.specs.Words.{Control, Cursors, tell_a_sender, Effect, sets, View}
 use Rattle.bcast_model.specs.Words.{sends_are_ready, Legal, effect, resize, History, view_of}
-use Rattle.bcast_model.specs.Words.{remember, is_out_of_memory, tell_if_ready, may_tell, next}
+use Rattle.bcast_model.specs.Words.{remember, is_out_of_memory, end_call, may_tell, next}
 use Rattle.bcast_model.specs.Words.{IsValid, Answers, next_view, Steps, HasRange, IsValidView}
-use Rattle.bcast_model.proofs.Cases.{test_is}
+use Rattle.bcast_model.proofs.Cases.{tell_is}
 use Rattle.bcast_model.proofs.Sound.{AreSizes}
 use Rattle.bcast_model.proofs.Views.{valid_view}
 use Rattle.bcast_model.proofs.Lift.{KeepsValid, view_of-told}
@@ -20,8 +20,8 @@ apart : false ≡ true → ⊥
 apart e = cc
 
 module _ {T : Type 0} where
-  told_same : {A : Type 0} (f : Control → A) → ((c : Control) → f (tell_a_sender c) ≡ f c) → (may : Bool) (v : View T) → f (tell_if_ready may v).control ≡ f v.control
-  told_same f same may v = test_is (λ (w : View T). f w.control ≡ f v.control) (may && sends_are_ready v) (record v { control = tell_a_sender v.control }) v (λ _. same v.control) (λ _. refl)
+  told_same : {A : Type 0} (f : Control → A) → ((c : Control) → f (tell_a_sender c) ≡ f c) → (may : Bool) (h : History T) → f (end_call may h).control ≡ f h.control
+  told_same f same may h = tell_is (λ (now : History T). f now.control ≡ f h.control) may h (λ _. same h.control) (λ _. refl)
 
   -- the range that a call keeps to, where the next state is valid
   range_of : (c : Call T) (r : Reply T) (v : View T) → is_out_of_memory r ≡ false → AreSizes (effect v c r).control.capacity (effect v c r).control.room (len (effect v c r).control.cursors) 0 0 0 → HasRange c (len (effect v c r).control.cursors)
@@ -57,7 +57,7 @@ module _ {T : Type 0} where
       let v : View T = view_of h in
       let e : Effect T = effect v c r in
       let may : Bool = may_tell h.control (sends_are_ready v) c in
-      let now : View T = view_of (remember h e) in
+      let now : History T = remember h e in
       let capacity = told_same (λ c. c.capacity) (λ _. refl) may now in
       let room = told_same (λ c. c.room) (λ _. refl) may now in
       let count = ap (λ (cursors : Cursors). len cursors) (cursors-next h c r) in

@@ -1,5 +1,5 @@
 -- What a whole list is answered that is sent at once, and what it does to the channel.
-use Rattle.std.specs.Prelude.{ℕ, ◌+◌, ◌-◌, if◌then◌else◌, List, [], ◌∷◌, length, min, nat_lt, Option, Some, None, Result, Ok, Err}
+use Rattle.std.specs.Prelude.{ℕ, ◌+◌, ◌-◌, if◌then◌else◌, List, [], ◌∷◌, length, min, nat_lt, Result, Ok, Err, is_ok}
 use Rattle.std.specs.Global.{Vec}
 use Rattle.bcast_model.specs.declared.error.TrySendError.{TrySendError}
 use Rattle.bcast_model.specs.declared.error.TrySendError.TheVariants as unsent
@@ -12,18 +12,13 @@ module _ {T : Type 0} where
   abbrev pub free_room : View T → ℕ
   free_room v = min (v.control.capacity - length v.queue) (last_end - v.end)
 
-  -- `try_broadcast_all`: why a list is not accepted, overflow on or off. The first that fits
-  abbrev pub refusal_of_all : View T → List T → Option (TrySendError (List T))
-  refusal_of_all v msgs =
-      if v.control.closed then Some (unsent.Closed msgs)
-      else (if has_no_receiver v.control then Some (unsent.Inactive msgs)
-      else (if nat_lt (free_room v) (length msgs) then Some (unsent.Full msgs) else None))
-
-  -- `try_broadcast_all`: a refusal hands back the whole list
-  abbrev pub reply_to_all : Option (TrySendError (List T))
+  -- `try_broadcast_all`, overflow on or off: the first that fits
+  abbrev pub try_broadcast_all_reply : View T → List T
       → Result (Unit {0}) (TrySendError (List T))
-  reply_to_all (Some error) = Err error
-  reply_to_all None = Ok tt
+  try_broadcast_all_reply v msgs =
+      if v.control.closed then Err (unsent.Closed msgs)
+      else (if has_no_receiver v.control then Err (unsent.Inactive msgs)
+      else (if nat_lt (free_room v) (length msgs) then Err (unsent.Full msgs) else Ok tt))
 
   -- the answer to a vector of messages, as one to their list
   abbrev pub in_lists : Result (Unit {0}) (TrySendError (Vec T))
@@ -32,11 +27,6 @@ module _ {T : Type 0} where
   in_lists (Err (unsent.Full msgs)) = Err (unsent.Full msgs.items)
   in_lists (Err (unsent.Closed msgs)) = Err (unsent.Closed msgs.items)
   in_lists (Err (unsent.Inactive msgs)) = Err (unsent.Inactive msgs.items)
-
-  -- the reply of `try_broadcast_all`
-  abbrev pub try_broadcast_all_reply : View T → List T
-      → Result (Unit {0}) (TrySendError (List T))
-  try_broadcast_all_reply v msgs = reply_to_all (refusal_of_all v msgs)
 
   -- a list that is accepted comes last, in its order: who waits to receive is told, and the last
   -- number closes the channel, once the whole list is there. Where there is no message nobody is
@@ -49,11 +39,7 @@ module _ {T : Type 0} where
     floor = 0;
   }
 
-  -- a list that is refused changes nothing
-  abbrev pub accept_all_unless : View T → List T → Option (TrySendError (List T)) → Effect T
-  accept_all_unless v msgs (Some error) = sets v.control
-  accept_all_unless v msgs None = accept_all v msgs
-
-  -- `try_broadcast_all`
+  -- `try_broadcast_all`: a list that is refused changes nothing
   abbrev pub offer_all : View T → List T → Effect T
-  offer_all v msgs = accept_all_unless v msgs (refusal_of_all v msgs)
+  offer_all v msgs =
+      if is_ok (try_broadcast_all_reply v msgs) then accept_all v msgs else sets v.control

@@ -1,6 +1,7 @@
 -- A reply that hands a list back hands back the list of its call.
-use Rattle.std.proofs.Common.{◌≡◌, inl, inr, ◌<◌, ◌+◌, ◌∷◌, [], ◌++◌, map, take, get_or, Bool, true, false, cond, List, Option, Some, None, Result, Ok, Err, nat_lt, length, refl, sym, ap, ◌∙◌, subst}
+use Rattle.std.proofs.Common.{◌≡◌, inl, inr, ◌<◌, ◌+◌, ◌∷◌, [], ◌++◌, map, take, get_or, Bool, true, false, cond, List, Option, Some, Result, Ok, Err, nat_lt, length, refl, sym, ap, ◌∙◌, subst}
 use Rattle.std.proofs.lemmas.List.{map-append, take_more}
+use Rattle.std.specs.declared.alloc.AllocError.{AllocError}
 use Rattle.bcast_model.specs.declared.error.TryRecvError.{TryRecvError}
 use Rattle.bcast_model.specs.declared.error.HandleError.{HandleError}
 use Rattle.bcast_model.specs.declared.error.TrySendError.TheVariants as unsent
@@ -9,8 +10,9 @@ use Rattle.bcast_model.specs.declared.run.Call.TheVariants as call
 use Rattle.bcast_model.specs.declared.run.Reply.{Reply}
 use Rattle.bcast_model.specs.declared.run.Reply.TheVariants as reply
 use Rattle.std.specs.Prelude.{ℕ}
-use Rattle.bcast_model.specs.Words.{Cursors, has_no_receiver, View, free_room, reply_to_all, Legal}
-use Rattle.bcast_model.specs.Words.{IsReceived, IsMade, IsMadeFrom}
+use Rattle.bcast_model.specs.Words.{Cursors, has_no_receiver, View, free_room, Legal}
+use Rattle.bcast_model.specs.Words.{IsReceivedBy, IsMade, IsMadeFrom, cursor_of, skipped_to}
+use Rattle.bcast_model.specs.Words.{skipped_count, future_reply, stream_reply, next_reply}
 use Rattle.bcast_record.specs.declared.entry.Entry.{Entry}
 use Rattle.bcast_record.specs.Copies.{list_of, IsListOf}
 
@@ -24,11 +26,11 @@ module _ {T : Type 0} where
   hands_none list (reply.TryBroadcastAll (Err error)) e = absurd cc
   hands_none list r e = tt
 
-  received : {owed : Type 0} (is_clone : T → T → Type 0) (spelt : Result T TryRecvError → Reply T) (refused : Reply T) (exact : Result T TryRecvError) (r : Reply T)
-      → ((answer : Result T TryRecvError) → hands_list (spelt answer) ≡ false) → hands_list refused ≡ false → IsReceived is_clone owed spelt refused exact r → hands_list r ≡ false
-  received is_clone spelt refused exact r none nor (inl is) = ap hands_list is ∙ none exact
-  received is_clone spelt refused exact r none nor (inr (owes, inl clone)) = ap hands_list clone.reply ∙ none (Ok clone.given)
-  received is_clone spelt refused exact r none nor (inr (owes, inr is)) = ap hands_list is ∙ nor
+  received : {X : Type 0} (is_clone : T → T → Type 0) (v : View T) (key : ℕ) (cursor : Option ℕ) (variant : Result X AllocError → Reply T) (word : Result T TryRecvError → X) (r : Reply T)
+      → ((out : Result X AllocError) → hands_list (variant out) ≡ false) → IsReceivedBy is_clone v key cursor variant word r → hands_list r ≡ false
+  received is_clone v key cursor variant word r none (inl is) = ap hands_list is ∙ none _
+  received is_clone v key cursor variant word r none (inr (owes, inl clone)) = ap hands_list clone.4 ∙ none _
+  received is_clone v key cursor variant word r none (inr (owes, inr is)) = ap hands_list is ∙ none _
 
   made : (cursors : Cursors) (spelt : Result ℕ HandleError → Reply T) (r : Reply T) → ((answer : Result ℕ HandleError) → hands_list (spelt answer) ≡ false) → IsMade cursors spelt r → hands_list r ≡ false
   made cursors spelt r none (inl (key, is, free)) = ap hands_list is ∙ none _
@@ -39,7 +41,7 @@ module _ {T : Type 0} where
   made_from there cursors spelt r none (inr (is_there, is)) = made cursors spelt r none is
 
   refused : (closed nobody over : Bool) (msgs : List T)
-      → IsListOf (Some msgs) (reply.TryBroadcastAll (reply_to_all (cond closed (Some (unsent.Closed msgs)) (cond nobody (Some (unsent.Inactive msgs)) (cond over (Some (unsent.Full msgs)) None)))))
+      → IsListOf (Some msgs) (reply.TryBroadcastAll (cond closed (Err (unsent.Closed msgs)) (cond nobody (Err (unsent.Inactive msgs)) (cond over (Err (unsent.Full msgs)) (Ok tt)))))
   refused true nobody over msgs = refl
   refused false true over msgs = refl
   refused false false true msgs = refl
@@ -77,10 +79,12 @@ module _ {T : Type 0} where
   legal_list is_clone v call.BeginSend r (inr is) = hands_none _ r (ap hands_list is)
   legal_list is_clone v (call.SetCapacity n) r (inl is) = hands_none _ r (ap hands_list is)
   legal_list is_clone v (call.SetCapacity n) r (inr (is, more)) = hands_none _ r (ap hands_list is)
-  legal_list is_clone v (call.TryRecv key) r legal = hands_none _ r (received is_clone _ _ _ r (λ _. refl) refl legal)
-  legal_list is_clone v (call.PollFuture key) r legal = hands_none _ r (received is_clone _ _ _ r (λ _. refl) refl legal)
-  legal_list is_clone v (call.PollRecv key) r legal = hands_none _ r (received is_clone _ _ _ r (λ _. refl) refl legal)
-  legal_list is_clone v (call.PollNext key) r legal = hands_none _ r (received is_clone _ _ _ r (λ _. refl) refl legal)
+  legal_list is_clone v (call.TryRecv key) r legal = hands_none _ r (received is_clone v key (cursor_of v.control key) reply.TryRecv (λ answer. answer) r (λ _. refl) legal)
+  legal_list is_clone v (call.PollFuture key) r legal = hands_none _ r (received is_clone v key (cursor_of v.control key) reply.PollFuture future_reply r (λ _. refl) legal)
+  legal_list is_clone v (call.PollRecv key) r legal = hands_none _ r (received is_clone v key (cursor_of v.control key) reply.PollRecv stream_reply r (λ _. refl) legal)
+  legal_list is_clone v (call.PollNext key) r legal =
+      let cursor = cursor_of v.control key in
+      hands_none _ r (received is_clone v key (skipped_to v.front cursor) reply.PollNext (next_reply (skipped_count v.front cursor)) r (λ _. refl) legal)
   legal_list is_clone v call.NewReceiver r legal = hands_none _ r (made _ reply.NewReceiver r (λ _. refl) legal)
   legal_list is_clone v call.Activate r legal = hands_none _ r (made_from _ _ reply.Activate r (λ _. refl) legal)
   legal_list is_clone v call.ActivateCloned r legal = hands_none _ r (made_from _ _ reply.ActivateCloned r (λ _. refl) legal)

@@ -1,5 +1,5 @@
 -- A topic's part of the calls as a run: how it begins, and one call more.
-use Rattle.std.proofs.Common.{◌≡◌, ℕ, List, [], ◌∷◌, ◌++◌, map, Option, Some, refl, sym, ap, ◌∙◌, subst, arith}
+use Rattle.std.proofs.Common.{◌≡◌, ℕ, List, [], ◌∷◌, ◌++◌, map, Option, Some, None, refl, sym, ap, ◌∙◌, subst, arith}
 use Rattle.std.proofs.lemmas.Option.{same_Some}
 use Rattle.bcast_model.specs.declared.run.Call.{Call}
 use Rattle.bcast_model.specs.declared.run.Reply.{Reply}
@@ -33,16 +33,17 @@ module _ {T : Type 0} (is_clone : T → T → Type 0) where
       record { run = all.0; end = all.1; valid = all.2 }
 
   pub new_run : {capacity : ℕ} {new : Option (View T)} → IsNew is_clone capacity new → IsTopic is_clone (Some capacity) [] new
-  new_run {capacity} {new} is =
-      let valid = valid_shown is.answers.shown in
+  new_run {new = None} is = absurd is
+  new_run {capacity} {new = Some topic} is =
+      let valid = valid_shown is.1.shown in
       let fits = valid.control.room_fits in
       let some = valid.control.capacity in
-      let h : History T = opening capacity 0 is.first_key in
-      let starts = opening_valid capacity 0 is.first_key some fits (omega arith) in (
-        is.first_key,
+      let h : History T = opening capacity 0 is.0 in
+      let starts = opening_valid capacity 0 is.0 some fits (omega arith) in (
+        is.0,
         record {
-          run = (is.answers.legal, tt);
-          end = is.is ∙ ap Some (is.answers.represents h starts refl);
-          valid = is.answers.valid h starts refl;
+          run = (is.1.legal, tt);
+          end = ap Some (is.1.represents h starts refl);
+          valid = is.1.valid h starts refl;
         },
       )

@@ -17,7 +17,7 @@ use Rattle.topics.specs.declared.request.Answer.{Answer}
 use Rattle.topics.specs.declared.request.Answer.TheVariants as answer
 use Rattle.topics.specs.declared.hub.Hub.{Hub}
 use Rattle.topics.specs.Request.{name_of, call_of, IsAnswer, IsAnswerTo}
-use Rattle.topics.specs.Hub.{topic_of, IsNew, IsCalled, IsCall, Changes, Asks}
+use Rattle.topics.specs.Hub.{topic_of, IsNew, IsCall, Changes, Asks}
 use Rattle.topics.specs.Part.{Exchange, Called, opens, opened_with, AreAnswers, done_by, done_on, part_of, IsRunOf, IsTopic, AreTopics}
 use Rattle.topics.proofs.Exchanges.{option_or-None, opened_with-last, done_on-last, answers_more, zip_last}
 use Rattle.topics.proofs.PartRuns.{run_of_more, new_run}
@@ -33,12 +33,11 @@ module _ {T : Type 0} (is_clone : T → T → Type 0) where
   is_open (Some capacity) done old topic = ap is_some topic.1.end
 
   -- a call on it
-  done_more : (capacity : Option ℕ) (done : List (Called T)) (old new : Option (View T)) (c : Call T) (r : Reply T) → IsTopic is_clone capacity done old → IsCalled is_clone (Some c) r old new → IsTopic is_clone (option_or capacity None) (done ++ (c, r) ∷ []) new
-  done_more None done old new c r topic is = absurd (none-some is.before (sym topic.0 ∙ is.was))
-  done_more (Some capacity) done old new c r topic is =
-      let same : c ≡ is.call = same_Some c is.call is.is_asked in
-      let answers : Answers is_clone is.before c r is.after = subst (λ asked. Answers is_clone is.before asked r is.after) (sym same) is.answers in
-      (topic.0, subst (IsRunOf is_clone (opening capacity 0 topic.0) (part_of topic.0 (done ++ (c, r) ∷ []))) (sym is.is) (run_of_more is_clone (subst (IsRunOf is_clone (opening capacity 0 topic.0) (part_of topic.0 done)) is.was topic.1) answers))
+  done_more : (capacity : Option ℕ) (done : List (Called T)) (old new : Option (View T)) (c : Call T) (r : Reply T) → IsTopic is_clone capacity done old → IsCall is_clone (Some c) (answer.Done r) old new → IsTopic is_clone (option_or capacity None) (done ++ (c, r) ∷ []) new
+  done_more None done old new c r topic is = absurd (subst (λ o. IsCall is_clone (Some c) (answer.Done r) o new) topic.0 is)
+  done_more (Some capacity) done (Some before) (Some after) c r topic is = (topic.0, run_of_more is_clone topic.1 is)
+  done_more (Some capacity) done (Some before) None c r topic is = absurd is
+  done_more (Some capacity) done None new c r topic is = absurd is
 
   called : (capacity : Option ℕ) (done : List (Called T)) (old new : Option (View T)) (c : Call T) (a : Answer T) → IsTopic is_clone capacity done old → IsCall is_clone (Some c) a old new → IsTopic is_clone (option_or capacity None) (done ++ done_by true (Some c) a) new
   called capacity done old new c (answer.Done r) topic is = done_more capacity done old new c r topic is

@@ -24,9 +24,4 @@ module _ {T : Type 0} {is_clone : T → T → Type 0} {v w : View T} {capacity k
   pub is_new : Answers NoClone v (call.Deactivate key) (reply.Deactivate (Ok tt)) w → Represents v (opening capacity 0 key) → IsNew is_clone capacity (Some w)
   is_new a opened =
       let b : Answers NoClone _ (call.Deactivate key) (reply.Deactivate (Ok tt)) w = subst (λ u. Answers NoClone u (call.Deactivate key) (reply.Deactivate (Ok tt)) w) opened a in
-      record {
-        first_key = key;
-        topic = w;
-        is = refl;
-        answers = record { shown = b.shown; legal = b.legal; represents = b.represents; valid = b.valid };
-      }
+      (key, record { shown = b.shown; legal = b.legal; represents = b.represents; valid = b.valid })

@@ -1,5 +1,5 @@
 -- One request to a hub.
-use Rattle.std.specs.Prelude.{◌≡◌, ◌≢◌, ℕ, List, Option, Some, is_some, Ok}
+use Rattle.std.specs.Prelude.{◌≡◌, ◌≢◌, ℕ, List, Option, Some, None, is_some, Ok}
 use Rattle.std.specs.HashMap.{get_by_text}
 use Rattle.bcast_model.specs.declared.run.Call.{Call}
 use Rattle.bcast_model.specs.declared.run.Call.TheVariants as call
@@ -21,37 +21,23 @@ Topics T = List ℕ → Option (View T)
 abbrev pub topic_of : {T A : Type 0} → Hub T A → Topics T
 topic_of hub name = get_by_text hub.topics name
 
--- `broadcast`, then `deactivate`: a channel of this capacity whose first receiver is inactive
-pub record IsNew
-    {T : Type 0} (is_clone : T → T → Type 0) (capacity : ℕ) (new : Option (View T))
-    : Type 0 where
-  pub first_key : ℕ
-  pub topic : View T
-  pub is : new ≡ Some topic
-  pub answers : Answers is_clone (view_of (opening capacity 0 first_key))
-      (call.Deactivate first_key) (reply.Deactivate (Ok tt)) topic
-
--- the call that a request asks for, with its reply
-pub record IsCalled
-    {T : Type 0} (is_clone : T → T → Type 0) (asked : Option (Call T)) (r : Reply T)
-    (old new : Option (View T)) : Type 0 where
-  pub call : Call T
-  pub is_asked : asked ≡ Some call
-  pub before : View T
-  pub was : old ≡ Some before
-  pub after : View T
-  pub is : new ≡ Some after
-  pub answers : Answers is_clone before call r after
-
 module _ {T : Type 0} (is_clone : T → T → Type 0) where
+  -- `broadcast`, then `deactivate`: a channel of this capacity whose first receiver is inactive
+  abbrev pub IsNew : ℕ → Option (View T) → Type 0
+  IsNew capacity (Some topic) =
+      (first_key : ℕ) × Answers is_clone (view_of (opening capacity 0 first_key))
+      (call.Deactivate first_key) (reply.Deactivate (Ok tt)) topic
+  IsNew capacity None = ⊥
+
   -- what becomes of a topic that is to be opened, by the answer
   abbrev pub IsOpened : ℕ → Answer T → Option (View T) → Option (View T) → Type 0
-  IsOpened capacity answer.Opened old new = IsNew is_clone capacity new
+  IsOpened capacity answer.Opened old new = IsNew capacity new
   IsOpened capacity a old new = new ≡ old
 
-  -- what becomes of a topic on which this call is to be made, by the answer
+  -- what becomes of a topic on which this call is to be made, by the answer: its channel answers
   abbrev pub IsCall : Option (Call T) → Answer T → Option (View T) → Option (View T) → Type 0
-  IsCall asked (answer.Done r) old new = IsCalled is_clone asked r old new
+  IsCall (Some c) (answer.Done r) (Some before) (Some after) = Answers is_clone before c r after
+  IsCall asked (answer.Done r) old new = ⊥
   IsCall asked a old new = new ≡ old
 
   -- what becomes of the topic of a request, by the answer

@@ -70,10 +70,10 @@ module _ {S : Type 0} where
           | inr none ↦ (let caught = valid.caught_up key cursor (nil_from_length v.queue (omega (arith, none, end))) e in omega (arith, caught, reach))
         ]
 
-    moved : IsValidView v → (o : Option ℕ) → cursor_of v.control key ≡ o → Leaves (receive v.front v.end v.control key (skipped_to v.front o))
+    moved : IsValidView v → (o : Option ℕ) → cursor_of v.control key ≡ o → Leaves (receive v key (skipped_to v.front o))
     moved valid None at = seen_same (λ n e. absurd (none-some n (sym at ∙ e)))
     moved valid (Some n) at =
-        receive_is Leaves v.front v.end v.control key (max n v.front)
+        receive_is v Leaves key (max n v.front)
         (λ lags. absurd (omega (arith, lags)))
         (λ _ high. let end = valid.end in let fits = valid.fits in let one = config.capacity in seen_at (max n v.front + 1) (omega (arith, end, fits, one, high)))
         (λ _ late. seen_same (λ m e. sym (same_Some n m (sym at ∙ e)) ∙ at_end valid n at late))
@@ -85,7 +85,7 @@ module _ {S : Type 0} where
   pub polled : {is_clone : S → S → Type 0} {v w : View S} {key : ℕ} {found : Poll (Option (S × ℕ))} → Answers is_clone v (call.PollNext key) (reply.PollNext (Ok found)) w → IsConfig v → Looked v w key
   polled {v = v} {key = key} a config =
       let o : Option ℕ = skipped_to v.front (cursor_of v.control key) in
-      let c : Control = receive v.front v.end v.control key o in
+      let c : Control = receive v key o in
       let here = moved v key config (valid a) (cursor_of v.control key) refl in
       after a (λ u. Looked v u key) (λ u s. told_looked v u key _ s)
       (elim (is_empty_reply (try_recv_reply v o)) as (λ b. Looked v (settle v (sets (listens c (stream_of key) b))) key) [

@@ -52,9 +52,9 @@ module _ {T : Type 0} where
       still : (c : Control) → c.overflow ≡ v.control.overflow → c.senders ≡ v.control.senders → c.inactive ≡ v.control.inactive → IsHub (settle v (sets c))
       still c overflow senders inactive = record { overflow = overflow ∙ hub.overflow; sender = subst (λ n. 1 ≤ n) (sym senders) hub.sender; inactive = subst (λ n. 1 ≤ n) (sym inactive) hub.inactive }
 
-      moved : (o : Option ℕ) → IsHub (settle v (sets (receive v.front v.end v.control key o)))
+      moved : (o : Option ℕ) → IsHub (settle v (sets (receive v key o)))
       moved None = still v.control refl refl refl
-      moved (Some n) = receive_is (λ c. IsHub (settle v (sets c))) v.front v.end v.control key n
+      moved (Some n) = receive_is v (λ c. IsHub (settle v (sets c))) key n
           (λ _. still (with_cursor v.control key v.front) refl refl refl) (λ _ _. still (with_cursor v.control key (n + 1)) refl refl refl) (λ _ _. still v.control refl refl refl)
 
   pub receive_refused : {is_clone : T → T → Type 0} {v w : View T} {key : ℕ} {error : AllocError} → Answers is_clone v (call.TryRecv key) (reply.TryRecv (Err error)) w → w ≡ v

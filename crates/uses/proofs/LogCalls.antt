@@ -72,11 +72,11 @@ module _ {T : Type 0} where
           | inr past ↦ (let end = valid.end in let short = past.0 in absurd (omega (arith, end, short, high)))
         ]
 
-    reads_at : (o : Option ℕ) → get v.control.cursors key ≡ o → Leaves o (receive v.front v.end v.control key o)
+    reads_at : (o : Option ℕ) → get v.control.cursors key ≡ o → Leaves o (receive v key o)
     reads_at None at = reads_none None refl (ap (kept_from v) at)
     reads_at (Some cursor) at =
         let low = log.reach key cursor at in
-        receive_is (Leaves (Some cursor)) v.front v.end v.control key cursor
+        receive_is v (Leaves (Some cursor)) key cursor
         (λ lags. absurd (omega (arith, low, lags)))
         (λ _ high. reads_first cursor at low high)
         (λ _ late.
@@ -90,7 +90,7 @@ module _ {T : Type 0} where
       let o : Option ℕ = cursor_of v.control key in
       let exact : received ≡ try_recv_reply v o = exact_of is_clone equal (IsOwed v key o) (try_recv_reply v o) received a.legal in
       after a (λ u. IsTaken v u key (item_of received)) (λ u s. told_read v u key (item_of received) s)
-      (subst (λ r. IsTaken v (settle v (sets (receive v.front v.end v.control key o))) key (item_of r)) (sym exact) (reads_at v key log (valid a) o refl))
+      (subst (λ r. IsTaken v (settle v (sets (receive v key o))) key (item_of r)) (sym exact) (reads_at v key log (valid a) o refl))
   reads equal (Err error) sure a log = absurd (let e : false ≡ true = sure in cc)
 
   pub read_answers : {is_clone : T → T → Type 0} {v w : View T} {key : ℕ} → ClonesEqual is_clone → (result : Result (Result T TryRecvError) AllocError) → IsOk result

@@ -41,7 +41,7 @@ module _ {S : Type 0} where
       → IsReceived is_clone owed (λ answer. reply.PollNext (Ok (next_reply k answer))) (reply.PollNext (Err alloc_error)) exact (reply.PollNext (Ok polled))
       → (answer : Result S TryRecvError) × (polled ≡ next_reply k answer) × IsAnswer is_clone exact answer
   answered is_clone owed k exact polled (inl e) = (exact, polled_is k polled exact e, inl refl)
-  answered is_clone owed k exact polled (inr (o, inl clone)) = (Ok clone.given, polled_is k polled (Ok clone.given) clone.reply, inr (clone.msg, clone.given, clone.exactly, clone.cloned, refl))
+  answered is_clone owed k exact polled (inr (o, inl clone)) = (Ok clone.1, polled_is k polled (Ok clone.1) clone.4, inr (clone.0, clone.1, clone.2, clone.3, refl))
   answered is_clone owed k exact polled (inr (o, inr e)) = absurd (not_refused polled e)
 
   ok_is : (msg given : S) → ◌≡◌ {A = Result S TryRecvError} (Ok msg) (Ok given) → msg ≡ given

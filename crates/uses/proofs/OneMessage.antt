@@ -2,15 +2,15 @@
 use Rattle.std.proofs.Common.{◌≡◌, ℕ, ◌-◌, [], Option, Some, None, Ok, Result, slice_get, refl, sym, ◌∙◌, subst}
 use Rattle.std.proofs.lemmas.List.Elements.{All-nil, All-push, All-append, All-drop}
 use Rattle.std.proofs.lemmas.Option.{slice_get_within, get_or_from_slice_get}
-use Rattle.std.specs.Prelude.{All, IsSomeAnd}
+use Rattle.std.specs.Prelude.{All, IsSomeAnd, is_ok}
 use Rattle.bcast_model.specs.declared.error.TryRecvError.{TryRecvError}
-use Rattle.bcast_model.specs.declared.error.TrySendError.{TrySendError}
 use Rattle.bcast_model.specs.declared.run.Call.{Call}
 use Rattle.bcast_model.specs.declared.run.Call.TheVariants as call
 use Rattle.bcast_model.specs.declared.run.Reply.{Reply}
 use Rattle.bcast_model.specs.declared.run.Reply.TheVariants as reply
-use Rattle.bcast_model.specs.Words.{effect, opening, View, refusal, accept_unless, settle, IsGiven}
-use Rattle.bcast_model.specs.Words.{Represents, Answers, ReceivedIsGiven}
+use Rattle.bcast_model.specs.Words.{effect, opening, View, try_broadcast_reply, accept, settle, IsGiven}
+use Rattle.bcast_model.specs.Words.{Represents, Answers, ReceivedIsGiven, Effect, sets}
+use Rattle.bcast_model.proofs.Cases.{test_is}
 use Rattle.uses.proofs.Called.{after}
 
 module _ {T : Type 0} (msg : T) where
@@ -27,11 +27,7 @@ module _ {T : Type 0} (msg : T) where
   only_cloned only a = only_next only a (All-nil (λ item. item ≡ msg))
 
   pub only_sent : {is_clone : T → T → Type 0} {v w : View T} {r : Reply T} → Only v → Answers is_clone v (call.TryBroadcast msg) r w → Only w
-  only_sent {v = v} only a = only_next only a (offered (refusal v msg))
-    where
-      offered : (refused : Option (TrySendError T)) → All (λ item. item ≡ msg) (accept_unless v msg refused).accepted
-      offered None = All-push (λ item. item ≡ msg) [] msg (All-nil (λ item. item ≡ msg)) refl
-      offered (Some error) = All-nil (λ item. item ≡ msg)
+  only_sent {v = v} only a = only_next only a (test_is (λ (e : Effect T). All (λ item. item ≡ msg) e.accepted) (is_ok (try_broadcast_reply v msg)) (accept v msg) (sets v.control) (λ _. All-push (λ item. item ≡ msg) [] msg (All-nil (λ item. item ≡ msg)) refl) (λ _. All-nil (λ item. item ≡ msg)))
 
   pub only_received : {is_clone : T → T → Type 0} {v w : View T} {key : ℕ} {received : Result T TryRecvError} → Only v → Answers is_clone v (call.TryRecv key) (reply.TryRecv (Ok received)) w → Only w
   only_received only a = only_next only a (All-nil (λ item. item ≡ msg))

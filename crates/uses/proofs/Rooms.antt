@@ -1,13 +1,13 @@
 -- Sends for which there is room.
-use Rattle.std.proofs.Common.{◌≡◌, ℕ, ◌+◌, ◌==◌, ◌≤◌, ◌<◌, ◌^◌, true, false, cond, [], ◌∷◌, length, Option, None, Result, Ok, Err, refl, sym, ap, ◌∙◌, subst, arith, length-append}
-use Rattle.std.proofs.lemmas.Option.{none-some}
-use Rattle.std.specs.Prelude.{IsSome, IsOk}
+use Rattle.std.proofs.Common.{◌≡◌, ℕ, ◌+◌, ◌==◌, ◌≤◌, ◌<◌, ◌^◌, true, false, cond, [], ◌∷◌, length, Option, Result, Ok, Err, refl, sym, ap, ◌∙◌, subst, arith, length-append}
+use Rattle.std.proofs.lemmas.Bool.{true≢false}
+use Rattle.std.specs.Prelude.{IsSome, IsOk, is_ok}
 use Rattle.std.specs.FinMap.{get, empty}
 use Rattle.bcast_model.specs.declared.error.TrySendError.{TrySendError}
 use Rattle.bcast_model.specs.declared.run.Call.TheVariants as call
 use Rattle.bcast_model.specs.declared.run.Reply.TheVariants as reply
 use Rattle.bcast_model.specs.Words.{has_no_receiver, accepting, close, tell_receivers, last_end}
-use Rattle.bcast_model.specs.Words.{opening, view_of, refusal, handed_back, with_message, IsValid}
+use Rattle.bcast_model.specs.Words.{opening, view_of, try_broadcast_reply, with_message, IsValid}
 use Rattle.bcast_model.specs.Words.{View, is_full, Answers, Represents}
 use Rattle.bcast_model.proofs.Least.{len_some}
 use Rattle.bcast_model.proofs.Views.{valid_view}
@@ -16,7 +16,7 @@ use Rattle.uses.specs.Log.{unread, IsReader, KeepsReaders}
 use Rattle.uses.specs.Reading.{HasRoom, IsSent}
 use Rattle.uses.proofs.Called.{told}
 use Rattle.uses.proofs.Cursors.{apart}
-use Rattle.uses.proofs.Sends.{replied, refused_is, put_last}
+use Rattle.uses.proofs.Sends.{replied, put_last}
 use Rattle.uses.proofs.Logs.{new_log, writes}
 
 module _ {T : Type 0} where
@@ -39,7 +39,7 @@ module _ {T : Type 0} where
       (subst (λ x. HasRoom x capacity) (sym new) has, reader.0, reader.1)
 
   -- ---- `try_broadcast`
-  none_refused : (v : View T) (msg : T) (count : ℕ) → HasRoom v (count + 1) → refusal v msg ≡ None
+  none_refused : (v : View T) (msg : T) (count : ℕ) → HasRoom v (count + 1) → is_ok (try_broadcast_reply v msg) ≡ true
   none_refused v msg count has =
       let room = has.room in
       let full : is_full v ≡ false = apart _ _ (λ e. omega (arith, room, e)) in
@@ -47,7 +47,7 @@ module _ {T : Type 0} where
 
   accepted : {is_clone : T → T → Type 0} {v w : View T} {msg : T} (count : ℕ) (r : Result (Option T) (TrySendError T)) → Answers is_clone v (call.TryBroadcast msg) (reply.TryBroadcast r) w → HasRoom v (count + 1) → IsOk r
   accepted count (Ok back) a has = refl
-  accepted {v = v} {msg = msg} count (Err error) a has = absurd (none-some error (sym (none_refused v msg count has) ∙ refused_is (handed_back v) error (refusal v msg) (replied a)))
+  accepted {v = v} {msg = msg} count (Err error) a has = absurd (true≢false (sym (none_refused v msg count has) ∙ ap is_ok (sym (replied a))))
 
   -- what is left beside the messages
   record Left (v u : View T) (count : ℕ) : Type 0 where

@@ -1,55 +1,48 @@
 -- A message that a channel accepts, and one that it refuses.
-use Rattle.std.proofs.Common.{◌≡◌, ◌∷◌, ◌++◌, [], ◌+◌, ◌&&◌, not, Bool, true, false, cond, Option, Some, None, Result, Ok, Err, slice_get, refl, sym, ap, ◌∙◌, subst}
+use Rattle.std.proofs.Common.{◌≡◌, ◌∷◌, ◌++◌, [], ◌+◌, ◌&&◌, not, Bool, true, false, cond, Option, None, Result, Ok, Err, slice_get, refl, sym, ap, ◌∙◌, subst}
 use Rattle.std.proofs.lemmas.Bool.{true≢false}
-use Rattle.std.proofs.lemmas.Option.{none-some}
+use Rattle.std.specs.Prelude.{is_ok}
 use Rattle.bcast_model.specs.declared.error.TrySendError.{TrySendError}
 use Rattle.bcast_model.specs.declared.run.Call.TheVariants as call
 use Rattle.bcast_model.specs.declared.run.Reply.TheVariants as reply
-use Rattle.bcast_model.specs.Words.{has_no_receiver, refusal, reply_to_try, handed_back}
-use Rattle.bcast_model.specs.Words.{try_broadcast_reply, accept, accept_unless, settle}
+use Rattle.bcast_model.specs.Words.{has_no_receiver, handed_back, sets}
+use Rattle.bcast_model.specs.Words.{try_broadcast_reply, accept, settle}
 use Rattle.bcast_model.specs.Words.{with_message, View, is_full, Answers}
+use Rattle.bcast_model.proofs.Cases.{try_is}
 use Rattle.bcast_core.proofs.Offers.{offer_accepted}
 use Rattle.uses.proofs.Called.{told, valid, after, unchanged}
 
 module _ {T : Type 0} where
-  pub refused_is : (back : Option T) (error : TrySendError T) (refused : Option (TrySendError T)) → Err error ≡ reply_to_try back refused → refused ≡ Some error
-  refused_is back error (Some other) e = cc
-  refused_is back error None e = cc
-
-  accepted_is : (back kept : Option T) (refused : Option (TrySendError T)) → Ok kept ≡ reply_to_try back refused → refused ≡ None
-  accepted_is back kept (Some other) e = cc
-  accepted_is back kept None e = refl
-
-  kept_is : (back kept : Option T) (refused : Option (TrySendError T)) → Ok kept ≡ reply_to_try back refused → kept ≡ back
-  kept_is back kept (Some other) e = cc
-  kept_is back kept None e = cc
+  -- an acceptance hands back what there is to hand back
+  kept_is : (v : View T) (msg : T) (kept : Option T) → Ok kept ≡ try_broadcast_reply v msg → kept ≡ handed_back v
+  kept_is v msg kept e = try_is (λ answer. Ok kept ≡ answer → kept ≡ handed_back v) v msg (λ error _ e. cc) (λ _ e. cc) e
 
   -- if a message is accepted without overflow, somebody receives and there is room
-  room_of : (closed none full over : Bool) (x y z : TrySendError T) → over ≡ false → cond closed (Some x) (cond none (Some y) (cond (full && not over) (Some z) None)) ≡ None → (none ≡ false) × (full ≡ false)
-  room_of true none full over x y z plain e = absurd (none-some x (sym e))
-  room_of false true full over x y z plain e = absurd (none-some y (sym e))
-  room_of false false true false x y z plain e = absurd (none-some z (sym e))
-  room_of false false true true x y z plain e = absurd (true≢false plain)
-  room_of false false false over x y z plain e = (refl, refl)
+  room_of : (closed none full over : Bool) (x y z : TrySendError T) (back : Option T) → over ≡ false → is_ok (cond closed (Err x) (cond none (Err y) (cond (full && not over) (Err z) (Ok back)))) ≡ true → (none ≡ false) × (full ≡ false)
+  room_of true none full over x y z back plain e = absurd (true≢false (sym e))
+  room_of false true full over x y z back plain e = absurd (true≢false (sym e))
+  room_of false false true false x y z back plain e = absurd (true≢false (sym e))
+  room_of false false true true x y z back plain e = absurd (true≢false plain)
+  room_of false false false over x y z back plain e = (refl, refl)
 
   module _ {is_clone : T → T → Type 0} {v w : View T} {msg : T} where
     pub replied : {result : Result (Option T) (TrySendError T)} → Answers is_clone v (call.TryBroadcast msg) (reply.TryBroadcast result) w → result ≡ try_broadcast_reply v msg
     replied a = let e = a.legal in cc
 
     pub refused_send : {error : TrySendError T} → Answers is_clone v (call.TryBroadcast msg) (reply.TryBroadcast (Err error)) w → w ≡ v
-    refused_send {error = error} a = unchanged a (ap (accept_unless v msg) (refused_is (handed_back v) error (refusal v msg) (replied a))) refl
+    refused_send {error = error} a = unchanged a (ap (λ answer. cond (is_ok answer) (accept v msg) (sets v.control)) (sym (replied a))) refl
 
-    none_refused : {back : Option T} → Answers is_clone v (call.TryBroadcast msg) (reply.TryBroadcast (Ok back)) w → refusal v msg ≡ None
-    none_refused {back = back} a = accepted_is (handed_back v) back (refusal v msg) (replied a)
+    none_refused : {back : Option T} → Answers is_clone v (call.TryBroadcast msg) (reply.TryBroadcast (Ok back)) w → is_ok (try_broadcast_reply v msg) ≡ true
+    none_refused a = ap is_ok (sym (replied a))
 
     -- what holds after an acceptance
     pub accepted : {back : Option T} → Answers is_clone v (call.TryBroadcast msg) (reply.TryBroadcast (Ok back)) w → (P : View T → Type 0) → ((u : View T) → P u → P (told u)) → P (settle v (accept v msg)) → P w
-    accepted a P keeps here = after a P keeps (subst (λ o. P (settle v (accept_unless v msg o))) (sym (none_refused a)) here)
+    accepted a P keeps here = after a P keeps (subst (λ b. P (settle v (cond b (accept v msg) (sets v.control)))) (sym (none_refused a)) here)
 
     -- without overflow the message comes last, and nothing is dropped
     pub put_last : {back : Option T} → Answers is_clone v (call.TryBroadcast msg) (reply.TryBroadcast (Ok back)) w → v.control.overflow ≡ false → (P : View T → Type 0) → ((u : View T) → P u → P (told u)) → P (with_message v msg) → P w
     put_last a plain P keeps here =
-        let room = room_of v.control.closed (has_no_receiver v.control) (is_full v) v.control.overflow _ _ _ plain (none_refused a) in
+        let room = room_of v.control.closed (has_no_receiver v.control) (is_full v) v.control.overflow _ _ _ _ plain (none_refused a) in
         after a P keeps (subst P (sym (offer_accepted v msg (valid a) (none_refused a) room.0 room.1)) here)
 
     pub sent_last : {back : Option T} → Answers is_clone v (call.TryBroadcast msg) (reply.TryBroadcast (Ok back)) w → v.control.overflow ≡ false → (w.queue ≡ v.queue ++ msg ∷ []) × (w.end ≡ v.end + 1)
@@ -58,6 +51,6 @@ module _ {T : Type 0} where
     -- and no message is handed back
     pub sent_answers : {back : Option T} → Answers is_clone v (call.TryBroadcast msg) (reply.TryBroadcast (Ok back)) w → v.control.overflow ≡ false → Answers is_clone v (call.TryBroadcast msg) (reply.TryBroadcast (Ok None)) w
     sent_answers {back = back} a plain =
-        let room = room_of v.control.closed (has_no_receiver v.control) (is_full v) v.control.overflow _ _ _ plain (none_refused a) in
-        let none : back ≡ None = kept_is (handed_back v) back (refusal v msg) (replied a) ∙ ap (λ b. cond b (slice_get v.queue 0) None) room.1 in
+        let room = room_of v.control.closed (has_no_receiver v.control) (is_full v) v.control.overflow _ _ _ _ plain (none_refused a) in
+        let none : back ≡ None = kept_is v msg back (replied a) ∙ ap (λ b. cond b (slice_get v.queue 0) None) room.1 in
         subst (λ o. Answers is_clone v (call.TryBroadcast msg) (reply.TryBroadcast (Ok o)) w) none a

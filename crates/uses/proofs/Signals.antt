@@ -34,10 +34,10 @@ module _ (v : View Nothing) (valid : IsValidView v) (unused : v.end ≡ 0) (curs
       rw (ahead, slice_get_past v.queue (cursor - v.front) (omega (arith, unused, end))) (closed_found v.control.closed)
 
   -- and moves no cursor
-  none_moved : (key : ℕ) → receive v.front v.end v.control key (Some cursor) ≡ v.control
+  none_moved : (key : ℕ) → receive v key (Some cursor) ≡ v.control
   none_moved key =
       let high = valid.high in
-      receive_is (λ c. c ≡ v.control) v.front v.end v.control key cursor
+      receive_is v (λ c. c ≡ v.control) key cursor
       (λ lags. absurd (omega (arith, high, unused, lags))) (λ _ takes. absurd (omega (arith, unused, takes))) (λ _ _. refl)
 
 module _ {is_clone : Nothing → Nothing → Type 0} {v w : View Nothing} {key : ℕ} where
@@ -46,7 +46,7 @@ module _ {is_clone : Nothing → Nothing → Type 0} {v w : View Nothing} {key :
   looked_same {result = result} a signal worker = unchanged a (same result) refl
     where
       same : (r : Result (Result Nothing TryRecvError) AllocError) → effect v (call.TryRecv key) (reply.TryRecv r) ≡ sets v.control
-      same (Ok received) = let at = some_of (cursor_of v.control key) worker in ap (λ o. sets (receive v.front v.end v.control key o)) at.1 ∙ ap (λ c. sets c) (none_moved v (valid a) signal.unused at.0 key)
+      same (Ok received) = let at = some_of (cursor_of v.control key) worker in ap (λ o. sets (receive v key o)) at.1 ∙ ap (λ c. sets c) (none_moved v (valid a) signal.unused at.0 key)
       same (Err error) = refl
 
   -- and finds out whether the signal is given

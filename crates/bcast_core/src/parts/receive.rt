@@ -16,8 +16,8 @@ impl<T: Clone, N: Notice, A: Allocator + Copy> Parts<T, N, A> {
     ghost use Rattle.bcast_model.specs.Words.{kept_at, try_recv_reply, IsOwed, with_cursor};
     ghost use Rattle.bcast_model.specs.Words.{pair_answered, tell_if_ready};
     ghost use Rattle.bcast_core.specs.Parts.{Does};
-    ghost use Rattle.bcast_core.specs.Tries.{tries_by};
-    ghost use Rattle.bcast_core.specs.Tries.{finds_nothing};
+    ghost use Rattle.bcast_core.specs.Parts.{tries_by};
+    ghost use Rattle.bcast_core.specs.Parts.{finds_nothing};
     ghost use Rattle.bcast_model.specs.declared.run.Call.TheVariants as call;
     ghost use Rattle.bcast_model.specs.declared.run.Reply.TheVariants as reply;
 
@@ -47,11 +47,9 @@ impl<T: Clone, N: Notice, A: Allocator + Copy> Parts<T, N, A> {
         requires valid { IsValidView self.old }
         requires at { (at ≡ cursor_of self.old.control key)
             ⊎ (at ≡ skipped_to self.old.front (cursor_of self.old.control key)) }
-        ensures reply { IsReceivedBy T.is_clone self.old key at
-            (λ answer. reply.TryRecv (Ok answer)) (reply.TryRecv (Err alloc_error))
+        ensures reply { IsReceivedBy T.is_clone self.old key at reply.TryRecv (λ answer. answer)
             (reply.TryRecv result) }
-        ensures ok { OnOk result (self.new ≡ settle self.old
-            (sets (receive self.old.front self.old.end self.old.control key at))) }
+        ensures ok { OnOk result (self.new ≡ settle self.old (sets (receive self.old key at))) }
         ensures err { OnErr result (self.new ≡ self.old) }
         ensures sure { ((msg : T) → T.is_infallible msg) → IsOk result }
 
@@ -104,11 +102,9 @@ impl<T: Clone, N: Notice, A: Allocator + Copy> Parts<T, N, A> {
         requires valid { IsValidView self.old }
         requires at { (at ≡ cursor_of self.old.control key)
             ⊎ (at ≡ skipped_to self.old.front (cursor_of self.old.control key)) }
-        ensures reply { IsReceivedBy T.is_clone self.old key at
-            (λ answer. reply.TryRecv (Ok answer)) (reply.TryRecv (Err alloc_error))
+        ensures reply { IsReceivedBy T.is_clone self.old key at reply.TryRecv (λ answer. answer)
             (reply.TryRecv result) }
-        ensures ok { OnOk result (self.new ≡ settle self.old
-            (sets (receive self.old.front self.old.end self.old.control key at))) }
+        ensures ok { OnOk result (self.new ≡ settle self.old (sets (receive self.old key at))) }
         ensures err { OnErr result (self.new ≡ self.old) }
         ensures sure { ((msg : T) → T.is_infallible msg) → IsOk result }
 
@@ -140,11 +136,9 @@ impl<T: Clone, N: Notice, A: Allocator + Copy> Parts<T, N, A> {
         requires at { (at ≡ cursor_of self.old.control key)
             ⊎ (at ≡ skipped_to self.old.front (cursor_of self.old.control key)) }
         ensures reply { IfOk result (λ received. IsReceivedBy T.is_clone self.old key at
-            (λ answer. reply.TryRecv (Ok answer)) (reply.TryRecv (Err alloc_error))
-            (reply.TryRecv received)) }
+            reply.TryRecv (λ answer. answer) (reply.TryRecv received)) }
         ensures ok { IfOk result (λ received. OnOk received (self.new ≡ tell_if_ready true
-            (settle self.old (sets (receive_poll self.old.front self.old.end self.old.control
-            (key, kind) at (try_recv_reply self.old at)))))) }
+            (settle self.old (sets (receive_poll self.old (key, kind) at))))) }
         ensures err { IfOk result (λ received. OnErr received (self.new ≡ self.old)) }
         ensures sure { ((msg : T) → T.is_infallible msg) → IfOk result IsOk }
 

@@ -3,7 +3,7 @@ ghost use Rattle.std.specs.Prelude.{◌≡◌, ◌==◌, ◌^◌, ◌+◌, ◌<�
 ghost use Rattle.std.specs.Prelude.{Ok, Err, IfOk, IfErr, OnOk, OnErr, Option, is_ok, not, true};
 ghost use Rattle.std.specs.FinMap.{len};
 ghost use Rattle.bcast_model.specs.declared.error.TrySendError.{TrySendError};
-ghost use Rattle.bcast_model.specs.Sending.{reply_to_try, reply_to_attempt};
+ghost use Rattle.bcast_model.specs.Sending.{reply_to_attempt};
 ghost use Rattle.bcast_core.specs.Telling.{is_accepted};
 
 use super::Parts;
@@ -243,8 +243,7 @@ impl<T: Drop, N: Notice, A: Allocator + Copy> Parts<T, N, A> {
 // What a try was answered, as the answer of a send that may wait.
 #[inline(always)]
 fn attempted<T: Drop>(await_active: bool, tried: Result<Option<T>, TrySendError<T>>) -> SendPoll<T>
-    ensures { (back : Option T) → (error : Option (TrySendError T))
-        → tried ≡ reply_to_try back error → result ≡ reply_to_attempt await_active back error }
+    ensures { result ≡ reply_to_attempt await_active tried }
 {
     match tried {
         Ok(back) => SendPoll::Ready(Ok(back)),

@@ -9,7 +9,7 @@ use Rattle.bcast_model.proofs.Lists.{all_right}
 use Rattle.bcast_model.proofs.Clones.{run_exact}
 use Rattle.bcast_model.proofs.DeliveryLemmas.{deliveries_exact}
 use Rattle.bcast_model.proofs.MissedLemmas.{dropped_rise, misses_dropped}
-use Rattle.bcast_core.specs.InfallibleClones.{is_receive_refused}
+use Rattle.bcast_model.specs.Replies.{is_receive_refused}
 use Rattle.bcast_core.proofs.Runs.{all_made, run_more, end_more, AreValid, valid_more, valid_end, polls_wait, polls_rest}
 use Rattle.bcast_core.proofs.calls.run.Goals as goal
 

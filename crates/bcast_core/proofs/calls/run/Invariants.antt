@@ -2,7 +2,7 @@ use Rattle.std.proofs.Common.{◌≡◌, false, ◌+◌, ◌≤◌, ◌++◌, le
 use Rattle.std.specs.Vec.Iter.{into_iter_items}
 use Rattle.std.specs.List.{All}
 use Rattle.bcast_model.specs.Words.{opening, Represents, IsRun, end_of_run}
-use Rattle.bcast_core.specs.InfallibleClones.{is_receive_refused}
+use Rattle.bcast_model.specs.Replies.{is_receive_refused}
 use Rattle.bcast_core.proofs.Runs.{AreValid}
 use Rattle.bcast_core.proofs.calls.run.Given as goal
 

@@ -1,5 +1,4 @@
 use Rattle.std.proofs.Common.{length, refl, sym, ap, ◌∙◌}
-use Rattle.bcast_model.specs.declared.error.TrySendError.TheVariants as unsent
 use Rattle.bcast_model.specs.Words.{free_room, View}
 use Rattle.bcast_core.proofs.Offers.{fits_room, exceeds_room, not_zero, offer_all_accepted, offer_all_nothing, offer_all_refused}
 use Rattle.bcast_core.proofs.Tail.{no_news, some_news}
@@ -8,13 +7,13 @@ use Rattle.bcast_core.proofs.parts.Parts.offer_all.Goals as goal
 pub returns-then-is_closed-clause-effect : goal.returns-then-is_closed-clause-effect
 returns-then-is_closed-clause-effect g c =
     let closed = sym c.is_closed.ensures ∙ c.if-is_closed.true in
-    no_news c.args.self.now ∙ sym (offer_all_refused c.args.self.now c.args.msgs (unsent.Closed c.args.msgs) c.requires (rw closed refl))
+    no_news c.args.self.now ∙ sym (offer_all_refused c.args.self.now c.args.msgs c.requires (rw closed refl))
 
 pub returns-then-has_no_receiver-clause-effect : goal.returns-then-has_no_receiver-clause-effect
 returns-then-has_no_receiver-clause-effect g c =
     let closed = sym c.is_closed.ensures ∙ c.if-is_closed.false in
     let nobody = sym c.has_no_receiver.ensures ∙ c.if-has_no_receiver.true in
-    no_news c.args.self.now ∙ sym (offer_all_refused c.args.self.now c.args.msgs (unsent.Inactive c.args.msgs) c.requires (rw (closed, nobody) refl))
+    no_news c.args.self.now ∙ sym (offer_all_refused c.args.self.now c.args.msgs c.requires (rw (closed, nobody) refl))
 
 pub returns-then-is_empty-clause-effect : goal.returns-then-is_empty-clause-effect
 returns-then-is_empty-clause-effect g c =
@@ -28,7 +27,7 @@ returns-then-free_room-len-clause-effect g c =
     let closed = sym c.is_closed.ensures ∙ c.if-is_closed.false in
     let nobody = sym c.has_no_receiver.ensures ∙ c.if-has_no_receiver.false in
     let over = exceeds_room (free_room c.args.self.now) (length c.args.msgs) c.free_room.result c.len.result c.free_room.ensures c.len.ensures c.if-free_room-len.true in
-    no_news c.args.self.now ∙ sym (offer_all_refused c.args.self.now c.args.msgs (unsent.Full c.args.msgs) c.requires (rw (closed, nobody, over) refl))
+    no_news c.args.self.now ∙ sym (offer_all_refused c.args.self.now c.args.msgs c.requires (rw (closed, nobody, over) refl))
 
 pub returns-clause-effect : goal.returns-clause-effect
 returns-clause-effect g c =

@@ -28,7 +28,7 @@ returns-then-cursor-end-clause-ok g c =
     let ok = on_ok_weaker c.read.result
     (λ is. view-with_cursors c.self.inside.store c.read.new.self _ c.self.inside.receives _ _ _ _ _ _ (insert c.self.inside.store.cursors c.args.key (c.in-Some.cursor + 1)) v is c.self.view_is
     ∙ ap (λ m. settle v (sets (record v.control { cursors = insert m c.args.key (c.in-Some.cursor + 1) }))) (ap (λ x. x.control.cursors) c.self.view_is)
-    ∙ ap (λ m. settle v (sets m)) (sym (receive_one v.front v.end v.control c.args.key c.args.at c.in-Some.cursor c.in-Some.is above below)))
+    ∙ ap (λ m. settle v (sets m)) (sym (receive_one v c.args.key c.args.at c.in-Some.cursor c.in-Some.is above below)))
     c.read.ensures.ok in
     elim c.match-read.branch [
       | in-Ok w ↦ rw w.result-is (rw w.in-Ok.is at ok)

@@ -1,5 +1,5 @@
 use Rattle.std.proofs.Common.{true, ap, ◌∙◌}
-use Rattle.bcast_model.specs.Next.{tell_if_ready}
+use Rattle.bcast_model.specs.Steps.{tell_if_ready}
 use Rattle.bcast_core.specs.Telling.{tell_news}
 use Rattle.bcast_model.specs.declared.run.Reply.TheVariants as reply
 use Rattle.bcast_core.proofs.Tail.{ends, shown_after, valid_shown}

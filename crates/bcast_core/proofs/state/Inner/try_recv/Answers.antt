@@ -17,7 +17,7 @@ returns-clause-answers g c =
     ends c.self.view_is c.self.invariant tt
     (does_receive v c.receive-received.new.self c.args.key c.receive-received.result (valid_shown c.self.invariant)
     (subst (λ o. IsReceived g.T.Clone.is_clone (IsOwed v c.args.key o) (λ answer. reply.TryRecv (Ok answer)) (reply.TryRecv (Err alloc_error)) (try_recv_reply v o) (reply.TryRecv c.receive-received.result)) c.cursor-at.ensures received.reply)
-    (on_ok_weaker c.receive-received.result (λ is. is ∙ ap (λ o. settle v (sets (receive v.front v.end v.control c.args.key o))) c.cursor-at.ensures) received.ok) received.err)
+    (on_ok_weaker c.receive-received.result (λ is. is ∙ ap (λ o. settle v (sets (receive v c.args.key o))) c.cursor-at.ensures) received.ok) received.err)
     c.tell_a_sender.ensures
 
 pub invariant_of-self : goal.invariant_of-self

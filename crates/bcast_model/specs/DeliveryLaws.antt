@@ -1,0 +1,88 @@
+-- What follows of deliveries: they are exact, and what a receiver misses was dropped.
+use Rattle.std.specs.Prelude.{◌≡◌, ℕ, ◌+◌, ◌<◌, ◌⊎◌, List, slice_get, Some, None}
+use Rattle.std.specs.List.{AllByRecursion, Contains}
+use Rattle.std.specs.List.Sorted.{IsStrictlyIncreasing}
+use Rattle.bcast_model.specs.declared.run.Call.{Call}
+use Rattle.bcast_model.specs.declared.run.Reply.{Reply}
+use Rattle.bcast_model.specs.History.{History, view_of}
+use Rattle.bcast_model.specs.Control.{cursor_of}
+use Rattle.bcast_model.specs.Legal.{Legal}
+use Rattle.bcast_model.specs.Replies.{HasPositiveCapacity}
+use Rattle.bcast_model.specs.Valid.{IsValid}
+use Rattle.bcast_model.specs.Run.{IsRun, end_of_run}
+use Rattle.bcast_model.specs.Deliveries.{given_to, deliveries_of, AreAllExact, AtEachPoint}
+use Rattle.bcast_model.specs.Dropped.{dropped_in}
+
+-- in a run from a valid state the deliveries of every receiver are exact, from the opening or the
+-- call that made it on
+abbrev pub DeliveriesAreExact : {T : Type 0} → (T → T → Type 0) → Type 0
+DeliveriesAreExact {T} is_clone =
+    (h : History T) (calls : List (Call T)) (replies : List (Reply T))
+    → IsValid h → IsRun is_clone h calls replies
+    → AtEachPoint (AreAllExact is_clone) h calls replies
+
+module _ {T : Type 0} where
+  -- whether the message of this number was dropped by a call of the run, or is under the floor
+  -- where the run begins (from a new channel, none that a receiver reads)
+  abbrev pub WasDropped : History T → List (Call T) → List (Reply T) → ℕ → Type 0
+  WasDropped h calls replies number =
+      (number < h.floor) ⊎ Contains (dropped_in h calls replies) number
+
+-- a call after a run: `WasDropped` holds of what it tells the receiver `key` that it missed, and
+-- not of what it gives
+pub record TellsDropped
+    {T : Type 0} (h : History T) (calls : List (Call T)) (replies : List (Reply T))
+    (key cursor : ℕ) (c : Call T) (r : Reply T) : Type 0 where
+  pub missed : (index : ℕ) → slice_get (given_to key c r) index ≡ Some None
+      → WasDropped h calls replies (cursor + index)
+  pub given : (index : ℕ) (msg : T) → slice_get (given_to key c r) index ≡ Some (Some msg)
+      → WasDropped h calls replies (cursor + index) → ⊥
+
+-- a run, and one that goes on from its end: the deliveries from there on of the receiver `key`,
+-- whose cursor there is `start`
+pub record MissesOnlyDropped
+    {T : Type 0} (h : History T) (calls : List (Call T)) (replies : List (Reply T))
+    (key start : ℕ) (later : List (Call T)) (later_replies : List (Reply T)) : Type 0 where
+  -- each None stands for a message that a call of the two runs dropped, or that is under the floor
+  -- where the first begins (from a new channel, none that a receiver reads)
+  pub missed : (index : ℕ)
+      → slice_get (deliveries_of key (end_of_run h calls replies) later later_replies) index
+      ≡ Some None
+      → WasDropped h calls replies (start + index)
+      ⊎ Contains (dropped_in (end_of_run h calls replies) later later_replies) (start + index)
+  -- no message that was dropped before is given
+  pub given : (index : ℕ) (msg : T)
+      → slice_get (deliveries_of key (end_of_run h calls replies) later later_replies) index
+      ≡ Some (Some msg)
+      → WasDropped h calls replies (start + index) → ⊥
+
+-- no message is dropped twice, and those that a run drops, those that overflow hands back among
+-- them, have rising numbers
+abbrev pub DroppedNumbersRise : {T : Type 0} → (T → T → Type 0) → Type 0
+DroppedNumbersRise {T} is_clone =
+    (h : History T) (calls : List (Call T)) (replies : List (Reply T))
+    → IsValid h → AllByRecursion HasPositiveCapacity calls → IsRun is_clone h calls replies
+    → IsStrictlyIncreasing (dropped_in h calls replies)
+
+-- at each point of each run: what a receiver is told that it missed, an earlier call dropped, or it
+-- is under the floor where the run begins (from a new channel, none that a receiver reads); of what
+-- it is given neither holds
+abbrev pub MissedWereDropped : {T : Type 0} → (T → T → Type 0) → Type 0
+MissedWereDropped {T} is_clone =
+    (h : History T) (calls : List (Call T)) (replies : List (Reply T))
+    (key cursor : ℕ) (c : Call T) (r : Reply T)
+    → IsValid h → AllByRecursion HasPositiveCapacity calls → IsRun is_clone h calls replies
+    → cursor_of (end_of_run h calls replies).control key ≡ Some cursor
+    → Legal is_clone (view_of (end_of_run h calls replies)) c r
+    → TellsDropped h calls replies key cursor c r
+
+-- the same of all deliveries of a receiver, from each point of each run on
+abbrev pub DeliveriesTile : {T : Type 0} → (T → T → Type 0) → Type 0
+DeliveriesTile {T} is_clone =
+    (h : History T) (calls : List (Call T)) (replies : List (Reply T))
+    (key start : ℕ) (later : List (Call T)) (later_replies : List (Reply T))
+    → IsValid h → AllByRecursion HasPositiveCapacity calls → IsRun is_clone h calls replies
+    → AllByRecursion HasPositiveCapacity later
+    → IsRun is_clone (end_of_run h calls replies) later later_replies
+    → cursor_of (end_of_run h calls replies).control key ≡ Some start
+    → MissesOnlyDropped h calls replies key start later later_replies

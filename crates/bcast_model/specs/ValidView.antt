@@ -1,0 +1,18 @@
+-- What holds of what a valid history shows, without the history: no public clause cites it.
+use Rattle.std.specs.Prelude.{◌≡◌, ℕ, ◌+◌, ◌≤◌, [], length, Some}
+use Rattle.std.specs.FinMap.{get, values}
+use Rattle.bcast_model.specs.View.{View, is_full}
+use Rattle.bcast_model.specs.History.{least}
+use Rattle.bcast_model.specs.Valid.{IsValidControl, NoLostWakeUp}
+
+-- the numbers, the counts and who waits fit, and nobody lags behind an empty queue
+pub record IsValidView {T : Type 0} (v : View T) : Type 0 where
+  pub low : least v.end (values v.control.cursors) ≤ v.front
+  pub high : v.front ≤ v.end
+  pub end : v.end ≡ v.front + length v.queue
+  pub reach : (key cursor : ℕ) → get v.control.cursors key ≡ Some cursor → cursor ≤ v.end
+  pub caught_up : (key cursor : ℕ) → v.queue ≡ [] → get v.control.cursors key ≡ Some cursor
+      → v.end ≤ cursor
+  pub fits : length v.queue ≤ v.control.capacity
+  pub control : IsValidControl v.control v.end
+  pub wake_ups : NoLostWakeUp v.control (is_full v) v.end
