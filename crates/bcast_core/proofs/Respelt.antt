@@ -2,6 +2,7 @@
 use Rattle.std.proofs.Common.{◌≡◌, inl, inr, ℕ, Bool, true, false, Option, Result, Ok, Err, IfOk, IfErr, OnOk, OnErr, refl, sym, ap, subst, ◌∙◌}
 use Rattle.std.specs.Prelude.{alloc_error}
 use Rattle.std.specs.declared.alloc.AllocError.{AllocError}
+use Rattle.std.proofs.lemmas.Result.{on_ok_weaker}
 use Rattle.bcast_model.specs.declared.error.TryRecvError.{TryRecvError}
 use Rattle.bcast_model.specs.declared.run.Call.{Call}
 use Rattle.bcast_model.specs.declared.run.Call.TheVariants as call
@@ -43,6 +44,14 @@ module _ {T : Type 0} where
       → OnOk r (new ≡ settle v (sets (receive v key (cursor_of v.control key)))) → OnErr r (new ≡ v) → Does is_clone v (call.TryRecv key) (reply.TryRecv r) new
   does_receive v new key (Ok answer) valid legal ok err = record { legal = legal; effect = ok }
   does_receive v new key (Err e) valid legal ok err = does_nothing valid legal refl err
+
+  -- the same of the cursor that was looked up
+  pub does_receive_at : {is_clone : T → T → Type 0} (v new : View T) (key : ℕ) (at : Option ℕ) (r : Result (Result T TryRecvError) AllocError) → at ≡ cursor_of v.control key → IsValidView v
+      → IsReceived is_clone (IsOwed v key at) (λ a. reply.TryRecv (Ok a)) (reply.TryRecv (Err alloc_error)) (try_recv_reply v at) (reply.TryRecv r)
+      → OnOk r (new ≡ settle v (sets (receive v key at))) → OnErr r (new ≡ v) → Does is_clone v (call.TryRecv key) (reply.TryRecv r) new
+  does_receive_at {is_clone = is_clone} v new key at r is valid legal ok err = does_receive v new key r valid
+      (subst (λ o. IsReceived is_clone (IsOwed v key o) (λ a. reply.TryRecv (Ok a)) (reply.TryRecv (Err alloc_error)) (try_recv_reply v o) (reply.TryRecv r)) is legal)
+      (on_ok_weaker r (λ made. made ∙ ap (λ o. settle v (sets (receive v key o))) is) ok) err
 
   -- a poll that was answered, or waits
   pub does_poll : {is_clone : T → T → Type 0} (v new : View T) (c : Call T) (pair : Pair) (at was : Option ℕ) (spelt : Result T TryRecvError → Reply T) (refused r : Reply T) (answer : Result T TryRecvError)

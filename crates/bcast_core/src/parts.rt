@@ -54,7 +54,7 @@ impl<T, N: Notice, A: Allocator> Model for Parts<T, N, A> {
 impl<T: Drop, N: Notice, A: Allocator + Copy> Parts<T, N, A> {
     ghost use Rattle.bcast_model.specs.Words.{has_no_receiver, is_deserted, close};
     ghost use Rattle.bcast_model.specs.Words.{close_if_deserted, is_full, sends_are_ready};
-    ghost use Rattle.bcast_model.specs.Words.{cursor_of, tell_if_ready};
+    ghost use Rattle.bcast_model.specs.Words.{cursor_of, tell_if_ready, no_listeners};
     ghost use Rattle.bcast_core.specs.Parts.{HaveRoom, new_with};
     ghost use Rattle.bcast_core.specs.Telling.{tell_news, NobodyWaits};
 
@@ -173,42 +173,43 @@ impl<T: Drop, N: Notice, A: Allocator + Copy> Parts<T, N, A> {
             || (nobody && !self.await_active)
     }
 
+    /// Whether no send waits.
+    #[inline(always)]
+    pub fn no_send_waits(&self) -> bool
+        ensures { result ≡ true → self.now.control.waiting_sends ≡ no_listeners }
+    {
+        self.sends.nobody_waits()
+    }
+
     /// Whether nobody waits: no send, and no receiver.
     #[inline(always)]
     pub fn nobody_waits(&self) -> bool
         ensures { result ≡ true → NobodyWaits self.now.control }
     {
-        self.sends.nobody_waits() && self.receives.is_empty()
+        self.no_send_waits() && self.receives.is_empty()
     }
 
     /// The last step of a call: tells the first send that waits, if sends are ready now.
-    #[inline(always)]
+    ///
+    /// It isn't compiled into its callers, and those that are called most often ask before it
+    /// whether a send waits.
+    #[inline(never)]
     pub fn tell_a_sender(&mut self)
         ensures { self.new ≡ tell_if_ready true self.old }
     {
-        if !self.sends.nobody_waits() {
-            self.tell_if_ready();
+        if self.is_ready() {
+            self.sends.tell_one();
         }
     }
 
     /// The last step of a call that sends: if it accepted a message all that wait to receive are
     /// told first.
-    #[inline(always)]
+    #[inline(never)]
     pub fn tell_of_message(&mut self, is_accepted: bool)
         ensures { self.new ≡ tell_if_ready true (tell_news is_accepted self.old) }
     {
-        if !self.nobody_waits() {
-            self.tell_everyone(is_accepted);
-        }
-    }
-
-    // In a function of its own, as `tell_if_ready`.
-    #[inline(never)]
-    fn tell_everyone(&mut self, is_accepted: bool)
-        ensures { self.new ≡ tell_if_ready true (tell_news is_accepted self.old) }
-    {
         self.tell_news(is_accepted);
-        self.tell_if_ready();
+        self.tell_a_sender();
     }
 
     // Tells all that wait to receive, if a message was accepted, and all sends, if it closed the
@@ -222,17 +223,6 @@ impl<T: Drop, N: Notice, A: Allocator + Copy> Parts<T, N, A> {
         self.receives.tell_all();
         if self.closed {
             self.sends.tell_all();
-        }
-    }
-
-    // Tells the first send that waits, if sends are ready. In a function of its own, so that a call
-    // while no send waits costs one test.
-    #[inline(never)]
-    fn tell_if_ready(&mut self)
-        ensures { self.new ≡ tell_if_ready true self.old }
-    {
-        if self.is_ready() {
-            self.sends.tell_one();
         }
     }
 

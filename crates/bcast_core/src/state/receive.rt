@@ -35,7 +35,9 @@ impl<T: Clone, N: Notice, A: Allocator + Copy> Inner<T, N, A> {
     {
         let at = self.parts.cursor(key);
         let received = self.parts.receive(key, at, &mut Uncounted);
-        self.parts.tell_a_sender();
+        if !self.parts.no_send_waits() {
+            self.parts.tell_a_sender();
+        }
         received
     }
 }

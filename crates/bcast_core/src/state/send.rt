@@ -33,7 +33,9 @@ impl<T: Drop, N: Notice, A: Allocator + Copy> Inner<T, N, A> {
             self.new }
     {
         let sent = self.parts.offer(msg);
-        self.parts.tell_of_message(sent.is_ok());
+        if !self.parts.nobody_waits() {
+            self.parts.tell_of_message(sent.is_ok());
+        }
         sent
     }
 
