@@ -6,7 +6,7 @@ ghost use Rattle.std.specs.Prelude.{◌≢◌};
 ghost use Rattle.bcast_text.specs.ScriptCommand.{IsInRange};
 ghost use Rattle.bcast.specs.Run.{HasWritten};
 
-use bcast_play::{hub_script, script};
+use bcast_play::{script, seeded_hub_script};
 use bcast_text::arguments::arguments;
 use bcast_text::ending::{Ending, Program, report};
 use bcast_text::script::command::Command;
@@ -14,6 +14,7 @@ use bcast_threads::threads;
 use std::alloc::{AllocError, Global};
 use std::io::{BufWriter, Read, Write};
 use std::process::ExitCode;
+use std::random::RandomSource;
 use std::sync::Wait;
 use std::thread::Threads;
 
@@ -33,20 +34,18 @@ fn main(rt: HostRuntime) -> ExitCode {
 }
 
 /// Does what the arguments ask for, and returns how it ended.
-fn run<R: Threads + Wait + Clone + Send + 'static, I: Read + Drop, W: Write>(
-    rt: &R,
-    alloc: Global,
-    command: Command,
-    input: I,
-    output: &mut W,
-) -> Ending
+fn run<R, I, W>(rt: &R, alloc: Global, command: Command, input: I, output: &mut W) -> Ending
+where
+    R: Threads + Wait + RandomSource + Clone + Send + 'static,
+    I: Read + Drop,
+    W: Write,
     requires { IsInRange command }
     ensures { result ≢ Ending.OutputFailed → HasWritten command (I.remaining input)
         (W.contents output.old) (W.contents output.new) result }
 {
     match command {
         Command::Script => script(alloc, alloc, input, output),
-        Command::Topics => hub_script(alloc, input, output),
+        Command::Topics => seeded_hub_script(rt, alloc, input, output),
         Command::Threads(s, r, m) => threads(rt, alloc, s, r, m, output),
     }
 }

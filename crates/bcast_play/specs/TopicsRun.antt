@@ -30,10 +30,14 @@ pub record Followed : Type 0 where
   pub topic_of : Topics ℕ
   pub follower_of : Names
 
--- no topic was opened, and no name is in use
-pub record IsWithoutTopics (first : Followed) : Type 0 where
-  pub topics : (name : List ℕ) → first.topic_of name ≡ None
+-- these topics, and no name is in use
+pub record IsWithoutFollowers (topics : Topics ℕ) (first : Followed) : Type 0 where
+  pub topics_are : (name : List ℕ) → first.topic_of name ≡ topics name
   pub names : (name : List ℕ) → first.follower_of name ≡ None
+
+-- no topic was opened, and no name is in use
+abbrev pub IsWithoutTopics : Followed → Type 0
+IsWithoutTopics first = IsWithoutFollowers (λ _. None) first
 
 -- the request that a line asks for; none where a name must be in use and is not, or the other way
 -- round

@@ -18,6 +18,6 @@ module _ {A : Type 0} where
   follower_of followers name = option_map following (get_by_text followers name)
 
   -- the topics, and their followers
-  abbrev pub followed_of : HubSession A → Followed
+  abbrev pub followed_of : {S Hasher : Type 0} → HubSession A S Hasher → Followed
   followed_of session =
       record { topic_of = topic_of session.hub; follower_of = follower_of session.followers }

@@ -2,8 +2,9 @@
 ghost use Rattle.std.specs.Prelude.{◌≡◌, ◌≢◌, ◌⊎◌, ℕ, List, Err, OnOk, true};
 ghost use Rattle.std.specs.Io.KnownBytes.{Appends};
 ghost use Rattle.bcast_text.specs.Run.{IsRun};
+ghost use Rattle.topics.specs.Hub.{topic_of};
 ghost use Rattle.bcast_play.specs.TopicsLine.{IsInForm};
-ghost use Rattle.bcast_play.specs.TopicsRun.{Followed, IsMade, IsTopicsLine, IsNoTopicsLine, AsksForNone, IsWithoutTopics};
+ghost use Rattle.bcast_play.specs.TopicsRun.{Followed, IsMade, IsTopicsLine, IsNoTopicsLine, AsksForNone, IsWithoutTopics, IsWithoutFollowers};
 ghost use Rattle.bcast_play.specs.TopicsShown.{followed_of};
 
 mod answer;
@@ -17,18 +18,20 @@ use bcast_text::input::{Fault, RunLine, run_lines};
 use followers::{Followers, record, request_by};
 use line::{Line, read_line};
 use std::alloc::Allocator;
+use std::hash::{BuildHasher, RandomState};
 use std::io::{Read, Write};
+use std::random::RandomSource;
 use topics::Hub;
 
 /// Lines on topics that are being run: the topics, and their followers by name.
 #[derive(Drop)]
-struct HubSession<A: Allocator> {
+struct HubSession<A: Allocator, S: BuildHasher> {
     alloc: A,
-    hub: Hub<u64, A>,
+    hub: Hub<u64, A, S>,
     followers: Followers<A>,
 }
 
-impl<A: Allocator + Copy> HubSession<A> {
+impl<A: Allocator + Copy, S: BuildHasher> HubSession<A, S> {
     /// Asks the request that `line` asks for, and writes its answer.
     ///
     /// # Errors
@@ -54,7 +57,7 @@ impl<A: Allocator + Copy> HubSession<A> {
     }
 }
 
-impl<A: Allocator + Copy> RunLine for HubSession<A> {
+impl<A: Allocator + Copy, S: BuildHasher> RunLine for HubSession<A, S> {
     ghost use Rattle.bcast_play.specs.TopicsRun.{Followed, IsTopicsLine, IsNoTopicsLine};
     ghost use Rattle.std.specs.Prelude.{true};
     ghost use Rattle.bcast_play.specs.TopicsShown.{followed_of};
@@ -77,23 +80,51 @@ impl<A: Allocator + Copy> RunLine for HubSession<A> {
     }
 }
 
-/// Runs the lines on topics that `input` holds, one by one, and writes an answer to each line.
+/// Runs the lines on topics that `input` holds, one by one, on `hub`, and writes an answer to each
+/// line.
 ///
 /// `output` is flushed before each read that may wait for more input, and at the end. The first
-/// line that is no call ends the run. An input without a line has none, and is done.
-pub fn hub_script<A: Allocator + Copy, R: Read + Drop, W: Write>(
+/// line that is no call ends the run. An input without a line has none, and is done. No follower
+/// has a name at the start. The seed of the hub's hash is random, since lines choose the names.
+pub fn hub_script<A, R, W>(
     alloc: A,
+    hub: Hub<u64, A, RandomState>,
     input: R,
     output: &mut W,
 ) -> Ending
-    ensures { result ≢ Ending.OutputFailed → (first last : Followed) × IsWithoutTopics first
+where
+    A: Allocator + Copy,
+    R: Read + Drop,
+    W: Write,
+    ensures { result ≢ Ending.OutputFailed → (first last : Followed)
+        × IsWithoutFollowers (topic_of hub) first
         × IsRun (IsNoTopicsLine A) true LONGEST (IsTopicsLine A) (R.remaining input)
         (W.contents output.old) (W.contents output.new) first last result }
 {
     let mut session = HubSession {
         alloc,
-        hub: Hub::new(alloc),
+        hub,
         followers: Followers::new(alloc),
     };
     run_lines(alloc, input, LONGEST, output, &mut session)
+}
+
+/// Runs lines on topics as `hub_script` does, on a hub without topics.
+///
+/// Its names are hashed with a seed of `source`, so that whoever chooses them can't make them
+/// collide. Where there is no seed the run ends as by a failed read, and nothing is written.
+pub fn seeded_hub_script<N, A, R, W>(source: &N, alloc: A, input: R, output: &mut W) -> Ending
+where
+    N: RandomSource,
+    A: Allocator + Copy,
+    R: Read + Drop,
+    W: Write,
+    ensures { result ≢ Ending.OutputFailed → (first last : Followed) × IsWithoutTopics first
+        × IsRun (IsNoTopicsLine A) true LONGEST (IsTopicsLine A) (R.remaining input)
+        (W.contents output.old) (W.contents output.new) first last result }
+{
+    match RandomState::new(source) {
+        Ok(seed) => hub_script(alloc, Hub::with_hasher(alloc, seed), input, output),
+        Err(_) => Ending::InputFailed,
+    }
 }

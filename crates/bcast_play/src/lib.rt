@@ -10,6 +10,6 @@ mod session;
 mod view;
 
 pub use collector::list;
-pub use hub::hub_script;
+pub use hub::{hub_script, seeded_hub_script};
 pub use player::trace;
 pub use session::script;

@@ -1,6 +1,6 @@
 //! A text played in one way.
-use crate::streams::{Pieces, Taker};
-use bcast_play::{hub_script, list, script, trace};
+use crate::streams::{Bytes, Pieces, Taker};
+use bcast_play::{list, script, seeded_hub_script, trace};
 use bcast_text::ending::Ending;
 use std::alloc::{Allocator, Global};
 use std::io::{BufWriter, Write};
@@ -91,7 +91,7 @@ fn buffered<A: Allocator + Copy>(
     };
     match player {
         Player::Script => script(alloc, heap, reader, &mut output),
-        Player::Topics => hub_script(alloc, reader, &mut output),
+        Player::Topics => seeded_hub_script(&Bytes(7), alloc, reader, &mut output),
         Player::Trace => trace(alloc, heap, reader, &mut output),
         Player::List => list(alloc, heap, reader, &mut output),
     }

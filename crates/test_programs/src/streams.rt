@@ -1,6 +1,7 @@
-//! Readers and writers in memory, which fail once they are told to.
+//! Readers and writers in memory, which fail once they are told to, and sources of random bytes.
 use std::io;
 use std::io::{ErrorKind, Read, Write};
+use std::random::RandomSource;
 
 /// Gives at most `piece` bytes at a call, and fails once `calls` calls were made.
 #[derive(Drop)]
@@ -41,5 +42,24 @@ impl Write for Taker {
 
     fn flush(&mut self) -> io::Result<()> {
         Ok(())
+    }
+}
+
+/// A source of random bytes that gives this one.
+pub struct Bytes(pub u8);
+
+impl RandomSource for Bytes {
+    fn fill_bytes(&self, buf: &mut [u8]) -> io::Result<()> {
+        buf.fill(self.0);
+        Ok(())
+    }
+}
+
+/// A source of random bytes that fails.
+pub struct NoBytes;
+
+impl RandomSource for NoBytes {
+    fn fill_bytes(&self, _buf: &mut [u8]) -> io::Result<()> {
+        Err(io::Error::from(ErrorKind::Other))
     }
 }

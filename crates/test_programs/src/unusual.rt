@@ -1,6 +1,8 @@
 //! Lines that a text file does not show, and when answers are written.
-use crate::play::{Player, Way, in_pieces, play};
+use crate::play::{Played, Player, Way, in_pieces, play};
 use crate::refused::refused;
+use crate::streams::{NoBytes, Pieces, Taker};
+use bcast_play::seeded_hub_script;
 use std::alloc::Global;
 use std::io;
 use std::io::Write;
@@ -42,7 +44,29 @@ pub fn run<W: Write>(alloc: Global, output: &mut W) -> io::Result<()> {
     for given in [6, 8192] {
         writes(alloc, given, output)?;
     }
-    Ok(())
+    output.write_all(b"# no random bytes\n")?;
+    no_seed(alloc, output)
+}
+
+/// Plays a line on topics where there is no seed for the hash of their names.
+fn no_seed<W: Write>(alloc: Global, output: &mut W) -> io::Result<()> {
+    let reader = Pieces {
+        bytes: b"open a 1\n",
+        piece: 7,
+        calls: u64::MAX,
+    };
+    let mut writer = Taker {
+        taken: Vec::new(alloc),
+        piece: 7,
+        calls: 100,
+    };
+    let ending = seeded_hub_script(&NoBytes, alloc, reader, &mut writer);
+    let played = Played {
+        ending,
+        wrote: writer.taken,
+        writes: writer.calls,
+    };
+    played.describe("a line", output)
 }
 
 /// Plays bytes that are no UTF-8 text.

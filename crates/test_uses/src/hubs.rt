@@ -1,5 +1,6 @@
 //! Channels by name, request by request and as lists.
 mod asked;
+mod collisions;
 mod memory;
 mod page;
 mod rows;

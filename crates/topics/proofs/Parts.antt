@@ -77,8 +77,9 @@ module _ {T A : Type 0} (is_clone : T → T → Type 0) where
   here capacity done old new (request.Leave name key) a topic fit is = called is_clone capacity done old new (call.DropReceiver key) a topic is
   here capacity done old new (request.Close name) a topic fit is = called is_clone capacity done old new call.Close a topic is
 
+module _ {T A S Hasher : Type 0} (is_clone : T → T → Type 0) where
   -- the topic of any name
-  topics_more : (all : List (Exchange T A)) (old new : Hub T A) (r : Request T A) (a : Answer T) → AreTopics is_clone all old → Asks is_clone (topic_of old) r a (topic_of new) → AreTopics is_clone (all ++ (r, a) ∷ []) new
+  topics_more : (all : List (Exchange T A)) (old new : Hub T A S Hasher) (r : Request T A) (a : Answer T) → AreTopics is_clone all old → Asks is_clone (topic_of old) r a (topic_of new) → AreTopics is_clone (all ++ (r, a) ∷ []) new
   topics_more all old new r a topics asks = λ name.
       subst (λ o. IsTopic is_clone o (done_on name (all ++ (r, a) ∷ [])) (topic_of new name)) (sym (opened_with-last name all r a))
       (subst (λ d. IsTopic is_clone (option_or (opened_with name all) (opens (bytes_eq (name_of r) name) r a)) d (topic_of new name)) (sym (done_on-last name all r a))
@@ -86,15 +87,15 @@ module _ {T A : Type 0} (is_clone : T → T → Type 0) where
     where
       at : (name : List ℕ) (b : Bool) → bytes_eq (name_of r) name ≡ b → IsTopic is_clone (option_or (opened_with name all) (opens b r a)) (done_on name all ++ done_by b (call_of r) a) (topic_of new name)
       at name true same = subst (λ n. IsTopic is_clone (option_or (opened_with n all) (opens true r a)) (done_on n all ++ done_by true (call_of r) a) (topic_of new n)) ((bytes_decides (name_of r) name).0 same)
-          (here (opened_with (name_of r) all) (done_on (name_of r) all) (topic_of old (name_of r)) (topic_of new (name_of r)) r a (topics (name_of r)) asks.answer asks.topic)
+          (here is_clone (opened_with (name_of r) all) (done_on (name_of r) all) (topic_of old (name_of r)) (topic_of new (name_of r)) r a (topics (name_of r)) asks.answer asks.topic)
       at name false differs = kept is_clone (opened_with name all) (done_on name all) (topic_of old name) (topic_of new name) (topics name)
           (asks.others name (λ same. true≢false (sym ((bytes_decides (name_of r) name).1 (sym same)) ∙ differs)))
 
-  answer_more : (all : List (Exchange T A)) (old new : Hub T A) (r : Request T A) (a : Answer T) → AreTopics is_clone all old → Asks is_clone (topic_of old) r a (topic_of new) → AreAnswers [] all → AreAnswers [] (all ++ (r, a) ∷ [])
+  answer_more : (all : List (Exchange T A)) (old new : Hub T A S Hasher) (r : Request T A) (a : Answer T) → AreTopics is_clone all old → Asks is_clone (topic_of old) r a (topic_of new) → AreAnswers [] all → AreAnswers [] (all ++ (r, a) ∷ [])
   answer_more all old new r a topics asks fit = answers_more [] all r a fit
       (subst (λ b. IsAnswer b r a) (is_open is_clone (opened_with (name_of r) all) (done_on (name_of r) all) (topic_of old (name_of r)) (topics (name_of r))) asks.answer)
 
-module _ {T A : Type 0} (is_clone : T → T → Type 0) (requests : List (Request T A)) (answers more : List (Answer T)) (r : Request T A) (a : Answer T) (old new : Hub T A) where
+module _ {T A S Hasher : Type 0} (is_clone : T → T → Type 0) (requests : List (Request T A)) (answers more : List (Answer T)) (r : Request T A) (a : Answer T) (old new : Hub T A S Hasher) where
   pub exchanged : more ≡ answers ++ a ∷ [] → length answers ≡ length requests → AreAnswers [] (zip requests answers) → AreTopics is_clone (zip requests answers) old → Asks is_clone (topic_of old) r a (topic_of new)
       → AreAnswers [] (zip (requests ++ r ∷ []) more) × AreTopics is_clone (zip (requests ++ r ∷ []) more) new
   exchanged last count fit topics asks =

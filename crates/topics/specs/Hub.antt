@@ -17,8 +17,8 @@ use Rattle.topics.specs.Request.{name_of, call_of, IsAnswer}
 abbrev pub Topics : Type 0 → Type 0
 Topics T = List ℕ → Option (View T)
 
--- a hub's topics
-abbrev pub topic_of : {T A : Type 0} → Hub T A → Topics T
+-- a hub's topics, whatever hashes their names
+abbrev pub topic_of : {T A S Hasher : Type 0} → Hub T A S Hasher → Topics T
 topic_of hub name = get_by_text hub.topics name
 
 module _ {T : Type 0} (is_clone : T → T → Type 0) where

@@ -75,7 +75,8 @@ module _ {T : Type 0} (is_clone : T → T → Type 0) where
       × IsRunOf is_clone (opening capacity 0 first_key) (part_of first_key done) topic
 
   -- every topic is a channel of its own, whatever requests on other names stand between
-  abbrev pub AreTopics : {A : Type 0} → List (Exchange T A) → Hub T A → Type 0
+  abbrev pub AreTopics : {A S Hasher : Type 0}
+      → List (Exchange T A) → Hub T A S Hasher → Type 0
   AreTopics all hub =
       (name : List ℕ)
       → IsTopic (opened_with name all) (done_on name all) (topic_of hub name)

@@ -9,26 +9,41 @@ use crate::request::{Answer, Request};
 use bcast_core::{Call, Inner, Silent, step};
 use std::alloc::{AllocError, Allocator, Global};
 use std::collections::HashMap;
-use std::hash::{BuildHasherDefault, FoldHasher};
+use std::hash::{BuildHasher, BuildHasherDefault, FoldHasher};
 
 /// A topic's channel, under its name.
-type Topics<T, A> = HashMap<String<A>, Inner<T, Silent, A>, BuildHasherDefault<FoldHasher>, A>;
+type Topics<T, A, S> = HashMap<String<A>, Inner<T, Silent, A>, S, A>;
 
 /// Topics: channels that are named, and opened by request. A topic stays for good, closed or not.
+///
+/// Names are hashed by what `S` makes.
 #[derive(Drop)]
-pub struct Hub<T, A: Allocator = Global> {
+pub struct Hub<T, A: Allocator = Global, S: BuildHasher = BuildHasherDefault<FoldHasher>> {
     alloc: A,
-    topics: Topics<T, A>,
+    topics: Topics<T, A, S>,
 }
 
 impl<T: Clone, A: Allocator + Copy> Hub<T, A> {
     /// A hub without topics.
+    ///
+    /// Its hash has a fixed seed: where strangers choose the names, use `with_hasher`.
     pub fn new(alloc: A) -> Self
+        ensures { (name : List ℕ) → topic_of result name ≡ None }
+    {
+        Hub::with_hasher(alloc, BuildHasherDefault::new())
+    }
+}
+
+impl<T: Clone, A: Allocator + Copy, S: BuildHasher> Hub<T, A, S> {
+    /// A hub without topics, whose names are hashed with `hash_builder`.
+    ///
+    /// With std's `RandomState` nobody can choose many names that collide.
+    pub fn with_hasher(alloc: A, hash_builder: S) -> Self
         ensures { (name : List ℕ) → topic_of result name ≡ None }
     {
         Hub {
             alloc,
-            topics: HashMap::new(alloc),
+            topics: HashMap::with_hasher(alloc, hash_builder),
         }
     }
 

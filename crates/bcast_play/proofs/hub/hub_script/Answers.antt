@@ -1,4 +1,5 @@
--- The run begins without topics and without names.
+-- The run begins with the topics of the hub, and without names.
+use Rattle.std.proofs.Common.{refl}
 use Rattle.topics.specs.Hub.{topic_of}
 use Rattle.bcast_play.specs.TopicsShown.{follower_of, followed_of}
 use Rattle.bcast_play.proofs.TopicsLemmas.{no_follower}
@@ -6,8 +7,8 @@ use Rattle.bcast_play.proofs.hub.hub_script.Goals as goal
 
 pub returns : goal.returns
 returns g c unfailed = (
-  record { topic_of = topic_of c.new.result; follower_of = follower_of c.new-2.result },
+  record { topic_of = topic_of c.args.hub; follower_of = follower_of c.new.result },
   followed_of c.run_lines.new.program,
-  record { topics = c.new.ensures; names = no_follower c.new-2.result c.new-2.ensures.empty },
+  record { topics_are = λ name. refl; names = no_follower c.new.result c.new.ensures.empty },
   c.run_lines.ensures unfailed,
 )
