@@ -61,8 +61,6 @@ def deactivate(channel, choice, key):
 
 def make_receiver(channel, choice, cursor):
     """'Handles': a receiver under a new key, or refused memory."""
-    if len(channel.cursors) == GREATEST:
-        return TOO_MANY
     if choice.refused:
         return NO_MEMORY
     if choice.new_id in channel.cursors:
