@@ -1,5 +1,6 @@
-//! Tests of `async_broadcast` in one thread: the examples of its documentation, the original's own
-//! tests, tasks that wait, handles short of memory, and what handles see of their channel.
+//! Tests of `async_broadcast`: the examples of its documentation, the original's own tests, tasks
+//! that wait, handles short of memory, what handles see of their channel, and threads that wait for
+//! one another.
 //!
 //! `examples` has those of the documentation: the first line of each file says of which. Tests of
 //! `counterparts` have the names of the original's.
@@ -17,5 +18,7 @@ mod many_tasks;
 mod short_of_memory;
 #[cfg(test)]
 mod snapshots;
+#[cfg(test)]
+mod threads;
 #[cfg(test)]
 mod told_tasks;

@@ -1,7 +1,7 @@
 //! Threads that make listed calls on their handles, and meet in between.
-use crate::answers::Answer;
-use crate::hands::{Hands, Script, Step};
-use crate::steps::reaches;
+use crate::threads::answers::Answer;
+use crate::threads::hands::{Hands, Script, Step};
+use crate::threads::steps::reaches;
 use async_broadcast::{Port, WakerSlot};
 use std::alloc::Global;
 use std::process::Abort;

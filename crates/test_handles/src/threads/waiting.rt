@@ -1,7 +1,7 @@
 //! Threads that sleep in a call until another thread makes one.
-use crate::answers::Answer;
-use crate::hands::{Change, Hands, Polled, Script, Step};
-use crate::sleepers::{Sleep, wakes};
+use crate::threads::answers::Answer;
+use crate::threads::hands::{Change, Hands, Polled, Script, Step};
+use crate::threads::sleepers::{Sleep, wakes};
 use async_broadcast::{LockReceiver, LockSender, broadcast};
 use futures::test::MockTask;
 use std::alloc::Global;

@@ -1,8 +1,8 @@
 //! Counterparts of those tests of async-broadcast that have threads.
-use crate::answers::{Answer, of_try_recv};
-use crate::hands::{Change, Hands, Script, Step};
-use crate::scripts::run;
-use crate::steps::{Receiving, Sending};
+use crate::threads::answers::{Answer, of_try_recv};
+use crate::threads::hands::{Change, Hands, Script, Step};
+use crate::threads::scripts::run;
+use crate::threads::steps::{Receiving, Sending};
 use async_broadcast::{Port, WakerSlot, broadcast};
 use std::alloc::Global;
 use std::process::Abort;

@@ -1,5 +1,5 @@
 //! Two threads that answer each other over two channels.
-use crate::steps::{Receiving, Sending, reaches};
+use crate::threads::steps::{Receiving, Sending, reaches};
 use async_broadcast::{Port, WakerSlot, broadcast};
 use std::alloc::Global;
 use std::process::Abort;

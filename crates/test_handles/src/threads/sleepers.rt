@@ -1,7 +1,7 @@
 //! Threads that each sleep in one call, while another makes the calls that wake them.
-use crate::answers::Answer;
-use crate::hands::{Hands, Script, Step};
-use crate::steps::{pause, reaches};
+use crate::threads::answers::Answer;
+use crate::threads::hands::{Hands, Script, Step};
+use crate::threads::steps::{pause, reaches};
 use async_broadcast::{Port, WakerSlot};
 use std::alloc::Global;
 use std::process::Abort;

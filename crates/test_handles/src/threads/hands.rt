@@ -1,6 +1,6 @@
 //! Listed calls on the handles of a thread.
-use crate::answers::{Answer, of_poll_recv, of_recv, of_send, of_try_recv, of_try_send};
-use crate::steps::{Receiving, Sending};
+use crate::threads::answers::{Answer, of_poll_recv, of_recv, of_send, of_try_recv, of_try_send};
+use crate::threads::steps::{Receiving, Sending};
 use async_broadcast::{InactiveReceiver, Port, WakerSlot};
 use futures::StreamExt;
 use futures::task::Poll;

@@ -1,5 +1,5 @@
 //! A thread that is woken and finds nothing to receive wakes the next one.
-use crate::steps::{pause, reaches};
+use crate::threads::steps::{pause, reaches};
 use async_broadcast::{Call, Lock, Port, Reply, Wake, WakerSlot};
 use bcast_core::Inner;
 use std::alloc::Global;
