@@ -1,21 +1,33 @@
 -- A receive poll, which is answered or waits.
-use Rattle.std.proofs.Common.{◌≡◌, ℕ, true, false, Option, Result, Ok, Err, IfOk, IfErr, OnOk, OnErr, refl, sym, ap, ◌∙◌}
+use Rattle.std.proofs.Common.{◌≡◌, ℕ, true, false, Option, Result, Ok, Err, OnOk, OnErr, IsOk, refl, sym, ap, subst, ◌∙◌}
 use Rattle.std.specs.Prelude.{alloc_error}
+use Rattle.std.specs.Result.{result_map_both}
 use Rattle.std.specs.declared.alloc.AllocError.{AllocError}
 use Rattle.std.specs.FinMap.{len}
 use Rattle.bcast_model.specs.declared.error.TryRecvError.{TryRecvError}
+use Rattle.bcast_model.specs.declared.listener.Kind.{Kind}
+use Rattle.bcast_model.specs.declared.listener.Kind.TheVariants as kind
 use Rattle.bcast_model.specs.declared.run.Call.{Call}
+use Rattle.bcast_model.specs.declared.run.Call.TheVariants as call
 use Rattle.bcast_model.specs.declared.run.Reply.{Reply}
+use Rattle.bcast_model.specs.declared.run.Reply.TheVariants as reply
 use Rattle.bcast_model.specs.Words.{Pair, same_pair, consume, no_listeners, pair_waits}
 use Rattle.bcast_model.specs.Words.{pair_answered, sets, effect, HasRange, IsValidView, IsReceived}
-use Rattle.bcast_model.specs.Words.{Legal, tell_if_ready, must_wait, IsOwed}
+use Rattle.bcast_model.specs.Words.{Legal, tell_if_ready, must_wait, IsOwed, cursor_of}
 use Rattle.bcast_model.specs.Words.{is_empty_reply, listens, receive, receive_poll}
-use Rattle.bcast_model.specs.Words.{try_recv_reply, Steps, settle, View}
+use Rattle.bcast_model.specs.Words.{try_recv_reply, Steps, settle, View, skipped_to, skipped_count}
+use Rattle.bcast_model.specs.Words.{future_reply, stream_reply, next_reply}
+use Rattle.bcast_model.specs.Replies.{is_receive_refused}
+use Rattle.bcast_model.proofs.Polls.{future_waits, stream_waits, next_waits}
+use Rattle.bcast_core.specs.declared.receive_poll.ReceivePoll.{ReceivePoll}
+use Rattle.bcast_core.specs.declared.receive_poll.ReceivePoll.TheVariants as poll
+use Rattle.bcast_core.specs.declared.receive_poll.Received.{Received}
 use Rattle.bcast_core.specs.Telling.{NobodyWaits}
 use Rattle.bcast_core.specs.Parts.{finds_nothing}
+use Rattle.bcast_core.specs.Polls.{kind_of, call_of, reads_at, skips_of, reply_of}
 use Rattle.bcast_core.proofs.Tail.{told_none, told_last, told_valid, told_waiting}
 use Rattle.bcast_core.proofs.Receives.{poll_waits, settle_empty}
-use Rattle.bcast_core.proofs.Respelt.{IsTryRecv, does_spelt}
+use Rattle.bcast_core.proofs.Respelt.{IsTryRecv, does_poll}
 
 module _ {T : Type 0} where
   -- while nobody waits a receive that finds something is all that its poll does
@@ -51,25 +63,69 @@ module _ {T : Type 0} where
       new_is ∙ ap (tell_if_ready true) (ap (λ (x : View T). record x { control = pair_answered x.control pair }) mid_is
       ∙ ap (λ b. settle v (sets (listens (receive v pair.0 at) pair b))) (sym found))
 
-  -- either is the step of its call, whose answer is spelt by this word
-  pub steps_polled : {is_clone : T → T → Type 0} {X : Type 0} (v new : View T) (c : Call T) (pair : Pair) (at was : Option ℕ) (word : Result T TryRecvError → X) (wrap : Result X AllocError → Reply T)
-      (received : Result (Result T TryRecvError) AllocError) (spelt : Result X AllocError) → IsValidView v → was ≡ at
-      → IsTryRecv is_clone (IsOwed v pair.0 was) (try_recv_reply v was) received
-      → OnOk received (new ≡ tell_if_ready true (settle v (sets (receive_poll v pair was)))) → OnErr received (new ≡ v)
-      → IfOk received (λ answer. spelt ≡ Ok (word answer)) → IfErr received (λ e. spelt ≡ Err e)
+  -- what `Parts::poll` promises of what was found, and of what is seen then
+  abbrev IsPolled : (T → T → Type 0) → View T → Pair → Option ℕ → Result (Result T TryRecvError) AllocError → View T → Type 0
+  IsPolled is_clone v pair at found new =
+      IsTryRecv is_clone (IsOwed v pair.0 at) (try_recv_reply v at) found
+      × OnOk found (new ≡ tell_if_ready true (settle v (sets (receive_poll v pair at)))) × OnErr found (new ≡ v)
+
+  -- it is the step of a call that returns what was found in this word
+  steps_polled : {is_clone : T → T → Type 0} {X : Type 0} (v new : View T) (c : Call T) (pair : Pair) (at : Option ℕ) (word : Result T TryRecvError → X) (wrap : Result X AllocError → Reply T)
+      (found : Result (Result T TryRecvError) AllocError) → IsValidView v → IsPolled is_clone v pair at found new
       → ((r : Reply T) → IsReceived is_clone (IsOwed v pair.0 at) (λ a. wrap (Ok (word a))) (wrap (Err alloc_error)) (try_recv_reply v at) r → Legal is_clone v c r)
       → ((answer : Result T TryRecvError) → effect v c (wrap (Ok (word answer))) ≡ sets (receive_poll v pair at))
-      → effect v c (wrap (Err alloc_error)) ≡ sets v.control → ((n : ℕ) → HasRange c n) → Steps is_clone v c (wrap spelt) new
-  steps_polled v new c pair at was word wrap (Ok answer) spelt valid same legal ok err is_ok is_err means effect_ok effect_err range =
-      let mid = settle v (sets (receive_poll v pair was)) in
-      told_last valid (range (len mid.control.cursors)) (does_spelt v mid c pair at was word wrap (Ok answer) spelt valid same legal refl err is_ok is_err means effect_ok effect_err) ok
-  steps_polled v new c pair at was word wrap (Err e) spelt valid same legal ok err is_ok is_err means effect_ok effect_err range =
-      told_last valid (range (len v.control.cursors)) (does_spelt v v c pair at was word wrap (Err e) spelt valid same legal ok refl is_ok is_err means effect_ok effect_err) (err ∙ sym (told_valid v valid))
+      → effect v c (wrap (Err alloc_error)) ≡ sets v.control → ((n : ℕ) → HasRange c n) → Steps is_clone v c (wrap (result_map_both word (λ e. e) found)) new
+  steps_polled v new c pair at word wrap (Ok answer) valid polled means effect_ok effect_err range =
+      let mid = settle v (sets (receive_poll v pair at)) in
+      told_last valid (range (len mid.control.cursors)) (does_poll v mid c pair at word wrap (Ok answer) valid polled.0 refl tt means effect_ok effect_err) polled.1
+  steps_polled v new c pair at word wrap (Err e) valid polled means effect_ok effect_err range =
+      told_last valid (range (len v.control.cursors)) (does_poll v v c pair at word wrap (Err e) valid polled.0 tt refl means effect_ok effect_err) (polled.2 ∙ sym (told_valid v valid))
 
-  -- it must wait where the receive finds nothing
-  pub waits_same : {X : Type 0} (word : Result T TryRecvError → X) (wrap : Result X AllocError → Reply T) (received : Result (Result T TryRecvError) AllocError) (spelt : Result X AllocError)
-      → IfOk received (λ answer. spelt ≡ Ok (word answer)) → IfErr received (λ e. spelt ≡ Err e)
-      → ((answer : Result T TryRecvError) → must_wait (wrap (Ok (word answer))) ≡ is_empty_reply answer) → ((e : AllocError) → must_wait (wrap (Err e)) ≡ false)
-      → must_wait (wrap spelt) ≡ finds_nothing received
-  waits_same word wrap (Ok answer) spelt is_ok is_err waits refused = ap (λ s. must_wait (wrap s)) is_ok ∙ waits answer
-  waits_same word wrap (Err e) spelt is_ok is_err waits refused = ap (λ s. must_wait (wrap s)) is_err ∙ refused e
+  -- each of the three receives that wait is that of its own call
+  steps_as : {is_clone : T → T → Type 0} (poll : ReceivePoll) (v new : View T) (key : ℕ) (found : Result (Result T TryRecvError) AllocError) → IsValidView v
+      → IsPolled is_clone v (key, kind_of poll) (reads_at poll v key) found new → Steps is_clone v (call_of poll key) (reply_of poll (record { found = found; skips = skips_of poll v key })) new
+  steps_as poll.Future v new key found valid polled =
+      steps_polled v new (call.PollFuture key) (key, kind.Future) (cursor_of v.control key) future_reply reply.PollFuture found valid polled (λ r legal. legal) (λ a. refl) refl (λ n. tt)
+  steps_as poll.Recv v new key found valid polled =
+      steps_polled v new (call.PollRecv key) (key, kind.Stream) (cursor_of v.control key) stream_reply reply.PollRecv found valid polled (λ r legal. legal) (λ a. refl) refl (λ n. tt)
+  steps_as poll.Next v new key found valid polled =
+      let cursor = cursor_of v.control key in
+      steps_polled v new (call.PollNext key) (key, kind.Stream) (skipped_to v.front cursor) (next_reply (skipped_count v.front cursor)) reply.PollNext found valid polled (λ r legal. legal) (λ a. refl) refl (λ n. tt)
+
+  -- the same of the listener, where it read, and what it skipped, that were looked up
+  pub receive_steps : {is_clone : T → T → Type 0} (poll : ReceivePoll) (v new : View T) (key skips : ℕ) (kind : Kind) (at : Option ℕ) (found : Result (Result T TryRecvError) AllocError) → IsValidView v
+      → kind ≡ kind_of poll → at ≡ reads_at poll v key → skips ≡ skips_of poll v key → IsPolled is_clone v (key, kind) at found new
+      → Steps is_clone v (call_of poll key) (reply_of poll (record { found = found; skips = skips })) new
+  receive_steps {is_clone = is_clone} poll v new key skips kind at found valid kind_is at_is skips_is polled =
+      subst (λ n. Steps is_clone v (call_of poll key) (reply_of poll (record { found = found; skips = n })) new) (sym skips_is)
+      (steps_as poll v new key found valid
+      (subst (λ k. IsPolled is_clone v (key, k) (reads_at poll v key) found new) kind_is (subst (λ o. IsPolled is_clone v (key, kind) o found new) at_is polled)))
+
+  -- none of their calls is limited by how many receivers there are
+  pub receive_range : (poll : ReceivePoll) (key : ℕ) (v : View T) → HasRange {T = T} (call_of poll key) (len v.control.cursors)
+  receive_range poll.Future key v = tt
+  receive_range poll.Recv key v = tt
+  receive_range poll.Next key v = tt
+
+  -- ---- its reply
+  waits_as : (poll : ReceivePoll) (skips : ℕ) (found : Result (Result T TryRecvError) AllocError) → must_wait (reply_of poll (record { found = found; skips = skips })) ≡ finds_nothing found
+  waits_as poll.Future skips (Ok answer) = future_waits answer
+  waits_as poll.Future skips (Err e) = refl
+  waits_as poll.Recv skips (Ok answer) = stream_waits answer
+  waits_as poll.Recv skips (Err e) = refl
+  waits_as poll.Next skips (Ok answer) = next_waits skips answer
+  waits_as poll.Next skips (Err e) = refl
+
+  sure_as : (poll : ReceivePoll) (skips : ℕ) (found : Result (Result T TryRecvError) AllocError) → IsOk found → is_receive_refused (reply_of poll (record { found = found; skips = skips })) ≡ false
+  sure_as poll.Future skips (Ok answer) ok = refl
+  sure_as poll.Recv skips (Ok answer) ok = refl
+  sure_as poll.Next skips (Ok answer) ok = refl
+  sure_as poll skips (Err e) ok = cc
+
+  -- it must wait where nothing was found
+  pub reply_waits : (poll : ReceivePoll) (r : Received T) → must_wait (reply_of poll r) ≡ finds_nothing r.found
+  reply_waits poll r = waits_as poll r.skips r.found
+
+  -- it isn't refused where no clone was
+  pub reply_sure : (poll : ReceivePoll) (r : Received T) → IsOk r.found → is_receive_refused (reply_of poll r) ≡ false
+  reply_sure poll r = sure_as poll r.skips r.found

@@ -1,6 +1,7 @@
 -- A receive's answer as the reply of a poll.
-use Rattle.std.proofs.Common.{◌≡◌, inl, inr, ℕ, Bool, true, false, Option, Result, Ok, Err, IfOk, IfErr, OnOk, OnErr, refl, sym, ap, subst, ◌∙◌}
+use Rattle.std.proofs.Common.{◌≡◌, inl, inr, ℕ, Bool, true, false, Option, Result, Ok, Err, OnOk, OnErr, refl, sym, ap, subst, ◌∙◌}
 use Rattle.std.specs.Prelude.{alloc_error}
+use Rattle.std.specs.Result.{result_map_both}
 use Rattle.std.specs.declared.alloc.AllocError.{AllocError}
 use Rattle.std.proofs.lemmas.Result.{on_ok_weaker}
 use Rattle.bcast_model.specs.declared.error.TryRecvError.{TryRecvError}
@@ -53,37 +54,16 @@ module _ {T : Type 0} where
       (subst (λ o. IsReceived is_clone (IsOwed v key o) (λ a. reply.TryRecv (Ok a)) (reply.TryRecv (Err alloc_error)) (try_recv_reply v o) (reply.TryRecv r)) is legal)
       (on_ok_weaker r (λ made. made ∙ ap (λ o. settle v (sets (receive v key o))) is) ok) err
 
-  -- a poll that was answered, or waits
-  pub does_poll : {is_clone : T → T → Type 0} (v new : View T) (c : Call T) (pair : Pair) (at was : Option ℕ) (spelt : Result T TryRecvError → Reply T) (refused r : Reply T) (answer : Result T TryRecvError)
-      → was ≡ at → IsTryRecv is_clone (IsOwed v pair.0 was) (try_recv_reply v was) (Ok answer)
-      → new ≡ settle v (sets (receive_poll v pair was)) → r ≡ spelt answer
-      → (IsReceived is_clone (IsOwed v pair.0 at) spelt refused (try_recv_reply v at) (spelt answer) → Legal is_clone v c (spelt answer))
-      → effect v c (spelt answer) ≡ sets (receive_poll v pair at) → Does is_clone v c r new
-  does_poll {is_clone = is_clone} v new c pair at was spelt refused r answer same legal new_is is means effect_is =
-      let exactly = subst (λ o. IsTryRecv is_clone (IsOwed v pair.0 o) (try_recv_reply v o) (Ok answer)) same legal in
-      subst (λ x. Does is_clone v c x new) (sym is) (record {
-        legal = means (respelt spelt refused (try_recv_reply v at) answer exactly);
-        effect = new_is ∙ ap (λ o. settle v (sets (receive_poll v pair o))) same ∙ ap (settle v) (sym effect_is);
-      })
-
-  -- a poll that found no memory
-  pub does_poll_refused : {is_clone : T → T → Type 0} (v new : View T) (c : Call T) (key : ℕ) (at was : Option ℕ) (spelt : Result T TryRecvError → Reply T) (refused : Reply T) (e : AllocError) → IsValidView v
-      → was ≡ at → IsTryRecv is_clone (IsOwed v key was) (try_recv_reply v was) (Err e) → new ≡ v
-      → (IsReceived is_clone (IsOwed v key at) spelt refused (try_recv_reply v at) refused → Legal is_clone v c refused) → effect v c refused ≡ sets v.control → Does is_clone v c refused new
-  does_poll_refused {is_clone = is_clone} v new c key at was spelt refused e valid same legal new_is means effect_is =
-      let exactly = subst (λ o. IsTryRecv is_clone (IsOwed v key o) (try_recv_reply v o) (Err e)) same legal in
-      does_nothing valid (means (respelt_refused spelt refused (try_recv_reply v at) e exactly)) effect_is new_is
-
-  -- a poll whose answer is spelt by this word
-  pub does_spelt : {is_clone : T → T → Type 0} {X : Type 0} (v new : View T) (c : Call T) (pair : Pair) (at was : Option ℕ) (word : Result T TryRecvError → X) (wrap : Result X AllocError → Reply T)
-      (received : Result (Result T TryRecvError) AllocError) (spelt : Result X AllocError) → IsValidView v → was ≡ at → IsTryRecv is_clone (IsOwed v pair.0 was) (try_recv_reply v was) received
-      → OnOk received (new ≡ settle v (sets (receive_poll v pair was))) → OnErr received (new ≡ v)
-      → IfOk received (λ answer. spelt ≡ Ok (word answer)) → IfErr received (λ e. spelt ≡ Err e)
+  -- a receive that waits, whose call returns what was found in this word
+  pub does_poll : {is_clone : T → T → Type 0} {X : Type 0} (v new : View T) (c : Call T) (pair : Pair) (at : Option ℕ) (word : Result T TryRecvError → X) (wrap : Result X AllocError → Reply T)
+      (found : Result (Result T TryRecvError) AllocError) → IsValidView v → IsTryRecv is_clone (IsOwed v pair.0 at) (try_recv_reply v at) found
+      → OnOk found (new ≡ settle v (sets (receive_poll v pair at))) → OnErr found (new ≡ v)
       → ((r : Reply T) → IsReceived is_clone (IsOwed v pair.0 at) (λ a. wrap (Ok (word a))) (wrap (Err alloc_error)) (try_recv_reply v at) r → Legal is_clone v c r)
       → ((answer : Result T TryRecvError) → effect v c (wrap (Ok (word answer))) ≡ sets (receive_poll v pair at))
-      → effect v c (wrap (Err alloc_error)) ≡ sets v.control → Does is_clone v c (wrap spelt) new
-  does_spelt v new c pair at was word wrap (Ok answer) spelt valid same legal ok err is_ok is_err means effect_ok effect_err =
-      does_poll v new c pair at was (λ a. wrap (Ok (word a))) (wrap (Err alloc_error)) (wrap spelt) answer same legal ok (ap wrap is_ok) (means (wrap (Ok (word answer)))) (effect_ok answer)
-  does_spelt {is_clone = is_clone} v new c pair at was word wrap (Err e) spelt valid same legal ok err is_ok is_err means effect_ok effect_err =
-      subst (λ x. Does is_clone v c (wrap x) new) (sym is_err)
-      (does_poll_refused v new c pair.0 at was (λ a. wrap (Ok (word a))) (wrap (Err alloc_error)) e valid same legal err (means (wrap (Err alloc_error))) effect_err)
+      → effect v c (wrap (Err alloc_error)) ≡ sets v.control → Does is_clone v c (wrap (result_map_both word (λ e. e) found)) new
+  does_poll v new c pair at word wrap (Ok answer) valid found ok err means effect_ok effect_err = record {
+    legal = means (wrap (Ok (word answer))) (respelt (λ a. wrap (Ok (word a))) (wrap (Err alloc_error)) (try_recv_reply v at) answer found);
+    effect = ok ∙ ap (settle v) (sym (effect_ok answer));
+  }
+  does_poll v new c pair at word wrap (Err e) valid found ok err means effect_ok effect_err =
+      does_nothing valid (means (wrap (Err alloc_error)) (respelt_refused (λ a. wrap (Ok (word a))) (wrap (Err alloc_error)) (try_recv_reply v at) e found)) effect_err err

@@ -4,7 +4,7 @@ pub mod Parts
 pub mod Snapshot
 -- how often the stream looks for a message
 pub mod Tries
--- which calls are polls
-pub mod PollCalls
+-- the four polls, and what the three receives among them differ in
+pub mod Polls
 -- who waits, and who is told of a message that was accepted
 pub mod Telling

@@ -8,8 +8,9 @@ ghost use Rattle.bcast_model.specs.Words.{AtEachPoint, AreAllExact, WaitsAsItsTr
 ghost use Rattle.bcast_model.specs.Words.{must_wait};
 ghost use Rattle.std.specs.List.Sorted.{IsStrictlyIncreasing};
 ghost use Rattle.bcast_model.specs.Replies.{is_receive_refused};
-ghost use Rattle.bcast_core.specs.PollCalls.{is_poll_call};
+ghost use Rattle.bcast_core.specs.Polls.{is_poll_call};
 
+use crate::receive_poll::ReceivePoll;
 use crate::state::Inner;
 use bcast_model::run::{Call, Reply};
 use bcast_queue::Uncounted;
@@ -63,26 +64,20 @@ pub fn poll<T: Clone, N: Notice, A: Allocator + Copy, M: MakesNotice<N>>(
     ensures same { OnErr result (inner.new ≡ inner.old) }
     ensures refused { OnErr result (M.refused maker.old maker.new) }
 {
-    // The four polls are compiled into their callers. A function that has all 37 calls is too large
-    // for that.
-    match call {
-        Call::PollSend(place, msg) => inner
-            .poll_send_by(place, msg, maker)
-            .map(|sent| Reply::PollSend(sent))
-            .map_err(|msg| Call::PollSend(place, msg)),
-        Call::PollFuture(key) => inner
-            .poll_future_by(key, maker, &mut Uncounted)
-            .map(|answer| Reply::PollFuture(answer))
-            .map_err(|_| Call::PollFuture(key)),
-        Call::PollRecv(key) => inner
-            .poll_recv_by(key, maker, &mut Uncounted)
-            .map(|answer| Reply::PollRecv(answer))
-            .map_err(|_| Call::PollRecv(key)),
-        Call::PollNext(key) => inner
-            .poll_next_by(key, maker, &mut Uncounted)
-            .map(|answer| Reply::PollNext(answer))
-            .map_err(|_| Call::PollNext(key)),
-        call => Ok(make_at_once(inner, call)),
+    // A caller that knows which call it makes has only that part compiled into it. All 37 calls
+    // would be too much for that: those that leave no notice are in a function of their own.
+    match ReceivePoll::of(call) {
+        Ok((poll, key)) => match inner.poll_receive(poll, key, maker, &mut Uncounted) {
+            Ok(received) => Ok(received.reply(poll)),
+            Err(_) => Err(poll.call(key)),
+        },
+        Err(call) => match call {
+            Call::PollSend(place, msg) => inner
+                .poll_send_by(place, msg, maker)
+                .map(|sent| Reply::PollSend(sent))
+                .map_err(|msg| Call::PollSend(place, msg)),
+            call => Ok(make_at_once(inner, call)),
+        },
     }
 }
 

@@ -7,6 +7,7 @@
 
 mod calls;
 mod parts;
+mod receive_poll;
 mod snapshot;
 mod state;
 

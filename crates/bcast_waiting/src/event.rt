@@ -265,19 +265,25 @@ impl<I: Copy + Eq + Indexed, N: Notice, A: Allocator> Event<I, N, A> {
         ensures refused { OnErr result (M.refused maker.old maker.new) }
     {
         match self.slots.find(id) {
-            Some(position) => {
-                if position >= self.told_end {
-                    return self.slots.renew(position, maker);
-                }
+            Some(position) if position >= self.told_end => self.slots.renew(position, maker),
+            _ => {
                 let notice = maker.make()?;
-                self.consume(id);
-                self.join(id, notice);
-            }
-            None => {
-                let notice = maker.make()?;
-                self.join(id, notice);
+                self.list_last(id, notice);
+                Ok(())
             }
         }
-        Ok(())
+    }
+
+    // Lists a listener that is told or not listed, last and untold. In a function of its own, so
+    // that less is compiled into each poll.
+    #[inline(never)]
+    fn list_last(&mut self, id: I, notice: N)
+        requires room { I.number id < self.old.room }
+        requires not_untold { is_in I.eq id (untold_ids self.old.listeners) ≡ false }
+        ensures { self.new
+            ≡ record self.old { listeners = wait_again I.eq id self.old.listeners } }
+    {
+        self.consume(id);
+        self.join(id, notice);
     }
 }

@@ -3,6 +3,7 @@ ghost use Rattle.std.specs.Prelude.{◌≡◌, ◌⊎◌, ◌+◌, ◌<◌, true
 ghost use Rattle.bcast_model.specs.Receiving.{is_empty_reply};
 
 use super::Parts;
+use crate::receive_poll::ReceivePoll;
 use bcast_model::error::TryRecvError;
 use bcast_model::listener::Kind;
 use bcast_queue::Counter;
@@ -12,12 +13,13 @@ use std::ops::Range;
 
 impl<T: Clone, N: Notice, A: Allocator + Copy> Parts<T, N, A> {
     ghost use Rattle.bcast_model.specs.Words.{IsValidView, IsReceivedBy, receive, receive_poll};
-    ghost use Rattle.bcast_model.specs.Words.{skipped_count, skipped_to, settle, sets, cursor_of};
+    ghost use Rattle.bcast_model.specs.Words.{skipped_to, settle, sets, cursor_of};
     ghost use Rattle.bcast_model.specs.Words.{kept_at, try_recv_reply, IsOwed, with_cursor};
     ghost use Rattle.bcast_model.specs.Words.{pair_answered, tell_if_ready};
     ghost use Rattle.bcast_core.specs.Parts.{Does};
     ghost use Rattle.bcast_core.specs.Parts.{tries_by};
     ghost use Rattle.bcast_core.specs.Parts.{finds_nothing};
+    ghost use Rattle.bcast_core.specs.Polls.{reads_at, skips_of};
     ghost use Rattle.bcast_model.specs.declared.run.Call.TheVariants as call;
     ghost use Rattle.bcast_model.specs.declared.run.Reply.TheVariants as reply;
 
@@ -77,15 +79,24 @@ impl<T: Clone, N: Notice, A: Allocator + Copy> Parts<T, N, A> {
         }
     }
 
-    /// Where the receiver reads on that skips what it missed, and how many messages those are.
-    pub fn skipped_to(&self, key: usize) -> (Option<u64>, u64)
-        ensures at { result.0 ≡ skipped_to self.now.front (cursor_of self.now.control key) }
-        ensures skips { result.1 ≡ skipped_count self.now.front (cursor_of self.now.control key) }
+    /// Where a receive that waits reads: at the receiver's cursor, or, if it skips what was missed,
+    /// no lower than the front. Beside it how many messages it skips.
+    #[inline(always)]
+    pub fn reads_at(&self, poll: ReceivePoll, key: usize) -> (Option<u64>, u64)
+        ensures at { result.0 ≡ reads_at poll self.now key }
+        ensures skips { result.1 ≡ skips_of poll self.now key }
     {
-        let front = self.front();
-        match self.cursor(key) {
-            Some(cursor) => (Some(cursor.max(front)), front.saturating_sub(cursor)),
-            None => (None, 0),
+        let at = self.cursor(key);
+        match poll {
+            ReceivePoll::Future => (at, 0),
+            ReceivePoll::Recv => (at, 0),
+            ReceivePoll::Next => {
+                let front = self.front();
+                match at {
+                    Some(cursor) => (Some(cursor.max(front)), front.saturating_sub(cursor)),
+                    None => (None, 0),
+                }
+            }
         }
     }
 

@@ -1,68 +1,21 @@
 //! Receiving by a future or a stream, which wait if there is nothing.
-ghost use Rattle.std.specs.Prelude.{◌≡◌, ◌+◌, true, false, Ok, Err, IfOk, IfErr, OnErr, IsOk};
-ghost use Rattle.bcast_model.specs.Words.{NoClone, Answers, stream_of, must_wait};
-ghost use Rattle.bcast_model.specs.Receiving;
+ghost use Rattle.std.specs.Prelude.{◌≡◌, ◌+◌, true, false, IfOk, OnErr, IsOk};
+ghost use Rattle.bcast_model.specs.Words.{NoClone, Answers, stream_of};
+ghost use Rattle.bcast_core.specs.Parts.{finds_nothing, tries_by};
+ghost use Rattle.bcast_core.specs.Polls.{kind_of, call_of, reply_of};
 ghost use Rattle.bcast_core.specs.Tries.{tries_of};
 ghost use Rattle.bcast_model.specs.declared.run.Call.TheVariants as call;
 ghost use Rattle.bcast_model.specs.declared.run.Reply.TheVariants as reply;
 
 use super::Inner;
-use bcast_model::error::{RecvError, TryRecvError};
+use crate::receive_poll::{ReceivePoll, Received};
+use bcast_model::error::RecvError;
 use bcast_model::listener::Kind;
 use bcast_queue::{Counter, Steps};
 use bcast_waiting::notice::{Given, MakesNotice, Notice, Refused};
 use futures::task::Poll;
 use std::alloc::{AllocError, Allocator};
 use std::sync::ledger::Ledger;
-
-// What `try_recv` answered, as a future's answer.
-#[inline(always)]
-fn future_reply<T: Drop>(
-    received: Result<Result<T, TryRecvError>, AllocError>,
-) -> Result<Poll<Result<T, RecvError>>, AllocError>
-    ensures ok { IfOk received (λ answer. result ≡ Ok (Receiving.future_reply answer)) }
-    ensures err { IfErr received (λ error. result ≡ Err error) }
-{
-    match received? {
-        Ok(msg) => Ok(Poll::Ready(Ok(msg))),
-        Err(TryRecvError::Overflowed(n)) => Ok(Poll::Ready(Err(RecvError::Overflowed(n)))),
-        Err(TryRecvError::Closed) => Ok(Poll::Ready(Err(RecvError::Closed))),
-        Err(TryRecvError::Empty) => Ok(Poll::Pending),
-    }
-}
-
-// The same as the answer of `poll_recv`.
-#[inline(always)]
-fn stream_reply<T: Drop>(
-    received: Result<Result<T, TryRecvError>, AllocError>,
-) -> Result<Poll<Option<Result<T, RecvError>>>, AllocError>
-    ensures ok { IfOk received (λ answer. result ≡ Ok (Receiving.stream_reply answer)) }
-    ensures err { IfErr received (λ error. result ≡ Err error) }
-{
-    match received? {
-        Ok(msg) => Ok(Poll::Ready(Some(Ok(msg)))),
-        Err(TryRecvError::Overflowed(n)) => Ok(Poll::Ready(Some(Err(RecvError::Overflowed(n))))),
-        Err(TryRecvError::Closed) => Ok(Poll::Ready(None)),
-        Err(TryRecvError::Empty) => Ok(Poll::Pending),
-    }
-}
-
-// The same as the answer of `poll_next`, if so many messages were skipped.
-#[inline(always)]
-fn next_reply<T: Drop>(
-    skips: u64,
-    received: Result<Result<T, TryRecvError>, AllocError>,
-) -> Result<Poll<Option<(T, u64)>>, AllocError>
-    ensures ok { IfOk received (λ answer. result ≡ Ok (Receiving.next_reply skips answer)) }
-    ensures err { IfErr received (λ error. result ≡ Err error) }
-{
-    match received? {
-        Ok(msg) => Ok(Poll::Ready(Some((msg, skips)))),
-        Err(TryRecvError::Overflowed(_)) => Ok(Poll::Ready(None)),
-        Err(TryRecvError::Closed) => Ok(Poll::Ready(None)),
-        Err(TryRecvError::Empty) => Ok(Poll::Pending),
-    }
-}
 
 impl<T: Clone, N: Notice, A: Allocator + Copy> Inner<T, N, A> {
     /// Receives as `try_recv` does, by a future. If there is nothing it waits: `notice` is told
@@ -85,37 +38,10 @@ impl<T: Clone, N: Notice, A: Allocator + Copy> Inner<T, N, A> {
         ensures sure { ((msg : T) → T.is_infallible msg) → IsOk result }
         ensures steps { steps.new ≡ steps.old + 1 }
     {
-        match self.poll_future_by(key, &mut Given::new(notice), steps) {
-            Ok(answer) => answer,
+        match self.poll_receive(ReceivePoll::Future, key, &mut Given::new(notice), steps) {
+            Ok(received) => received.of_future(),
             Err(_) => unreachable!(),
         }
-    }
-
-    // The same with what makes the notice, if the receive must wait. `Refused`: no notice was made,
-    // and nothing changed.
-    #[inline(always)]
-    pub(crate) fn poll_future_by<C: Counter, M: MakesNotice<N>>(
-        &mut self,
-        key: usize,
-        maker: &mut M,
-        steps: &mut C,
-    ) -> Result<Result<Poll<Result<T, RecvError>>, AllocError>, Refused>
-        ensures answers { IfOk result (λ answer. Answers T.is_clone self.old (call.PollFuture key)
-            (reply.PollFuture answer) self.new) }
-        ensures sure { ((msg : T) → T.is_infallible msg) → IfOk result IsOk }
-
-        ensures made { IfOk result (λ answer. must_wait (reply.PollFuture answer) ≡ true
-            → M.made maker.old maker.new) }
-        ensures idle { IfOk result (λ answer. must_wait (reply.PollFuture answer) ≡ false
-            → maker.new ≡ maker.old) }
-        ensures same { OnErr result (self.new ≡ self.old) }
-        ensures refused { OnErr result (M.refused maker.old maker.new) }
-
-        ensures steps { C.counts ≡ true → C.total steps.new ≡ C.total steps.old + 1 }
-    {
-        let at = self.parts.cursor(key);
-        let received = self.parts.poll(key, Kind::Future, at, maker, steps)?;
-        Ok(future_reply(received))
     }
 
     /// Receives as `try_recv` does, by the stream. `Ready(None)` says that everything was read and
@@ -138,38 +64,10 @@ impl<T: Clone, N: Notice, A: Allocator + Copy> Inner<T, N, A> {
         ensures sure { ((msg : T) → T.is_infallible msg) → IsOk result }
         ensures steps { steps.new ≡ steps.old + tries_of self.old.control (stream_of key) }
     {
-        match self.poll_recv_by(key, &mut Given::new(notice), steps) {
-            Ok(answer) => answer,
+        match self.poll_receive(ReceivePoll::Recv, key, &mut Given::new(notice), steps) {
+            Ok(received) => received.of_recv(),
             Err(_) => unreachable!(),
         }
-    }
-
-    // The same with what makes the notice, if the receive must wait. `Refused`: no notice was made,
-    // and nothing changed.
-    #[inline(always)]
-    pub(crate) fn poll_recv_by<C: Counter, M: MakesNotice<N>>(
-        &mut self,
-        key: usize,
-        maker: &mut M,
-        steps: &mut C,
-    ) -> Result<Result<Poll<Option<Result<T, RecvError>>>, AllocError>, Refused>
-        ensures answers { IfOk result (λ answer. Answers T.is_clone self.old (call.PollRecv key)
-            (reply.PollRecv answer) self.new) }
-        ensures sure { ((msg : T) → T.is_infallible msg) → IfOk result IsOk }
-
-        ensures made { IfOk result (λ answer. must_wait (reply.PollRecv answer) ≡ true
-            → M.made maker.old maker.new) }
-        ensures idle { IfOk result (λ answer. must_wait (reply.PollRecv answer) ≡ false
-            → maker.new ≡ maker.old) }
-        ensures same { OnErr result (self.new ≡ self.old) }
-        ensures refused { OnErr result (M.refused maker.old maker.new) }
-
-        ensures steps { C.counts ≡ true → C.total steps.new
-            ≡ C.total steps.old + tries_of self.old.control (stream_of key) }
-    {
-        let at = self.parts.cursor(key);
-        let received = self.parts.poll(key, Kind::Stream, at, maker, steps)?;
-        Ok(stream_reply(received))
     }
 
     /// The same, but what the receiver missed is skipped in this call: the number beside the
@@ -191,38 +89,43 @@ impl<T: Clone, N: Notice, A: Allocator + Copy> Inner<T, N, A> {
         ensures sure { ((msg : T) → T.is_infallible msg) → IsOk result }
         ensures steps { steps.new ≡ steps.old + tries_of self.old.control (stream_of key) }
     {
-        match self.poll_next_by(key, &mut Given::new(notice), steps) {
-            Ok(answer) => answer,
+        match self.poll_receive(ReceivePoll::Next, key, &mut Given::new(notice), steps) {
+            Ok(received) => received.of_next(),
             Err(_) => unreachable!(),
         }
     }
 
-    // The same with what makes the notice, if the receive must wait. `Refused`: no notice was made,
-    // and nothing changed.
+    /// Any of the three receives that wait, with what makes the notice if it must wait.
+    ///
+    /// # Errors
+    ///
+    /// `Refused`: no notice was made, and nothing changed.
     #[inline(always)]
-    pub(crate) fn poll_next_by<C: Counter, M: MakesNotice<N>>(
+    pub(crate) fn poll_receive<C: Counter, M: MakesNotice<N>>(
         &mut self,
+        poll: ReceivePoll,
         key: usize,
         maker: &mut M,
         steps: &mut C,
-    ) -> Result<Result<Poll<Option<(T, u64)>>, AllocError>, Refused>
-        ensures answers { IfOk result (λ answer. Answers T.is_clone self.old (call.PollNext key)
-            (reply.PollNext answer) self.new) }
-        ensures sure { ((msg : T) → T.is_infallible msg) → IfOk result IsOk }
+    ) -> Result<Received<T>, Refused>
+        ensures answers { IfOk result (λ received. Answers T.is_clone self.old (call_of poll key)
+            (reply_of poll received) self.new) }
+        ensures sure { ((msg : T) → T.is_infallible msg)
+            → IfOk result (λ received. IsOk received.found) }
 
-        ensures made { IfOk result (λ answer. must_wait (reply.PollNext answer) ≡ true
+        ensures made { IfOk result (λ received. finds_nothing received.found ≡ true
             → M.made maker.old maker.new) }
-        ensures idle { IfOk result (λ answer. must_wait (reply.PollNext answer) ≡ false
+        ensures idle { IfOk result (λ received. finds_nothing received.found ≡ false
             → maker.new ≡ maker.old) }
         ensures same { OnErr result (self.new ≡ self.old) }
         ensures refused { OnErr result (M.refused maker.old maker.new) }
 
-        ensures steps { C.counts ≡ true → C.total steps.new
-            ≡ C.total steps.old + tries_of self.old.control (stream_of key) }
+        ensures steps { C.counts ≡ true → C.total steps.new ≡ C.total steps.old
+            + tries_by (kind_of poll) self.old.control (key, kind_of poll) }
     {
-        let (at, skips) = self.parts.skipped_to(key);
-        let received = self.parts.poll(key, Kind::Stream, at, maker, steps)?;
-        Ok(next_reply(skips, received))
+        let (at, skips) = self.parts.reads_at(poll, key);
+        let found = self.parts.poll(key, poll.kind(), at, maker, steps)?;
+        Ok(Received { found, skips })
     }
 }
 

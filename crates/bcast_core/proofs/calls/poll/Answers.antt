@@ -1,9 +1,28 @@
--- What a poll is answered is possible.
-use Rattle.std.proofs.Common.{refl, rules, arith}
-use Rattle.std.proofs.lemmas.Grind.{common_steps}
+-- What a poll returns is possible, and a receive makes a notice where it found nothing.
+use Rattle.std.proofs.Common.{◌∙◌, sym, ap, subst, refl, rules}
+use Rattle.bcast_model.specs.Words.{Answers, must_wait}
 use Rattle.bcast_model.proofs.Answers.{possible}
-use Rattle.bcast_core.proofs.Accessors.{possible_if_made}
+use Rattle.bcast_core.specs.Polls.{call_of}
+use Rattle.bcast_core.proofs.Accessors.{named, possible_if_made}
+use Rattle.bcast_core.proofs.ReceivePolls.{reply_waits}
 use Rattle.bcast_core.proofs.calls.poll.Goals as goal
+
+pub returns-in-Ok-poll_receive-clause-answers : goal.returns-in-Ok-poll_receive-clause-answers
+returns-in-Ok-poll_receive-clause-answers g c =
+    named c.in-Ok.ensures.of
+    (subst (λ r. Answers g.T.Clone.is_clone c.args.inner.now (call_of c.in-Ok.poll c.in-Ok.key) r c.poll_receive.new.self) (sym c.reply.ensures)
+    c.in-Ok-poll_receive.ensures.answers)
+
+pub returns-in-Ok-poll_receive-clause-possible : goal.returns-in-Ok-poll_receive-clause-possible
+returns-in-Ok-poll_receive-clause-possible g c = possible refl (returns-in-Ok-poll_receive-clause-answers g c)
+
+pub returns-in-Ok-poll_receive-clause-made : goal.returns-in-Ok-poll_receive-clause-made
+returns-in-Ok-poll_receive-clause-made g c waits =
+    c.in-Ok-poll_receive.ensures.made (sym (reply_waits c.in-Ok.poll c.in-Ok-poll_receive.received) ∙ ap must_wait (sym c.reply.ensures) ∙ waits)
+
+pub returns-in-Ok-poll_receive-clause-idle : goal.returns-in-Ok-poll_receive-clause-idle
+returns-in-Ok-poll_receive-clause-idle g c ready =
+    c.in-Ok-poll_receive.ensures.idle (sym (reply_waits c.in-Ok.poll c.in-Ok-poll_receive.received) ∙ ap must_wait (sym c.reply.ensures) ∙ ready)
 
 pub returns-in-PollSend-clause-answers : goal.returns-in-PollSend-clause-answers
 returns-in-PollSend-clause-answers g c = search rules
@@ -11,23 +30,8 @@ returns-in-PollSend-clause-answers g c = search rules
 pub returns-in-PollSend-clause-possible : goal.returns-in-PollSend-clause-possible
 returns-in-PollSend-clause-possible g c = possible_if_made _ _ _ _ c.map_err.result (returns-in-PollSend-clause-answers g c)
 
-pub returns-in-PollFuture-clause-answers : goal.returns-in-PollFuture-clause-answers
-returns-in-PollFuture-clause-answers g c = grind (arith, common_steps)
-
-pub returns-in-PollFuture-clause-possible : goal.returns-in-PollFuture-clause-possible
-returns-in-PollFuture-clause-possible g c = possible_if_made _ _ _ _ c.map_err-in-PollFuture.result (returns-in-PollFuture-clause-answers g c)
-
-pub returns-in-PollRecv-clause-answers : goal.returns-in-PollRecv-clause-answers
-returns-in-PollRecv-clause-answers g c = grind (arith, common_steps)
-
-pub returns-in-PollRecv-clause-possible : goal.returns-in-PollRecv-clause-possible
-returns-in-PollRecv-clause-possible g c = possible_if_made _ _ _ _ c.map_err-in-PollRecv.result (returns-in-PollRecv-clause-answers g c)
-
-pub returns-in-PollNext-clause-answers : goal.returns-in-PollNext-clause-answers
-returns-in-PollNext-clause-answers g c = grind (arith, common_steps)
-
-pub returns-in-PollNext-clause-possible : goal.returns-in-PollNext-clause-possible
-returns-in-PollNext-clause-possible g c = possible_if_made _ _ _ _ c.map_err-in-PollNext.result (returns-in-PollNext-clause-answers g c)
+pub returns-in_default-clause-answers : goal.returns-in_default-clause-answers
+returns-in_default-clause-answers g c = named (sym c.in-Err.ensures.other.0) c.make_at_once.ensures.answers
 
 pub returns-in_default-clause-possible : goal.returns-in_default-clause-possible
-returns-in_default-clause-possible g c = possible refl c.make_at_once.ensures.answers
+returns-in_default-clause-possible g c = possible refl (returns-in_default-clause-answers g c)

@@ -1,0 +1,57 @@
+-- The four polls, and what the three receives among them differ in. No public clause cites this
+-- module.
+use Rattle.std.specs.Prelude.{ℕ, Bool, true, false, Option}
+use Rattle.std.specs.Result.{result_map_both}
+use Rattle.bcast_model.specs.declared.listener.Kind.{Kind}
+use Rattle.bcast_model.specs.declared.listener.Kind.TheVariants as kind
+use Rattle.bcast_model.specs.declared.run.Call.{Call}
+use Rattle.bcast_model.specs.declared.run.Call.TheVariants as call
+use Rattle.bcast_model.specs.declared.run.Reply.{Reply}
+use Rattle.bcast_model.specs.declared.run.Reply.TheVariants as reply
+use Rattle.bcast_model.specs.Words.{View, cursor_of, skipped_count, skipped_to}
+use Rattle.bcast_model.specs.Words.{future_reply, stream_reply, next_reply}
+use Rattle.bcast_core.specs.declared.receive_poll.ReceivePoll.{ReceivePoll}
+use Rattle.bcast_core.specs.declared.receive_poll.ReceivePoll.TheVariants as poll
+use Rattle.bcast_core.specs.declared.receive_poll.Received.{Received}
+
+-- a future listens as one, and the two others as the stream
+abbrev pub kind_of : ReceivePoll → Kind
+kind_of poll.Future = kind.Future
+kind_of poll.Recv = kind.Stream
+kind_of poll.Next = kind.Stream
+
+module _ {T : Type 0} where
+  -- one of the three receives that wait
+  abbrev pub is_receive_poll : Call T → Bool
+  is_receive_poll (call.PollFuture key) = true
+  is_receive_poll (call.PollRecv key) = true
+  is_receive_poll (call.PollNext key) = true
+  is_receive_poll other = false
+
+  -- one of the four polls, which alone may leave a notice
+  abbrev pub is_poll_call : Call T → Bool
+  is_poll_call (call.PollSend place msg) = true
+  is_poll_call other = is_receive_poll other
+
+  abbrev pub call_of : ReceivePoll → ℕ → Call T
+  call_of poll.Future key = call.PollFuture key
+  call_of poll.Recv key = call.PollRecv key
+  call_of poll.Next key = call.PollNext key
+
+  -- where it reads: `poll_next` no lower than the front
+  abbrev pub reads_at : ReceivePoll → View T → ℕ → Option ℕ
+  reads_at poll.Future v key = cursor_of v.control key
+  reads_at poll.Recv v key = cursor_of v.control key
+  reads_at poll.Next v key = skipped_to v.front (cursor_of v.control key)
+
+  -- how many messages it skips before
+  abbrev pub skips_of : ReceivePoll → View T → ℕ → ℕ
+  skips_of poll.Future v key = 0
+  skips_of poll.Recv v key = 0
+  skips_of poll.Next v key = skipped_count v.front (cursor_of v.control key)
+
+  -- its reply, if this was found
+  abbrev pub reply_of : ReceivePoll → Received T → Reply T
+  reply_of poll.Future r = reply.PollFuture (result_map_both future_reply (λ e. e) r.found)
+  reply_of poll.Recv r = reply.PollRecv (result_map_both stream_reply (λ e. e) r.found)
+  reply_of poll.Next r = reply.PollNext (result_map_both (next_reply r.skips) (λ e. e) r.found)

@@ -1,0 +1,130 @@
+//! The three receives that wait: what they differ in, and how each returns what was found.
+ghost use Rattle.std.specs.Prelude.{◌≡◌, false, IfOk, IfErr};
+ghost use Rattle.bcast_core.specs.Polls.{kind_of, call_of, reply_of, is_receive_poll};
+ghost use Rattle.bcast_core.specs.declared.receive_poll.ReceivePoll.TheVariants as poll;
+ghost use Rattle.bcast_model.specs.declared.run.Reply.TheVariants as reply;
+
+use bcast_model::error::{RecvError, TryRecvError};
+use bcast_model::listener::Kind;
+use bcast_model::run::{Call, Reply};
+use futures::task::Poll;
+use std::alloc::AllocError;
+
+/// Which call a receive that waits is.
+#[derive(Clone, Copy)]
+pub enum ReceivePoll {
+    /// `poll_future`.
+    Future,
+    /// `poll_recv`.
+    Recv,
+    /// `poll_next`, which skips what the receiver missed.
+    Next,
+}
+
+impl ReceivePoll {
+    /// Which listener of the receiver waits.
+    #[inline(always)]
+    pub fn kind(self) -> Kind
+        ensures { result ≡ kind_of self }
+    {
+        match self {
+            ReceivePoll::Future => Kind::Future,
+            ReceivePoll::Recv => Kind::Stream,
+            ReceivePoll::Next => Kind::Stream,
+        }
+    }
+
+    /// Which of the three this call is, and the key of its receiver.
+    ///
+    /// # Errors
+    ///
+    /// The call is returned if it is none of them.
+    #[inline(always)]
+    pub fn of<T>(call: Call<T>) -> Result<(ReceivePoll, usize), Call<T>>
+        ensures of { IfOk result (λ of. call ≡ call_of of.0 of.1) }
+        ensures other { IfErr result (λ back. (back ≡ call) × (is_receive_poll call ≡ false)) }
+    {
+        match call {
+            Call::PollFuture(key) => Ok((ReceivePoll::Future, key)),
+            Call::PollRecv(key) => Ok((ReceivePoll::Recv, key)),
+            Call::PollNext(key) => Ok((ReceivePoll::Next, key)),
+            call => Err(call),
+        }
+    }
+
+    /// The call for the receiver of this key.
+    #[inline(always)]
+    pub fn call<T>(self, key: usize) -> Call<T>
+        ensures { result ≡ call_of self key }
+    {
+        match self {
+            ReceivePoll::Future => Call::PollFuture(key),
+            ReceivePoll::Recv => Call::PollRecv(key),
+            ReceivePoll::Next => Call::PollNext(key),
+        }
+    }
+}
+
+/// What a receive found, as `try_recv` returns it, and how many messages it skipped before.
+#[derive(Drop)]
+pub struct Received<T> {
+    /// The message, why there is none, or that memory for a clone was refused.
+    pub found: Result<Result<T, TryRecvError>, AllocError>,
+    /// How many messages were skipped.
+    pub skips: u64,
+}
+
+impl<T: Drop> Received<T> {
+    /// The reply of the call that it is.
+    #[inline(always)]
+    pub fn reply(self, poll: ReceivePoll) -> Reply<T>
+        ensures { result ≡ reply_of poll self }
+    {
+        match poll {
+            ReceivePoll::Future => Reply::PollFuture(self.of_future()),
+            ReceivePoll::Recv => Reply::PollRecv(self.of_recv()),
+            ReceivePoll::Next => Reply::PollNext(self.of_next()),
+        }
+    }
+
+    /// What `poll_future` returns.
+    #[inline(always)]
+    pub fn of_future(self) -> Result<Poll<Result<T, RecvError>>, AllocError>
+        ensures { reply.PollFuture result ≡ reply_of poll.Future self }
+    {
+        match self.found? {
+            Ok(msg) => Ok(Poll::Ready(Ok(msg))),
+            Err(TryRecvError::Overflowed(n)) => Ok(Poll::Ready(Err(RecvError::Overflowed(n)))),
+            Err(TryRecvError::Closed) => Ok(Poll::Ready(Err(RecvError::Closed))),
+            Err(TryRecvError::Empty) => Ok(Poll::Pending),
+        }
+    }
+
+    /// What `poll_recv` returns.
+    #[inline(always)]
+    pub fn of_recv(self) -> Result<Poll<Option<Result<T, RecvError>>>, AllocError>
+        ensures { reply.PollRecv result ≡ reply_of poll.Recv self }
+    {
+        match self.found? {
+            Ok(msg) => Ok(Poll::Ready(Some(Ok(msg)))),
+            Err(TryRecvError::Overflowed(n)) => {
+                Ok(Poll::Ready(Some(Err(RecvError::Overflowed(n)))))
+            }
+            Err(TryRecvError::Closed) => Ok(Poll::Ready(None)),
+            Err(TryRecvError::Empty) => Ok(Poll::Pending),
+        }
+    }
+
+    /// What `poll_next` returns.
+    #[inline(always)]
+    pub fn of_next(self) -> Result<Poll<Option<(T, u64)>>, AllocError>
+        ensures { reply.PollNext result ≡ reply_of poll.Next self }
+    {
+        match self.found? {
+            Ok(msg) => Ok(Poll::Ready(Some((msg, self.skips)))),
+            Err(TryRecvError::Overflowed(_)) => Ok(Poll::Ready(None)),
+            Err(TryRecvError::Closed) => Ok(Poll::Ready(None)),
+            Err(TryRecvError::Empty) => Ok(Poll::Pending),
+        }
+    }
+}
