@@ -1,4 +1,4 @@
--- A step in what is seen answers in each valid history that shows it.
+-- A step from view to view keeps each valid history with this view valid.
 use Rattle.std.proofs.Common.{◌≡◌, Bool, ◌&&◌, refl, sym, ap, ◌∙◌, subst}
 use Rattle.std.specs.FinMap.{len}
 use Rattle.bcast_model.specs.declared.run.Call.{Call}
@@ -47,7 +47,7 @@ module _ {T : Type 0} where
         valid = λ h valid is. valid-next is_clone h c r valid (within h is) (legal h is);
       }
 
-  -- the same, where what is seen goes by another name
+  -- the same, if the view has another name
   pub answers_as : {is_clone : T → T → Type 0} {was old new : View T} {c : Call T} {r : Reply T} → was ≡ old → HasRange c (len new.control.cursors) → IsShown was → Steps is_clone was c r new → Answers is_clone old c r new
   answers_as {is_clone = is_clone} {new = new} {c = c} {r = r} e range shown s = subst (λ v. Answers is_clone v c r new) e (answers range shown s)
 

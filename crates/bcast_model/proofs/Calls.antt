@@ -1,4 +1,4 @@
--- What each call does to what is seen keeps a history valid.
+-- What each call does to the view keeps a history valid.
 use Rattle.std.proofs.Common.{inr, ℕ, ◌==◌, true, not, Option, is_some, refl}
 use Rattle.std.specs.FinMap.{len}
 use Rattle.bcast_model.specs.declared.run.Call.{Call}

@@ -9,7 +9,7 @@ use Rattle.bcast_model.specs.declared.error.TrySendError.TheVariants as unsent
 use Rattle.bcast_model.specs.Words.{clone_receiver, end_call, receive, has_no_receiver, is_full}
 use Rattle.bcast_model.specs.Words.{try_broadcast_reply, handed_back}
 
--- a value that is one of two, where the test was computed
+-- a value that is one of two, if the test was computed
 pub test_is : {A : Type 0} (P : A → Type 0) (b : Bool) (x y : A) → (b ≡ true → P x) → (b ≡ false → P y) → P (cond b x y)
 test_is P true x y holds fails = holds refl
 test_is P false x y holds fails = fails refl
@@ -28,7 +28,7 @@ pub uncloned : (c : Control) (cursor : Option ℕ) → clone_receiver c cursor N
 uncloned c None = refl
 uncloned c (Some cursor) = refl
 
--- ---- closing and accepting leave the capacity and the cursors
+-- ---- closing and accepting don't change the capacity and the cursors
 pub capacity-close : (c : Control) → (close c).capacity ≡ c.capacity
 capacity-close c = close_is (λ now. now.capacity ≡ c.capacity) c (λ _. refl) (λ _. refl)
 
@@ -46,7 +46,7 @@ cursors-accepting c end = accepting_is (λ now. now.cursors ≡ c.cursors) c end
 
 -- ---- receiving and telling
 module _ {T : Type 0} (v : View T) where
-  -- a receive leaves who lags at the front, goes past a message, or finds none
+  -- a receive moves a cursor that lags to the front, goes past a message, or finds none
   pub receive_is : (P : Control → Type 0) (key cursor : ℕ)
       → (cursor < v.front → P (with_cursor v.control key v.front)) → (v.front ≤ cursor → cursor < v.end → P (with_cursor v.control key (cursor + 1))) → (v.front ≤ cursor → v.end ≤ cursor → P v.control)
       → P (receive v key (Some cursor))
@@ -55,7 +55,7 @@ module _ {T : Type 0} (v : View T) where
       (λ e. lags (grind (arith, common_steps, e)))
       (λ e. test_is P (nat_lt cursor v.end) (with_cursor v.control key (cursor + 1)) v.control (λ f. takes (grind (arith, common_steps, e)) (grind (arith, common_steps, f))) (λ f. none (grind (arith, common_steps, e)) (grind (arith, common_steps, f))))
 
-  -- ---- a receive leaves both lists of who waits
+  -- ---- a receive changes neither list of listeners
   pub waiting_sends-receive : (key : ℕ) (cursor : Option ℕ) → (receive v key cursor).waiting_sends ≡ v.control.waiting_sends
   waiting_sends-receive key None = refl
   waiting_sends-receive key (Some cursor) = receive_is (λ now. now.waiting_sends ≡ v.control.waiting_sends) key cursor (λ _. refl) (λ _ _. refl) (λ _ _. refl)

@@ -12,7 +12,7 @@ use Rattle.bcast_model.specs.Words.{skipped_to, skipped_count, future_reply, str
 
 module _ {T : Type 0} where
   module _ (p q : T → T → Type 0) (wider : (msg given : T) → p msg given → IsGiven q msg given) where
-    -- a receive that p allows is allowed by q, where q allows each clone that p does, or it is the message itself
+    -- a receive legal by p is legal by q, if each clone by p is one by q, or the message itself
     received_wider : {X : Type 0} (v : View T) (key : ℕ) (cursor : Option ℕ) (variant : Result X AllocError → Reply T) (word : Result T TryRecvError → X) (r : Reply T) → IsReceivedBy p v key cursor variant word r → IsReceivedBy q v key cursor variant word r
     received_wider v key cursor variant word r legal = elim legal [
       | inl e ↦ inl e
@@ -37,11 +37,11 @@ module _ {T : Type 0} where
   pub answers_wider : {p q : T → T → Type 0} {old new : View T} {c : Call T} {r : Reply T} → ((msg given : T) → p msg given → IsGiven q msg given) → Answers p old c r new → Answers q old c r new
   answers_wider {p = p} {q = q} {old = old} {c = c} {r = r} wider a = record { shown = a.shown; legal = legal_wider p q wider old c r a.legal; represents = a.represents; valid = a.valid }
 
-  -- what gives no clones is so whatever a clone is
+  -- a receive that gives no clone is legal whatever a clone is
   pub answers_any : {q : T → T → Type 0} {old new : View T} {c : Call T} {r : Reply T} → Answers NoClone old c r new → Answers q old c r new
   answers_any a = answers_wider (λ msg given none. absurd none) a
 
-  -- where a clone equals its original, each message that is handed out is the message itself
+  -- if a clone equals its original, each message that is handed out is the message itself
   pub answers_exact : {p : T → T → Type 0} {old new : View T} {c : Call T} {r : Reply T} → ClonesEqual p → Answers p old c r new → Answers NoClone old c r new
   answers_exact equal a = answers_wider (λ msg given cloned. inl (equal msg given cloned)) a
 

@@ -1,4 +1,4 @@
--- What an answer gives a receiver, and where it leaves the receiver.
+-- What a reply gives a receiver, and its cursor afterwards.
 use Rattle.std.proofs.Common.{◌≡◌, ◌⊎◌, inl, inr, ℕ, ◌+◌, ◌-◌, ◌<◌, ◌≤◌, Bool, true, false, cond, List, [], ◌∷◌, ◌++◌, length, replicate, Option, Some, None, Ok, Err, Result, nat_lt, slice_get, refl, sym, ap, ◌∙◌, subst, arith, length-append}
 use Rattle.std.proofs.lemmas.Grind.{common_steps}
 use Rattle.std.proofs.lemmas.Option.{none-some, same_Some, slice_get_within}
@@ -15,7 +15,7 @@ use Rattle.bcast_model.proofs.DeliveryMaps.{inserted}
 use Rattle.bcast_model.proofs.DeliveryLists.{within_missed, within_given, past_end}
 
 module _ {T : Type 0} where
-  -- what a call hands out to the receiver `key`, whose cursor is this: numbered messages from the front on, or Nones before it
+  -- what a call gives the receiver `key` at this cursor: messages from the front on, None before it
   pub record Gives (is_clone : T → T → Type 0) (h : History T) (key cursor : ℕ) (new : Cursors) (entries : List (Option T)) : Type 0 where
     pub cursor_after : (get new key ≡ Some (cursor + length entries)) ⊎ ((get new key ≡ None) × (entries ≡ []))
     pub each : (index : ℕ) (msg : T) → slice_get entries index ≡ Some (Some msg) → IsSomeAnd (numbered h (cursor + index)) (λ accepted. IsGiven is_clone accepted msg)
@@ -66,14 +66,14 @@ module _ {T : Type 0} where
         ];
       }
 
-  -- ---- the answers of a receive
+  -- ---- the results of a receive
   abbrev pub entries_of : ℕ → Result T TryRecvError → List (Option T)
   entries_of skips (Ok msg) = replicate skips None ++ Some msg ∷ []
   entries_of skips (Err (unread.Overflowed n)) = replicate n None
   entries_of skips (Err unread.Empty) = []
   entries_of skips (Err unread.Closed) = []
 
-  -- the exact answer, or with a clone in place of the message
+  -- the exact result, or with a clone in place of the message
   abbrev pub IsAnswer : (T → T → Type 0) → Result T TryRecvError → Result T TryRecvError → Type 0
   IsAnswer is_clone exact answer = (answer ≡ exact) ⊎ ((msg : T) × (given : T) × (exact ≡ Ok msg) × is_clone msg given × (answer ≡ Ok given))
 

@@ -30,7 +30,7 @@ module _ {T : Type 0} (v : View T) where
         ] refl
       ] refl
 
-  -- a receive at the receiver's cursor, and one that goes on at the front
+  -- a receive at the receiver's cursor, and one that continues at the front
   rise_at : (receives : ℕ → Bool) (key : ℕ) (cursor : Option ℕ) → receives key ≡ true → get v.control.cursors key ≡ cursor → CursorsChange v.front v.end receives v.control.cursors (receive v key cursor).cursors
   rise_at receives key None reads is = stay refl
   rise_at receives key (Some cursor) reads is = rise_from receives key cursor cursor reads is (omega arith)

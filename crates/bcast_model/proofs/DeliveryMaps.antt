@@ -31,7 +31,7 @@ got_remove m key other =
       | false ↦ λ e. inl e
     ] there
 
--- ---- what leaves the cursors as they are
+-- ---- what doesn't change the cursors
 pub cursors-listens : (c : Control) (pair : Pair) (waits : Bool) → (listens c pair waits).cursors ≡ c.cursors
 cursors-listens c pair true = refl
 cursors-listens c pair false = refl
@@ -41,8 +41,8 @@ cursors-begin_send c None = refl
 cursors-begin_send c (Some place) = refl
 
 -- ---- how a call may change it
--- of a channel with this front and this end: the cursors stay, one that the call receives for rises,
--- one is made at the end or where another one stands, or one is gone
+-- of a channel with this front and this end: the cursors stay, that of the call's receiver rises,
+-- one is made at the end or at another one, or one is gone
 pub data CursorsChange (front end : ℕ) (receives : ℕ → Bool) (old new : Cursors) : Type 0 where
   stay : new ≡ old → CursorsChange front end receives old new
   rise : (key from to : ℕ) → receives key ≡ true → get old key ≡ Some from → from ≤ to → (to ≤ front) ⊎ (to ≤ end) → new ≡ insert old key to → CursorsChange front end receives old new
@@ -66,7 +66,7 @@ stands_or_left front end receives old new key cursor (make_where made other at f
 stands_or_left front end receives old new key cursor (leave other same) reads is =
     elim (got_remove old other key) [ inl e ↦ inl (ap (λ m. get m key) same ∙ e ∙ is) | inr e ↦ inr (ap (λ m. get m key) same ∙ e) ]
 
--- a receiver that stands after a call stands at the end, or one stood there or before it already
+-- a cursor after a call is at the end, or one was there or before it already
 pub record StoodBefore (front end : ℕ) (old : Cursors) (cursor : ℕ) : Type 0 where
   pub key : ℕ
   pub before : ℕ

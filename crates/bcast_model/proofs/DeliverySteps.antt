@@ -24,7 +24,7 @@ skipping : (cursor front : ℕ) → (front - cursor ≡ 0) ⊎ (cursor + (front 
 skipping cursor front = elim (cases_lt front cursor) [ inl e ↦ inl (omega (arith, e)) | inr e ↦ inr (omega (arith, e)) ]
 
 module _ {T : Type 0} where
-  -- ---- how the calls spell their answers
+  -- ---- how the calls make their replies
   given_by-try_recv : (answer : Result T TryRecvError) → given_by (reply.TryRecv (Ok answer)) ≡ entries_of 0 answer
   given_by-try_recv (Ok msg) = refl
   given_by-try_recv (Err (unread.Overflowed n)) = refl
@@ -81,7 +81,7 @@ module _ {T : Type 0} where
       subst (λ r. Gives is_clone h key cursor (cursors_after r) (given_by r)) (sym e)
       (rw (kept, none) (gives_nothing h key cursor h.control.cursors (inl is)))
 
-  -- what each receive gives the receiver that makes it: at its cursor, or going on at the front
+  -- what each receive gives the receiver that makes it: at its cursor, or from the front on
   gives_at_cursor : (is_clone : T → T → Type 0) (h : History T) (key cursor : ℕ) (cursors_after : Reply T → Cursors) (spelt : Result T TryRecvError → Reply T) (refused r : Reply T) → h.first ≤ h.floor → cursor_of h.control key ≡ Some cursor
       → ((answer : Result T TryRecvError) → cursors_after (spelt answer) ≡ (receive (view_of h) key (cursor_of h.control key)).cursors) → cursors_after refused ≡ h.control.cursors
       → ((answer : Result T TryRecvError) → given_by (spelt answer) ≡ entries_of 0 answer) → given_by refused ≡ []

@@ -18,7 +18,7 @@ use Rattle.bcast_model.proofs.Cases.{cursors-accepting, try_is}
 use Rattle.bcast_model.proofs.DeliveryLists.{past_end}
 use Rattle.bcast_model.proofs.Front.{IsBounded, front-le-end}
 
--- an effect drops no message, or so many from the front on while the receivers stay
+-- an effect drops no message, or some from the front on while the cursors stay
 pub data FloorChange {T : Type 0} (h : History T) (e : Effect T) (dropped : List ℕ) : Type 0 where
   stays : e.floor ≡ 0 → dropped ≡ [] → FloorChange h e dropped
   passes : (count : ℕ) → e.control.cursors ≡ h.control.cursors → e.floor ≡ front_number h + count → front_number h + count ≤ end_number h + length e.accepted → dropped ≡ range_with_len (front_number h) count → FloorChange h e dropped

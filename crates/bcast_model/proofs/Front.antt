@@ -1,4 +1,4 @@
--- The front among the floor, the end and the cursors.
+-- The front by the floor, the end and the cursors.
 use Rattle.std.proofs.Common.{◌≡◌, ℕ, ◌+◌, ◌-◌, ◌≤◌, length, max, Some, arith, length-drop}
 use Rattle.std.specs.FinMap.{values}
 use Rattle.bcast_model.specs.Words.{cursor_of, History, front_number, end_number, queue_of, IsValid}

@@ -1,4 +1,4 @@
--- What the steps of a call keep that accepts no message.
+-- What the steps of a call that accepts no message keep.
 use Rattle.std.proofs.Common.{◌≡◌, inl, inr, ℕ, ◌+◌, ◌^◌, ◌<◌, ◌≤◌, ◌==◌, ◌-◌, Bool, true, false, not, List, length, drop, ◌++◌, Some, [], refl, sym, ap, ◌∙◌, subst, arith, append-nil, length-append, length-drop}
 use Rattle.std.proofs.lemmas.Grind.{common_steps}
 use Rattle.std.specs.FinMap.{get, insert, len}
@@ -31,7 +31,7 @@ module _ {T : Type 0} (v : View T) (c : Control) where
     told = told;
   })
 
-  -- ---- who waits
+  -- ---- the lists of listeners
   pub kept_receives : (l : Listeners Pair) → AreReceives c.cursors c.closed v.end l → IsKept v c → IsKept v (record c { waiting_receives = l })
   kept_receives l r kept = record { sound = sound_receives v v.end c l r kept.sound; attended = kept.attended; fits = kept.fits; told = kept.told }
 
@@ -39,7 +39,7 @@ module _ {T : Type 0} (v : View T) (c : Control) where
   kept_sends l places w one kept = record { sound = sound_sends v v.end c l places w kept.sound; attended = kept.attended; fits = kept.fits; told = λ was. one (kept.told was) }
 
   -- ---- cursors
-  -- a receiver that goes to this message had not read all, or is new
+  -- a receiver that moves to this message had not read all, or is new
   pub kept_cursor : (key cursor : ℕ) → cursor ≤ v.end → IsNoLower v cursor → (get c.cursors key ≡ Some v.end → ⊥) → len (insert c.cursors key cursor) < 2 ^ 64 → IsKept v c → IsKept v (with_cursor c key cursor)
   kept_cursor key cursor high low apart few kept = record {
     sound = sound_cursor v v.end c key cursor high low apart few kept.sound;
@@ -79,7 +79,7 @@ module _ {T : Type 0} (v : View T) (valid : IsValidView v) where
     told = λ one. one;
   }
 
-  -- where the cursors stay, so do the messages
+  -- if the cursors stay, so do the messages
   pub queue_same : (c : Control) → c.cursors ≡ v.control.cursors → (settle v (sets c)).queue ≡ v.queue
   queue_same c e =
       let same_end : v.end + 0 ≡ v.end = omega arith in
@@ -87,7 +87,7 @@ module _ {T : Type 0} (v : View T) (valid : IsValidView v) where
       let none : v.front - v.front ≡ 0 = omega arith in
       ap (λ n. drop (n - v.front) (v.queue ++ [])) front ∙ ap (λ n. drop n (v.queue ++ [])) none ∙ append-nil v.queue
 
-  -- a call that changes only what stands beside the messages
+  -- a call that changes only the control
   keeps_control : (c : Control) (may : Bool) → IsSound v v.end c → IsAttended c.closed c.senders (len c.cursors) c.inactive v.end → length v.queue ≤ c.capacity → (may ≡ false → sends_are_ready (settle v (sets c)) ≡ true → OneIsTold c.waiting_sends) → KeepsValid v (sets c) may
   keeps_control c may s attended fits told =
       let e : v.end + 0 ≡ v.end = omega arith in
@@ -99,7 +99,7 @@ module _ {T : Type 0} (v : View T) (valid : IsValidView v) where
         told = told;
       }
 
-  -- a sender is told where sends are ready only afterwards
+  -- a sender is told if sends are ready only afterwards
   pub keeps_sets : (c : Control) → IsKept v c → KeepsValid v (sets c) (not (sends_are_ready v))
   keeps_sets c kept = keeps_control c (not (sends_are_ready v)) kept.sound kept.attended kept.fits (λ was _. kept.told (valid.wake_ups.sends (not_not (sends_are_ready v) was)))
 

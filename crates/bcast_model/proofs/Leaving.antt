@@ -1,4 +1,4 @@
--- What handles keep that leave.
+-- What calls by which handles leave keep.
 use Rattle.std.proofs.Common.{ℕ, ◌+◌, ◌-◌, ◌^◌, ◌<◌, ◌≤◌, ◌==◌, Option, Some, None, arith}
 use Rattle.std.proofs.lemmas.Grind.{common_steps}
 use Rattle.bcast_model.specs.Words.{abandon, Pair, same_pair, Control, close_if_deserted}

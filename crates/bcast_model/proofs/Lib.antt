@@ -1,4 +1,4 @@
--- the lists of who waits
+-- the lists of listeners
 pub mod Lists
 pub mod Listeners
 pub mod Tests
@@ -18,7 +18,7 @@ pub mod Receives
 pub mod Leaving
 pub mod Making
 pub mod Calls
--- histories and what is seen of them
+-- histories and their views
 pub mod Answers
 pub mod Steps
 pub mod Witness

@@ -1,4 +1,4 @@
--- What a call does to what is seen, it does to each valid history that shows it, and this stays valid.
+-- What a call does to a view it does to each valid history with this view, which stays valid.
 use Rattle.std.proofs.Common.{◌≡◌, ◌⊎◌, inl, inr, ℕ, ◌+◌, ◌-◌, ◌<◌, ◌≤◌, Bool, true, false, cond, ◌&&◌, ◌++◌, length, max, drop, refl, sym, ap, ◌∙◌, subst, arith, length-append}
 use Rattle.std.proofs.lemmas.List.{drop-drop, drop-append-le}
 use Rattle.std.proofs.lemmas.Bool.{cases_lt}
@@ -17,7 +17,7 @@ use Rattle.bcast_model.proofs.WaitingReceives.{Sleeps, AreReceives}
 use Rattle.bcast_model.proofs.Sound.{AreSizes, IsAttended, IsNoLower, IsSound}
 use Rattle.bcast_model.proofs.Views.{first_under, valid_view}
 
--- an effect that keeps a history valid, where a sender is told at the end of the call as it says
+-- an effect that keeps a history valid, if a sender is told at the end of the call as defined
 pub record KeepsValid {T : Type 0} (v : View T) (e : Effect T) (may : Bool) : Type 0 where
   pub floor : (e.floor ≡ 0) ⊎ (e.floor < v.end + length e.accepted)
   pub fits : length (settle v e).queue ≤ e.control.capacity
@@ -25,7 +25,7 @@ pub record KeepsValid {T : Type 0} (v : View T) (e : Effect T) (may : Bool) : Ty
   pub attended : IsAttended e.control.closed e.control.senders (len e.control.cursors) e.control.inactive (v.end + length e.accepted)
   pub told : may ≡ false → sends_are_ready (settle v e) ≡ true → OneIsTold e.control.waiting_sends
 
--- the parts make up all that is valid
+-- the parts together are what makes a history valid
 pub valid_control : (c : Control) (end : ℕ) → AreSizes c.capacity c.room (len c.cursors) c.senders c.inactive end → IsAttended c.closed c.senders (len c.cursors) c.inactive end
     → AreSends c.places c.waiting_sends → AreReceives c.cursors c.closed end c.waiting_receives → IsValidControl c end
 valid_control c end sizes attended sends receives = record {
@@ -53,7 +53,7 @@ module _ {T : Type 0} where
   pub same_view : (v w : View T) → v.front ≡ w.front → v.queue ≡ w.queue → v.end ≡ w.end → v.control ≡ w.control → v ≡ w
   same_view v w front queue end control = λ i. record { front = front i; queue = queue i; end = end i; control = control i }
 
-  -- no cursor falls under the least one
+  -- no cursor is under the least one
   rises : (v : View T) (e : Effect T) (may : Bool) → IsValidView v → KeepsValid v e may → least v.end (values v.control.cursors) ≤ least (v.end + length e.accepted) (values e.control.cursors)
   rises v e may valid keeps =
       let limit = least-le-limit v.end (values v.control.cursors) in
@@ -63,7 +63,7 @@ module _ {T : Type 0} where
         | inr a ↦ (let m = least-le-cursor v.end v.control.cursors a.0 a.1 a.2 in omega (arith, m, a.3))
       ])
 
-  -- a history without what is said of wake-ups
+  -- a history that is valid, wake-ups aside
   floor_raised : (h : History T) (e : Effect T) → IsValid h → (e.floor ≡ 0) ⊎ (e.floor < end_number h + length e.accepted) → (max h.floor e.floor ≡ h.first) ⊎ (max h.floor e.floor < end_number h + length e.accepted)
   floor_raised h e valid s = elim s [
     | inl p ↦ elim valid.floor_below [ inl m ↦ inl (omega arith) | inr m ↦ inr (omega arith) ]
@@ -126,7 +126,7 @@ module _ {T : Type 0} where
           };
         }
 
-    -- so it is valid after a sender was told as the call says
+    -- so it is valid after a sender was told as defined
     pub valid_told : IsValid (end_call may (remember h e))
     valid_told = tell_is IsValid may (remember h e)
         (λ _. valid_with (tell 1 e.control.waiting_sends) (sends_told e.control.places 1 e.control.waiting_sends keeps.sound.sends) (λ ready some. omega arith))

@@ -1,4 +1,4 @@
--- The laws of the lists of who waits.
+-- The laws of the lists of listeners.
 use Rattle.std.proofs.Common.{◌≡◌, ℕ, ◌+◌, ◌-◌, Bool, true, false, cond, [], ◌∷◌, ◌++◌, length, refl, ap, ◌∙◌, arith}
 use Rattle.std.proofs.lemmas.List.{take_at, take-append-le, drop-append-le}
 use Rattle.bcast_model.specs.Listeners.{Listeners, told_ids, untold_ids, is_in, without, join, consume, AreInOrder}

@@ -1,4 +1,4 @@
--- Lists of listeners: they stay in order, who is not told, and that one is told.
+-- Lists of listeners: they stay in order, which ones are not told, and that one is told.
 use Rattle.std.proofs.Common.{◌≡◌, ℕ, ◌+◌, ◌-◌, ◌<◌, ◌≤◌, Bool, true, false, cond, ◌||◌, List, [], ◌∷◌, ◌++◌, length, min, max, take, drop, refl, sym, ap, ◌∙◌, subst, arith, length-append}
 use Rattle.std.proofs.lemmas.List.{length-take, take-append-drop, drop_at, drop-append-le, drop_all}
 use Rattle.std.specs.List.{AllByRecursion}
@@ -65,7 +65,7 @@ module _ {A : Type 0} (same : A → A → Bool) (test : IsTest same) where
   pub told_some : (id : A) (l : Listeners A) → is_in same id (told_ids l) ≡ true → 1 ≤ l.told
   told_some id l h = let s = some same id (take l.told l.ids) h in omega (arith, length-take l.told l.ids)
 
-  -- ---- who is untold
+  -- ---- which ones are not told
   pub untold_tell : (P : A → Type 0) (n : ℕ) (l : Listeners A) → AllByRecursion P (untold_ids l) → AllByRecursion P (untold_ids (tell n l))
   untold_tell P n l a = all_later P l.told (max l.told (min n (length l.ids))) l.ids (omega arith) a
 
@@ -128,7 +128,7 @@ module _ {A : Type 0} (same : A → A → Bool) (test : IsTest same) where
     | false ↦ λ e h. let f = fewer id l o in let g : 1 ≤ l.told = one (omega arith) in rw e g
   ] refl
 
-  -- ---- who is left
+  -- ---- which ones are left
   pub abandon_ids : (id : A) (l : Listeners A) → (abandon same id l).ids ≡ without same id l.ids
   abandon_ids id l = elim (is_in same id (told_ids l)) as (λ b. (cond b (tell 1 (consume same id l)) (consume same id l)).ids ≡ without same id l.ids) [ true ↦ refl | false ↦ refl ]
 

@@ -68,7 +68,7 @@ module _ {A : Type 0} where
     pub all_fewer : (P : A → Type 0) (id : A) (ids : List A) → AllByRecursion P ids → AllByRecursion P (without same id ids)
     all_fewer P id ids a = both_left P (λ other. same id other ≡ false) (without same id ids) (all_without P id ids a)
 
-    -- what differs from each of a list is not in it
+    -- an id that differs from each of a list is not in it
     pub absent : (id : A) (ids : List A) → AllByRecursion (λ other. same id other ≡ false) ids → is_in same id ids ≡ false
     absent id [] a = refl
     absent id (other ∷ ids) a = rw a.0 (absent id ids a.1)
@@ -96,7 +96,7 @@ module _ {A : Type 0} where
     ]
 
     module _ (test : IsTest same) where
-      -- an id that stands in one part of a list without doubles doesn't stand in the other
+      -- an id in one part of a list without doubles isn't in the other
       pub distinct_apart : (id : A) (ids others : List A) → IsDistinct same (ids ++ others) → is_in same id ids ≡ true → is_in same id others ≡ false
       distinct_apart id [] others d h = cc
       distinct_apart id (other ∷ ids) others d h = elim (same id other) as (λ b. same id other ≡ b → (b || is_in same id ids) ≡ true → is_in same id others ≡ false) [

@@ -1,4 +1,4 @@
--- What handles keep that are made, and settings.
+-- What calls that make handles keep, and calls that change settings.
 use Rattle.std.proofs.Common.{◌≡◌, ◌⊎◌, inl, inr, ℕ, ◌+◌, ◌-◌, ◌^◌, ◌<◌, ◌≤◌, ◌==◌, ◌||◌, Bool, not, [], ◌++◌, length, max, drop, Option, Some, None, Result, Ok, Err, nat_lt, refl, sym, ◌∙◌, subst, arith, length-append, length-drop}
 use Rattle.std.proofs.lemmas.Grind.{common_steps}
 use Rattle.std.proofs.lemmas.Option.{none-some}
@@ -46,7 +46,7 @@ module _ {T : Type 0} where
     kept_clone_receiver other None key e free few = kept_idle v valid
     kept_clone_receiver other (Some cursor) key e free few = made_at key cursor free (valid.reach other cursor e) (inr (other, cursor, e, omega arith)) few
 
-    -- the key that a reply gives was free, and the count of receivers fits where one was made
+    -- the key that a reply gives was free, and the count of receivers fits if one was made
     pub kept_made : (of : Option ℕ → Control) (there : Bool) (spelt : Result ℕ HandleError → Reply T) (r : Reply T)
         → ((key : ℕ) → chosen_id (spelt (Ok key)) ≡ Some key) → ((error : HandleError) → chosen_id (spelt (Err error)) ≡ None) → IsMadeFrom there v.control.cursors spelt r
         → ((key : ℕ) → get v.control.cursors key ≡ None → len (of (Some key)).cursors < 2 ^ 64 → IsKept v (of (Some key))) → of None ≡ v.control

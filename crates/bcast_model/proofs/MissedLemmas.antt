@@ -117,7 +117,7 @@ module _ {T : Type 0} (is_clone : T → T → Type 0) where
             ]),
       )
 
-  -- where no message was dropped before a run, all that its receivers miss is dropped in it
+  -- if no message was dropped before a run, all that its receivers miss is dropped in it
   pub misses_dropped : (h : History T) (calls : List (Call T)) (replies : List (Reply T)) → IsValid h → h.floor ≡ h.first → AllByRecursion HasPositiveCapacity calls → IsRun is_clone h calls replies → MissesWhatWasDropped [] h calls replies
   misses_dropped h calls replies valid fresh allowed run =
       misses_from [] h calls replies (bounded_valid h valid) allowed run

@@ -36,7 +36,7 @@ module _ {T : Type 0} (is_clone : T → T → Type 0) where
       let rises = drops.rises in
       (omega (arith, rises, rest.0), rising_append h.floor (next h c r).floor (end_of_run (next h c r) calls replies).floor (dropped_by h c r) (dropped_in (next h c r) calls replies) rises rest.0 drops.rising rest.1)
 
-  -- ---- what a receiver has missed is gone
+  -- ---- what a receiver has missed is under the floor
   pub record AreGone (Gone : ℕ → Type 0) (h : History T) : Type 0 where
     pub each : (n key cursor : ℕ) → cursor_of h.control key ≡ Some cursor → cursor ≤ n → n < h.floor → Gone n
 

@@ -1,4 +1,4 @@
--- What a call drops, and what it leaves bounded.
+-- What a call drops, and the bounds after it.
 use Rattle.std.proofs.Common.{◌≡◌, ◌⊎◌, inl, inr, ℕ, ◌+◌, ◌<◌, ◌≤◌, List, Some, sym, ap, ◌∙◌, arith, length-append}
 use Rattle.std.specs.List.{Contains, range_with_len}
 use Rattle.std.specs.FinMap.{get}
@@ -17,7 +17,7 @@ use Rattle.bcast_model.proofs.PositiveCapacity.{capacity-next}
 use Rattle.bcast_model.proofs.RisingNumbers.{contains_range, IsRising, rising_range, rising_wider}
 
 module _ {T : Type 0} where
-  -- what a call drops: numbers from the front on, that rise up to the floor after it, and each that the floor passes
+  -- what a call drops: rising numbers from the front up to the floor after it, all that it passes
   pub record Drops (h now : History T) (dropped : List ℕ) : Type 0 where
     pub rises : h.floor ≤ now.floor
     pub rising : IsRising h.floor now.floor dropped
@@ -51,7 +51,7 @@ module _ {T : Type 0} where
   pub drops_next : (is_clone : T → T → Type 0) (h : History T) (c : Call T) (r : Reply T) → IsBounded h → Legal is_clone (view_of h) c r → Drops h (next h c r) (dropped_by h c r)
   drops_next is_clone h c r bounded legal = drops_change h c r (dropped_by h c r) bounded (floor-effect is_clone h c r bounded legal)
 
-  -- where the receivers of the next state stood before
+  -- the cursors that the receivers of the next state had before
   pub record Stood (h : History T) (cursor : ℕ) : Type 0 where
     pub key : ℕ
     pub before : ℕ

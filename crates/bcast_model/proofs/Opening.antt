@@ -45,7 +45,7 @@ module _ {T : Type 0} where
         wake_ups = record { receives = tt; sends = λ ready some. absurd (omega arith) };
       }
 
-  -- what is seen of it: no message, and the first number as front and as end
+  -- its view: no message, and the first number as front and as end
   pub view_of-opening : (capacity first key : ℕ) → 1 ≤ capacity → capacity < 2 ^ 64 → first + 1 < 2 ^ 64
       → view_of {T = T} (opening capacity first key) ≡ record { front = first; queue = []; end = first; control = (opening {T = T} capacity first key).control }
   view_of-opening capacity first key some few below =

@@ -1,4 +1,4 @@
--- A poll waits exactly where its try finds nothing to answer.
+-- A poll waits exactly if its try finds nothing.
 use Rattle.std.proofs.Common.{◌≡◌, inl, inr, ℕ, ◌<◌, ◌≤◌, Bool, true, false, cond, not, ◌&&◌, ◌||◌, max, Option, Some, None, Result, Ok, Err, refl, sym, ap, ◌∙◌, arith}
 use Rattle.std.proofs.lemmas.Bool.{cases_lt}
 use Rattle.std.specs.Prelude.{alloc_error}
@@ -89,7 +89,7 @@ module _ {T : Type 0} where
   next_waits skips (Err unread.Closed) = refl
   next_waits skips (Err unread.Empty) = refl
 
-  -- who lags finds something, before a skip and after it
+  -- a receiver that lags finds something, before a skip and after it
   not_empty : (v : View T) (at : ℕ) → IsValidView v → at ≤ v.front → v.front < v.end → is_empty_reply (try_recv_reply v (Some at)) ≡ false
   not_empty v at valid low some = elim (is_empty_reply (try_recv_reply v (Some at))) as (λ b. is_empty_reply (try_recv_reply v (Some at)) ≡ b → b ≡ false) [
     | true ↦ λ e. (let f = empty_at v at e in absurd (omega (arith, f.kept, f.read, valid.end)))

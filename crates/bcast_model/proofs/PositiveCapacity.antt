@@ -17,7 +17,7 @@ use Rattle.bcast_model.proofs.Cases.{test_is, tell_is, capacity-close, capacity-
 use Rattle.bcast_model.proofs.SendAll.{capacity-offer_all}
 use Rattle.bcast_model.specs.Handles.{begin_send, new_receiver, activate, clone_receiver, new_sender, clone_inactive, has_next, drop_receiver, deactivate, drop_sender, drop_inactive, without_receiver}
 
--- ---- what leaves it as it is
+-- ---- what doesn't change it
 capacity-close_if_deserted : (c : Control) → (close_if_deserted c).capacity ≡ c.capacity
 capacity-close_if_deserted c = elim (is_deserted c) as (λ b. (cond b (close c) c).capacity ≡ c.capacity) [ true ↦ capacity-close c | false ↦ refl ]
 

@@ -26,7 +26,7 @@ module _ {T : Type 0} where
   given_kept : (is_clone : T → T → Type 0) (v : View T) (cursor : Option ℕ) (msg given : T) → try_recv_reply v cursor ≡ Ok msg → IsGiven is_clone msg given → IsGivenFrom is_clone v.queue given
   given_kept is_clone v cursor msg given e is = let k = kept_message v cursor msg e in record { index = k.0; message = subst (λ o. IsSomeAnd o (λ msg. IsGiven is_clone msg given)) (sym k.1) is }
 
-  -- a receive that spells its answers so hands out a kept message, or a clone of one
+  -- a receive whose replies are made so hands out a kept message, or a clone of one
   received_from : (is_clone : T → T → Type 0) (owed : Type 0) (spelt : Result T TryRecvError → Reply T) (refused : Reply T) (v : View T) (cursor : Option ℕ) (r : Reply T) (given : T)
       → ((answer : Result T TryRecvError) → r ≡ spelt answer → answer ≡ Ok given) → (r ≡ refused → ⊥) → IsReceived is_clone owed spelt refused (try_recv_reply v cursor) r → IsGivenFrom is_clone v.queue given
   received_from is_clone owed spelt refused v cursor r given one none legal = elim legal [

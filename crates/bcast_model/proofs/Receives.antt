@@ -41,7 +41,7 @@ module _ {T : Type 0} where
     | false ↦ λ t e. (let f = found_none v.control.closed (slice_get v.queue (cursor - v.front)) e in record { kept = grind (arith, common_steps, t); read = past_end v.queue (cursor - v.front) f.0; is_open = f.1 })
   ] refl e
 
-  -- who has read all of an open channel finds nothing
+  -- a receiver that has read all messages of an open channel finds nothing
   pub empty_at_end : (v : View T) → IsValidView v → v.control.closed ≡ false → try_recv_reply v (Some v.end) ≡ Err unread.Empty
   empty_at_end v valid is_open =
       let reached : nat_lt v.end v.front ≡ false = let high = valid.high in grind (arith, common_steps, high) in
@@ -54,7 +54,7 @@ module _ {T : Type 0} where
         let n = same_count v.control.cursors key cursor to e in
         kept_cursor v v.control key to high low (λ f. let same = same_Some cursor v.end (sym e ∙ f) in omega arith) (omega (arith, valid.control.receivers_fit)) (kept_idle v valid)
 
-    -- the receiver stands at this cursor, and starts there or after it
+    -- the receiver is at this cursor, and starts there or after it
     kept_from : (key cursor start : ℕ) → get v.control.cursors key ≡ Some cursor → cursor ≤ start → IsKept v (receive v key (Some start))
     kept_from key cursor start e after = receive_is v (IsKept v) key start
         (λ lags. kept_moved key cursor v.front e (omega (arith, valid.high)) valid.high (inl (omega arith)))
@@ -65,7 +65,7 @@ module _ {T : Type 0} where
     kept_receive key None e = kept_idle v valid
     kept_receive key (Some cursor) e = kept_from key cursor cursor e (omega arith)
 
-    -- who found nothing stays, and waits; anyone else waits no more
+    -- a receiver that found nothing stays, and waits; any other waits no more
     poll_from : (pair : Pair) (cursor start : ℕ) → get v.control.cursors pair.0 ≡ Some cursor → cursor ≤ start → (v.end ≤ start → cursor ≡ v.end)
         → IsKept v (receive_poll v pair (Some start))
     poll_from pair cursor start e after all_read = elim (is_empty_reply (try_recv_reply v (Some start))) as (λ b. is_empty_reply (try_recv_reply v (Some start)) ≡ b → IsKept v (listens (receive v pair.0 (Some start)) pair b)) [

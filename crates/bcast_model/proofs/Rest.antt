@@ -28,7 +28,7 @@ module _ {T : Type 0} (v : View T) (valid : IsValidView v) where
       let same = test_is (λ (x : View T). listener_count x.control ≡ listener_count w.control) (may && sends_are_ready w) (record w { control = tell_a_sender w.control }) w (λ _. refl) (λ _. refl) in
       unrest_gone v.control (tell_if_ready may w).control listed (ap (λ n. n + 1) same ∙ gone) some
 
-  -- nobody is told where sends were ready before, or are not after it
+  -- none is told if sends were ready before, or are not after it
   lowers_waits : (may : Bool) (c : Control) → (may && sends_are_ready (settle v (sets c))) ≡ false → listener_count c ≡ listener_count v.control → told_count c + 1 ≡ told_count v.control → unrest (tell_if_ready may (settle v (sets c))).control + 1 ≤ unrest v.control
   lowers_waits may c untold same fewer =
       subst (λ b. unrest (cond {A = View T} b (record (settle v (sets c)) { control = tell_a_sender c }) (settle v (sets c))).control + 1 ≤ unrest v.control) (sym untold) (unrest_waits v.control c same fewer)
@@ -38,7 +38,7 @@ module _ {T : Type 0} (v : View T) (valid : IsValidView v) where
   never false = refl
 
   -- ---- receives
-  -- a receive that finds nothing moves nobody
+  -- a receive that finds nothing moves no cursor
   nothing_moves : (key : ℕ) (cursor : Option ℕ) → is_empty_reply (try_recv_reply v cursor) ≡ true → receive v key cursor ≡ v.control
   nothing_moves key None e = cc
   nothing_moves key (Some cursor) e =
@@ -113,7 +113,7 @@ module _ {T : Type 0} (v : View T) (valid : IsValidView v) where
           | false ↦ λ listed. send_waits
         ])
 
-  -- a poll of a told listener that finds memory lowers the unrest
+  -- a poll of a told listener that isn't out of memory lowers the measure
   pub lowers : (c : Call T) (r : Reply T) → polls_told v.control c ≡ true → is_out_of_memory r ≡ false → AreListed (next_view v c r).control → unrest (next_view v c r).control + 1 ≤ unrest v.control
   lowers (call.PollSend place msg) r told memory = lowers_send place msg told
   lowers (call.PollFuture key) r told memory = lowers_unless (future_of key) (cursor_of v.control key) told r memory

@@ -1,4 +1,4 @@
--- What a whole list keeps that is sent at once.
+-- What a send of a whole list keeps.
 use Rattle.std.proofs.Common.{◌≡◌, inl, ℕ, ◌+◌, ◌-◌, ◌^◌, ◌<◌, ◌≤◌, not, true, false, cond, List, [], ◌∷◌, length, nat_lt, Ok, Err, refl, subst, arith, length-append, length-drop}
 use Rattle.std.proofs.lemmas.Grind.{common_steps}
 use Rattle.std.specs.Prelude.{is_ok}
@@ -13,7 +13,7 @@ use Rattle.bcast_model.proofs.Lift.{KeepsValid}
 use Rattle.bcast_model.proofs.Kept.{not_not, kept_idle, keeps_sets}
 use Rattle.bcast_model.proofs.Sends.{attended_accepting, sound_accepting, told_accepting}
 
--- ---- whatever holds of both outcomes
+-- ---- what holds of both outcomes
 module _ {T : Type 0} where
   -- a list is refused, or is accepted: without a message, or with a last one
   pub offer_all_is : (P : Effect T → Type 0) (v : View T) (msgs : List T) → P (sets v.control)
@@ -24,7 +24,7 @@ module _ {T : Type 0} where
       by_list [] is e = idle
       by_list (msg ∷ rest) is e = accepted msg rest is e
 
-  -- ---- what it leaves
+  -- ---- what it doesn't change
   pub cursors-offer_all : (v : View T) (msgs : List T) → (offer_all v msgs).control.cursors ≡ v.control.cursors
   cursors-offer_all v msgs = offer_all_is (λ e. e.control.cursors ≡ v.control.cursors) v msgs refl (λ msg rest is e. cursors-accepting v.control (v.end + length rest))
 
@@ -35,7 +35,7 @@ module _ {T : Type 0} where
   floor-offer_all v msgs = offer_all_is (λ e. e.floor ≡ 0) v msgs refl (λ msg rest is e. refl)
 
   -- ---- what is accepted
-  -- what is not refused finds an open channel with a receiver, and room
+  -- a list that is not refused finds an open channel with a receiver, and room
   pub record IsRoomy (v : View T) (count : ℕ) : Type 0 where
     pub opened : v.control.closed ≡ false
     pub someone : has_no_receiver v.control ≡ false

@@ -20,13 +20,13 @@ use Rattle.bcast_model.proofs.Lift.{KeepsValid}
 use Rattle.bcast_model.proofs.Kept.{not_not, kept_idle, kept_sends, keeps_sets, keeps_waits}
 
 -- ---- accepting
--- a channel that was closed by the last number needs nobody
+-- a channel that was closed by the last number needs no handles
 attended_last : (c : Control) (end : ℕ) → IsAttended (close c).closed (close c).senders (len (close c).cursors) (close c).inactive end
 attended_last c end = close_is (λ now. IsAttended now.closed now.senders (len now.cursors) now.inactive end) c
     (λ e. attended_closed c.closed c.senders (len c.cursors) c.inactive end e)
     (λ _. attended_closed true c.senders (len c.cursors) c.inactive end refl)
 
--- where the last message that is accepted has the number end
+-- if the last message that is accepted has the number end
 pub attended_accepting : (c : Control) (old end : ℕ) → end + 1 < 2 ^ 64 → IsAttended c.closed c.senders (len c.cursors) c.inactive old
     → IsAttended (accepting c end).closed (accepting c end).senders (len (accepting c end).cursors) (accepting c end).inactive (end + 1)
 attended_accepting c old end below a = accepting_is (λ now. IsAttended now.closed now.senders (len now.cursors) now.inactive (end + 1)) c end
@@ -40,7 +40,7 @@ pub told_accepting : (c : Control) (end : ℕ) → OneIsTold c.waiting_sends →
 told_accepting c end one = accepting_is (λ now. OneIsTold now.waiting_sends) c end (told_close (tell_receivers c) one) (λ _. one)
 
 module _ {T : Type 0} where
-  -- who waits to receive is told, and may be under the new end
+  -- all waiting receivers are told, and may be under the new end
   pub sound_accepting : (v : View T) (c : Control) (old end : ℕ) → old ≤ end → end + 1 < 2 ^ 64 → IsSound v old c → IsSound v (end + 1) (accepting c end)
   sound_accepting v c old end grows below s =
       let sizes = s.sizes in
@@ -52,7 +52,7 @@ module _ {T : Type 0} where
       } in
       accepting_is (IsSound v (end + 1)) c end (sound_close v (end + 1) (tell_receivers c) told) (λ _. told)
 
-  -- what is not refused finds an open channel
+  -- a send that is not refused finds an open channel
   open_offer : (v : View T) (msg : T) → is_ok (try_broadcast_reply v msg) ≡ true → v.control.closed ≡ false
   open_offer v msg e = elim v.control.closed as (λ b. is_ok (cond b (Err (unsent.Closed msg)) (cond (has_no_receiver v.control) (Err (unsent.Inactive msg)) (cond (is_full v && not v.control.overflow) (Err (unsent.Full msg)) (Ok (handed_back v))))) ≡ true → b ≡ false) [
     | true ↦ λ e. cc

@@ -1,4 +1,4 @@
--- What holds of all that stands beside the messages, in parts that the steps of a call keep one by one.
+-- What holds of the control, in parts that the steps of a call keep one by one.
 use Rattle.std.proofs.Common.{◌≡◌, ◌⊎◌, ℕ, ◌+◌, ◌^◌, ◌<◌, ◌≤◌, Bool, true, false, cond, length, Some, None, sym, ◌∙◌, subst, arith}
 use Rattle.std.proofs.lemmas.Grind.{common_steps}
 use Rattle.std.proofs.lemmas.Option.{none-some, same_Some}
@@ -21,7 +21,7 @@ pub record AreSizes (capacity room receivers senders inactive end : ℕ) : Type 
   pub inactive_fit : inactive < 2 ^ 64
   pub end_fits : end < 2 ^ 64
 
--- an open channel has somebody on each side, and a number is left for the next message
+-- an open channel has a handle on each side, and a number is left for the next message
 pub record IsAttended (closed : Bool) (senders receivers inactive end : ℕ) : Type 0 where
   pub sender : closed ≡ false → 1 ≤ senders
   pub receiver : closed ≡ false → 1 ≤ receivers + inactive
@@ -35,14 +35,14 @@ attended_closed closed senders receivers inactive end c = record { sender = λ e
 abbrev pub IsNoLower : {T : Type 0} → View T → ℕ → Type 0
 IsNoLower v cursor = (v.front ≤ cursor) ⊎ ((key : ℕ) × (old : ℕ) × (get v.control.cursors key ≡ Some old) × (old ≤ cursor))
 
--- what every step of a call keeps, where this was seen before the call and the end is this
+-- what every step of a call keeps, if this was the view before the call and the end is this
 pub record IsSound {T : Type 0} (v : View T) (end : ℕ) (c : Control) : Type 0 where
   pub cursors : (key cursor : ℕ) → get c.cursors key ≡ Some cursor → (cursor ≤ end) × IsNoLower v cursor
   pub sizes : AreSizes c.capacity c.room (len c.cursors) c.senders c.inactive end
   pub sends : AreSends c.places c.waiting_sends
   pub receives : AreReceives c.cursors c.closed end c.waiting_receives
 
--- what every call keeps that accepts no message
+-- what every call that accepts no message keeps
 pub record IsKept {T : Type 0} (v : View T) (c : Control) : Type 0 where
   pub sound : IsSound v v.end c
   pub attended : IsAttended c.closed c.senders (len c.cursors) c.inactive v.end
@@ -88,7 +88,7 @@ module _ {T : Type 0} (v : View T) (end : ℕ) (c : Control) where
         receives = receives_without c.cursors c.closed end c.waiting_receives key s.receives;
       }
 
-  -- ---- who waits
+  -- ---- the lists of listeners
   pub sound_receives : (l : Listeners Pair) → AreReceives c.cursors c.closed end l → IsSound v end c → IsSound v end (record c { waiting_receives = l })
   sound_receives l r s = record { cursors = s.cursors; sizes = s.sizes; sends = s.sends; receives = r }
 

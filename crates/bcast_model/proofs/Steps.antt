@@ -1,4 +1,4 @@
--- What is seen of a channel after a call, without a hidden history.
+-- The view after a call, without a hidden history.
 use Rattle.std.proofs.Common.{◌≡◌, inl, inr, true, false, cond, arith, Bool, not, refl, sym, ap, ◌∙◌, subst}
 use Rattle.std.specs.FinMap.{len}
 use Rattle.bcast_model.specs.declared.run.Call.{Call}
@@ -23,7 +23,7 @@ module _ {T : Type 0} where
   told_same : {A : Type 0} (f : Control → A) → ((c : Control) → f (tell_a_sender c) ≡ f c) → (may : Bool) (h : History T) → f (end_call may h).control ≡ f h.control
   told_same f same may h = tell_is (λ (now : History T). f now.control ≡ f h.control) may h (λ _. same h.control) (λ _. refl)
 
-  -- the range that a call keeps to, where the next state is valid
+  -- the range that a call keeps to, if the next state is valid
   range_of : (c : Call T) (r : Reply T) (v : View T) → is_out_of_memory r ≡ false → AreSizes (effect v c r).control.capacity (effect v c r).control.room (len (effect v c r).control.cursors) 0 0 0 → HasRange c (len (effect v c r).control.cursors)
   range_of (call.SetCapacity n) r v memory s =
       let e = ap (λ b. cond b (sets v.control) (resize v n)) memory in
@@ -36,7 +36,7 @@ module _ {T : Type 0} where
   range_of (call.CloneReceiver key) r v memory s = s.receivers_fit
   range_of c r v memory s = tt
 
-  -- a call that finds no memory does nothing
+  -- a call that is out of memory does nothing
   keeps_refused : (is_clone : T → T → Type 0) (c : Call T) (r : Reply T) (v : View T) → IsValidView v → is_out_of_memory r ≡ true → Legal is_clone v c r → KeepsValid v (effect v c r) (may_tell v.control (sends_are_ready v) c)
   keeps_refused is_clone (call.SetCapacity n) r v valid none legal = subst (λ e. KeepsValid v e (not (sends_are_ready v))) (sym (ap (λ b. cond b (sets v.control) (resize v n)) none)) (keeps_sets v valid v.control (kept_idle v valid))
   keeps_refused is_clone call.NewReceiver r v valid none (inl (key, is, free)) = absurd (apart (sym (ap is_out_of_memory is) ∙ none))
@@ -75,7 +75,7 @@ module _ {T : Type 0} where
         | false ↦ λ memory. keeps_valid is_clone c r v (valid_view h valid) (range_of c r v memory s) legal
       ] refl
 
-  -- what is seen after a call follows from what was seen before it, and no history is left in it
+  -- the view after a call follows from the view before it, without a history
   pub steps : {is_clone : T → T → Type 0} {old new : View T} {c : Call T} {r : Reply T} → Answers is_clone old c r new → Steps is_clone old c r new
   steps {is_clone = is_clone} {old = old} {new = new} {c = c} {r = r} a =
       let s = a.shown in

@@ -45,7 +45,7 @@ module _ {T : Type 0} (is_clone : T → T → Type 0) where
         let e = view_of-next is_clone h c r valid (poll_range h.control c _ told) legal in
         subst (λ (w : View T). AreListed w.control → unrest w.control + 1 ≤ unrest h.control) (sym e) (lowers (view_of h) (valid_view h valid) c r told memory) valid_poll.control.lists
 
-  -- the unrest bounds them
+  -- the measure bounds them
   told_polls_within : (h : History T) (calls : List (Call T)) (replies : List (Reply T)) → IsValid h → IsRun is_clone h calls replies → told_polls h calls replies ≤ unrest h.control
   told_polls_within h [] replies valid run = omega arith
   told_polls_within h (c ∷ calls) [] valid run = omega arith
@@ -68,7 +68,7 @@ module _ {T : Type 0} (is_clone : T → T → Type 0) where
       let receives = valid.control.lists.receives.told in
       subst (λ n. 2 * told_polls h calls replies ≤ n) (triangle (listener_count h.control)) (omega (arith, within, sends, receives))
 
-  -- ---- where nobody is told
+  -- ---- if no listener is told
   module _ (v : View T) (valid : IsValidView v) (nobody : told_count v.control ≡ 0) where
     asleep : (pair : Pair) → is_in same_pair pair v.control.waiting_receives.ids ≡ true → WouldWait v.control v.end pair
     asleep pair listed =

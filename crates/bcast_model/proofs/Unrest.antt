@@ -1,4 +1,4 @@
--- How far the listeners are from rest, and what one list does when a told listener polls.
+-- A measure that polls of told listeners lower, and what such a poll does to one list.
 use Rattle.std.proofs.Common.{◌≡◌, ℕ, zero, suc, ◌+◌, ◌*◌, ◌≤◌, Bool, true, false, [], ◌∷◌, length, refl, sym, subst, arith, length-append}
 use Rattle.std.proofs.lemmas.List.{take-append-drop}
 use Rattle.bcast_model.specs.Words.{Listeners, told_ids, untold_ids, is_in, without, consume}

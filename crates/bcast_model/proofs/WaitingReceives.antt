@@ -18,13 +18,13 @@ HasKey cursors pair = is_some (get cursors pair.0) ≡ true
 abbrev pub Sleeps : Cursors → Bool → ℕ → Pair → Type 0
 Sleeps cursors closed end pair = (get cursors pair.0 ≡ Some end) × (closed ≡ false)
 
--- they are in order, each is a receiver's, and who is not told would find nothing
+-- they are in order, each is a receiver's, and one that is not told would find nothing
 pub record AreReceives (cursors : Cursors) (closed : Bool) (end : ℕ) (l : Listeners Pair) : Type 0 where
   pub in_order : AreInOrder same_pair l
   pub keyed : AllByRecursion (HasKey cursors) l.ids
   pub asleep : AllByRecursion (Sleeps cursors closed end) (untold_ids l)
 
--- whoever is told may be anywhere, in a channel open or closed
+-- a told one may be at any cursor, in an open or a closed channel
 pub receives_all_told : (cursors : Cursors) (closed now : Bool) (end new : ℕ) (l : Listeners Pair) → AreReceives cursors closed end l → AreReceives cursors now new (tell_all l)
 receives_all_told cursors closed now end new l r = record {
   in_order = in_order_tell_all same_pair test_pair l r.in_order;

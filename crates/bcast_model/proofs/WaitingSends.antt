@@ -11,7 +11,7 @@ use Rattle.bcast_model.proofs.Lists.{all_more, all_without}
 use Rattle.bcast_model.proofs.Listeners.{in_order_tell, in_order_tell_all, in_order_consume, in_order_abandon, in_order_waits, abandon_ids, all_waits}
 use Rattle.bcast_model.proofs.Tests.{test_place}
 
--- where sends wait, one of them is told
+-- if sends wait, one of them is told
 abbrev pub OneIsTold : Listeners ℕ → Type 0
 OneIsTold l = 1 ≤ length l.ids → 1 ≤ l.told
 

@@ -1,4 +1,4 @@
--- What may be seen of a channel is seen of some valid history.
+-- Each valid view is that of some valid history.
 use Rattle.std.proofs.Common.{◌↔◌, ◌≡◌, inl, inr, ℕ, ◌+◌, ◌-◌, ◌==◌, List, [], ◌∷◌, ◌++◌, length, drop, replicate, refl, sym, subst, arith, length-append}
 use Rattle.std.proofs.lemmas.List.{length-replicate, drop_at}
 use Rattle.bcast_model.specs.Words.{Control, History, front_of, view_of, IsValid, IsValidControl}
@@ -6,7 +6,7 @@ use Rattle.bcast_model.specs.Words.{NoLostWakeUp, View, IsShown, Represents, IsV
 use Rattle.bcast_model.proofs.Lift.{same_view}
 use Rattle.bcast_model.proofs.Views.{valid_view}
 
--- no message is kept: the history begins at the front. Else copies of the oldest message stand for those that are gone
+-- no message is kept: the history begins at the front. Else the gone ones are copies of the oldest
 module _ {T : Type 0} where
   witness_of : (front end : ℕ) (queue : List T) (control : Control) → IsValidView (record { front = front; queue = queue; end = end; control = control })
       → (h : History T) × IsValid h × Represents (record { front = front; queue = queue; end = end; control = control }) h
@@ -49,11 +49,11 @@ module _ {T : Type 0} where
         is,
       )
 
-  -- what fits together is shown
+  -- a view whose parts fit together is shown
   pub view_shown : (v : View T) → IsValidView v → IsShown v
   view_shown v valid = witness_of v.front v.end v.queue v.control valid
 
-  -- what is shown fits together
+  -- the parts of a view that is shown fit together
   pub shown_valid : (v : View T) → IsShown v → IsValidView v
   shown_valid v shown = subst IsValidView (sym shown.2) (valid_view shown.0 shown.1)
 

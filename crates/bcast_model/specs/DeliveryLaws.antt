@@ -1,4 +1,4 @@
--- What follows of deliveries: they are exact, and what a receiver misses was dropped.
+-- Laws of deliveries: they are exact, and what a receiver misses was dropped.
 use Rattle.std.specs.Prelude.{◌≡◌, ℕ, ◌+◌, ◌<◌, ◌⊎◌, List, slice_get, Some, None}
 use Rattle.std.specs.List.{AllByRecursion, Contains}
 use Rattle.std.specs.List.Sorted.{IsStrictlyIncreasing}
@@ -13,8 +13,8 @@ use Rattle.bcast_model.specs.Run.{IsRun, end_of_run}
 use Rattle.bcast_model.specs.Deliveries.{given_to, deliveries_of, AreAllExact, AtEachPoint}
 use Rattle.bcast_model.specs.Dropped.{dropped_in}
 
--- in a run from a valid state the deliveries of every receiver are exact, from the opening or the
--- call that made it on
+-- in a run from a valid state the deliveries of every receiver are exact, from the start of the
+-- run or from the call that made it
 abbrev pub DeliveriesAreExact : {T : Type 0} → (T → T → Type 0) → Type 0
 DeliveriesAreExact {T} is_clone =
     (h : History T) (calls : List (Call T)) (replies : List (Reply T))
@@ -23,12 +23,12 @@ DeliveriesAreExact {T} is_clone =
 
 module _ {T : Type 0} where
   -- whether the message of this number was dropped by a call of the run, or is under the floor
-  -- where the run begins (from a new channel, none that a receiver reads)
+  -- when the run begins (in a new channel no receiver reads such a message)
   abbrev pub WasDropped : History T → List (Call T) → List (Reply T) → ℕ → Type 0
   WasDropped h calls replies number =
       (number < h.floor) ⊎ Contains (dropped_in h calls replies) number
 
--- a call after a run: `WasDropped` holds of what it tells the receiver `key` that it missed, and
+-- a call after a run: `WasDropped` holds of what it counts as missed for the receiver `key`, and
 -- not of what it gives
 pub record TellsDropped
     {T : Type 0} (h : History T) (calls : List (Call T)) (replies : List (Reply T))
@@ -38,35 +38,35 @@ pub record TellsDropped
   pub given : (index : ℕ) (msg : T) → slice_get (given_to key c r) index ≡ Some (Some msg)
       → WasDropped h calls replies (cursor + index) → ⊥
 
--- a run, and one that goes on from its end: the deliveries from there on of the receiver `key`,
--- whose cursor there is `start`
+-- a run, and a later one that continues it: the deliveries in the later one to the receiver `key`,
+-- whose cursor is `start` when it begins
 pub record MissesOnlyDropped
     {T : Type 0} (h : History T) (calls : List (Call T)) (replies : List (Reply T))
     (key start : ℕ) (later : List (Call T)) (later_replies : List (Reply T)) : Type 0 where
-  -- each None stands for a message that a call of the two runs dropped, or that is under the floor
-  -- where the first begins (from a new channel, none that a receiver reads)
+  -- each None is for a message that a call of the two runs dropped, or that is under the floor when
+  -- the first begins (in a new channel no receiver reads such a message)
   pub missed : (index : ℕ)
       → slice_get (deliveries_of key (end_of_run h calls replies) later later_replies) index
       ≡ Some None
       → WasDropped h calls replies (start + index)
       ⊎ Contains (dropped_in (end_of_run h calls replies) later later_replies) (start + index)
-  -- no message that was dropped before is given
+  -- no message that was dropped before the later run is given
   pub given : (index : ℕ) (msg : T)
       → slice_get (deliveries_of key (end_of_run h calls replies) later later_replies) index
       ≡ Some (Some msg)
       → WasDropped h calls replies (start + index) → ⊥
 
--- no message is dropped twice, and those that a run drops, those that overflow hands back among
--- them, have rising numbers
+-- the messages that a run drops, also those that overflow hands back, have rising numbers: none is
+-- dropped twice
 abbrev pub DroppedNumbersRise : {T : Type 0} → (T → T → Type 0) → Type 0
 DroppedNumbersRise {T} is_clone =
     (h : History T) (calls : List (Call T)) (replies : List (Reply T))
     → IsValid h → AllByRecursion HasPositiveCapacity calls → IsRun is_clone h calls replies
     → IsStrictlyIncreasing (dropped_in h calls replies)
 
--- at each point of each run: what a receiver is told that it missed, an earlier call dropped, or it
--- is under the floor where the run begins (from a new channel, none that a receiver reads); of what
--- it is given neither holds
+-- at each point of each run: what a receive counts as missed was dropped by an earlier call, or is
+-- under the floor when the run begins (in a new channel no receiver reads such a message); what it
+-- gives is neither
 abbrev pub MissedWereDropped : {T : Type 0} → (T → T → Type 0) → Type 0
 MissedWereDropped {T} is_clone =
     (h : History T) (calls : List (Call T)) (replies : List (Reply T))
@@ -76,7 +76,7 @@ MissedWereDropped {T} is_clone =
     → Legal is_clone (view_of (end_of_run h calls replies)) c r
     → TellsDropped h calls replies key cursor c r
 
--- the same of all deliveries of a receiver, from each point of each run on
+-- the same for all deliveries of a receiver from each point of each run on
 abbrev pub DeliveriesTile : {T : Type 0} → (T → T → Type 0) → Type 0
 DeliveriesTile {T} is_clone =
     (h : History T) (calls : List (Call T)) (replies : List (Reply T))

@@ -1,4 +1,4 @@
--- What a whole list is answered that is sent at once, and what it does to the channel.
+-- What a send of a whole list returns, and what it does to the channel.
 use Rattle.std.specs.Prelude.{ℕ, ◌+◌, ◌-◌, if◌then◌else◌, List, [], ◌∷◌, length, min, nat_lt, Result, Ok, Err, is_ok}
 use Rattle.std.specs.Global.{Vec}
 use Rattle.bcast_model.specs.declared.error.TrySendError.{TrySendError}
@@ -8,11 +8,11 @@ use Rattle.bcast_model.specs.View.{View}
 use Rattle.bcast_model.specs.Effect.{Effect, sets}
 
 module _ {T : Type 0} where
-  -- how many messages can be accepted, with none dropped, before the capacity or the numbers end
+  -- how many messages can be accepted with none dropped: by free capacity, and by numbers left
   abbrev pub free_room : View T → ℕ
   free_room v = min (v.control.capacity - length v.queue) (last_end - v.end)
 
-  -- `try_broadcast_all`, overflow on or off: the first that fits
+  -- `try_broadcast_all`, overflow on or off: the first case that applies
   abbrev pub try_broadcast_all_reply : View T → List T
       → Result (Unit {0}) (TrySendError (List T))
   try_broadcast_all_reply v msgs =
@@ -20,7 +20,7 @@ module _ {T : Type 0} where
       else (if has_no_receiver v.control then Err (unsent.Inactive msgs)
       else (if nat_lt (free_room v) (length msgs) then Err (unsent.Full msgs) else Ok tt))
 
-  -- the answer to a vector of messages, as one to their list
+  -- the result for a vector of messages, as one for their list
   abbrev pub in_lists : Result (Unit {0}) (TrySendError (Vec T))
       → Result (Unit {0}) (TrySendError (List T))
   in_lists (Ok done) = Ok done
@@ -28,9 +28,8 @@ module _ {T : Type 0} where
   in_lists (Err (unsent.Closed msgs)) = Err (unsent.Closed msgs.items)
   in_lists (Err (unsent.Inactive msgs)) = Err (unsent.Inactive msgs.items)
 
-  -- a list that is accepted comes last, in its order: who waits to receive is told, and the last
-  -- number closes the channel, once the whole list is there. Where there is no message nobody is
-  -- told
+  -- a list that is accepted comes last, in its order: all waiting receivers are told, and the last
+  -- number closes the channel, once the whole list is there. If the list is empty, nothing changes
   abbrev pub accept_all : View T → List T → Effect T
   accept_all v [] = sets v.control
   accept_all v (msg ∷ rest) = record {

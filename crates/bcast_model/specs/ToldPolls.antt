@@ -1,4 +1,4 @@
--- Polls of listeners that are told come to rest.
+-- Told polls come to rest: polls of told listeners, one after another, come to an end.
 use Rattle.std.specs.Prelude.{◌≡◌, ℕ, ◌+◌, ◌*◌, ◌≤◌, Bool, true, false, not, ◌&&◌, if◌then◌else◌, List, [], ◌∷◌, length}
 use Rattle.bcast_model.specs.declared.run.Call.{Call}
 use Rattle.bcast_model.specs.declared.run.Call.TheVariants as call
@@ -38,8 +38,8 @@ module _ {T : Type 0} where
   abbrev pub polls_told : Control → Call T → Bool
   polls_told c = polls_one_of (told_ids c.waiting_sends) (told_ids c.waiting_receives)
 
-  -- how many calls in a row, from the first on, each poll a listener that is told just before it,
-  -- and find memory
+  -- how many calls in a row, from the first on, poll a listener that is told just before, and are
+  -- not out of memory
   abbrev pub told_polls : History T → List (Call T) → List (Reply T) → ℕ
   told_polls h [] replies = 0
   told_polls h (c ∷ calls) [] = 0
@@ -52,14 +52,14 @@ module _ {T : Type 0} where
 pub record ComesToRest
     {T : Type 0} (is_clone : T → T → Type 0) (h : History T)
     (calls : List (Call T)) (replies : List (Reply T)) : Type 0 where
-  -- where n listeners wait, at most n (n + 1) / 2 polls of told ones follow in a row
+  -- if n listeners wait, at most n (n + 1) / 2 polls of told ones follow in a row
   pub few : 2 * told_polls h calls replies
       ≤ listener_count h.control * (listener_count h.control + 1)
-  -- where none of them is told, each poll of one would have to wait
+  -- if none of them is told, each poll of one must wait
   pub quiet : (c : Call T) (r : Reply T) → told_count h.control ≡ 0
       → polls_listed h.control c ≡ true → Legal is_clone (view_of h) c r → must_wait r ≡ true
 
--- told polls come to rest, from each valid state on
+-- told polls come to rest in each run from a valid state
 abbrev pub ToldPollsComeToRest : {T : Type 0} → (T → T → Type 0) → Type 0
 ToldPollsComeToRest {T} is_clone =
     (h : History T) (calls : List (Call T)) (replies : List (Reply T))

@@ -1,11 +1,11 @@
--- What holds of what a valid history shows, without the history: no public clause cites it.
+-- What holds of the view of a valid history, by the view alone. Of public clauses only laws use it.
 use Rattle.std.specs.Prelude.{◌≡◌, ℕ, ◌+◌, ◌≤◌, [], length, Some}
 use Rattle.std.specs.FinMap.{get, values}
 use Rattle.bcast_model.specs.View.{View, is_full}
 use Rattle.bcast_model.specs.History.{least}
 use Rattle.bcast_model.specs.Valid.{IsValidControl, NoLostWakeUp}
 
--- the numbers, the counts and who waits fit, and nobody lags behind an empty queue
+-- the numbers, the counts and the lists fit, and no receiver lags behind an empty queue
 pub record IsValidView {T : Type 0} (v : View T) : Type 0 where
   pub low : least v.end (values v.control.cursors) ≤ v.front
   pub high : v.front ≤ v.end

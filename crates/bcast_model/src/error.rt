@@ -1,17 +1,17 @@
-//! What a call on the channel may refuse with.
+//! The errors of the calls on a channel.
 ghost use Rattle.std.specs.Prelude.{◌≡◌, ◌↔◌, IsTrue};
 ghost use Rattle.bcast_model.specs.Errors.{unsent_message, IsOverflowed};
 
 mod text;
 
 /// Why `try_broadcast` did not accept a message, or `try_broadcast_all` a list. Each variant hands
-/// back what was to be sent, and prints without asking anything of it.
+/// back what was to be sent. Printing it needs no trait of `T`.
 ///
 /// Source: `TrySendError` of async-broadcast 0.7.2.
 #[derive(Clone, Copy, Drop, PartialEq, Eq)]
 pub enum TrySendError<T> {
-    /// There is no room: for one message, the channel is full, and overflow is off; for a list,
-    /// overflow on or off, it has less room, or fewer message numbers, than the list needs.
+    /// There is no room. For one message: the channel is full, and overflow is off. For a list,
+    /// overflow on or off: it needs more free capacity or more message numbers than are left.
     Full(T),
     /// The channel is closed.
     Closed(T),
@@ -22,15 +22,15 @@ pub enum TrySendError<T> {
 /// Why a send that may wait did not accept a message, which it hands back: the channel is closed,
 /// or there is no active receiver and sends do not await one.
 ///
-/// It prints the same text in both cases, without asking anything of the message.
+/// It prints the same text in both cases. Printing it needs no trait of `T`.
 ///
 /// Source: `SendError` of async-broadcast 0.7.2.
 #[derive(Clone, Copy, Drop, PartialEq, Eq)]
 pub struct SendError<T>(pub T);
 
-/// There was no memory to send a message or to make a call, which comes back. Nothing was done.
+/// Out of memory: the message that was not sent, or the call that was not made. Nothing was done.
 ///
-/// It prints without asking anything of what comes back.
+/// Printing it needs no trait of `T`.
 #[derive(Clone, Copy, Drop, PartialEq, Eq)]
 pub struct NoMemory<T>(pub T);
 
@@ -39,7 +39,7 @@ pub struct NoMemory<T>(pub T);
 /// Source: `TryRecvError` of async-broadcast 0.7.2.
 #[derive(Clone, Copy, Debug, PartialEq, Eq)]
 pub enum TryRecvError {
-    /// So many messages were dropped before the receiver read them. It goes on after them.
+    /// This many messages were dropped before the receiver read them. It continues after them.
     Overflowed(u64),
     /// Every message was read, and the channel is open.
     Empty,
@@ -52,7 +52,7 @@ pub enum TryRecvError {
 /// Source: `RecvError` of async-broadcast 0.7.2.
 #[derive(Clone, Copy, Debug, PartialEq, Eq)]
 pub enum RecvError {
-    /// So many messages were dropped before the receiver read them. It goes on after them.
+    /// This many messages were dropped before the receiver read them. It continues after them.
     Overflowed(u64),
     /// Every message was read, and the channel is closed.
     Closed,
@@ -61,11 +61,11 @@ pub enum RecvError {
 /// Why a handle was not made. Nothing changed.
 #[derive(Clone, Copy, Debug, PartialEq, Eq)]
 pub enum HandleError {
-    /// There was no memory for it.
+    /// Out of memory.
     Memory,
     /// The count of such handles is the greatest `usize`.
     TooMany,
-    /// The handle that it was to be made from is not there.
+    /// The handle from which it was to be made doesn't exist.
     Gone,
 }
 

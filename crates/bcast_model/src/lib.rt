@@ -1,4 +1,4 @@
-//! What a broadcast channel does, by its calls: the definitions that the code is proved against.
+//! What each call on a broadcast channel does: the definitions that the code is proved against.
 #![tactic(auto)]
 
 pub mod error;

@@ -1,4 +1,4 @@
-//! Who listens for a receiver.
+//! The kinds of listeners that a receiver has.
 
 /// Whether a receiver's listener is the receiver itself, as a stream, or a future over it.
 #[derive(Clone, Copy, PartialEq, Eq)]

@@ -9,7 +9,7 @@ use std::alloc::AllocError;
 use std::fmt;
 use std::marker::Model;
 
-/// Messages in order, which one call sends as a whole. To a contract it is the list of them.
+/// Messages in order, which one call sends as a whole. A contract sees the list of them.
 #[derive(Drop)]
 pub struct Messages<T> {
     items: Vec<T>,
@@ -27,14 +27,14 @@ impl<T> Model for Messages<T> {
 }
 
 impl<T> Messages<T> {
-    /// These messages. Takes no memory.
+    /// These messages. Allocates nothing.
     pub fn new(items: Vec<T>) -> Messages<T>
         ensures { result ≡ items.items }
     {
         Messages { items }
     }
 
-    /// The messages, in the vector that they came in. Takes no memory.
+    /// The messages, in the vector in which they were given. Allocates nothing.
     pub fn into_vec(self) -> Vec<T>
         ensures { result.items ≡ self }
     {
@@ -65,11 +65,11 @@ impl<T> Messages<T> {
 }
 
 impl<T: Copy> Messages<T> {
-    /// The same messages once more.
+    /// A copy of the messages.
     ///
     /// # Errors
     ///
-    /// - `AllocError`: no memory for them.
+    /// - `AllocError`: out of memory.
     pub fn copied(&self) -> Result<Messages<T>, AllocError>
         ensures { IfOk result (λ copy. copy ≡ self.now) }
     {
@@ -103,7 +103,7 @@ impl<T: fmt::Debug> fmt::Debug for Messages<T> {
     }
 }
 
-/// The same answer, with the messages that come back in the vector that they came in.
+/// The same result, with refused messages in the vector in which they were given.
 pub fn in_vec<T>(sent: Result<(), TrySendError<Messages<T>>>) -> Result<(), TrySendError<Vec<T>>>
     ensures { in_lists result ≡ sent }
 {

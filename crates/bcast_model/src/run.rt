@@ -4,14 +4,14 @@ use crate::messages::Messages;
 use futures::task::Poll;
 use std::alloc::AllocError;
 
-/// What a send that may wait was answered.
+/// What one attempt of a send that may wait returns.
 #[derive(Clone, Copy, PartialEq, Debug, Drop)]
 pub enum SendPoll<T> {
     /// The message was accepted, and the oldest one is handed back if overflow dropped it;
-    /// or the message comes back: the channel is closed, or there is no active receiver and sends
-    /// do not await one.
+    /// or the message is handed back: the channel is closed, or there is no active receiver and
+    /// sends do not await one.
     Ready(Result<Option<T>, SendError<T>>),
-    /// The send must wait. The message comes back.
+    /// The send must wait. The message is handed back.
     Wait(T),
 }
 
@@ -60,7 +60,7 @@ pub enum Call<T> {
     EndNumber,
 }
 
-/// What the state call of the same name answered.
+/// What the state call of the same name returned.
 #[derive(PartialEq, Drop)]
 pub enum Reply<T> {
     TryBroadcast(Result<Option<T>, TrySendError<T>>),
