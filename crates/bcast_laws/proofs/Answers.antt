@@ -1,4 +1,4 @@
--- A receiver's answer, by the shared messages and its own cursor.
+-- What a receive returns, by the shared messages and the receiver's own cursor.
 use Rattle.std.proofs.Common.{◌≡◌, inl, inr, ◌≢◌, ℕ, ◌+◌, ◌-◌, ◌<◌, ◌≤◌, ◌==◌, true, false, cond, [], ◌++◌, Option, Some, None, Err, nat_lt, slice_get, refl, sym, ap, ◌∙◌, arith, append-nil}
 use Rattle.std.proofs.lemmas.Grind.{common_steps}
 use Rattle.std.proofs.lemmas.Bool.{cases_lt}
@@ -34,7 +34,7 @@ differs_too : (one reader key : ℕ) → (one == reader) ≡ true → reader ≢
 differs_too one reader key same differs e = let is : one ≡ reader = grind (arith, common_steps, same) in differs (sym is ∙ e)
 
 module _ {T : Type 0} where
-  -- who lags is told so, and who has passed the front finds the message of that number, if it is there
+  -- a receiver that lags missed messages; one past the front finds the message there, if any
   lagging_answer : (v : View T) (cursor : ℕ) → cursor < v.front → try_recv_reply v (Some cursor) ≡ Err (unread.Overflowed (v.front - cursor))
   lagging_answer v cursor lags =
       let test : nat_lt cursor v.front ≡ true = grind (arith, common_steps, lags) in

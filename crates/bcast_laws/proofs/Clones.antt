@@ -1,4 +1,4 @@
--- A receiver and its new clone are answered alike.
+-- A receiver and its new clone receive alike.
 use Rattle.std.proofs.Common.{◌≡◌, inl, inr, ◌≢◌, ℕ, ◌≤◌, true, Option, Some, None, Ok, refl, sym, ap, ◌∙◌, arith}
 use Rattle.std.proofs.lemmas.Grind.{common_steps}
 use Rattle.std.specs.Prelude.{is_some}
@@ -20,7 +20,7 @@ record IsFresh (c : Control) (key fresh : ℕ) : Type 0 where
 key_differs : (c : Control) (key fresh : ℕ) → IsFresh c key fresh → key ≢ fresh
 key_differs c key fresh is same = apart (ap is_some (sym is.free ∙ ap (cursor_of c) (sym same)) ∙ is.there)
 
--- the clone stands where its original does
+-- the clone has the cursor of its original
 alike_at : (c : Control) (key fresh : ℕ) (cursor : Option ℕ) → IsFresh c key fresh → cursor_of c key ≡ cursor → cursor_of (clone_receiver c cursor (Some fresh)) fresh ≡ cursor_of (clone_receiver c cursor (Some fresh)) key
 alike_at c key fresh None is at = is.free ∙ sym at
 alike_at c key fresh (Some cursor) is at = inserted c.cursors fresh cursor ∙ sym (inserted_other c.cursors fresh cursor key (key_differs c key fresh is) ∙ at)

@@ -1,4 +1,4 @@
--- sends, and what is refused
+-- sends, and refused calls
 pub mod Sends
 pub mod RefusedHandles
 pub mod Refusals

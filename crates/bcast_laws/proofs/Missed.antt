@@ -1,4 +1,4 @@
--- A receiver that is told how many messages it missed finds a message next.
+-- A receiver that missed messages finds a message at its next try.
 use Rattle.std.proofs.Common.{◌≡◌, ℕ, ◌+◌, ◌-◌, ◌<◌, ◌≤◌, Bool, true, false, cond, List, [], ◌++◌, length, Option, Some, None, Result, Ok, Err, nat_lt, slice_get, refl, sym, ap, ◌∙◌, subst, arith, length-append, length-drop}
 use Rattle.std.proofs.lemmas.Grind.{common_steps}
 use Rattle.std.specs.Prelude.{IsOk}
@@ -27,7 +27,7 @@ module _ {T : Type 0} where
   same_count : (m n : ℕ) → ◌≡◌ {A = Result T TryRecvError} (Err (unread.Overflowed m)) (Err (unread.Overflowed n)) → m ≡ n
   same_count m n e = cc
 
-  -- the receiver lags by so many
+  -- the receiver lags by this many
   record Lags (v : View T) (key n : ℕ) : Type 0 where
     cursor : ℕ
     at : cursor_of v.control key ≡ Some cursor

@@ -29,7 +29,7 @@ not_not : (b : Bool) → not (not b) ≡ true → b ≡ true
 not_not true e = refl
 not_not false e = apart e
 
--- what is told only where sends were not ready
+-- if sends are as ready as before, no sender is told
 quiet : {A : Type 0} (b : Bool) (x y : A) → cond (not b && b) x y ≡ y
 quiet true x y = refl
 quiet false x y = refl
@@ -70,7 +70,7 @@ module _ {T : Type 0} where
   same_unless : (v : View T) (c : Control) (r : Reply T) → c ≡ v.control → set_unless_refused v r c ≡ sets v.control
   same_unless v c r same = test_is (λ (e : Effect T). e ≡ sets v.control) (is_out_of_memory r) (sets v.control) (sets c) (λ _. refl) (λ _. ap sets same)
 
-  -- a receive is refused where its exact answer is a refusal, or there is no memory
+  -- a receive is refused if its exact result is a refusal, or memory was refused
   same_received : (is_clone : T → T → Type 0) (owed : Type 0) (spelt : Result T TryRecvError → Reply T) (refused : Reply T) (exact : Result T TryRecvError) (v : View T) (c : Control) (r : Reply T)
       → (is_refused (spelt exact) ≡ true → set_unless_refused v r c ≡ sets v.control) → ((msg : T) → is_refused (spelt (Ok msg)) ≡ false) → is_out_of_memory refused ≡ true
       → IsReceived is_clone owed spelt refused exact r → is_refused r ≡ true → set_unless_refused v r c ≡ sets v.control
@@ -120,7 +120,7 @@ module _ {T : Type 0} where
   same_effect is_clone v (call.CloneReceiver other) r valid (inr (there, inr is)) e = rw is (ap sets (uncloned v.control (cursor_of v.control other)))
   same_effect is_clone v c r valid legal e = apart (sym (ap is_refused legal) ∙ e)
 
-  -- ---- the last thing in a call: where nothing changed, no sender is told
+  -- ---- at the end of a call: if nothing changed, no sender is told
   untold : (is_clone : T → T → Type 0) (v : View T) (c : Call T) (r : Reply T) → Legal is_clone v c r → is_refused r ≡ true → tell_if_ready (may_tell v.control (sends_are_ready v) c) v ≡ v
   untold is_clone v (call.PollSend place msg) r legal e = apart (sym (ap is_refused legal) ∙ e)
   untold is_clone v c r legal e = quiet (sends_are_ready v) (record v { control = tell_a_sender v.control }) v

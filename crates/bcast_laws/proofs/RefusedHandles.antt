@@ -1,4 +1,4 @@
--- A refused call that makes a handle leaves what stands beside the messages as it was.
+-- A refused call that makes a handle doesn't change the control.
 use Rattle.std.proofs.Common.{◌≡◌, ℕ, ◌+◌, ◌||◌, not, Bool, true, false, cond, Option, Some, None, Ok, Err, refl}
 use Rattle.std.specs.Prelude.{is_some}
 use Rattle.bcast_model.specs.declared.error.HandleError.TheVariants as handle

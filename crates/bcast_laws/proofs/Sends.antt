@@ -1,4 +1,4 @@
--- What a send adds, and what comes back.
+-- What a send adds, and what it hands back.
 use Rattle.std.proofs.Common.{◌≡◌, ℕ, ◌&&◌, not, Bool, true, false, cond, nat_lt, List, [], ◌∷◌, ◌++◌, length, Option, Some, None, Result, Ok, Err, refl, sym, ap, ◌∙◌, append-nil}
 use Rattle.std.specs.Prelude.{is_ok}
 use Rattle.bcast_model.specs.declared.error.TrySendError.{TrySendError}
@@ -55,7 +55,7 @@ module _ {T : Type 0} where
   adds_attempt v msg false (Err (unsent.Inactive m)) = refl
   adds_attempt v msg await (Err (unsent.Full m)) = refl
 
-  -- a poll is answered as an attempt is
+  -- a poll returns what an attempt does
   as_attempt : (answer : SendPoll T) → is_accepted (reply.PollSend answer) ≡ is_accepted (reply.AttemptSend answer)
   as_attempt (send.Ready (Ok back)) = refl
   as_attempt (send.Ready (Err error)) = refl
@@ -105,7 +105,7 @@ module _ {T : Type 0} where
   pub nothing_added : (is_clone : T → T → Type 0) (h : History T) (c : Call T) (r : Reply T) → Legal is_clone (view_of h) c r → is_accepted r ≡ false → (next h c r).accepted ≡ h.accepted
   nothing_added is_clone h c r legal refused = ap (◌++◌ h.accepted) (adds is_clone (view_of h) c r legal ∙ ap (λ b. added b (messages_of c)) refused) ∙ append-nil h.accepted
 
-  -- ---- what comes back, by: closed, no receiver, full without overflow, and whether sends await a receiver
+  -- ---- what is handed back, by: closed, no receiver, full, no overflow, sends await a receiver
   returns_try : (closed none full : Bool) (back : Option T) (msg : T) → is_accepted (reply.TryBroadcast (cond closed (Err (unsent.Closed msg)) (cond none (Err (unsent.Inactive msg)) (cond full (Err (unsent.Full msg)) (Ok back))))) ≡ false
       → returned_by (reply.TryBroadcast (cond closed (Err (unsent.Closed msg)) (cond none (Err (unsent.Inactive msg)) (cond full (Err (unsent.Full msg)) (Ok back))))) ≡ Some msg
   returns_try true none full back msg e = refl

@@ -50,7 +50,7 @@ module _ {T : Type 0} where
     closed_skipping None at = refl
     closed_skipping (Some cursor) at = (let past = read_all cursor at in closed_at v (max cursor v.front) valid is.closed (omega (arith, past)))
 
-    -- no message is owed where none is kept
+    -- no message is owed if none is kept
     nothing_owed : (cursor : Option ℕ) → IsOwed v key cursor → ⊥
     nothing_owed cursor owed = (let size = valid.end in let none = is.none in let from = owed.kept.0 in let under = owed.kept.1 in absurd (omega (arith, size, none, from, under)))
 

@@ -1,4 +1,4 @@
--- What a closed channel answers.
+-- What calls on a closed channel return.
 use Rattle.std.specs.Prelude.{◌≡◌, ℕ, true, List, None, Ok, Err}
 use Rattle.futures.specs.declared.task.Poll.TheVariants as poll
 use Rattle.bcast_model.specs.declared.error.TrySendError.TheVariants as unsent
@@ -28,7 +28,7 @@ pub record StaysClosed {T : Type 0} (is_clone : T → T → Type 0) : Type 0 whe
       → has_place v.control place ≡ true → Legal is_clone v (call.PollSend place msg) r
       → r ≡ reply.PollSend (send.Ready (Err (record { 0 = msg })))
 
--- the receives of this receiver answer that the channel is closed, and nothing else
+-- the receives of this receiver return that the channel is closed, and nothing else
 pub record AnswersClosed
     {T : Type 0} (is_clone : T → T → Type 0) (v : View T) (key : ℕ) (r : Reply T) : Type 0 where
   pub try_recv : Legal is_clone v (call.TryRecv key) r → r ≡ reply.TryRecv (Ok (Err unread.Closed))
@@ -37,7 +37,7 @@ pub record AnswersClosed
   pub poll_recv : Legal is_clone v (call.PollRecv key) r → r ≡ reply.PollRecv (Ok (poll.Ready None))
   pub poll_next : Legal is_clone v (call.PollNext key) r → r ≡ reply.PollNext (Ok (poll.Ready None))
 
--- where `is_terminated` answers true, each receive answers that the channel is closed
+-- if `is_terminated` returns true, each receive returns that the channel is closed
 abbrev pub TerminatedGivesNothing : {T : Type 0} → (T → T → Type 0) → Type 0
 TerminatedGivesNothing {T} is_clone =
     (v : View T) (key : ℕ) (r : Reply T) → IsValidView v

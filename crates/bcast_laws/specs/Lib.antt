@@ -1,8 +1,8 @@
 -- in reading order: what a send adds, and what a refused call leaves as it was
 pub mod Sends
--- what a closed channel answers
+-- what calls on a closed channel return
 pub mod Closing
--- what a receiver is answered, and how many messages are kept
+-- what receives return, and how many messages are kept
 pub mod Receives
 -- what the receivers of a whole run are given
 pub mod Order

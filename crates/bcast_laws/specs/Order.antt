@@ -18,7 +18,7 @@ pub record IsGivenAs
   pub given : slice_get (deliveries_of key h calls replies) index ≡ Some (Some msg)
 
 module _ {T : Type 0} where
-  -- at some point of a run: of the state there, and of the calls and replies from there on
+  -- `Holds` at some point of a run: of the state there, and of the calls and replies that follow
   abbrev pub AtSomePoint : (History T → List (Call T) → List (Reply T) → Type 0)
       → History T → List (Call T) → List (Reply T) → Type 0
   AtSomePoint Holds h [] replies = Holds h [] replies
@@ -27,7 +27,7 @@ module _ {T : Type 0} where
       Holds h (c ∷ calls) (r ∷ replies) ⊎ AtSomePoint Holds (next h c r) calls replies
 
 -- receivers that are given messages of one number, whenever they were made, are given one accepted
--- message or clones of it; where a clone equals its original, they are given the same
+-- message or clones of it; if a clone equals its original, they are given equal messages
 pub record HasOneOrder
     {T : Type 0} (is_clone : T → T → Type 0)
     (h : History T) (calls : List (Call T)) (replies : List (Reply T)) : Type 0 where

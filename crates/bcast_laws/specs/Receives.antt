@@ -1,4 +1,4 @@
--- What a receiver is answered, and how many messages are kept.
+-- What receives return, and how many messages are kept.
 use Rattle.std.specs.Prelude.{◌≡◌, ◌≢◌, ℕ, ◌≤◌, true, [], length, IsOk, Ok, Err}
 use Rattle.std.specs.FinMap.{len}
 use Rattle.bcast_model.specs.declared.error.TryRecvError.TheVariants as unread
@@ -9,7 +9,7 @@ use Rattle.bcast_model.specs.declared.run.Reply.TheVariants as reply
 use Rattle.bcast_model.specs.Words.{cursor_of, View, History, view_of, try_recv_reply, Legal, next}
 use Rattle.bcast_model.specs.Words.{IsValid, IsValidView, receives_for}
 
--- `len` is never over `capacity`, and no message is kept where nobody receives
+-- `len` is never over `capacity`, and no message is kept if there is no receiver
 pub record KeepsAtMostCapacity {T : Type 0} (is_clone : T → T → Type 0) : Type 0 where
   pub kept : (v : View T) → IsValidView v → length v.queue ≤ v.control.capacity
   pub answered : (v : View T) (n capacity : ℕ) → IsValidView v
@@ -17,8 +17,8 @@ pub record KeepsAtMostCapacity {T : Type 0} (is_clone : T → T → Type 0) : Ty
       → Legal is_clone v call.Capacity (reply.Capacity capacity) → n ≤ capacity
   pub nobody : (v : View T) → IsValidView v → len v.control.cursors ≡ 0 → v.queue ≡ []
 
--- who is told that it missed messages missed one at least, and finds a message if it asks again
--- at once
+-- a receiver for which `try_recv` counts missed messages missed at least one, and finds a message
+-- if it tries again at once
 abbrev pub MissedThenGiven : Type 0 → Type 0
 MissedThenGiven T =
     (h : History T) (key n : ℕ) → IsValid h
@@ -33,7 +33,7 @@ pub record ShareMessages {T : Type 0} (h other : History T) : Type 0 where
   pub floor : other.floor ≡ h.floor
   pub closed : other.control.closed ≡ h.control.closed
 
--- what a receiver is answered depends on what is shared and on its own cursor alone:
+-- what a receive returns depends on what is shared and on the receiver's own cursor alone:
 -- no receive by another one changes it
 pub record ReadsByOwnCursor (T : Type 0) : Type 0 where
   pub own : (h other : History T) (key : ℕ) → IsValid h → ShareMessages h other
@@ -45,7 +45,7 @@ pub record ReadsByOwnCursor (T : Type 0) : Type 0 where
       → try_recv_reply (view_of (next h c r)) (cursor_of (next h c r).control key)
       ≡ try_recv_reply (view_of h) (cursor_of h.control key)
 
--- `Receiver::clone`: the two are answered alike, also once the receiver was asked
+-- `Receiver::clone`: receives by the two return alike, also once the original has received
 abbrev pub ClonesAnswerAlike : {T : Type 0} → (T → T → Type 0) → Type 0
 ClonesAnswerAlike {T} is_clone =
     (h : History T) (key fresh : ℕ) (r : Reply T) → IsValid h

@@ -13,8 +13,8 @@ module _ {T : Type 0} where
   abbrev pub after_list : History T → List T → History T
   after_list h msgs = next h (call.TryBroadcastAll msgs) (reply.TryBroadcastAll (Ok tt))
 
-  -- a delivery of this message: the message itself, a clone of it, or None, where the receiver is
-  -- told that it missed it
+  -- a delivery of this message: the message itself, a clone of it, or None, if it is counted as
+  -- missed
   abbrev pub IsDeliveryOf : (T → T → Type 0) → T → Option T → Type 0
   IsDeliveryOf is_clone msg None = Unit {0}
   IsDeliveryOf is_clone msg (Some given) = IsGiven is_clone msg given
@@ -23,7 +23,7 @@ module _ {T : Type 0} where
 pub record StandsInOnePiece
     {T : Type 0} (is_clone : T → T → Type 0) (h : History T) (msgs : List T)
     (calls : List (Call T)) (replies : List (Reply T)) : Type 0 where
-  -- it stands last, in its order
+  -- it is last, in its order
   pub last : (after_list h msgs).accepted ≡ h.accepted ++ msgs
   -- its messages keep numbers that follow one another, so no other message comes between
   pub numbers : (index : ℕ) (msg : T) → slice_get msgs index ≡ Some msg
@@ -37,7 +37,7 @@ pub record StandsInOnePiece
       (end_number h + index - start))
       (IsDeliveryOf is_clone msg)
 
--- each list that is accepted stands so, whatever calls follow
+-- each list that is accepted stays in one piece, whatever calls follow
 abbrev pub ListsStandInOnePiece : {T : Type 0} → (T → T → Type 0) → Type 0
 ListsStandInOnePiece {T} is_clone =
     (h : History T) (msgs : List T) (calls : List (Call T)) (replies : List (Reply T)) → IsValid h

@@ -49,9 +49,9 @@ module _ {T : Type 0} where
   is_accepted (reply.PollSend (send.Ready (Ok back))) = true
   is_accepted r = false
 
-  -- whether a reply refuses its call: a message comes back, nothing is there to receive, the
-  -- channel was closed already, there is no memory, or no handle is made. A poll that found memory
-  -- is not refused, since it changes who waits
+  -- whether a reply refuses its call: a message is handed back, nothing is there to receive, the
+  -- channel was closed already, memory was refused, or no handle is made. A poll that isn't out of
+  -- memory is not refused, since it changes the lists of listeners
   abbrev pub is_refused : Reply T → Bool
   is_refused (reply.TryBroadcast (Err error)) = true
   is_refused (reply.TryBroadcastAll (Err error)) = true
@@ -86,8 +86,8 @@ pub record RefusedChangesNothing {T : Type 0} (is_clone : T → T → Type 0) : 
       → Legal is_clone v (call.TryBroadcastAll msgs) r → is_accepted r ≡ false
       → returned_all_by r ≡ Some msgs
 
--- a call adds its messages at the back, in order, if its reply says that they were accepted, else
--- nothing
+-- a call adds its messages last, in order, if its reply says that they were accepted; else it adds
+-- none
 pub record OnlyAcceptedIsAdded {T : Type 0} (is_clone : T → T → Type 0) : Type 0 where
   pub added : (h : History T) (c : Call T) (r : Reply T) → Legal is_clone (view_of h) c r
       → is_accepted r ≡ true → (next h c r).accepted ≡ h.accepted ++ messages_of c

@@ -8,7 +8,7 @@ pub fn deliveries_are_exact<T: Clone>()
 {}
 
 /// Law: the messages that a run drops have rising numbers. So none is dropped twice, and those that
-/// overflow hands back come in the order of their acceptance.
+/// overflow hands back are in the order of their acceptance.
 pub fn dropped_numbers_rise<T: Clone>()
     ensures { DroppedNumbersRise T.is_clone }
 {}

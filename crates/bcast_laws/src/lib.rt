@@ -1,6 +1,6 @@
-//! What the users of a channel rely on from one call to the next: laws of the definitions.
+//! What users of a channel can rely on over several calls: laws of the definitions.
 //!
-//! Each law stands on a function that does nothing. Whoever calls it may use the law.
+//! Each law is the contract of a function that does nothing. To use the law, call it.
 #![tactic(auto)]
 
 ghost use Rattle.bcast_laws.specs.Sends.{RefusedChangesNothing, OnlyAcceptedIsAdded, DroppedSendAddsNothing};
@@ -24,9 +24,9 @@ pub fn only_accepted_is_added<T: Clone>()
     ensures { OnlyAcceptedIsAdded T.is_clone }
 {}
 
-/// Law: a list that `try_broadcast_all` accepted stands last, in its order, and in one piece: no
-/// other message comes between, whatever calls follow. Each receiver that was there and reads on
-/// past the list is given each of its messages, or told that it missed it.
+/// Law: a list that `try_broadcast_all` accepted is last, in its order, and in one piece: no other
+/// message comes between, whatever calls follow. Each receiver that was there and reads past the
+/// list is given each of its messages, or the message is counted as missed.
 pub fn lists_stand_in_one_piece<T: Clone>()
     ensures { ListsStandInOnePiece T.is_clone }
 {}
@@ -41,28 +41,28 @@ pub fn stays_closed<T: Clone>()
     ensures { StaysClosed T.is_clone }
 {}
 
-/// Law: if `is_terminated` is true, each receive says that the channel is closed.
+/// Law: if `is_terminated` returns true, each receive returns that the channel is closed.
 pub fn terminated_gives_nothing<T: Clone>()
     ensures { TerminatedGivesNothing T.is_clone }
 {}
 
-/// Law: a channel keeps at most as many messages as its capacity, and none if nobody receives.
+/// Law: a channel keeps at most as many messages as its capacity, and none without receivers.
 pub fn keeps_at_most_capacity<T: Clone>()
     ensures { KeepsAtMostCapacity T.is_clone }
 {}
 
-/// Law: a `try_recv` that tells how many messages were missed tells of one at least, and finds a
-/// message if it is made again at once.
+/// Law: a `try_recv` that returns how many messages were missed counts at least one, and the next
+/// one finds a message if it follows at once.
 pub fn missed_then_given<T>()
     ensures { MissedThenGiven T }
 {}
 
-/// Law: what a receiver is answered doesn't depend on what the other receivers read.
+/// Law: what a receive returns doesn't depend on what the other receivers read.
 pub fn reads_by_own_cursor<T>()
     ensures { ReadsByOwnCursor T }
 {}
 
-/// Law: a receiver and its new clone are answered alike, also once the receiver was asked.
+/// Law: a receiver and its new clone receive alike, also once the original has received.
 pub fn clones_answer_alike<T: Clone>()
     ensures { ClonesAnswerAlike T.is_clone }
 {}

@@ -13,13 +13,13 @@ pub fn next_is_valid<T: Clone>()
     ensures { NextIsValid T.is_clone }
 {}
 
-/// Law: what is seen of a channel is seen of some valid state exactly if its own parts fit
+/// Law: a view is the view of some valid state exactly if its own parts fit
 /// together.
 pub fn views_are_shown<T>()
     ensures { ViewsAreShown T }
 {}
 
-/// Law: if a clone equals its original, a receive gives the accepted message to the letter.
+/// Law: if a clone equals its original, a receive gives the accepted message itself.
 pub fn replies_are_exact<T: Clone>()
     ensures { RepliesAreExact T.is_clone }
 {}
@@ -29,20 +29,20 @@ pub fn received_is_given<T: Clone>()
     ensures { ReceivedIsGiven T.is_clone }
 {}
 
-/// Law: a poll waits exactly if the try of the same name finds nothing to answer.
+/// Law: a poll waits exactly if the try of the same name finds nothing to return.
 pub fn polls_wait_where_tries_find_nothing<T: Clone>()
     ensures { PollsWaitWhereTriesFindNothing T.is_clone }
 {}
 
 /// Law: told polls come to rest. If n listeners wait, then at most n (n + 1) / 2 calls in a row
-/// poll a listener that is told just before it, want of memory aside. If no listener is told, none
-/// of their polls would be answered.
+/// poll a listener that is told just before, if none is out of memory. If no listener is told,
+/// none of their polls would be answered.
 pub fn told_polls_come_to_rest<T: Clone>()
     ensures { ToldPollsComeToRest T.is_clone }
 {}
 
-/// Law: the lists of who waits. No id stands twice, no more are told than wait, and each keeps its
-/// position.
+/// Law: the lists of listeners. No id is listed twice, no more are told than wait, and each keeps
+/// its position.
 pub fn lists_stay_in_order<A>()
     ensures { ListsStayInOrder A }
 {}

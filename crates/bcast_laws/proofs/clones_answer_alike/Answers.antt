@@ -1,4 +1,4 @@
--- The clone stands where its original does.
+-- The clone has the cursor of its original.
 use Rattle.bcast_laws.proofs.Clones.{clone_alike}
 use Rattle.bcast_laws.proofs.clones_answer_alike.Goals as goal
 

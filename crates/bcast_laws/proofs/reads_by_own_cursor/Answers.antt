@@ -1,4 +1,4 @@
--- One receiver's answer in two states that it can't tell apart.
+-- What one receiver's receive returns in two states that differ only for others.
 use Rattle.bcast_laws.proofs.Answers.{own_answer, others_answer}
 use Rattle.bcast_laws.proofs.reads_by_own_cursor.Goals as goal
 
