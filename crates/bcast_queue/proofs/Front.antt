@@ -19,7 +19,7 @@ none_gone low (n ∷ ns) h r =
     let rest : count_by nobody ns ≡ 0 = none_gone n ns (omega (arith, r.0)) r.1 in
     omega (arith, count_head n ns false apart, rest)
 
--- if nobody reads the first message next, one more is gone
+-- if no reader reads the first message next, one more is gone
 pub one_nobody : (ns : List ℕ) → 0 < length ns → get_or ns 0 0 ≡ 0 → prefix_len nobody ns ≡ 1 + prefix_len nobody (drop 1 ns)
 one_nobody [] some none = absurd (omega arith)
 one_nobody (n ∷ ns) some none = ap (λ b. cond b (1 + prefix_len nobody ns) 0) (eq-eqb n 0 none)

@@ -5,9 +5,9 @@ pub mod Owed
 pub mod Front
 -- the counts of a changed queue, index by index, for the crates above
 pub mod Pointwise
--- owed counts by the counts of who reads next
+-- the counts of owing readers, by how many read each message next
 pub mod OwedBy
--- the messages at the front that nobody owes
+-- the messages at the front that no reader owes
 pub mod Unowed
 -- what is seen of a queue
 pub mod Queues

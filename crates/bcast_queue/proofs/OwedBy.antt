@@ -93,7 +93,7 @@ pub first_owed : (b t n : ℕ) (ns : List ℕ) → AreCounted b t ns → 0 < t +
 first_owed b t n [] counted some = omega (arith, counted.summed, some)
 first_owed b t n (m ∷ ns) counted some = counted.owed (omega arith)
 
--- a message is owed by more than the one before it where somebody reads it next
+-- a message is owed by more readers than the one before it if some reader reads it next
 pub next_owed : (b i : ℕ) (ns : List ℕ) → suc i < length ns → get_or (owed_by b ns) (suc i) 0 ≡ get_or (owed_by b ns) i 0 + get_or ns (suc i) 0
 next_owed b i [] h = absurd (omega arith)
 next_owed b i (n ∷ []) h = absurd (omega arith)
@@ -123,7 +123,7 @@ all_back low (n ∷ ns) h r =
     let rest = all_back n ns (omega (arith, r.0, h)) r.1 in
     cc
 
--- a reader that goes on from an index to the next owes the message there no more
+-- a reader that moves from an index to the next no longer owes the message there
 pub one_moves : (low i : ℕ) (ns : List ℕ) → 0 < low → RisesFrom low ns → one_more_from (suc i) (one_fewer_from i ns) ≡ set ns i (get_or ns i 0 - 1)
 one_moves low zero [] h r = refl
 one_moves low (suc i) [] h r = refl

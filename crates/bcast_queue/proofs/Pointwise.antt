@@ -48,7 +48,7 @@ few_gone (suc m) (n ∷ ns) some =
     let e = count_cons n ns in
     grind (arith, common_steps, r, e)
 
--- and if as many are, it is those before m
+-- and if m are, they are those before m
 pub gone_before : (m : ℕ) (ns : List ℕ) → m ≤ count_by nobody ns → ((i : ℕ) → m ≤ i → i < length ns → 1 ≤ get_or ns i 0) → (i : ℕ) → i < m → get_or ns i 0 ≡ 0
 gone_before zero ns many some i h = absurd (omega arith)
 gone_before (suc m) [] many some i h = absurd (omega arith)

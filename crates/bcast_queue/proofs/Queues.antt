@@ -1,4 +1,4 @@
--- What the calls of a queue make of what is seen of it.
+-- What the calls of a queue do to what a contract sees of it.
 use Rattle.std.proofs.Common.{◌≡◌, ◌≢◌, ℕ, zero, suc, ◌+◌, ◌-◌, ◌<◌, ◌≤◌, get_or, set, count_by, false, cond, eqb, [], ◌∷◌, drop, length, List, map, slice_get, sum, Some, refl, sym, ap, subst, ◌∙◌, arith, add-zero}
 use Rattle.std.proofs.lemmas.List.{length-map}
 use Rattle.std.proofs.lemmas.List.Sums.{sum_by-cons}
@@ -13,7 +13,7 @@ use Rattle.bcast_queue.proofs.Front.{nobody, none_gone}
 use Rattle.bcast_queue.proofs.OwedBy.{RisesFrom-owed_by, length-owed_by}
 use Rattle.bcast_queue.proofs.Unowed.{AreUnowed}
 
--- at the end nobody leaves
+-- at the end no reader leaves
 fewer_at_end : (i : ℕ) (ns : List ℕ) → length ns ≤ i → ns ≡ one_fewer_from i ns
 fewer_at_end zero [] h = refl
 fewer_at_end zero (n ∷ ns) h = absurd (omega arith)
@@ -32,7 +32,7 @@ module _ {X : Type 0} where
   pub same_queue : (a b : ℕ) (xs ys : List X) (ms ns : List ℕ) (r s : ℕ) → a ≡ b → xs ≡ ys → ms ≡ ns → r ≡ s → queue_with a xs ms r ≡ queue_with b ys ns s
   same_queue a b xs ys ms ns r s front messages owed room = λ i. queue_with (front i) (messages i) (owed i) (room i)
 
-  -- what the value says of its counts
+  -- what the invariant says of the counts
   pub record IsQueue (q : Queued X) : Type 0 where
     pub rises : RisesFrom 1 q.owed
     pub lengths : length q.owed ≡ length q.messages
@@ -59,7 +59,7 @@ module _ {X : Type 0} where
       ap (λ (p : Queued X). get_or p.owed i 0) (sym seen) ∙ ap (λ j. get_or (owed_by behind (counts ring)) j 0) first
       ∙ first_owed behind ring.items e (ap (slice_get ring.items) (sym first) ∙ is)
 
-  -- these are no more than all that owe
+  -- these are no more than all owing readers
   pub first_fits : (behind : ℕ) (items : List (Entry X)) (e : Entry X) → slice_get items 0 ≡ Some e → behind + e.next ≤ behind + sum (map next_of items)
   first_fits behind [] e is = absurd (none-some e is)
   first_fits behind (x ∷ xs) e is =
@@ -82,7 +82,7 @@ module _ {X : Type 0} where
       ap (λ ms. queue_with q.front q.messages ms q.room) is
       ∙ sym (without_none (record q { owed = one_fewer_from i q.owed }) _ (ap (count_by nobody) (sym is) ∙ none_gone 1 ns (omega arith) rises))
 
-  -- a reader leaves, and the first k messages with it
+  -- a reader leaves, and the first k messages are dropped
   pub left_front : (q : Queued X) (i k : ℕ) (ns : List ℕ) → owed_by 0 ns ≡ one_fewer_from i q.owed → AreUnowed ns k → queue_with (q.front + k) (drop k q.messages) (owed_by 0 (drop k ns)) q.room ≡ without_reader i q
   left_front q i k ns is unowed =
       let gone : k ≡ count_by nobody (one_fewer_from i q.owed) = sym unowed.gone ∙ ap (count_by nobody) is in

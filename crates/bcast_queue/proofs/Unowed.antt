@@ -1,4 +1,4 @@
--- The messages at the front that nobody owes any more.
+-- The messages at the front that no reader owes any more.
 use Rattle.std.proofs.Common.{◌≡◌, ℕ, suc, ◌+◌, ◌<◌, List, [], ◌∷◌, length, drop, get_or, sum, Bool, true, false, cond, count_by, refl, ap, subst, ◌∙◌, arith}
 use Rattle.std.specs.List.{prefix_len}
 use Rattle.std.proofs.lemmas.List.Sums.{sum_by-cons}
@@ -6,7 +6,7 @@ use Rattle.bcast_queue.specs.Entries.{owed_by}
 use Rattle.bcast_queue.proofs.Front.{nobody, none_gone, count_head}
 use Rattle.bcast_queue.proofs.OwedBy.{RisesFrom-owed_by}
 
--- the first k messages are those that nobody owes, where nobody is behind the front
+-- the first k messages are those that no reader owes, if no reader is behind the front
 pub record AreUnowed (ns : List ℕ) (k : ℕ) : Type 0 where
   pub gone : count_by nobody (owed_by 0 ns) ≡ k
   pub owed : drop k (owed_by 0 ns) ≡ owed_by 0 (drop k ns)
@@ -36,7 +36,7 @@ AreUnowed-if n k ns rest false is =
       first = λ _. some;
     }
 
--- it is those that nobody reads next
+-- they are those that no reader reads next
 pub AreUnowed-front : (ns : List ℕ) → AreUnowed ns (prefix_len nobody ns)
 AreUnowed-front [] = record { gone = refl; owed = refl; summed = refl; first = λ h. absurd (omega arith) }
 AreUnowed-front (n ∷ ns) = AreUnowed-if n (prefix_len nobody ns) ns (AreUnowed-front ns) (nobody n) refl

@@ -1,4 +1,4 @@
--- Which queue the entries of a ring are, and what holds of them. No clause cites this.
+-- The queue that the entries of a ring make up, and what holds of them. No public clause names it.
 use Rattle.std.specs.Prelude.{◌≡◌, ℕ, ◌+◌, ◌<◌, ◌≤◌, ◌^◌, List, [], ◌∷◌, map, length, sum, slice_index}
 use Rattle.circular_buffer.specs.Buffer.{Buffer}
 use Rattle.bcast_queue.specs.declared.Entry.{Entry}
@@ -32,13 +32,13 @@ module _ {X : Type 0} where
       queue_with front (messages ring) (owed_by behind (counts ring)) room
 
 -- the counts of the owing readers: their sum is the total, some reader owes the first message, and
--- none owes any where there is no message
+-- the total is 0 if there is no message
 pub record AreCounted (behind total : ℕ) (ns : List ℕ) : Type 0 where
   pub summed : total ≡ behind + sum ns
   pub owed : 0 < length ns → 0 < behind + slice_index ns 0
   pub empty : length ns ≡ 0 → total ≡ 0
 
--- the readers are counted, each message has a number, and the ring has room for as many as is said
+-- the readers are counted, each message has a number, and the ring has room for `room` messages
 pub record IsSound {X : Type 0} (front behind total room : ℕ) (ring : Buffer (Entry X))
     : Type 0 where
   pub counted : AreCounted behind total (counts ring)

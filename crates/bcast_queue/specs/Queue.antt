@@ -1,4 +1,4 @@
--- What a contract sees of a `Queue`, and what its calls make of it. An index counts from the front.
+-- What a contract sees of a `Queue`, and what its calls do to it. An index counts from the front.
 use Rattle.std.specs.Prelude.{ℕ, ◌+◌, ◌-◌, ◌==◌, List, ◌++◌, map, take, drop, slice_index, slice_set, count_by, if◌then◌else◌, refl}
 use Rattle.std.specs.Coded.{Coded, code_by, coded×, coded_list, coded_ℕ}
 pub use Rattle.circular_buffer.specs.Buffer.{last_item}
@@ -42,7 +42,7 @@ module _ {X : Type 0} where
   abbrev pub with_reader : ℕ → Queued X → Queued X
   with_reader i q = record q { owed = one_more_from i q.owed }
 
-  -- `drop` of a `Receiver`: one reader fewer from the index i on; what no reader owes then is gone
+  -- `drop` of a `Receiver`: one reader fewer from the index i on; messages no reader owes then go
   abbrev pub without_reader : ℕ → Queued X → Queued X
   without_reader i q =
       let rest = record q { owed = one_fewer_from i q.owed } in

@@ -17,13 +17,13 @@ mod counts;
 mod readers;
 mod steps;
 
-/// A ring of messages, each with the number of readers that still owe it a read.
+/// A ring of messages, each with the number of readers that have still to read it.
 ///
 /// An index counts the messages from the front, and a number all messages that were ever sent: the
-/// message at index `i` has the number `front + i`. A count is at least 1, and at least that of the
-/// message before it. `room` is how many messages fit.
+/// message at index `i` has the number `front + i`. The count of a message is at least 1, and at
+/// least the count of the message before it. `room` is how many messages fit.
 ///
-/// A reader is counted once, at the message that it reads next, so that one reader more or fewer
+/// A reader is counted once, at the message that it reads next. So one reader more or fewer
 /// changes one count, however many messages there are.
 ///
 /// Source: `Inner::queue` and `Inner::head_pos` of async-broadcast 0.7.2.
@@ -32,11 +32,11 @@ pub struct Queue<T, A: Allocator = Global> {
     ring: HeapCircularBuffer<Entry<T>, A>,
     // The number of the first message, or of the next one if there is none.
     front: u64,
-    // How many owing readers read a message next that is gone.
+    // How many owing readers have a message that is gone as the one that they read next.
     behind: usize,
     // How many owing readers there are.
     total: usize,
-    // How many messages fit. The ring may have place for more.
+    // How many messages fit. The ring may have room for more.
     room: usize,
 }
 
@@ -64,8 +64,8 @@ impl<T, A: Allocator> Model for Queue<T, A> {
 impl<T, A: Allocator> Queue<T, A> {
     /// An empty queue.
     ///
-    /// `first` is the number of its first message, and `room` how many messages fit. Takes memory
-    /// for all of them.
+    /// `first` is the number of its first message, and `room` how many messages fit. Allocates
+    /// memory for all of them.
     ///
     /// # Errors
     ///
@@ -144,7 +144,7 @@ impl<T, A: Allocator> Queue<T, A> {
         self.room
     }
 
-    /// The message at `index`, or nothing if there are not so many. It is owed as before.
+    /// The message at `index`, or `None` if there are not so many. No reader has read it by this.
     pub fn get(&self, index: usize) -> Option<&T>
         ensures { option_copied result ≡ slice_get self.now.messages index }
     {
@@ -156,8 +156,8 @@ impl<T, A: Allocator> Queue<T, A> {
 
     /// Makes room for `room` messages in all. The messages stay.
     ///
-    /// Takes memory for as many, or for twice as many as there was memory for if that is more, so
-    /// that growth in small steps moves each message seldom; for `room` if the larger is refused.
+    /// Allocates memory for `room` messages, or for twice as many as there was memory for if that
+    /// is more, so that messages are seldom moved. If the larger is refused, `room` is tried.
     ///
     /// # Errors
     ///
@@ -176,7 +176,7 @@ impl<T, A: Allocator> Queue<T, A> {
         Ok(())
     }
 
-    /// Appends `msg`, to which `owing` readers owe a read, and returns its number. Takes no memory.
+    /// Appends `msg`, which `owing` readers have to read, and returns its number. Never allocates.
     ///
     /// Source: `queue.push_back` in `try_broadcast` of async-broadcast.
     #[inline(always)]
@@ -192,7 +192,7 @@ impl<T, A: Allocator> Queue<T, A> {
         } }
     {
         let number = self.front + self.ring.len() as u64;
-        // Whoever has read all messages reads this one next.
+        // The readers that have read all messages read this one next.
         let next = owing - self.total;
         match self.ring.try_push_back(Entry { message: msg, next }) {
             Ok(()) => {}
@@ -202,7 +202,7 @@ impl<T, A: Allocator> Queue<T, A> {
         number
     }
 
-    /// Takes the first message out, whoever owes it, or returns nothing if there is none.
+    /// Takes the first message out, even if readers owe it; returns `None` if there is none.
     ///
     /// Source: `queue.pop_front` in `try_broadcast` of async-broadcast.
     #[inline(always)]

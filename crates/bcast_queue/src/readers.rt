@@ -1,4 +1,4 @@
-//! Who still owes a message a read: readers come, leave, and read.
+//! The readers that owe messages: they are added, leave, and read.
 ghost use Rattle.std.specs.Prelude.{◌≡◌, ◌+◌, ◌-◌, ◌<◌, ◌≤◌, ◌==◌, ◌↔◌, length, Some, slice_get};
 ghost use Rattle.std.specs.Prelude.{slice_index, IfOk, IsOk, OnOk, OnErr, IsTrue};
 ghost use Rattle.std.specs.Option.{ForSome, IsSomeAnd};
@@ -10,7 +10,7 @@ use crate::{Counter, Queue};
 use std::alloc::{AllocError, Allocator};
 
 impl<T, A: Allocator> Queue<T, A> {
-    /// Adds a reader of the message at `index` and of those behind it. Takes no memory.
+    /// Adds a reader of the message at `index` and of those behind it. Allocates nothing.
     ///
     /// At an `index` that is the length it changes nothing.
     ///
@@ -27,7 +27,7 @@ impl<T, A: Allocator> Queue<T, A> {
 
 impl<T: Drop, A: Allocator> Queue<T, A> {
     /// Takes a reader away from the message at `index` and those behind it. The messages that no
-    /// reader owes then are dropped, and the front moves on by as many.
+    /// reader owes then are dropped, and the front moves past them.
     ///
     /// At an `index` that is the length it changes nothing.
     ///
@@ -57,7 +57,7 @@ impl<T: Drop, A: Allocator> Queue<T, A> {
 }
 
 impl<T: Clone, A: Allocator> Queue<T, A> {
-    // Takes a reader away from the message at `index` alone, which has another.
+    // Takes a reader away from the message at `index` alone. Another reader must owe it too.
     #[inline(always)]
     fn read_next<C: Counter>(&mut self, index: usize, steps: &mut C)
         requires within { index < length self.old.messages }
@@ -77,10 +77,10 @@ impl<T: Clone, A: Allocator> Queue<T, A> {
         }
     }
 
-    /// Gives the message at `index` to one of its readers: a clone, or, if that reader is the
-    /// last, the message itself, which is the first one, and the front moves on.
+    /// Gives the message at `index` to one of its readers: a clone, or the message itself if no
+    /// other reader owes it. It is the first message then, and the front moves past it.
     ///
-    /// Takes the memory that the clone takes. The messages that stay are unchanged.
+    /// Only the clone may allocate memory. The messages that stay are unchanged.
     ///
     /// # Errors
     ///

@@ -4,7 +4,7 @@ ghost use Rattle.std.specs.Prelude.{◌≡◌, ◌+◌, ◌<◌, ◌≤◌, true
 use std::marker::Model;
 use std::sync::ledger::{Blank, Book, Ledger, Share};
 
-/// What is told of each step, and may count it.
+/// A counter that is called at each step, and may count it.
 pub trait Counter {
     ghost use Rattle.std.specs.Prelude.{ℕ, Bool};
 
@@ -14,7 +14,7 @@ pub trait Counter {
     // Whether it counts every step.
     ghost counts: { Bool };
 
-    /// One step more.
+    /// Counts one more step, or does nothing.
     fn count(&mut self)
         ensures most { total self.new ≤ total self.old + 1 }
         ensures exact { counts ≡ true → total self.new ≡ total self.old + 1 };
@@ -39,7 +39,7 @@ impl<L: Ledger> Model for Steps<L> {
 }
 
 impl<L: Ledger> Steps<L> {
-    /// No step.
+    /// A count of no steps.
     #[inline(always)]
     pub fn new(blank: Blank) -> Steps<L>
         requires name { blank.name ≡ L.name }
@@ -67,7 +67,7 @@ impl<L: Ledger> Counter for Steps<L> {
     }
 }
 
-/// What counts no step.
+/// A counter that counts no step.
 #[derive(Drop)]
 pub struct Uncounted;
 

@@ -1,4 +1,4 @@
--- The invariant in the words of std.
+-- The invariant by std's definitions.
 use Rattle.std.proofs.Common.{◌∙◌, sym}
 use Rattle.std.proofs.lemmas.List.{length-map}
 use Rattle.bcast_queue.specs.Entries.{counts, next_of, message_of}

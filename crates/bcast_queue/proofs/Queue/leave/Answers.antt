@@ -1,4 +1,4 @@
--- A reader leaves, and the messages that it was the last to owe.
+-- A reader leaves, and the messages that only it owed are dropped.
 use Rattle.std.proofs.Common.{◌≡◌, ◌+◌, ◌<◌, get_or, length, drop, ap, sym, ◌∙◌, refl, arith, sum, length-drop}
 use Rattle.std.specs.List.{prefix_len}
 use Rattle.std.proofs.lemmas.List.{length-map}

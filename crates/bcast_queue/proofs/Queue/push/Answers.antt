@@ -1,4 +1,4 @@
--- The new count makes the sum what is owed.
+-- With the new count the sum is the number of owing readers.
 use Rattle.std.proofs.Common.{◌≡◌, ◌++◌, ◌∷◌, [], ◌-◌, ◌+◌, ap, ◌∙◌, arith, sum}
 use Rattle.std.proofs.lemmas.List.{map_push, length-map, length_push}
 use Rattle.std.proofs.lemmas.List.Sums.{sum_by_push}

@@ -1,4 +1,4 @@
--- A reader goes on to the next message.
+-- A reader moves to the next message.
 use Rattle.std.proofs.Common.{◌≡◌, ◌+◌, ◌-◌, suc, get_or, set, ap, refl, ◌∙◌, arith}
 use Rattle.std.proofs.lemmas.List.{length-map}
 use Rattle.bcast_queue.specs.Queue.{one_more_from, one_fewer_from}

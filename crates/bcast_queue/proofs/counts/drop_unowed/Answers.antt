@@ -1,4 +1,4 @@
--- Each turn drops the first message, and there are fewer then.
+-- Each turn of the loop drops the first message, so there are fewer then.
 use Rattle.std.proofs.Common.{◌≡◌, ◌+◌, ◌<◌, length, drop, sum, sym, ap, ◌∙◌, arith, length-drop}
 use Rattle.std.specs.List.{prefix_len}
 use Rattle.std.proofs.lemmas.List.{length-map, drop-map, drop-drop}
