@@ -36,7 +36,7 @@ module _ {V : Type 0} (p : V → Bool) where
       differ : (x y : ℕ) → x < y → eqb x y ≡ false
       differ x y l = grind arith
 
-  -- the new value counts, and the old one no more
+  -- the new value is counted, and the old one no more
   count-put : (k : ℕ) (v : V) (es : List (ℕ × V)) → T (map.is_sorted nat_cmp es) → count_by passing (put nat_cmp k v es) + one_if p (find nat_cmp k es) ≡ count_by passing es + cond (p v) 1 0
   count-put k v [] h = omega (arith, count_cons (k, v) [])
   count-put k v (e ∷ es) h = go (count-put k v es (both_true _ _ h).1) (nat_cmp k e.0) refl
@@ -58,7 +58,7 @@ module _ {V : Type 0} (p : V → Bool) where
   over true v o = refl
   over false v o = refl
 
-  -- a removed value counts no more
+  -- a removed value is counted no more
   pub count_values-remove : (m : FinMap nat_cmp V) (k : ℕ) → counted (map.remove m k) + one_if p (map.get m k) ≡ counted m
   count_values-remove m k = go (map.get m k) refl
     where

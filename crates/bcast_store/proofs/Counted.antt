@@ -9,7 +9,7 @@ use Rattle.bcast_store.specs.Sound.{IsSound, store_of}
 use Rattle.bcast_store.proofs.Least.{least-le-cursor, least-le-limit}
 use Rattle.bcast_store.proofs.Owing.{some_owes}
 
--- what the queue itself says of its counts
+-- what the queue's invariant says of its counts
 pub record IsCounted {T : Type 0} (q : Queued T) : Type 0 where
   pub lengths : length q.owed ≡ length q.messages
   pub owed : All (λ n. 1 ≤ n) q.owed

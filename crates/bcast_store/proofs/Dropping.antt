@@ -1,4 +1,4 @@
--- The first messages go, one by one.
+-- The first messages are dropped, one by one.
 use Rattle.std.proofs.Common.{◌≡◌, ℕ, ◌+◌, ◌<◌, [], ◌∷◌, length, drop, Option, Some, None, refl, sym, ap, ◌∙◌, arith, length-drop}
 use Rattle.std.specs.Prelude.{IfSome, OnSome, IfNone}
 use Rattle.std.proofs.lemmas.List.{drop-drop}
@@ -11,7 +11,7 @@ module _ {T : Type 0} where
   pub same_stored : (a b : Stored T) → a.front ≡ b.front → a.queue ≡ b.queue → a.cursors ≡ b.cursors → a.room ≡ b.room → a ≡ b
   same_stored a b f q c r = λ i. record { front = f i; queue = q i; cursors = c i; room = r i }
 
-  -- what `pop` says, if there is a message
+  -- what `pop` does, if there is a message
   popped : (r : Option T) (old new : Stored T) → IfSome r (λ msg. old.queue ≡ msg ∷ new.queue) → OnSome r (new ≡ record old { front = old.front + 1; queue = new.queue }) → IfNone r (old.queue ≡ []) → 0 < length old.queue → new ≡ dropped 1 old
   popped None old new oldest rest empty some = let e = ap length empty in absurd (omega arith)
   popped (Some msg) old new oldest rest empty some =

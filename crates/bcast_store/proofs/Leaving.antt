@@ -1,4 +1,4 @@
--- The counts go on with a receiver that comes or leaves.
+-- The counts stay right when a receiver is added or leaves.
 use Rattle.std.proofs.Common.{◌≡◌, ℕ, ◌+◌, ◌-◌, ◌<◌, ◌≤◌, cond, eqb, length, drop, Some, None, get_or, count_by, nat_le, refl, ap, ◌∙◌, arith, length-drop}
 use Rattle.std.proofs.lemmas.Grind.{common_steps}
 use Rattle.std.proofs.lemmas.List.{get_or-drop}
@@ -36,7 +36,7 @@ module _ {T : Type 0} where
       let same : ◌≡◌ {A = ℕ} (cond (nat_le (cursor - q.front) i) 1 0) (cond (nat_le cursor (q.front + i)) 1 0) = grind (arith, common_steps) in
       omega (arith, a, b, d, same)
 
-  -- how many messages go
+  -- how many messages are dropped
   abbrev gone : Queued T → ℕ → ℕ
   gone q i = count_by (λ n. eqb n 0) (one_fewer_from i q.owed)
 
@@ -56,7 +56,7 @@ module _ {T : Type 0} where
         reach = λ other c e. let l = stayed (q.front + length q.messages) cursors key other c s.reach e in omega (arith, size, within);
       }
 
-  -- nobody is still to read the last message that goes
+  -- no receiver has still to read the last message that is dropped
   nobody_left : (q : Queued T) (cursors : Cursors) (key cursor : ℕ) → IsSound q cursors → length q.owed ≡ length q.messages → get cursors key ≡ Some cursor → IsCounted (without_reader (cursor - q.front) q)
       → 0 < gone q (cursor - q.front) → owing_at (remove cursors key) (q.front + (gone q (cursor - q.front) - 1)) ≡ 0
   nobody_left q cursors key cursor s lengths at after some =

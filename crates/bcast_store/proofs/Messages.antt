@@ -1,4 +1,4 @@
--- The counts of a new store, and after a message came.
+-- The counts of a new store, and after a message was appended.
 use Rattle.std.proofs.Common.{◌≡◌, ℕ, ◌+◌, ◌-◌, ◌<◌, ◌≤◌, [], ◌∷◌, ◌++◌, length, sym, ◌∙◌, subst, arith, length-append}
 use Rattle.std.proofs.lemmas.Grind.{common_steps}
 use Rattle.std.proofs.lemmas.Option.{none-some, slice_get_within, get_or_from_slice_get}
@@ -30,7 +30,7 @@ module _ {T : Type 0} where
   pub last_below : (q : Queued T) (cursors : Cursors) (top : ℕ) → IsSound q cursors → length q.owed ≡ length q.messages → len cursors < top → ForSome (last_item q.owed) (λ n. n < top)
   last_below q cursors top s lengths few n is = let a = last_owed q cursors s lengths n is in omega arith
 
-  -- every receiver is still to read a message that comes
+  -- every receiver has still to read an appended message
   pub sound_push : (q : Queued T) (msg : T) (cursors : Cursors) → IsSound q cursors → length q.owed ≡ length q.messages → IsSound (record q { messages = q.messages ++ msg ∷ []; owed = q.owed ++ len cursors ∷ [] }) cursors
   sound_push q msg cursors s lengths =
       let all = all_owe cursors (q.front + length q.messages) s.reach in

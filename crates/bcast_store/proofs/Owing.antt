@@ -1,4 +1,4 @@
--- How many cursors have still to pass a message.
+-- How many receivers have still to read a message.
 use Rattle.std.proofs.Common.{◌≡◌, ◌≢◌, inl, inr, ℕ, ◌+◌, ◌≤◌, true, false, cond, List, [], ◌∷◌, length, Some, None, is_some, count_by, nat_le, refl, sym, ap, ◌∙◌, arith}
 use Rattle.std.proofs.lemmas.Grind.{common_steps}
 use Rattle.std.proofs.lemmas.Bool.{cases_eq}
@@ -28,7 +28,7 @@ found_owing n (e ∷ es) s h =
           (r.0, r.1, later r.0 e es r.1 p.0 r.2, r.3)
     ] refl
 
--- somebody owes a message that is counted as owed
+-- some receiver owes a message that is counted as owed
 pub some_owes : (m : Cursors) (n : ℕ) → 1 ≤ owing_at m n → (k : ℕ) × (c : ℕ) × (get m k ≡ Some c) × (c ≤ n)
 unfolding owing_at
 some_owes m n h =
@@ -46,7 +46,7 @@ each_owes n (e ∷ es) s h =
     let r = each_owes n es p.1 (λ q c f. h q c (later q e es c p.0 f)) in
     omega (arith, a, z, r)
 
--- a message that no cursor is past is owed by everyone
+-- a message that no cursor is past is owed by every receiver
 pub all_owe : (m : Cursors) (n : ℕ) → ((k c : ℕ) → get m k ≡ Some c → c ≤ n) → owing_at m n ≡ len m
 unfolding owing_at
 all_owe m n h = each_owes n (entries m) (entries_sorted m) (λ q c e. h q c (get-entries m q ∙ e)) ∙ sym (len-entries m)
@@ -65,17 +65,17 @@ pub owing-moved : (m : Cursors) (k d c n : ℕ) → get m k ≡ Some d → owing
 unfolding owing_at
 owing-moved m k d c n e = let a = count_values-insert (owes n) m k c in let b = ap (one_if (owes n)) e in omega (arith, a, b)
 
--- a cursor comes
+-- a cursor is added
 pub owing-joined : (m : Cursors) (k c n : ℕ) → get m k ≡ None → owing_at (insert m k c) n ≡ owing_at m n + cond (nat_le c n) 1 0
 unfolding owing_at
 owing-joined m k c n e = let a = count_values-insert (owes n) m k c in let b = ap (one_if (owes n)) e in omega (arith, a, b)
 
--- a cursor goes
+-- a cursor is removed
 pub owing-left : (m : Cursors) (k d n : ℕ) → get m k ≡ Some d → owing_at (remove m k) n + cond (nat_le d n) 1 0 ≡ owing_at m n
 unfolding owing_at
 owing-left m k d n e = let a = count_values-remove (owes n) m k in let b = ap (one_if (owes n)) e in omega (arith, a, b)
 
--- whoever owes is counted
+-- a receiver that owes is counted
 pub owes_counts : (m : Cursors) (n k c : ℕ) → get m k ≡ Some c → c ≤ n → 1 ≤ owing_at m n
 owes_counts m n k c e l =
     let a = owing-left m k c n e in
@@ -108,7 +108,7 @@ stayed end m k q d old f = let a = get-remove nat_cmp_total m k q in grind (arit
 pub len_joined : (m : Cursors) (k c : ℕ) → get m k ≡ None → len (insert m k c) ≡ len m + 1
 len_joined m k c none = len-insert nat_cmp_total m k c ∙ ap (λ o. cond (is_some o) (len m) (len m + 1)) none
 
--- a map without a key is the same without it
+-- removing a key that a map doesn't have changes nothing
 pub remove-absent : (m : Cursors) (k : ℕ) → get m k ≡ None → remove m k ≡ m
 remove-absent m k none = cursors_ext (remove m k) m (λ q. elim (cases_eq q k) [
   | inl same ↦ removed_same m k q same ∙ sym (ap (get m) same ∙ none)

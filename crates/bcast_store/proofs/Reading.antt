@@ -1,4 +1,4 @@
--- The counts go on with a receiver that skips or reads.
+-- The counts stay right when a receiver skips or reads.
 use Rattle.std.proofs.Common.{◌≡◌, inl, inr, ℕ, ◌+◌, ◌-◌, ◌<◌, ◌≤◌, true, false, cond, eqb, length, max, Some, get_or, set, nat_le, refl, sym, ap, ◌∙◌, arith, length-drop, get_or-set_same, get_or-set_other, eqb-true}
 use Rattle.std.specs.Prelude.{IsSomeAnd}
 use Rattle.std.proofs.lemmas.Grind.{common_steps}
@@ -13,7 +13,7 @@ use Rattle.bcast_store.proofs.Owing.{owing-rises, owing-moved, owing-left, reach
 use Rattle.bcast_store.proofs.Counted.{IsCounted, owed_at}
 use Rattle.bcast_store.proofs.WithCursors.{with_cursors-queue}
 
--- the receiver reads the message of this number, at this index: that at its cursor, or the oldest if it lags
+-- the receiver reads this number, at this index: that of its cursor, or the oldest if it lags
 pub record IsReading {T : Type 0} (q : Queued T) (cursors : Cursors) (key number i : ℕ) : Type 0 where
   pub cursor : ℕ
   pub at : get cursors key ≡ Some cursor
@@ -37,7 +37,7 @@ module _ {T : Type 0} where
         meets = λ some. omega (arith, c.2);
       }
 
-  -- to the front
+  -- a skip to the front
   pub sound_skip : (q : Queued T) (cursors : Cursors) (key cursor : ℕ) → IsSound q cursors → get cursors key ≡ Some cursor → cursor < q.front → IsSound q (insert cursors key q.front)
   sound_skip q cursors key cursor s at lags =
       record {
@@ -83,7 +83,7 @@ module _ {T : Type 0} where
         let w : owing_at (insert cursors key (number + 1)) (q.front + i) + 1 ≡ owing_at cursors (q.front + i) + 0 = rw (t, u) at a in
         omega (arith, w, b)
 
-    -- and of another
+    -- the counts of another message
     elsewhere : (j : ℕ) → j < length q.messages → (j ≡ i → ⊥) → owing_at (insert cursors key (number + 1)) (q.front + j) ≡ get_or q.owed j 0
     elsewhere j h other =
         let a = owing-moved cursors key r.cursor (number + 1) (q.front + j) r.at in
@@ -97,7 +97,7 @@ module _ {T : Type 0} where
     read_reach : (other c : ℕ) → get (insert cursors key (number + 1)) other ≡ Some c → c ≤ q.front + length q.messages
     read_reach other c e = reached (q.front + length q.messages) cursors key (number + 1) other c s.reach (omega (arith, r.is, r.below)) e
 
-    -- the last reader of the oldest message goes on with the front
+    -- the last reader of the oldest message moves with the front
     sound_last : i ≡ 0 → IsSound (without 1 q) (insert cursors key (number + 1))
     sound_last oldest =
         let size = length-drop 1 q.messages in
@@ -109,7 +109,7 @@ module _ {T : Type 0} where
           reach = λ other c e. let l = read_reach other c e in omega (arith, size, r.below);
         }
 
-    -- another one leaves the message to the others
+    -- the message stays for the other readers
     sound_more : IsCounted q → IsSound (record q { owed = set q.owed i (get_or q.owed i 0 - 1) }) (insert cursors key (number + 1))
     sound_more n =
         record {

@@ -1,4 +1,4 @@
--- The store that other cursors leave, by its counts.
+-- The store with other cursors, by its counts.
 use Rattle.std.proofs.Common.{◌≡◌, inl, inr, ℕ, ◌+◌, ◌-◌, ◌<◌, ◌≤◌, length, drop, max, sym, ap, ◌∙◌, subst, arith, length-drop}
 use Rattle.std.proofs.lemmas.Bool.{cases_lt}
 use Rattle.std.specs.FinMap.{values}
@@ -10,7 +10,7 @@ use Rattle.bcast_store.proofs.Least.{least-greatest}
 use Rattle.bcast_store.proofs.Owing.{owes_counts}
 use Rattle.bcast_store.proofs.Counted.{IsCounted, front_met}
 
--- if nobody is still to read the message before `front`, every cursor is there or past it
+-- if no receiver has still to read the message before `front`, every cursor is there or past it
 passed : (cursors : Cursors) (front end : ℕ) → front ≤ end → 0 < front → owing_at cursors (front - 1) ≡ 0 → front ≤ least end (values cursors)
 passed cursors front end within some none =
     least-greatest front end cursors within (λ key cursor at. elim (cases_lt cursor front) [
@@ -19,14 +19,14 @@ passed cursors front end within some none =
     ])
 
 module _ {T : Type 0} where
-  -- the front goes to this number, and so many messages go
+  -- the front moves to this number, and the messages before it are dropped
   pub with_cursors-front : (s : Stored T) (cursors : Cursors) (front n : ℕ) → max s.front (least (end_of s) (values cursors)) ≡ front → front - s.front ≡ n
       → with_cursors s cursors ≡ record { front = front; queue = drop n s.queue; cursors = cursors; room = s.room }
   with_cursors-front s cursors front n is goes =
       let gone : max s.front (least (end_of s) (values cursors)) - s.front ≡ n = ap (λ x. x - s.front) is ∙ goes in
       λ i. record { front = is i; queue = drop (gone i) s.queue; cursors = cursors; room = s.room }
 
-  -- a queue that lost its first n messages, the last of which nobody is still to read
+  -- a queue that lost its first n messages, the last of which no receiver has still to read
   pub with_cursors-queue : (q new : Queued T) (old cursors : Cursors) (n : ℕ) → new.front ≡ q.front + n → new.messages ≡ drop n q.messages → new.room ≡ q.room → n ≤ length q.messages
       → IsSound new cursors → IsCounted new → (0 < n → owing_at cursors (q.front + (n - 1)) ≡ 0) → store_of new cursors ≡ with_cursors (store_of q old) cursors
   with_cursors-queue q new old cursors n front messages room within s c none =

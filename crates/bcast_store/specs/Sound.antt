@@ -1,4 +1,4 @@
--- Which messages and cursors a store is, and what holds of its counts. No clause cites this.
+-- The store that a queue and cursors make up, and what holds of it. No public clause names it.
 use Rattle.std.specs.Prelude.{◌≡◌, ℕ, ◌+◌, ◌<◌, ◌≤◌, Bool, length, Some, get_or, nat_le}
 use Rattle.std.specs.FinMap.{get}
 use Rattle.bcast_model.specs.Control.{Cursors}
@@ -19,7 +19,7 @@ owes number cursor = nat_le cursor number
 unfoldable pub owing_at : Cursors → ℕ → ℕ
 owing_at cursors number = count_values (owes number) cursors
 
--- each count of the queue is the number of cursors at or under its message, and none is past
+-- each count of the queue is the number of cursors at or under its message, and no cursor is past
 -- the end
 pub record IsSound {T : Type 0} (q : Queued T) (cursors : Cursors) : Type 0 where
   pub owed_by : (i : ℕ) → i < length q.messages

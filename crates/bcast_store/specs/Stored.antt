@@ -1,4 +1,4 @@
--- What a contract sees of a `Store`: the kept messages, and who is to read them.
+-- What a contract sees of a `Store`: the kept messages, and the receivers that are to read them.
 use Rattle.std.specs.Prelude.{◌≡◌, ℕ, ◌+◌, ◌-◌, ◌^◌, ◌<◌, ◌≤◌, ◌⊎◌, List, length, max, drop, slice_get, Some, IsSomeAnd, refl}
 use Rattle.std.specs.Coded.{Coded, code_by, coded×, coded_ℕ, coded_list}
 use Rattle.std.specs.FinMap.{get, len, values, code}
@@ -26,7 +26,7 @@ module _ {T : Type 0} where
   abbrev pub end_of : Stored T → ℕ
   end_of s = s.front + length s.queue
 
-  -- other cursors: the messages that nobody is to read any more go
+  -- other cursors: the messages that no receiver is to read any more are dropped
   abbrev pub with_cursors : Stored T → Cursors → Stored T
   with_cursors s cursors =
       let front = max s.front (least (end_of s) (values cursors)) in
@@ -44,7 +44,7 @@ module _ {T : Type 0} where
       ⊎ (IsOwed s key number
       × IsSomeAnd (slice_get s.queue (number - s.front)) (λ msg. is_clone msg given))
 
--- what always holds: no message is kept that nobody is to read, and nobody reads past the end
+-- what always holds: some receiver is to read each kept message, and no cursor is past the end
 pub record IsSettled {T : Type 0} (s : Stored T) : Type 0 where
   pub front : least (end_of s) (values s.cursors) ≤ s.front
   pub reach : (key cursor : ℕ) → get s.cursors key ≡ Some cursor → cursor ≤ end_of s

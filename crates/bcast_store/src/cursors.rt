@@ -32,7 +32,7 @@ impl<A: Allocator> Model for Cursors<A> {
 }
 
 impl<A: Allocator> Cursors<A> {
-    /// No receiver. Takes no memory.
+    /// No receivers. Allocates nothing.
     pub fn new(alloc: A) -> Cursors<A>
         ensures { result ≡ map.empty }
     {
@@ -61,8 +61,8 @@ impl<A: Allocator> Cursors<A> {
         Ok(key)
     }
 
-    /// Takes a receiver out, and returns the number that it would have read next; `None` if no
-    /// receiver has the key, which changes nothing.
+    /// Removes a receiver, and returns the number that it would have read next. If no receiver has
+    /// the key, returns `None` and changes nothing.
     pub fn remove(&mut self, key: usize) -> Option<u64>
         ensures value { result ≡ map.get self.old key }
         ensures rest { self.new ≡ map.remove self.old key }
@@ -77,8 +77,8 @@ impl<A: Allocator> Cursors<A> {
         self.numbers.get(key).copied()
     }
 
-    /// Lets a receiver read `number` next, and returns the number that it would have read; `None` if
-    /// no receiver has the key, which changes nothing.
+    /// Sets the number that a receiver reads next, and returns the one before. If no receiver has
+    /// the key, returns `None` and changes nothing.
     #[inline(always)]
     pub fn replace(&mut self, key: usize, number: u64) -> Option<u64>
         ensures value { result ≡ map.get self.old key }
@@ -98,9 +98,9 @@ impl<A: Allocator> Cursors<A> {
         self.numbers.len()
     }
 
-    /// The keys by rising order, each with the number that its receiver reads next.
+    /// The keys in rising order, each with the number that its receiver reads next.
     ///
-    /// Takes memory for the list from `alloc`.
+    /// Allocates the list from `alloc`.
     ///
     /// # Errors
     ///
@@ -112,7 +112,7 @@ impl<A: Allocator> Cursors<A> {
     }
 }
 
-// The keys by rising order, each with its number.
+// The keys in rising order, each with its number.
 fn numbers_of<A: Allocator, B: Allocator>(
     numbers: &Slab<u64, A>,
     alloc: B,

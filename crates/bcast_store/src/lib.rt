@@ -1,4 +1,4 @@
-//! The kept messages, and who is still to read them.
+//! The kept messages, and the receivers that have still to read them.
 #![tactic(auto)]
 
 ghost use Rattle.std.specs.Prelude.{◌≡◌, ◌==◌, ◌+◌, ◌^◌, ◌<◌, ◌≤◌, [], ◌∷◌, ◌++◌, length, drop, slice_get};
@@ -47,10 +47,10 @@ impl<T, A: Allocator> Model for Store<T, A> {
 }
 
 impl<T: Drop, A: Allocator + Copy> Store<T, A> {
-    /// A store with no message and no receiver.
+    /// A store with no messages and no receivers.
     ///
-    /// `first` is the number of the first message, and `room` how many messages fit. Takes memory
-    /// for all of them.
+    /// `first` is the number of the first message, and `room` how many messages fit. Allocates
+    /// memory for all of them.
     ///
     /// # Errors
     ///
@@ -74,7 +74,7 @@ impl<T: Drop, A: Allocator + Copy> Store<T, A> {
         })
     }
 
-    /// Says what holds of every store, to a proof that needs it. Does nothing.
+    /// What holds of every store, for a proof that needs it. Does nothing.
     pub fn invariant_holds(&self)
         ensures { IsSettled self.now }
     {
@@ -155,7 +155,7 @@ impl<T: Drop, A: Allocator + Copy> Store<T, A> {
         self.cursors.len() == 0
     }
 
-    /// The cursor of the receiver `key`, or nothing if there is no such receiver.
+    /// The cursor of the receiver `key`, or `None` if there is no such receiver.
     ///
     /// Source: `Receiver::pos` of async-broadcast.
     pub fn cursor(&self, key: usize) -> Option<u64>
@@ -164,15 +164,15 @@ impl<T: Drop, A: Allocator + Copy> Store<T, A> {
         self.cursors.get(key)
     }
 
-    /// The message at `index`, or nothing if the queue ends before it. No receiver has read it
-    /// by this.
+    /// The message at `index`, or `None` if the queue ends before it. This doesn't read it for a
+    /// receiver.
     pub fn get(&self, index: usize) -> Option<&T>
         ensures { option_copied result ≡ slice_get self.now.queue index }
     {
         self.queue.get(index)
     }
 
-    /// The receivers' keys by rising order, each with its cursor. Takes memory for the list.
+    /// The receivers' keys in rising order, each with its cursor. Allocates the list.
     ///
     /// # Errors
     ///
@@ -183,7 +183,7 @@ impl<T: Drop, A: Allocator + Copy> Store<T, A> {
         self.cursors.entries(alloc)
     }
 
-    /// Puts `msg` last, for every receiver, and returns its number. Takes no memory.
+    /// Appends `msg`, for every receiver, and returns its number. Allocates nothing.
     ///
     /// Source: `queue.push_back` in `try_broadcast` of async-broadcast.
     #[inline(always)]
@@ -198,7 +198,7 @@ impl<T: Drop, A: Allocator + Copy> Store<T, A> {
         self.queue.push(msg, self.cursors.len())
     }
 
-    /// Puts all these messages last, in their order, for every receiver. Takes no memory.
+    /// Appends all these messages, in their order, for every receiver. Allocates nothing.
     pub fn push_all(&mut self, msgs: Messages<T>)
         requires someone { 0 < len self.old.cursors }
         requires room { length self.old.queue + length msgs ≤ self.old.room }
@@ -210,8 +210,8 @@ impl<T: Drop, A: Allocator + Copy> Store<T, A> {
         }
     }
 
-    /// Takes the first message out, whoever is still to read it, or returns nothing if there
-    /// is none.
+    /// Takes the first message out, even if receivers have still to read it; returns `None` if
+    /// there is none.
     ///
     /// Source: `queue.pop_front` in `try_broadcast` of async-broadcast.
     pub fn pop(&mut self) -> Option<T>
@@ -228,7 +228,7 @@ impl<T: Drop, A: Allocator + Copy> Store<T, A> {
         self.queue.pop(&mut Uncounted)
     }
 
-    /// Takes the first `count` messages out, whoever is still to read them, and drops them.
+    /// Drops the first `count` messages, even if receivers have still to read them.
     ///
     /// Source: the loop in `set_capacity` of async-broadcast.
     pub fn drop_first(&mut self, count: usize)
@@ -243,7 +243,7 @@ impl<T: Drop, A: Allocator + Copy> Store<T, A> {
         }
     }
 
-    /// Makes room for `room` messages in all. Takes memory; the messages move to it.
+    /// Makes room for `room` messages in all. May allocate memory; the messages stay.
     ///
     /// # Errors
     ///

@@ -1,4 +1,4 @@
-//! Receivers come, leave, and read.
+//! Receivers are added, leave, and read.
 ghost use Rattle.std.specs.Prelude.{◌≡◌, ◌+◌, ◌<◌, ◌≤◌, None, Some, if◌then◌else◌};
 ghost use Rattle.std.specs.Prelude.{IfOk, IsOk, OnOk, OnErr, IsSomeAnd, max};
 ghost use Rattle.std.specs.FinMap as map;
@@ -9,7 +9,7 @@ use bcast_queue::Uncounted;
 use std::alloc::{AllocError, Allocator};
 
 impl<T: Drop, A: Allocator + Copy> Store<T, A> {
-    /// Lets the receiver `key`, which lags, go on at the front. Takes no memory.
+    /// Moves the cursor of the receiver `key`, which lags, to the front. Allocates nothing.
     ///
     /// Source: `Inner::try_recv_at` of async-broadcast when it overflowed.
     pub fn skip(&mut self, key: usize)
@@ -21,7 +21,7 @@ impl<T: Drop, A: Allocator + Copy> Store<T, A> {
         self.cursors.replace(key, self.queue.front());
     }
 
-    /// Adds a receiver with this cursor, and gives its key, which no other receiver has.
+    /// Adds a receiver with this cursor, and returns its key, which no other receiver has.
     ///
     /// # Errors
     ///
@@ -43,8 +43,8 @@ impl<T: Drop, A: Allocator + Copy> Store<T, A> {
         Ok(key)
     }
 
-    /// Takes the receiver `key` out, drops the messages that nobody is to read any more, and says
-    /// whether there was such a receiver. Takes no memory.
+    /// Removes the receiver `key`, drops the messages that no receiver has to read any more, and
+    /// returns whether there was such a receiver. Allocates nothing.
     ///
     /// Source: `drop` of a `Receiver` of async-broadcast.
     pub fn remove(&mut self, key: usize) -> bool
@@ -65,15 +65,15 @@ impl<T: Drop, A: Allocator + Copy> Store<T, A> {
 }
 
 impl<T: Clone, A: Allocator + Copy> Store<T, A> {
-    /// Gives the receiver `key` the message numbered `number`, and lets it go on after it.
+    /// Gives the receiver `key` the message numbered `number`, and moves its cursor past it.
     ///
-    /// `number` is the receiver's cursor, or the front if it lags. The message given is the message
-    /// itself, which leaves the queue, if this receiver is the last to read it, and else a clone.
-    /// Takes what memory the clone takes.
+    /// `number` is the receiver's cursor, or the front if it lags. If this receiver is the last to
+    /// read the message, the message itself is given, and leaves the queue; else a clone is given.
+    /// Only the clone may allocate memory.
     ///
     /// # Errors
     ///
-    /// - `AllocError`: another receiver is to read the message too, and memory is refused for a
+    /// - `AllocError`: another receiver has to read the message too, and memory is refused for a
     ///   clone. The store is unchanged.
     ///
     /// Source: `Inner::try_recv_at` of async-broadcast.

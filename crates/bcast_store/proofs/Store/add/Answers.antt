@@ -1,4 +1,4 @@
--- A receiver comes.
+-- A receiver is added.
 use Rattle.std.proofs.Common.{◌-◌, ap, ◌∙◌, arith}
 use Rattle.std.specs.FinMap.{len}
 use Rattle.bcast_queue.specs.Queue.{with_reader}

@@ -1,4 +1,4 @@
--- The first messages go.
+-- The first messages are dropped.
 use Rattle.std.proofs.Common.{refl, arith}
 use Rattle.bcast_store.proofs.Dropping.{dropped_more, same_stored}
 use Rattle.bcast_store.proofs.Store.drop_first.Goals as goal

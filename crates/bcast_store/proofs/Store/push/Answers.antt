@@ -1,4 +1,4 @@
--- A message comes.
+-- A message is appended.
 use Rattle.std.proofs.Common.{[], ◌∷◌, ◌++◌, refl, ap, ◌∙◌, arith}
 use Rattle.bcast_store.proofs.Messages.{sound_push, last_owed, same_sound}
 use Rattle.bcast_store.proofs.Store.push.Goals as goal

@@ -1,4 +1,4 @@
--- The messages so far stand last.
+-- The messages so far are last.
 use Rattle.std.proofs.Common.{◌≡◌, ◌++◌}
 use Rattle.std.specs.Vec.Iter.{into_iter_items}
 use Rattle.bcast_store.proofs.Store.push_all.Given as goal

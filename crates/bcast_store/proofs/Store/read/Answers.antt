@@ -1,4 +1,4 @@
--- A receiver reads, and goes on; where its read is refused, its cursor is put back.
+-- A receiver reads, and its cursor moves; if its read is refused, the cursor is put back.
 use Rattle.std.proofs.Common.{◌≡◌, ℕ, Bool, true, false, cond, Some, ◌+◌, ◌-◌, refl, ap, sym, ◌∙◌, subst, eqb-true}
 use Rattle.std.specs.Ordering.{nat_cmp, eq_by_cmp}
 use Rattle.std.specs.Cmp.{nat_cmp_total, unsigned_tied}

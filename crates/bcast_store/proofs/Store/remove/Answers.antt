@@ -1,4 +1,4 @@
--- A receiver leaves, with all that it was still to read.
+-- A receiver leaves, and owes no message any more.
 use Rattle.std.proofs.Common.{◌≡◌, ◌-◌, refl, sym, ap, ◌∙◌, subst, arith}
 use Rattle.std.specs.FinMap.{remove}
 use Rattle.bcast_queue.specs.Queue.{without_reader}

@@ -1,4 +1,4 @@
--- A lagging receiver goes on at the front.
+-- The cursor of a lagging receiver moves to the front.
 use Rattle.std.proofs.Common.{◌<◌, refl, ap, sym, ◌∙◌, subst}
 use Rattle.std.specs.Prelude.{IsSomeAnd}
 use Rattle.std.specs.FinMap.{get, insert}

@@ -1,4 +1,4 @@
--- The chain gives each entry.
+-- The iterator gives each entry.
 use Rattle.std.proofs.Common.{◌∙◌, rules}
 use Rattle.std.proofs.lemmas.List.{map-id}
 use Rattle.std.proofs.lemmas.Result.{IfOk-weaker}

@@ -6,7 +6,7 @@ use Rattle.bcast_store.proofs.CursorEntries.{get-map_of, len-map_of, map_of-upda
 use Rattle.bcast_store.proofs.cursors.Cursors.add.Goals as goal
 use Rattle.bcast_store.proofs.cursors.Cursors.add.Goals.{After-insert_reserved-key}
 
--- making room changes nothing that is seen
+-- making room doesn't change what a contract sees
 reserved : (g : _) (c : After-insert_reserved-key g) → cursors_of c.reserve.new.self ≡ c.args.self.now
 reserved g c = ap cursors_of c.reserve.ensures.rest_kept ∙ c.self.view_is
 

@@ -1,4 +1,4 @@
--- The number in the slot is another.
+-- The slot has the new number.
 use Rattle.std.proofs.Common.{◌≡◌, Some, is_some, sym, ap, ◌∙◌}
 use Rattle.std.specs.Option.{option_copied_mut}
 use Rattle.std.specs.FinMap as map
