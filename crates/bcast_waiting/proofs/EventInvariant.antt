@@ -1,4 +1,4 @@
--- What an event keeps count of, once a listener joins or is taken out.
+-- The counts of an event, once a listener joins or is taken out.
 use Rattle.std.proofs.Common.{◌≡◌, ℕ, ◌+◌, ◌-◌, ◌<◌, ◌≤◌, ◌==◌, Bool, true, false, cond, ltb, [], ◌∷◌, ◌++◌, length, get_or, set, Some, None, refl, sym, ap, ◌∙◌, subst, arith, ltb-true, ltb-false, length-set, length-append}
 use Rattle.std.specs.Prelude.{remove}
 use Rattle.std.specs.Cmp.{IsEquivalence}
@@ -59,7 +59,7 @@ module _ {I : Type 0} {same : I → I → Bool} {number : I → ℕ} {s : Slots 
       pub is_told_at : Some (ltb i told_end) ≡ is_told same id (listeners_of s.ids told)
       is_told_at = ap Some (sym told_test) ∙ is_told_first same id (listeners_of s.ids told) (front s.ids i) first_at
 
-      -- who is listed is untold if its slot is after that part
+      -- a listed one is not told if its slot is after that part
       pub untold_after : told_end ≤ i → true ≡ is_in same id (untold_ids (listeners_of s.ids told))
       untold_after h =
           let no : ltb i told_end ≡ false = grind (arith, h) in

@@ -57,7 +57,7 @@ module _ {I : Type 0} where
       ∙ ap length (listed_full (take position ids))
       ∙ length-take-le position ids h
 
-  -- ---- a slot that was left
+  -- ---- a slot that was emptied
   pub listed_left : (ids : List (Option I)) (i : ℕ) → is_some (get_or ids i None) ≡ true → listed (set ids i None) ≡ remove (listed ids) (front ids i)
   listed_left [] i there = absurd (true≢false (sym there))
   listed_left (None ∷ ids) zero there = absurd (true≢false (sym there))
@@ -76,7 +76,7 @@ module _ {I : Type 0} where
   pub front_kept : (ids : List (Option I)) (i j : ℕ) → j ≤ i → front (set ids i None) j ≡ front ids j
   front_kept ids i j h = ap (λ xs. length (listed xs)) (take-set-le j ids i None h)
 
-  -- ---- what is seen of the slots with their notices
+  -- ---- what a contract sees of the slots with their notices
   pub ids-compacted : {N : Type 0} (slots : List (Option (Listener I N))) → map slot_id (filter is_some slots) ≡ map Some (listed (map slot_id slots))
   ids-compacted [] = refl
   ids-compacted (None ∷ slots) = ids-compacted slots

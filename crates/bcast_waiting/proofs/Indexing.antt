@@ -1,4 +1,4 @@
--- The entries of the numbers of ids, as slots are filled and left.
+-- The entries of the numbers of ids, as slots are filled and emptied.
 use Rattle.std.proofs.Common.{◌≡◌, ◌≢◌, ℕ, zero, suc, ◌+◌, ◌<◌, ◌≤◌, ◌==◌, Bool, true, false, ◌||◌, List, [], ◌∷◌, ◌++◌, length, get_or, set, Option, Some, None, refl, sym, ap, ◌∙◌, subst, arith, ltb, length-set}
 use Rattle.std.proofs.lemmas.Bool.{true≢false}
 use Rattle.std.proofs.lemmas.Option.{none-some, same_Some}
@@ -19,7 +19,7 @@ module _ {I : Type 0} where
   in_slot P (None ∷ ids) (suc p) x a e = in_slot P ids p x a e
   in_slot P (Some y ∷ ids) (suc p) x a e = in_slot P ids p x a.1 e
 
-  -- an id in a slot was there before another one was left
+  -- an id in a slot was there before another slot was emptied
   was_there : (ids : List (Option I)) (i p : ℕ) (x : I) → get_or (set ids i None) p None ≡ Some x → get_or ids p None ≡ Some x
   was_there [] i p x e = absurd (none-some x e)
   was_there (slot ∷ ids) zero zero x e = absurd (none-some x e)
@@ -132,6 +132,6 @@ module _ {I : Type 0} where
         absurd (none-some x (sym e ∙ ap (λ p. get_or ids p None) (sym here) ∙ f))
   ] refl
 
-  -- ---- a slot is left
+  -- ---- a slot is emptied
   pub IsIndexed-left : (number : I → ℕ) (ids : List (Option I)) (positions : List ℕ) (i : ℕ) → IsIndexed number ids positions → IsIndexed number (set ids i None) positions
   IsIndexed-left number ids positions i indexed p x e = indexed p x (was_there ids i p x e)

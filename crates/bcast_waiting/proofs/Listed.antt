@@ -1,4 +1,4 @@
--- What taking an id out of a list of ids, or putting one last, leaves of the list.
+-- A list of ids after an id was taken out, or was put last.
 use Rattle.std.proofs.Common.{◌≡◌, ℕ, zero, suc, ◌≤◌, Bool, true, false, cond, ◌||◌, ltb, List, [], ◌∷◌, ◌++◌, take, drop, refl, sym, ap, ◌∙◌, arith}
 use Rattle.std.specs.Prelude.{remove}
 use Rattle.std.specs.List.{AllByRecursion}
@@ -63,7 +63,7 @@ module _ {I : Type 0} where
       before = λ k h. at.before (suc k) (omega (arith, h));
     }
 
-    -- it stands in a front part exactly if its position does
+    -- it is in a front part exactly if its position is
     pub is_in-take : (id : I) (ids : List I) (i n : ℕ) → IsFirstAt same id ids i → is_in same id (take n ids) ≡ ltb i n
     is_in-take id [] i n at = absurd (omega (arith, at.within))
     is_in-take id (x ∷ ids) i zero at = let out : ltb i 0 ≡ false = grind arith in sym out
@@ -75,7 +75,7 @@ module _ {I : Type 0} where
         ap (λ b. b || is_in same id (take n ids)) (at.before 0 (omega arith))
         ∙ is_in-take id ids i n (later id x ids i at) ∙ sym one_less
 
-    -- and in the rest if its position does not
+    -- and in the rest if its position is not
     pub is_in-drop : (id : I) (ids : List I) (i n : ℕ) → IsFirstAt same id ids i → n ≤ i → is_in same id (drop n ids) ≡ true
     is_in-drop id [] i n at h = absurd (omega (arith, at.within))
     is_in-drop id (x ∷ ids) zero zero at h = ap (λ b. b || is_in same id ids) at.found
@@ -86,11 +86,11 @@ module _ {I : Type 0} where
     is_in-drop id (x ∷ ids) (suc i) (suc n) at h = is_in-drop id ids i n (later id x ids i at) (omega (arith, h))
 
     module _ (laws : IsEquivalence same) where
-      -- what is the same as the first of a distinct list is not in the rest
+      -- an id that is the same as the first of a distinct list is not in the rest
       apart : (id x : I) (ids : List I) → same id x ≡ true → AllByRecursion (Differs x) ids → is_in same id ids ≡ false
       apart id x ids e a = absent_all id ids (all_more (Differs x) (Differs id) ids (λ y d. laws.congr id x y e ∙ d) a)
 
-      -- it stands in one part of a distinct list only
+      -- it is in one part of a distinct list only
       pub apart_parts : (id : I) (n : ℕ) (ids : List I) → IsDistinct same ids → is_in same id (take n ids) ≡ true → is_in same id (drop n ids) ≡ false
       apart_parts id zero ids d h = absurd (true≢false (sym h))
       apart_parts id (suc n) [] d h = absurd (true≢false (sym h))

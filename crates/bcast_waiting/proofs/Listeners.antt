@@ -33,7 +33,7 @@ module _ {I : Type 0} (same : I → I → Bool) where
       }
 
   module _ (laws : IsEquivalence same) where
-    -- ---- who is listed and not told
+    -- ---- which ones are listed and not told
     pub untold_is : (id : I) (l : Listeners I) → AreInOrder same l → (r : Option Bool) → r ≡ is_told same id l → unwrap_or (option_map not r) false ≡ is_in same id (untold_ids l)
     untold_is id l order r is = ap (λ r. unwrap_or (option_map not r) false) is ∙ by_parts (is_in same id (told_ids l)) (is_in same id (untold_ids l)) refl refl
       where

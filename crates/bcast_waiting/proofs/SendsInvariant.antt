@@ -1,4 +1,4 @@
--- What the calls keep of how a `SendList` keeps the pending sends.
+-- The calls of a `SendList` keep its invariant.
 use Rattle.std.proofs.Common.{◌≡◌, ℕ, ◌<◌, ◌≤◌, ◌==◌, Bool, true, false, not, ◌&&◌, ◌||◌, refl, sym, ap, ◌∙◌, subst, arith}
 use Rattle.std.proofs.lemmas.Bool.{true≢false}
 use Rattle.std.specs.Ordering.{nat_cmp, eq_by_cmp}
@@ -41,7 +41,7 @@ sound_begin used e f place same room rises s =
     by_key other true e h = let one = test_place.no other place e in omega (arith, one, room)
     by_key other false e h = let old = s.room other h in omega (arith, old, rises)
 
--- or is given back at once
+-- else it is given back at once
 pub sound_room : (used : Used) (e f : Event ℕ) → f.listeners ≡ e.listeners → e.room ≤ f.room → IsSound used e → IsSound used f
 sound_room used e f same rises s = sound_of used f (subst (AreSends used) (sym same) (sends_in used e s)) (λ place h. let old = s.room place h in omega (arith, old, rises))
 

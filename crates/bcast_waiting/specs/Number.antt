@@ -1,4 +1,4 @@
--- The numbers of the ids of receivers, and where a list keeps what is listed under a number.
+-- The numbers of the ids of receivers, and the positions that a list keeps by these numbers.
 use Rattle.std.specs.Prelude.{◌≡◌, ℕ, ◌+◌, ◌*◌, ◌<◌, ◌≤◌, List, Option, Some, None, length, get_or}
 use Rattle.bcast_model.specs.declared.listener.Kind.{Kind}
 use Rattle.bcast_model.specs.declared.listener.Kind.TheVariants as kind

@@ -1,5 +1,5 @@
--- Two pairs have one number exactly if they are the same. A proof, which stands here since an impl
--- cites it.
+-- Two pairs have one number exactly if they are the same. A proof, which is here since an impl
+-- names it.
 use Rattle.std.proofs.Common.{◌≡◌, ℕ, ◌+◌, ◌*◌, ◌==◌, Bool, true, false, refl, ◌∙◌, arith}
 use Rattle.std.specs.Prelude.{◌&&◌}
 use Rattle.std.proofs.lemmas.Bool.Decides.{nat_tests}

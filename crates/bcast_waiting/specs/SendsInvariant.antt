@@ -1,4 +1,4 @@
--- How a `SendList` keeps the pending sends. No clause cites this.
+-- How a `SendList` keeps the pending sends. No clause names this.
 use Rattle.std.specs.Prelude.{◌≡◌, ℕ, ◌<◌, true}
 use Rattle.std.specs.FinSet as set
 use Rattle.std.specs.List.{AllByRecursion}
@@ -11,7 +11,7 @@ use Rattle.bcast_waiting.specs.Sends.{Sends}
 abbrev pub sends_of : Used → Event ℕ → Sends
 sends_of used e = record { places = used; waiting = e.listeners }
 
--- each send that waits has a place, and each that has a place finds room in the list
+-- each send that waits has a place, and the list has room for each send with a place
 pub record IsSound (used : Used) (e : Event ℕ) : Type 0 where
   pub in_order : AreInOrder same_place e.listeners
   pub placed : AllByRecursion (λ place. set.contains used place ≡ true) e.listeners.ids

@@ -1,4 +1,4 @@
--- The words of this crate's clauses, from one place.
+-- The definitions that clauses name, from one place.
 pub use Rattle.bcast_waiting.specs.Sends.{Sends, sends_code}
 pub use Rattle.bcast_waiting.specs.SendsInvariant.{sends_of, IsSound}
 pub use Rattle.bcast_waiting.specs.Keys.{key_of, keys_in}

@@ -1,12 +1,12 @@
-//! A small number of an id, under which it is kept where its listener is.
+//! A small number for each id, under which a list keeps the position of the id's listener.
 ghost use Rattle.std.specs.Prelude.{◌≡◌, ℕ, ◌-◌, ◌^◌, ◌==◌, min, refl};
 
 use bcast_model::listener::Kind;
 
 /// An id that has a number of its own.
 ///
-/// A list has one entry for each number below its room, so the numbers of ids that are in use
-/// together are to be small.
+/// A list has one entry for each number below its room, so ids that are in use together should
+/// have small numbers.
 pub trait Indexed: Eq {
     ghost number: { Self → ℕ };
 

@@ -1,4 +1,4 @@
-//! What is called when a listener is told, and what makes it.
+//! Notices, which are called when listeners are told, and their makers.
 ghost use Rattle.std.specs.Prelude.{◌≡◌, OnOk, OnErr, None, IsSome};
 
 use std::mem::replace;
@@ -7,11 +7,11 @@ use std::mem::replace;
 ///
 /// Source: the waker that a listener of the crate event-listener holds.
 pub trait Notice: Drop {
-    /// Says that the listener is told.
+    /// Called when the listener is told.
     fn tell(&mut self);
 }
 
-/// A notice that says nothing.
+/// A notice that does nothing.
 #[derive(Drop)]
 pub struct Silent;
 
@@ -23,28 +23,28 @@ impl Notice for Silent {
 #[derive(Drop)]
 pub struct Refused;
 
-/// What makes the notice of a poll. It is called where the poll must wait, once, and nowhere else.
+/// Makes the notice of a poll. It is called once if the poll must wait, and otherwise not at all.
 pub trait MakesNotice<N> {
     // Holds of a maker before and after it made a notice.
     ghost made: { Self → Self → Type 0 };
 
-    // Holds of a maker before and after it made none.
+    // Holds of a maker before and after it refused to make one.
     ghost refused: { Self → Self → Type 0 };
 
     /// Makes a notice for a listener that has none.
     ///
     /// # Errors
     ///
-    /// `Refused`: there is none.
+    /// `Refused`: no notice was made.
     fn make(&mut self) -> Result<N, Refused>
         ensures made { OnOk result (made self.old self.new) }
         ensures refused { OnErr result (refused self.old self.new) };
 
-    /// Makes the notice of a listener, which has that of the poll before, into that of this poll.
+    /// Replaces the notice of a listener, which is that of an earlier poll, by that of this poll.
     ///
     /// # Errors
     ///
-    /// `Refused`: there is none. The notice may tell nobody then.
+    /// `Refused`: no notice was made. The notice of the listener may then do nothing when called.
     fn renew(&mut self, notice: &mut N) -> Result<(), Refused>
         ensures made { OnOk result (made self.old self.new) }
         ensures refused { OnErr result (refused self.old self.new) };

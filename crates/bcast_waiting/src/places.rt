@@ -30,7 +30,7 @@ impl<A: Allocator> Model for Places<A> {
 }
 
 impl<A: Allocator> Places<A> {
-    /// No place. Takes no memory.
+    /// No places. Allocates nothing.
     pub fn new(alloc: A) -> Places<A>
         ensures { result ≡ set.empty }
     {
@@ -39,7 +39,7 @@ impl<A: Allocator> Places<A> {
         }
     }
 
-    /// Gives a place that is not in use. A place that was removed may be given again.
+    /// Takes a place that is not in use, and returns it. One that was removed may be taken again.
     ///
     /// # Errors
     ///
@@ -57,7 +57,7 @@ impl<A: Allocator> Places<A> {
         Ok(place)
     }
 
-    /// Gives a place back, and returns whether it was in use; else nothing changes.
+    /// Removes a place, and returns whether it was in use. If it was not, nothing changes.
     pub fn remove(&mut self, place: usize) -> bool
         ensures found { result ≡ set.contains self.old place }
         ensures rest { self.new ≡ set.remove self.old place }
@@ -87,7 +87,7 @@ impl<A: Allocator> Places<A> {
     }
 }
 
-// The keys by rising order.
+// The keys in rising order.
 fn keys_of<A: Allocator, B: Allocator>(
     slots: &Slab<(), A>,
     alloc: B,

@@ -1,4 +1,4 @@
-//! The slots of listeners in the order of registering, of which some were left.
+//! The slots of listeners in the order of registering. Some of them may be empty.
 ghost use Rattle.std.specs.Prelude.{◌≡◌, ◌+◌, ◌*◌, ◌<◌, ◌≤◌, Some, None, true, false, [], ◌∷◌, ◌++◌, length, map, is_some, MatchOption, OnOk, OnErr, IfOk, IsOk, slice_index_or, slice_set};
 ghost use Rattle.std.specs.List.{filter_map, AllByRecursion};
 ghost use Rattle.bcast_waiting.specs.Words.{slot_id, ids_in, IsIndexed, listed, front, has};
@@ -27,7 +27,7 @@ struct Listener<I, N> {
 }
 
 impl<I, N> Listener<I, N> {
-    // Makes its notice into that of another poll.
+    // Replaces its notice by that of another poll.
     #[inline(always)]
     fn renew<M: MakesNotice<N>>(&mut self, maker: &mut M) -> Result<(), Refused>
         ensures same { self.new.id ≡ self.old.id }
@@ -55,7 +55,7 @@ impl<I: Copy + Eq + Indexed, N: Notice, A: Allocator> Model for Slots<I, N, A> {
 }
 
 impl<I: Copy + Eq + Indexed, N: Notice, A: Allocator + Copy> Slots<I, N, A> {
-    // No slots. Takes no memory.
+    // No slots. Allocates nothing.
     pub fn new(alloc: A) -> Self
         ensures { result.ids ≡ [] }
     {
@@ -67,14 +67,14 @@ impl<I: Copy + Eq + Indexed, N: Notice, A: Allocator + Copy> Slots<I, N, A> {
 }
 
 impl<I: Copy + Eq + Indexed, N: Notice, A: Allocator> Slots<I, N, A> {
-    // How many slots there are, with those that were left.
+    // How many slots there are, with the empty ones.
     pub fn len(&self) -> usize
         ensures { result ≡ length self.now.ids }
     {
         self.listeners.len()
     }
 
-    // Below which number an id can be listed before memory is taken.
+    // An id with a number below this can be listed without allocating.
     pub fn room(&self) -> usize
         ensures { result ≡ self.now.room }
     {
@@ -88,8 +88,8 @@ impl<I: Copy + Eq + Indexed, N: Notice, A: Allocator> Slots<I, N, A> {
         ids_of(&self.listeners, alloc)
     }
 
-    // Takes memory for the positions of all ids whose numbers are below `room`, and for twice as
-    // many slots.
+    // Allocates memory for the positions of all ids whose numbers are below `room`, and for twice
+    // as many slots.
     #[inline(always)]
     pub fn reserve(&mut self, room: usize) -> Result<(), AllocError>
         ensures ok { OnOk result (room ≤ self.new.room) }
@@ -125,7 +125,7 @@ impl<I: Copy + Eq + Indexed, N: Notice, A: Allocator> Slots<I, N, A> {
         }
     }
 
-    // Where the id is. In constant time.
+    // The position of the id's slot. Takes constant time.
     pub fn find(&self, id: I) -> Option<usize>
         ensures { MatchOption result (is_in I.eq id (listed self.now.ids) ≡ false)
             (λ position. has I.eq id (slice_index_or self.now.ids position None) ≡ true) }
@@ -142,7 +142,7 @@ impl<I: Copy + Eq + Indexed, N: Notice, A: Allocator> Slots<I, N, A> {
         }
     }
 
-    // Fills a new slot, the last one.
+    // Adds a slot with this id and notice, the last one.
     pub fn push(&mut self, id: I, notice: N)
         requires slots { length self.old.ids < 2 * self.old.room }
         requires room { I.number id < self.old.room }
@@ -163,7 +163,7 @@ impl<I: Copy + Eq + Indexed, N: Notice, A: Allocator> Slots<I, N, A> {
         left.map(|listener| listener.notice)
     }
 
-    // Makes the notice of the listener in a slot into that of another poll.
+    // Replaces the notice of the listener in a slot by that of another poll.
     #[inline(always)]
     pub fn renew<M: MakesNotice<N>>(
         &mut self,
@@ -230,7 +230,7 @@ impl<I: Copy + Eq + Indexed, N: Notice, A: Allocator> Slots<I, N, A> {
     }
 
     // Takes out the empty slots, if they are more than the others. `len` listeners are listed, of
-    // which `told` are in the slots before `told_end`. Returns where these end then.
+    // which `told` are in the slots before `told_end`. Returns what `told_end` is then.
     pub fn compact_if_sparse(&mut self, len: usize, told: usize, told_end: usize) -> usize
         requires len { len ≡ length (listed self.old.ids) }
         requires told { told ≡ front self.old.ids told_end }

@@ -1,4 +1,4 @@
--- Who is told is not among the others.
+-- A told listener is not among the others.
 use Rattle.std.proofs.Common.{Some, None}
 use Rattle.bcast_waiting.proofs.Listeners.{untold_is}
 use Rattle.bcast_waiting.proofs.event.Event.is_untold.Goals as goal

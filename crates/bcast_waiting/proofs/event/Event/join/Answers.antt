@@ -1,4 +1,4 @@
--- Who joins was not listed.
+-- A listener that joins was not listed.
 use Rattle.std.proofs.Common.{◌≡◌, ◌<◌, ◌+◌, false, [], ◌∷◌, ◌++◌, ap, sym, ◌∙◌, subst, arith}
 use Rattle.bcast_model.specs.Listeners.{is_in, join}
 use Rattle.bcast_waiting.specs.Words.{Event, listed, IsKept}

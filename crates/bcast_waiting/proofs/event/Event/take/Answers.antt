@@ -1,4 +1,4 @@
--- The slot of the listener is left.
+-- The slot of the listener is emptied.
 use Rattle.std.proofs.Common.{◌≡◌, ◌<◌, ◌≤◌, ◌-◌, true, false, cond, Some, ltb, sym, ap, ◌∙◌, subst, arith}
 use Rattle.bcast_model.specs.Listeners.{is_in, consume}
 use Rattle.bcast_waiting.specs.Words.{Event, is_told, listeners_of, IsKept}
@@ -40,7 +40,7 @@ kept g c rest is =
     subst (λ s. IsKept g.I.PartialEq.eq g.I.Indexed.number s (e.len - 1) rest e.told_end) (sym c.take_at-notice.ensures)
     (IsKept-left c.self.invariant g.met.I.Eq.laws c.args.id c.in-Some.position c.in-Some.ensures rest is)
 
--- who is left
+-- which listeners are left
 left : (g : _) (c : After-take_at-notice g) (rest : _) → rest ≡ cond (ltb c.in-Some.position c.self.inside.told_end) (c.self.inside.told - 1) c.self.inside.told → ◌≡◌ {A = Event g.row.I.Denot} (record { listeners = listeners_of c.take_at-notice.new.self.ids rest; room = c.take_at-notice.new.self.room }) (record c.args.self.now { listeners = consume g.I.PartialEq.eq c.args.id c.args.self.now.listeners })
 left g c rest is =
     let e = c.self.inside in
@@ -50,7 +50,7 @@ left g c rest is =
     (λ i. record { listeners = listeners i; room = (c.take_at-notice.ensures i).room })
     ∙ ap (λ (e : Event g.row.I.Denot). record e { listeners = consume g.I.PartialEq.eq c.args.id e.listeners }) c.self.view_is
 
--- what the result says of the list as it was
+-- what the result says of the list before the call
 told_then : (g : _) (c : After-take_at-notice g) → Some (ltb c.in-Some.position c.self.inside.told_end) ≡ is_told g.I.PartialEq.eq c.args.id c.args.self.now.listeners
 told_then g c =
     is_told_at c.self.invariant g.met.I.Eq.laws c.args.id c.in-Some.position c.in-Some.ensures

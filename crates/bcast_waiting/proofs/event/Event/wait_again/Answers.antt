@@ -1,4 +1,4 @@
--- Who is listed and not told keeps the position, and anyone else joins last.
+-- A listener that is listed and not told keeps its position; any other joins last.
 use Rattle.std.proofs.Common.{◌≡◌, true, false, cond, Result, Ok, Err, OnOk, sym, ap, ◌∙◌, subst}
 use Rattle.bcast_model.specs.Listeners.{is_in, untold_ids, join, consume}
 use Rattle.bcast_waiting.specs.Words.{Event, listeners_of}

@@ -6,7 +6,7 @@ use Rattle.bcast_waiting.proofs.Keys.{contains-keys_in, len-keys_in, keys_in-fil
 use Rattle.bcast_waiting.proofs.places.Places.add.Goals as goal
 use Rattle.bcast_waiting.proofs.places.Places.add.Goals.{After-insert_reserved-place}
 
--- making room changes nothing that is seen
+-- making room doesn't change what a contract sees
 reserved : (g : _) (c : After-insert_reserved-place g) → keys_in c.reserve.new.self ≡ c.args.self.now
 reserved g c = ap keys_in c.reserve.ensures.rest_kept ∙ c.self.view_is
 

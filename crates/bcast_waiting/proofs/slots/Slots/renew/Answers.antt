@@ -1,4 +1,4 @@
--- Another notice leaves the ids.
+-- Another notice doesn't change the ids.
 use Rattle.std.proofs.Common.{◌<◌, Some, length, refl, sym, ap, ◌∙◌, arith}
 use Rattle.std.proofs.lemmas.List.{length-map}
 use Rattle.std.specs.Vec.{with_item}

@@ -1,4 +1,4 @@
--- The slots stay as they are, and how many are told so far.
+-- The slots don't change; and how many are told so far.
 use Rattle.std.proofs.Common.{◌≡◌, ℕ, ◌+◌}
 use Rattle.bcast_waiting.specs.Slots.{Slots, front}
 use Rattle.bcast_waiting.proofs.slots.Slots.tell.Given as goal

@@ -1,4 +1,4 @@
--- A notice that was called leaves the ids.
+-- Calling a notice doesn't change the ids.
 use Rattle.std.proofs.Common.{◌<◌, Some, length, refl, sym, ap, ◌∙◌, arith}
 use Rattle.std.proofs.lemmas.List.{length-map}
 use Rattle.bcast_waiting.specs.Listener.{slot_id}
