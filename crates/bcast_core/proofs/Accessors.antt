@@ -11,7 +11,7 @@ use Rattle.bcast_core.proofs.Settle.{settle_same, told_nobody}
 use Rattle.bcast_core.proofs.Does.{valid_shown}
 
 module _ {T : Type 0} where
-  -- a call that only reads leaves the state as it is
+  -- a call that only reads doesn't change the state
   pub answers_read : {is_clone : T → T → Type 0} {v : View T} {c : Call T} {r : Reply T} → IsShown v → Legal is_clone v c r → effect v c r ≡ sets v.control → may_tell v.control (sends_are_ready v) c ≡ not (sends_are_ready v)
       → HasRange c (len v.control.cursors) → Answers is_clone v c r v
   answers_read {v = v} {c = c} {r = r} shown legal idle may range =
@@ -24,7 +24,7 @@ module _ {T : Type 0} where
   pub named : {is_clone : T → T → Type 0} {old new : View T} {c made : Call T} {r : Reply T} → c ≡ made → Answers is_clone old made r new → Answers is_clone old c r new
   named {is_clone = is_clone} {old = old} {new = new} {r = r} is a = subst (λ x. Answers is_clone old x r new) (sym is) a
 
-  -- what a call is answered is possible, unless it comes back
+  -- what a call returns is possible, unless the call is handed back
   pub possible_if_made : (is_clone : T → T → Type 0) (old new : View T) (c : Call T) {E : Type 0} (made : Result (Reply T) E) → IfOk made (λ r. Answers is_clone old c r new) → IfOk made (IsPossible is_clone c)
   possible_if_made is_clone old new c (Ok r) a = possible refl a
   possible_if_made is_clone old new c (Err e) a = tt

@@ -1,4 +1,4 @@
--- A call and its reply, but for telling a sender.
+-- A call and its reply, before a sender may be told.
 use Rattle.std.proofs.Common.{◌≡◌, inl, inr, ℕ, ◌<◌, ◌≤◌, false, Result, Ok, Err, IfOk, OnOk, OnErr, refl, sym, ap, ◌∙◌, subst}
 use Rattle.std.specs.declared.alloc.AllocError.{AllocError}
 use Rattle.std.specs.FinMap.{values}
@@ -16,7 +16,7 @@ module _ {T : Type 0} where
   pub valid_shown : {v : View T} → IsShown v → IsValidView v
   valid_shown s = subst IsValidView (sym s.2) (valid_view s.0 s.1)
 
-  -- only what stands beside the messages changes, and no receiver is kept waiting for
+  -- only the control changes, and the front stays
   pub does_sets : {is_clone : T → T → Type 0} {v new : View T} {c : Call T} {r : Reply T} (control : Control) → Legal is_clone v c r → effect v c r ≡ sets control → least v.end (values control.cursors) ≤ v.front
       → new ≡ record v { control = control } → Does is_clone v c r new
   does_sets {v = v} control legal is low new_is = record { legal = legal; effect = new_is ∙ sym (settle_stays v control low) ∙ ap (settle v) (sym is) }

@@ -1,4 +1,4 @@
--- The calls that make a handle, in what is seen.
+-- What the calls that make a handle do to the view.
 use Rattle.std.proofs.Common.{◌≡◌, inl, inr, ℕ, ◌^◌, ◌<◌, ◌==◌, true, false, Option, Some, None, Result, Ok, Err, IfOk, IfErr, OnErr, is_some, refl, sym, ap, ◌∙◌, subst, arith}
 use Rattle.std.proofs.lemmas.Grind.{common_steps}
 use Rattle.std.specs.FinMap.{get, len}

@@ -1,4 +1,4 @@
--- What an offered message does, in what is seen.
+-- What an offered message does to the view.
 use Rattle.std.proofs.Common.{◌≡◌, ℕ, ◌+◌, ◌-◌, ◌<◌, ◌≤◌, ◌==◌, true, false, cond, List, [], ◌∷◌, length, max, nat_lt, refl, sym, ap, ◌∙◌, arith}
 use Rattle.std.proofs.lemmas.Grind.{common_steps}
 use Rattle.std.specs.Prelude.{is_ok}
@@ -30,14 +30,14 @@ is_zero : (n : ℕ) → (n == 0) ≡ true → n ≡ 0
 is_zero n e = grind (arith, common_steps, e)
 
 module _ {T : Type 0} where
-  -- where somebody receives, the end may rise
+  -- if there is a receiver, the end may rise and the front stays
   low_next : (v : View T) (more : ℕ) → IsValidView v → has_no_receiver v.control ≡ false → least (v.end + more) (values v.control.cursors) ≤ v.front
   low_next v more valid some =
       let n : 1 ≤ len v.control.cursors = grind (arith, common_steps, some) in
       let r = least_raised v.end more v.control.cursors n valid.reach in
       omega (arith, r, valid.low)
 
-  -- a message is accepted where there is room
+  -- a message is accepted if there is room
   pub offer_accepted : (v : View T) (msg : T) → IsValidView v → is_ok (try_broadcast_reply v msg) ≡ true → has_no_receiver v.control ≡ false → is_full v ≡ false → settle v (offer v msg) ≡ with_message v msg
   offer_accepted v msg valid is some full =
       let low = low_next v 1 valid some in
@@ -45,7 +45,7 @@ module _ {T : Type 0} where
       let none : v.front - v.front ≡ 0 = omega arith in
       ap (λ b. settle v (cond b (accept v msg) (sets v.control))) is ∙ settle_to v (accept v msg) (with_message v msg) front (rw none refl) refl refl
 
-  -- a whole list is accepted where there is room
+  -- a whole list is accepted if there is room
   pub offer_all_accepted : (v : View T) (msgs : List T) → IsValidView v → is_ok (try_broadcast_all_reply v msgs) ≡ true → has_no_receiver v.control ≡ false → 0 < length msgs → settle v (offer_all v msgs) ≡ with_messages v msgs
   offer_all_accepted v [] valid is some n = absurd (omega arith)
   offer_all_accepted v (msg ∷ rest) valid is some n =
@@ -63,7 +63,7 @@ module _ {T : Type 0} where
       ap (λ b. settle v (cond b (accept_all v []) (sets v.control))) is ∙ settle_same v valid
   offer_all_nothing v (msg ∷ rest) valid opened some n = let none = is_zero (length (msg ∷ rest)) n in absurd (omega (arith, none))
 
-  -- and where the list is refused
+  -- nor does it if the list is refused
   pub offer_all_refused : (v : View T) (msgs : List T) → IsValidView v → is_ok (try_broadcast_all_reply v msgs) ≡ false → settle v (offer_all v msgs) ≡ v
   offer_all_refused v msgs valid is = ap (λ b. settle v (cond b (accept_all v msgs) (sets v.control))) is ∙ settle_same v valid
 

@@ -30,7 +30,7 @@ use Rattle.bcast_core.proofs.Receives.{poll_waits, settle_empty}
 use Rattle.bcast_core.proofs.Respelt.{IsTryRecv, does_poll}
 
 module _ {T : Type 0} where
-  -- while nobody waits a receive that finds something is all that its poll does
+  -- while no receiver waits, a poll that finds something does what a receive does
   poll_is_receive : (v : View T) (pair : Pair) (at : Option ℕ) → (receive v pair.0 at).waiting_receives ≡ no_listeners → is_empty_reply (try_recv_reply v at) ≡ false
       → settle v (sets (receive v pair.0 at)) ≡ settle v (sets (receive_poll v pair at))
   poll_is_receive v pair at none found =
@@ -47,7 +47,7 @@ module _ {T : Type 0} where
       let waits : new ≡ record v { control = pair_waits v.control pair } = new_is ∙ ap (λ (x : View T). record x { control = pair_waits x.control pair }) same in
       waits ∙ sym (told_waiting v pair valid) ∙ ap (tell_if_ready true) (sym waits ∙ poll_waits v mid new pair at valid empty mid_is new_is)
 
-  -- one that finds something while nobody waits is a receive
+  -- one that finds something while no one waits is a receive
   pub poll_nobody : (v new : View T) (pair : Pair) (at : Option ℕ) → NobodyWaits new.control → is_empty_reply (try_recv_reply v at) ≡ false
       → new ≡ settle v (sets (receive v pair.0 at))
       → new ≡ tell_if_ready true (settle v (sets (receive_poll v pair at)))

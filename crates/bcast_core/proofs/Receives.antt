@@ -1,4 +1,4 @@
--- What a receive that finds nothing does, in what is seen.
+-- What receives do to the view.
 use Rattle.std.proofs.Common.{◌≡◌, ◌⊎◌, inl, inr, ℕ, ◌+◌, ◌-◌, ◌<◌, ◌≤◌, Bool, true, false, cond, length, Option, Some, None, Result, Ok, Err, is_some, nat_lt, slice_get, List, refl, sym, ap, ◌∙◌, arith}
 use Rattle.std.specs.Prelude.{alloc_error}
 use Rattle.std.proofs.lemmas.Grind.{common_steps}
@@ -21,7 +21,7 @@ module _ {T : Type 0} (v : View T) (key : ℕ) (at : Option ℕ) (cursor : ℕ) 
       let b : nat_lt cursor v.end ≡ false = grind (arith, common_steps, beyond) in
       ap (receive v key) is ∙ rw (a, b) refl
 
-  -- one that finds a message goes on after it
+  -- one that finds a message moves the cursor past it
   pub receive_one : cursor < v.end → receive v key at ≡ with_cursor v.control key (cursor + 1)
   receive_one below =
       let a : nat_lt cursor v.front ≡ false = grind (arith, common_steps, from) in
@@ -29,14 +29,14 @@ module _ {T : Type 0} (v : View T) (key : ℕ) (at : Option ℕ) (cursor : ℕ) 
       ap (receive v key) is ∙ rw (a, b) refl
 
 module _ {T : Type 0} where
-  -- whether a receive is answered `Empty` doesn't depend on clones
+  -- whether a receive returns `Empty` doesn't depend on clones
   pub empty_exactly : {is_clone : T → T → Type 0} {owed : Type 0} (exact answer : Result T TryRecvError)
       → IsReceived is_clone owed (λ a. reply.TryRecv (Ok a)) (reply.TryRecv (Err alloc_error)) exact (reply.TryRecv (Ok answer)) → is_empty_reply answer ≡ is_empty_reply exact
   empty_exactly exact answer (inl is) = ap (λ r. is_empty_reply (answer_of exact r)) is
   empty_exactly exact answer (inr (o, inl clone)) = ap (λ r. is_empty_reply (answer_of exact r)) clone.4 ∙ sym (ap is_empty_reply clone.2)
   empty_exactly exact answer (inr (o, inr is)) = ap (λ r. is_empty_reply (answer_of exact r)) is
 
-  -- a receiver that lags is told how many messages it missed
+  -- if the receiver lags, it returns how many messages were missed
   pub lagging : (v : View T) (at : Option ℕ) (cursor front : ℕ) → at ≡ Some cursor → front ≡ v.front → cursor < front → try_recv_reply v at ≡ Err (unread.Overflowed (front - cursor))
   lagging v at cursor front is same lags =
       let below : nat_lt cursor v.front ≡ true = grind (arith, common_steps, lags, same) in

@@ -1,4 +1,4 @@
--- Each receiver's listeners find room, while receivers come, read and leave.
+-- There is room for each receiver's listeners, while receivers are added, read and leave.
 use Rattle.std.proofs.Common.{◌≡◌, ℕ, ◌+◌, ◌-◌, ◌*◌, ◌<◌, ◌≤◌, Bool, true, false, cond, max, drop, Option, Some, None, is_some, Result, Ok, Err, IsSomeAnd, OnOk, OnErr, refl, sym, ap, ◌∙◌, subst, arith}
 use Rattle.std.proofs.lemmas.Bool.{true≢false}
 use Rattle.std.specs.Ordering.{nat_cmp, eq_by_cmp}
@@ -19,19 +19,19 @@ some_and P (Some cursor) p = refl
 same_key : (q key : ℕ) → eq_by_cmp nat_cmp q key ≡ true → q ≡ key
 same_key q key e = test_place.no q key (sym (unsigned_tied q key) ∙ e)
 
--- either listener finds it
+-- there is room for either listener
 pub pair_fits : (key : ℕ) (k : Kind) (room : ℕ) → 2 * key + 1 < room → pair_number (key, k) < room
 pair_fits key kind.Stream room own = omega (arith, own)
 pair_fits key kind.Future room own = own
 
--- nobody needs room
+-- without receivers no room is needed
 pub room_empty : (room : ℕ) → HaveRoom empty room
 room_empty room key h = absurd (true≢false (sym h ∙ ap is_some (get-empty nat_cmp key)))
 
 pub room_raised : (cursors : Cursors) (room more : ℕ) → room ≤ more → HaveRoom cursors room → HaveRoom cursors more
 room_raised cursors room more rises all key h = let own = all key h in omega (arith, own, rises)
 
--- a receiver comes that finds room, or has another cursor
+-- a receiver for which there is room is added, or has another cursor
 pub room_inserted : (cursors : Cursors) (key cursor room : ℕ) → 2 * key + 1 < room → HaveRoom cursors room → HaveRoom (insert cursors key cursor) room
 room_inserted cursors key cursor room own all other h = by_key (eq_by_cmp nat_cmp other key) refl (sym (ap is_some (get-insert nat_cmp_total cursors key cursor other)) ∙ h)
   where
@@ -47,13 +47,13 @@ room_removed cursors key room all other h = by_key (eq_by_cmp nat_cmp other key)
     by_key true some = cc
     by_key false some = all other some
 
--- a read leaves the receivers, whether it was refused or not
+-- a read keeps all receivers, whether it was refused or not
 pub room_read : {T E : Type 0} (r : Result T E) (old new : Stored T) (key cursor room : ℕ) → is_some (get old.cursors key) ≡ true
     → OnOk r (new ≡ with_cursors old (insert old.cursors key cursor)) → OnErr r (new ≡ old) → HaveRoom old.cursors room → HaveRoom new.cursors room
 room_read {T = T} (Ok msg) old new key cursor room some ok err all = subst (λ (s : Stored T). HaveRoom s.cursors room) (sym ok) (room_inserted old.cursors key cursor room (all key some) all)
 room_read {T = T} (Err e) old new key cursor room some ok err all = subst (λ (s : Stored T). HaveRoom s.cursors room) (sym err) all
 
--- a receiver that came and left at once
+-- a receiver that was added and removed at once
 pub remove-insert : (cursors : Cursors) (key cursor : ℕ) → get cursors key ≡ None → remove (insert cursors key cursor) key ≡ cursors
 remove-insert cursors key cursor fresh =
     same_map nat_cmp_total nat_cmp-IsAntisymmetric _ _ (λ q.
@@ -66,7 +66,7 @@ remove-insert cursors key cursor fresh =
     by_key q false e = refl
 
 module _ {T : Type 0} where
-  -- the cursors that it has leave a store as it is
+  -- the cursors that it has already don't change a store
   with_own_cursors : (s : Stored T) → least (end_of s) (values s.cursors) ≤ s.front → with_cursors s s.cursors ≡ s
   with_own_cursors s low =
       let front : max s.front (least (end_of s) (values s.cursors)) ≡ s.front = omega (arith, low) in
@@ -74,7 +74,7 @@ module _ {T : Type 0} where
       ap (λ m. record s { front = m; queue = drop (m - s.front) s.queue }) front
       ∙ ap (λ n. record s { queue = drop n s.queue }) none
 
-  -- so does a receiver that came and left at once
+  -- nor does a receiver that was added and removed at once
   pub taken_back : (s : Stored T) (key cursor : ℕ) → get s.cursors key ≡ None → least (end_of s) (values s.cursors) ≤ s.front
       → with_cursors s (remove (insert s.cursors key cursor) key) ≡ s
   taken_back s key cursor fresh low = ap (with_cursors s) (remove-insert s.cursors key cursor fresh) ∙ with_own_cursors s low

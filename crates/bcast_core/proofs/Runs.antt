@@ -1,4 +1,4 @@
--- A run that goes on by one call, and what holds at each point of a run.
+-- A run with one more call, and what holds at each point of a run.
 use Rattle.std.proofs.Common.{◌≡◌, List, [], ◌∷◌, ◌++◌, length, append-nil, refl, sym, ap, ◌∙◌}
 use Rattle.std.proofs.lemmas.List.{nil_from_length}
 use Rattle.bcast_model.specs.declared.run.Call.{Call}

@@ -1,4 +1,4 @@
--- What a poll of a pending send does, in what is seen.
+-- What a poll of a pending send does to the view.
 use Rattle.std.proofs.Common.{◌≡◌, ℕ, Bool, true, false, cond, not, Result, Ok, Err, IfOk, OnOk, OnErr, refl, sym, ap, ◌∙◌, subst}
 use Rattle.std.specs.Prelude.{is_ok}
 use Rattle.bcast_model.specs.declared.run.SendPoll.{SendPoll}
@@ -28,7 +28,7 @@ not_true true e = cc
 not_true false e = refl
 
 module _ {T : Type 0} where
-  -- whether an attempt is to wait
+  -- whether an attempt must wait
   abbrev waits : SendPoll T → Bool
   waits sent = must_wait (reply.PollSend sent)
 
@@ -38,7 +38,7 @@ module _ {T : Type 0} where
     | Ok back ↦ λ e. (let w = ap waits e in cc)
   ] is
 
-  -- an attempt that is to wait changes nothing
+  -- an attempt that must wait changes nothing
   pub attempt_stays : (v mid : View T) (msg again : T) → IsValidView v → attempt_send_reply v msg ≡ send.Wait again → mid ≡ settle v (offer v msg) → mid ≡ v
   attempt_stays v mid msg again valid is mid_is = mid_is ∙ is_refused v msg again is ∙ settle_same v valid
 
@@ -49,7 +49,7 @@ module _ {T : Type 0} where
       ∙ ap (tell_if_ready true) (sym (settle_same v valid)
       ∙ ap (λ b. settle v (cond b (cond (sends_are_ready v) (with_place_answered (offer v msg) place) (sets (place_waits v.control place))) (sets v.control))) (sym none))
 
-  -- a poll that is answered frees its place after all else
+  -- a poll that is answered frees its place last
   pub poll_answered : (v mid new : View T) (place : ℕ) (msg : T) (answer : _) → has_place v.control place ≡ true → attempt_send_reply v msg ≡ send.Ready answer
       → mid ≡ settle v (offer v msg) → new ≡ tell_if_ready true (record mid { control = place_answered mid.control place }) → new ≡ tell_if_ready true (settle v (poll_send v place msg))
   poll_answered v mid new place msg answer there is mid_is new_is =
@@ -58,7 +58,7 @@ module _ {T : Type 0} where
       ∙ sym (ap (λ b. settle v (cond b (cond (sends_are_ready v) (with_place_answered (offer v msg) place) (sets (place_waits v.control place))) (sets v.control))) there
       ∙ ap (λ b. settle v (cond b (with_place_answered (offer v msg) place) (sets (place_waits v.control place)))) ready))
 
-  -- nobody is told of it where nobody waits
+  -- if no one waits, no one is told of it
   pub poll_nobody : (v mid new : View T) (place : ℕ) (msg : T) (answer : _) (news : Bool) → has_place v.control place ≡ true → attempt_send_reply v msg ≡ send.Ready answer → NobodyWaits mid.control
       → tell_news news mid ≡ settle v (offer v msg) → new ≡ record mid { control = place_answered mid.control place } → new ≡ tell_if_ready true (settle v (poll_send v place msg))
   poll_nobody v mid new place msg answer news there is alone mid_is new_is =
@@ -66,7 +66,7 @@ module _ {T : Type 0} where
       poll_answered v mid new place msg answer there is (sym (news_nobody news mid alone) ∙ mid_is)
       (new_is ∙ sym (told_none freed true (ap (consume same_place place) alone.sends)))
 
-  -- a poll that is not waits, and nobody is told
+  -- a poll that is not answered waits, and no one is told
   pub poll_waits : (v mid new : View T) (place : ℕ) (msg again : T) → IsValidView v → has_place v.control place ≡ true → attempt_send_reply v msg ≡ send.Wait again
       → mid ≡ settle v (offer v msg) → new ≡ record mid { control = place_waits mid.control place } → new ≡ tell_if_ready true (settle v (poll_send v place msg))
   poll_waits v mid new place msg again valid there is mid_is new_is =
@@ -78,7 +78,7 @@ module _ {T : Type 0} where
       ∙ sym (ap (λ b. settle v (cond b (cond (sends_are_ready v) (with_place_answered (offer v msg) place) (sets (place_waits v.control place))) (sets v.control))) there
       ∙ ap (λ b. settle v (cond b (with_place_answered (offer v msg) place) (sets (place_waits v.control place)))) blocked))
 
-  -- each is the call's answer
+  -- each is what the call returns
   pub polled : (old v new : View T) (place : ℕ) (msg : T) (r : Result (SendPoll T) T) → v ≡ old → IsShown v
       → IfOk r (λ sent. sent ≡ cond (has_place v.control place) (attempt_send_reply v msg) (send.Wait msg))
       → OnOk r (new ≡ tell_if_ready true (settle v (poll_send v place msg))) → IfOk r (λ sent. Answers NoClone old (call.PollSend place msg) (reply.PollSend sent) new)

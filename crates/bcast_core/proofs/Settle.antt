@@ -1,4 +1,4 @@
--- What is seen of the state after an effect.
+-- The view after an effect.
 use Rattle.std.proofs.Common.{◌≡◌, ℕ, ◌+◌, ◌-◌, ◌≤◌, List, [], ◌∷◌, ◌++◌, length, max, drop, Some, true, false, cond, not, ◌&&◌, refl, ◌∙◌, arith, append-nil}
 use Rattle.std.specs.Ordering.{nat_cmp}
 use Rattle.std.specs.FinMap.{get, insert, len, values, entries, find, len-entries, get-entries}
@@ -15,7 +15,7 @@ use Rattle.bcast_model.proofs.Least.{least-le-cursor, least-greatest, find_head}
 pub low_inserted : (end front : ℕ) (cursors : Cursors) (key cursor : ℕ) → cursor ≤ front → least end (values (insert cursors key cursor)) ≤ front
 low_inserted end front cursors key cursor below = let own = least-le-cursor end (insert cursors key cursor) key cursor (inserted cursors key cursor) in omega (arith, own)
 
--- somebody receives
+-- there is a receiver
 found_first : (es : List (ℕ × ℕ)) → 1 ≤ length es → (key : ℕ) × (cursor : ℕ) × (find nat_cmp key es ≡ Some cursor)
 found_first [] some = absurd (omega arith)
 found_first (e ∷ es) some = (e.0, e.1, find_head e es)
@@ -43,7 +43,7 @@ module _ {T : Type 0} where
       → drop (new.front - v.front) (v.queue ++ e.accepted) ≡ new.queue → v.end + length e.accepted ≡ new.end → e.control ≡ new.control → settle v e ≡ new
   settle_to v e new front queue end control = same_view (settle v e) new front (rw front queue) end control
 
-  -- the front stays where somebody is still to read from it
+  -- the front stays if some receiver has still to read from it
   pub settle_stays : (v : View T) (c : Control) → least v.end (values c.cursors) ≤ v.front → settle v (sets c) ≡ record v { control = c }
   settle_stays v c low =
       let end : v.end + 0 ≡ v.end = omega arith in
@@ -54,11 +54,11 @@ module _ {T : Type 0} where
   pub settle_same : (v : View T) → IsValidView v → settle v (sets v.control) ≡ v
   settle_same v valid = settle_stays v v.control valid.low
 
-  -- where sends were ready already nobody is told
+  -- if sends were ready already, no one is told
   pub told_nobody : (v : View T) → tell_if_ready (not (sends_are_ready v)) v ≡ v
   told_nobody v = elim (sends_are_ready v) as (λ b. cond (not b && b) (record v { control = tell_a_sender v.control }) v ≡ v) [ true ↦ refl | false ↦ refl ]
 
-  -- closing leaves the front
+  -- closing doesn't change the front
   pub low_close_if_deserted : (v : View T) (c : Control) → least v.end (values c.cursors) ≤ v.front → least v.end (values (close_if_deserted c).cursors) ≤ v.front
   low_close_if_deserted v c low = deserted_is (λ x. least v.end (values x.cursors) ≤ v.front) c (rw (cursors-close c) low) (λ _. low)
 

@@ -1,4 +1,4 @@
--- What is seen of a store, after its cursors changed.
+-- What a contract sees of a store after its cursors changed.
 use Rattle.std.proofs.Common.{◌≡◌, ◌+◌, ◌-◌, length, max, drop, refl, ap, arith, append-nil, length-drop}
 use Rattle.std.specs.FinMap.{values}
 use Rattle.bcast_model.specs.Words.{Control, least, sets, settle}
@@ -8,7 +8,7 @@ use Rattle.bcast_core.specs.Parts.{seen_of}
 use Rattle.bcast_core.proofs.Settle.{settle_to}
 
 module _ {T : Type 0} where
-  -- the messages that nobody is to read any more are gone
+  -- the messages that no receiver has to read any more are gone
   pub settle-with_cursors : (s : Stored T) (was c : Control) → settle (seen_of s was) (sets c) ≡ seen_of (with_cursors s c.cursors) c
   settle-with_cursors s was c =
       let end : end_of s + 0 ≡ end_of s = omega arith in

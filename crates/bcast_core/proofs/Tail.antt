@@ -1,4 +1,4 @@
--- The last step of a call, which tells those who wait. Answers of state calls take their lemmas
+-- The last step of a call, which tells listeners. The proofs of state calls take their lemmas
 -- from here.
 use Rattle.std.proofs.Common.{◌≡◌, ℕ, ◌+◌, ◌≤◌, ◌==◌, Bool, true, false, not, cond, ◌&&◌, length, min, max, refl, sym, ap, ◌∙◌, subst, arith}
 use Rattle.std.proofs.lemmas.Grind.{common_steps}
@@ -17,14 +17,14 @@ use Rattle.bcast_core.specs.Parts.{Does}
 use Rattle.bcast_core.specs.Telling.{tell_news}
 pub use Rattle.bcast_core.proofs.Does.{valid_shown, does_begin, does_resize, does_sets}
 
--- where one is told already, telling one changes nothing
+-- if one is told already, telling one changes nothing
 told_one : (l : Listeners ℕ) → OneIsTold l → tell 1 l ≡ l
 told_one l told =
     let same : max l.told (min 1 (length l.ids)) ≡ l.told = grind (arith, common_steps, told) in
     λ i. record l { told = same i }
 
 module _ {T : Type 0} where
-  -- nobody is told if nobody waits
+  -- no send is told if none waits
   pub told_none : (v : View T) (may : Bool) → v.control.waiting_sends ≡ no_listeners → tell_if_ready may v ≡ v
   told_none v may nobody =
       elim (may && sends_are_ready v) as (λ b. cond b (record v { control = tell_a_sender v.control }) v ≡ v) [
@@ -32,7 +32,7 @@ module _ {T : Type 0} where
         | false ↦ refl
       ]
 
-  -- so every call may tell one last: where it needn't, no wake-up is lost
+  -- so every call may tell one last: if it needn't, one is told already, or sends are not ready
   tell_once : (may : Bool) (w : View T) → (may ≡ false → sends_are_ready w ≡ true → OneIsTold w.control.waiting_sends) → tell_if_ready true w ≡ tell_if_ready may w
   tell_once true w told = refl
   tell_once false w told = elim (sends_are_ready w) as (λ b. sends_are_ready w ≡ b → cond b (record w { control = tell_a_sender w.control }) w ≡ w) [
@@ -40,7 +40,7 @@ module _ {T : Type 0} where
     | false ↦ λ blocked. refl
   ] refl
 
-  -- in a valid state nobody is told
+  -- in a valid state no further send is told
   pub told_valid : (v : View T) → IsValidView v → tell_if_ready true v ≡ v
   told_valid v valid = tell_once false v (λ _. valid.wake_ups.sends)
 
@@ -65,7 +65,7 @@ module _ {T : Type 0} where
       let fits = subst (λ (cursors : Cursors). HasRange c (len cursors)) (sym (ap (λ (v : View T). v.control.cursors) new_is ∙ cursors_told mid)) range in
       answers_as same fits shown (told_last (valid_shown shown) range does new_is)
 
-  -- where nobody waits nobody is told of a message
+  -- if no one waits, no one is told of a message
   pub news_nobody : (news : Bool) (v : View T) → NobodyWaits v.control → tell_news news v ≡ v
   news_nobody false v alone = refl
   news_nobody true v alone =
@@ -86,10 +86,10 @@ pub other_number : (n m more : ℕ) → m ≡ n + more → 1 ≤ more → (m == 
 other_number n m more is some = grind (arith, common_steps, is, some)
 
 module _ {T : Type 0} where
-  -- there are no news where the end is the same
+  -- there is no news if the end is the same
   pub no_news : (v : View T) → tell_news (not (v.end == v.end)) v ≡ v
   no_news v = ap (λ b. tell_news (not b) v) (same_number v.end)
 
-  -- and there are where it rose
+  -- and there is if it rose
   pub some_news : (v new : View T) (more : ℕ) → new.end ≡ v.end + more → 1 ≤ more → tell_news (not (new.end == v.end)) new ≡ tell_news true new
   some_news v new more is some = ap (λ b. tell_news (not b) new) (other_number v.end new.end more is some)

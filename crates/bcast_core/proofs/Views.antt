@@ -1,4 +1,4 @@
--- What is seen of the state's parts.
+-- The view of the state's parts.
 use Rattle.std.proofs.Common.{◌≡◌, ℕ, Bool, sym, ap, ◌∙◌}
 use Rattle.bcast_model.specs.Words.{Control, Cursors, View, sets, settle, Pair}
 use Rattle.bcast_store.specs.Stored.{Stored, with_cursors}

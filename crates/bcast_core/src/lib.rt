@@ -1,8 +1,8 @@
 //! The state of a broadcast channel, its calls, and runs of calls.
 //!
-//! Code without clauses names this crate alone: it has the state (`Inner`), what is seen of it as a
-//! value (`Snapshot`), calls as data (`step`, `run`), the notices, and again the errors and the
-//! calls and replies of `bcast_model`. Clauses about a channel also name `bcast_model`.
+//! Code without clauses needs this crate alone: it has the state (`Inner`), its view as a value
+//! (`Snapshot`), calls as data (`step`, `run`), the notices, and re-exports the errors, calls and
+//! replies of `bcast_model`. Clauses about a channel also name `bcast_model`.
 #![tactic(auto)]
 
 mod calls;

@@ -1,4 +1,4 @@
-//! What the state of a channel consists of, and the steps that its calls are made of.
+//! The parts of a channel's state, and the steps that its calls are made of.
 ghost use Rattle.std.specs.Prelude.{◌≡◌, ◌==◌, ◌↔◌, false, true, length};
 ghost use Rattle.std.specs.FinMap.{len};
 
@@ -19,7 +19,7 @@ mod snapshot;
 
 pub use send::is_accepted;
 
-/// The state of a channel between the steps of a call: what is seen need not be a valid state.
+/// The state of a channel between the steps of a call. It need not be a valid state.
 #[derive(Drop)]
 pub struct Parts<T, N: Notice, A: Allocator = Global> {
     store: Store<T, A>,
@@ -47,7 +47,7 @@ impl<T, N: Notice, A: Allocator> Model for Parts<T, N, A> {
 
     ghost use Rattle.bcast_core.specs.Parts.{HaveRoom};
 
-    // Each receiver's listeners find room among those that wait.
+    // There is room to list both listeners of each receiver.
     ghost invariant = { λ p. HaveRoom p.store.cursors p.receives.room };
 }
 
@@ -181,7 +181,7 @@ impl<T: Drop, N: Notice, A: Allocator + Copy> Parts<T, N, A> {
         self.sends.nobody_waits()
     }
 
-    /// Whether nobody waits: no send, and no receiver.
+    /// Whether no send waits, and no receiver.
     #[inline(always)]
     pub fn nobody_waits(&self) -> bool
         ensures { result ≡ true → NobodyWaits self.now.control }
@@ -189,10 +189,10 @@ impl<T: Drop, N: Notice, A: Allocator + Copy> Parts<T, N, A> {
         self.no_send_waits() && self.receives.is_empty()
     }
 
-    /// The last step of a call: tells the first send that waits, if sends are ready now.
+    /// The last step of a call: tells the first send that waits, if sends are ready now and none is
+    /// told already.
     ///
-    /// It isn't compiled into its callers, and those that are called most often ask before it
-    /// whether a send waits.
+    /// It isn't inlined. The calls that are made most often first test whether a send waits.
     #[inline(never)]
     pub fn tell_a_sender(&mut self)
         ensures { self.new ≡ tell_if_ready true self.old }
@@ -202,7 +202,7 @@ impl<T: Drop, N: Notice, A: Allocator + Copy> Parts<T, N, A> {
         }
     }
 
-    /// The last step of a call that sends: if it accepted a message all that wait to receive are
+    /// The last step of a call that sends: if it accepted a message, all that wait to receive are
     /// told first.
     #[inline(never)]
     pub fn tell_of_message(&mut self, is_accepted: bool)
@@ -226,7 +226,7 @@ impl<T: Drop, N: Notice, A: Allocator + Copy> Parts<T, N, A> {
         }
     }
 
-    /// Closes an open channel: everyone that waits is told.
+    /// Closes an open channel: all that wait are told.
     pub fn close(&mut self)
         ensures { self.new ≡ record self.old { control = close self.old.control } }
     {
@@ -237,14 +237,14 @@ impl<T: Drop, N: Notice, A: Allocator + Copy> Parts<T, N, A> {
         }
     }
 
-    /// Whether no sender is left, or nobody who receives or may receive again.
+    /// Whether there is no sender, or no receiver, active or inactive.
     pub fn is_deserted(&self) -> bool
         ensures { result ≡ is_deserted self.now.control }
     {
         self.senders == 0 || (self.has_no_receiver() && self.inactive == 0)
     }
 
-    /// Closes a channel that one side has left.
+    /// Closes the channel if one side has no handle left.
     pub fn close_if_deserted(&mut self)
         ensures { self.new ≡ record self.old { control = close_if_deserted self.old.control } }
     {

@@ -1,8 +1,8 @@
-//! What is seen of a channel, as a value.
+//! The view of a channel, as a value.
 use bcast_model::listener::Kind;
 use std::alloc::{Allocator, Global};
 
-/// What is seen of a channel between two calls, with a clone of each message that it keeps.
+/// The view of a channel between two calls, with a clone of each message that it keeps.
 #[derive(Drop)]
 pub struct Snapshot<T, A: Allocator = Global> {
     /// The number of the first kept message, or of the next one if none is kept.
@@ -11,7 +11,7 @@ pub struct Snapshot<T, A: Allocator = Global> {
     pub queue: Vec<T, A>,
     /// The number that the next accepted message gets.
     pub end: u64,
-    /// The receivers' keys by rising order, each with the number of the message that it reads next.
+    /// The receivers' keys in rising order, each with the number of the message that it reads next.
     pub cursors: Vec<(usize, u64), A>,
     /// How many senders there are.
     pub senders: usize,
@@ -27,7 +27,7 @@ pub struct Snapshot<T, A: Allocator = Global> {
     pub capacity: usize,
     /// The greatest capacity so far.
     pub room: usize,
-    /// The places of the pending sends, by rising order.
+    /// The places of the pending sends, in rising order.
     pub places: Vec<usize, A>,
     /// The pending sends that wait, each by its place.
     pub waiting_sends: Waiting<usize, A>,
@@ -35,10 +35,10 @@ pub struct Snapshot<T, A: Allocator = Global> {
     pub waiting_receives: Waiting<(usize, Kind), A>,
 }
 
-/// Who waits, in the order of registering.
+/// The listeners that wait, in the order of registering.
 #[derive(Drop)]
 pub struct Waiting<I, A: Allocator = Global> {
-    /// Who each of them is, from the front.
+    /// The id of each of them, from the front.
     pub ids: Vec<I, A>,
     /// How many of them, from the front, are told.
     pub told: usize,

@@ -19,11 +19,11 @@ mod settings;
 mod snapshot;
 
 /// The state of a broadcast channel: its messages, the receivers' cursors, the counts of senders
-/// and inactive receivers, the settings, and who waits.
+/// and inactive receivers, the settings, and the listeners that wait.
 ///
-/// One call on it is one atomic event; a lock round it makes a channel for many threads. A receiver
+/// Each call on it is atomic. With a lock around it, it is a channel for many threads. A receiver
 /// is named by its key, and a pending send by its place: a key or place may be given again after
-/// its holder has left.
+/// its receiver or its send is gone.
 pub struct Inner<T, N: Notice, A: Allocator = Global> {
     parts: Parts<T, N, A>,
 }
@@ -40,9 +40,9 @@ impl<T, N: Notice, A: Allocator> Model for Inner<T, N, A> {
     ghost invariant = { λ s. IsShown s.parts };
 }
 
-/// Drops the messages that are kept, and the notices of those who wait.
+/// Drops the messages that are kept, and the notices of the listeners that wait.
 ///
-/// It isn't derived, so a crate that drops a channel cites this and proves the drop of no part anew.
+/// It isn't derived, so that the proof of a drop of a channel needn't prove the drop of each part.
 impl<T: Drop, N: Notice, A: Allocator> Drop for Inner<T, N, A> {
     fn drop(self) {
         let Inner { parts: _ } = self;
@@ -85,7 +85,7 @@ impl<T: Drop, N: Notice, A: Allocator + Copy> Inner<T, N, A> {
         let key = store.add(first)?;
         let mut receives = Event::new(alloc);
         receives.reserve_for((key, Kind::Future))?;
-        // Put together last: a greater value would be copied at each step that may be refused.
+        // Put together last: a larger value would be copied at each step that may be refused.
         let parts = Parts::new(alloc, cap, store, receives);
         Ok((Inner { parts }, key))
     }

@@ -35,7 +35,7 @@ impl<T: Drop, N: Notice, A: Allocator + Copy> Parts<T, N, A> {
         Ok(key)
     }
 
-    // Takes a receiver's cursor out, and drops the messages that nobody is to read any more.
+    // Removes a receiver's cursor, and drops the messages that no receiver has to read any more.
     fn remove_cursor(&mut self, key: usize)
         requires { is_some (cursor_of self.old.control key) ≡ true }
         ensures { self.new ≡ settle self.old
@@ -44,7 +44,7 @@ impl<T: Drop, N: Notice, A: Allocator + Copy> Parts<T, N, A> {
         self.store.remove(key);
     }
 
-    /// Takes a receiver out: it abandons its stream, then its future, and then what it has to read.
+    /// Removes a receiver: its stream is dropped, then its future, then its cursor.
     pub fn remove_receiver(&mut self, key: usize)
         requires valid { IsValidView self.old }
         requires there { is_some (cursor_of self.old.control key) ≡ true }

@@ -1,4 +1,4 @@
-//! The calls that drop a handle, without telling a sender.
+//! The calls that drop a handle, except that they tell no sender.
 ghost use Rattle.bcast_model.specs.Words.{NoClone, IsValidView};
 ghost use Rattle.bcast_core.specs.Parts.{Does};
 ghost use Rattle.bcast_model.specs.declared.run.Call.TheVariants as call;

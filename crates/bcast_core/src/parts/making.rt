@@ -1,4 +1,4 @@
-//! The calls that make a handle, without telling a sender.
+//! The calls that make a handle, except that they tell no sender.
 ghost use Rattle.std.specs.Prelude.{◌^◌, ◌<◌};
 ghost use Rattle.std.specs.FinMap.{len};
 ghost use Rattle.bcast_model.specs.Words.{NoClone, IsValidView};

@@ -23,7 +23,7 @@ impl<T: Drop, N: Notice, A: Allocator + Copy> Parts<T, N, A> {
     ghost use Rattle.bcast_core.specs.Telling.{tell_news, is_accepted};
     ghost use Rattle.bcast_model.specs.declared.run.SendPoll.TheVariants as send;
 
-    // Takes the oldest message out, whoever is still to read it.
+    // Takes the oldest message out, even if receivers have still to read it.
     fn drop_oldest(&mut self) -> T
         requires { 0 < length self.old.queue }
         ensures oldest { self.old.queue ≡ result ∷ self.new.queue }
@@ -36,7 +36,7 @@ impl<T: Drop, N: Notice, A: Allocator + Copy> Parts<T, N, A> {
         oldest
     }
 
-    // Puts a message last, for every receiver. The last number closes the channel. Nobody is told.
+    // Appends a message, for every receiver. The last number closes the channel. No one is told.
     #[inline(always)]
     fn accept(&mut self, msg: T)
         requires is_open { self.old.control.closed ≡ false }
@@ -51,8 +51,8 @@ impl<T: Drop, N: Notice, A: Allocator + Copy> Parts<T, N, A> {
         }
     }
 
-    // Puts messages last, in their order, for every receiver. The last number closes the channel.
-    // Nobody is told.
+    // Appends messages, in their order, for every receiver. The last number closes the channel.
+    // No one is told.
     fn accept_all(&mut self, msgs: Messages<T>)
         requires is_open { self.old.control.closed ≡ false }
         requires some { 0 < length msgs }
@@ -67,7 +67,7 @@ impl<T: Drop, N: Notice, A: Allocator + Copy> Parts<T, N, A> {
         }
     }
 
-    // How many messages can be accepted before the capacity or the numbers end.
+    // How many messages can be accepted, by free capacity and by numbers left.
     fn free_room(&self) -> usize
         ensures { result ≡ free_room self.now }
     {
@@ -76,8 +76,8 @@ impl<T: Drop, N: Notice, A: Allocator + Copy> Parts<T, N, A> {
         if room < numbers { room } else { numbers }
     }
 
-    /// Accepts a whole list, or hands it back with the reason. Nobody is told: there are news if the
-    /// end rose.
+    /// Accepts a whole list, or hands it back with the reason. No one is told: the caller has to do
+    /// that, if the end rose.
     pub fn offer_all(&mut self, msgs: Messages<T>) -> Result<(), TrySendError<Messages<T>>>
         requires { IsValidView self.old }
         ensures reply { result ≡ try_broadcast_all_reply self.old msgs }
@@ -100,7 +100,7 @@ impl<T: Drop, N: Notice, A: Allocator + Copy> Parts<T, N, A> {
         Ok(())
     }
 
-    // Makes room for a message that is to be accepted, which comes back with the oldest message if
+    // Makes room for a message that is to be accepted, and returns it with the oldest message if
     // that was dropped; or hands it back with the reason.
     #[inline(always)]
     fn admit(&mut self, msg: T) -> Result<(T, Option<T>), TrySendError<T>>
@@ -136,8 +136,8 @@ impl<T: Drop, N: Notice, A: Allocator + Copy> Parts<T, N, A> {
         Ok((msg, Some(oldest)))
     }
 
-    /// Accepts a message, or hands it back with the reason. Nobody is told: there are news if it was
-    /// accepted.
+    /// Accepts a message, or hands it back with the reason. No one is told: the caller has to do
+    /// that, if it was accepted.
     #[inline(always)]
     pub fn offer(&mut self, msg: T) -> Result<Option<T>, TrySendError<T>>
         requires { IsValidView self.old }
@@ -162,11 +162,11 @@ impl<T: Drop, N: Notice, A: Allocator + Copy> Parts<T, N, A> {
     }
 
     /// A poll of a pending send, whose notice is made if it must wait. If it is answered its place
-    /// is free, and if sends are still ready then the first one that waits is told.
+    /// is freed, and if sends are still ready the first that waits is told, unless one is already.
     ///
     /// # Errors
     ///
-    /// The message comes back and nothing changed: no notice was made.
+    /// The message is handed back and nothing changed: no notice was made.
     #[inline(always)]
     pub fn poll_send<M: MakesNotice<N>>(
         &mut self,
@@ -211,7 +211,7 @@ impl<T: Drop, N: Notice, A: Allocator + Copy> Parts<T, N, A> {
         }
     }
 
-    // What else there is to do for a pending send that was answered, while somebody waits.
+    // The rest of a poll of a pending send that was answered, while a send or a receiver waits.
     #[inline(never)]
     fn tell_of_send(&mut self, place: usize, news: bool)
         ensures { let told = tell_news news self.old in self.new
@@ -240,7 +240,7 @@ impl<T: Drop, N: Notice, A: Allocator + Copy> Parts<T, N, A> {
     }
 }
 
-// What a try was answered, as the answer of a send that may wait.
+// What a try returned, as what a send that may wait returns.
 #[inline(always)]
 fn attempted<T: Drop>(await_active: bool, tried: Result<Option<T>, TrySendError<T>>) -> SendPoll<T>
     ensures { result ≡ reply_to_attempt await_active tried }

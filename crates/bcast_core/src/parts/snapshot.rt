@@ -1,4 +1,4 @@
-//! What is seen of the parts, as a value.
+//! The view of the parts, as a value.
 ghost use Rattle.std.specs.Prelude.{◌≡◌, IfOk};
 ghost use Rattle.std.specs.FinSet as set;
 ghost use Rattle.std.specs.List.{AllZip};
@@ -14,8 +14,8 @@ use bcast_waiting::notice::Notice;
 use std::alloc::{AllocError, Allocator};
 
 impl<T: Clone, N: Notice, A: Allocator + Copy> Parts<T, N, A> {
-    /// All that is seen, with a clone of each message. Takes memory from `alloc` for the lists, and
-    /// what memory the clones take.
+    /// The view, with a clone of each message. Allocates the lists from `alloc`; clones may
+    /// allocate too.
     pub fn snapshot<B: Allocator + Copy>(&self, alloc: B) -> Result<Snapshot<T, B>, AllocError>
         ensures { IfOk result (λ snapshot. Shows T.is_clone snapshot self.now) }
     {
@@ -78,7 +78,7 @@ fn clones_of<T: Clone, A: Allocator + Copy, B: Allocator>(
     Ok(clones)
 }
 
-// These numbers by rising order, each once.
+// These numbers in rising order, each once.
 fn rising<B: Allocator>(mut numbers: Vec<usize, B>) -> Vec<usize, B>
     ensures rising { IsStrictlyIncreasing result.items }
     ensures same { set.from_list {R = nat_cmp} result.items ≡ set.from_list numbers.items }

@@ -9,7 +9,7 @@ use bcast_waiting::notice::Notice;
 use std::alloc::Allocator;
 
 impl<T: Drop, N: Notice, A: Allocator + Copy> Inner<T, N, A> {
-    /// Counts one sender more. A channel that is closed stays so.
+    /// Counts one more sender. A closed channel stays closed.
     ///
     /// # Errors
     ///
@@ -25,7 +25,7 @@ impl<T: Drop, N: Notice, A: Allocator + Copy> Inner<T, N, A> {
         made
     }
 
-    /// Counts one inactive receiver more.
+    /// Counts one more inactive receiver.
     ///
     /// # Errors
     ///
@@ -43,8 +43,8 @@ impl<T: Drop, N: Notice, A: Allocator + Copy> Inner<T, N, A> {
         made
     }
 
-    /// Makes the receiver of this key an inactive one, in one step: the channel stays open. What it
-    /// has to read goes, and so do the messages that nobody else is to read.
+    /// Makes the receiver of this key inactive, in one step: an open channel stays open. Its cursor
+    /// is removed, and the messages that no other receiver has to read are dropped.
     ///
     /// # Errors
     ///
@@ -62,7 +62,7 @@ impl<T: Drop, N: Notice, A: Allocator + Copy> Inner<T, N, A> {
         made
     }
 
-    /// Adds a receiver that reads the messages to come, and returns its key.
+    /// Adds a receiver that reads the messages sent from now on, and returns its key.
     ///
     /// # Errors
     ///
@@ -77,7 +77,7 @@ impl<T: Drop, N: Notice, A: Allocator + Copy> Inner<T, N, A> {
         made
     }
 
-    /// Makes an inactive receiver an active one, which reads the messages to come.
+    /// Makes an inactive receiver an active one, which reads the messages sent from now on.
     ///
     /// # Errors
     ///
@@ -94,7 +94,7 @@ impl<T: Drop, N: Notice, A: Allocator + Copy> Inner<T, N, A> {
         made
     }
 
-    /// Adds a receiver that reads the messages to come, beside an inactive one.
+    /// Adds a receiver that reads the messages sent from now on, and keeps the inactive one.
     ///
     /// # Errors
     ///
@@ -112,7 +112,7 @@ impl<T: Drop, N: Notice, A: Allocator + Copy> Inner<T, N, A> {
         made
     }
 
-    /// Adds a receiver that reads what the receiver of this key is to read.
+    /// Adds a receiver that has the same messages to read as the receiver of this key.
     ///
     /// # Errors
     ///
@@ -130,7 +130,8 @@ impl<T: Drop, N: Notice, A: Allocator + Copy> Inner<T, N, A> {
         made
     }
 
-    /// Counts one sender less. The last one closes the channel. With none left it changes nothing.
+    /// Counts one sender fewer. If none is left then, the channel is closed. If there was none,
+    /// nothing changes.
     ///
     /// Source: the drop of `Sender` of async-broadcast.
     pub fn drop_sender(&mut self)
@@ -140,8 +141,8 @@ impl<T: Drop, N: Notice, A: Allocator + Copy> Inner<T, N, A> {
         self.parts.tell_a_sender();
     }
 
-    /// Counts one inactive receiver less. If neither an inactive nor an active one is left, the
-    /// channel is closed. With none left it changes nothing.
+    /// Counts one inactive receiver fewer. If neither an inactive nor an active one is left then,
+    /// the channel is closed. If there was no inactive one, nothing changes.
     ///
     /// Source: the drop of `InactiveReceiver` of async-broadcast.
     pub fn drop_inactive(&mut self)
@@ -151,9 +152,9 @@ impl<T: Drop, N: Notice, A: Allocator + Copy> Inner<T, N, A> {
         self.parts.tell_a_sender();
     }
 
-    /// Takes the receiver of this key out: its stream and its future wait no more, and the messages
-    /// that nobody else is to read go. If neither an active nor an inactive receiver is left,
-    /// the channel is closed. An unknown key changes nothing.
+    /// Removes the receiver of this key: its stream and its future wait no more, and the messages
+    /// that no other receiver has to read are dropped. If neither an active nor an inactive one is
+    /// left, the channel is closed. With an unknown key nothing changes.
     ///
     /// Source: the drop of `Receiver` of async-broadcast.
     pub fn drop_receiver(&mut self, key: usize)

@@ -18,19 +18,19 @@ impl<T: Clone, N: Notice, A: Allocator + Copy> Inner<T, N, A> {
     ///
     /// In the `Ok`:
     /// - `Overflowed(n)`: the receiver missed `n` messages, which were dropped before it read them.
-    ///   It goes on after them.
+    ///   It continues after them.
     /// - `Closed`: it has read everything and the channel is closed, or there is no such receiver.
     /// - `Empty`: it has read everything, and the channel is open.
     ///
-    /// `AllocError`: the message is also for another receiver, and its clone found no memory.
-    /// Nothing changed.
+    /// `AllocError`: the message is also for another receiver, and memory for its clone was
+    /// refused. Nothing changed.
     ///
     /// Source: `Receiver::try_recv` of async-broadcast.
     #[inline(always)]
     pub fn try_recv(&mut self, key: usize) -> Result<Result<T, TryRecvError>, AllocError>
         ensures answers { Answers T.is_clone self.old (call.TryRecv key) (reply.TryRecv result)
             self.new }
-        // If no clone fails, there is a message.
+        // If no clone can fail, it isn't out of memory.
         ensures sure { ((msg : T) → T.is_infallible msg) → IsOk result }
     {
         let at = self.parts.cursor(key);

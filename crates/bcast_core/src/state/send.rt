@@ -17,11 +17,11 @@ impl<T: Drop, N: Notice, A: Allocator + Copy> Inner<T, N, A> {
     ///
     /// `Ok(Some(oldest))` hands back the oldest message, which a full channel dropped in overflow
     /// mode, even if some receivers have read it. The message that brings the end to `u64::MAX`
-    /// closes the channel. Takes no memory.
+    /// closes the channel. Allocates nothing.
     ///
     /// # Errors
     ///
-    /// The message comes back and nothing changes, for the first reason that fits.
+    /// The message is handed back and nothing changes, for the first reason that applies.
     /// - `Closed`: the channel is closed.
     /// - `Inactive`: there is no active receiver, in overflow mode too.
     /// - `Full`: as many messages are kept as the capacity allows, and overflow is off.
@@ -39,15 +39,15 @@ impl<T: Drop, N: Notice, A: Allocator + Copy> Inner<T, N, A> {
         sent
     }
 
-    /// Sends a whole list of messages to every active receiver, in one step: they stand last, in
+    /// Sends a whole list of messages to every active receiver, in one step: they are last, in
     /// their order, and no other message comes between. All that wait to receive are told once.
     ///
-    /// It never drops a message, in overflow mode too, and an empty list changes nothing. The list
-    /// that brings the end to `u64::MAX` closes the channel. Takes no memory.
+    /// It never drops a message, not even in overflow mode, and an empty list changes nothing. The
+    /// list that brings the end to `u64::MAX` closes the channel. Allocates nothing.
     ///
     /// # Errors
     ///
-    /// The whole list comes back and nothing changes, for the first reason that fits.
+    /// The whole list is handed back and nothing changes, for the first reason that applies.
     /// - `Closed`: the channel is closed.
     /// - `Inactive`: there is no active receiver.
     /// - `Full`: there are more messages than the capacity has room for, or than there are numbers
@@ -61,7 +61,7 @@ impl<T: Drop, N: Notice, A: Allocator + Copy> Inner<T, N, A> {
         in_vec(self.offer_all(Messages::new(msgs)))
     }
 
-    // The same for messages that are seen as their list.
+    // The same for `Messages`.
     pub(crate) fn offer_all(&mut self, msgs: Messages<T>) -> Result<(), TrySendError<Messages<T>>>
         ensures { Answers NoClone self.old (call.TryBroadcastAll msgs)
             (reply.TryBroadcastAll result) self.new }
@@ -72,12 +72,11 @@ impl<T: Drop, N: Notice, A: Allocator + Copy> Inner<T, N, A> {
         sent
     }
 
-    /// One attempt of a send that may wait: as `try_broadcast`.
+    /// One attempt of a send that may wait: it does what `try_broadcast` does.
     ///
-    /// `Ready(Ok(..))` is an acceptance. `Ready(Err(SendError(msg)))` says that the channel is
-    /// closed, or that there is no active receiver and `await_active` is off. `Wait(msg)` says that
-    /// the channel is full, or that there is no active receiver while `await_active` is on. Takes
-    /// no memory.
+    /// `Ready(Ok(..))`: the message was accepted. `Ready(Err(SendError(msg)))`: the channel is
+    /// closed, or there is no active receiver and `await_active` is off. `Wait(msg)`: the channel
+    /// is full, or there is no active receiver while `await_active` is on. Allocates nothing.
     ///
     /// Source: the poll of `Send` of async-broadcast, without its listener.
     pub fn attempt_send(&mut self, msg: T) -> SendPoll<T>
@@ -89,8 +88,8 @@ impl<T: Drop, N: Notice, A: Allocator + Copy> Inner<T, N, A> {
         sent
     }
 
-    /// Gives a place to a send that may wait, with the memory that it needs to wait. It joins those
-    /// that wait with the first poll of it that must wait.
+    /// Gives a place to a send that may wait, with the memory that it needs to wait. The first poll
+    /// of it that must wait lists it.
     ///
     /// # Errors
     ///
@@ -105,12 +104,13 @@ impl<T: Drop, N: Notice, A: Allocator + Copy> Inner<T, N, A> {
     }
 
     /// Tries the pending send of this place: it is answered as by `attempt_send`, and the place is
-    /// free from then on; or it waits, and `notice` is told once it is to be polled again.
+    /// free from then on; or it waits, and `notice` is called once it should be polled again.
     ///
-    /// A place that is not in use changes nothing and gets `Wait(msg)`. If the send is
-    /// answered and sends are still ready, the next one that waits is told. Takes no memory.
+    /// With a place that is not in use nothing changes, and `Wait(msg)` is returned. If the send is
+    /// answered and sends are still ready, the next one that waits is told, unless one is told
+    /// already. Allocates nothing.
     ///
-    /// Source: the poll of `Send` of async-broadcast; who is told next is this crate's own.
+    /// Source: the poll of `Send` of async-broadcast; which one is told next is this crate's own.
     #[inline(always)]
     pub fn poll_send(&mut self, place: usize, msg: T, notice: N) -> SendPoll<T>
         ensures { Answers NoClone self.old (call.PollSend place msg) (reply.PollSend result)
@@ -122,8 +122,8 @@ impl<T: Drop, N: Notice, A: Allocator + Copy> Inner<T, N, A> {
         }
     }
 
-    // The same with what makes the notice, if the send must wait. The message comes back if no
-    // notice was made, and then nothing changed.
+    // The same with a maker of the notice, which is used if the send must wait. If it makes no
+    // notice, the message is handed back and nothing changed.
     #[inline(always)]
     pub(crate) fn poll_send_by<M: MakesNotice<N>>(
         &mut self,
@@ -145,8 +145,8 @@ impl<T: Drop, N: Notice, A: Allocator + Copy> Inner<T, N, A> {
         self.parts.poll_send(place, msg, maker)
     }
 
-    /// Gives up the pending send of this place. If it was told, the next one that waits is told in
-    /// its place. A place that is not in use changes nothing.
+    /// Gives up the pending send of this place. If it was told, the next one that waits is told,
+    /// unless one is told already. With a place that is not in use nothing changes.
     ///
     /// Source: the drop of `Send` of async-broadcast.
     pub fn end_send(&mut self, place: usize)

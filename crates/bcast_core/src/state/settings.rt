@@ -11,7 +11,7 @@ use std::alloc::{AllocError, Allocator};
 impl<T: Drop, N: Notice, A: Allocator + Copy> Inner<T, N, A> {
     /// Closes the channel, and returns whether it was open. All that wait are told.
     ///
-    /// It never opens again. Messages that are kept can still be received. Takes no memory.
+    /// It never opens again. Messages that are kept can still be received. Allocates nothing.
     ///
     /// Source: `Sender::close` and `Receiver::close` of async-broadcast.
     pub fn close(&mut self) -> bool
@@ -23,13 +23,13 @@ impl<T: Drop, N: Notice, A: Allocator + Copy> Inner<T, N, A> {
         was_open
     }
 
-    /// Sets the capacity. If fewer messages fit than are kept, the oldest are dropped, without
-    /// overflow mode too.
+    /// Sets the capacity. If fewer messages fit than are kept, the oldest are dropped, also if
+    /// overflow is off.
     ///
     /// # Errors
     ///
-    /// `AllocError`: `n` is above every capacity so far, and memory for it was refused. Nothing
-    /// changed.
+    /// `AllocError`: `n` is greater than every capacity so far, and memory for it was refused.
+    /// Nothing changed.
     ///
     /// Source: `set_capacity` of async-broadcast.
     pub fn set_capacity(&mut self, n: usize) -> Result<(), AllocError>

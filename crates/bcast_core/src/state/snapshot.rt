@@ -8,9 +8,9 @@ use bcast_waiting::notice::Notice;
 use std::alloc::{AllocError, Allocator};
 
 impl<T: Clone, N: Notice, A: Allocator + Copy> Inner<T, N, A> {
-    /// All that is seen of the channel, as a value of its own: each kept message is cloned.
+    /// The view of the channel, as a value of its own: each kept message is cloned.
     ///
-    /// Changes nothing. Takes memory from `alloc` for the lists, and what memory the clones take.
+    /// Changes nothing. Allocates the lists from `alloc`; clones may allocate too.
     ///
     /// # Errors
     ///

@@ -1,4 +1,4 @@
--- A receiver stays if its listeners find room, and is taken back at once if they don't.
+-- A receiver stays if there is room for its listeners, and else is removed at once.
 use Rattle.std.proofs.Common.{◌≡◌, cond, is_some, sym, ap, ◌∙◌, subst}
 use Rattle.std.specs.FinMap.{get, remove}
 use Rattle.bcast_model.specs.Laws.{IsValidView}

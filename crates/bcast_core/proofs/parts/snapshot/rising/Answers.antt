@@ -1,4 +1,4 @@
--- A sort and a `dedup` leave the same set, and its numbers rise.
+-- A sort and a `dedup` keep the set, and its numbers rise.
 use Rattle.std.proofs.Common.{◌≡◌, ℕ, Bool, true, false, ◌||◌, cond, eqb, List, [], ◌∷◌, refl, sym, ap, subst, ◌∙◌, eqb-true}
 use Rattle.std.specs.Ordering.{nat_cmp, eq_by_cmp}
 use Rattle.std.specs.Cmp.{nat_cmp_total}
