@@ -1,4 +1,4 @@
--- What futures answer, by the replies of a port.
+-- What futures return, by the replies of a port.
 use Rattle.std.specs.Prelude.{◌≡◌, ◌⊎◌, ℕ, List, Option, Some, None, MatchOption, Result, Ok, Err, IfOk, alloc_error}
 use Rattle.std.specs.List.{AllByRecursion}
 use Rattle.std.specs.declared.alloc.AllocError.{AllocError}
@@ -29,7 +29,7 @@ module _ {T P : Type 0} (gave : P → Call T → Reply T → Type 0) (port : P) 
   abbrev pub Polled : Option ℕ → T → Reply T → Type 0
   Polled at msg r = (place : ℕ) × (at ≡ Some place) × gave port (call.PollSend place msg) r
 
-  -- `Send` is answered: by the port, or for want of memory
+  -- what `Send` returns: the port's reply, or that memory for a notice was refused
   abbrev pub GivesSent : Option ℕ → Option T
       → Result (Result (Option T) (SendError T)) (NoMemory T) → Type 0
   GivesSent at kept (Ok answer) =
@@ -42,13 +42,13 @@ module _ {T P : Type 0} (gave : P → Call T → Reply T → Type 0) (port : P) 
       MatchOption at (Unit {0}) (λ place. MatchOption kept (Unit {0})
       (λ msg. gave port (call.PollSend place msg) (reply.PollSend (send.Wait msg))))
 
-  -- `Recv` is answered: by the port, or for want of memory
+  -- what `Recv` returns: the port's reply, or that memory was refused
   abbrev pub GivesReceived : ℕ → Result (Result T RecvError) AllocError → Type 0
   GivesReceived key out =
       IfOk out (λ answer. gave port (call.PollFuture key)
       (reply.PollFuture (Ok (poll.Ready answer))))
 
-  -- an item of the stream: a message of the port, which counts what it skipped, or want of memory
+  -- an item of the stream: a message of the port, which counts what it skipped, or out of memory
   abbrev pub GivesItem : ℕ → Result T AllocError → Type 0
   GivesItem key item =
       IfOk item (λ msg. (next : T × ℕ) × (msg ≡ next.0)

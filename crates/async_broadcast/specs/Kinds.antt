@@ -8,12 +8,12 @@ use Rattle.bcast_model.specs.declared.run.Call.TheVariants as call
 use Rattle.bcast_model.specs.declared.run.Reply.{Reply}
 use Rattle.bcast_model.specs.declared.run.Reply.TheVariants as reply
 
--- `Send`: a message that must wait comes back as it is
+-- `Send`: a message that must wait is handed back
 abbrev pub HandsBack : {T : Type 0} → T → SendPoll T → Type 0
 HandsBack msg (send.Wait back) = back ≡ msg
 HandsBack msg (send.Ready answer) = Unit {0}
 
--- a reply of this variant to a send of this message, which comes back if it must wait
+-- a reply of this variant to a send of this message, which is handed back if it must wait
 abbrev pub IsAnswerTo : {T : Type 0} → T → (SendPoll T → Reply T) → Reply T → Type 0
 IsAnswerTo {T} msg variant r =
     (answer : SendPoll T) × (r ≡ variant answer) × HandsBack msg answer

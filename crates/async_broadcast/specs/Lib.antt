@@ -1,7 +1,7 @@
 -- what a port may reply, and how handles are seen
 pub mod Kinds
 pub mod Ports
--- the replies of a channel are such
+-- the replies of a channel are of their calls' kinds
 pub mod OfKind
 -- futures and streams
 pub mod TaskWakers
@@ -10,7 +10,7 @@ pub mod Futures
 pub mod Made
 -- which waiting threads are woken
 pub mod Woken
--- what is seen of a channel
+-- snapshots through handles
 pub mod Snapshots
--- how what is seen is stored
+-- how a view is stored
 pub mod Encodings

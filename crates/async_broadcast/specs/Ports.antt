@@ -1,4 +1,4 @@
--- What handles make of ports and replies.
+-- How handles use ports and replies.
 use Rattle.std.specs.Prelude.{◌↔◌, Result, Ok, Err}
 use Rattle.std.specs.declared.alloc.AllocError.{AllocError}
 use Rattle.bcast_model.specs.declared.error.RecvError.{RecvError}
@@ -8,12 +8,12 @@ use Rattle.bcast_model.specs.declared.error.TryRecvError.TheVariants as unread
 use Rattle.bcast_model.specs.declared.run.Call.{Call}
 use Rattle.bcast_model.specs.declared.run.Reply.{Reply}
 
--- `Sender::clone` and the like: this port may give just the replies that the other one may give
+-- `Sender::clone` and the like: this port may give exactly the replies that the other may give
 abbrev pub IsSame : {T P : Type 0} → (P → Call T → Reply T → Type 0) → P → P → Type 0
 IsSame {T} {P} gave port other =
     (call : Call T) (reply : Reply T) → gave port call reply ↔ gave other call reply
 
--- `recv_blocking`: its answer, as `try_recv` spells it
+-- `recv_blocking`: its result, as `try_recv` returns it
 abbrev pub as_try_recv : {T : Type 0} → Result (Result T RecvError) AllocError
     → Result (Result T TryRecvError) AllocError
 as_try_recv (Ok (Ok msg)) = Ok (Ok msg)

@@ -2,5 +2,5 @@
 use Rattle.std.specs.Prelude.{Bool}
 
 pub record TaskWaker : Type 0 where
-  -- whether the last poll found no memory for a notice
+  -- whether memory for a notice was refused at the last poll
   pub is_refused : Bool

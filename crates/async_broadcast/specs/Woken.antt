@@ -4,11 +4,11 @@ use Rattle.bcast_model.specs.Words.{is_ready, View, is_full}
 use Rattle.async_broadcast.specs.declared.lock.threads.Threads.{Threads}
 use Rattle.async_broadcast.specs.declared.lock.threads.Woken.{Woken}
 
--- one thread more, as the lock counts
+-- one more thread, as the lock counts
 abbrev pub one_more : ℕ → ℕ
 one_more count = (count + 1) % 2 ^ 64
 
--- one thread less
+-- one thread fewer
 abbrev pub one_less : ℕ → ℕ
 one_less count = (count + (2 ^ 64 - 1)) % 2 ^ 64
 
@@ -24,7 +24,7 @@ news_of v = (v.end, v.control.closed)
 abbrev pub KnowsNews : {T : Type 0} → View T → Threads → Type 0
 KnowsNews v t = 0 < t.caught_up_receivers → t.known ≡ news_of v
 
--- where sends are ready and a thread waits to send, one was woken that hasn't tried yet
+-- if sends are ready and a thread waits to send, one was woken that hasn't tried yet
 abbrev pub HasWokenSender : {T : Type 0} → View T → Threads → Type 0
 HasWokenSender v t =
     is_ready v.control (is_full v) ≡ true → 0 < t.senders → t.is_sender_woken ≡ true
@@ -33,7 +33,7 @@ HasWokenSender v t =
 abbrev pub HasWokenReceiver : Threads → Type 0
 HasWokenReceiver t = 0 < t.due_receivers → t.is_receiver_woken ≡ true
 
--- what is newly noted as woken is what is to be woken
+-- a thread is newly noted as woken exactly if it is to be woken
 abbrev pub NotesSender : Threads → Threads → Woken → Type 0
 NotesSender old new woken = new.is_sender_woken ≡ (woken.sender || old.is_sender_woken)
 

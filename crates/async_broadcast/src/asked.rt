@@ -1,7 +1,7 @@
 //! How handles and futures ask a port.
 pub(crate) mod polls;
 
-/// Asks a call that never waits, and reads the answer from the reply of its name.
+/// Makes a call that never waits, and returns what the reply of the same name holds.
 macro_rules! ask {
     ($port:expr, $call:ident $(($argument:expr))?) => {
         match $port.ask(Call::$call $(($argument))?, $crate::wake::Wake::none()) {
@@ -11,7 +11,7 @@ macro_rules! ask {
     };
 }
 
-/// Makes a call that never waits, and whose reply says nothing.
+/// Makes a call that never waits, and whose reply holds nothing.
 macro_rules! make {
     ($port:expr, $call:ident $(($argument:expr))?) => {
         match $port.ask(Call::$call $(($argument))?, $crate::wake::Wake::none()) {

@@ -1,4 +1,4 @@
-//! What all handles are.
+//! The type of all handles.
 ghost use Rattle.std.specs.Prelude.{◌≡◌};
 
 use crate::port::Ask;
@@ -20,18 +20,18 @@ pub struct Handle<T: Clone, P: Ask<T, WakerSlot<A>>, K: Role<T>, A: Allocator = 
     messages: PhantomData<T>,
 }
 
-/// What the channel of a handle counts it as.
+/// What a handle is counted as by its channel.
 pub trait Role<T: Clone>: Sized + Drop {
     ghost use Rattle.bcast_model.specs.declared.run.Call.{Call};
     ghost use Rattle.bcast_model.specs.declared.run.Reply.{Reply};
 
-    // What the handle's drop asks.
+    // The call that the handle's drop makes.
     ghost last: { Self → Call T };
 
-    // The reply to it.
+    // The reply to this call.
     ghost left: { Reply T };
 
-    /// Asks what the handle's drop asks.
+    /// Makes the call of the handle's drop.
     fn leave<S, P: Ask<T, S>>(&self, port: &P)
         ensures { P.gave port.now (last self.now) left };
 }
@@ -48,7 +48,7 @@ impl<T: Clone, P: Ask<T, WakerSlot<A>>, K: Role<T>, A: Allocator> Handle<T, P, K
         }
     }
 
-    // The handle in another role. Asks nothing.
+    // The handle in another role. Makes no call.
     pub(crate) fn turned<J: Role<T>>(self, role: J) -> Handle<T, P, J, A>
         ensures { (result.port ≡ self.port) × (result.role ≡ role) }
     {

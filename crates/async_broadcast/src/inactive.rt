@@ -12,7 +12,7 @@ use std::alloc::{Allocator, Global};
 
 /// Receives nothing, and can become an active receiver.
 ///
-/// While it is there, the channel isn't closed for want of receivers. Contracts name its `port`.
+/// While there is one, the channel isn't closed because receivers leave. Contracts name its `port`.
 ///
 /// Source: `InactiveReceiver` of async-broadcast 0.7.2.
 pub type InactiveReceiver<T, P, A = Global> = Handle<T, P, Inactive, A>;
@@ -100,7 +100,7 @@ impl<T: Clone, P: Port<T, WakerSlot<A>>, A: Allocator + Copy> InactiveReceiver<T
     ///
     /// # Errors
     ///
-    /// - `Memory`: no memory for the handle, and the channel wasn't asked.
+    /// - `Memory`: no memory for the handle. The channel was not called.
     /// - `TooMany`: the channel can't count one more.
     ///
     /// ```rust

@@ -1,7 +1,7 @@
-//! A bounded broadcast channel: every active receiver gets each message, or is told how many it
-//! missed.
+//! A bounded broadcast channel: every active receiver gets each message, or the number of messages
+//! that it missed.
 //!
-//! What was refused comes as an error, which hands back a message that was not sent.
+//! What was refused is returned as an error, which hands back a message that was not sent.
 //!
 //! ```rust
 //! let (sender, mut receiver) = broadcast(&rt, rt.alloc(), 1)?;

@@ -23,8 +23,8 @@ mod waiting;
 /// The port of a channel that `broadcast` made. All ports of the channel share one lock, and each
 /// call waits for it.
 ///
-/// A reply is one that the channel gives in some valid history. Of the channel as its other
-/// handles left it, a contract knows nothing more.
+/// A reply is one that the channel gives in some valid history. A contract knows nothing more of
+/// the channel, since its other handles change it too.
 ///
 /// A message is cloned and dropped, and a waker is dropped, while the lock is held: none of these
 /// may use a handle of the same channel, which would wait for the lock for ever.
@@ -45,8 +45,8 @@ pub type LockInactiveReceiver<T, R, A = Global> = InactiveReceiver<T, Lock<T, R,
 /// Makes a channel that keeps at most `cap` messages at once, with its first sender and receiver.
 ///
 /// It is open and empty. Overflow mode is off: a full channel accepts no message before every
-/// active receiver has read the oldest one. `await_active` is on. Both handles lead to this one
-/// channel, and so does each handle that is made by them.
+/// active receiver has read the oldest one. `await_active` is on. Both handles are of this one
+/// channel, and so is each handle that is made by them.
 ///
 /// # Errors
 ///
@@ -86,9 +86,9 @@ pub fn broadcast<T: Clone, R: Wait + Clone, A: Allocator + Copy>(
 impl<T: Clone, R: Wait + Clone, A: Allocator + Copy> Lock<T, R, A> {
     /// The port of a channel that its caller made. `broadcast` makes both.
     ///
-    /// The handles that `inner` counts are made over it and over its `same`: of a new `Inner`, one
-    /// sender, and one receiver with the key that came with it. `rt` is what waits for the lock,
-    /// and `alloc` gives the memory of what the ports share.
+    /// The handles that `inner` counts are to be made over it and over its `same`: for a new
+    /// `Inner` one sender, and one receiver with the key that came with it. `rt` is what waits for
+    /// the lock, and what the ports share is allocated from `alloc`.
     ///
     /// # Errors
     ///
@@ -115,7 +115,7 @@ impl<T: Clone, R: Wait + Clone, A: Allocator + Copy> Lock<T, R, A> {
         Ok(Lock { channel, rt })
     }
 
-    /// What is seen of the channel, as a value. Its memory is of `alloc`.
+    /// The view of the channel, as a value. It is allocated from `alloc`.
     ///
     /// # Errors
     ///

@@ -1,4 +1,4 @@
-//! What a handle asks of its channel.
+//! Ports: how a handle calls its channel.
 ghost use Rattle.std.specs.Prelude.{◌≡◌, true, false, IfSome, IfNone, IfOk, IfErr, OnErr};
 ghost use Rattle.futures.specs.Task.{IsArmed, Keeps};
 ghost use Rattle.bcast_model.specs.Words.{must_wait, HasPositiveCapacity};
@@ -11,14 +11,14 @@ use bcast_core::{Call, Reply, TryRecvError, TrySendError};
 use futures::task::Context;
 use std::alloc::AllocError;
 
-/// The way from a handle to its channel: a call goes in, and its reply comes back.
+/// The way from a handle to its channel: it makes a call, and returns its reply.
 ///
-/// What handles and futures promise, they promise over every port: an answer is the reply that
-/// the port gave to the call that the handle's method names. `S` is where its wakes keep a task's
+/// The contracts of handles and futures hold over every port: what a method returns is the reply
+/// that the port gave to the method's call. `S` is where the notices of a port keep a task's
 /// waker: `WakerSlot`, unless memory comes from another allocator than `Global`.
 ///
-/// The structs of handles and of futures need this much of a port. It is small, so that proofs
-/// about several futures at once are.
+/// The structs of handles and of futures need no more of a port. It is small, so that proofs
+/// about several futures at once are small too.
 pub trait Ask<T: Clone, S>: Sized + Drop {
     ghost use Rattle.bcast_model.specs.declared.run.Call.{Call};
     ghost use Rattle.bcast_model.specs.declared.run.Reply.{Reply};
@@ -27,7 +27,7 @@ pub trait Ask<T: Clone, S>: Sized + Drop {
     // Holds of a call and a reply that the port may give to it.
     ghost gave: { Self → Call T → Reply T → Type 0 };
 
-    /// Makes one call on the channel. One of the four polls that must wait leaves `wake` there.
+    /// Makes one call on the channel. If it is a poll that must wait, it leaves `wake` there.
     fn ask(&self, call: Call<T>, wake: Wake<S>) -> Reply<T>
         requires { HasPositiveCapacity call }
         ensures { gave self.now call result };
@@ -38,7 +38,7 @@ pub trait Ask<T: Clone, S>: Sized + Drop {
     ///
     /// # Errors
     ///
-    /// The call comes back, and was not made: there was no memory for a notice.
+    /// The call is handed back, and was not made: memory for a notice was refused.
     fn poll<W: Registers<S>>(
         &self,
         call: Call<T>,
@@ -70,7 +70,7 @@ pub trait Ask<T: Clone, S>: Sized + Drop {
     }
 
     /// Gives up the receive of the receiver `key`. `is_answered`: its future's last poll was
-    /// answered, other than for want of memory. Asks `EndFuture`; a port may leave that out if it
+    /// answered, and was not out of memory. Asks `EndFuture`; a port may leave that out if it
     /// would change nothing.
     ///
     /// Returns the notice of the receive that was given up, or one that wakes nobody if the port
@@ -104,14 +104,14 @@ pub trait Port<T: Clone, S>: Ask<T, S> {
         ask!(self, TryRecv(key))
     }
 
-    /// Makes an `AttemptSend` or a `TryRecv` again and again, and waits between, until it is
-    /// answered by something other than `Wait` or `Empty`.
+    /// Makes an `AttemptSend` or a `TryRecv` again and again, and waits between, until its reply
+    /// is something other than `Wait` or `Empty`.
     fn ask_waiting(&self, call: Call<T>) -> Reply<T>
         requires { may_wait call ≡ true }
         ensures reply { Self.gave self.now call result }
         ensures answered { is_answer result ≡ true };
 
-    // Holds of a port that may find no memory for another one.
+    // Holds of a port that may be out of memory for another one.
     ghost lacks_memory: { Self → Type 0 };
 
     /// Another port of the same channel. None: there was no memory for it.

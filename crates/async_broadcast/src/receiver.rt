@@ -11,17 +11,17 @@ use crate::wake::{TaskWaker, WakerSlot};
 use bcast_core::{Call, HandleError, RecvError, Reply, TryRecvError};
 use std::alloc::{AllocError, Allocator, Global};
 
-/// Receives each message that a channel accepts, from the receiver's start on, or is told how many
-/// it missed.
+/// Receives each message that a channel accepts, from the receiver's start on, or the number of
+/// messages that it missed.
 ///
 /// `clone` makes another one with the same messages still to read, `new_receiver` one that starts
 /// with the next message. The channel closes when its last receiver is dropped, unless an inactive
 /// one is left. Contracts name its `port`, and the `role.key` under which the channel has its
 /// cursor.
 ///
-/// A receiver is also a stream, which passes over what it missed, and ends when every message was
-/// read and the channel is closed. Its item is an `AllocError` if there was no memory for a notice
-/// or for a clone of a message; nothing changed then, and the stream goes on.
+/// A receiver is also a stream, which skips what it missed, and ends when every message was read
+/// and the channel is closed. Its item is an `AllocError` if memory for a notice or for a clone
+/// of a message was refused; nothing changed then, and the stream continues.
 ///
 /// ```rust
 /// let (sender, mut receiver) = broadcast(&rt, rt.alloc(), 1)?;
@@ -37,9 +37,9 @@ pub type Receiver<T, P, A = Global> = Handle<T, P, Receiving<A>, A>;
 /// The role of a `Receiver`.
 #[derive(Drop)]
 pub struct Receiving<A: Allocator = Global> {
-    // Under which the channel has the cursor.
+    // The key under which the channel has the cursor.
     pub(crate) key: usize,
-    // Of the task that polls the receiver, as a stream or by a `Recv`.
+    // For the task that polls the receiver, as a stream or by a `Recv`.
     pub(crate) waker: TaskWaker<A>,
 }
 
@@ -57,13 +57,13 @@ impl<T: Clone, P: Port<T, WakerSlot<A>>, A: Allocator + Copy> Receiver<T, P, A> 
 
     /// Receives the next message, if there is one.
     ///
-    /// Waits for no message; behind a lock it waits for the lock.
+    /// Doesn't wait for a message; behind a lock it waits for the lock.
     ///
     /// # Errors
     ///
     /// - `AllocError`: no memory for a clone of a message that others have still to read. Nothing
     ///   changed.
-    /// - `Overflowed(n)`: the next `n` messages were dropped. The receiver goes on after them.
+    /// - `Overflowed(n)`: the next `n` messages were dropped. The receiver continues after them.
     /// - `Empty`: every message was read, and the channel is open.
     /// - `Closed`: every message was read, and the channel is closed.
     ///
@@ -93,7 +93,7 @@ impl<T: Clone, P: Port<T, WakerSlot<A>>, A: Allocator + Copy> Receiver<T, P, A> 
     ///
     /// - `AllocError`: no memory for a clone of a message that others have still to read. Nothing
     ///   changed.
-    /// - `Overflowed(n)`: the next `n` messages were dropped. The receiver goes on after them.
+    /// - `Overflowed(n)`: the next `n` messages were dropped. The receiver continues after them.
     /// - `Closed`: every message was read, and the channel is closed.
     ///
     /// ```rust
@@ -123,8 +123,8 @@ impl<T: Clone, P: Port<T, WakerSlot<A>>, A: Allocator + Copy> Receiver<T, P, A> 
 
     /// Whether the channel is closed and keeps no message.
     ///
-    /// A receiver that has read everything is done as soon as the channel is closed, also where
-    /// this is false since another receiver has still to read.
+    /// A receiver that has read everything is done as soon as the channel is closed, also if this
+    /// is false because another receiver has still to read.
     ///
     /// ```rust
     /// let (sender, mut receiver) = broadcast(&rt, rt.alloc(), 1)?;
@@ -205,7 +205,7 @@ impl<T: Clone, P: Port<T, WakerSlot<A>>, A: Allocator + Copy> Receiver<T, P, A> 
     ///
     /// # Errors
     ///
-    /// - `Memory`: no memory for the handle, and the channel wasn't asked.
+    /// - `Memory`: no memory for the handle. The channel was not called.
     /// - `TooMany`: the channel can't count one more.
     ///
     /// ```rust
@@ -232,7 +232,7 @@ impl<T: Clone, P: Port<T, WakerSlot<A>>, A: Allocator + Copy> Receiver<T, P, A> 
 
     /// Turns the receiver into an inactive one, which receives nothing and keeps the channel open.
     ///
-    /// What it had still to read is dropped if nobody else has to read it.
+    /// What it had still to read is dropped if no other receiver has to read it.
     ///
     /// # Errors
     ///

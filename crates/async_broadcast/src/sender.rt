@@ -14,7 +14,7 @@ use std::alloc::{Allocator, Global};
 /// Sends messages to all active receivers of a channel.
 ///
 /// `clone` makes another one. When the last one is dropped the channel closes: no more messages
-/// are accepted, and those that are there can still be received. Contracts name its `port`.
+/// are accepted, and those that are kept can still be received. Contracts name its `port`.
 ///
 /// Source: `Sender` of async-broadcast 0.7.2.
 pub type Sender<T, P, A = Global> = Handle<T, P, Sending, A>;
@@ -33,14 +33,14 @@ impl<T: Clone, P: Port<T, WakerSlot<A>>, A: Allocator + Copy> Sender<T, P, A> {
         Handle::new(port, Sending, alloc)
     }
 
-    /// Sends a message, unless the channel has no room for it or nobody to receive it.
+    /// Sends a message, unless the channel is closed, or has no active receiver, or no room for it.
     ///
-    /// Waits for no room and no receiver; behind a lock it waits for the lock. `Ok(Some(oldest))`
-    /// hands back the message that a full channel dropped for this one, in overflow mode.
+    /// Doesn't wait for room or for a receiver; behind a lock it waits for the lock.
+    /// `Ok(Some(oldest))` hands back the message that a full channel dropped, in overflow mode.
     ///
     /// # Errors
     ///
-    /// Each hands the message back, and the first that fits comes.
+    /// Each hands the message back. The first that applies is returned.
     ///
     /// - `Closed`: the channel is closed.
     /// - `Inactive`: there is no active receiver.
@@ -64,22 +64,22 @@ impl<T: Clone, P: Port<T, WakerSlot<A>>, A: Allocator + Copy> Sender<T, P, A> {
         self.port.try_broadcast(msg)
     }
 
-    /// Sends a whole list of messages in one step, unless the channel is closed, has nobody to
-    /// receive them, or has no room for all of them.
+    /// Sends a whole list of messages in one step, unless the channel is closed, has no active
+    /// receiver, or has no room for all of them.
     ///
-    /// Waits as `try_broadcast` does, and takes no memory. An accepted list stands last, in its
-    /// order, and no other message comes between. No message is dropped for it, in overflow mode
-    /// too. Who waits to receive is told once for the whole list. The channel closes if the list
-    /// gets the last message number. An empty list is accepted or refused as any other, and changes
-    /// nothing.
+    /// Waits as `try_broadcast` does, and allocates nothing. An accepted list is last, in its
+    /// order, and no other message comes between. No message is dropped for it, not even in
+    /// overflow mode. All that wait to receive are told once for the whole list. The channel closes
+    /// if the list gets the last message number. An empty list is accepted or refused as any other,
+    /// and changes nothing.
     ///
     /// # Errors
     ///
-    /// Each hands the whole list back, and the first that fits comes.
+    /// Each hands the whole list back. The first that applies is returned.
     ///
     /// - `Closed`: the channel is closed.
     /// - `Inactive`: there is no active receiver.
-    /// - `Full`: the list has more messages than the channel has room, or message numbers, for.
+    /// - `Full`: the list needs more room, or more message numbers, than the channel has left.
     ///
     /// ```rust
     /// let (sender, mut receiver) = broadcast(&rt, rt.alloc(), 3)?;
@@ -109,7 +109,7 @@ impl<T: Clone, P: Port<T, WakerSlot<A>>, A: Allocator + Copy> Sender<T, P, A> {
     /// # Errors
     ///
     /// - `SendError(msg)`: the channel is closed, or it has no active receiver and `await_active`
-    ///   is off. The message comes back.
+    ///   is off. The message is handed back.
     ///
     /// ```rust
     /// let (sender, mut receiver) = broadcast(&rt, rt.alloc(), 1)?;
@@ -136,7 +136,7 @@ impl<T: Clone, P: Port<T, WakerSlot<A>>, A: Allocator + Copy> Sender<T, P, A> {
     ///
     /// # Errors
     ///
-    /// - `Memory`: no memory for the handle, and the channel wasn't asked.
+    /// - `Memory`: no memory for the handle. The channel was not called.
     /// - `TooMany`: the channel can't count one more.
     ///
     /// ```rust

@@ -1,4 +1,4 @@
-//! What handles see of their channel, as a value.
+//! The view of a channel, as a value, through its handles.
 ghost use Rattle.std.specs.Prelude.{IfOk};
 ghost use Rattle.async_broadcast.specs.Snapshots.{ShowsSomeState};
 
@@ -9,10 +9,10 @@ use std::alloc::{AllocError, Allocator};
 use std::sync::Wait;
 
 impl<T: Clone, R: Wait + Clone, K: Role<T>, A: Allocator + Copy> Handle<T, Lock<T, R, A>, K, A> {
-    /// All that is seen of the channel at one moment, with a clone of each message that it keeps.
+    /// The view of the channel at one moment, with a clone of each message that it keeps.
     ///
-    /// Waits for the lock, and changes nothing: what is read here is still to be received. Some
-    /// valid history shows it.
+    /// Waits for the lock, and changes nothing: no receiver has read a message by this. Some valid
+    /// history has this view.
     ///
     /// # Errors
     ///

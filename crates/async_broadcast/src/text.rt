@@ -1,4 +1,4 @@
-//! What `{:?}` prints of handles and futures: the type's name. What is behind it stands under the
+//! What `{:?}` prints of handles and futures: the type's name. The channel itself is behind the
 //! lock.
 ghost use Rattle.std.specs.Prelude.{Some, codes};
 

@@ -15,17 +15,17 @@ pub(crate) mod making;
 /// give notices back.
 pub type WakerSlot<A = Global> = Arc<Mutex<Option<Waker>>, A>;
 
-/// The notice of a poll: wakes the poll's task when it is told, or nobody.
+/// The notice of a poll: when it is called it wakes the poll's task, or no task.
 #[derive(Drop)]
 pub struct Wake<S = WakerSlot> {
-    // The task's waker, of a notice that its port gives back to the next poll.
+    // The task's waker, for a notice that its port gives back to the next poll.
     waker: Option<Waker>,
-    // Where the waker is kept, of any other.
+    // Where the waker is kept, for any other notice.
     slot: Option<S>,
 }
 
 impl<S> Wake<S> {
-    /// A notice that wakes nobody, for a call that never waits.
+    /// A notice that wakes no task, for a call that never waits.
     pub fn none() -> Self {
         Wake {
             waker: None,
@@ -50,7 +50,7 @@ impl<A: Allocator> Notice for Wake<WakerSlot<A>> {
 pub trait Registers<S> {
     ghost use Rattle.std.specs.Prelude.{Bool};
 
-    // Whether the last registering found no memory for a notice.
+    // Whether memory for a notice was refused at the last registering.
     ghost is_refused: { Self → Bool };
 
     /// Registers the poll's task, and makes a notice for it. None: there was no memory for one.
@@ -71,8 +71,8 @@ pub trait Registers<S> {
         ensures kept { Keeps cx.old cx.new };
 }
 
-/// Registers the task of a future or a receiver, from one poll to the next. Handles and futures keep
-/// one; code that polls a port by itself makes one for each of its futures.
+/// Registers the task of a future or a receiver, from one poll to the next. Handles and futures
+/// keep one; code that polls a port by itself makes one for each of its futures.
 #[derive(Drop)]
 pub struct TaskWaker<A: Allocator = Global> {
     source: Source,
@@ -83,7 +83,7 @@ pub struct TaskWaker<A: Allocator = Global> {
     slot: Option<WakerSlot<A>>,
     // The waker of a notice that was not needed any more, for the next notice.
     unused: Option<Waker>,
-    // Whether the last poll found no memory for a notice.
+    // Whether memory for a notice was refused at the last poll.
     is_refused: bool,
 }
 
@@ -99,7 +99,7 @@ impl<A: Allocator> Model for TaskWaker<A> {
 }
 
 impl<A: Allocator + Copy> TaskWaker<A> {
-    /// Of a task that was not registered yet. Takes its memory from `alloc`, at its first poll.
+    /// For a task that was not registered yet. It allocates from `alloc`, at its first poll.
     pub fn new(alloc: A) -> Self {
         TaskWaker {
             source: Source::new(),
@@ -112,8 +112,8 @@ impl<A: Allocator + Copy> TaskWaker<A> {
 }
 
 impl<A: Allocator> TaskWaker<A> {
-    /// Keeps the waker of a notice that came back and is not needed any more: dropped, it would
-    /// wake the task.
+    /// Keeps the waker of a notice that was given back and is not needed any more: if it were
+    /// dropped, it would wake the task.
     #[inline(always)]
     pub(crate) fn keep(&mut self, wake: Wake<WakerSlot<A>>)
         ensures { self.new ≡ self.old }
@@ -126,8 +126,8 @@ impl<A: Allocator> TaskWaker<A> {
 }
 
 impl<A: Allocator + Copy> TaskWaker<A> {
-    /// Registers the task of a poll that asks nothing. In a function of its own, so that a poll
-    /// that asks clears no memory for a notice.
+    /// Registers the task of a poll that makes no call. In a function of its own, so that a poll
+    /// that makes one clears no memory for a notice.
     #[inline(never)]
     pub(crate) fn register_only(&mut self, cx: &mut Context<'_>)
         ensures registered { IsArmed cx.new }
@@ -188,7 +188,7 @@ fn notice_in<A: Allocator + Copy>(
     register_at(slot, source, cx)
 }
 
-// A context that finds no memory for a waker leaves none, and has its task polled again.
+// A context that is out of memory for a waker leaves none, and has its task polled again.
 fn register_at<A: Allocator + Copy>(
     slot: &WakerSlot<A>,
     source: &Source,

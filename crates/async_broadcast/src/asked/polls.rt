@@ -1,4 +1,4 @@
-//! The four polls, each asked of a port with the task that may have to wait.
+//! The four polls, each made through a port for the task that may have to wait.
 ghost use Rattle.std.specs.Prelude.{◌≡◌, ◌⊎◌, true, false, Ok, Err, IfOk, IfErr};
 ghost use Rattle.futures.specs.Task.{IsArmed, Keeps};
 ghost use Rattle.futures.specs.Poll.{OnPending};

@@ -1,4 +1,4 @@
-//! Receiving in a task, a message at a time.
+//! Receiving in a task, one message at a time.
 ghost use Rattle.std.specs.Prelude.{◌≡◌, ◌⊎◌, ⊤, true, false, Ok, Err, IfOk, IfErr};
 ghost use Rattle.futures.specs.Task.{Covers, IsArmed, Keeps};
 ghost use Rattle.futures.specs.Poll.{IfReady, OnPending};
@@ -16,14 +16,14 @@ use std::alloc::{AllocError, Allocator, Global};
 
 /// Receives the next message of its receiver.
 ///
-/// Its output is that of `recv_blocking`; it is an `AllocError` also if there was no memory for a
-/// notice, and then nothing changed. Polled again after its output it receives anew.
+/// Its output is that of `recv_blocking`. It is an `AllocError` also if memory for a notice was
+/// refused, and then nothing changed. Polled again after its output it receives the next message.
 ///
 /// Source: `Recv` of async-broadcast 0.7.2.
 #[must_use]
 pub struct Recv<'a, T: Clone, P: Ask<T, WakerSlot<A>>, A: Allocator = Global> {
     receiver: &'a mut Receiver<T, P, A>,
-    // Whether the last poll was answered, other than for want of memory.
+    // Whether the last poll was answered, and not because it was out of memory.
     is_answered: bool,
 }
 
@@ -73,8 +73,8 @@ impl<T: Clone, P: Ask<T, WakerSlot<A>>, A: Allocator + Copy> Receiver<T, P, A> {
         }
     }
 
-    /// Receives the next message, or leaves the task waiting for it. For streams that are made of
-    /// a receiver, and tell their callers of missed messages.
+    /// Receives the next message, or leaves the task waiting for it. Meant for streams over a
+    /// receiver that report missed messages to their callers.
     ///
     /// `Ready(None)`: every message was read, and the channel is closed.
     ///
@@ -82,7 +82,7 @@ impl<T: Clone, P: Ask<T, WakerSlot<A>>, A: Allocator + Copy> Receiver<T, P, A> {
     ///
     /// - `AllocError`: no memory for a notice, or for a clone of a message that others have still
     ///   to read. Nothing changed.
-    /// - `Overflowed(n)`: the next `n` messages were dropped. The receiver goes on after them.
+    /// - `Overflowed(n)`: the next `n` messages were dropped. The receiver continues after them.
     ///
     /// ```rust
     /// let (sender, mut receiver) = broadcast(&rt, rt.alloc(), 1)?;

@@ -13,19 +13,19 @@ use futures::Future;
 use futures::task::{Context, Poll};
 use std::alloc::{Allocator, Global};
 
-/// A message that waits until the channel accepts it.
+/// A send that waits until the channel accepts its message.
 ///
-/// Its output is that of `broadcast_blocking`, or `NoMemory` with the message where there was no
-/// memory for a notice. Polled again after its output it is pending, and asks nothing. Dropped
-/// before, it sends nothing.
+/// Its output is that of `broadcast_blocking`, or `NoMemory` with the message if memory for a
+/// notice was refused. Polled again after its output it is pending, and makes no call. Dropped
+/// before its output it sends nothing.
 ///
 /// Source: `Send` of async-broadcast 0.7.2, which panics when polled again.
 #[must_use]
 pub struct Send<'a, T: Clone, P: Ask<T, WakerSlot<A>>, A: Allocator = Global> {
     sender: &'a Sender<T, P, A>,
-    // Where the channel lists this send while it waits.
+    // The place that the channel gave to this send, until it is answered.
     place: Option<usize>,
-    // Until the output.
+    // The message, until the output.
     msg: Option<T>,
     waker: TaskWaker<A>,
 }
@@ -36,7 +36,7 @@ impl<T: Clone, P: Ask<T, WakerSlot<A>>, A: Allocator + Copy> Sender<T, P, A> {
     /// # Errors
     ///
     /// - `NoMemory(msg)`: no memory for its place in the channel, or for the box. The message
-    ///   comes back.
+    ///   is handed back.
     ///
     /// ```rust
     /// let (sender, mut receiver) = broadcast(&rt, rt.alloc(), 1)?;
@@ -67,7 +67,7 @@ impl<T: Clone, P: Ask<T, WakerSlot<A>>, A: Allocator + Copy> Sender<T, P, A> {
     ///
     /// # Errors
     ///
-    /// - `NoMemory(msg)`: no memory for its place in the channel. The message comes back.
+    /// - `NoMemory(msg)`: no memory for its place in the channel. The message is handed back.
     ///
     /// ```rust
     /// let (sender, receiver) = broadcast(&rt, rt.alloc(), 1)?;
@@ -121,7 +121,7 @@ impl<T: Clone, P: Ask<T, WakerSlot<A>>, A: Allocator> Send<'_, T, P, A> {
 }
 
 impl<T: Clone, P: Ask<T, WakerSlot<A>>, A: Allocator> Sender<T, P, A> {
-    // A send that has its place still gives it up.
+    // Gives up the place of a send, if it still has one.
     fn end_send(&self, place: Option<usize>)
         ensures { IfSome place (λ place. P.gave self.now.port (Call.EndSend place) Reply.EndSend) }
     {

@@ -14,8 +14,8 @@ use futures::Stream;
 use futures::task::{Context, Poll};
 use std::alloc::{AllocError, Allocator};
 
-// Messages that were dropped are skipped. An item `Err` found no memory for a notice or a clone,
-// and changed nothing. The stream ends when every message was read and the channel is closed.
+// Dropped messages are skipped. If memory for a notice or a clone is refused, the item is an `Err`,
+// and nothing changed. The stream ends when every message was read and the channel is closed.
 impl<T: Clone, P: Ask<T, WakerSlot<A>>, A: Allocator + Copy> Stream for Receiver<T, P, A> {
     type Item = Result<T, AllocError>;
 

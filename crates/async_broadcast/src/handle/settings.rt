@@ -1,4 +1,4 @@
-//! What a handle says of its channel and sets there.
+//! The settings and counts of a channel, through any handle.
 ghost use Rattle.std.specs.Prelude.{◌≡◌, ◌<◌};
 
 use super::{Handle, Role};
@@ -66,7 +66,7 @@ impl<T: Clone, P: Ask<T, WakerSlot<A>>, K: Role<T>, A: Allocator + Copy> Handle<
         ask!(self.port, Overflow)
     }
 
-    /// Says whether a full channel drops its oldest message to accept a new one.
+    /// Sets whether a full channel drops its oldest message to accept a new one.
     ///
     /// ```rust
     /// let (mut sender, mut receiver) = broadcast(&rt, rt.alloc(), 1)?;
@@ -101,7 +101,7 @@ impl<T: Clone, P: Ask<T, WakerSlot<A>>, K: Role<T>, A: Allocator + Copy> Handle<
         ask!(self.port, AwaitActive)
     }
 
-    /// Says whether sends that may wait do so while there is no active receiver.
+    /// Sets whether sends that may wait do so while there is no active receiver.
     ///
     /// ```rust
     /// let (mut sender, receiver) = broadcast(&rt, rt.alloc(), 1)?;
@@ -122,7 +122,7 @@ impl<T: Clone, P: Ask<T, WakerSlot<A>>, K: Role<T>, A: Allocator + Copy> Handle<
 
     /// Closes the channel, and returns whether it was open.
     ///
-    /// No more messages are accepted. Those that are there can still be received.
+    /// No more messages are accepted. Those that are kept can still be received.
     ///
     /// ```rust
     /// let (sender, receiver) = broadcast::<u64, _, _>(&rt, rt.alloc(), 1)?;
@@ -169,7 +169,7 @@ impl<T: Clone, P: Ask<T, WakerSlot<A>>, K: Role<T>, A: Allocator + Copy> Handle<
         ask!(self.port, IsEmpty)
     }
 
-    /// Whether the channel keeps as many messages as it may.
+    /// Whether the channel keeps as many messages as its capacity allows.
     ///
     /// ```rust
     /// let (sender, receiver) = broadcast::<u64, _, _>(&rt, rt.alloc(), 1)?;

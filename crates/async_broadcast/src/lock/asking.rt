@@ -76,7 +76,7 @@ impl<T: Clone, R: Wait + Clone, A: Allocator + Copy> Ask<T, WakerSlot<A>> for Lo
         ensures registered { IfOk result (λ reply. must_wait reply ≡ true → IsArmed cx.new) }
         ensures again { OnErr result (IsArmed cx.new) }
         ensures kept { Keeps cx.old cx.new }
-        // A call that is answered leaves the task's waker and the poll's context as they were.
+        // A call that is answered doesn't change the task's waker and the poll's context.
         ensures answered { IfOk result (λ reply. must_wait reply ≡ false
             → (task.new ≡ task.old) × (cx.new ≡ cx.old)) }
     {

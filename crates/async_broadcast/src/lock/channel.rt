@@ -1,4 +1,4 @@
-//! The lock, and what threads wait at.
+//! The lock, and the condition variables that threads wait on.
 ghost use Rattle.std.specs.Prelude.{◌≡◌};
 
 use super::state::State;
@@ -12,9 +12,9 @@ use std::sync::{Condvar, Mutex, MutexGuard, Wait};
 #[derive(Drop)]
 pub(super) struct Channel<T: Clone, A: Allocator> {
     state: Mutex<State<T, A>>,
-    /// Notified once a thread that waits to send is to try again.
+    /// Notified once a thread that waits to send should try again.
     pub(super) ready: Condvar,
-    /// Notified once a thread that waits for a message is to try again.
+    /// Notified once a thread that waits for a message should try again.
     pub(super) news: Condvar,
 }
 
@@ -39,7 +39,7 @@ impl<T: Clone, A: Allocator + Copy> Channel<T, A> {
         }
     }
 
-    /// Gives the lock back, and then wakes the threads that the call has something for.
+    /// Releases the lock, and then wakes these threads.
     #[inline(always)]
     pub(super) fn unlock(&self, state: Locked<'_, T, A>, woken: Option<Woken>) {
         if let Some(woken) = woken {
@@ -54,7 +54,7 @@ impl<T: Clone, A: Allocator + Copy> Channel<T, A> {
         self.wake(woken);
     }
 
-    // Best once the lock is free.
+    // Best called once the lock is free.
     fn wake(&self, woken: Woken) {
         let Woken { sender, receiver } = woken;
         if sender {
@@ -65,7 +65,7 @@ impl<T: Clone, A: Allocator + Copy> Channel<T, A> {
         }
     }
 
-    /// Wakes the threads that the call has something for, and gives the lock back until the
+    /// Wakes these threads, and releases the lock until the
     /// condition is notified.
     pub(super) fn wait<'a>(
         &'a self,

@@ -9,7 +9,7 @@ use crate::wake::{Wake, WakerSlot};
 use bcast_core::{Inner, Snapshot};
 use std::alloc::{AllocError, Allocator};
 
-/// Whoever takes the lock finds that whom to wake was noted after each call before.
+/// Once the lock is taken, it is noted of every earlier call which threads it has to wake.
 #[derive(Drop)]
 pub(super) struct State<T: Clone, A: Allocator> {
     pub(super) inner: Inner<T, Wake<WakerSlot<A>>, A>,
@@ -33,7 +33,7 @@ impl<T: Clone, A: Allocator + Copy> State<T, A> {
         }
     }
 
-    /// What is seen of the channel.
+    /// The view of the channel.
     pub(super) fn snapshot(&self, alloc: A) -> Result<Snapshot<T, A>, AllocError>
         ensures shows { IfOk result (λ snapshot. Shows T.is_clone snapshot self.now.inner) }
         ensures valid { IfOk result (λ snapshot. ShowsSomeState T.is_clone snapshot) }

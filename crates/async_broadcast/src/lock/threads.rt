@@ -1,4 +1,4 @@
-//! The threads that wait for the channel, and whom to wake of them.
+//! The threads that wait for the channel, and which of them to wake.
 ghost use Rattle.std.specs.Prelude.{◌≡◌, true, false, IfSome, IfNone};
 ghost use Rattle.bcast_model.specs.Words.{is_ready, is_full};
 ghost use Rattle.async_broadcast.specs.Woken.{HasNoThread, KnowsNews, HasWokenSender, HasWokenReceiver};
@@ -8,7 +8,7 @@ use crate::wake::{Wake, WakerSlot};
 use bcast_core::Inner;
 use std::alloc::Allocator;
 
-/// The threads that wait, to send or for a message, and whom to wake of them.
+/// The threads that wait, to send or for a message, and which of them to wake.
 ///
 /// Of each kind at most one is woken at a time. It wakes the next after its own call, so that few
 /// threads want the lock at once.
@@ -26,7 +26,7 @@ pub(super) struct Threads {
     is_receiver_woken: bool,
 }
 
-/// Whom to wake: a thread that waits to send, one that waits for a message.
+/// Which threads to wake: one that waits to send, one that waits for a message.
 pub(super) struct Woken {
     pub(super) sender: bool,
     pub(super) receiver: bool,
@@ -49,8 +49,8 @@ impl Threads {
         }
     }
 
-    /// Notes whom the last call on the channel has something for, and returns whom to wake of them.
-    /// `None`: no thread waits.
+    /// Notes which threads can do something after the last call on the channel, and returns which
+    /// of them to wake. `None`: no thread waits.
     #[inline(always)]
     #[tactic(auto, using(std::proofs::lemmas::Nat::le_or_l, std::proofs::lemmas::Nat::le_or_r))]
     pub(super) fn note<T: Clone, A: Allocator + Copy>(

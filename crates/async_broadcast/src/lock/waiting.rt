@@ -49,7 +49,7 @@ impl<T: Clone, R: Wait + Clone, A: Allocator + Copy> Lock<T, R, A> {
                 state = channel.wait(&self.rt, &channel.ready, state, woken);
                 turn = Turn::Waited;
             } else {
-                // Others may make room at once, and then nobody has to be woken.
+                // Others may make room at once, and then no thread has to be woken.
                 channel.unlock(state, woken);
                 yield_now();
                 state = channel.lock(&self.rt);

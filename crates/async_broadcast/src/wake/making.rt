@@ -8,13 +8,13 @@ use futures::task::Context;
 
 /// What registers a poll's task in a context of type `C`: all that `Registers`, in a `Context`.
 ///
-/// What becomes of a loan that a struct holds is known to its lender only if the loan's type names
-/// no lifetime, and that of a `Context` names one. So `ForTask` takes the type as a parameter, as
+/// If a struct holds a `&mut`, a proof knows the value after it only if the value's type names no
+/// lifetime, and that of a `Context` names one. So `ForTask` takes the type as a parameter, as
 /// does the function that makes one.
 pub(crate) trait RegistersIn<S, C> {
     ghost use Rattle.std.specs.Prelude.{Bool};
 
-    // Whether the last registering found no memory for a notice.
+    // Whether memory for a notice was refused at the last registering.
     ghost is_refused: { Self → Bool };
 
     // Holds of a context before and after a task was registered in it.
