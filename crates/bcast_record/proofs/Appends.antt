@@ -1,4 +1,4 @@
--- One entry more keeps the replay.
+-- One more entry keeps the replay.
 use Rattle.std.proofs.Common.{◌≡◌, List, [], ◌∷◌, ◌++◌, sym, ◌∙◌, subst}
 use Rattle.std.specs.List.{AllByRecursion}
 use Rattle.std.proofs.lemmas.List.{map-append}
@@ -19,7 +19,7 @@ module _ {T : Type 0} where
   pub replies_of-with_entry : (r : Recording T) (entry : Entry T) → replies_of (with_entry r entry) ≡ replies_of r ++ entry.reply ∷ []
   replies_of-with_entry r entry = map-append (λ e. e.reply) r.entries (entry ∷ [])
 
-  -- a new channel has been asked nothing
+  -- no call was made on a new channel
   pub replays_opened : (is_clone : T → T → Type 0) (o : Opening) (entries : List (Entry T)) (seen : View T) → entries ≡ []
       → Represents seen (opening o.capacity 0 o.first_key) → IsValid {T = T} (opening o.capacity 0 o.first_key) → Replays is_clone (recording o entries) seen
   replays_opened is_clone o entries seen none shown valid =
@@ -41,7 +41,7 @@ module _ {T : Type 0} where
         valid = subst IsValid (sym end) (answers.valid (end_of r) replays.valid replays.end);
       }
 
-  -- the same, of the lists before and after
+  -- the same, for the lists before and after
   pub replays_push : (is_clone : T → T → Type 0) (o : Opening) (entries longer : List (Entry T)) (seen after : View T) (entry : Entry T) (call : Call T)
       → longer ≡ entries ++ entry ∷ [] → call ≡ entry.call → Replays is_clone (recording o entries) seen → Answers is_clone seen call entry.reply after
       → Replays is_clone (recording o longer) after

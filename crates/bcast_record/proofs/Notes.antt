@@ -7,7 +7,7 @@ use Rattle.bcast_record.specs.declared.entry.Note.TheVariants as note
 use Rattle.bcast_record.specs.Recording.{notes_of}
 
 module _ {T : Type 0} where
-  -- the entry of a note stands one place before it
+  -- the entry of a note is one place before it
   pub entry_of_note : (opening : Opening) (entries : List (Entry T)) (place : ℕ) (entry : Entry T)
       → slice_get (notes_of opening entries) (suc place) ≡ Some (note.Answered entry) → slice_get entries place ≡ Some entry
   entry_of_note opening [] place entry at = absurd cc

@@ -1,4 +1,4 @@
--- What a prefix has after one page more, and beside another prefix.
+-- What a prefix has after one more page, and compared with another prefix.
 use Rattle.std.proofs.Common.{◌≡◌, ℕ, zero, suc, true, false, Option, Some, None, List, [], ◌∷◌, ◌++◌, length, slice_get, refl, ap}
 use mathlib.Core.List.{IsPrefix}
 use Rattle.bcast_record.specs.Content.{content_of, with_page, notes_on, has_end, ends_well}

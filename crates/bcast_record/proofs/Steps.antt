@@ -15,27 +15,27 @@ length-slots zero written = refl
 length-slots (suc reserved) zero = ap suc (length-slots reserved zero)
 length-slots (suc reserved) (suc written) = ap suc (length-slots reserved written)
 
--- one slot more is reserved
+-- one more slot is reserved
 pub slots-reserve : (reserved written : ℕ) → written ≤ reserved → slots reserved written ++ (0, false) ∷ [] ≡ slots (suc reserved) written
 slots-reserve zero zero le = refl
 slots-reserve zero (suc written) le = absurd (omega arith)
 slots-reserve (suc reserved) zero le = ap (λ cells. (0, false) ∷ cells) (slots-reserve reserved zero (omega arith))
 slots-reserve (suc reserved) (suc written) le = ap (λ cells. (0, true) ∷ cells) (slots-reserve reserved written (omega arith))
 
--- one slot more is written
+-- one more slot is written
 pub slots-write : (reserved written : ℕ) → written < reserved → slice_set (slots reserved written) written (0, true) ≡ slots reserved (suc written)
 slots-write zero written lt = absurd (omega arith)
 slots-write (suc reserved) zero lt = refl
 slots-write (suc reserved) (suc written) lt = ap (λ cells. (0, true) ∷ cells) (slots-write reserved written (omega arith))
 
--- a slot that is not written stands behind the written ones
+-- a slot that is not written comes after the written ones
 pub unwritten_late : (reserved written number : ℕ) → number < reserved → (slice_index_or (slots reserved written) number (0, false)).1 ≡ false → written ≤ number
 unwritten_late zero written number lt away = absurd (omega arith)
 unwritten_late (suc reserved) zero number lt away = omega arith
 unwritten_late (suc reserved) (suc written) zero lt away = absurd cc
 unwritten_late (suc reserved) (suc written) (suc number) lt away = let rest = unwritten_late reserved written number (omega arith) away in omega arith
 
--- a word that becomes what it is
+-- a word that gets the value it has
 either_same : (b : Bool) (n old new : ℕ) → (n == old) ≡ b → new ≡ old → either (n == old) new n ≡ n
 either_same true n old new is same = let here : n ≡ old = grind (arith, nat_tests) in rw is (same ∙ sym here)
 either_same false n old new is same = rw is refl
@@ -47,7 +47,7 @@ module _ {X : Type 0} where
   abbrev pub moved : List (Option X) → List (Option X) → ℕ → Type 0
   moved before after answer = Unit {0}
 
-  -- Who has the slot behind all pages that were seen has seen all: nobody else can write there
+  -- a step that has the slot after all pages that it saw has seen all: only it can write there
   pub write_moves : (seen : List (Option X)) (page : Option X) (number : ℕ) → length seen ≡ number → has_end seen ≡ false
       → Moves IsKept shown moved 0 (seen, (pen_at number, None)) (λ n. either (n == 0) 0 n) (Writes (step 0 0 0 page) (seen, (pen_at number, None)))
   write_moves seen page number len goes_on cells pages kept pre away =
@@ -98,7 +98,7 @@ module _ {X : Type 0} where
         rw is tt,
       )
 
-  -- a slot is reserved where as many were found as expected
+  -- a slot is reserved if as many were found as expected
   pub reserve_moves : (seen : List (Option X)) (page : Option X) (expected : ℕ)
       → Moves IsKept shown moved 0 (seen, (no_nib, None)) (λ n. either (n == expected) (expected + 1) n) (Reserves (step 0 expected (expected + 1) page) (seen, (no_nib, None)))
   reserve_moves seen page expected cells pages kept pre away =

@@ -1,15 +1,15 @@
--- The book behind a journal. Its log are the journal's pages, and its cells the slots for them.
+-- The book behind a journal. Its log is the journal's pages, and its cells are the slots for them.
 use Rattle.std.specs.Prelude.{ℕ, suc, zero, ◌≡◌, ◌==◌, ◌≤◌, true, false, Option, List, [], ◌∷◌, ◌++◌, length, MatchBool}
 use Rattle.logbook.specs.Pages.{Cell, Step, View, Book, Named, Nib, nib, may_make, may_write}
 use Rattle.bcast_record.specs.Content.{ends_well}
 
--- so many slots, of which the first ones are written
+-- this many slots, of which the first ones are written
 abbrev pub slots : ℕ → ℕ → List Cell
 slots zero written = []
 slots (suc reserved) zero = (0, false) ∷ slots reserved zero
 slots (suc reserved) (suc written) = (0, true) ∷ slots reserved written
 
--- the first word counts the slots, which stand behind the two words that each book has,
+-- the first word counts the slots, which come after the two words that each book has,
 -- and as many of them are written as there are pages
 pub record IsKept {X : Type 0} (cells : List Cell) (pages : List (Option X)) : Type 0 where
   pub reserved : ℕ
@@ -26,12 +26,12 @@ abbrev pub pen_at : ℕ → Nib
 pen_at number = nib may_write (suc (suc number)) 0
 
 module _ {X : Type 0} where
-  -- where as many slots were found as expected, one more was reserved
+  -- if as many slots were found as expected, one more was reserved
   abbrev pub Reserves : Step (Option X) → View (Option X) ℕ → ℕ → View (Option X) ℕ → Type 0
   Reserves step before found after =
       MatchBool (found == step.old) (after.1.0 ≡ nib may_make (suc (suc step.old)) 0) (Unit {0})
 
-  -- the page stands behind all that was seen before
+  -- the page comes after all pages that were seen before
   abbrev pub Writes : Step (Option X) → View (Option X) ℕ → ℕ → View (Option X) ℕ → Type 0
   Writes step before found after =
       (after.0 ≡ before.0 ++ step.ask ∷ []) × (ends_well after.0 ≡ true)

@@ -1,4 +1,4 @@
--- What a prefix of a journal has. Its pages are notes, and behind the last note perhaps an end.
+-- What a prefix of a journal has. Its pages are notes, and perhaps an end after the last note.
 use Rattle.std.specs.Prelude.{Bool, true, false, Option, Some, None, List, [], ◌∷◌, ◌++◌}
 
 pub record Content (X : Type 0) : Type 0 where
@@ -25,7 +25,7 @@ module _ {X : Type 0} where
   has_end (Some note ∷ pages) = has_end pages
   has_end (None ∷ pages) = true
 
-  -- no page stands behind an end
+  -- no page comes after an end
   abbrev pub ends_well : List (Option X) → Bool
   ends_well [] = true
   ends_well (Some note ∷ pages) = ends_well pages
@@ -35,7 +35,7 @@ module _ {X : Type 0} where
   abbrev pub content_of : List (Option X) → Content X
   content_of pages = record { notes = notes_on pages; ended = has_end pages }
 
-  -- one page more
+  -- with one more page
   abbrev pub with_page : Content X → Option X → Content X
   with_page content (Some note) = so_far (content.notes ++ note ∷ [])
   with_page content None = ended content.notes

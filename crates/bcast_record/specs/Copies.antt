@@ -1,4 +1,4 @@
--- Which list of messages a copy of a call or of its reply needs. No public clause cites this.
+-- The list of messages that a copy of a call or of its reply needs. No public clause names this.
 use Rattle.std.specs.Prelude.{◌≡◌, List, Option, Some, None, Err}
 use Rattle.bcast_model.specs.declared.run.Call.{Call}
 use Rattle.bcast_model.specs.declared.run.Call.TheVariants as call
@@ -12,7 +12,7 @@ module _ {T : Type 0} where
   list_of (call.TryBroadcastAll msgs) = Some msgs
   list_of c = None
 
-  -- where a reply hands a list back, it is this one
+  -- if a reply hands a list back, it is this one
   abbrev pub IsListOf : Option (List T) → Reply T → Type 0
   IsListOf list (reply.TryBroadcastAll (Err error)) = list ≡ Some (unsent_message error)
   IsListOf list r = Unit {0}

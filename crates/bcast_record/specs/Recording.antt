@@ -5,7 +5,7 @@ use Rattle.bcast_record.specs.declared.entry.Entry.{Entry}
 use Rattle.bcast_record.specs.declared.entry.Note.{Note}
 use Rattle.bcast_record.specs.declared.entry.Note.TheVariants as note
 
--- what the channel was opened with, and the calls with their replies, in the order of answering
+-- what the channel was opened with, and the calls with their replies, in the order of the replies
 pub record Recording (T : Type 0) : Type 0 where
   pub opening : Opening
   pub entries : List (Entry T)
@@ -23,7 +23,7 @@ module _ {T : Type 0} where
   new_recording capacity first_key =
       recording (record { capacity = capacity; first_key = first_key }) []
 
-  -- one entry more
+  -- with one more entry
   abbrev pub with_entry : Recording T → Entry T → Recording T
   with_entry r entry = recording r.opening (r.entries ++ entry ∷ [])
 

@@ -22,11 +22,11 @@ module _ {T : Type 0} where
   abbrev pub end_of : Recording T → History T
   end_of r = end_of_run (start_of r) (calls_of r) (replies_of r)
 
-  -- the replies are those of a run of the machine that is asked the calls
+  -- the calls and their replies are a run of the channel
   abbrev pub IsRecordedRun : (T → T → Type 0) → Recording T → Type 0
   IsRecordedRun is_clone r = IsRun is_clone (start_of r) (calls_of r) (replies_of r)
 
-  -- the entries are a run, and the channel that is seen so stands where it ends
+  -- the entries are a run, and this is the view of the state at its end
   pub record Replays (is_clone : T → T → Type 0) (r : Recording T) (seen : View T) : Type 0 where
     pub run : IsRecordedRun is_clone r
     pub end : Represents seen (end_of r)

@@ -1,16 +1,16 @@
 -- The seats of a recorder.
 use Rattle.std.specs.Prelude.{ℕ, zero, suc, ◌+◌, List, [], ◌∷◌, ◌++◌}
 
--- its number, and how many calls it was answered
+-- its number, and how many of its calls were answered
 pub record Seated : Type 0 where
   pub number : ℕ
   pub count : ℕ
 
--- after one call more
+-- after one more call
 abbrev pub answered : Seated → Seated
 answered s = record s { count = s.count + 1 }
 
--- so many seats, numbered from 0, which have made no call
+-- this many seats, numbered from 0, which have made no call
 abbrev pub new_seats : ℕ → List Seated
 new_seats zero = []
 new_seats (suc n) = new_seats n ++ record { number = n; count = 0 } ∷ []

@@ -6,11 +6,11 @@ use bcast_core::{Call, Messages, Reply, TrySendError};
 use futures::task::Poll;
 use std::alloc::AllocError;
 
-/// The same call.
+/// A copy of the call.
 ///
 /// # Errors
 ///
-/// - `AllocError`: no memory for its list of messages. A call without a list takes none.
+/// - `AllocError`: no memory for its list of messages. A call without a list needs none.
 pub fn copy_of_call<T: Copy>(call: &Call<T>) -> Result<Call<T>, AllocError>
     ensures { IfOk result (λ copy. copy ≡ call.now) }
 {
@@ -55,7 +55,7 @@ pub fn copy_of_call<T: Copy>(call: &Call<T>) -> Result<Call<T>, AllocError>
     })
 }
 
-/// The list of a call that has one, once more.
+/// A copy of the list of a call that has one.
 pub(crate) fn copy_of_list<T: Copy>(call: &Call<T>) -> Result<Option<Messages<T>>, AllocError>
     ensures { IfOk result (λ list. list ≡ list_of call.now) }
 {
@@ -65,11 +65,11 @@ pub(crate) fn copy_of_list<T: Copy>(call: &Call<T>) -> Result<Option<Messages<T>
     }
 }
 
-/// The same reply.
+/// A copy of the reply.
 ///
 /// # Errors
 ///
-/// - `AllocError`: no memory for the list of messages that it hands back. Any other reply takes
+/// - `AllocError`: no memory for the list of messages that it hands back. Any other reply needs
 ///   none.
 pub fn copy_of_reply<T: Copy>(reply: &Reply<T>) -> Result<Reply<T>, AllocError>
     ensures { IfOk result (λ copy. copy ≡ reply.now) }
@@ -83,7 +83,7 @@ pub fn copy_of_reply<T: Copy>(reply: &Reply<T>) -> Result<Reply<T>, AllocError>
     Ok(copy_with(reply, list))
 }
 
-/// The same reply, where `list` is a copy of the list that it hands back, if it does.
+/// A copy of the reply. `list` is a copy of the list that it hands back, if it does.
 pub(crate) fn copy_with<T: Copy>(reply: &Reply<T>, list: Option<Messages<T>>) -> Reply<T>
     requires { IsListOf list reply.now }
     ensures { result ≡ reply.now }

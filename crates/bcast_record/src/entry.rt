@@ -10,7 +10,7 @@ pub struct Opening {
     pub first_key: usize,
 }
 
-/// One call on a recorder, and what it was answered.
+/// One call on a recorder, and its reply.
 #[derive(Drop)]
 pub struct Entry<T> {
     /// The number of the seat that made the call.

@@ -1,4 +1,4 @@
-//! What a recorder leaves.
+//! What a recorder stored, once it has ended.
 ghost use Rattle.std.specs.Prelude.{◌≡◌, ◌<◌, Some, slice_get, map, IfOk};
 ghost use Rattle.std.specs.List.{AllByRecursion};
 ghost use Rattle.bcast_model.specs.Next.{HasPositiveCapacity};
@@ -12,7 +12,7 @@ use bcast_core::Call;
 use std::alloc::{AllocError, Allocator, Global};
 use std::marker::Model;
 
-/// What a recorder stored. To a contract it is the recording.
+/// What a recorder stored. A contract sees the recording.
 #[derive(Drop)]
 pub struct Finished<T, R: Named, A: Allocator = Global> {
     pub(crate) opening: Opening,

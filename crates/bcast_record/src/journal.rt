@@ -1,8 +1,8 @@
-//! A journal: a list that only grows, so that whoever knows a prefix of it knows it for good.
+//! A journal: a list that only grows, so that what is known of a prefix stays true.
 //!
 //! A journal exists for proofs: at run time a prefix takes no memory. One writer appends notes, and
-//! may end the journal. A prefix goes to any thread; beside the prefix that has the end, what it
-//! notes stands there too, at the same place.
+//! may end the journal. A prefix may be sent to any thread. The prefix that has the end has all its
+//! notes too, at the same places.
 ghost use Rattle.std.specs.Prelude.{◌≡◌, ℕ, ◌+◌, ◌<◌, ◌^◌, ◌++◌, ◌∷◌, [], false, true, length, Some, IfSome, slice_get};
 ghost use Rattle.bcast_record.specs.Book.{head_of};
 ghost use Rattle.bcast_record.specs.Content.{so_far, ended, with_page};
@@ -25,7 +25,7 @@ impl Named for Brand {
     ghost book = { record { number = 0; log_name = 0; cells_name = 0 } };
 }
 
-/// A journal without notes, which has no name yet. To a contract it is its book.
+/// A journal without notes, which has no name yet. A contract sees its book.
 #[derive(Drop)]
 pub struct Journal<X> {
     head: Word<Option<X>, u64, Keeping>,
@@ -47,7 +47,7 @@ impl<X> Model for Journal<X> {
 }
 
 impl<X: Drop> Journal<X> {
-    /// A journal of its own.
+    /// A new journal.
     pub fn new() -> Journal<X> {
         let (seen, mut first, _second) = Seen::open(Start::alone(), 0, 0);
         Journal {
@@ -58,7 +58,7 @@ impl<X: Drop> Journal<X> {
 
     /// The journal's writer, under the journal's name.
     ///
-    /// `None` never comes: only the writer reserves slots. No clause says so.
+    /// `None` is never returned: only the writer reserves slots. No clause says so.
     pub(crate) fn into_writer<J: Named>(self) -> Option<Writer<X, J>>
         requires { self ≡ J.book }
         ensures { IfSome result (λ writer. writer ≡ []) }
@@ -73,7 +73,7 @@ impl<X: Drop> Journal<X> {
     }
 }
 
-/// The right to write one note. To a contract it is the note's number.
+/// The right to write one note. A contract sees the note's number.
 #[derive(Drop)]
 pub(crate) struct Slot<J: Named> {
     number: u64,
@@ -111,7 +111,7 @@ impl<X, J: Named> Model for Prefix<X, J> {
 }
 
 impl<X: Drop, J: Named> Prefix<X, J> {
-    /// The same prefix.
+    /// A copy of the prefix.
     pub(crate) fn same(&self) -> Prefix<X, J>
         ensures { result ≡ self.now }
     {
@@ -121,8 +121,8 @@ impl<X: Drop, J: Named> Prefix<X, J> {
         }
     }
 
-    /// Compares this prefix, which has the end, with another of the same journal: what the other
-    /// notes stands here too, at the same place.
+    /// Compares this prefix, which has the end, with another of the same journal: it has each note
+    /// of the other, at the same place.
     pub(crate) fn compare(&self, other: &Prefix<X, J>)
         requires { self.now.ended ≡ true }
         ensures { (number : ℕ) (note : X) → slice_get other.now.notes number ≡ Some note
@@ -181,7 +181,7 @@ impl<X: Drop, J: Named> Prefix<X, J> {
     }
 }
 
-/// Writes a journal: it has the slot for the next note, or for the end. To a contract it is the
+/// Writes a journal: it has the slot for the next note, or for the end. A contract sees the
 /// notes so far.
 #[derive(Drop)]
 pub(crate) struct Writer<X, J: Named> {
@@ -206,7 +206,7 @@ impl<X, J: Named> Model for Writer<X, J> {
 impl<X: Drop, J: Named> Writer<X, J> {
     /// The slot for the note after the next.
     ///
-    /// `None` never comes: only the writer reserves slots. No clause says so.
+    /// `None` is never returned: only the writer reserves slots. No clause says so.
     pub(crate) fn reserve(&self) -> Option<Slot<J>>
         requires { length self.now < 2 ^ 61 }
         ensures { IfSome result (λ slot. slot ≡ length self.now + 1) }
@@ -214,7 +214,7 @@ impl<X: Drop, J: Named> Writer<X, J> {
         self.prefix.reserve(&self.head, self.slot.number + 1)
     }
 
-    /// Appends a note, and gives it back. `next` is the slot for the note after it.
+    /// Appends a note, and returns it. `next` is the slot for the note after it.
     pub(crate) fn append(&mut self, next: Slot<J>, note: X) -> X
         requires { next ≡ length self.old + 1 }
         ensures appended { self.new ≡ self.old ++ note ∷ [] }

@@ -1,9 +1,9 @@
-//! A channel that records its calls: whatever many threads asked of it is one run of the channel.
+//! A channel that records its calls: those of all threads together are one run of the channel.
 //!
 //! A `Log` is the channel with its entries, for one thread; a `Recorder` is a log behind a lock. A
-//! caller has a `Seat`, and gets a `Receipt` for each call. Once all seats are back, `finish` gives
-//! the entries, `Finished::entry_of` the entry of a receipt, and `Finished::calls` the calls, which
-//! `run` makes again.
+//! caller has a `Seat`, and gets a `Receipt` for each call. Once all seats are given back, `finish`
+//! returns the entries, `Finished::entry_of` the entry of a receipt, and `Finished::calls` the
+//! calls, which `run` can make again.
 //!
 //! All types of one recorder carry a parameter `R` that names it, as those of a ledger of the
 //! standard library do. A program makes, uses and ends a recorder inside a function over `R:

@@ -1,4 +1,4 @@
-//! A channel with the calls that it was asked, and its replies.
+//! A channel with the calls that were made on it, and their replies.
 ghost use Rattle.std.specs.Prelude.{◌≡◌, ◌+◌, ◌<◌, ◌≤◌, ◌^◌, [], ◌∷◌, ◌++◌, length, Some, IfOk, IfErr, IfSome, OnOk, vec_len, vec_capacity, slice_get};
 ghost use Rattle.std.specs.List.{sum_by};
 ghost use Rattle.bcast_record.specs.Copies.{list_of};
@@ -23,16 +23,16 @@ use std::sync::ledger::{Blank, Book, Share};
 // More entries than the memory of a machine has room for.
 const MOST_ENTRIES: usize = 1 << 60;
 
-/// A channel that stores each call that it was asked, with the seat's number and its reply.
+/// A channel that stores each call that is made on it, with the seat's number and the reply.
 ///
-/// To a contract it is the recording: what the channel was opened with, and the entries.
+/// A contract sees the recording: what the channel was opened with, and the entries.
 #[derive(Drop)]
 pub struct Log<T: Copy + Clone, R: Named, A: Allocator = Global> {
     opening: Opening,
     inner: Inner<T, Silent, A>,
     entries: Vec<Entry<T>, A>,
     journal: Writer<Note<T>, R>,
-    // How many calls all seats together were answered.
+    // How many calls of all seats together were answered.
     calls: Book<R>,
     // The part of the ledger that no seat has.
     rest: Share<R>,
@@ -55,7 +55,7 @@ impl<T: Copy + Clone, R: Named, A: Allocator> Model for Log<T, R, A> {
 }
 
 impl<T: Copy + Clone, R: Named, A: Allocator + Copy> Log<T, R, A> {
-    /// A new channel of this capacity, the key of its first receiver, and so many seats.
+    /// A new channel of this capacity, the key of its first receiver, and this many seats.
     ///
     /// The channel is as `Inner::new` makes it. The seats are numbered from 0.
     ///
@@ -102,8 +102,8 @@ impl<T: Copy + Clone, R: Named, A: Allocator + Copy> Log<T, R, A> {
 
     /// Makes one call on the channel, for a seat of this log, and stores it with its reply.
     ///
-    /// The seat then counts one call more. A new capacity must be positive. If the channel
-    /// itself finds no memory, that is a reply, and stored like any other.
+    /// The seat then counts one more call. A new capacity must be positive. If the channel
+    /// itself is out of memory, that is a reply, and stored like any other.
     ///
     /// # Errors
     ///
@@ -142,7 +142,7 @@ impl<T: Copy + Clone, R: Named, A: Allocator + Copy> Log<T, R, A> {
         })
     }
 
-    /// The channel, as the stored calls left it.
+    /// The channel after the stored calls.
     pub fn inner(&self) -> &Inner<T, Silent, A>
         ensures { Replays T.is_clone self.now result.now }
     {
@@ -163,7 +163,7 @@ impl<T: Copy + Clone, R: Named, A: Allocator + Copy> Log<T, R, A> {
         self.journal.prefix()
     }
 
-    // Ends the log, once all its seats are back. `known` is a prefix of the journal.
+    // Ends the log, once all its seats are given back. `known` is a prefix of the journal.
     pub(crate) fn finish(
         self,
         known: &Prefix<Note<T>, R>,
@@ -209,7 +209,7 @@ fn opened<T: Copy, R: Named>(
     Some(writer)
 }
 
-// Notes an entry in a journal, and gives it back.
+// Notes an entry in a journal, and returns it.
 fn noted<T: Copy, R: Named>(
     journal: &mut Writer<Note<T>, R>,
     next: Slot<R>,
@@ -225,7 +225,7 @@ fn noted<T: Copy, R: Named>(
     }
 }
 
-// Room for one entry more, the slot for the note after it, and the copies of its call.
+// Makes room for one more entry. Returns the slot for the note after it, and copies of its call.
 fn room<T: Copy, R: Named, A: Allocator>(
     entries: &mut Vec<Entry<T>, A>,
     journal: &Writer<Note<T>, R>,
@@ -246,7 +246,7 @@ fn room<T: Copy, R: Named, A: Allocator>(
     }
     entries.reserve(1).ok()?;
     let spares = Spares::of(call).ok()?;
-    // Last, since a slot that is reserved and never written leaves none for any later call.
+    // Last, since no later call gets a slot if one is reserved and never written.
     let next = journal.reserve()?;
     Some((next, spares))
 }

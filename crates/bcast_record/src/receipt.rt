@@ -1,11 +1,11 @@
-//! What a caller gets for a call.
+//! Receipts, which callers get for their calls.
 ghost use Rattle.std.specs.Prelude.{◌≡◌};
 
 use crate::entry::{Entry, Note};
 use crate::journal::{Named, Prefix};
 use std::marker::Model;
 
-/// Names an entry of a recorder. To a contract it is the entry and its place.
+/// Names an entry of a recorder. A contract sees the entry and its index.
 #[derive(Drop)]
 pub struct Receipt<T, R: Named> {
     pub(crate) place: usize,

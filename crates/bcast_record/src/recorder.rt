@@ -18,9 +18,9 @@ use std::marker::Model;
 use std::sync::ledger::Blank;
 use std::sync::{Mutex, Wait};
 
-/// A channel for many threads, which stores each call that it was asked with its reply.
+/// A channel for many threads, which stores each call that is made on it with its reply.
 ///
-/// Whenever its lock is got, the entries are a run of the channel. To a contract it is what the
+/// Whenever its lock is taken, the entries are a run of the channel. A contract sees what the
 /// channel was opened with, and how many seats were made.
 #[derive(Drop)]
 pub struct Recorder<T: Copy + Clone, R: Named, A: Allocator = Global> {
@@ -45,7 +45,7 @@ impl<T: Copy + Clone, R: Named, A: Allocator> Model for Recorder<T, R, A> {
 }
 
 impl<T: Copy + Clone, R: Named, A: Allocator + Copy> Recorder<T, R, A> {
-    /// A new channel of this capacity, the key of its first receiver, and so many seats.
+    /// A new channel of this capacity, the key of its first receiver, and this many seats.
     ///
     /// The channel is as `Inner::new` makes it. The seats are numbered from 0.
     ///
@@ -88,7 +88,7 @@ impl<T: Copy + Clone, R: Named, A: Allocator + Copy> Recorder<T, R, A> {
 
     /// Makes one call on the channel, for a seat of this recorder, and stores it with its reply.
     ///
-    /// Waits for the lock. The seat then counts one call more. A new capacity must be positive.
+    /// Waits for the lock. The seat then counts one more call. A new capacity must be positive.
     ///
     /// # Errors
     ///
@@ -109,18 +109,18 @@ impl<T: Copy + Clone, R: Named, A: Allocator + Copy> Recorder<T, R, A> {
         self.log.lock(rt).step(seat, call)
     }
 
-    /// Ends the recorder, once all its seats are back, and gives what it stored.
+    /// Ends the recorder, once all its seats are given back, and returns what it stored.
     ///
     /// # Errors
     ///
-    /// The recorder and the seats come back: fewer seats were given than were made.
+    /// The recorder and the seats are handed back: fewer seats were given than were made.
     pub fn finish(
         self,
         seats: Vec<Seat<R>, A>,
     ) -> Result<Finished<T, R, A>, (Self, Vec<Seat<R>, A>)>
         // The entries are a run of the channel, as many as the seats' counts together.
         ensures run { IfOk result (λ finished. IsRecordedRun T.is_clone finished) }
-        // If a clone equals its original, the replies are the machine's to the letter.
+        // If a clone equals its original, the entries are a run in which messages are never cloned.
         ensures exact { ClonesEqual T.is_clone
             → IfOk result (λ finished. IsRecordedRun NoClone finished) }
         ensures opening { IfOk result (λ finished. finished.opening ≡ self.opening) }

@@ -23,7 +23,7 @@ impl<X> Rule<Option<X>, u64> for Keeping {
     ghost moves = { λ asked before after answer. Unit {0} };
 }
 
-/// A step gives its caller nothing but what it tells.
+/// A step gives its caller nothing but its result.
 pub struct NoGain;
 
 impl<X> Gain<Option<X>, u64> for NoGain {

@@ -7,9 +7,9 @@ use std::alloc::{AllocError, Allocator};
 use std::marker::Model;
 use std::sync::ledger::{Book, Ledger, Share};
 
-/// A place at a recorder. It makes calls, and counts those that were answered.
+/// A caller of a recorder. It makes calls, and counts those that were answered.
 ///
-/// It can't be cloned or copied. To a contract it is its number and its count.
+/// It can't be cloned or copied. A contract sees its number and its count.
 #[derive(Drop)]
 pub struct Seat<R: Ledger> {
     number: usize,
@@ -55,7 +55,7 @@ impl<R: Ledger> Seat<R> {
         }
     }
 
-    // One call more, in the ledger too.
+    // Counts one more call, in the ledger too.
     pub(crate) fn add_call(&mut self, calls: &mut Book<R>)
         requires { calls.old.total + 1 < 2 ^ 64 }
         ensures seat { self.new ≡ record { number = self.old.number; count = self.old.count + 1 } }
@@ -96,7 +96,7 @@ pub(crate) fn make_seats<R: Ledger, A: Allocator>(
     Ok(made)
 }
 
-// The parts of all these seats beside one part more, with all their calls.
+// The parts of all these seats and one more part, with all their calls.
 pub(crate) fn gather<R: Ledger, A: Allocator>(rest: Share<R>, seats: Vec<Seat<R>, A>) -> Share<R>
     requires { (rest.parts ≡ 1) × (rest.amount ≡ 0) }
     ensures parts { result.parts ≡ vec_len seats + 1 }

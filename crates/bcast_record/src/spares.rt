@@ -1,4 +1,4 @@
-//! What an entry and its receipt need of a call, copied before the call is made.
+//! The copies that an entry and its receipt need of a call, made before the call.
 ghost use Rattle.std.specs.Prelude.{◌≡◌, IfOk};
 ghost use Rattle.bcast_record.specs.Copies.{list_of, IsListOf};
 
