@@ -84,7 +84,7 @@ pub fn broadcast<T: Clone, R: Wait + Clone, A: Allocator + Copy>(
 }
 
 impl<T: Clone, R: Wait + Clone, A: Allocator + Copy> Lock<T, R, A> {
-    /// The port of a channel that its caller made. `broadcast` makes both.
+    /// The port of a channel that the caller made. `broadcast` makes both.
     ///
     /// The handles that `inner` counts are to be made over it and over its `same`: for a new
     /// `Inner` one sender, and one receiver with the key that came with it. `rt` is what waits for

@@ -17,8 +17,8 @@ use std::alloc::AllocError;
 /// that the port gave to the method's call. `S` is where the notices of a port keep a task's
 /// waker: `WakerSlot`, unless memory comes from another allocator than `Global`.
 ///
-/// The structs of handles and of futures need no more of a port. It is small, so that proofs
-/// about several futures at once are small too.
+/// This is all that the structs of handles and of futures need of a port. It is small, so that
+/// proofs about several futures at once are small too.
 pub trait Ask<T: Clone, S>: Sized + Drop {
     ghost use Rattle.bcast_model.specs.declared.run.Call.{Call};
     ghost use Rattle.bcast_model.specs.declared.run.Reply.{Reply};
@@ -73,7 +73,7 @@ pub trait Ask<T: Clone, S>: Sized + Drop {
     /// answered, and was not out of memory. Asks `EndFuture`; a port may leave that out if it
     /// would change nothing.
     ///
-    /// Returns the notice of the receive that was given up, or one that wakes nobody if the port
+    /// Returns the notice of the receive that was given up, or one that wakes no task if the port
     /// doesn't give notices back.
     fn end_future(&self, key: usize, is_answered: bool) -> Wake<S>
         ensures { gave self.now (Call.EndFuture key) Reply.EndFuture }

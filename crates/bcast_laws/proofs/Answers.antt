@@ -20,7 +20,7 @@ use Rattle.bcast_model.proofs.Front.{front-le-cursor}
 use Rattle.bcast_laws.specs.Receives.{ShareMessages}
 use Rattle.bcast_laws.proofs.Sends.{apart}
 
--- ---- a receive leaves the other cursors
+-- ---- a receive doesn't change the other cursors
 abbrev KeepsOther : Control → ℕ → Control → Type 0
 KeepsOther old key new = (new.closed ≡ old.closed) × (get new.cursors key ≡ get old.cursors key)
 

@@ -23,7 +23,7 @@ deserted_is P c gone stays = test_is P (is_deserted c) (close c) c (λ _. gone) 
 pub accepting_is : (P : Control → Type 0) (c : Control) (end : ℕ) → P (close (tell_receivers c)) → (((end + 1) == last_end) ≡ false → P (tell_receivers c)) → P (accepting c end)
 accepting_is P c end last more = test_is P ((end + 1) == last_end) (close (tell_receivers c)) (tell_receivers c) (λ _. last) more
 
--- a receiver that is cloned under no key leaves all as it was
+-- a receiver that is cloned under no key changes nothing
 pub uncloned : (c : Control) (cursor : Option ℕ) → clone_receiver c cursor None ≡ c
 uncloned c None = refl
 uncloned c (Some cursor) = refl

@@ -43,7 +43,7 @@ module _ {T : Type 0} where
         missed = λ index e. let within = (within_missed (front_number h - cursor) index None e).1 in omega (arith, within);
       }
 
-  -- a message after so many that are skipped
+  -- a message after some that are skipped
   gives_message : {is_clone : T → T → Type 0} (h : History T) (key cursor skips : ℕ) (m : Cursors) (msg given : T) → front_number h ≤ cursor + skips → (skips ≡ 0) ⊎ (cursor + skips ≡ front_number h)
       → numbered h (cursor + skips) ≡ Some msg → IsGiven is_clone msg given → Gives is_clone h key cursor (insert m key (cursor + skips + 1)) (replicate skips None ++ Some given ∷ [])
   gives_message {is_clone = is_clone} h key cursor skips m msg given low exact there is =

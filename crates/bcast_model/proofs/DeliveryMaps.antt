@@ -54,7 +54,7 @@ pub data CursorsChange (front end : ℕ) (receives : ℕ → Bool) (old new : Cu
 true_or_false : {A : Type 0} (b : Bool) → b ≡ true → b ≡ false → A
 true_or_false b e f = cc
 
--- one that the call doesn't receive for stays where it is, or leaves
+-- a receiver that the call doesn't receive for keeps its cursor, or leaves
 pub stands_or_left : (front end : ℕ) (receives : ℕ → Bool) (old new : Cursors) (key cursor : ℕ) → CursorsChange front end receives old new → receives key ≡ false → get old key ≡ Some cursor → (get new key ≡ Some cursor) ⊎ (get new key ≡ None)
 stands_or_left front end receives old new key cursor (stay same) reads is = inl (ap (λ m. get m key) same ∙ is)
 stands_or_left front end receives old new key cursor (rise other from to read found le high same) reads is =

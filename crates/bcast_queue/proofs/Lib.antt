@@ -9,5 +9,5 @@ pub mod Pointwise
 pub mod OwedBy
 -- the messages at the front that no reader owes
 pub mod Unowed
--- what is seen of a queue
+-- what a contract sees of a queue
 pub mod Queues

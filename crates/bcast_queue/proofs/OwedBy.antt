@@ -110,7 +110,7 @@ pub get_or-owed_by : (b : ℕ) (ns : List ℕ) → 0 < length ns → get_or (owe
 get_or-owed_by b [] h = absurd (omega arith)
 get_or-owed_by b (n ∷ ns) h = refl
 
--- a reader that leaves behind the front leaves the first message as owed as it was
+-- if a reader leaves behind the first message, the count of the first stays
 pub first_kept : (i : ℕ) (ns : List ℕ) → 0 < i → get_or (one_fewer_from i ns) 0 0 ≡ get_or ns 0 0
 first_kept zero ns h = absurd (omega arith)
 first_kept (suc i) [] h = refl

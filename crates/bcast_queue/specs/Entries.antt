@@ -26,7 +26,7 @@ module _ {X : Type 0} where
   abbrev pub counts : Buffer (Entry X) → List ℕ
   counts ring = map next_of ring.items
 
-  -- the queue of this front, this ring, so many owing readers behind the front, and this room
+  -- the queue of this front, this ring, this many owing readers behind the front, and this room
   abbrev pub queue_of : ℕ → Buffer (Entry X) → ℕ → ℕ → Queued X
   queue_of front ring behind room =
       queue_with front (messages ring) (owed_by behind (counts ring)) room

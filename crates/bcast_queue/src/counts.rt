@@ -110,8 +110,8 @@ pub(crate) fn take_reader<T, A: Allocator, C: Counter>(
     }
 }
 
-// Drops the messages at the front that nobody reads next, if nobody is behind them. `next` is how
-// many read the first message next.
+// Drops the messages at the front that no reader reads next, if no reader is behind them. `next`
+// is how many read the first message next.
 pub(crate) fn drop_unowed<T: Drop, A: Allocator, C: Counter>(
     ring: &mut HeapCircularBuffer<Entry<T>, A>,
     front: &mut u64,

@@ -32,7 +32,7 @@ pub struct Queue<T, A: Allocator = Global> {
     ring: HeapCircularBuffer<Entry<T>, A>,
     // The number of the first message, or of the next one if there is none.
     front: u64,
-    // How many owing readers have a message that is gone as the one that they read next.
+    // How many owing readers are behind the front: they read a message next that is gone.
     behind: usize,
     // How many owing readers there are.
     total: usize,

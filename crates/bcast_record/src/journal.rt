@@ -1,8 +1,8 @@
 //! A journal: a list that only grows, so that what is known of a prefix stays true.
 //!
 //! A journal exists for proofs: at run time a prefix takes no memory. One writer appends notes, and
-//! may end the journal. A prefix may be sent to any thread. The prefix that has the end has all its
-//! notes too, at the same places.
+//! may end the journal. A prefix may be sent to any thread. The prefix that has the end has the
+//! notes of every other prefix, at the same places.
 ghost use Rattle.std.specs.Prelude.{◌≡◌, ℕ, ◌+◌, ◌<◌, ◌^◌, ◌++◌, ◌∷◌, [], false, true, length, Some, IfSome, slice_get};
 ghost use Rattle.bcast_record.specs.Book.{head_of};
 ghost use Rattle.bcast_record.specs.Content.{so_far, ended, with_page};

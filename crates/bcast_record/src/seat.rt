@@ -7,7 +7,7 @@ use std::alloc::{AllocError, Allocator};
 use std::marker::Model;
 use std::sync::ledger::{Book, Ledger, Share};
 
-/// A caller of a recorder. It makes calls, and counts those that were answered.
+/// A caller's seat at a recorder. It makes calls, and counts those that were answered.
 ///
 /// It can't be cloned or copied. A contract sees its number and its count.
 #[derive(Drop)]

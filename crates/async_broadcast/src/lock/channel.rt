@@ -65,8 +65,7 @@ impl<T: Clone, A: Allocator + Copy> Channel<T, A> {
         }
     }
 
-    /// Wakes these threads, and releases the lock until the
-    /// condition is notified.
+    /// Wakes these threads, and releases the lock until the condition is notified.
     pub(super) fn wait<'a>(
         &'a self,
         rt: &impl Wait,

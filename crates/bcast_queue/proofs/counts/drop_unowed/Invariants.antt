@@ -5,7 +5,7 @@ use Rattle.bcast_queue.specs.Entries.{counts, messages}
 use Rattle.bcast_queue.proofs.Front.{nobody}
 use Rattle.bcast_queue.proofs.counts.drop_unowed.Given as goal
 
--- what is left to drop leaves the same messages and counts
+-- once the rest is dropped, the same messages and counts are left
 abbrev pub invariant-loop-next : goal.invariant-loop-next
 invariant-loop-next g l =
     record {
