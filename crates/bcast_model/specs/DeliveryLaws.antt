@@ -65,8 +65,8 @@ DroppedNumbersRise {T} is_clone =
     → IsStrictlyIncreasing (dropped_in h calls replies)
 
 -- at each point of each run: what a receive counts as missed was dropped by an earlier call, or is
--- under the floor when the run begins (in a new channel no receiver reads such a message); what it
--- gives is neither
+-- under the floor when the run begins (in a new channel no receiver reads such a message); neither
+-- holds of what it gives
 abbrev pub MissedWereDropped : {T : Type 0} → (T → T → Type 0) → Type 0
 MissedWereDropped {T} is_clone =
     (h : History T) (calls : List (Call T)) (replies : List (Reply T))
