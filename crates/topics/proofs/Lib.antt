@@ -1,7 +1,7 @@
 -- maps of topics, and new topics
 pub mod Topics
--- one exchange more, at the end of a list
+-- one more exchange, at the end of a list
 pub mod Exchanges
--- what it does to each topic's part of the calls
+-- what one more exchange does to each topic's part of the calls
 pub mod PartRuns
 pub mod Parts

@@ -1,4 +1,4 @@
--- A topic's part of the calls as a run: how it begins, and one call more.
+-- A topic's part of the calls as a run: how it begins, and what one more call does.
 use Rattle.std.proofs.Common.{◌≡◌, ℕ, List, [], ◌∷◌, ◌++◌, map, Option, Some, None, refl, sym, ap, ◌∙◌, subst, arith}
 use Rattle.std.proofs.lemmas.Option.{same_Some}
 use Rattle.bcast_model.specs.declared.run.Call.{Call}

@@ -1,4 +1,4 @@
--- One exchange more: what it does to each topic's part of the calls.
+-- What one more exchange does to each topic's part of the calls.
 use Rattle.std.proofs.Common.{◌≡◌, ℕ, List, [], ◌∷◌, ◌++◌, Bool, true, false, Option, None, Some, refl, sym, ap, ◌∙◌, subst, append-nil, length}
 use Rattle.std.specs.Prelude.{is_some}
 use Rattle.std.proofs.lemmas.Option.{none-some, same_Some}
@@ -58,7 +58,7 @@ opened_once : {T A : Type 0} (r : Request T A) → call_of r ≡ None → IsAnsw
 opened_once r opens_it is = not_bad_name (is.bad_name (λ named. not_exists (subst (λ c. IsAnswerTo true c answer.Opened) opens_it (is.named named))))
 
 module _ {T A : Type 0} (is_clone : T → T → Type 0) where
-  -- the request opens it
+  -- the request opens the topic
   opened : (capacity : Option ℕ) (done : List (Called T)) (old new : Option (View T)) (r : Request T A) (asked : ℕ) → call_of r ≡ None → IsTopic is_clone capacity done old → IsAnswer (is_some old) r answer.Opened → IsNew is_clone asked new → IsTopic is_clone (option_or capacity (Some asked)) (done ++ []) new
   opened None done old new r asked opens_it topic fit is = subst (λ d. IsTopic is_clone (Some asked) d new) (sym (append-nil done ∙ topic.1)) (new_run is_clone is)
   opened (Some capacity) done old new r asked opens_it topic fit is = absurd (opened_once r opens_it (subst (λ b. IsAnswer b r answer.Opened) (is_open is_clone (Some capacity) done old topic) fit))

@@ -13,7 +13,7 @@ use Rattle.topics.specs.declared.request.Answer.TheVariants as answer
 use Rattle.topics.specs.declared.hub.Hub.{Hub}
 use Rattle.topics.specs.Request.{name_of, call_of, IsAnswer}
 
--- what is seen of topics: the channel of each name under which one was opened
+-- what is seen of topics: for each name under which one was opened, its channel
 abbrev pub Topics : Type 0 → Type 0
 Topics T = List ℕ → Option (View T)
 
@@ -29,28 +29,28 @@ module _ {T : Type 0} (is_clone : T → T → Type 0) where
       (call.Deactivate first_key) (reply.Deactivate (Ok tt)) topic
   IsNew capacity None = ⊥
 
-  -- what becomes of a topic that is to be opened, by the answer
+  -- by the answer, what becomes of a topic that is to be opened
   abbrev pub IsOpened : ℕ → Answer T → Option (View T) → Option (View T) → Type 0
   IsOpened capacity answer.Opened old new = IsNew capacity new
   IsOpened capacity a old new = new ≡ old
 
-  -- what becomes of a topic on which this call is to be made, by the answer: its channel answers
+  -- by the answer, what becomes of a topic that is asked for this call: it is made if `Done`
   abbrev pub IsCall : Option (Call T) → Answer T → Option (View T) → Option (View T) → Type 0
   IsCall (Some c) (answer.Done r) (Some before) (Some after) = Answers is_clone before c r after
   IsCall asked (answer.Done r) old new = ⊥
   IsCall asked a old new = new ≡ old
 
-  -- what becomes of the topic of a request, by the answer
+  -- by the answer, what becomes of the topic of a request
   abbrev pub Changes : {A : Type 0}
       → Request T A → Answer T → Option (View T) → Option (View T) → Type 0
   Changes (request.Open name capacity) a old new = IsOpened capacity a old new
   Changes r a old new = IsCall (call_of r) a old new
 
--- the topics of all other names stay
+-- the topics of all other names are unchanged
 abbrev pub KeepsOthers : {T : Type 0} → Topics T → List ℕ → Topics T → Type 0
 KeepsOthers old name new = (other : List ℕ) → other ≢ name → new other ≡ old other
 
--- one request: its answer, what becomes of its topic, and that the others stay
+-- one request: its answer, what becomes of its topic, and that the others are unchanged
 pub record Asks
     {T A : Type 0} (is_clone : T → T → Type 0) (old : Topics T) (r : Request T A) (a : Answer T)
     (new : Topics T) : Type 0 where

@@ -74,7 +74,7 @@ module _ {T : Type 0} (is_clone : T → T → Type 0) where
       (first_key : ℕ)
       × IsRunOf is_clone (opening capacity 0 first_key) (part_of first_key done) topic
 
-  -- every topic is a channel of its own, whatever requests on other names stand between
+  -- every topic is a channel of its own, whatever requests on other names are in between
   abbrev pub AreTopics : {A S Hasher : Type 0}
       → List (Exchange T A) → Hub T A S Hasher → Type 0
   AreTopics all hub =

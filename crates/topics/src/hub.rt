@@ -14,9 +14,9 @@ use std::hash::{BuildHasher, BuildHasherDefault, FoldHasher};
 /// A topic's channel, under its name.
 type Topics<T, A, S> = HashMap<String<A>, Inner<T, Silent, A>, S, A>;
 
-/// Topics: channels that are named, and opened by request. A topic stays for good, closed or not.
+/// Topics: channels that are named, and opened by request. A topic is never removed, closed or not.
 ///
-/// Names are hashed by what `S` makes.
+/// Names are hashed with the hashers that `S` makes.
 #[derive(Drop)]
 pub struct Hub<T, A: Allocator = Global, S: BuildHasher = BuildHasherDefault<FoldHasher>> {
     alloc: A,
@@ -26,7 +26,7 @@ pub struct Hub<T, A: Allocator = Global, S: BuildHasher = BuildHasherDefault<Fol
 impl<T: Clone, A: Allocator + Copy> Hub<T, A> {
     /// A hub without topics.
     ///
-    /// Its hash has a fixed seed: where strangers choose the names, use `with_hasher`.
+    /// The seed of its hash is fixed: if strangers choose the names, use `with_hasher`.
     pub fn new(alloc: A) -> Self
         ensures { (name : List ℕ) → topic_of result name ≡ None }
     {
@@ -37,7 +37,7 @@ impl<T: Clone, A: Allocator + Copy> Hub<T, A> {
 impl<T: Clone, A: Allocator + Copy, S: BuildHasher> Hub<T, A, S> {
     /// A hub without topics, whose names are hashed with `hash_builder`.
     ///
-    /// With std's `RandomState` nobody can choose many names that collide.
+    /// `hash_builder` can be std's `RandomState`, whose seed is random. No clause is about hashes.
     pub fn with_hasher(alloc: A, hash_builder: S) -> Self
         ensures { (name : List ℕ) → topic_of result name ≡ None }
     {
@@ -50,8 +50,8 @@ impl<T: Clone, A: Allocator + Copy, S: BuildHasher> Hub<T, A, S> {
     /// Answers one request.
     ///
     /// A topic is opened with `Inner::new(alloc, capacity)`, whose first receiver is deactivated:
-    /// so it stays open while nobody follows it. The other requests make one call on the topic's
-    /// channel.
+    /// so the topic stays open while nobody follows it. Each other request makes one call on the
+    /// topic's channel.
     pub fn ask(&mut self, request: Request<T, A>) -> Answer<T>
         requires { OpensPositive request }
         ensures { Asks T.is_clone (topic_of self.old) request result (topic_of self.new) }

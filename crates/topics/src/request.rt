@@ -22,16 +22,16 @@ pub enum Request<T, A: Allocator = Global> {
     Close(String<A>),
 }
 
-/// What a hub answers: the first that fits.
+/// A hub's answer: the first of these that fits.
 #[derive(PartialEq, Drop)]
 pub enum Answer<T> {
-    /// The name is none: a name has 1 to 32 letters from a to z, digits and dots.
+    /// The request's name is not one: a name has 1 to 32 letters from a to z, digits and dots.
     BadName,
     /// To `Open`: a topic of this name was opened before.
     Exists,
     /// To `Open`: there was no memory for the topic. The hub is unchanged.
     Memory,
-    /// To `Open`: the topic is open.
+    /// To `Open`: the topic was opened.
     Opened,
     /// To the others: no topic of this name was opened.
     NoTopic,

@@ -10,20 +10,20 @@ use std::alloc::Allocator;
 
 /// Answers all requests in order, on a hub of its own.
 ///
-/// New topics' capacities must be positive.
+/// The capacities of new topics must be positive.
 ///
 /// # Errors
 ///
-/// The requests come back, and none was made: memory for the answers was refused.
+/// The requests are returned, and none was made: memory for the answers was refused.
 pub fn run_hub<T: Clone, A: Allocator + Copy>(
     alloc: A,
     requests: Vec<Request<T, A>, A>,
 ) -> Result<(Hub<T, A>, Vec<Answer<T>, A>), Vec<Request<T, A>, A>>
     requires { AllByRecursion OpensPositive requests.items }
     ensures count { IfOk result (λ made. length made.1.items ≡ length requests.items) }
-    // Each answer is the one that its request has, by whether its name was opened before.
+    // Each answer fits its request, and whether the topic was opened before it.
     ensures answers { IfOk result (λ made. AreAnswers [] (zip requests.items made.1.items)) }
-    // Each topic's part of the calls is a run of a channel of its own.
+    // The calls on each topic are a run of a channel of its own.
     ensures topics { IfOk result (λ made.
         AreTopics T.is_clone (zip requests.items made.1.items) made.0) }
 

@@ -1,4 +1,4 @@
--- What a call leaves of what is seen, but for who is told.
+-- What is seen after a call, apart from who was told.
 use Rattle.std.proofs.Common.{◌≡◌, ℕ, not, ◌&&◌, Option, Some, None, Result, Ok, Err, OnOk, OnErr, refl, sym, ap, ◌∙◌, subst}
 use Rattle.std.specs.Prelude.{IsSome}
 use Rattle.bcast_model.specs.declared.run.Call.{Call}
@@ -23,7 +23,7 @@ module _ {T : Type 0} where
     pub valid_after : IsValidView w
     valid_after = valid_shown (shown_after a)
 
-    -- what telling a sender keeps holds after a call, if it holds after the call's effect
+    -- what holds after a call's effect holds after the call, if telling a sender keeps it
     pub after : (P : View T → Type 0) → ((u : View T) → P u → P (told u)) → P (settle v (effect v c r)) → P w
     after P keeps here =
         let mid : View T = settle v (effect v c r) in

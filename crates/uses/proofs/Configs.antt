@@ -60,7 +60,7 @@ module _ {S : Type 0} where
       seen = λ n e. seen n e ∙ sym same_end;
     }
 
-    -- a cursor that skips to the end is there
+    -- a cursor that skips to the end is at the end
     pub at_end : IsValidView v → (cursor : ℕ) → cursor_of v.control key ≡ Some cursor → v.end ≤ max cursor v.front → cursor ≡ v.end
     at_end valid cursor e late =
         let reach = valid.reach key cursor e in
@@ -97,12 +97,12 @@ module _ {S : Type 0} where
   poll_refused a = unchanged a refl refl
 
   -- ---- `new_receiver`
-  -- a watcher more has seen the latest settings
+  -- a new watcher has seen the latest settings
   pub watched : {is_clone : S → S → Type 0} {v w : View S} {key : ℕ} → Answers is_clone v call.NewReceiver (reply.NewReceiver (Ok key)) w → IsConfig v → Looked v w key × (get w.control.cursors key ≡ Some v.end)
   watched {v = v} {key = key} a config =
       after a (λ u. Looked v u key × (get u.control.cursors key ≡ Some v.end)) (λ u s. (told_looked v u key _ s.0, s.1)) (seen_at v key config v.end refl, inserted v.control.cursors key v.end)
 
-  -- what it leaves, or its refusal
+  -- what holds after it, whether a watcher was added or not
   pub record Watches (v w : View S) (result : Result ℕ HandleError) : Type 0 where
     pub config : IsConfig w
     pub watcher : IfOk result (λ made. get w.control.cursors made ≡ Some v.end)
@@ -113,7 +113,7 @@ module _ {S : Type 0} where
   watches {v = v} (Err error) a config = subst (λ u. Watches v u (Err error)) (sym (unchanged a refl refl)) (record { config = config; watcher = tt; others = tt })
 
   -- ---- `try_broadcast`
-  -- of the kept messages the last alone is left
+  -- only the last of the kept messages is left
   pub latest : {is_clone : S → S → Type 0} {v w : View S} {msg : S} {back : Option S} → Answers is_clone v (call.TryBroadcast msg) (reply.TryBroadcast (Ok back)) w → IsConfig v → (w.queue ≡ msg ∷ []) × (w.end ≡ v.end + 1)
   latest {v = v} {msg = msg} a config =
       let low : ℕ = least (v.end + 1) (values (accepting v.control v.end).cursors) in

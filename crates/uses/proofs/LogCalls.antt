@@ -1,4 +1,4 @@
--- A read of a log, and a reader more.
+-- A read of a log, and one more reader.
 use Rattle.std.proofs.Common.{◌≡◌, inl, inr, ℕ, ◌+◌, ◌-◌, ◌<◌, ◌≤◌, Bool, true, false, cond, [], ◌∷◌, drop, length, Option, Some, None, Result, Ok, Err, IfOk, nat_lt, refl, sym, ap, ◌∙◌, subst, arith}
 use Rattle.std.proofs.lemmas.Grind.{common_steps}
 use Rattle.std.proofs.lemmas.List.{drop_more, drop_all}
@@ -99,7 +99,7 @@ module _ {T : Type 0} where
   read_answers equal (Err error) sure a = absurd (let e : false ≡ true = sure in cc)
 
   -- ---- `clone`
-  -- what a reader more, or its refusal, leaves
+  -- what holds after it, whether a reader was added or not
   pub record Adds (v w : View T) (key : ℕ) (result : Result ℕ HandleError) : Type 0 where
     pub log : IsLog w
     pub added : IfOk result (λ made. unread w made ≡ unread v key)

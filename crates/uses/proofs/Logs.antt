@@ -46,7 +46,7 @@ module _ {T : Type 0} where
         ∙ drop-append-le (at.0 - v.front) v.queue (msg ∷ []) (omega (arith, end, reach)) ∙ sym (ap (λ o. kept_from v o ++ msg ∷ []) at.1),
   )
 
-  -- ---- a reader reads on from this number
+  -- ---- a reader that reads next the message of this number
   pub record ReadsFrom (v u : View T) (key number : ℕ) : Type 0 where
     pub log : IsLog u
     pub reader : IsReader u key

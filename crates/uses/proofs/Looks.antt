@@ -27,7 +27,7 @@ module _ {S : Type 0} where
   none_kept : (items : List S) (index : ℕ) → slice_get items index ≡ None → length items ≤ index
   none_kept items index none = elim (slice_get_cases items index).1 [ inl some ↦ absurd (none-some some.0 (sym none ∙ some.2)) | inr past ↦ past.0 ]
 
-  -- ---- a receive by `poll_next` that found memory: the exact reply, or a clone in its place
+  -- ---- a receive by `poll_next`, if there is memory: the exact reply, or a clone in its place
   abbrev IsAnswer : (S → S → Type 0) → Result S TryRecvError → Result S TryRecvError → Type 0
   IsAnswer is_clone exact answer = (answer ≡ exact) ⊎ ((msg : S) × (given : S) × (exact ≡ Ok msg) × is_clone msg given × (answer ≡ Ok given))
 

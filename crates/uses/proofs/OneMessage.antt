@@ -1,4 +1,4 @@
--- A channel that keeps one message alone, whatever it keeps.
+-- A channel all of whose messages are this one.
 use Rattle.std.proofs.Common.{◌≡◌, ℕ, ◌-◌, [], Option, Some, None, Ok, Result, slice_get, refl, sym, ◌∙◌, subst}
 use Rattle.std.proofs.lemmas.List.Elements.{All-nil, All-push, All-append, All-drop}
 use Rattle.std.proofs.lemmas.Option.{slice_get_within, get_or_from_slice_get}

@@ -13,11 +13,11 @@ use Rattle.bcast_core.proofs.Offers.{offer_accepted}
 use Rattle.uses.proofs.Called.{told, valid, after, unchanged}
 
 module _ {T : Type 0} where
-  -- an acceptance hands back what there is to hand back
+  -- if a message is accepted, what is handed back is `handed_back`
   kept_is : (v : View T) (msg : T) (kept : Option T) → Ok kept ≡ try_broadcast_reply v msg → kept ≡ handed_back v
   kept_is v msg kept e = try_is (λ answer. Ok kept ≡ answer → kept ≡ handed_back v) v msg (λ error _ e. cc) (λ _ e. cc) e
 
-  -- if a message is accepted without overflow, somebody receives and there is room
+  -- if a message is accepted without overflow, there is a receiver and there is room
   room_of : (closed none full over : Bool) (x y z : TrySendError T) (back : Option T) → over ≡ false → is_ok (cond closed (Err x) (cond none (Err y) (cond (full && not over) (Err z) (Ok back)))) ≡ true → (none ≡ false) × (full ≡ false)
   room_of true none full over x y z back plain e = absurd (true≢false (sym e))
   room_of false true full over x y z back plain e = absurd (true≢false (sym e))
@@ -35,7 +35,7 @@ module _ {T : Type 0} where
     none_refused : {back : Option T} → Answers is_clone v (call.TryBroadcast msg) (reply.TryBroadcast (Ok back)) w → is_ok (try_broadcast_reply v msg) ≡ true
     none_refused a = ap is_ok (sym (replied a))
 
-    -- what holds after an acceptance
+    -- what holds after a message is accepted
     pub accepted : {back : Option T} → Answers is_clone v (call.TryBroadcast msg) (reply.TryBroadcast (Ok back)) w → (P : View T → Type 0) → ((u : View T) → P u → P (told u)) → P (settle v (accept v msg)) → P w
     accepted a P keeps here = after a P keeps (subst (λ b. P (settle v (cond b (accept v msg) (sets v.control)))) (sym (none_refused a)) here)
 

@@ -1,4 +1,4 @@
--- A channel that nothing was sent on.
+-- A channel on which nothing was sent.
 use Rattle.std.proofs.Common.{◌≡◌, inl, inr, ℕ, ◌-◌, Bool, true, false, Some, None, Result, Ok, Err, nat_lt, refl, sym, ap, ◌∙◌, subst, arith}
 use Rattle.std.proofs.lemmas.Grind.{common_steps}
 use Rattle.std.proofs.lemmas.Option.{slice_get_past}
@@ -59,7 +59,7 @@ module _ {is_clone : Nothing → Nothing → Type 0} {v w : View Nothing} {key :
       ] in
       ap is_closed_reply (exactly ∙ ap (λ o. Ok (try_recv_reply v o)) at.1) ∙ none_found v (valid a) signal.unused at.0
 
--- a worker more
+-- one more worker
 pub added : {is_clone : Nothing → Nothing → Type 0} {v w : View Nothing} (result : Result ℕ HandleError) → Answers is_clone v call.NewReceiver (reply.NewReceiver result) w → IfOk result (AddsWorker (signal_of v) (signal_of w))
 added {v = v} (Ok key) a = after a (λ u. AddsWorker (signal_of v) (signal_of u) key) (λ u s. record { holders = s.holders; worker = s.worker; others = s.others; only = s.only }) (record {
   holders = refl;

@@ -1,4 +1,4 @@
--- Settings that watchers follow: what one finds that looks late.
+-- Settings that watchers follow: what a watcher finds that looks late.
 use Rattle.std.specs.Prelude.{◌≡◌, ◌≢◌, ℕ, ◌+◌, ◌≤◌, true, [], ◌∷◌, Option, Some, None, Result, Ok, Err}
 use Rattle.std.specs.FinMap.{get, len}
 use Rattle.futures.specs.declared.task.Poll.{Poll}
@@ -11,13 +11,13 @@ use Rattle.bcast_model.specs.declared.run.Reply.TheVariants as reply
 use Rattle.uses.specs.declared.config_watcher.Change.{Change}
 
 module _ {S : Type 0} where
-  -- one place, which new settings take over; and somebody watches
+  -- capacity 1, and new settings replace the old ones; there is at least one watcher
   pub record IsConfig (v : View S) : Type 0 where
     pub capacity : v.control.capacity ≡ 1
     pub overflow : v.control.overflow ≡ true
     pub watchers : 1 ≤ len v.control.cursors
 
-  -- a channel as `broadcast` makes it, and `set_overflow`: nothing is set, and one watches
+  -- `broadcast`, then `set_overflow`: nothing is set, and there is one watcher
   pub record IsUnset (v : View S) (watcher : ℕ) : Type 0 where
     pub made : View S
     pub opened : Represents made (opening 1 0 watcher)
@@ -35,8 +35,8 @@ module _ {S : Type 0} where
     pub read : result ≡ set_answer sent
     pub answers : Answers NoClone old (call.TryBroadcast settings) (reply.TryBroadcast sent) new
 
-  -- `poll_next`: the latest settings or a clone of them, and the count of those set between the
-  -- watcher's last look and them
+  -- `poll_next`: the latest settings or a clone of them, and how many were set after the watcher's
+  -- last look and before these
   pub record IsLatest
       (is_clone : S → S → Type 0) (v : View S) (watcher : ℕ) (change : Change S) : Type 0 where
     pub seen : ℕ
@@ -50,7 +50,7 @@ module _ {S : Type 0} where
   abbrev pub IsUpToDate : View S → ℕ → Type 0
   IsUpToDate v watcher = (seen : ℕ) → get v.control.cursors watcher ≡ Some seen → seen ≡ v.end
 
-  -- nothing is set, what the other watchers have seen stays, and the channel is open if it was
+  -- nothing is set, the other watchers' cursors stay, and the channel is open if it was
   pub record KeepsOthers (old new : View S) (watcher : ℕ) : Type 0 where
     pub end : new.end ≡ old.end
     pub closed : new.control.closed ≡ old.control.closed

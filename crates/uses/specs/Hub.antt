@@ -7,8 +7,8 @@ use Rattle.bcast_model.specs.declared.run.Reply.TheVariants as reply
 use Rattle.bcast_model.specs.Words.{View, opening, NoClone, Answers, Represents}
 
 module _ {E : Type 0} where
-  -- a full hub refuses, and the hub itself keeps the channel open by a sender and an inactive
-  -- receiver
+  -- a full hub refuses, and the hub itself has a sender and an inactive receiver, which keep the
+  -- channel open
   pub record IsHub (v : View E) : Type 0 where
     pub overflow : v.control.overflow ≡ false
     pub sender : 1 ≤ v.control.senders

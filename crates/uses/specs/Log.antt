@@ -26,16 +26,16 @@ module _ {T : Type 0} where
     pub reach : (reader cursor : ℕ) → get v.control.cursors reader ≡ Some cursor
         → v.front ≤ cursor
 
-  -- who reads goes on reading
+  -- each reader is still a reader
   abbrev pub KeepsReaders : View T → View T → Type 0
   KeepsReaders old new = (reader : ℕ) → IsReader old reader → IsReader new reader
 
-  -- `try_broadcast`: one record more, the last for every reader
+  -- `try_broadcast`: one more record, the last for every reader
   abbrev pub AddsUnread : View T → View T → T → Type 0
   AddsUnread old new added =
       (reader : ℕ) → IsReader old reader → unread new reader ≡ unread old reader ++ added ∷ []
 
-  -- what the other readers are still to read stays
+  -- what the other readers are still to read is unchanged
   abbrev pub KeepsUnread : View T → View T → ℕ → Type 0
   KeepsUnread old new reader =
       (other : ℕ) → other ≢ reader → unread new other ≡ unread old other

@@ -9,8 +9,8 @@ use Rattle.bcast_model.specs.Words.{Answers, Represents}
 use Rattle.uses.specs.Log.{unread, record_of, IsReader, IsLog, KeepsReaders, AddsUnread, KeepsUnread}
 
 module _ {T : Type 0} where
-  -- an open channel in which nothing overflows, with a receiver, and with room and numbers for so
-  -- many messages more
+  -- an open channel in which nothing overflows, with a receiver, and with room and numbers for this
+  -- many more messages
   pub record HasRoom (v : View T) (count : ℕ) : Type 0 where
     pub log : IsLog v
     pub is_open : v.control.closed ≡ false
@@ -18,8 +18,8 @@ module _ {T : Type 0} where
     pub room : length v.queue + count ≤ v.control.capacity
     pub numbers : v.end + count + 1 < 2 ^ 64
 
-  -- `try_broadcast`: the message is accepted, as the last for every reader, and room for so many
-  -- more is left
+  -- `try_broadcast`: the message is accepted, as the last for every reader, and there is room for
+  -- this many more
   pub record IsSent
       (v w : View T) (msg : T) (count : ℕ) (r : Result (Option T) (TrySendError T)) : Type 0 where
     pub ok : IsOk r
@@ -28,7 +28,7 @@ module _ {T : Type 0} where
     pub readers : KeepsReaders v w
 
   -- `try_recv`: the first of what the reader was still to read, or none if there was none; nothing
-  -- changes for the others
+  -- changes for the other readers
   pub record IsTaken (v w : View T) (reader : ℕ) (found : Option T) : Type 0 where
     pub log : IsLog w
     pub first : IfSome found (λ item. unread v reader ≡ item ∷ unread w reader)
@@ -50,7 +50,7 @@ SendsWithRoom T =
     → Answers NoClone v (call.TryBroadcast msg) (reply.TryBroadcast r) w → HasRoom v (count + 1)
     → IsSent v w msg count r
 
--- where a clone equals its original, messages are read in the order of sending
+-- if a clone equals its original, messages are read in the order of sending
 abbrev pub ReadsInOrder : {T : Type 0} → (T → T → Type 0) → Type 0
 ReadsInOrder {T} is_clone =
     ClonesEqual is_clone → (v w : View T) (reader : ℕ) (r : Result T TryRecvError)

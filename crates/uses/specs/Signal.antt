@@ -1,4 +1,4 @@
--- What callers see of a signal to stop: how many hold it, and who waits for it.
+-- What callers see of a signal to stop: how many hold it, and its workers.
 use Rattle.std.specs.Prelude.{◌≡◌, ◌≢◌, ℕ, ◌==◌, Bool, true, false, IsSome, Result, Ok, Err, refl}
 use Rattle.std.specs.declared.alloc.AllocError.{AllocError}
 use Rattle.std.specs.Coded.{Coded, code_by, coded×, coded_ℕ}
@@ -30,7 +30,7 @@ pub record IsSignal (v : View (Unit {0})) : Type 0 where
 abbrev pub IsWorker : Signal → ℕ → Type 0
 IsWorker s key = IsSome (get s.workers key)
 
--- `new_receiver`: one worker more, and no other comes or goes
+-- `new_receiver`: one more worker, and the others are the same
 pub record AddsWorker (old new : Signal) (added : ℕ) : Type 0 where
   pub holders : new.holders ≡ old.holders
   pub worker : IsWorker new added

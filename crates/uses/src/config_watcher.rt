@@ -12,11 +12,11 @@ use std::alloc::{AllocError, Global};
 use std::marker::{Brand, Model};
 use std::sync::ledger::{Blank, Ledger};
 
-/// The latest settings, as a channel of capacity 1 in overflow mode: new settings take the place of
-/// those that nobody has looked at yet.
+/// The latest settings, as a channel of capacity 1 in overflow mode: new settings replace those
+/// that some watcher hasn't looked at yet.
 ///
-/// Contracts see the channel's view: `end` counts all settings so far, and a watcher's cursor those
-/// that were set before it looked last.
+/// Contracts see the channel's view: `end` counts all settings so far, and a watcher's cursor
+/// counts those that were set before its last look.
 #[derive(Drop)]
 pub struct Config<S> {
     inner: Inner<S, Silent>,
@@ -35,7 +35,7 @@ impl<S> Model for Config<S> {
     ghost invariant = { λ c. IsConfig c.inner };
 }
 
-/// What a watcher finds that has not seen the latest settings.
+/// What a watcher finds if it hasn't seen the latest settings.
 #[derive(Drop)]
 pub struct Change<S> {
     /// The latest settings.
@@ -65,8 +65,8 @@ impl<S: Clone> Config<S> {
     ///
     /// # Errors
     ///
-    /// The settings come back and nothing changes: the channel is closed, since it has numbered as
-    /// many settings as it can.
+    /// The settings are returned and nothing changes: the channel is closed, since it has numbered
+    /// as many settings as it can.
     pub fn set(&mut self, settings: S) -> Result<(), S>
         ensures latest { OnOk result (self.new.queue ≡ settings ∷ []) }
         ensures counted { OnOk result (self.new.end ≡ self.old.end + 1) }
@@ -104,7 +104,7 @@ impl<S: Clone> Config<S> {
     /// # Errors
     ///
     /// `AllocError`: another watcher has still to look, and there is no memory for a clone of the
-    /// settings. Nothing changed, so nothing that was missed goes uncounted.
+    /// settings. Nothing changed, so those that this watcher missed are still counted.
     pub fn look(&mut self, watcher: usize) -> Result<Option<Change<S>>, AllocError>
         ensures change { IfOk result (λ found. IfSome found (λ change.
             IsLatest S.is_clone self.old watcher change)) }
@@ -113,7 +113,7 @@ impl<S: Clone> Config<S> {
         ensures others { KeepsOthers self.old self.new watcher }
         ensures answers { IfOk result (λ found. IsLook S.is_clone self.old watcher found self.new) }
         ensures err { OnErr result (self.new ≡ self.old) }
-        // If no clone fails, there is an answer.
+        // If no clone fails, it succeeds.
         ensures sure { ((settings : S) → S.is_infallible settings) → IsOk result }
     {
         let inner = &mut self.inner;
@@ -121,7 +121,7 @@ impl<S: Clone> Config<S> {
     }
 }
 
-// The same poll, with steps that nobody counts.
+// The same poll, whose steps are not counted.
 fn poll_next<S: Clone, L: Ledger>(
     inner: &mut Inner<S, Silent>,
     watcher: usize,

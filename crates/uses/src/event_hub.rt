@@ -12,9 +12,9 @@ use bcast_laws::states::received_is_given;
 use std::alloc::{AllocError, Global};
 use std::marker::Model;
 
-/// A channel whose subscribers come and go: it stays open while none is there.
+/// A channel whose subscribers come and go: it stays open while there is none.
 ///
-/// Contracts see the channel's view: its `queue` is the events that a subscriber is still to get.
+/// Contracts see the channel's view: its `queue` has the events that a subscriber is still to get.
 #[derive(Drop)]
 pub struct EventHub<E> {
     inner: Inner<E, Silent>,
@@ -62,7 +62,7 @@ impl<E: Clone> EventHub<E> {
     ///
     /// # Errors
     ///
-    /// The event comes back and nothing changes, for the first reason that fits.
+    /// The event is returned and nothing changes, for the first of these reasons that holds.
     /// - `Closed`: the hub has numbered as many events as it can.
     /// - `Inactive`: there is no subscriber.
     /// - `Full`: some subscriber is still to get the oldest of `capacity` events.
@@ -90,7 +90,7 @@ impl<E: Clone> EventHub<E> {
         self.inner.new_receiver()
     }
 
-    /// Adds a subscriber that gets what this one is still to get, and returns its key.
+    /// Adds a subscriber that gets what this one is still to get, and returns the new one's key.
     ///
     /// # Errors
     ///
@@ -113,19 +113,19 @@ impl<E: Clone> EventHub<E> {
         self.inner.drop_receiver(subscriber);
     }
 
-    /// Gives a subscriber its next event. None: it has got all of them, or there is no such one.
+    /// Gives a subscriber its next event. None: it has got all, or there is no such subscriber.
     ///
     /// # Errors
     ///
-    /// `AllocError`: the event is also for another subscriber, and its clone found no memory.
-    /// Nothing changed.
+    /// `AllocError`: another subscriber is to get the event too, and there is no memory for a clone
+    /// of it. Nothing changed.
     pub fn next_event(&mut self, subscriber: usize) -> Result<Option<E>, AllocError>
         ensures given { IfOk result (λ found.
             IfSome found (IsGivenFrom E.is_clone self.old.queue)) }
         ensures answers { IfOk result (λ found.
             IsNextEvent E.is_clone self.old subscriber found self.new) }
         ensures err { OnErr result (self.new ≡ self.old) }
-        // If no clone fails, there is an answer.
+        // If no clone fails, it succeeds.
         ensures sure { ((event : E) → E.is_infallible event) → IsOk result }
     {
         received_is_given::<E>();
@@ -133,7 +133,7 @@ impl<E: Clone> EventHub<E> {
     }
 }
 
-// What a receive gave, if it gave something.
+// The event that a receive gave, if it gave one.
 fn into_event<E: Drop>(received: Result<E, TryRecvError>) -> Option<E>
     ensures { result ≡ event_of received }
 {

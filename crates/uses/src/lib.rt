@@ -1,4 +1,4 @@
-//! Callers of a broadcast channel, each as a program writes it: a text for two receivers, events,
+//! Callers of a broadcast channel, as programs write them: a text for two receivers, events,
 //! settings, a log and a signal to stop.
 #![tactic(auto)]
 
@@ -17,8 +17,8 @@ pub mod shutdown;
 
 /// Sends a text over a new channel of capacity 1 to two receivers, and returns what each got.
 ///
-/// Each text that comes back has the bytes of `text`. `None` says that there was no memory for the
-/// second receiver, or that the channel refused the text or gave none.
+/// Each returned text has the bytes of `text`. `None` says that there was no memory for the second
+/// receiver, or that the channel refused the text or gave none.
 ///
 /// # Errors
 ///

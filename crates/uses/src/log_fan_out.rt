@@ -10,10 +10,10 @@ use bcast_core::{HandleError, Inner, Silent, TryRecvError, TrySendError};
 use std::alloc::{AllocError, Global};
 use std::marker::Model;
 
-/// A log of numbers, which every reader reads from its start on, in the order of writing.
+/// A log of numbers. Each reader reads them in the order of writing, from where it starts.
 ///
-/// Contracts see the channel's view, and of it the `unread` records of each reader: a write puts
-/// one record last for all of them, and a read takes one reader's first.
+/// Contracts see the channel's view, and in it the `unread` records of each reader: a write puts
+/// one record last for all of them, and a read takes the first of one reader.
 #[derive(Drop)]
 pub struct Log {
     inner: Inner<u64, Silent>,
@@ -35,8 +35,8 @@ impl Model for Log {
 }
 
 impl Log {
-    /// A log that holds back at most `capacity` records for its slowest reader, and the key of its
-    /// first reader.
+    /// A log that keeps at most `capacity` records for its slowest reader, and the key of its first
+    /// reader.
     ///
     /// # Errors
     ///
@@ -57,9 +57,9 @@ impl Log {
     ///
     /// # Errors
     ///
-    /// The record comes back and nothing changes, for the first reason that fits.
+    /// The record is returned and nothing changes, for the first of these reasons that holds.
     /// - `Closed`: the log has numbered as many records as it can.
-    /// - `Inactive`: there is no reader, which no call here brings about.
+    /// - `Inactive`: there is no reader. No call here takes a reader out.
     /// - `Full`: some reader has `capacity` records still to read.
     pub fn write(&mut self, entry: u64) -> Result<(), TrySendError<u64>>
         ensures written { OnOk result (AddsUnread self.old self.new entry) }
@@ -74,7 +74,7 @@ impl Log {
         Ok(())
     }
 
-    /// Adds a reader that reads what this one is still to read, and returns its key.
+    /// Adds a reader that reads what this one is still to read, and returns the new one's key.
     ///
     /// # Errors
     ///
@@ -109,7 +109,7 @@ impl Log {
     }
 }
 
-// What a receive gave, if it gave something.
+// The record that a receive gave, if it gave one.
 fn into_record(received: Result<Result<u64, TryRecvError>, AllocError>) -> Option<u64>
     ensures { result ≡ record_of received }
 {

@@ -7,10 +7,10 @@ use bcast_core::{HandleError, Inner, Silent, TryRecvError};
 use std::alloc::{AllocError, Global};
 use std::marker::Model;
 
-/// A channel on which nothing is ever sent: its workers go on while somebody holds a sender.
+/// A channel on which nothing is ever sent: its workers run until nobody holds a sender.
 ///
-/// Contracts see the count of holders, and the workers' keys. The signal is given once the last
-/// holder has let go, and is never taken back.
+/// Contracts see the count of holders, and the workers' keys. The signal is given once there is no
+/// holder left, and is never taken back.
 #[derive(Drop)]
 pub struct Shutdown {
     inner: Inner<(), Silent>,
@@ -43,7 +43,7 @@ impl Shutdown {
         Ok((Shutdown { inner }, worker))
     }
 
-    /// Counts one holder more.
+    /// Adds one to the count of holders.
     ///
     /// # Errors
     ///
@@ -63,7 +63,7 @@ impl Shutdown {
         self.inner.new_sender()
     }
 
-    /// Counts one holder less. With none left it changes nothing.
+    /// Takes one from the count of holders. If there is none left it changes nothing.
     pub fn release(&mut self)
         ensures { self.new ≡ record self.old { holders = self.old.holders - 1 } }
     {
@@ -82,7 +82,7 @@ impl Shutdown {
         self.inner.new_receiver()
     }
 
-    /// Whether a worker finds that the signal is given: nobody holds it any more. Changes nothing.
+    /// Whether a worker finds that the signal is given: there is no holder left. Changes nothing.
     pub fn is_given(&mut self, worker: usize) -> bool
         requires { IsWorker self.old worker }
         ensures given { result ≡ (self.old.holders == 0) }
@@ -93,7 +93,7 @@ impl Shutdown {
     }
 }
 
-// Whether a receive found the channel closed, and everything read.
+// Whether a receive found that the channel is closed and everything was read.
 fn says_closed(answer: &Result<Result<(), TryRecvError>, AllocError>) -> bool
     ensures { result ≡ is_closed_reply answer.now }
 {

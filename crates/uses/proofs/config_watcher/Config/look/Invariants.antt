@@ -1,4 +1,4 @@
--- The blank names the ledger.
+-- The ledger that is named is that of the blank.
 use Rattle.uses.proofs.config_watcher.Config.look.Given as goal
 
 abbrev pub ghosts-poll_next : goal.ghosts-poll_next
