@@ -19,14 +19,14 @@ same_front (a ∷ r) (b ∷ t) s u none short same starts =
     let rest = same_front r t s u (λ i below. none (suc i) (omega (arith, below))) (omega (arith, short)) (ap (drop 1) same) starts in
     ap (λ l. a ∷ l) rest ∙ ap (λ x. x ∷ t) (ap (λ l. get_or l 0 0) same)
 
--- a text without a hyphen that stands before an arrow is the one before the first arrow
+-- a text without a hyphen that is before an arrow is the text before the first arrow
 pub before_first : (r t line : List ℕ) → Lacks 45 t → IsBeforeArrow r line → IsBeforeArrow t line → length r ≤ length t → r ≡ t
 before_first r t line none (inl p) (inl q) short = sym p ∙ q
 before_first r t line none (inl p) (inr (rest, q)) short = absurd (omega (arith, ap length (sym p ∙ q), length-append t (codes " -> " ++ rest), short))
 before_first r t line none (inr (rest, p)) (inl q) short = same_front r t (62 ∷ 32 ∷ rest) [] none short (sym p ∙ q ∙ sym (append-nil t)) refl
 before_first r t line none (inr (rest, p)) (inr (more, q)) short = same_front r t (62 ∷ 32 ∷ rest) (codes " -> " ++ more) none short (sym p ∙ q) refl
 
--- where no arrow stands before a place of the line, no text before an arrow is shorter
+-- if no arrow is before a place of the line, each text before an arrow reaches to that place
 pub not_before : (text line : List ℕ) (i : ℕ) → IsBeforeArrow text line → i ≤ length line
     → ((k : ℕ) → k < i → (rest : List ℕ) → drop k line ≢ codes " -> " ++ rest) → i ≤ length text
 not_before text line i (inl is) within none = omega (arith, ap length is, within)

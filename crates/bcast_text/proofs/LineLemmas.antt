@@ -42,7 +42,7 @@ last_line (Some x) (Some y) text some not stops p (inr end) = (
   refl,
 )
 
--- where nothing was consumed, and the end is reached, nothing was left
+-- if nothing was consumed and the end is reached, nothing was left
 pub none_left : (a b : Option (List ℕ)) (text : List ℕ) → length text ≡ 0 → Consumes a b text → EndsOrIsLast text a b → IsAtEnd a
 none_left None b text none p last = tt
 none_left (Some x) None text none p last = absurd p
@@ -50,7 +50,7 @@ none_left (Some x) (Some y) text none p (inl (some, ends)) = absurd (omega (arit
 none_left (Some x) (Some y) [] none p (inr end) = p ∙ end
 none_left (Some x) (Some y) (z ∷ zs) none p (inr end) = absurd (omega (arith, none))
 
--- bytes that were consumed, more than there may be, without an LF
+-- bytes that were consumed without an LF, and are more than a line may have
 pub long_line : (a b : Option (List ℕ)) (text : List ℕ) (longest : ℕ) → longest < length text → get_or text (length text - 1) 0 ≢ 10
     → StopsAt text 10 → Consumes a b text → BeginsTooLong longest a
 long_line None b text longest long not stops p = tt

@@ -51,7 +51,7 @@ pub marked_whole : (list : List ℕ) (marks now : List Bool) (i : ℕ) → lengt
     → (n : ℕ) → n < length marks → IsMarked now n ↔ (IsMarked marks n ⊎ Contains list n)
 marked_whole list marks now i past is n within = rw (is, take_all i list past) (marked list marks n within)
 
--- where all are marked after the list, each number was marked before or stands in the list
+-- if all are marked after the list, each number was marked before or is in the list
 pub every : (list : List ℕ) (before now : List Bool) (all : Bool) → length now ≡ length before
     → ((n : ℕ) → n < length before → IsMarked now n ↔ (IsMarked before n ⊎ Contains list n))
     → (IsTrue all ↔ All (λ is_held. is_held ≡ true) now)
@@ -61,7 +61,7 @@ every list before now all long marks tells = (
   λ each. tells.1 (All-from_get_or (λ is_held. is_held ≡ true) now false (λ n within. (marks n (rw (← long) within)).1 (each n (rw (← long) within)))),
 )
 
--- a list of count numbers in which each number below count stands
+-- a list of `count` numbers that has each number below `count`
 pub each_once : (list : List ℕ) (count : ℕ) (all : Bool) → length list ≡ count
     → (IsTrue all ↔ ((n : ℕ) → n < length (replicate count false) → IsMarked (replicate count false) n ⊎ Contains list n))
     → IsTrue all ↔ HoldsEachOnce list count
@@ -78,7 +78,7 @@ each_once list count all long tells = (λ each. (long, to each), λ holds. tells
     to each n below = only n below (tells.0 each n (rw room below))
 
 module _ {V : Type 0} (items : V → List ℕ) (first : List ℕ) (others : List V) (count : ℕ) where
-  -- where all lists are the first one, that one decides
+  -- if all lists are the first one, the result depends on the first one alone
   pub one_order : {E : Type 0} → All (λ v. items v ≡ first) others → (r : Result Bool E)
       → IfOk r (λ answer. IsTrue answer ↔ HoldsEachOnce first count)
       → IfOk r (λ answer. IsTrue answer ↔ IsOneOrder (first ∷ map items others) count)
@@ -90,7 +90,7 @@ module _ {V : Type 0} (items : V → List ℕ) (first : List ℕ) (others : List
   of_map (v ∷ vs) same zero d below = same zero first (omega arith)
   of_map (v ∷ vs) same (suc k) d below = of_map vs (λ i e within. same (suc i) e (omega (arith, within))) k d (omega (arith, below))
 
-  -- where one is another list, there is no one order
+  -- if one is another list, there is no one order
   pub no_order : (equal : Bool) → (IsTrue equal ↔ All (λ v. items v ≡ first) others) → equal ≡ false
       → IsTrue false ↔ IsOneOrder (first ∷ map items others) count
   no_order equal tells not =

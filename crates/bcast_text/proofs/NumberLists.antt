@@ -12,12 +12,12 @@ use Rattle.bcast_text.proofs.Spaced.{at_none, at_some, Lacks-decimal}
 -- the numbers that were read of a text, and what is left of it
 pub record AreRead (text : List ℕ) (msgs : List ℕ) (rest : List ℕ) : Type 0 where
   pub small : AllByRecursion IsU64 msgs
-  -- whatever spells the rest completes them
+  -- numbers that spell the rest, put after those that were read, spell the text
   pub whole : (more : List ℕ) → numbers_text more ≡ Some rest → numbers_text (msgs ++ more) ≡ Some text
-  -- and nothing else spells the text
+  -- and no other numbers spell the text
   pub only : (all : List ℕ) → AllByRecursion IsU64 all → numbers_text all ≡ Some text → (more : List ℕ) × (all ≡ msgs ++ more) × AllByRecursion IsU64 more × (numbers_text more ≡ Some rest)
 
--- one number more, up to a space
+-- one more number, up to a space
 pub one_read : (text msgs rest : List ℕ) (x : Bor (List ℕ) × Bor (List ℕ)) (n : ℕ) → n < 2 ^ 64 → IsSplitOnceResult 32 rest (Some x) → x.0.now ≡ decimal n
     → AreRead text msgs rest → AreRead text (msgs ++ n ∷ []) x.1.now
 one_read text msgs rest x n small split is read =
@@ -38,7 +38,7 @@ one_read text msgs rest x n small split is read =
         let number : m ≡ n = decimal_injective m n fits.0 small (sym at.0 ∙ is) in
         (more, same ∙ ap (λ k. msgs ++ k ∷ more) number ∙ sym (append_assoc msgs (n ∷ []) more), fits.1, at.1)
 
--- a word that is no number
+-- a word that is not a number
 pub none_before : (text msgs rest : List ℕ) (x : Bor (List ℕ) × Bor (List ℕ)) → IsSplitOnceResult 32 rest (Some x) → ((n : ℕ) → n < 2 ^ 64 → x.0.now ≢ decimal n)
     → AreRead text msgs rest → (all : List ℕ) → AllByRecursion IsU64 all → numbers_text all ≢ Some text
 none_before text msgs rest x split refused read all fits spelt = stop (read.only all fits spelt)
@@ -47,7 +47,7 @@ none_before text msgs rest x split refused read all fits spelt = stop (read.only
     stop ([], same, fits, spelt) = absurd (none-some rest spelt)
     stop (m ∷ more, same, fits, spelt) = refused m fits.0 (at_some rest x split (decimal m) (numbers_text more) (Lacks-decimal 32 m (omega arith) fits.0) (sym (same_Some _ _ spelt))).0
 
--- a last word that is no number
+-- a last word that is not a number
 pub none_last : (text msgs rest : List ℕ) → IsSplitOnceResult 32 rest None → ((n : ℕ) → n < 2 ^ 64 → rest ≢ decimal n)
     → AreRead text msgs rest → (all : List ℕ) → AllByRecursion IsU64 all → numbers_text all ≢ Some text
 none_last text msgs rest split refused read all fits spelt = stop (read.only all fits spelt)

@@ -1,4 +1,4 @@
--- What `parse` reads, against what `decimal` spells.
+-- What `parse` reads, compared with what `decimal` spells.
 use Rattle.std.proofs.Common.{rules, arith, refl, IfSome, ◌≡◌, ◌≢◌, ◌<◌, ◌^◌, ℕ, length, List, get_or, suc, zero}
 use Rattle.std.specs.Prelude.{Result, Ok, Err}
 use Rattle.std.specs.Result.{result_ok}
@@ -11,7 +11,7 @@ use Rattle.std.proofs.lemmas.Str.Parse.{IsNumeralModel, numerals_by_value, parse
 pub digits : IsNumeralModel (AllDigits 10) (digits_value 10)
 digits = numerals_by_value (AllDigits 10) tells_digits
 
--- a text without a sign or a leading zero, which `parse` reads as n, is what is written of n
+-- a text without a sign or leading zeros, which `parse` reads as n, is what `decimal` spells for n
 pub parsed_is_spelt : {E : Type 0} (bs : List ℕ) (r : Result ℕ E) → ParsesUnsigned 64 10 bs r → get_or bs 0 0 ≢ 43 → (get_or bs 0 0 ≡ 48 → length bs ≡ 1) → (n : ℕ) → r ≡ Ok n → bs ≡ decimal n
 parsed_is_spelt {E} bs (Ok m) h plain lone n e =
     let read = parse_plain digits {E = E} 64 bs (Ok m) h plain in

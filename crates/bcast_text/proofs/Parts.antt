@@ -28,7 +28,7 @@ ends_both old part some ends _ =
     get_or-append_right old part (length (old ++ part) - 1) 0 (omega (arith, length-append old part))
     ∙ ap (λ n. get_or part n 0) (omega (arith, length-append old part)) ∙ ends some
 
--- a part that is the last, or ends with an LF, makes the text so
+-- if a part is the last or ends with an LF, so does the text with it
 pub whole_both : (old new : List ℕ) → StartsWith new old → (a b c : Option (List ℕ)) → Consumes a b old
     → IsEmptyOrEndsWith (drop (length old) new) 10
     → (length (drop (length old) new) ≡ 0 → OnSome b (IsAtEnd c)) → EndsOrIsLast new a c

@@ -63,7 +63,7 @@ module _ {S : Type 0} (answers : S → List ℕ → List ℕ → S → Type 0) w
     written = kept_before x y z answer same wrote;
   }
 
-  -- one line more
+  -- one more line
   pub one_more : {a b c x y z : Option (List ℕ)} {s t u : S} {n : ℕ} → Answered answers a b x y s t n → Answered answers b c y z t u 1
       → (more : ℕ) → more ≡ n + 1 → Answered answers a c x z s u more
   one_more {a} {b} {c} {x} {y} {z} {s} {t} {u} before one more is = record {
@@ -87,7 +87,7 @@ module _ {S : Type 0} (answers : S → List ℕ → List ℕ → S → Type 0) w
   }
 
 module _ {S : Type 0} {refuses : S → List ℕ → Type 0} {may_be_empty : Bool} {longest : ℕ} (answers : S → List ℕ → List ℕ → S → Type 0) where
-  -- no memory for a line
+  -- there is no memory for a line
   pub no_line : (input before : Option (List ℕ)) (s : S) → IsRun refuses may_be_empty longest answers input before before s s NoMemory
   no_line input before s = record {
     left = input;

@@ -11,7 +11,7 @@ use Rattle.bcast_text.specs.Name.{IsName, IsNameByte}
 use Rattle.bcast_text.specs.Words.{spaced}
 use Rattle.bcast_text.proofs.Numbers.{digits}
 
--- the byte c stands nowhere in these
+-- the byte c is not in these bytes
 abbrev pub Lacks : ℕ → List ℕ → Type 0
 Lacks c bytes = (i : ℕ) → i < length bytes → get_or bytes i 0 ≢ c
 
@@ -70,7 +70,7 @@ pub at_none : (bytes : List ℕ) → IsSplitOnceResult 32 bytes None → (word :
 at_none bytes split word None none same = (refl, same)
 at_none bytes split word (Some a) none same = absurd (split_after 32 bytes word a None split (omega arith) same none)
 
--- the first space of a text is that before the arguments
+-- the first space of a text is the one before the arguments
 pub at_some : (bytes : List ℕ) (x : Bor (List ℕ) × Bor (List ℕ)) → IsSplitOnceResult 32 bytes (Some x) → (word : List ℕ) (arguments : Option (List ℕ)) → Lacks 32 word
     → bytes ≡ spaced word arguments → (x.0.now ≡ word) × (arguments ≡ Some x.1.now)
 at_some bytes x split word None none same =

@@ -104,7 +104,7 @@ text_hyphen call range =
 value_of : {xs ys : List ℕ} → Some xs ≡ Some ys → ys ≡ xs
 value_of same = cc
 
--- a call with arguments, none of the five names, has one number
+-- a call with arguments, whose name is not one of these five, has one number
 pub has_number : (name arguments : List ℕ) → name ≢ codes "PollSend" → name ≢ codes "SetCapacity" → name ≢ codes "SetOverflow" → name ≢ codes "SetAwaitActive" → name ≢ codes "TryBroadcastAll"
     → (call : Call ℕ) → IsInRange call → name ≡ name_of call → arguments_of call ≡ Some arguments
     → (n : ℕ) × (n < 2 ^ 64) × (number_of call ≡ Some n) × (arguments ≡ decimal n)

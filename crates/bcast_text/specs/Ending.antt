@@ -16,7 +16,7 @@ status_of NoThread = 3
 status_of InputFailed = 4
 status_of OutputFailed = 4
 
--- the line on standard error, its LF aside; none where the output says it all
+-- the line on standard error, its LF aside; empty if the output is all that is printed
 abbrev pub text_of : Ending → List ℕ
 text_of Done = []
 text_of Differ = []

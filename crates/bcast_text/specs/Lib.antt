@@ -2,7 +2,7 @@
 pub mod Lines
 pub mod Run
 pub mod Ending
--- how the words of a line stand
+-- the words of a line
 pub mod Words
 -- scripts: arguments, lines and the names in them, what a line does to the channel, and its answer
 pub mod ScriptCommand

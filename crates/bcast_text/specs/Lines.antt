@@ -5,7 +5,7 @@ use Rattle.std.specs.Io.KnownBytes.{IsAtEnd}
 use Rattle.std.specs.Io.Buffered.{reader_remaining}
 use Rattle.bcast_text.specs.declared.lines.Lines.{Lines}
 
--- bytes whose first line this is: what stands before the first LF, or at the end without one
+-- bytes whose first line this is: those before the first LF, or all of them if there is no LF
 pub record IsNextLine (bytes line rest : List ℕ) : Type 0 where
   pub one : All (λ byte. byte ≢ 10) line
   pub split : (bytes ≡ line ++ 10 ∷ rest) ⊎ ((bytes ≡ line) × (0 < length line) × (rest ≡ []))
@@ -22,12 +22,12 @@ ReadsLines None lines left = ⊤
 ReadsLines (Some bytes) lines None = ⊥
 ReadsLines (Some bytes) lines (Some rest) = BeginsWith bytes lines rest
 
--- bytes whose last one is an LF, or after which there are none
+-- bytes that end with an LF, or after which there are none
 abbrev pub EndsOrIsLast : List ℕ → Option (List ℕ) → Option (List ℕ) → Type 0
 EndsOrIsLast bytes old new =
     ((0 < length bytes) × IsEmptyOrEndsWith bytes 10) ⊎ OnSome old (IsAtEnd new)
 
--- bytes with more than so many before their first LF
+-- bytes with more than this many before their first LF
 abbrev pub BeginsTooLong : ℕ → Option (List ℕ) → Type 0
 BeginsTooLong longest None = ⊤
 BeginsTooLong longest (Some bytes) =

@@ -1,8 +1,8 @@
--- What `bcast threads` looks for: the receivers' lists agree, and no message is lost or comes
+-- What `bcast threads` looks for: the receivers' lists agree, and no message is lost or received
 -- twice.
 use Rattle.std.specs.Prelude.{◌≡◌, ℕ, List, [], ◌∷◌, Bool, true, false, length, slice_index_or, ◌<◌, Contains, All}
 
--- as many numbers as there are below count, and each of those: so each of them stands once
+-- as many numbers as there are below `count`, and each of those: so each of them is there once
 abbrev pub HoldsEachOnce : List ℕ → ℕ → Type 0
 HoldsEachOnce list count = (length list ≡ count) × ((n : ℕ) → n < count → Contains list n)
 

@@ -21,7 +21,7 @@ printed_text Done receivers messages = outcome_text true receivers messages
 printed_text Differ receivers messages = outcome_text false receivers messages
 printed_text other receivers messages = []
 
--- no line is read, so no ending speaks of one
+-- no line is read, so no ending names one
 abbrev pub IsEnding : Ending → Type 0
 IsEnding Done = ⊤
 IsEnding Differ = ⊤

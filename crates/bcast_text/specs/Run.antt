@@ -7,14 +7,14 @@ use Rattle.bcast_text.specs.declared.ending.Ending.{Ending}
 use Rattle.bcast_text.specs.declared.ending.Ending.TheVariants.{Done, Differ, WrongArguments, NotACall, NoThread}
 
 module _ {S : Type 0} (answers : S → List ℕ → List ℕ → S → Type 0) where
-  -- from the state old on, the lines are answered in turn, and these texts together are the text
+  -- from the state `old` on, the lines are answered in turn, and the answers together are the text
   abbrev pub AreAnswered : S → List (List ℕ) → List ℕ → S → Type 0
   AreAnswered old [] text new = (text ≡ []) × (new ≡ old)
   AreAnswered old (line ∷ lines) text new =
       (next : S) × (answer rest : List ℕ) × answers old line answer next
       × AreAnswered next lines rest new × (text ≡ answer ++ rest)
 
-  -- so many lines were read from an input's begin on, and what was written are their answers
+  -- this many lines of an input were read from its start, and what was written are their answers
   pub record Answered
       (input left : Option (List ℕ)) (before after : Option (List ℕ)) (old new : S) (number : ℕ)
       : Type 0 where
@@ -39,7 +39,7 @@ module _ {S : Type 0} (refuses : S → List ℕ → Type 0) (may_be_empty : Bool
     no_line : IsAtEnd left → number ≤ 1 → may_be_empty ≡ false → IsRefused left old number
     -- it is too long
     too_long : BeginsTooLong longest left → IsRefused left old number
-    -- it is no text
+    -- it is not UTF-8 text
     no_text : (line : List ℕ) (rest : Option (List ℕ)) → ReadsLines left (line ∷ []) rest
         → (IsUtf8 line → ⊥) → IsRefused left old number
     -- the program refuses it
@@ -49,7 +49,7 @@ module _ {S : Type 0} (refuses : S → List ℕ → Type 0) (may_be_empty : Bool
     last : number ≡ 2 ^ 64 - 1 → IsRefused left old number
 
   -- a run that ended so, unless a write failed: what was written are the answers to the lines that
-  -- were read; these are all lines if it is done, and those before the line that is no call
+  -- were read; these are all lines if it is done, and those before the line that is not a call
   pub record IsRun
       (answers : S → List ℕ → List ℕ → S → Type 0) (input : Option (List ℕ))
       (before after : Option (List ℕ)) (old new : S) (ending : Ending) : Type 0 where
@@ -62,7 +62,7 @@ module _ {S : Type 0} (refuses : S → List ℕ → Type 0) (may_be_empty : Bool
     pub not_a_call : (number : ℕ) → ending ≡ NotACall number
         → (number ≡ count + 1) × IsRefused left last number
 
--- an ending that names a line names this one
+-- if the ending names a line, it is the line of this number
 abbrev pub IsNumbered : ℕ → Ending → Type 0
 IsNumbered number (NotACall line) = line ≡ number
 IsNumbered number other = ⊤

@@ -12,7 +12,7 @@ abbrev pub bool_text : Bool → List ℕ
 bool_text true = codes "true"
 bool_text false = codes "false"
 
--- the line that answers a reply, its LF aside; none where the call found no memory
+-- the line that answers a reply, its LF aside; none if there was no memory for the call
 abbrev pub answer_of : Reply ℕ → Option (List ℕ)
 answer_of (reply.TryBroadcast (Ok None)) = Some (codes "ok")
 answer_of (reply.TryBroadcast (Ok (Some oldest))) = Some (codes "ok dropped " ++ decimal oldest)

@@ -9,11 +9,11 @@ use Rattle.bcast_model.specs.declared.run.Reply.TheVariants as reply
 use Rattle.bcast_text.specs.declared.script.line.Line.{Line}
 use Rattle.bcast_text.specs.declared.script.line.Line.TheVariants as line
 
--- a call that makes a receiver under a new name: none where the name is in use
+-- a call that makes a receiver under a new name: none if the name is in use
 abbrev pub unless_used : (List ℕ → Option ℕ) → List ℕ → Option (Call ℕ) → Option (Call ℕ)
 unless_used key_of new asked = if is_some (key_of new) then None else asked
 
--- the call of a line; none where a name must be in use and is not, or the other way round
+-- the call of a line; none if a name must be in use and is not, or must not be and is
 abbrev pub call_of : (List ℕ → Option ℕ) → Line → Option (Call ℕ)
 call_of key_of (line.Cap n) = None
 call_of key_of (line.Send msg) = Some (call.TryBroadcast msg)
@@ -34,8 +34,8 @@ call_of key_of (line.Activate new) = unless_used key_of new.now (Some call.Activ
 call_of key_of line.DropInactive = Some call.DropInactive
 call_of key_of line.Len = Some call.Len
 
--- the key of each name after a line's call was replied to: a receiver that was made has the new
--- name, and the name of one that left is free
+-- the key of each name after the reply to a line's call: a receiver that was made has the new name,
+-- and the name of one that left is free
 abbrev pub names_after : (List ℕ → Option ℕ) → Line → Reply ℕ → List ℕ → Option ℕ
 names_after key_of (line.Clone name new) (reply.CloneReceiver (Ok key)) =
     update bytes_eq key_of new.now (Some key)

@@ -1,4 +1,4 @@
--- The arguments that each command is asked for by, and the ranges of its numbers.
+-- The arguments of each command, and the ranges of its numbers.
 use Rattle.std.specs.Prelude.{ℕ, List, [], ◌∷◌, ◌<◌, ◌≤◌, ⊤, codes}
 use Rattle.std.specs.Fmt.{decimal}
 use Rattle.bcast_text.specs.declared.script.command.Command.{Command}
@@ -10,7 +10,7 @@ words_of Script = codes "script" ∷ []
 words_of Topics = codes "topics" ∷ []
 words_of (Threads s r m) = codes "threads" ∷ decimal s ∷ decimal r ∷ decimal m ∷ []
 
--- a number from 1 to most
+-- a number from 1 to `most`
 abbrev pub IsUpTo : ℕ → ℕ → Type 0
 IsUpTo most n = (0 < n) × (n ≤ most)
 

@@ -7,7 +7,7 @@ use Rattle.bcast_text.specs.Words.{spaced, numbers_text, IsU64, IsCapacity}
 use Rattle.bcast_text.specs.declared.script.line.Line.{Line}
 use Rattle.bcast_text.specs.declared.script.line.Line.TheVariants.{Cap, Send, SendAll, Recv, Clone, New, Drop, NewSender, DropSender, Close, Capacity, Overflow, Await, Deactivate, Activate, DropInactive, Len}
 
--- how a setting is spelt
+-- how a setting is spelled
 abbrev pub flag_text : Bool → List ℕ
 flag_text true = codes "on"
 flag_text false = codes "off"
@@ -41,7 +41,7 @@ name_in (Deactivate name) = Some name.now
 name_in (Activate new) = Some new.now
 name_in line = None
 
--- its arguments, with one space between two of them; none where the line has no arguments
+-- its arguments, with one space between two of them; none if the line has no arguments
 abbrev pub arguments_of : Line → Option (List ℕ)
 arguments_of (Cap n) = Some (decimal n)
 arguments_of (Send msg) = Some (decimal msg)
@@ -56,8 +56,8 @@ arguments_of line = name_in line
 abbrev pub text_of : Line → List ℕ
 text_of line = spaced (word_of line) (arguments_of line)
 
--- numbers are such as a line can have, a list has one at least, a capacity is positive, and names
--- are names
+-- numbers are such as a line can have, a list has at least one, a capacity is positive, and names
+-- are valid
 abbrev pub IsInForm : Line → Type 0
 IsInForm (Cap n) = IsCapacity n
 IsInForm (Send msg) = IsU64 msg

@@ -6,7 +6,7 @@ use Rattle.bcast_text.specs.Words.{spaced, numbers_text, IsU64, IsCapacity}
 use Rattle.bcast_model.specs.declared.run.Call.{Call}
 use Rattle.bcast_model.specs.declared.run.Call.TheVariants.{TryBroadcast, TryBroadcastAll, AttemptSend, BeginSend, PollSend, EndSend, TryRecv, PollFuture, EndFuture, PollRecv, PollNext, Close, SetCapacity, SetOverflow, SetAwaitActive, NewSender, CloneInactive, Deactivate, NewReceiver, Activate, ActivateCloned, CloneReceiver, DropSender, DropInactive, DropReceiver, Overflow, AwaitActive, IsEmpty, IsFull, IsClosed, IsTerminated, Capacity, Len, ReceiverCount, InactiveReceiverCount, SenderCount, EndNumber}
 
--- how a flag is spelt
+-- how a flag is spelled
 abbrev pub flag_text : Bool → List ℕ
 flag_text true = codes "true"
 flag_text false = codes "false"
@@ -66,7 +66,7 @@ number_of (CloneReceiver key) = Some key
 number_of (DropReceiver key) = Some key
 number_of call = None
 
--- its arguments, with one space between two of them; none where the call has no arguments
+-- its arguments, with one space between two of them; none if the call has no arguments
 abbrev pub arguments_of : Call ℕ → Option (List ℕ)
 arguments_of (TryBroadcastAll msgs) = numbers_text msgs
 arguments_of (PollSend place msg) = Some (decimal place ++ codes " " ++ decimal msg)

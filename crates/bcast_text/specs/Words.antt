@@ -15,7 +15,7 @@ IsU64 n = n < 2 ^ 64
 abbrev pub IsCapacity : ℕ → Type 0
 IsCapacity n = (0 < n) × IsU64 n
 
--- numbers, with one space between two of them; none where there is no number
+-- numbers, with one space between two of them; none if there is no number
 abbrev pub numbers_text : List ℕ → Option (List ℕ)
 numbers_text [] = None
 numbers_text (n ∷ ns) = Some (spaced (decimal n) (numbers_text ns))

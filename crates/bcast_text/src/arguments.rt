@@ -4,7 +4,7 @@ use std::env;
 use std::env::Env;
 use std::io::ErrorKind;
 
-/// The arguments after the program's name. None: one of them is no UTF-8 text.
+/// The arguments after the program's name. None: one of them is not UTF-8 text.
 ///
 /// # Errors
 ///

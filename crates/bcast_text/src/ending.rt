@@ -7,7 +7,7 @@ use crate::{script, trace};
 use std::fmt;
 use std::process::ExitCode;
 
-/// A program whose runs end so.
+/// One of the programs whose runs have an `Ending`.
 #[derive(Clone, Copy, Debug, PartialEq, Eq)]
 pub enum Program {
     /// `bcast`
@@ -19,13 +19,13 @@ pub enum Program {
 /// How a run ended.
 #[derive(Clone, Copy, Debug, PartialEq, Eq)]
 pub enum Ending {
-    /// Every line was run, or every thread, and nothing was amiss.
+    /// Every line was run, or every thread, and nothing was wrong.
     Done,
     /// The receivers of a run of threads did not all see one order.
     Differ,
     /// The arguments ask for nothing that this program does.
     WrongArguments(Program),
-    /// The line of this number, counted from 1, is no call. The lines before it were run.
+    /// The line of this number, counted from 1, is not a call. The lines before it were run.
     NotACall(u64),
     /// There was no memory.
     NoMemory,

@@ -14,7 +14,7 @@ use std::{io, str};
 /// Why a line was not run to its end.
 #[derive(Debug, Drop)]
 pub enum Fault {
-    /// The line is no call, and nothing was done.
+    /// The line is not a call, and nothing was done.
     NotACall,
     /// There was no memory.
     NoMemory,
@@ -54,12 +54,12 @@ pub trait RunLine {
     // In the first state, the line is answered by the text, and leads to the second state.
     ghost answers: { State → List ℕ → List ℕ → State → Type 0 };
 
-    // In this state, the line is no call.
+    // In this state, the line is not a call.
     ghost refuses: { State → List ℕ → Type 0 };
 
     ghost MAY_BE_EMPTY: { Bool };
 
-    /// Whether an input without a line is done. Else it has a fault in line 1.
+    /// Whether an input without lines is done. If not, it has a fault in line 1.
     const MAY_BE_EMPTY: bool;
 
     /// Runs one line, given without its LF, and writes its answer.
@@ -79,9 +79,9 @@ pub trait RunLine {
 
 /// Runs each line of `input`, of at most `longest` bytes, on `program`.
 ///
-/// The answers are written before each read that may wait for more input, and at the end.
-/// An input without a line has a fault in line 1, unless the program may be empty. Line `u64::MAX`
-/// is none that is run.
+/// The answers are written before each read that may wait for more input, and at the end. An input
+/// without lines has a fault in line 1, unless the program may be empty. A line of number
+/// `u64::MAX` is not run.
 pub fn run_lines<A, R, W, P>(
     alloc: A,
     input: R,
@@ -132,7 +132,7 @@ where
     Ending::NotACall(u64::MAX)
 }
 
-/// Runs the next line, which has this number, if there is one, or says how the run ends.
+/// Runs the next line, which has this number, if there is one, or returns how the run ends.
 fn next_line<A, R, W, P>(
     number: u64,
     lines: &mut Lines<R, A>,
@@ -171,7 +171,7 @@ where
     run_text(number, lines.text(), output, program)
 }
 
-/// Runs a line of this number, or says how the run ends.
+/// Runs a line of this number, or returns how the run ends.
 fn run_text<W: Write, P: RunLine>(
     number: u64,
     text: &[u8],

@@ -15,7 +15,7 @@ pub enum Found {
     Line,
     /// A longer line, with or without its LF.
     TooLong,
-    /// The end of the input, and no line before it.
+    /// The end of the input, with no line before it.
     End,
 }
 
@@ -103,7 +103,7 @@ fn ends_with_lf(text: &[u8]) -> bool
     len > 0 && text[len - 1] == b'\n'
 }
 
-/// Moves bytes of `input` into the empty `text`: those up to the first LF, that too, or all if
+/// Moves bytes of `input` into the empty `text`: those up to the first LF and the LF, or all if
 /// there is none, but at most `most`.
 fn read_through<B: BufRead, A: Allocator>(
     input: &mut B,
@@ -128,8 +128,8 @@ fn read_through<B: BufRead, A: Allocator>(
     Err(io::Error::from(ErrorKind::Other))
 }
 
-/// Moves the bytes that are at hand into `text`, up to the first LF, and at most `most`. Returns
-/// whether it met the LF, or the end of the input.
+/// Moves the bytes that `input` has buffered into `text`, up to the first LF, and at most `most`.
+/// Returns whether it met the LF, or the end of the input.
 fn take_part<B: BufRead, A: Allocator>(
     input: &mut B,
     most: usize,
@@ -159,7 +159,7 @@ fn take_part<B: BufRead, A: Allocator>(
     Ok(is_done)
 }
 
-/// How many bytes there are up to the first LF, that too, but at most `most`.
+/// How many bytes there are up to the first LF, the LF included, but at most `most`.
 fn len_through(bytes: &[u8], most: usize) -> usize
     requires { 0 < most }
     ensures bound { result ≤ length bytes.now }

@@ -31,7 +31,7 @@ pub fn positive(word: &str) -> Option<u64>
     if n > 0 { Some(n) } else { None }
 }
 
-/// The numbers that `text` spells, one at least, with one space between two of them. None: it
+/// The numbers that `text` spells, at least one, with one space between two of them. None: it
 /// spells none.
 ///
 /// # Errors

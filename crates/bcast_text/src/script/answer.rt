@@ -8,11 +8,11 @@ use bcast_model::error::{HandleError, TryRecvError, TrySendError};
 use bcast_model::run::Reply;
 use std::io::Write;
 
-/// Writes the line that answers a call which was replied to by `reply`.
+/// Writes the line that answers a call with this reply.
 ///
 /// # Errors
 ///
-/// - `NoMemory`: the reply has no answer, since the call found no memory, or no line asks for it.
+/// - `NoMemory`: the reply has no answer: there was no memory for the call, or no line asks for it.
 /// - `OutputFailed`: a write failed.
 pub fn answer<W: Write>(reply: &Reply<u64>, output: &mut W) -> Result<(), Fault>
     ensures text { OnOk result (IfSome (answer_of reply.now) (λ text.

@@ -22,19 +22,19 @@ fn key_by<A: Allocator>(names: &Names<A>, name: &str) -> Option<usize>
     names.get(name).copied()
 }
 
-/// What is asked for under a new name: nothing if the name is in use.
+/// `call`, which makes a receiver under a new name: none if the name is in use.
 fn under<A: Allocator>(names: &Names<A>, new: &str, call: Option<Call<u64>>) -> Option<Call<u64>>
     ensures { result ≡ unless_used (get_by_text names.now) new.now call }
 {
     if names.contains_key(new) { None } else { call }
 }
 
-/// The call that `line` asks for. None: it makes a channel, a name in it isn't in use that must be,
+/// The call that `line` asks for. None: it makes a channel, a name in it must be in use and is not,
 /// or the new name is in use already.
 ///
 /// # Errors
 ///
-/// - `AllocError`: there is no memory for the messages of a `sendall`. No other line takes any.
+/// - `AllocError`: there is no memory for the messages of a `sendall`. Other lines take no memory.
 pub fn call_by<A: Allocator>(
     names: &Names<A>,
     line: &Line<'_>,

@@ -21,7 +21,7 @@ pub enum Command {
 }
 
 impl Command {
-    /// What `words`, the arguments after the program's name, ask for. None: the usage line is due.
+    /// What `words`, the arguments after the program's name, ask for. None: they are wrong.
     pub fn from_words(words: &[String]) -> Option<Command>
         ensures words { IfSome result (λ asked. map string_bytes words.now ≡ words_of asked) }
         ensures range { IfSome result IsInRange }

@@ -18,7 +18,7 @@ pub enum Line<'a> {
     Cap(u64),
     /// `send V`
     Send(u64),
-    /// `sendall V V ..`: one number or more.
+    /// `sendall V V ..`: at least one number.
     SendAll(Messages<u64>),
     /// `recv R`
     Recv(&'a str),
@@ -50,13 +50,13 @@ pub enum Line<'a> {
     Len,
 }
 
-/// The line that `text` is. None: it is no line of a script.
+/// The line that `text` is. None: it is not a line of a script.
 ///
-/// `text` has no LF. Whether the names are in use is not looked at here.
+/// `text` has no LF. Whether the names are in use is not checked here.
 ///
 /// # Errors
 ///
-/// - `AllocError`: there is no memory for the numbers of a `sendall`. No other line takes any.
+/// - `AllocError`: there is no memory for the numbers of a `sendall`. Other lines take no memory.
 pub fn read_line(alloc: Global, text: &str) -> Result<Option<Line<'_>>, AllocError>
     ensures text { IfOk result (λ read. IfSome read (λ line. text.now ≡ text_of line)) }
     ensures form { IfOk result (λ read. IfSome read IsInForm) }
@@ -84,7 +84,7 @@ fn send_all<'a>(alloc: Global, rest: &str) -> Result<Option<Line<'a>>, AllocErro
     }
 }
 
-/// A command without arguments. `sendall` is none.
+/// A command without arguments. `sendall` is not one.
 fn alone<'a>(text: &str) -> Option<Line<'a>>
     ensures text { IfSome result (λ line. text.now ≡ text_of line) }
     ensures form { IfSome result IsInForm }
@@ -101,7 +101,7 @@ fn alone<'a>(text: &str) -> Option<Line<'a>>
     }
 }
 
-/// A command with arguments, but `sendall`: its first word, and what follows the first space.
+/// A command with arguments, except `sendall`: its first word, and what follows the first space.
 fn with_arguments<'a>(first: &str, rest: &'a str) -> Option<Line<'a>>
     ensures text { IfSome result (λ line. first.now ++ 32 ∷ rest.now ≡ text_of line) }
     ensures form { IfSome result IsInForm }

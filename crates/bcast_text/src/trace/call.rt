@@ -13,12 +13,12 @@ use bcast_model::run::Call;
 use std::alloc::{AllocError, Global};
 
 /// The call that `text` is: its variant's name, and the arguments, with one space before each.
-/// None: it is no call.
+/// None: it is not a call.
 ///
 /// # Errors
 ///
-/// - `AllocError`: there is no memory for the messages of a `TryBroadcastAll`. No other call takes
-///   any.
+/// - `AllocError`: there is no memory for the messages of a `TryBroadcastAll`. Other calls take no
+///   memory.
 pub fn read_call(alloc: Global, text: &str) -> Result<Option<Call<u64>>, AllocError>
     ensures text { IfOk result (λ read. IfSome read (λ call. text.now ≡ text_of call)) }
     ensures positive { IfOk result (λ read. IfSome read HasPositiveCapacity) }
@@ -32,7 +32,7 @@ pub fn read_call(alloc: Global, text: &str) -> Result<Option<Call<u64>>, AllocEr
     }
 }
 
-/// The messages of `TryBroadcastAll`, one at least.
+/// The messages of `TryBroadcastAll`, at least one.
 fn send_all(alloc: Global, list: &str) -> Result<Option<Call<u64>>, AllocError>
     ensures text { IfOk result (λ read. IfSome read (λ call.
         codes "TryBroadcastAll " ++ list.now ≡ text_of call)) }
@@ -80,7 +80,7 @@ fn alone(alloc: Global, name: &str) -> Option<Call<u64>>
     }
 }
 
-/// A call with arguments, but `TryBroadcastAll`: its name, and what follows the first space.
+/// A call with arguments, except `TryBroadcastAll`: its name, and what follows the first space.
 fn with_arguments(name: &str, arguments: &str) -> Option<Call<u64>>
     ensures text { IfSome result (λ call. name.now ++ 32 ∷ arguments.now ≡ text_of call) }
     ensures positive { IfSome result HasPositiveCapacity }

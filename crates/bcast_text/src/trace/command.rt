@@ -7,14 +7,14 @@ pub const USAGE: &str = "usage: replay trace | replay list";
 /// What the arguments of `replay` ask for.
 #[derive(Clone, Copy, Debug, PartialEq, Eq)]
 pub enum Command {
-    /// Play the trace on standard input call by call.
+    /// Play the trace on standard input one call at a time.
     Trace,
     /// Play the calls of the trace on standard input as one list.
     List,
 }
 
 impl Command {
-    /// What `words`, the arguments after the program's name, ask for. None: the usage line is due.
+    /// What `words`, the arguments after the program's name, ask for. None: they are wrong.
     pub fn from_words(words: &[String]) -> Option<Command>
         ensures trace { (result ≡ Some Command.Trace)
             ↔ (map string_bytes words.now ≡ codes "trace" ∷ []) }

@@ -16,7 +16,7 @@ pub struct Opening {
     ghost below_last: { first + 1 < 2 ^ 64 },
 }
 
-/// The channel that `line` opens. None: it is no `open CAP FIRST` of a channel that there can be.
+/// The channel that `line` opens. None: it is not `open CAP FIRST` of a possible channel.
 pub fn read_opening(line: &str) -> Option<Opening>
     ensures text { IfSome result (λ opening.
         line.now ≡ opening_text opening.capacity opening.first) }

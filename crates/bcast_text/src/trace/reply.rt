@@ -73,7 +73,7 @@ pub fn write_reply<W: Write>(reply: &Reply<u64>, output: &mut W) -> io::Result<(
     }
 }
 
-/// The reply of a send at once.
+/// The reply of a send that doesn't wait.
 fn sent<W: Write>(answer: &Result<Option<u64>, TrySendError<u64>>, output: &mut W) -> io::Result<()>
     ensures { OnOk result (Appends (W.contents output.old) (W.contents output.new)
         (sent_text answer.now)) }
@@ -87,7 +87,7 @@ fn sent<W: Write>(answer: &Result<Option<u64>, TrySendError<u64>>, output: &mut 
     }
 }
 
-/// The reply of a list that is sent at once.
+/// The reply of a send of a list, which doesn't wait.
 fn sent_all<W: Write>(
     answer: &Result<(), TrySendError<Messages<u64>>>,
     output: &mut W,
@@ -103,7 +103,7 @@ fn sent_all<W: Write>(
     }
 }
 
-/// Why a list came back, and its messages.
+/// Why a list was handed back, and its messages.
 fn handed_back<W: Write>(why: &str, msgs: &Messages<u64>, output: &mut W) -> io::Result<()>
     ensures { OnOk result (Appends (W.contents output.old) (W.contents output.new)
         (why.now ++ after_spaces msgs.now)) }
@@ -128,7 +128,7 @@ fn send_polled<W: Write>(answer: &SendPoll<u64>, output: &mut W) -> io::Result<(
     }
 }
 
-/// The reply of a receive at once.
+/// The reply of a receive that doesn't wait.
 fn received<W: Write>(
     answer: &Result<Result<u64, TryRecvError>, AllocError>,
     output: &mut W,

@@ -1,4 +1,4 @@
--- The line that was read is answered, or is no text, or the program refuses it.
+-- The line that was read is answered, or is not UTF-8 text, or the program refuses it.
 use Rattle.std.proofs.Common.{[], ◌∷◌, Ok, ap, sym, subst, ⊎_elim}
 use Rattle.std.specs.Str.{IsUtf8}
 use Rattle.std.specs.Io.KnownBytes.{Keeps}

@@ -1,4 +1,4 @@
--- A word that spells a number is parsed as it.
+-- A word that spells a number is parsed as that number.
 use Rattle.std.proofs.Common.{rules, arith, ◌≡◌, ◌<◌, get_or, length}
 use Rattle.std.proofs.lemmas.Bool.Decides.{nat_tests}
 use Rattle.std.proofs.lemmas.Fmt.{parse-decimal}

@@ -1,4 +1,4 @@
--- The marks tell which numbers the list holds.
+-- The marks show which numbers the list holds.
 use Rattle.std.proofs.Common.{◌∙◌}
 use Rattle.bcast_text.proofs.Marks.{each_once}
 use Rattle.bcast_text.proofs.threads.order.holds_each_once.Goals as goal

@@ -1,4 +1,4 @@
--- The first list decides, where the others are the same.
+-- If the other lists are the same, the result is that of the first one.
 use Rattle.std.proofs.Common.{ℕ, Vec, Global}
 use Rattle.bcast_text.proofs.Marks.{one_order, no_order}
 use Rattle.bcast_text.proofs.threads.order.is_one_order.Goals as goal

@@ -1,4 +1,4 @@
--- All are marked where each is.
+-- All are marked if each is.
 use Rattle.bcast_text.proofs.Marks.{every}
 use Rattle.bcast_text.proofs.threads.order.marks_all.Goals as goal
 

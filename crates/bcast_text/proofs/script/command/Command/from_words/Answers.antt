@@ -20,13 +20,13 @@ four (i ∷ j ∷ k ∷ []) x y z w long a b c d = absurd (omega arith)
 four (i ∷ j ∷ k ∷ l ∷ []) x y z w long a b c d = rw (a, b, c, d) refl
 four (i ∷ j ∷ k ∷ l ∷ m ∷ xs) x y z w long a b c d = absurd (omega arith)
 
--- what was asked for by words is asked for by equal words
+-- a command that words ask for is asked for by equal words
 spelt : (found : Option Command) (words others : List (List ℕ)) → words ≡ others
     → IfSome found (λ asked. words_of asked ≡ others) → IfSome found (λ asked. words ≡ words_of asked)
 spelt None words others same none = none
 spelt (Some asked) words others same is = same ∙ sym is
 
--- no command is spelt by these words where no numbers in range are
+-- no command has these words if they are not numbers in range
 no_command : (s r m : List ℕ) → ((senders receivers messages : ℕ) → IsInRange (Threads senders receivers messages)
     → s ≡ decimal senders → r ≡ decimal receivers → m ≢ decimal messages)
     → (asked : Command) → IsInRange asked → codes "threads" ∷ s ∷ r ∷ m ∷ [] ≡ words_of asked → ⊥
@@ -35,7 +35,7 @@ no_command s r m none Topics range is = absurd (omega (arith, ap length is))
 no_command s r m none (Threads a b c) range is =
     none a b c range (ap (λ ws. get_or ws 1 []) is) (ap (λ ws. get_or ws 2 []) is) (ap (λ ws. get_or ws 3 []) is)
 
--- nor by a word that is none of those that stand alone
+-- nor a word alone that is neither `script` nor `topics`
 no_word : (word : List ℕ) → (word ≢ codes "script") × (word ≢ codes "topics") → (asked : Command) → IsInRange asked → word ∷ [] ≡ words_of asked → ⊥
 no_word word none Script range is = none.0 (cc)
 no_word word none Topics range is = none.1 (cc)
