@@ -1,5 +1,5 @@
-//! The program `bcast`: a broadcast channel, driven by the lines of a script or by threads, and
-//! topics, driven by lines.
+//! The program `bcast`: a broadcast channel that is used by the lines of a script or by threads,
+//! and topics that are used by lines.
 #![tactic(auto)]
 
 ghost use Rattle.std.specs.Prelude.{◌≢◌};
@@ -33,7 +33,7 @@ fn main(rt: HostRuntime) -> ExitCode {
     report(&rt, ending)
 }
 
-/// Does what the arguments ask for, and returns how it ended.
+/// Does what the arguments ask for, and returns how the run ended.
 fn run<R, I, W>(rt: &R, alloc: Global, command: Command, input: I, output: &mut W) -> Ending
 where
     R: Threads + Wait + RandomSource + Clone + Send + 'static,

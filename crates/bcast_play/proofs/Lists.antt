@@ -59,7 +59,7 @@ module _ {longest : ℕ} {input before mid : Option (List ℕ)} {s t : Collected
   written_after after last text wrote same =
       Appends-kept before after last text (subst (λ l. Appends before after (l ++ text)) no_text (Appends-trans before mid after run.answered.text text run.answered.written wrote)) same
 
--- one text more
+-- one more text
 pub played_more : {A : Type 0} (bytes : A → List ℕ) (texts : List A) (rs : List (Reply ℕ)) (n m : ℕ) (text : A) (reply : Reply ℕ) → m ≡ n + 1 → n < length texts → n < length rs
     → text ≡ get_or texts n text → reply ≡ get_or rs n reply
     → played_text (map bytes (drop n texts)) (drop n rs)
@@ -81,7 +81,7 @@ open_line capacity first =
     ap (λ l. codes "open " ++ l)
     (sym (append_assoc (decimal capacity ++ 32 ∷ []) (decimal first) (10 ∷ []) ∙ append_assoc (decimal capacity) (32 ∷ []) (decimal first ++ 10 ∷ [])))
 
--- once line 1 was read
+-- after line 1 was read
 pub read_on : (o : Option Opening) → is_some o ≡ true → (old new : Collected) (line : List ℕ) → IsAdded old line new ⊎ IsSkipped old line new → IsRead (option_map named_by o) old line new
 read_on None some old new line is = absurd (false≢true some)
 read_on (Some x) some old new line is = is
@@ -116,7 +116,7 @@ run_opened run =
     ap (λ c. is_some c.opening) end.1
     ∙ opened_by _ run.answered.lines run.answered.text run.last run.answered.answered (λ none. end.2 (sym run.answered.count ∙ none))
 
--- an ending is one of a run over lines, if it is one unless a write failed
+-- an ending is one of a run over lines, if it is one when no write failed
 pub unfailed_ends : (e : Ending) → (e ≢ OutputFailed → EndsLines e) → EndsLines e
 unfailed_ends Done h = tt
 unfailed_ends Differ h = h (λ is. absurd (cc))

@@ -1,4 +1,4 @@
--- A line that is read as none asks for nothing.
+-- A line that is read as `None` asks for nothing.
 use Rattle.std.proofs.Common.{◌≡◌, ◌≢◌, ℕ, List, ◌∷◌, Option, None, Result, Ok, IfOk, refl, subst}
 use Rattle.std.specs.Prelude.{IsNone}
 use Rattle.bcast_model.specs.declared.run.Call.{Call}
@@ -7,7 +7,7 @@ use Rattle.bcast_text.specs.TraceLine.{IsBeforeArrow}
 use Rattle.bcast_play.specs.TraceRun.{AsksForNone}
 
 module _ {X E : Type 0} where
-  -- what a reader says of None it says of this answer
+  -- what a reader's clause says about `None` holds for this result
   said_of_none : (P : Type 0) (read : Result (Option X) E) → read ≡ Ok None → IfOk read (λ o. IsNone o → P) → P
   said_of_none P read is said = subst (λ r. IfOk r (λ o. IsNone o → P)) is said refl
 

@@ -1,4 +1,4 @@
--- The words of lines on topics; followers' names, read through what is seen of a follower; an answer that is written.
+-- Lemmas of lines on topics: their words, the names of followers, and answers that are written.
 use Rattle.std.proofs.Common.{◌≡◌, ◌≢◌, inl, inr, ⊎_elim, arith, List, [], ℕ, Bool, true, false, Option, Some, None, Result, Ok, Err, OnOk, IfSome, cond, refl, sym, is_some}
 use Rattle.std.specs.Prelude.{IsSome}
 use Rattle.std.specs.Option.{option_map}
@@ -47,7 +47,7 @@ pub map_some : {X Y : Type 0} (f : X → Y) (o : Option X) → is_some o ≡ tru
 map_some f None used none = true≢false (sym used)
 map_some f (Some x) used none = let is = none in absurd (cc)
 
--- a name by the rule is not answered by that it is none
+-- a valid name is not answered by `BadName`
 pub named_answer : {T : Type 0} (is_open : Bool) (asked : Option (Call T)) → IsAnswerTo is_open asked answer.BadName → ⊥
 named_answer true None is = absurd (cc)
 named_answer false None (inl is) = absurd (cc)

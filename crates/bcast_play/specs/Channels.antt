@@ -1,4 +1,4 @@
--- What the parts of a program that plays lines show.
+-- What is seen of the parts of a program that plays lines.
 use Rattle.std.specs.Prelude.{ℕ, Option, map, string_bytes}
 use Rattle.std.specs.Option.{option_map}
 use Rattle.std.specs.BTreeMap.{get_by_text}
@@ -13,7 +13,7 @@ use Rattle.bcast_play.specs.ListRun.{Collected}
 abbrev pub named_of : {A : Type 0} → Channel A → Named
 named_of channel = record { view = channel.inner; key_of = get_by_text channel.names }
 
--- a script's channel, if line 1 has made it
+-- a script's channel, if line 1 made it
 abbrev pub session_of : {A : Type 0} → Session A → Option Named
 session_of session = option_map named_of session.channel
 

@@ -23,7 +23,7 @@ pub record Collected : Type 0 where
 abbrev pub nothing_yet : Collected
 nothing_yet = record { opening = None; calls = []; texts = [] }
 
--- line 1 says what channel there is
+-- line 1 gives the channel's capacity and first number
 pub record IsNamed (old : Collected) (line : List ℕ) (new : Collected) : Type 0 where
   pub capacity : ℕ
   pub first : ℕ
@@ -54,7 +54,7 @@ IsRead (Some named) old line new = IsAdded old line new ⊎ IsSkipped old line n
 abbrev pub IsCollected : Collected → List ℕ → List ℕ → Collected → Type 0
 IsCollected old line text new = (text ≡ []) × IsRead old.opening old line new
 
--- the line is no call, before and after line 1
+-- the line is not a call, before and after line 1
 abbrev pub IsNoListLine : Collected → List ℕ → Type 0
 IsNoListLine old line = MatchOption old.opening (OpensNone line) (λ _. AsksForNone line)
 

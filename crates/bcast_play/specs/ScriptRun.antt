@@ -56,12 +56,12 @@ abbrev pub opened_by : Line → Option ℕ
 opened_by (Cap capacity) = Some capacity
 opened_by line = None
 
--- whether a line in form makes a channel, before line 1, or asks for a call by its names, after it
+-- a line in form that makes no channel, before line 1, or whose names ask for no call, after it
 abbrev pub AsksForNone : Option Named → Line → Type 0
 AsksForNone None asked = opened_by asked ≡ None
 AsksForNone (Some old) asked = call_of old.key_of asked ≡ None
 
--- the line is no call: no line in form has its text, or one that asks for none
+-- the line is not a call: no line in form has its text, or one that asks for none
 abbrev pub IsNoScriptLine : Option Named → List ℕ → Type 0
 IsNoScriptLine old line =
     ((asked : Line) → IsInForm asked → line ≢ text_of asked)

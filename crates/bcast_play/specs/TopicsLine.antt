@@ -29,8 +29,8 @@ arguments_of (Close topic) = topic.now
 abbrev pub text_of : Line → List ℕ
 text_of line = word_of line ++ 32 ∷ arguments_of line
 
--- topics and followers have names by their rules, numbers are such as a line can have, and a
--- capacity is positive
+-- the names of topics and followers are valid, numbers are such as a line can have, and a capacity
+-- is positive
 abbrev pub IsInForm : Line → Type 0
 IsInForm (Open topic n) = topic_name.IsName topic.now × IsCapacity n
 IsInForm (Follow topic new) = topic_name.IsName topic.now × follower_name.IsName new.now

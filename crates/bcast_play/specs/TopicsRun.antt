@@ -16,7 +16,7 @@ use Rattle.bcast_play.specs.declared.hub.line.Line.TheVariants as line
 use Rattle.bcast_play.specs.TopicsLine.{text_of, IsInForm}
 use Rattle.bcast_text.specs.ScriptAnswer as replies
 
--- who follows: the name of the topic, and the key of the receiver there
+-- a follower: the name of the topic, and the key of the receiver there
 pub record Following : Type 0 where
   pub topic : List ℕ
   pub key : ℕ
@@ -39,8 +39,7 @@ pub record IsWithoutFollowers (topics : Topics ℕ) (first : Followed) : Type 0 
 abbrev pub IsWithoutTopics : Followed → Type 0
 IsWithoutTopics first = IsWithoutFollowers (λ _. None) first
 
--- the request that a line asks for; none where a name must be in use and is not, or the other way
--- round
+-- the request that a line asks for; none if a name must be in use and is not, or must not be and is
 abbrev pub IsRequest : {A : Type 0} → Names → Line → Request ℕ A → Type 0
 IsRequest names (line.Open topic n) (request.Open name capacity) =
     (string_bytes name ≡ topic.now) × (capacity ≡ n)
@@ -63,7 +62,7 @@ names_after names (line.Follow topic new) (answer.Done (reply.NewReceiver (Ok ke
 names_after names (line.Leave who) a = update bytes_eq names who.now None
 names_after names asked a = names
 
--- the line that answers, its LF aside; none where the line is no call, or found no memory
+-- the line that answers, its LF aside; none if the line is not a call or there was no memory
 abbrev pub answer_of : Answer ℕ → Option (List ℕ)
 answer_of answer.BadName = None
 answer_of answer.Exists = Some (codes "exists")
@@ -73,7 +72,7 @@ answer_of answer.NoTopic = Some (codes "no topic")
 answer_of (answer.Done replied) = replies.answer_of replied
 
 module _ (A : Type 0) where
-  -- a line's request is asked, and its answer is written; names stand in memory of the allocator A
+  -- a line's request is made, and its answer is written; names are in memory of the allocator A
   pub record IsMade (old : Followed) (asked : Line) (text : List ℕ) (new : Followed) : Type 0 where
     pub request : Request ℕ A
     pub is_asked : IsRequest old.follower_of asked request
@@ -90,7 +89,7 @@ module _ (A : Type 0) where
   IsTopicsLine old line text new =
       (asked : Line) × (line ≡ text_of asked) × IsInForm asked × IsMade old asked text new
 
--- a line that asks for no request, by the name of its follower
+-- a line whose follower's name is in use and must not be, or must be and is not
 abbrev pub IsAboutNobody : Names → Line → Type 0
 IsAboutNobody names (line.Follow topic new) = names new.now ≢ None
 IsAboutNobody names (line.Receive who) = names who.now ≡ None
@@ -98,7 +97,7 @@ IsAboutNobody names (line.Leave who) = names who.now ≡ None
 IsAboutNobody names asked = ⊥
 
 module _ (A : Type 0) where
-  -- a line that asks for a request whose topic has no name by the rule
+  -- a line that asks for a request whose topic's name is not valid
   pub record IsMisnamed (names : Names) (asked : Line) : Type 0 where
     pub request : Request ℕ A
     pub is_asked : IsRequest names asked request
@@ -108,7 +107,7 @@ module _ (A : Type 0) where
   abbrev pub AsksForNone : Names → Line → Type 0
   AsksForNone names asked = IsAboutNobody names asked ⊎ IsMisnamed names asked
 
-  -- the line is no call: no line in form has its text, or one that asks for no request
+  -- the line is not a call: no line in form has its text, or one that asks for no request
   abbrev pub IsNoTopicsLine : Followed → List ℕ → Type 0
   IsNoTopicsLine old line =
       ((asked : Line) → IsInForm asked → line ≢ text_of asked)

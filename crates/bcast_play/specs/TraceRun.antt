@@ -1,4 +1,4 @@
--- What a trace does that is played line by line: its channel, and what is written of each line.
+-- What a trace that is played line by line does: its channel, and what is written for each line.
 use Rattle.std.specs.Prelude.{◌≡◌, ℕ, List, [], ◌∷◌, ◌++◌, ◌⊎◌, ◌≢◌, Option, Some, None, codes}
 use Rattle.bcast_model.specs.declared.run.Call.{Call}
 use Rattle.bcast_model.specs.declared.run.Reply.{Reply}
@@ -31,7 +31,7 @@ pub record IsPlayed (old : View ℕ) (line answer : List ℕ) (new : View ℕ) :
   pub written : answer ≡ text ++ codes " -> " ++ replies.text_of reply ++ 10 ∷ []
 
 module _ (A : Type 0) where
-  -- the view is asked for: the line of what is seen is written, and the channel stays
+  -- the view is asked for: the line of what is seen is written, and the channel is unchanged
   pub record IsViewed (old : View ℕ) (line answer : List ℕ) (new : View ℕ) : Type 0 where
     pub rest : List ℕ
     pub asked : line ≡ 61 ∷ rest
@@ -40,7 +40,7 @@ module _ (A : Type 0) where
     pub written : answer ≡ views.text_of seen
     pub same : new ≡ old
 
-  -- what is written of a line, before and after line 1
+  -- what is written for a line, before and after line 1
   abbrev pub IsTraceLine : Option (View ℕ) → List ℕ → List ℕ → Option (View ℕ) → Type 0
   IsTraceLine None line answer None = ⊥
   IsTraceLine None line answer (Some new) = IsStarted line answer new
@@ -60,7 +60,7 @@ AsksForNone line =
     × ((text : List ℕ) (call : Call ℕ) → IsBeforeArrow text line → calls.IsInRange call
     → text ≢ calls.text_of call)
 
--- the line is no call, before and after line 1
+-- the line is not a call, before and after line 1
 abbrev pub IsNoTraceLine : Option (View ℕ) → List ℕ → Type 0
 IsNoTraceLine None line = OpensNone line
 IsNoTraceLine (Some old) line = AsksForNone line

@@ -32,7 +32,7 @@ module _ {A : Type 0} where
       (codes "= front=" ++ decimal s.front ++ codes " end=" ++ decimal s.end ++ codes " queue=[")
       ++ listed decimal s.queue.items ++ codes "]"
 
-  -- who receives and who sends
+  -- the receivers, and the counts of senders and inactive receivers
   abbrev pub handles_text : Snapshot ℕ A → List ℕ
   handles_text s =
       codes " C={" ++ listed cursor_text s.cursors.items

@@ -43,9 +43,9 @@ impl<A: Allocator + Copy> Channel<A> {
     ///
     /// # Errors
     ///
-    /// - `NotACall`: the line asks for no call, since it makes a channel, or by its names. Nothing
-    ///   was done.
-    /// - `NoMemory`: the call or a new name found no memory. Nothing was written.
+    /// - `NotACall`: the line asks for no call, since it makes a channel, or because of its names.
+    ///   Nothing was done.
+    /// - `NoMemory`: there was no memory for the call or a new name. Nothing was written.
     /// - `OutputFailed`: a write failed.
     pub fn run<W: Write>(&mut self, alloc: A, line: &Line<'_>, output: &mut W) -> Result<(), Fault>
         requires { IsInForm line.now }

@@ -108,7 +108,7 @@ fn write_answers<B: Allocator, W: Write>(
     Ok(())
 }
 
-/// Plays the calls of the trace that `input` holds as one list, once all of it is read, and writes
+/// Plays the calls of the trace that `input` holds as one list, after all of it is read, and writes
 /// line 1 and each call with the reply that `run` gives. Nothing is written if a line is out of
 /// form.
 ///

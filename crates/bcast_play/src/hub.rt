@@ -32,13 +32,13 @@ struct HubSession<A: Allocator, S: BuildHasher> {
 }
 
 impl<A: Allocator + Copy, S: BuildHasher> HubSession<A, S> {
-    /// Asks the request that `line` asks for, and writes its answer.
+    /// Makes the request that `line` asks for, and writes its answer.
     ///
     /// # Errors
     ///
-    /// - `NotACall`: the line asks for no request, by its followers' names, or its topic's name is
-    ///   none. Nothing was done.
-    /// - `NoMemory`: the request or a new name found no memory. Nothing was written.
+    /// - `NotACall`: the line asks for no request, because of its followers' names, or its topic's
+    ///   name is not valid. Nothing was done.
+    /// - `NoMemory`: there was no memory for the request or a new name. Nothing was written.
     /// - `OutputFailed`: a write failed.
     fn run<W: Write>(&mut self, line: Line<'_>, output: &mut W) -> Result<(), Fault>
         requires { IsInForm line }
@@ -84,8 +84,8 @@ impl<A: Allocator + Copy, S: BuildHasher> RunLine for HubSession<A, S> {
 /// line.
 ///
 /// `output` is flushed before each read that may wait for more input, and at the end. The first
-/// line that is no call ends the run. An input without a line has none, and is done. No follower
-/// has a name at the start. The seed of the hub's hash is random, since lines choose the names.
+/// line that is not a call ends the run. An input without lines is done. No follower has a name at
+/// the start. The names of topics are hashed with a random seed, since lines choose them.
 pub fn hub_script<A, R, W>(
     alloc: A,
     hub: Hub<u64, A, RandomState>,
@@ -111,8 +111,8 @@ where
 
 /// Runs lines on topics as `hub_script` does, on a hub without topics.
 ///
-/// Its names are hashed with a seed of `source`, so that whoever chooses them can't make them
-/// collide. Where there is no seed the run ends as by a failed read, and nothing is written.
+/// The names are hashed by a `RandomState` that is made from `source`. No clause is about hashes.
+/// If there is no seed the run ends as if a read failed, and nothing is written.
 pub fn seeded_hub_script<N, A, R, W>(source: &N, alloc: A, input: R, output: &mut W) -> Ending
 where
     N: RandomSource,

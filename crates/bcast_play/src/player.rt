@@ -127,8 +127,8 @@ fn write_seen<A: Allocator + Copy, W: Write>(
     Ok(())
 }
 
-/// Plays the trace that `input` holds, line by line, and writes it anew: line 1, each call with the
-/// reply that `step` gives, and each view.
+/// Plays the trace that `input` holds, line by line, and writes it again: line 1, each call with
+/// the reply that `step` gives, and each view.
 ///
 /// `output` is flushed before each read that may wait for more input, and at the end. The first
 /// line that is out of form ends the run. The messages of a list take their memory from `heap`, and

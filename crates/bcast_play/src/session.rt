@@ -74,7 +74,7 @@ impl<A: Allocator + Copy> RunLine for Session<A> {
 /// Runs the script that `input` holds, line by line, and writes an answer to each line.
 ///
 /// `output` is flushed before each read that may wait for more input, and at the end. The first
-/// line that is no call ends the run. The messages of a `sendall` take their memory from `heap`,
+/// line that is not a call ends the run. The messages of a `sendall` take their memory from `heap`,
 /// and all else from `alloc`.
 pub fn script<A: Allocator + Copy, R: Read + Drop, W: Write>(
     alloc: A,

@@ -36,7 +36,7 @@ fn write_messages<B: Allocator, W: Write>(seen: &Snapshot<u64, B>, output: &mut 
     output.write_all(b"]")
 }
 
-/// Who receives, and how many senders and inactive receivers there are.
+/// The receivers, and how many senders and inactive receivers there are.
 fn write_handles<B: Allocator, W: Write>(seen: &Snapshot<u64, B>, output: &mut W) -> io::Result<()>
     ensures { OnOk result (Appends (W.contents output.old) (W.contents output.new)
         (handles_text seen.now)) }

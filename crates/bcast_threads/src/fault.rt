@@ -1,4 +1,4 @@
-//! Why a run of threads has nothing to show.
+//! Why a run of threads has no lists.
 use async_broadcast::HandleError;
 use std::alloc::{AllocError, AllocFailed};
 use std::io;
@@ -6,7 +6,7 @@ use std::io;
 /// Why a run has no lists to compare.
 #[derive(Clone, Copy, Debug, PartialEq, Eq)]
 pub(crate) enum Fault {
-    /// There was no memory, in some thread.
+    /// There was no memory in some thread.
     NoMemory,
     /// A thread could not be started.
     NoThread,
@@ -34,7 +34,7 @@ impl<T: Drop> From<AllocFailed<T>> for Fault {
     }
 }
 
-// A run has too few handles for the channel to answer `TooMany`.
+// A run has too few handles for the channel to reply `TooMany`.
 impl From<HandleError> for Fault {
     ghost use Rattle.bcast_threads.specs.declared.fault.Fault.TheVariants.{NoMemory};
     ghost use Rattle.std.specs.Prelude.{◌≡◌};

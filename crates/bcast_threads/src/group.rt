@@ -4,7 +4,7 @@ ghost use Rattle.std.specs.Prelude.{◌≡◌, ◌+◌, ◌<◌, ◌≤◌, [], 
 use std::io;
 use std::thread::{Builder, JoinHandle, Threads};
 
-/// Threads that were started. It can't be dropped: they are to be joined.
+/// Threads that were started. It can't be dropped: the threads must be joined.
 pub(crate) struct Group<T> {
     pub(crate) running: Vec<JoinHandle<T>>,
     // For what they return, so that joining them takes no memory.
@@ -14,7 +14,7 @@ pub(crate) struct Group<T> {
 }
 
 impl<T: Send + Drop + 'static> Group<T> {
-    /// Starts a thread that does this work, with so many bytes of stack.
+    /// Starts a thread that does this work, with this many bytes of stack.
     pub(crate) fn start<R: Threads, F: FnOnce() -> T + Send + Drop + 'static>(
         &mut self,
         rt: &R,
@@ -33,7 +33,7 @@ impl<T: Send + Drop + 'static> Group<T> {
 
     /// Waits for all threads, and returns what they returned.
     ///
-    /// It is of any type `T`, so that it can neither make nor copy what a thread returned.
+    /// `T` can be any type, so `join` can neither make nor copy what a thread returned.
     pub(crate) fn join<R: Threads>(self, rt: &R) -> Vec<T>
         ensures { length result.items ≡ vec_len self.running }
     {

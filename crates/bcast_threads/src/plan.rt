@@ -30,14 +30,14 @@ pub struct Plan {
     pub receiver_stack: usize,
 }
 
-/// Lets `s` threads send `m` numbers each over one channel to `r` threads, and says on `output`
+/// Lets `s` threads send `m` numbers each over one channel to `r` threads, and prints on `output`
 /// whether all receivers saw one order: the same numbers, each of the `s * m` once.
 ///
 /// Sender number i, from 0 on, sends the `m` numbers from `i * m` on in rising order. All receivers
 /// are made before a thread starts.
 ///
-/// Ends as `Done` or `Differ` by what was seen; `NoThread` if a thread could not be started,
-/// `NoMemory` if one had no memory: every started thread has ended then too, and nothing was
+/// Returns `Done` or `Differ` by what was seen; `NoThread` if a thread could not be started,
+/// `NoMemory` if there was no memory: every started thread has ended then too, and nothing was
 /// written; and `OutputFailed` if the write failed.
 pub fn threads<R: Threads + Wait + Clone + Send + 'static, W: Write>(
     rt: &R,

@@ -14,7 +14,7 @@ use std::thread::Threads;
 /// How many messages the channel keeps at once.
 const CAPACITY: usize = 16;
 
-/// The threads that were started. It can't be dropped: they are to be joined.
+/// The threads that were started. It can't be dropped: they must be joined.
 struct Started {
     senders: Group<()>,
     receivers: Group<List>,
@@ -26,7 +26,7 @@ struct Started {
 ///
 /// After each, every thread that was started has ended.
 ///
-/// - `NoMemory`: there was no memory, in this thread or in another. The channel was closed.
+/// - `NoMemory`: there was no memory, in this thread or another. The channel, if any, was closed.
 /// - `NoThread`: a thread could not be started. The channel was closed.
 pub(crate) fn lists_of<R: Threads + Wait + Clone + Send + 'static>(
     rt: &R,
@@ -175,7 +175,7 @@ impl Started {
     }
 }
 
-/// The lists, if no receiver lacked memory.
+/// The lists, if no receiver was refused memory.
 fn all_of(alloc: Global, lists: Vec<List>) -> Result<Vec<Vec<u64>>, AllocError>
     ensures { IfOk result (λ all. lists.items ≡ map Ok all.items) }
 {
@@ -186,7 +186,7 @@ fn all_of(alloc: Global, lists: Vec<List>) -> Result<Vec<Vec<u64>>, AllocError>
     Ok(all)
 }
 
-/// So many clones of a receiver.
+/// This many clones of a receiver.
 fn clones_of<P: Port<u64, WakerSlot>>(
     alloc: Global,
     receiver: Receiver<u64, P>,

@@ -17,8 +17,8 @@ pub fn send_all<P: Port<u64, WakerSlot>>(sender: Sender<u64, P>, first: u64, cou
     }
 }
 
-/// What the receiver receives until the channel is closed. If there is no memory for it, the
-/// channel is closed.
+/// Returns what the receiver receives until there is no more message, as on a closed channel. If
+/// there is no memory for that, it closes the channel.
 ///
 /// Memory for `count` messages is taken before the first one is received.
 pub fn receive_all<P: Port<u64, WakerSlot>, A: Allocator>(

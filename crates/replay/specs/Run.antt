@@ -16,7 +16,7 @@ abbrev longest : ℕ
 longest = 1048576
 
 -- input: what was to be read; old and new: what the output held before and after
--- all calls are written with their replies if the run is done, and else nothing is written
+-- all calls are written with their replies if the run is done; if not, nothing is written
 pub record HasWrittenList (input old new : Option (List ℕ)) (ending : Ending) : Type 0 where
   pub ends : EndsLines ending
   pub done : ending ≡ Done → IsList longest input old new

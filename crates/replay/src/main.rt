@@ -1,5 +1,5 @@
-//! The program `replay`: plays a trace of calls on one broadcast channel, and writes the trace anew
-//! with the replies and views that the channel gives.
+//! The program `replay`: plays a trace of calls on one broadcast channel, and writes the trace
+//! again with the replies and views of the channel.
 #![tactic(auto)]
 
 ghost use Rattle.std.specs.Prelude.{◌≢◌};
@@ -28,7 +28,7 @@ fn main(rt: HostRuntime) -> ExitCode {
     report(&rt, ending)
 }
 
-/// Plays the trace that `input` holds, as `command` asks, and returns how it ended.
+/// Plays the trace that `input` holds, as `command` says, and returns how the run ended.
 fn run<I: Read + Drop, W: Write>(
     alloc: Global,
     command: Command,

@@ -8,11 +8,11 @@ use bcast_text::script;
 use std::io::Write;
 use topics::Answer;
 
-/// Writes the line that answers a request which the hub answered so.
+/// Writes the line that answers a request to which the hub gave this answer.
 ///
 /// # Errors
 ///
-/// - `NotACall`: the request's name is none.
+/// - `NotACall`: the request's name is not valid.
 /// - `NoMemory`: there was no memory for a topic, or for the call on it.
 /// - `OutputFailed`: a write failed.
 pub fn answer<W: Write>(answered: &Answer<u64>, output: &mut W) -> Result<(), Fault>

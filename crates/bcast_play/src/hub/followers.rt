@@ -30,7 +30,7 @@ pub type Followers<A> = BTreeMap<String<A>, Follower<A>, A>;
 ///
 /// # Errors
 ///
-/// - `NotACall`: a follower's name isn't in use that must be, or is in use that must not.
+/// - `NotACall`: a follower's name must be in use and is not, or must not be and is.
 /// - `NoMemory`: there is no memory for the name.
 pub fn request_by<A: Allocator + Copy>(
     alloc: A,
@@ -84,7 +84,7 @@ fn known<A: Allocator + Copy>(
     Ok((topic, follower.key))
 }
 
-/// Gives the follower that came its name, or frees the name of the one that left.
+/// Gives a new follower its name, or frees the name of the one that left.
 ///
 /// Takes memory for a new name.
 ///
@@ -112,7 +112,7 @@ pub fn record<A: Allocator + Copy>(
     }
 }
 
-/// Gives the follower of this topic, by this key, a new name.
+/// Gives a new name to the follower of this topic with this key.
 fn name_follower<A: Allocator + Copy>(
     alloc: A,
     followers: &mut Followers<A>,

@@ -25,9 +25,9 @@ pub enum Line<'a> {
     Close(&'a str),
 }
 
-/// The line that `text` is. None: it is no line on topics.
+/// The line that `text` is. None: it is not a line on topics.
 ///
-/// `text` has no LF. Which names are in use is not looked at here.
+/// `text` has no LF. Which names are in use is not checked here.
 pub fn read_line(text: &str) -> Option<Line<'_>>
     ensures text { IfSome result (λ line. text.now ≡ text_of line) }
     ensures form { IfSome result IsInForm }

@@ -1,4 +1,4 @@
--- Reading the lines writes nothing, and what is written after it is all.
+-- Reading the lines writes nothing, and what is written after that is all that is written.
 use Rattle.std.proofs.Common.{rules, false, None, ◌≡◌, ◌∙◌, Ok, inl, inr, sym, ap, subst}
 use Rattle.std.specs.Io.KnownBytes.{Keeps}
 use Rattle.std.proofs.KnownBytes.{Keeps-trans}

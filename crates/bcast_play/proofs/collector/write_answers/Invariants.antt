@@ -1,4 +1,4 @@
--- What is written, and what is left, make the whole.
+-- What is written and what is left are the whole text.
 use Rattle.std.proofs.Common.{◌≡◌, ℕ, List, ◌++◌, map, string_bytes, drop, length}
 use Rattle.std.specs.Io.KnownBytes.{Appends}
 use Rattle.bcast_play.specs.ListRun.{played_text}

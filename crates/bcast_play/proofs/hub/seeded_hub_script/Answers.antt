@@ -1,4 +1,4 @@
--- The run begins without topics. Without a seed nothing is read.
+-- The run begins without topics. If there is no seed, nothing is read.
 use Rattle.std.proofs.Common.{None, refl, ◌∙◌}
 use Rattle.bcast_text.proofs.Runs.{none_yet}
 use Rattle.bcast_play.specs.TopicsRun.{Followed, IsTopicsLine}

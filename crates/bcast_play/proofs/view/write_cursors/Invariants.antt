@@ -1,4 +1,4 @@
--- Those so far are written.
+-- The cursors so far are written.
 use Rattle.std.proofs.Common.{◌++◌, codes, take}
 use Rattle.std.specs.List.{flat_map}
 use Rattle.std.specs.Io.KnownBytes.{Appends}

@@ -1,4 +1,4 @@
--- Those so far are written.
+-- The messages so far are written.
 use Rattle.std.proofs.Common.{◌++◌, codes, take}
 use Rattle.std.specs.Fmt.{decimal}
 use Rattle.std.specs.List.{flat_map}

@@ -1,4 +1,4 @@
--- So many clones so far.
+-- How many clones there are so far.
 use Rattle.std.proofs.Common.{◌≡◌, vec_len}
 use Rattle.bcast_threads.proofs.started.clones_of.Given as goal
 

@@ -1,4 +1,4 @@
--- Each thread is joined, or still to be.
+-- Each thread is joined, or is still to be joined.
 use Rattle.std.proofs.Common.{◌≡◌, ◌+◌, ◌≤◌, vec_len, vec_capacity}
 use Rattle.bcast_threads.proofs.group.Group.join.Given as goal
 

@@ -1,4 +1,4 @@
--- So many senders have their threads.
+-- This many senders have their threads.
 use Rattle.std.proofs.Common.{◌≡◌, ◌+◌, vec_len, vec_capacity}
 use Rattle.bcast_threads.proofs.started.Started.start_senders.Given as goal
 
