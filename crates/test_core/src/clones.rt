@@ -13,7 +13,7 @@ use std::rc::Rc;
 /// Whether clones are refused.
 type Refuses = Rc<Cell<bool>>;
 
-/// A message that refuses to be cloned while it is told to.
+/// A message whose clone is refused while `refuses` is true.
 #[derive(Drop)]
 struct Fragile {
     number: u64,
@@ -46,7 +46,7 @@ enum Step {
     PollNext(usize),
 }
 
-/// What a reply says, a message by its number.
+/// What a reply says, with a message by its number.
 #[derive(Clone, Copy, PartialEq, Eq)]
 enum Answer {
     Done,
@@ -89,8 +89,8 @@ fn answer_of(reply: &Reply<Fragile>) -> Answer {
     }
 }
 
-/// What is played, and the calls on a new channel of capacity 1, with whether clones are refused,
-/// and the answer.
+/// A name, and the calls on a new channel of capacity 1, with whether clones are refused, and the
+/// answer.
 const ROWS: &[(&str, &[(bool, Step, Answer)])] = &[
     (
         "a refused receive changes nothing, and the last reader gets the message itself",

@@ -1,3 +1,3 @@
-//! The errors: what they print, answer, give back and equal.
+//! The errors: what they print, return, give back and equal.
 mod texts;
 mod values;

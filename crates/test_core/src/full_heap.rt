@@ -73,7 +73,7 @@ const ROWS: &[Row] = &[
 ];
 
 /// Makes the second receiver and the pending send, and returns whether they and the first receiver
-/// are as the rows want them.
+/// have the keys and the place that the rows need.
 fn is_planned<A: Allocator + Copy>(
     inner: &mut Inner<u64, Silent, A>,
     first: usize,
@@ -83,7 +83,7 @@ fn is_planned<A: Allocator + Copy>(
     Ok(first == 0 && second == 1 && place == 0)
 }
 
-/// What came of a list, as rows have it.
+/// What a send of a list returned, as rows have it.
 fn as_row(sent: &Result<(), TrySendError<Vec<u64>>>) -> Result<(), TrySendError<&[u64]>> {
     match sent {
         Ok(()) => Ok(()),
@@ -93,7 +93,7 @@ fn as_row(sent: &Result<(), TrySendError<Vec<u64>>>) -> Result<(), TrySendError<
     }
 }
 
-/// Whether this comes of a list that is sent by `step`.
+/// Whether a send of a list by `step` returns this.
 fn holds_by_step<A: Allocator + Copy>(
     alloc: Global,
     inner: &mut Inner<u64, Silent, A>,
@@ -107,7 +107,7 @@ fn holds_by_step<A: Allocator + Copy>(
     })
 }
 
-/// Whether this comes of a list that is sent by `try_broadcast_all`.
+/// Whether a send of a list by `try_broadcast_all` returns this.
 fn holds_of_vector<A: Allocator + Copy>(
     alloc: Global,
     inner: &mut Inner<u64, Silent, A>,
@@ -118,7 +118,7 @@ fn holds_of_vector<A: Allocator + Copy>(
     Ok(as_row(&sent) == wanted)
 }
 
-/// Whether the reply is the row's. Lists are of memory of `alloc`.
+/// Whether the reply is the row's. Lists take their memory from `alloc`.
 fn holds<A: Allocator + Copy>(
     alloc: Global,
     inner: &mut Inner<u64, Silent, A>,
@@ -146,7 +146,7 @@ fn ask_rows<A: Allocator + Copy>(
     Ok(())
 }
 
-/// Makes the rows' calls on a channel of this heap, while the rest of the heap is taken.
+/// Makes the rows' calls on a channel of this heap, while there is no free memory in the heap.
 fn ask_on_full_heap(
     rt: &impl Abort,
     alloc: Global,

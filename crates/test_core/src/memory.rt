@@ -51,8 +51,8 @@ fn are_ours(calls: &[Call<u64>]) -> bool {
     matches!(calls, [Call::TryBroadcast(7), Call::Close])
 }
 
-/// Whether a run of two calls found memory. If it didn't, they came back. None: there is no memory
-/// for the calls.
+/// Whether there was memory for a run of two calls. If not, they were returned. None: there is no
+/// memory for the calls.
 fn runs<A: Allocator + Copy>(rt: &impl Abort, alloc: A) -> Option<bool> {
     let calls = vec![in alloc; Call::TryBroadcast(7), Call::Close].ok()?;
     let made = run(alloc, 1, 0, calls);
@@ -99,7 +99,7 @@ fn waited_for(alloc: Global) -> Result<Inner<u64, Silent>, AllocError> {
     Ok(inner)
 }
 
-/// Whether this is all of that channel.
+/// Whether this shows all of that channel.
 fn is_whole<A: Allocator>(seen: &Snapshot<u64, A>) -> bool {
     seen.queue.as_slice() == [8, 9].as_slice()
         && seen.cursors.iter().map(|entry| entry.1).eq([0, 2])
@@ -108,7 +108,7 @@ fn is_whole<A: Allocator>(seen: &Snapshot<u64, A>) -> bool {
         && seen.waiting_receives.ids.len() == 1
 }
 
-/// Whether there is memory for a snapshot, which then shows all of this channel.
+/// Whether there is memory for a snapshot. It must show all of this channel then.
 fn shows<A: Allocator + Copy>(rt: &impl Abort, alloc: A, inner: &Inner<u64, Silent>) -> bool {
     match inner.snapshot(alloc) {
         Ok(seen) => {

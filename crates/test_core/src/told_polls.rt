@@ -1,4 +1,4 @@
-//! Polls of listeners that are told: how many of them there are, and that none is answered later.
+//! Polls of listeners that are told: how many of them follow, and that each listener waits then.
 ghost use Rattle.bcast_model.specs.Next.{HasPositiveCapacity};
 
 use bcast_core::{Call, Inner, Kind, Reply, SendPoll, Silent, Snapshot, step};
@@ -186,8 +186,8 @@ fn told_polls(alloc: Global, inner: &mut Channel, most: usize) -> Result<usize, 
     Ok(most)
 }
 
-/// Whether so many listeners wait after the calls, so many polls of told ones follow, and then each
-/// poll of a listener waits.
+/// Whether this many listeners wait after the calls, this many polls of told ones follow, and then
+/// each poll of a listener waits.
 fn holds(alloc: Global, inner: &mut Channel, row: &Row) -> Result<bool, AllocError> {
     let (_, calls, count, told) = row;
     for asked in *calls {

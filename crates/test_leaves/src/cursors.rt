@@ -30,7 +30,7 @@ const STEPS: &[Step] = &[
     Step::Len(2),
 ];
 
-// Makes the call. Whether it returns what it must.
+// Makes the call, and returns whether it returns what it must.
 fn is_right(cursors: &mut Cursors, step: Step) -> Result<bool, AllocError> {
     match step {
         Step::Add(number, key) => Ok(cursors.add(number)? == key),

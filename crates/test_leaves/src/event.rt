@@ -1,4 +1,4 @@
-//! Which notices are called, how often and in which order, and what a refusal of memory leaves.
+//! Which notices are called, how often and in which order, and what holds after refused memory.
 use bcast_model::listener::Kind;
 use bcast_waiting::event::Event;
 use bcast_waiting::notice::{Given, MakesNotice, Notice, Silent};
@@ -29,7 +29,7 @@ impl Notice for Noted<'_> {
 enum Step {
     // Waits, with a notice of this digit.
     Wait(Id, u64),
-    // Is to wait, and is refused a notice.
+    // Asks to wait, and is refused a notice.
     Refuse(Id),
     Tell(usize),
     TellAll,
@@ -37,7 +37,7 @@ enum Step {
     // Gives up, and gets a notice of this digit back.
     Abandon(Id, Option<u64>),
     IsTold(Id, Option<bool>),
-    // The digits of the notices that were called, in their order.
+    // The digits of the notices that were called, in the order of the calls.
     Called(u64),
     Told(usize),
     Len(usize),
@@ -131,7 +131,7 @@ fn wait<N: Notice, A: Allocator>(
     Ok(made.is_ok() && event.is_untold(id))
 }
 
-// The same with a maker that has given its notice away. Whether it is refused.
+// The same with a maker whose notice is taken already. Returns whether it is refused.
 fn refuse<N: Notice, A: Allocator>(
     event: &mut Event<Id, N, A>,
     id: Id,
@@ -143,13 +143,13 @@ fn refuse<N: Notice, A: Allocator>(
     Ok(event.wait_again(id, &mut maker).is_err())
 }
 
-// Takes a listener out that gave up. Whether its notice comes back, and it is gone.
+// Takes out a listener that gave up. Returns whether its notice is returned, and it is gone.
 fn abandon(event: &mut Event<Id, Noted<'_>>, id: Id, digit: Option<u64>) -> bool {
     let notice = event.abandon(id);
     notice.map(|noted| noted.digit) == digit && event.is_told(id).is_none()
 }
 
-// Makes the call. Whether it returns what it must.
+// Makes the call, and returns whether it returns what it must.
 fn is_right<'a>(
     event: &mut Event<Id, Noted<'a>>,
     told: &'a Cell<u64>,
@@ -204,7 +204,7 @@ fn notices_are_called_in_their_order(rt: HostRuntime) -> Result<(), Fail> {
     Ok(())
 }
 
-// The ids from the front, after some that waited.
+// The ids from the front, after three that waited, one of which was told.
 fn ids_of_three<A: Allocator + Copy>(alloc: A) -> Result<Vec<Id, A>, AllocError> {
     let mut event = Event::new(alloc);
     wait(&mut event, STREAM, Silent)?;
@@ -221,7 +221,7 @@ fn who_was_told_waits_again_last(rt: HostRuntime) -> Result<(), Fail> {
     Ok(())
 }
 
-// Whether a list stays as it is when memory for a greater id is refused, and finds it for one more.
+// Whether a list is unchanged if memory for a greater id is refused, and then has it for one more.
 fn stays<A: Allocator + Copy>(alloc: A, refused: Id) -> Result<bool, AllocError> {
     let mut event = Event::new(alloc);
     wait(&mut event, STREAM, Silent)?;

@@ -1,4 +1,4 @@
-//! Tests of the store and of the lists of who waits: tables of steps, and lists of calls.
+//! Tests of the store, the queue and the lists of what waits: tables of steps, and lists of calls.
 #![tactic(auto)]
 
 #[cfg(test)]

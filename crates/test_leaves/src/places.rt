@@ -28,7 +28,7 @@ const STEPS: &[Step] = &[
     Step::Len(2),
 ];
 
-// Makes the call. Whether it returns what it must.
+// Makes the call, and returns whether it returns what it must.
 fn is_right(places: &mut Places, step: Step) -> Result<bool, AllocError> {
     match step {
         Step::Add(place) => Ok(places.add()? == place),
@@ -54,7 +54,7 @@ fn has_items(places: &Places, alloc: Global) -> Result<bool, AllocError> {
     Ok(items.as_slice() == [0, 1].as_slice())
 }
 
-// Adds places until one is refused. How many there are then, if that is as many as were added.
+// Adds places until one is refused. Returns how many there are, if that is as many as were added.
 fn fill<A: Allocator + Copy>(alloc: A, most: usize) -> Option<usize> {
     let mut places = Places::new(alloc);
     for count in 0..most {

@@ -1,4 +1,4 @@
-//! Rows of calls on the queue, with who owes each message then, and the steps that they take.
+//! Rows of calls on the queue, with who owes each message then, and the steps of the calls.
 ghost use Rattle.std.specs.Prelude.{◌≡◌, ◌+◌, ◌≤◌, ◌<◌, [], ◌∷◌};
 ghost use Rattle.bcast_queue.specs.Queue.{queue_with};
 
@@ -70,7 +70,7 @@ fn has(queue: &Queue<u8>, front: u64, messages: &[u8]) -> bool {
     is
 }
 
-// Makes the rows one after the other. Whether each leaves the front and the messages that it must.
+// Makes the rows one after the other, and returns whether front and messages are right after each.
 fn make_rows<L: Ledger>(alloc: Global, blank: Blank) -> Result<bool, AllocError>
     requires name { blank.name ≡ L.name }
     requires parts { blank.parts ≡ L.parts }

@@ -37,7 +37,7 @@ const ROWS: &[(Call, Ids, usize)] = &[
     (Call::GiveUp(5, Kind::Future), &[OTHER], 1),
 ];
 
-// Lists a listener. Whether it is not told then.
+// Lists a listener, and returns whether it is not told then.
 fn wait(receives: &mut Receives, key: usize, kind: Kind) -> Result<bool, AllocError> {
     receives.reserve_for((key, Kind::Future))?;
     let made = receives.wait_again((key, kind), &mut Given::new(Silent));
@@ -58,7 +58,7 @@ fn make(receives: &mut Receives, call: Call) -> Result<bool, AllocError> {
     Ok(true)
 }
 
-// Whether these wait, and so many are told.
+// Whether these wait, and this many are told.
 fn waits(
     receives: &Receives,
     alloc: Global,

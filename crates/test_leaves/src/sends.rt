@@ -1,4 +1,4 @@
-//! Three sends that wait, from their places to the last that is answered.
+//! Three sends that wait, from when they get places until the last one is answered.
 use bcast_waiting::SendList;
 use bcast_waiting::notice::{Given, Silent};
 use std::alloc::{AllocError, Global};
@@ -58,7 +58,7 @@ fn make(sends: &mut SendList<Silent>, call: Call) -> Result<(), AllocError> {
     Ok(())
 }
 
-// Whether these wait, and so many are told.
+// Whether these wait, and this many are told.
 fn waits(
     sends: &SendList<Silent>,
     alloc: Global,

@@ -1,4 +1,4 @@
-//! The calls of both stores, each made only if it may be made.
+//! The calls of both stores, each made only if it is allowed.
 use std::alloc::{AllocError, Global};
 
 mod compared;
@@ -7,7 +7,7 @@ mod refused;
 mod rows;
 mod slow;
 
-// A call. A receiver is meant by its place among those that there are, modulo how many there are.
+// A call. A receiver is named by its index among those that there are, modulo their count.
 #[derive(Clone, Copy)]
 enum Call {
     Push(u8),
@@ -34,7 +34,7 @@ struct Seen {
     has_no_receiver: bool,
 }
 
-// A store. A call that may not be made, as a push to a full store, does nothing.
+// A store. A call that is not allowed, as a push to a full store, does nothing.
 trait Tried: Drop {
     fn seen(&self) -> Seen;
 
@@ -61,7 +61,7 @@ trait Tried: Drop {
     fn try_read(&mut self, key: usize) -> Result<Option<u8>, AllocError>;
 }
 
-// A store, and the keys of its receivers in the order of their making.
+// A store, and the keys of its receivers in the order in which they were added.
 #[derive(Drop)]
 struct Played<S: Tried> {
     store: S,
@@ -69,7 +69,7 @@ struct Played<S: Tried> {
 }
 
 impl<S: Tried> Played<S> {
-    // A store without a receiver, which gets one at its end.
+    // A store without receivers, to which one is added at its end.
     fn new(alloc: Global, store: S) -> Result<Self, AllocError> {
         let keys = Vec::new(alloc);
         let mut played = Played { store, keys };
@@ -98,7 +98,7 @@ impl<S: Tried> Played<S> {
         Ok(())
     }
 
-    // Takes a receiver out. Whether its key has a receiver before, and none then.
+    // Takes a receiver out, and returns whether its key had a receiver before, and has none then.
     fn remove(&mut self, receiver: usize) -> bool {
         let count = self.keys.len();
         if count == 0 {
@@ -108,7 +108,7 @@ impl<S: Tried> Played<S> {
         self.store.try_remove(key) && !self.store.try_remove(key)
     }
 
-    // Makes a call that gives no message. Whether it returns what it must.
+    // Makes a call that returns no message, and returns whether it returns what it must.
     fn change(&mut self, call: Call) -> Result<bool, AllocError> {
         match call {
             Call::Push(msg) => self.store.try_push(msg)?,
@@ -135,7 +135,7 @@ impl<S: Tried> Played<S> {
         Ok(true)
     }
 
-    // Makes a call that gives a message, and returns that.
+    // Makes a call that returns a message, and returns that.
     fn take(&mut self, call: Call) -> Result<Option<u8>, AllocError> {
         match call {
             Call::Pop => Ok(self.store.try_pop()),

@@ -3,7 +3,7 @@ use std::alloc::AllocError;
 use std::test::Fail;
 use uses::config_watcher::Config;
 
-/// A call, and what comes of it. Watchers are counted in the order of coming.
+/// A call, and what it does. Watchers are counted in the order in which they were added.
 #[derive(Clone, Copy)]
 enum Step {
     /// The settings are set.
@@ -12,7 +12,7 @@ enum Step {
     Watch,
     /// This watcher finds nothing new.
     UpToDate(usize),
-    /// This watcher finds these settings, and missed so many before them.
+    /// This watcher finds these settings, and missed this many before them.
     Change(usize, u64, u64),
 }
 

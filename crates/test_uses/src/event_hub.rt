@@ -4,14 +4,14 @@ use std::alloc::AllocError;
 use std::test::Fail;
 use uses::event_hub::EventHub;
 
-/// A call, and what comes of it. Subscribers are counted in the order of coming.
+/// A call, and what it does. Subscribers are counted in the order in which they were added.
 #[derive(Clone, Copy)]
 enum Step {
     /// The event is published.
     Publish(u64),
-    /// The event comes back: some subscriber is behind.
+    /// The event is returned: some subscriber is behind.
     Full(u64),
-    /// The event comes back: there is no subscriber.
+    /// The event is returned: there is no subscriber.
     Inactive(u64),
     /// A subscriber is added.
     Subscribe,

@@ -1,4 +1,4 @@
-//! Channels by name, request by request and as lists.
+//! Channels by name, with requests one by one and as lists.
 mod asked;
 mod collisions;
 mod memory;

@@ -1,5 +1,5 @@
-//! Tests of the four uses of a channel, of channels by name, of a text sent to two receivers, and of
-//! what a page shows.
+//! Tests of the four uses of a channel, of channels by name, of a text sent to two receivers, and
+//! of what a page shows.
 #![tactic(auto)]
 
 #[cfg(test)]

@@ -3,12 +3,12 @@ use bcast_core::TrySendError;
 use std::test::Fail;
 use uses::log_fan_out::Log;
 
-/// A call on a log with two readers, and what comes of it.
+/// A call on a log with two readers, and what it does.
 #[derive(Clone, Copy)]
 enum Step {
     /// The record is written.
     Write(u64),
-    /// The record comes back: some reader is behind.
+    /// The record is returned: some reader is behind.
     Full(u64),
     /// The first reader reads this record, or none.
     First(Option<u64>),

@@ -1,4 +1,4 @@
-//! The four uses, of which docs/GUIDE.md shows parts. Each function is given its caller new.
+//! The four uses, of which docs/GUIDE.md shows parts. Each function is given a new caller.
 use bcast_core::TrySendError;
 use std::process::Abort;
 use std::test::Fail;
@@ -12,7 +12,7 @@ fn publish(rt: &impl Abort, hub: &mut EventHub<u64>) -> Result<(), Fail> {
     let one = hub.subscribe()?;
     let two = hub.subscribe_like(one)?;
     assert!(rt; hub.publish(5) == Ok(()));
-    // The event comes back, and nothing changed.
+    // The event is returned, and nothing changed.
     assert!(rt; hub.publish(6) == Err(TrySendError::Full(6)));
     hub.unsubscribe(one);
     assert!(rt; hub.next_event(two)? == Some(5));
@@ -62,10 +62,10 @@ fn log_fan_out(rt: HostRuntime) -> Result<(), Fail> {
     write(&rt, &mut log, one)
 }
 
-/// A signal that one part holds.
+/// A signal that has one holder.
 fn release(rt: &impl Abort, signal: &mut Shutdown) -> Result<(), Fail> {
     let worker = signal.add_worker()?;
-    // Two hold it now.
+    // It has two holders now.
     signal.hold()?;
     signal.release();
     assert!(rt; !signal.is_given(worker));

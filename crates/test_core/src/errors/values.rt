@@ -1,17 +1,17 @@
-//! What each error answers of itself, which message it gives back, and what it equals.
+//! What the functions of each error return, which message it gives back, and what it equals.
 use bcast_core::{HandleError, NoMemory, RecvError, SendError, TryRecvError, TrySendError};
 use std::alloc::AllocError;
 use std::process::Abort;
 use std::string::String;
 
-/// Errors, with what they answer: full, closed, inactive.
+/// Errors, and whether each is full, closed, inactive.
 const SENDING: &[(TrySendError<u64>, [bool; 3])] = &[
     (TrySendError::Full(1), [true, false, false]),
     (TrySendError::Closed(2), [false, true, false]),
     (TrySendError::Inactive(3), [false, false, true]),
 ];
 
-/// Errors, with what they answer: empty, closed, overflowed.
+/// Errors, and whether each is empty, closed, overflowed.
 const RECEIVING: &[(TryRecvError, [bool; 3])] = &[
     (TryRecvError::Empty, [true, false, false]),
     (TryRecvError::Closed, [false, true, false]),

@@ -1,8 +1,8 @@
-//! Calls with their replies, as constants have them.
+//! Calls with their replies, as constants.
 use bcast_core::{Call, RecvError, Reply, SendPoll, TryRecvError, TrySendError};
 use futures::task::Poll;
 
-/// A call of this name, by its arguments and then by what its reply has. Memory is never refused.
+/// A call of this name, with its arguments and then what its reply has. Memory is never refused.
 #[derive(Clone, Copy)]
 pub(crate) enum Row {
     TryBroadcast(u64, Result<Option<u64>, TrySendError<u64>>),
@@ -31,10 +31,10 @@ pub(crate) enum Row {
     Sees(Seen),
 }
 
-/// What came of a list.
+/// What a send of a list returns.
 pub(crate) type Sent = Result<(), TrySendError<&'static [u64]>>;
 
-/// What a poll of a stream is answered.
+/// What a poll of a stream returns.
 #[derive(Clone, Copy)]
 pub(crate) enum Polled<T> {
     Waits,
@@ -42,7 +42,7 @@ pub(crate) enum Polled<T> {
     Ends,
 }
 
-/// An accessor of this name, and what it answers.
+/// An accessor of this name, and what it returns.
 #[derive(Clone, Copy)]
 pub(crate) enum Seen {
     Overflow(bool),

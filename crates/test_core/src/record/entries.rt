@@ -14,7 +14,7 @@ pub(crate) enum Step {
     Close,
     /// A list, which is accepted.
     SendAll(&'static [u64]),
-    /// A list, which comes back as too long.
+    /// A list, which is refused as too long.
     SendTooMany(&'static [u64]),
 }
 
@@ -45,7 +45,7 @@ impl Step {
         }
     }
 
-    /// Whether the call succeeds with this reply, or its list comes back.
+    /// Whether the call succeeds with this reply, or its list is handed back.
     fn is_answered(self, reply: &Reply<u64>) -> bool {
         match self {
             Step::Send => *reply == Reply::TryBroadcast(Ok(None)),
@@ -59,8 +59,8 @@ impl Step {
         }
     }
 
-    /// Whether the entry is of this call, which this seat made, and of its reply, as a copy of it
-    /// says.
+    /// Whether the entry is of this call, which was made for this seat, and of its reply, which a
+    /// copy must equal.
     pub(crate) fn is_stored(self, seat: usize, entry: &Entry<u64>) -> bool {
         let Ok(reply) = copy_of_reply(&entry.reply) else {
             return false;

@@ -10,7 +10,7 @@ use std::marker::Brand;
 use std::sync::ledger::Blank;
 
 /// Calls on a new log of capacity 2 and two seats, each with the seat's number, and how many calls
-/// each seat made then.
+/// were made for each seat then.
 const PLAYS: &[(&[(usize, Step)], [usize; 2])] = &[
     (
         &[(0, Step::Send), (1, Step::Receive), (0, Step::Close)],
@@ -22,7 +22,7 @@ const PLAYS: &[(&[(usize, Step)], [usize; 2])] = &[
     ),
 ];
 
-/// Whether the call is answered as it must be, and its entry is stored at this place.
+/// Whether the call is replied to as it must be, and its entry is stored at this place.
 fn stores<R: Named, A: Allocator + Copy>(
     alloc: Global,
     log: &mut Log<u64, R, A>,
@@ -79,7 +79,7 @@ fn a_log_stores_each_call_with_its_reply(rt: HostRuntime) -> Result<(), AllocErr
     Ok(())
 }
 
-/// Whether the call comes back, and the log and the seat are as new.
+/// Whether the call is handed back, and the log and the seat are as new.
 fn refuses<R: Named, A: Allocator + Copy>(
     alloc: Global,
     log: &mut Log<u64, R, A>,
@@ -127,8 +127,8 @@ fn a_refused_call_was_not_made(rt: HostRuntime) -> Result<(), AllocError> {
     Ok(())
 }
 
-/// How many of two calls a new log stores before one finds no memory. None: a call that found none
-/// changed something, or one was stored otherwise.
+/// How many of two calls a new log stores before one is refused memory. None: a refused call
+/// changed something, or one was stored wrongly.
 fn stores_until<R: Named>(
     alloc: Global,
     log: &mut Log<u64, R, &LocalHeap>,
@@ -146,11 +146,11 @@ fn stores_until<R: Named>(
     Ok(Some(2))
 }
 
-/// The same of a log on this heap.
+/// The same for a log on this heap.
 ///
 /// # Errors
 ///
-/// - `AllocError`: no memory for the log.
+/// - `AllocError`: there is no memory for the log.
 fn stored<R: Named>(
     alloc: Global,
     heap: &LocalHeap,

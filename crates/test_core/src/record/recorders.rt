@@ -41,7 +41,7 @@ fn has_all<R: Named>(
         ))
 }
 
-/// Whether the recorder and one of its two seats come back, and the entries once both are given.
+/// Whether the recorder and one of its two seats are returned, and the entries when both are given.
 fn finishes<R: Named>(
     recorder: Recorder<u64, R>,
     mut seats: Vec<Seat<R>>,

@@ -14,7 +14,7 @@ use std::sync::ledger::Blank;
 const CALLS: &[&[Step]] = &[
     &[Step::Send, Step::Receive],
     &[Step::SendAll(&[1, 2])],
-    // So many that memory for entries is taken again.
+    // These need memory for entries more than once.
     &[
         Step::Send,
         Step::Receive,
@@ -25,11 +25,11 @@ const CALLS: &[&[Step]] = &[
     ],
 ];
 
-/// The bytes of a heap that has memory for a recorder and its entries.
+/// The size in bytes of a heap that has memory for a recorder and its entries.
 const HEAP: usize = 4096;
 
-/// Whether a new recorder finds no memory on the heap. None: it finds none and keeps some, or has
-/// another receiver or more seats than it must.
+/// Whether a new recorder is refused memory on the heap. None: it is refused and keeps some, or it
+/// has another receiver or more seats than it must.
 fn is_refused<R: Named>(heap: &LocalHeap, calls: Blank, journal: Journal<Note<u64>>) -> Option<bool>
     requires calls { (calls.name ≡ R.name) × (calls.parts ≡ R.parts) × (calls.parts ≡ 2) }
     requires journal { journal ≡ R.book }
@@ -54,7 +54,7 @@ fn a_refused_recorder_is_not_made(rt: HostRuntime) -> Result<(), AllocError> {
     Ok(())
 }
 
-/// The memory of a recorder, of which each call at first finds so many bytes free.
+/// The memory of a recorder, of which this many bytes are free when a call is first made.
 #[derive(Clone, Copy)]
 struct Memory<'a> {
     heap: &'a LocalHeap,
@@ -62,7 +62,7 @@ struct Memory<'a> {
 }
 
 impl<'a> Memory<'a> {
-    /// Takes all but what is left.
+    /// Takes all memory but these bytes.
     fn take(self, alloc: Global) -> Result<Vec<Vec<u8, &'a LocalHeap>>, AllocError> {
         let _kept = Vec::<u8, &LocalHeap>::with_capacity(self.heap, self.left)?;
         let mut taken = Vec::new(alloc);
@@ -76,10 +76,10 @@ impl<'a> Memory<'a> {
     }
 }
 
-/// Makes a call with little memory, and again with all of it if it comes back.
+/// Makes a call with little memory, and again with all of it if it is handed back.
 ///
-/// Whether it came back. None: it came back changed or counted, or was answered otherwise than it
-/// must be.
+/// Returns whether it was handed back. None: it was handed back changed or counted, or the reply
+/// was not as it must be.
 fn ask<'a, R: Named>(
     rt: &impl Wait,
     alloc: Global,
@@ -105,7 +105,7 @@ fn ask<'a, R: Named>(
     Ok((is_counted && call.is_stored(0, receipt.entry())).then_some(is_refused))
 }
 
-/// Makes the calls in order. Whether one of them came back. None: one was wrong.
+/// Makes the calls in order. Returns whether one of them was handed back. None: one was wrong.
 fn ask_all<'a, R: Named>(
     rt: &impl Wait,
     alloc: Global,
@@ -130,7 +130,7 @@ fn has_all<R: Named>(finished: &Finished<u64, R, &LocalHeap>, calls: &[Step]) ->
     finished.entries().len() == calls.len() && pairs.all(|(entry, call)| call.is_stored(0, entry))
 }
 
-/// The same on a new recorder, which has an entry for each call at its end.
+/// The same on a new recorder, which must have an entry for each call at its end.
 fn records<R: Named>(
     rt: &impl Wait,
     alloc: Global,

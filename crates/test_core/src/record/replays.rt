@@ -1,4 +1,4 @@
-//! Threads over one recorder, whose calls are made again on one thread.
+//! Threads over one recorder, whose calls are made again in one thread.
 ghost use Rattle.std.specs.Prelude.{◌≡◌, ◌+◌, ◌<◌};
 ghost use Rattle.bcast_model.specs.Next.{HasPositiveCapacity};
 
@@ -64,7 +64,8 @@ fn keep_key(made: &mut Vec<usize>, reply: &Reply<u64>) {
     }
 }
 
-/// What the thread of a seat asks. A receipt that finds no memory is missed later.
+/// Makes the calls of a seat in its thread. A receipt for which there is no memory is missing
+/// later.
 fn ask<R: Named>(
     rt: &impl Wait,
     alloc: Global,
@@ -109,13 +110,13 @@ fn are_entries<R: Named>(
 /// Whether a call, made again, gets the reply that was stored.
 fn is_same(inner: &mut Inner<u64, Silent>, call: Call<u64>, stored: &Reply<u64>) -> bool {
     match call {
-        // No recorder is asked this.
+        // This call is never made.
         Call::SetCapacity(0) => false,
         call => step(inner, call, Silent) == *stored,
     }
 }
 
-/// Whether the calls, made again on one thread, get the replies that were stored.
+/// Whether the calls, made again in one thread, get the replies that were stored.
 fn replays<R: Named>(alloc: Global, finished: &Finished<u64, R>) -> Result<bool, AllocError> {
     let opening = finished.opening();
     let (mut inner, key) = Inner::new(alloc, opening.capacity)?;
@@ -156,7 +157,7 @@ fn part<R: Named>(alloc: Global, asked: Vec<Asked<R>>) -> Result<Parted<R>, Allo
     Ok((seats, lists))
 }
 
-/// Threads ask one recorder, each for a seat of its own, and one thread makes their calls again.
+/// Threads use one recorder, each with a seat of its own, and one thread makes their calls again.
 fn record<R: Named + Send + Sync>(
     rt: &(impl Threads + Wait + Sync),
     alloc: Global,

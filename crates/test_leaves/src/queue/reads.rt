@@ -7,7 +7,7 @@ use std::alloc::{AllocError, Global};
 use std::marker::Model;
 use std::test::Fail;
 
-// A message that knows whether it is a copy. To a contract it is the letter.
+// A message that shows whether it is a copy. To a contract it is the letter.
 #[derive(Drop)]
 struct Letter {
     letter: u8,
@@ -98,7 +98,7 @@ fn the_last_leaves(queue: &mut Queue<Letter>)
     queue.leave(0, &mut Uncounted);
 }
 
-// Whether the answer is this letter, and a copy or the message itself.
+// Whether the answer is this letter, and is a copy or the message itself as `is_copy` says.
 fn is(answer: &Letter, letter: u8, is_copy: bool) -> bool {
     answer.letter == letter && answer.is_copy == is_copy
 }
@@ -114,8 +114,8 @@ fn has(queue: &Queue<Letter>, front: u64, messages: &[u8]) -> bool {
     has
 }
 
-// Makes the rows one after the other. Whether each leaves the front and the messages that it must,
-// and each read is answered as it must be.
+// Makes the rows one after the other, and returns whether front and messages are right after each,
+// and each read returns what it must.
 fn make_rows(alloc: Global) -> Result<bool, AllocError> {
     let mut queue = Queue::new(alloc, 0, 3)?;
     two_are_pushed(&mut queue);

@@ -1,11 +1,11 @@
-//! The same calls to both stores: every short list of calls, and long lists by a fixed seed.
+//! The same calls on both stores: every short list of calls, and long lists from a fixed seed.
 use super::slow::Plain;
 use super::{Call, Played, Tried};
 use bcast_store::Store;
 use std::alloc::{AllocError, Global};
 use std::test::Fail;
 
-// Makes the call in both. Whether they return the same.
+// Makes the call on both, and returns whether they return the same.
 fn make<F: Tried, S: Tried>(
     fast: &mut Played<F>,
     slow: &mut Played<S>,
@@ -42,7 +42,7 @@ const CALLS: [Call; 12] = [
     Call::Skip(1),
 ];
 
-// The call with a message of its own.
+// The call, with this message if it pushes one.
 fn with_message(call: Call, msg: u8) -> Call {
     match call {
         Call::Push(_) => Call::Push(msg),
@@ -50,7 +50,7 @@ fn with_message(call: Call, msg: u8) -> Call {
     }
 }
 
-// Whether four calls, by the digits of a number, are the same in both.
+// Whether four calls, chosen by the digits of a number, do the same on both.
 fn short_list<F: Tried, S: Tried>(
     mut fast: Played<F>,
     mut slow: Played<S>,
@@ -67,7 +67,7 @@ fn short_list<F: Tried, S: Tried>(
     Ok(is)
 }
 
-// The call that a random number stands for.
+// The call for a random number.
 fn call_of(random: u64, msg: u8) -> Call {
     let receiver = (random >> 40) as usize;
     match random >> 60 {
@@ -89,7 +89,7 @@ fn next(random: u64) -> u64 {
         .wrapping_add(1442695040888963407)
 }
 
-// Whether 250 calls after this number are the same in both, and the last number.
+// Whether 250 calls from this random number on do the same on both, and the last random number.
 fn long_list<F: Tried, S: Tried>(
     mut fast: Played<F>,
     mut slow: Played<S>,

@@ -1,4 +1,4 @@
-//! The calls that take memory while it is refused.
+//! The calls that take memory, made while it is refused.
 use bcast_store::Store;
 use linked_list_allocator::LocalHeap;
 use std::alloc::{AllocError, Allocator};
@@ -29,7 +29,7 @@ impl Text for Message<'_> {
     }
 }
 
-// Which calls were refused their memory, and whether each left the store as it must.
+// Which calls were refused memory, and whether each left the store as it must.
 #[derive(Clone, Copy, PartialEq, Eq)]
 struct Refused {
     new: bool,
@@ -54,7 +54,7 @@ fn add<T: Drop, A: Allocator + Copy>(
     store.add(cursor)
 }
 
-// Whether more room was refused, if it is as great as it must be then.
+// Whether more room was refused, if the room is as great as it must be then.
 fn grow<T: Drop, A: Allocator + Copy>(store: &mut Store<T, A>) -> Option<bool> {
     if store.room() > 9 {
         return None;
@@ -105,7 +105,7 @@ fn two_read<T: Text, A: Allocator + Copy>(alloc: A, msg: T) -> Result<Refused, A
         is_right &= store.cursor(first) == Some(7);
         store.remove(first);
     }
-    // The last reader takes no memory.
+    // The last reader's read takes no memory.
     is_right &= reads(&mut store, second) == Some(true) && store.front() == 8;
     Ok(Refused {
         new: false,
@@ -115,7 +115,7 @@ fn two_read<T: Text, A: Allocator + Copy>(alloc: A, msg: T) -> Result<Refused, A
     })
 }
 
-// As above, on a heap; an error if it doesn't even have room for the message.
+// As above, on a heap; an error if the heap has no memory even for the message.
 fn run(heap: &LocalHeap) -> Result<Refused, AllocError> {
     let bytes = Vec::from_slice(heap, TEXT.as_slice())?;
     two_read(heap, Message { bytes })
@@ -145,7 +145,7 @@ fn refused_memory_changes_nothing(rt: HostRuntime) -> Result<(), Fail> {
     Ok(())
 }
 
-// How many receivers a store has when one more is refused, if it is else as it was made.
+// How many receivers a store has when one more is refused, if nothing else changed.
 fn refused_receiver<A: Allocator + Copy>(alloc: A) -> Result<Option<usize>, AllocError> {
     let mut store = Store::<u8, A>::new(alloc, 7, 1)?;
     for added in 0..64 {
@@ -164,7 +164,7 @@ fn a_refused_receiver_is_not_added(rt: HostRuntime) -> Result<(), Fail> {
     Ok(())
 }
 
-// Whether a message leaves with all receivers that there are, once one more was refused.
+// Whether a message is dropped when all receivers are removed, after one more was refused.
 fn message_leaves<A: Allocator + Copy>(alloc: A) -> Result<bool, AllocError> {
     let mut store = Store::<u8, A>::new(alloc, 7, 1)?;
     add(&mut store, 7)?;
@@ -187,7 +187,7 @@ fn a_refused_receiver_owes_nothing(rt: HostRuntime) -> Result<(), Fail> {
     Ok(())
 }
 
-// Whether a receiver that lags stays where it was once its read was refused, or nothing if it was
+// Whether a receiver that is behind has the same cursor after its read was refused. None: it was
 // not refused.
 fn lags_still<T: Text, A: Allocator + Copy>(alloc: A, msg: T) -> Result<Option<bool>, AllocError> {
     let (mut store, first) = with_receiver(alloc)?;
@@ -203,7 +203,7 @@ fn lags_still<T: Text, A: Allocator + Copy>(alloc: A, msg: T) -> Result<Option<b
     Ok(Some(store.cursor(first) == Some(7)))
 }
 
-// As above, on a heap; an error if it doesn't even have room for the message.
+// As above, on a heap; an error if the heap has no memory even for the message.
 fn run_behind(heap: &LocalHeap) -> Result<Option<bool>, AllocError> {
     let bytes = Vec::from_slice(heap, TEXT.as_slice())?;
     lags_still(heap, Message { bytes })
@@ -224,7 +224,7 @@ fn a_refused_read_skips_nothing(rt: HostRuntime) -> Result<(), Fail> {
     Ok(())
 }
 
-// Whether more room was refused: for four messages in place of three, and then for six.
+// Whether more room was refused: for four messages instead of three, and then for six.
 fn grow_twice(heap: &LocalHeap) -> Result<(bool, bool), AllocError> {
     let mut store = Store::<u64, &LocalHeap>::new(heap, 7, 3)?;
     Ok((store.grow(4).is_err(), store.grow(6).is_err()))

@@ -1,4 +1,4 @@
-//! Calls in their order with what they leave, in both stores.
+//! Calls in their order with what they leave, on both stores.
 use super::slow::Plain;
 use super::{Call, Played, Seen, Tried};
 use bcast_store::Store;
@@ -6,8 +6,8 @@ use std::alloc::{AllocError, Global};
 use std::process::Abort;
 use std::test::Fail;
 
-// The name of a row, the call, the message that it gives, and then the front, the messages, and the
-// cursors of the receivers.
+// The name of a row, the call, the message that it returns, and then the front, the messages, and
+// the cursors of the receivers.
 type Row = (
     &'static str,
     Call,
@@ -107,7 +107,7 @@ fn has<S: Tried>(
     Ok(is)
 }
 
-// Makes the calls of a table. The name of the first row that leaves something else.
+// Makes the calls of a table, and returns the name of the first row that leaves something else.
 fn first_wrong<S: Tried>(
     mut played: Played<S>,
     alloc: Global,
@@ -123,7 +123,7 @@ fn first_wrong<S: Tried>(
     Ok(None)
 }
 
-// Makes the calls of a table in both stores, with this front and room for two messages.
+// Makes the calls of a table on both stores, with this front and room for two messages.
 fn run(rt: &impl Abort, alloc: Global, front: u64, rows: &[Row]) -> Result<(), AllocError> {
     assert!(rt; front < 9);
     let fast = Store::new(alloc, front, 2)?;

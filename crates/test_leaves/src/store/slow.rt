@@ -1,18 +1,18 @@
-//! The store as plainly as can be said: each call looks at every message and every reader.
+//! A plain store: each call looks at every message and every reader.
 use super::{Seen, Tried};
 use std::alloc::{AllocError, Global};
 
-// The store as a list of messages and a list of readers, without counts, keys given again or
-// contracts.
+// The store as a list of messages and a list of readers. It has no counts and no contracts, and
+// gives no key twice.
 #[derive(Drop)]
 pub(super) struct Plain {
-    // The messages that someone is still to read, each with its number, in the order of sending.
+    // The messages that a reader is still to read, each with its number, in the order of sending.
     messages: Vec<(u64, u8)>,
     // The number that the next message gets.
     next: u64,
-    // Each reader's key and the number that it reads next, in the order of coming.
+    // Each reader's key and the number that it reads next, in the order in which they were added.
     readers: Vec<(usize, u64)>,
-    // The key of the next reader, which none ever had.
+    // The key of the next reader, which no reader had before.
     next_key: usize,
     room: usize,
 }
@@ -37,7 +37,7 @@ impl Plain {
         }
     }
 
-    // Lets a reader go on at this number.
+    // Sets the number that a reader reads next.
     fn move_to(&mut self, key: usize, number: u64) {
         for reader in self.readers.iter_mut() {
             if reader.0 == key {
@@ -46,7 +46,7 @@ impl Plain {
         }
     }
 
-    // Drops the messages that nobody is to read any more.
+    // Drops the messages that no reader is still to read.
     fn drop_read(&mut self) {
         let mut least = self.next;
         for reader in &self.readers {

@@ -10,11 +10,11 @@ use topics::{Answer, Request};
 /// What is asked of the topic of a name.
 #[derive(Clone, Copy)]
 pub enum Asked {
-    /// Opens a topic of this capacity, or of 1.
+    /// Opens a topic of this capacity, or of capacity 1 if this is 0.
     Open(usize),
     Follow,
     Publish(u64),
-    /// Receives by the follower of this number. Followers are counted in the order of coming.
+    /// Receives by the follower of this number, counted in the order in which they came.
     Receive(usize),
     Leave(usize),
     Close,
@@ -27,7 +27,7 @@ pub enum Answered {
     Opened,
     Exists,
     NoTopic,
-    /// There is a follower more, whatever its key.
+    /// There is one more follower, whatever its key.
     Followed,
     Sent,
     Full(u64),

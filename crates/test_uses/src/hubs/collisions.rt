@@ -7,19 +7,19 @@ use std::test::Fail;
 use std::time::CpuClock;
 use topics::{Answer, Hub, Request};
 
-/// What names of 32 bytes begin with that collide.
+/// The beginning of names of 32 bytes that collide.
 ///
 /// The fold hash takes 16 bytes at a time. The first 16 of these make its state the number that the
 /// next 8 spell. So a factor of the last product is 0, and the last 8 bytes of a name don't matter.
 const COLLIDING: &str = "topic.aaaaakzyusmej9x47o";
 
-/// The same but for one letter, after which no factor is 0.
+/// The same except for one letter, with which no factor is 0.
 const OTHER: &str = "topic.aaaaakzyusmej9x47p";
 
 /// How many topics are opened.
 const COUNT: u64 = 2_000;
 
-/// The name of 32 bytes that begins so, and ends with the digits of `number`, the last first.
+/// The name of 32 bytes that begins so and ends with the digits of `number`, the last one first.
 fn name(alloc: Global, beginning: &str, number: u64) -> Result<String, AllocError> {
     let mut name = String::from_str(alloc, beginning)?;
     let mut rest = number;
@@ -30,7 +30,7 @@ fn name(alloc: Global, beginning: &str, number: u64) -> Result<String, AllocErro
     Ok(name)
 }
 
-/// How many hashes the names have that begin so.
+/// How many different hashes the names that begin so have.
 fn hashes<S: BuildHasher>(alloc: Global, seed: &S, beginning: &str) -> Result<usize, AllocError> {
     let mut all = Vec::new(alloc);
     for number in 0..COUNT {
@@ -41,7 +41,7 @@ fn hashes<S: BuildHasher>(alloc: Global, seed: &S, beginning: &str) -> Result<us
     Ok(all.len())
 }
 
-/// Opens the topics whose names begin so, and returns the processor's nanoseconds for that.
+/// Opens the topics whose names begin so, and returns the processor time for that in nanoseconds.
 fn time_to_open<R, S>(rt: &R, mut hub: Hub<u64, Global, S>, beginning: &str) -> Result<u128, Fail>
 where
     R: Abort + AllocGlobal + CpuClock,

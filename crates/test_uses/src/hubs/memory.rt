@@ -12,11 +12,11 @@ const NAMES: &[&str] = &["a", "b", "c", "d", "e", "f"];
 
 /// Opens the topics in turn, until there is no memory for one, and returns how many there are.
 ///
-/// That one is not open then, and those before it are as they were.
+/// That one must not be open then, and those before it must still be.
 fn open_topics<A: Allocator + Copy>(rt: &impl Abort, alloc: A) -> Result<usize, AllocError> {
     let mut hub: Hub<u64, A> = Hub::new(alloc);
     for (count, name) in NAMES.iter().enumerate() {
-        // Taken first, so that what is refused is memory of the hub.
+        // Taken first, so that the memory that is refused is the hub's.
         let again = String::from_str(alloc, name)?;
         match hub.ask(Request::Open(String::from_str(alloc, name)?, 1)) {
             Answer::Opened => {}
@@ -64,8 +64,8 @@ const REFUSED: &[Row] = &[
     ("b", Asked::Close, Answered::NoTopic),
 ];
 
-/// Whether a list of two requests found memory. If it didn't, they came back. None: there is no
-/// memory for the requests.
+/// Whether there was memory for a list of two requests. If not, they were returned. None: there is
+/// no memory for the requests.
 fn runs<A: Allocator + Copy>(rt: &impl Abort, alloc: A) -> Option<bool> {
     match run_hub(alloc, list_of(alloc, &[], REFUSED).ok()?) {
         Ok((_, answers)) => {

@@ -1,4 +1,4 @@
-//! Requests with their answers, asked one by one, and again as one list.
+//! Requests with their answers, made one by one, and again as one list.
 use super::asked::{Answered, Row, as_row, list_of, request};
 use super::tables::TABLES;
 use bcast_core::Reply;
@@ -7,7 +7,7 @@ use std::process::Abort;
 use std::test::Fail;
 use topics::{Answer, Hub, run_hub};
 
-/// Whether an answer is the row's. A new follower's key is noted in `keys`.
+/// Whether an answer is the row's. A new follower's key is added to `keys`.
 fn is_answer(
     keys: &mut Vec<usize>,
     answer: &Answer<u64>,
@@ -19,7 +19,7 @@ fn is_answer(
     Ok(as_row(answer) == expected)
 }
 
-/// Asks the rows one by one. Returns the keys of the followers.
+/// Makes the rows' requests one by one, and returns the keys of the followers.
 fn ask_each(rt: &impl Abort, alloc: Global, name: &str, rows: &[Row]) -> Result<Vec<usize>, Fail> {
     let mut hub: Hub<u64> = Hub::new(alloc);
     let mut keys = Vec::new(alloc);
@@ -33,7 +33,7 @@ fn ask_each(rt: &impl Abort, alloc: Global, name: &str, rows: &[Row]) -> Result<
     Ok(keys)
 }
 
-/// Asks the rows as one list, with the keys that they got one by one.
+/// Makes the rows' requests as one list, with the keys that the followers got one by one.
 fn ask_all(
     rt: &impl Abort,
     alloc: Global,

@@ -1,4 +1,4 @@
--- The blank names the ledger.
+-- The ledger that is named is that of the blank.
 use Rattle.test_leaves.proofs.queue.readers_come_and_leave.Given as goal
 
 abbrev pub ghosts-make_rows : goal.ghosts-make_rows

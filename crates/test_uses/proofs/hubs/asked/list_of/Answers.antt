@@ -1,4 +1,4 @@
--- One request more.
+-- One more request.
 use Rattle.std.proofs.Common.{[], ◌∷◌, subst, sym}
 use Rattle.std.specs.List.{AllByRecursion}
 use Rattle.bcast_model.proofs.Lists.{all_append}
