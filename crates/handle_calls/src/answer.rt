@@ -1,9 +1,9 @@
-//! What calls on handles answered, as values that print.
+//! What calls on handles returned, as values that print.
 use crate::seen::Seen;
 use async_broadcast::{HandleError, RecvError, SendError, TryRecvError, TrySendError};
 use std::alloc::AllocError;
 
-/// What a call was answered.
+/// What a call returned.
 #[derive(Clone, Copy, Debug)]
 pub enum Answer {
     Accepted,
@@ -12,11 +12,11 @@ pub enum Answer {
     Full(u64),
     Closed(u64),
     Inactive(u64),
-    /// So many messages of a list came back.
+    /// This many messages of a list were handed back.
     AllFull(usize),
     AllClosed(usize),
     AllInactive(usize),
-    /// Refused to a send that may wait.
+    /// A send that may wait is refused.
     Refused(u64),
     Message(u64),
     Overflowed(u64),
@@ -24,7 +24,7 @@ pub enum Answer {
     /// The channel is closed, and nothing is left to receive.
     Ended,
     Pending,
-    /// No memory for a send, which hands back this message.
+    /// There is no memory for a send, which hands back this message.
     Unsent(u64),
     NoMemory,
     TooMany,
@@ -48,7 +48,7 @@ impl Answer {
         }
     }
 
-    /// The answer of `try_broadcast`.
+    /// What `try_broadcast` returned.
     pub fn of_try_send(answer: Result<Option<u64>, TrySendError<u64>>) -> Self {
         match answer {
             Ok(oldest) => Answer::accepted(oldest),
@@ -58,7 +58,7 @@ impl Answer {
         }
     }
 
-    /// The answer of `try_broadcast_all`.
+    /// What `try_broadcast_all` returned.
     pub fn of_send_all(answer: Result<(), TrySendError<Vec<u64>>>) -> Self {
         match answer {
             Ok(()) => Answer::Accepted,
@@ -68,7 +68,7 @@ impl Answer {
         }
     }
 
-    /// The answer of a send that may wait.
+    /// What a send that may wait returned.
     pub fn of_send(answer: Result<Option<u64>, SendError<u64>>) -> Self {
         match answer {
             Ok(oldest) => Answer::accepted(oldest),
@@ -76,7 +76,7 @@ impl Answer {
         }
     }
 
-    /// The answer of `try_recv`.
+    /// What `try_recv` returned.
     pub fn of_try_recv(answer: Result<Result<u64, TryRecvError>, AllocError>) -> Self {
         match answer {
             Ok(Ok(msg)) => Answer::Message(msg),
@@ -87,7 +87,7 @@ impl Answer {
         }
     }
 
-    /// The answer of a receive that may wait.
+    /// What a receive that may wait returned.
     pub fn of_recv(answer: Result<u64, RecvError>) -> Self {
         match answer {
             Ok(msg) => Answer::Message(msg),
@@ -96,7 +96,7 @@ impl Answer {
         }
     }
 
-    /// The answer of a handle that was not made.
+    /// Why a handle was not made.
     pub fn of_error(error: HandleError) -> Self {
         match error {
             HandleError::Memory => Answer::NoMemory,

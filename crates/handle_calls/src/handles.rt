@@ -1,11 +1,11 @@
-//! The handles of one channel, each under its number.
+//! The handles of one channel, each with its number.
 use crate::answer::Answer;
 use async_broadcast::{HandleError, InactiveReceiver, Port, Receiver, Sender, WakerSlot};
 use bcast_text::input::Fault;
 use std::alloc::{Allocator, Global};
 
-/// The handles of one channel, each kind numbered in the order of making. A handle that left leaves
-/// its number empty.
+/// The handles of one channel. Each kind is numbered in the order of making. The number of a handle
+/// that left is not given again.
 #[derive(Drop)]
 pub struct Handles<P: Port<u64, WakerSlot<A>>, A: Allocator> {
     pub senders: Vec<Option<Sender<u64, P, A>>>,
@@ -13,7 +13,7 @@ pub struct Handles<P: Port<u64, WakerSlot<A>>, A: Allocator> {
     pub inactive: Vec<Option<InactiveReceiver<u64, P, A>>>,
 }
 
-/// Puts a handle under the next number.
+/// Adds a handle, which has the next number.
 fn add<H: Drop>(list: &mut Vec<Option<H>>, made: H) -> Result<Answer, Fault> {
     let number = list.len();
     match list.push(Some(made)) {
@@ -32,7 +32,7 @@ impl<P: Port<u64, WakerSlot<A>>, A: Allocator + Copy> Handles<P, A> {
         }
     }
 
-    /// Keeps a sender that was made, or says why there is none.
+    /// Adds a sender that was made, or returns why there is none.
     pub fn add_sender(
         &mut self,
         made: Result<Sender<u64, P, A>, HandleError>,
@@ -43,7 +43,7 @@ impl<P: Port<u64, WakerSlot<A>>, A: Allocator + Copy> Handles<P, A> {
         }
     }
 
-    /// Keeps a receiver that was made, or says why there is none.
+    /// Adds a receiver that was made, or returns why there is none.
     pub fn add_receiver(
         &mut self,
         made: Result<Receiver<u64, P, A>, HandleError>,
@@ -54,7 +54,7 @@ impl<P: Port<u64, WakerSlot<A>>, A: Allocator + Copy> Handles<P, A> {
         }
     }
 
-    /// Keeps an inactive receiver that was made, or says why there is none.
+    /// Adds an inactive receiver that was made, or returns why there is none.
     pub fn add_inactive(
         &mut self,
         made: Result<InactiveReceiver<u64, P, A>, HandleError>,

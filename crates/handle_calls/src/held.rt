@@ -6,7 +6,7 @@ use futures::task::Poll;
 use futures::test::MockTask;
 use std::alloc::{AllocError, Allocator, Global};
 
-/// The handles that stand apart to make futures.
+/// The handles that only make futures.
 #[derive(Drop)]
 pub struct Makers<P: Port<u64, WakerSlot<A>>, A: Allocator> {
     pub sender: Option<Sender<u64, P, A>>,
@@ -25,25 +25,25 @@ enum HeldRecv<'a, P: Port<u64, WakerSlot<A>>, A: Allocator> {
     Boxed(Box<Recv<'a, u64, P, A>, A>),
 }
 
-/// The futures of one channel. Sends are numbered in the order of making. A future that was dropped
-/// leaves its number empty.
+/// The futures of one channel. Sends are numbered in the order of making. The number of a future
+/// that was dropped is not given again.
 #[derive(Drop)]
 pub struct Held<'a, P: Port<u64, WakerSlot<A>>, A: Allocator> {
     sender: Option<&'a Sender<u64, P, A>>,
-    // Lent to the receive, once.
+    // Borrowed by the receive, once.
     receiver: Option<&'a mut Receiver<u64, P, A>>,
     sends: Vec<Option<HeldSend<'a, P, A>>>,
     // At most one.
     recvs: Vec<HeldRecv<'a, P, A>>,
 }
 
-/// What the poll of a send answered.
+/// What the poll of a send returned.
 type SendPoll = Poll<Result<Result<Option<u64>, async_broadcast::SendError<u64>>, NoMemory<u64>>>;
 
-/// What the poll of a receive answered.
+/// What the poll of a receive returned.
 type RecvPoll = Poll<Result<Result<u64, async_broadcast::RecvError>, AllocError>>;
 
-// The answer of a poll of a send.
+// What a poll of a send returned, as an answer.
 fn of_send_poll(polled: SendPoll) -> Answer {
     match polled {
         Poll::Ready(Ok(answer)) => Answer::of_send(answer),
@@ -52,7 +52,7 @@ fn of_send_poll(polled: SendPoll) -> Answer {
     }
 }
 
-/// The answer of a poll of a receive.
+/// What a poll of a receive returned, as an answer.
 pub fn of_recv_poll(polled: RecvPoll) -> Answer {
     match polled {
         Poll::Ready(Ok(answer)) => Answer::of_recv(answer),

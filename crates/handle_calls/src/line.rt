@@ -6,7 +6,7 @@ use bcast_text::number::number;
 /// The most bytes that a line may have, its LF aside.
 pub const LONGEST: u32 = 200;
 
-/// Of what a call is made.
+/// What a call is made on.
 #[derive(Clone, Copy)]
 pub enum Subject {
     Sender,
@@ -56,14 +56,14 @@ impl Capacity {
     }
 }
 
-/// The handles that a script goes on with.
+/// The handles that the next lines of a script use.
 #[derive(Clone, Copy)]
 pub enum Opening {
     /// Those of a channel.
     Channel(Capacity, Futures),
     /// Handles over recording ports.
     Recorded,
-    /// The same, which find no memory.
+    /// The same, and their memory is refused.
     WithoutMemory,
 }
 

@@ -1,18 +1,18 @@
 //! The program `handle_calls`: plays a script of calls on the handles of channels, and writes each
-//! line with its answer.
+//! line with what its call returned.
 //!
 //! A script opens channels, one after the other:
 //!
 //! - `open N`: a channel of capacity N, with `sender 0` and `receiver 0`.
-//! - `sends N`, `receives N`: also a sender, or a clone of the receiver, that stands apart and
-//!   makes the futures that are held between lines.
-//! - `records`, `no_memory`: no channel, but ports that record what they are asked; one handle of
-//!   each kind, and both that stand apart. After `no_memory` they find none.
+//! - `sends N`, `receives N`: also a sender, or a clone of the receiver, that only makes the
+//!   futures that are held between lines.
+//! - `records`, `no_memory`: no channel, but ports that record their calls; one handle of each
+//!   kind, and both that make futures. After `no_memory` there is no memory for them.
 //!
 //! Every other line is `SUBJECT INDEX METHOD`, or has an argument as well. The subjects `sender`,
 //! `receiver` and `inactive` are numbered in the order of making; `send` and `recv` are the held
-//! futures; `task` is one of four that poll; `handles` asks all handles alike, and `port` sets how
-//! recording ports reply. A line that begins with `#` is written back.
+//! futures; `task` is one of four that poll; `handles` writes what all handles see, and `port` sets
+//! how recording ports reply. A line that begins with `#` is written back.
 #![tactic(auto)]
 
 mod answer;

@@ -10,7 +10,7 @@ use futures::task::Poll;
 use futures::test::MockTask;
 use std::alloc::Allocator;
 
-/// Receives at once, or asks for a setting.
+/// Makes a call on a receiver: one of its own, or one that every handle has.
 fn answer<P: Port<u64, WakerSlot<A>>, A: Allocator + Copy>(
     receiver: &mut Receiver<u64, P, A>,
     method: &str,
@@ -57,7 +57,7 @@ fn poll_next<P: Port<u64, WakerSlot<A>>, A: Allocator + Copy>(
     }
 }
 
-// A future of its own for one poll, which is dropped then.
+// Makes a future, polls it once and drops it.
 fn poll_future<P: Port<u64, WakerSlot<A>>, A: Allocator + Copy>(
     task: &MockTask,
     receiver: &mut Receiver<u64, P, A>,

@@ -1,4 +1,4 @@
-//! Ports that record what they are asked, and reply as a script sets.
+//! Ports that record the calls made through them, and reply as a script sets.
 ghost use Rattle.std.specs.Prelude.{◌≡◌, true, false, IfOk, IfErr, OnErr};
 ghost use Rattle.futures.specs.Task.{IsArmed, Keeps};
 ghost use Rattle.bcast_model.specs.Words.{must_wait, HasPositiveCapacity};
@@ -14,8 +14,8 @@ use std::rc::Rc;
 
 mod replies;
 
-/// What ports were asked since the last look: nothing, one call, two in this order, or so many, the
-/// last of which is kept.
+/// The calls since the last look: nothing, one call, two in this order, or this many, of which the
+/// last is kept.
 #[derive(Debug, Drop)]
 pub enum Record {
     Nothing,
@@ -44,7 +44,7 @@ pub struct RecordingPort {
 }
 
 impl Recorder {
-    /// Nothing recorded yet. Ports grant what they are asked.
+    /// Nothing is recorded yet. Ports grant what they are asked.
     pub fn new(alloc: Global) -> Result<Self, AllocError> {
         let state = State {
             record: Cell::new(Record::Nothing),
@@ -62,7 +62,7 @@ impl Recorder {
     }
 
     /// Sets how the ports reply from now on, or that there is no memory for another port. False:
-    /// this is no such word.
+    /// this is not such a word.
     pub fn set(&self, word: &str) -> bool {
         match word {
             "grants" => self.state.outcome.set(Outcome::Grant),
@@ -77,14 +77,14 @@ impl Recorder {
         true
     }
 
-    /// What was asked since the last look.
+    /// The calls since the last look.
     pub fn look(&self) -> Record {
         self.state.record.replace(Record::Nothing)
     }
 }
 
 impl State {
-    // A call whose list finds no memory is not recorded.
+    // A call for whose list there is no memory is not recorded.
     fn record(&self, call: &Call<u64>) {
         let Ok(call) = call.clone() else {
             return;
@@ -106,7 +106,7 @@ impl<A: Allocator> Ask<u64, WakerSlot<A>> for RecordingPort {
 
     ghost of_kind = { λ _ call reply gave. gave };
 
-    // A port that lets polls wait tells them at once.
+    // If a port replies that a poll waits, it also tells it at once.
     fn ask(&self, call: Call<u64>, mut wake: Wake<WakerSlot<A>>) -> Reply<u64>
         requires { HasPositiveCapacity call }
         ensures { IsOfKind call result }

@@ -19,14 +19,14 @@ use std::sync::Wait;
 #[derive(Drop)]
 struct Script<R> {
     lines: Lines<R>,
-    // Of the last line that was read.
+    // The number of the last line that was read.
     number: u64,
     // Whether a read failed.
     has_failed: bool,
 }
 
 impl<R: Read + Drop> Script<R> {
-    /// The next line. None: there is none.
+    /// The next line. None: there is no more.
     fn next(&mut self) -> Result<Option<&str>, Fault> {
         self.number = self.number.saturating_add(1);
         match self.lines.next() {
@@ -111,7 +111,7 @@ fn play_handles<P: Port<u64, WakerSlot>, R: Read + Drop, W: Write>(
     play_lines(&ChannelPorts, &mut session, &mut held, script, output)
 }
 
-/// Plays the lines of handles over recording ports. They take their memory from `memory`.
+/// Plays the lines of handles over recording ports. The handles take their memory from `memory`.
 fn play_recorded<A: Allocator + Copy, R: Read + Drop, W: Write>(
     alloc: Global,
     memory: A,
@@ -156,7 +156,7 @@ fn play_opening<S: Wait + RandomSource + AllocGlobal, R: Read + Drop, W: Write>(
     }
 }
 
-/// The first opening, after remarks. None: there is none.
+/// The first opening, after comments. None: there is none.
 fn first_opening<R: Read + Drop, W: Write>(
     script: &mut Script<R>,
     output: &mut W,
@@ -193,7 +193,7 @@ fn play_script<S: Wait + RandomSource + AllocGlobal, R: Read + Drop, W: Write>(
     Ok(())
 }
 
-/// Plays the script `input`, and writes each line with its answer.
+/// Plays the script `input`, and writes each line with what its call returned.
 pub fn play<S: Wait + RandomSource + AllocGlobal, R: Read + Drop, W: Write + Drop>(
     rt: &S,
     alloc: Global,

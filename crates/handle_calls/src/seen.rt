@@ -1,10 +1,10 @@
-//! What all handles say of their channel.
+//! What all handles see of their channel.
 use crate::answer::Answer;
 use crate::handles::Handles;
 use async_broadcast::{Handle, Port, Role, WakerSlot};
 use std::alloc::Allocator;
 
-/// The answers of the ten calls that each handle has, and that change nothing.
+/// What the ten calls that each handle has and that change nothing return.
 #[derive(Clone, Copy, Debug, PartialEq, Eq)]
 pub struct Seen {
     pub capacity: usize,

@@ -7,7 +7,7 @@ use bcast_text::input::Fault;
 use bcast_text::number::numbers;
 use std::alloc::Allocator;
 
-/// Sends, or asks for a setting.
+/// Sends, or makes a call that every handle has.
 fn answer<P: Port<u64, WakerSlot<A>>, A: Allocator + Copy>(
     sender: &mut Sender<u64, P, A>,
     method: &str,

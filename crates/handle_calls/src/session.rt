@@ -14,14 +14,14 @@ use std::random::RandomSource;
 
 /// The ports of a session's handles.
 pub trait Ports {
-    /// Writes what they were asked since the last look.
+    /// Writes the calls made through them since the last look.
     fn write_record<W: Write>(&self, output: &mut W) -> io::Result<()>;
 
     /// Sets how they reply. False: this can't be set.
     fn set_replies(&self, word: &str) -> bool;
 }
 
-/// Those of a channel, which record nothing.
+/// The ports of a channel, which record nothing.
 #[derive(Drop)]
 pub struct ChannelPorts;
 

@@ -1,4 +1,4 @@
-//! What every handle says of its channel and sets there.
+//! What every handle returns of its channel's settings and sets there.
 use crate::answer::Answer;
 use crate::line::Capacity;
 use async_broadcast::{Handle, Port, Role, WakerSlot};

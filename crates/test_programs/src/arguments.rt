@@ -6,7 +6,7 @@ use std::env::{Env, FillError};
 use std::io;
 use std::io::Write;
 
-/// Writes what each line asks `bcast` for. Before each word stands a slash.
+/// Writes what each line asks `bcast` for. In a line, each word has a slash before it.
 pub fn bcast<W: Write>(alloc: Global, lines: &str, output: &mut W) -> io::Result<()> {
     for line in lines.lines() {
         let words = words_of(alloc, line)?;
@@ -60,7 +60,7 @@ impl<'a> Env for OneArgument<'a> {
     }
 }
 
-/// Writes how arguments are read that are text, and that are none.
+/// Writes how arguments are read that are UTF-8 text and that are not.
 pub fn run<W: Write>(alloc: Global, output: &mut W) -> io::Result<()> {
     output.write_all(b"# an argument that is text, and two that are none\n")?;
     for word in [b"list".as_slice(), b"\xff", b"list\xff"] {

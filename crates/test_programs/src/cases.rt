@@ -48,7 +48,7 @@ fn script_case<W: Write>(
     write_played(alloc, player, text, &played, output)
 }
 
-/// Writes what was written of `text` and how that ended, and what other ways to play it differ.
+/// Writes what was written for `text` and how that ended, and which other ways to play it differ.
 fn write_played<W: Write>(
     alloc: Global,
     player: Player,
@@ -61,7 +61,7 @@ fn write_played<W: Write>(
     write_other_ways(alloc, player, text, played, output)
 }
 
-/// Writes what a trace writes, and whose notices its calls tell.
+/// Writes what a trace writes, and which notices its calls call.
 fn told_case<R: Wait + RandomSource + AllocGlobal, W: Write>(
     rt: &R,
     alloc: Global,
@@ -75,8 +75,8 @@ fn told_case<R: Wait + RandomSource + AllocGlobal, W: Write>(
     write_notices(alloc, text, listed.as_slice(), output)
 }
 
-/// Writes what a trace writes, and how it ends; which of its calls are refused while there is no
-/// memory; whether a lock does the same; and whether the list of its calls does, but for the views.
+/// Writes what a trace writes, and how it ends; which of its calls are refused if there is no
+/// memory; whether a lock does the same; and whether the list of its calls does, views aside.
 fn trace_case<R: Wait + RandomSource + AllocGlobal, W: Write>(
     rt: &R,
     alloc: Global,
@@ -117,8 +117,8 @@ fn write_listed<W: Write>(
     listed.describe("the list", output)
 }
 
-/// What `replay list` writes if `replay trace` wrote this: the lines that are no views, or nothing
-/// if a line was no call.
+/// What `replay list` writes if `replay trace` wrote this: the lines that are not views, or nothing
+/// if a line was not a call.
 pub fn listed_from(alloc: Global, traced: &Played) -> io::Result<Vec<u8>> {
     let mut kept = Vec::new(alloc);
     if traced.ending == Ending::Done {
@@ -136,7 +136,7 @@ pub fn listed_from(alloc: Global, traced: &Played) -> io::Result<Vec<u8>> {
 }
 
 /// Plays `text` in small pieces, and without its last LF. Writes a line for each way that ends
-/// otherwise than `played`, or writes something else.
+/// differently from `played`, or writes something else.
 fn write_other_ways<W: Write>(
     alloc: Global,
     player: Player,

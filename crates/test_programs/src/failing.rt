@@ -6,7 +6,7 @@ use std::alloc::Global;
 use std::io;
 use std::io::Write;
 
-/// Plays `text` with ever more reads, and with ever more writes, until none fails.
+/// Plays `text` with more and more reads before one fails, and so with writes, until none fails.
 pub fn each_read_and_write_fails<W: Write>(
     alloc: Global,
     player: Player,
@@ -18,7 +18,7 @@ pub fn each_read_and_write_fails<W: Write>(
     each_call_fails(alloc, player, text, 8192, Ending::OutputFailed, output)
 }
 
-/// Plays `text` with ever more calls before one fails, which must end it as `failure`.
+/// Plays `text` with more and more calls before one fails, which must end it as `failure`.
 fn each_call_fails<W: Write>(
     alloc: Global,
     player: Player,
@@ -42,7 +42,7 @@ fn each_call_fails<W: Write>(
     output.write_all(b"it never ends\n")
 }
 
-/// Whether `text` is played in this way as in `whole`. Else it must end as `failure`.
+/// Whether `text` played in this way gives the same as `whole`. If not, it must end as `failure`.
 fn is_played<W: Write>(
     alloc: Global,
     player: Player,
@@ -56,14 +56,14 @@ fn is_played<W: Write>(
     write_unless_failed(&played, whole, failure, output)
 }
 
-/// Plays `text` over ever larger heaps until there is memory for it.
+/// Plays `text` over larger and larger heaps until there is memory for it.
 pub fn too_little_memory<W: Write>(
     alloc: Global,
     player: Player,
     text: &str,
     output: &mut W,
 ) -> io::Result<()> {
-    // What a line of the greatest length takes.
+    // The memory for a line of the greatest length.
     let least = match player {
         Player::Script | Player::Topics => 0,
         Player::Trace | Player::List => 1 << 20,
@@ -77,7 +77,7 @@ pub fn too_little_memory<W: Write>(
     output.write_all(b"it never ends\n")
 }
 
-/// Whether `text` is played over a heap of this size as in `whole`. Else it must lack memory.
+/// Whether `text` played over a heap of this size gives `whole`. If not, memory must be refused.
 fn is_played_over<W: Write>(
     alloc: Global,
     player: Player,
@@ -91,8 +91,8 @@ fn is_played_over<W: Write>(
     write_unless_failed(&played, whole, Ending::NoMemory, output)
 }
 
-/// Whether `played` is the same as `whole`. If it is something else than a failure after the same
-/// output, that is written.
+/// Whether `played` is the same as `whole`. If it is neither that nor a failure after part of the
+/// same output, it is written.
 fn write_unless_failed<W: Write>(
     played: &Played,
     whole: &Played,
@@ -118,8 +118,8 @@ fn write_count<W: Write>(
     writeln!(output, "{player:?}: {failure:?} {count}, and then none")
 }
 
-/// Plays the beginnings of a script, or of lines on topics. Each ends at its end, or in the line
-/// that is cut.
+/// Plays the beginnings of a script, or of lines on topics. Each is done, or ends at the line that
+/// is cut.
 pub fn cut_after_each_byte<W: Write>(
     alloc: Global,
     player: Player,

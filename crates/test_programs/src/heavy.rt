@@ -30,7 +30,7 @@ impl<'a> Clone for Heavy<'a> {
     }
 }
 
-/// The same call, with messages that take their memory from the heap. None: it is an accessor.
+/// The same call, with messages whose memory is of the heap. None: it is an accessor.
 ///
 /// A list itself takes its memory from `alloc`.
 pub fn with_memory<'a>(
@@ -75,7 +75,7 @@ fn number_of(call: &Call<u64>) -> Option<u64> {
     }
 }
 
-/// The same call of those that send one message, with this one.
+/// The same call, if it sends one message, with this message.
 fn with_message<'a>(call: &Call<u64>, msg: Heavy<'a>) -> Call<Heavy<'a>>
     ensures { HasPositiveCapacity result }
 {

@@ -1,4 +1,4 @@
-//! Traces asked of a lock, through two of its ports in turn, beside a channel that has no lock.
+//! Traces played on a lock, through two of its ports in turn, and on a channel that has no lock.
 ghost use Rattle.std.specs.Prelude.{IfOk, IfSome};
 ghost use Rattle.bcast_model.specs.Next.{HasPositiveCapacity};
 
@@ -19,10 +19,10 @@ mod asking;
 pub mod beside;
 mod seen;
 
-/// The ways that each trace is asked.
+/// The ways in which each trace is played.
 const WAYS: [Way; 4] = [Way::OwnBodies, Way::Ask, Way::AskWaiting, Way::LateLock];
 
-/// What a lock gives otherwise than a channel without one.
+/// What is different on a lock and on a channel without one.
 #[derive(Clone, Copy, Debug)]
 enum Part {
     Reply,
@@ -30,10 +30,10 @@ enum Part {
     Snapshot,
 }
 
-/// What came of a trace that was asked in one way.
+/// The result of a trace that was played in one way.
 #[derive(Clone, Copy)]
 enum Outcome {
-    /// So many calls were made, and each did the same.
+    /// This many calls were made, and each did the same.
     Same(u64),
     /// The call of this line did something else.
     Differs(usize, Part),
@@ -46,7 +46,7 @@ pub struct Tally {
     calls: u64,
 }
 
-/// Two ports of a lock, the task that polls, and a channel without a lock, which is asked the same.
+/// Two ports of a lock, the task that polls, and a channel without a lock for the same calls.
 #[derive(Drop)]
 struct Row<'a, P> {
     task: &'a MockTask,
@@ -56,7 +56,7 @@ struct Row<'a, P> {
 }
 
 impl<P: Port<u64, WakerSlot> + Shows> Row<'_, P> {
-    /// Makes a call through one of the ports, and without a lock. Whether the reply is the same.
+    /// Makes a call on one port and without a lock, and returns whether the replies are equal.
     fn is_same_reply(
         &mut self,
         alloc: Global,
@@ -73,7 +73,7 @@ impl<P: Port<u64, WakerSlot> + Shows> Row<'_, P> {
         ask(alloc, self.task, way, port, call, &wanted) == Some(wanted)
     }
 
-    /// What the ports see otherwise than without a lock. None: nothing.
+    /// What the ports see that is different without a lock. None: nothing.
     fn differs(&self, alloc: Global) -> Result<Option<Part>, AllocError> {
         match differs(alloc, self.port, &self.alone)? {
             Some(part) => Ok(Some(part)),
@@ -111,7 +111,7 @@ fn open_both(
     Ok((locked, alone))
 }
 
-/// Makes the calls of the lines but the first `before`, of which the first is the second of its
+/// Makes the calls of all lines except the first `before`. The first of `calls` is line 2 of its
 /// trace.
 fn play_calls<P: Port<u64, WakerSlot> + Shows>(
     alloc: Global,
@@ -137,7 +137,7 @@ fn play_calls<P: Port<u64, WakerSlot> + Shows>(
     Ok(Outcome::Same(made))
 }
 
-/// Plays the calls of a trace on a lock round one channel, and on another channel.
+/// Plays the calls of a trace on a lock with one channel, and on another channel.
 fn play_locked<R: Wait>(
     rt: &R,
     alloc: Global,

@@ -1,5 +1,5 @@
-//! Plays the cases that standard input holds through the code of the programs, and writes what each
-//! of them writes and how it ends.
+//! Plays the cases on standard input through the code of the programs, and writes what each of them
+//! writes and how it ends.
 //!
 //! A case is a line `# KIND NAME`, and the lines up to the next case.
 #![tactic(auto)]

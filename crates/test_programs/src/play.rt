@@ -19,16 +19,16 @@ pub enum Player {
     List,
 }
 
-/// How a text is given, and how what is written is taken.
+/// How a text is read, and how what is written is taken.
 #[derive(Clone, Copy)]
 pub struct Way {
     /// How many bytes a read gives at most.
     pub given: usize,
     /// How many bytes a write takes at most.
     pub taken: usize,
-    /// How many reads there are before one fails.
+    /// How many reads are made before one fails.
     pub reads: u64,
-    /// How many writes there are before one fails.
+    /// How many writes are made before one fails.
     pub writes: u64,
 }
 
@@ -51,8 +51,8 @@ pub struct Played {
     pub writes: u64,
 }
 
-/// Plays `text` with memory of `alloc`, and takes what is written into `memory`, which also has the
-/// messages of lists.
+/// Plays `text` with memory of `alloc`. What is written, and the messages of lists, are in
+/// `memory`.
 pub fn play<A: Allocator + Copy>(
     memory: Global,
     alloc: A,
@@ -103,7 +103,7 @@ impl Played {
         self.ending == ending && self.wrote.as_slice() == wrote
     }
 
-    /// Writes on one line what it wrote, and how it ended.
+    /// Writes in one line what it wrote, and how it ended.
     pub fn describe<W: Write>(&self, name: &str, output: &mut W) -> io::Result<()> {
         let wrote = str::from_utf8(self.wrote.as_slice()).unwrap_or("bytes that are no text");
         writeln!(output, "-- {name}: {:?} after {wrote:?}", self.ending)

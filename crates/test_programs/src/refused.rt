@@ -1,4 +1,4 @@
-//! Lines that are no calls.
+//! Lines that are not calls.
 use crate::play::{Played, Player, in_pieces, play};
 use std::alloc::Global;
 use std::io;
@@ -28,7 +28,7 @@ pub fn refused_lines<W: Write>(
     Ok(())
 }
 
-/// Plays `first` and `line`, with and without a last LF, and writes what came of it.
+/// Plays `first` and `line`, with and without a last LF, and writes how both end.
 pub fn refused<W: Write>(
     alloc: Global,
     player: Player,
@@ -45,7 +45,7 @@ pub fn refused<W: Write>(
     write_both(player, &whole, &cut, output)
 }
 
-/// Writes what came of a text, and of that text without its last LF if it differs.
+/// Writes how a text ended, and if that differs, how it ended without its last LF.
 fn write_both<W: Write>(
     player: Player,
     whole: &Played,

@@ -1,4 +1,4 @@
-//! Traces played on a channel that is short of memory, beside one that isn't.
+//! Traces played on a channel that is short of memory, and on one that isn't.
 ghost use Rattle.bcast_model.specs.Next.{HasPositiveCapacity};
 
 use crate::heavy::{Heavy, with_memory};
@@ -16,17 +16,17 @@ const HEAP: usize = 1 << 14;
 /// The sizes of blocks that fill a heap.
 const BLOCKS: [usize; 8] = [4096, 1024, 512, 256, 128, 64, 32, 16];
 
-/// What came of the calls of a trace that were short of memory.
+/// The result of the calls of a trace that were short of memory.
 #[derive(Drop)]
 enum Outcome {
-    /// The calls of these lines were refused, changed nothing, and were answered when they were
-    /// made again.
+    /// The calls of these lines were refused, changed nothing, and had the right reply when they
+    /// were made again.
     Refused(Vec<usize>),
-    /// The call of this line answered something else, or changed something.
+    /// The call of this line had another reply, or changed something.
     Wrong(usize),
 }
 
-/// What all accessors answer.
+/// What all accessors return.
 #[derive(Clone, Copy, PartialEq, Eq)]
 struct Seen {
     counts: [usize; 5],
@@ -55,7 +55,7 @@ fn seen_of<A: Allocator + Copy>(inner: &Inner<Heavy<'_>, Silent, A>) -> Seen {
     }
 }
 
-/// Whether a call was refused for memory.
+/// Whether a call was refused memory.
 fn is_refused(reply: &Reply<Heavy<'_>>) -> bool {
     matches!(
         reply,
@@ -72,10 +72,10 @@ fn is_refused(reply: &Reply<Heavy<'_>>) -> bool {
     )
 }
 
-/// A block of a heap, of no use but that nobody else has it.
+/// A block of a heap, which only keeps others from having it.
 type Block<'a> = Vec<u8, &'a LocalHeap>;
 
-/// Takes what memory the heap has but `left` bytes.
+/// Takes all memory of the heap except `left` bytes.
 fn fill<'a>(alloc: Global, heap: &'a LocalHeap, left: usize) -> Result<Vec<Block<'a>>, AllocError> {
     let _kept = Vec::<u8, &LocalHeap>::with_capacity(heap, left)?;
     let mut taken = Vec::new(alloc);
@@ -141,8 +141,8 @@ impl<'a> Pair<'a> {
 
     /// Makes a call with `left` bytes of memory, and again with more of it if it was refused.
     ///
-    /// Whether it was refused. None: it changes something where it is refused, or is answered
-    /// otherwise than with memory.
+    /// Returns whether it was refused. None: it was refused and changed something, or its reply was
+    /// not the one that it has with memory.
     fn make(
         &mut self,
         alloc: Global,
@@ -188,7 +188,7 @@ fn play(alloc: Global, text: &str, left: usize) -> Result<Outcome, AllocError> {
     play_calls(alloc, &mut pair, calls, left)
 }
 
-/// Makes the calls of lines, of which the first is the second of its trace.
+/// Makes the calls of lines. The first of them is line 2 of its trace.
 fn play_calls(
     alloc: Global,
     pair: &mut Pair<'_>,
@@ -207,8 +207,8 @@ fn play_calls(
     Ok(Outcome::Refused(refused))
 }
 
-/// Plays the calls of a trace with ever more memory until none is refused. Writes the lines whose
-/// calls are refused while there is none, and what is wrong.
+/// Plays the calls of a trace with more and more memory until none is refused. Writes the lines
+/// whose calls are refused if there is none, and what is wrong.
 pub fn write_refused<W: Write>(alloc: Global, text: &str, output: &mut W) -> io::Result<()> {
     for count in 0..HEAP / 32 {
         let lines = match play(alloc, text, count * 16)? {

@@ -1,9 +1,9 @@
-//! Readers and writers in memory, which fail once they are told to, and sources of random bytes.
+//! Readers and writers in memory, which fail after some calls, and sources of random bytes.
 use std::io;
 use std::io::{ErrorKind, Read, Write};
 use std::random::RandomSource;
 
-/// Gives at most `piece` bytes at a call, and fails once `calls` calls were made.
+/// Gives at most `piece` bytes at a call, and fails after `calls` calls.
 #[derive(Drop)]
 pub struct Pieces<'a> {
     pub bytes: &'a [u8],
@@ -22,7 +22,7 @@ impl<'a> Read for Pieces<'a> {
     }
 }
 
-/// Takes at most `piece` bytes at a call, and fails once `calls` calls were made.
+/// Takes at most `piece` bytes at a call, and fails after `calls` calls.
 #[derive(Drop)]
 pub struct Taker {
     pub taken: Vec<u8>,
@@ -45,7 +45,7 @@ impl Write for Taker {
     }
 }
 
-/// A source of random bytes that gives this one.
+/// A source whose random bytes are all this one.
 pub struct Bytes(pub u8);
 
 impl RandomSource for Bytes {

@@ -32,7 +32,7 @@ pub fn run<R: Threads + Wait + Clone + Send + 'static, W: Write>(
     closed_ends_sender(rt, alloc, output)
 }
 
-/// So many senders, receivers and messages of each sender.
+/// Runs this many senders, receivers and messages of each sender.
 fn one_order<R: Threads + Wait + Clone + Send + 'static, W: Write>(
     rt: &R,
     alloc: Global,
@@ -51,7 +51,7 @@ fn one_order<R: Threads + Wait + Clone + Send + 'static, W: Write>(
     writeln!(output, "-- {ending:?}")
 }
 
-/// Stacks that are not to be had: for no receiver, and for no sender once receivers wait.
+/// Stacks for which there is no memory: for no receiver, and for no sender while receivers wait.
 fn no_thread<R: Threads + Wait + Clone + Send + 'static, W: Write>(
     rt: &R,
     alloc: Global,
@@ -72,7 +72,7 @@ fn no_thread<R: Threads + Wait + Clone + Send + 'static, W: Write>(
     Ok(())
 }
 
-/// Takes 20 bytes at a call, by itself and behind a buffer, and fails after ever more calls.
+/// Writes that take 20 bytes at most, directly and through a buffer, and fail after some calls.
 fn write_fails<R: Threads + Wait + Clone + Send + 'static, W: Write>(
     rt: &R,
     alloc: Global,
@@ -94,7 +94,7 @@ fn write_fails<R: Threads + Wait + Clone + Send + 'static, W: Write>(
     Ok(())
 }
 
-/// What receivers saw, and what is printed of it.
+/// What receivers saw, and what is printed for it.
 fn compared<W: Write>(alloc: Global, output: &mut W) -> io::Result<()> {
     for (first, second) in [
         ([0, 1, 2], [0, 1, 2]),
@@ -118,7 +118,7 @@ fn list_of(alloc: Global, numbers: [u64; 3]) -> Result<Vec<u64>, AllocError> {
     Ok(list)
 }
 
-/// A receiver has what it received, in that order.
+/// What a receiver received is in the order of receiving.
 fn order_is_kept<R: Wait + Clone, W: Write>(
     rt: &R,
     alloc: Global,
@@ -152,8 +152,8 @@ fn receive_three<P: Port<u64, WakerSlot>, W: Write>(
     writeln!(output, "received {:?}", list.as_slice())
 }
 
-/// A receiver that finds no memory closes the channel, whether it takes memory for all messages at
-/// first or for one after another, and another receiver keeps what it has still to read.
+/// A receiver that is refused memory closes the channel, whether it takes memory for all messages
+/// at first or for one after another, and another receiver can still read what it had to read.
 fn no_memory_closes<R: Wait + Clone, W: Write>(
     rt: &R,
     alloc: Global,
@@ -190,7 +190,7 @@ fn receive_without_memory<P: Port<u64, WakerSlot>, W: Write>(
     )
 }
 
-/// A sender ends on a closed channel.
+/// A sender ends if the channel is closed.
 fn closed_ends_sender<R: Wait + Clone, W: Write>(
     rt: &R,
     alloc: Global,

@@ -1,4 +1,4 @@
-//! Traces played with notices that count how often they are told.
+//! Traces played with notices that count how often they are called.
 use bcast_core::{Inner, Notice, step};
 use bcast_text::trace::line::{Line, read_line};
 use bcast_text::trace::opening::read_opening;
@@ -9,7 +9,7 @@ use std::io;
 use std::io::Write;
 use std::rc::Rc;
 
-/// Counts how often it is told.
+/// Counts how often it is called.
 #[derive(Drop)]
 struct Counted(Rc<Cell<u64>>);
 
@@ -19,8 +19,7 @@ impl Notice for Counted {
     }
 }
 
-/// A channel, and the counts of the notices that were left there, one for each line after the
-/// first.
+/// A channel, and the counts of the notices of its calls, one for each line after the first.
 #[derive(Drop)]
 struct Noted {
     inner: Inner<u64, Counted>,
@@ -40,7 +39,7 @@ impl Noted {
         Ok(())
     }
 
-    /// Makes the calls of lines, and writes after which line the notices of which lines were told.
+    /// Makes the calls of lines, and writes after which line which lines' notices were called.
     fn run_lines<W: Write>(
         &mut self,
         alloc: Global,
@@ -59,7 +58,7 @@ impl Noted {
         Ok(())
     }
 
-    /// Writes which lines' notices were told since the last look, each as often as it was told.
+    /// Writes which lines' notices were called since the last look, each as often as it was called.
     fn write_told<W: Write>(&self, output: &mut W) -> io::Result<()> {
         for (index, count) in self.counts.iter().enumerate() {
             for _ in 0..count.replace(0) {
@@ -75,7 +74,7 @@ impl Noted {
 }
 
 /// Plays a trace, each call with a notice of its own, and writes after which line the notices of
-/// which lines were told. The lines of a trace are counted from 1.
+/// which lines were called. The lines of a trace are counted from 1.
 ///
 /// `listed` is the trace without its views, as it is written when it is played without notices.
 pub fn write_notices<W: Write>(

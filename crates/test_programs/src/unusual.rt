@@ -7,7 +7,7 @@ use std::alloc::Global;
 use std::io;
 use std::io::Write;
 
-/// A program, its first line, and a line after it that is no call.
+/// A program, its first line, and a line after it that is not a call.
 const UNSEEN: &[(Player, &str, &str)] = &[
     (Player::Script, "cap 2", "len\r"),
     (Player::Script, "cap 2", "\u{0}"),
@@ -48,7 +48,7 @@ pub fn run<W: Write>(alloc: Global, output: &mut W) -> io::Result<()> {
     no_seed(alloc, output)
 }
 
-/// Plays a line on topics where there is no seed for the hash of their names.
+/// Plays a line on topics without a seed for the hash of their names.
 fn no_seed<W: Write>(alloc: Global, output: &mut W) -> io::Result<()> {
     let reader = Pieces {
         bytes: b"open a 1\n",
@@ -69,7 +69,7 @@ fn no_seed<W: Write>(alloc: Global, output: &mut W) -> io::Result<()> {
     played.describe("a line", output)
 }
 
-/// Plays bytes that are no UTF-8 text.
+/// Plays bytes that are not UTF-8 text.
 fn no_text<W: Write>(alloc: Global, player: Player, text: &[u8], output: &mut W) -> io::Result<()> {
     let played = play(alloc, alloc, player, text, in_pieces(7));
     played.describe("bytes that are no text", output)
@@ -96,7 +96,7 @@ fn long_line<W: Write>(
         in_pieces(8192),
     );
     write!(output, "{player:?} {count} ")?;
-    // A view is long, and what it shows is told by other cases.
+    // A view is long, and other cases show what it has.
     if played.wrote.len() > first.len() {
         return writeln!(output, "-- {:?} after a view", played.ending);
     }

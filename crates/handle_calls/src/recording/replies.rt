@@ -11,9 +11,9 @@ use std::alloc::AllocError;
 /// How a port replies.
 #[derive(Clone, Copy, PartialEq)]
 pub enum Outcome {
-    /// What was asked for; a question by yes.
+    /// What was asked for; to a question, yes.
     Grant,
-    /// Full, no memory, too many handles; a question by no.
+    /// Full, no memory, too many handles; to a question, no.
     Refuse,
     /// The poll must wait.
     Wait,

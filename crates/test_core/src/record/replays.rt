@@ -64,8 +64,7 @@ fn keep_key(made: &mut Vec<usize>, reply: &Reply<u64>) {
     }
 }
 
-/// Makes the calls of a seat in its thread. A receipt for which there is no memory is missing
-/// later.
+/// Makes a seat's calls. A receipt for which there is no memory is missing later.
 fn ask<R: Named>(
     rt: &impl Wait,
     alloc: Global,

@@ -1,4 +1,4 @@
-//! The ways to ask a port for a call.
+//! The ways to make a call through a port.
 ghost use Rattle.bcast_model.specs.Next.{HasPositiveCapacity};
 
 use async_broadcast::{Port, TaskWaker, Wake, WakerSlot};
@@ -6,20 +6,20 @@ use bcast_core::{Call, Reply, SendPoll, TryRecvError};
 use futures::test::MockTask;
 use std::alloc::Global;
 
-/// How the calls of a trace are asked.
+/// How the calls of a trace are made.
 #[derive(Clone, Copy, Debug)]
 pub(super) enum Way {
-    /// Each by the port's own body for it, if it has one.
+    /// Each by the port's own function for it, if it has one.
     OwnBodies,
     /// All by `ask`.
     Ask,
-    /// By `ask_waiting` where that is answered at once, and otherwise by `ask`.
+    /// By `ask_waiting` if that doesn't wait, and otherwise by `ask`.
     AskWaiting,
-    /// The first half of a channel that has no lock yet, and the others as `OwnBodies`.
+    /// The first half on a channel that has no lock yet, and the others as `OwnBodies`.
     LateLock,
 }
 
-/// Asks for a call whose reply should be `wanted`. None: there was no memory for a notice.
+/// Makes a call whose reply should be `wanted`. None: there was no memory for a notice.
 pub(super) fn ask<P: Port<u64, WakerSlot>>(
     alloc: Global,
     task: &MockTask,
@@ -37,7 +37,7 @@ pub(super) fn ask<P: Port<u64, WakerSlot>>(
     }
 }
 
-/// Asks by the body that the port has for this call.
+/// Makes the call by the port's own function for it.
 fn by_own_body<P: Port<u64, WakerSlot>>(
     alloc: Global,
     task: &MockTask,
@@ -74,7 +74,7 @@ fn poll<P: Port<u64, WakerSlot>>(
     task.enter(|cx| port.poll(call, &mut waker, cx)).ok()
 }
 
-/// Asks by `ask_waiting`, unless that would wait.
+/// Makes the call by `ask_waiting`, unless that would wait.
 fn by_ask_waiting<P: Port<u64, WakerSlot>>(
     port: &P,
     call: Call<u64>,

@@ -1,4 +1,4 @@
-//! Calls asked of a lock while a thread waits there.
+//! Calls made on a lock while a thread waits there.
 ghost use Rattle.bcast_model.specs.Next.{HasPositiveCapacity};
 
 use super::asking::Way;
@@ -24,7 +24,7 @@ enum Awaited {
     Room(u64),
 }
 
-/// What is asked beside a thread that waits.
+/// The calls that are made while a thread waits.
 #[derive(Clone, Copy)]
 struct Case {
     name: &'static str,
@@ -34,7 +34,7 @@ struct Case {
     awaited: Awaited,
     /// The lines while it waits.
     calls: &'static str,
-    /// The line that ends its waiting.
+    /// The line that ends the wait.
     last: &'static str,
 }
 
@@ -78,7 +78,7 @@ fn call_of(awaited: Awaited) -> Call<u64>
     }
 }
 
-/// Waits until it is answered.
+/// Waits until there is a reply.
 fn wait<P: Port<u64, WakerSlot>>(port: &P, awaited: Awaited) -> Reply<u64> {
     match awaited {
         Awaited::Message(key) => port.ask_waiting(Call::TryRecv(key)),
@@ -104,7 +104,7 @@ impl<P: Port<u64, WakerSlot> + Shows> Row<'_, P> {
     }
 }
 
-/// Makes the calls while a thread waits, and then what ends its waiting.
+/// Makes the calls while a thread waits, and then the call that ends the wait.
 fn play_beside<R: Threads, P: Port<u64, WakerSlot> + Shows + Send + 'static>(
     rt: &R,
     alloc: Global,
@@ -120,7 +120,7 @@ fn play_beside<R: Threads, P: Port<u64, WakerSlot> + Shows + Send + 'static>(
         Outcome::Same(_) => row.ends_wait(alloc, case.last)?,
     };
     if found.is_some() {
-        // So that the thread ends.
+        // This lets the thread end.
         row.port.ask(Call::Close, Wake::none());
     }
     let reply = thread.join(rt);
@@ -132,7 +132,7 @@ fn play_beside<R: Threads, P: Port<u64, WakerSlot> + Shows + Send + 'static>(
     }
 }
 
-/// Plays a case on a lock round one channel, and on another channel.
+/// Plays a case on a lock with one channel, and on another channel.
 fn play<R: Threads + Wait + RandomSource + AllocGlobal + Clone + Send + 'static>(
     rt: &R,
     alloc: Global,
@@ -155,7 +155,7 @@ fn play<R: Threads + Wait + RandomSource + AllocGlobal + Clone + Send + 'static>
     play_beside(rt, alloc, case, &mut row, other)
 }
 
-/// Plays each case, and writes what differs.
+/// Plays each case, and writes what is different.
 pub fn run<R: Threads + Wait + RandomSource + AllocGlobal + Clone + Send + 'static, W: Write>(
     rt: &R,
     alloc: Global,

@@ -16,7 +16,7 @@ impl<R: Wait + Clone> Shows for Lock<u64, R> {
     }
 }
 
-/// What a port sees otherwise than a channel without a lock. None: nothing.
+/// What a port sees that is different on a channel without a lock. None: nothing.
 pub(super) fn differs<P: Port<u64, WakerSlot> + Shows>(
     alloc: Global,
     port: &P,
@@ -29,7 +29,7 @@ pub(super) fn differs<P: Port<u64, WakerSlot> + Shows>(
     Ok((!is_same).then_some(Part::Snapshot))
 }
 
-/// What a port answers to all accessors.
+/// What a port replies to all accessors.
 fn accessors_of<P: Port<u64, WakerSlot>>(port: &P) -> [Reply<u64>; 12] {
     [
         port.ask(Call::Overflow, Wake::none()),
@@ -47,7 +47,7 @@ fn accessors_of<P: Port<u64, WakerSlot>>(port: &P) -> [Reply<u64>; 12] {
     ]
 }
 
-/// The same of a channel without a lock.
+/// The same for a channel without a lock.
 fn accessors_alone(alone: &Inner<u64, Silent>) -> [Reply<u64>; 12] {
     [
         Reply::Overflow(alone.overflow()),
