@@ -1,4 +1,4 @@
-//! A configuration watcher: whoever looks late gets the latest settings, and hears how many it
+//! A configuration watcher: a watcher that looks late gets the latest settings, and how many it
 //! missed.
 #![tactic(auto)]
 
@@ -10,7 +10,7 @@ use std::alloc::AllocGlobal;
 use std::random::RandomSource;
 use std::sync::Wait;
 
-/// What a program is to keep to.
+/// The settings of a program.
 #[derive(Clone, Copy)]
 struct Settings {
     version: u64,
@@ -25,7 +25,7 @@ fn set_all<P: Port<Settings, WakerSlot>>(source: &Sender<Settings, P>) -> Result
     Ok(())
 }
 
-/// The next settings, and how many were missed before them, by futures.
+/// The next settings by futures, and how many were missed before them.
 fn look<R, P>(rt: &R, watch: &mut Receiver<Settings, P>) -> Result<Option<(Settings, u64)>>
 where
     R: Wait + RandomSource + AllocGlobal,
@@ -42,7 +42,7 @@ where
     unreachable!()
 }
 
-/// The next settings by the stream, which passes over those that were missed.
+/// The next settings by the stream, which skips those that were missed.
 fn next<R, P>(rt: &R, watch: &mut Receiver<Settings, P>) -> Result<Option<Settings>>
 where
     R: Wait + RandomSource + AllocGlobal,

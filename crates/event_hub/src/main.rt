@@ -1,5 +1,5 @@
 //! An event hub: a publisher waits until the slowest subscriber has room, and the hub stays open
-//! while nobody listens.
+//! while there is no subscriber.
 #![tactic(auto)]
 
 ghost use Rattle.std.specs.Prelude.{IfOk};
@@ -14,7 +14,7 @@ use std::io;
 use std::random::RandomSource;
 use std::sync::Wait;
 
-/// Two handles of the channel: the inactive one holds it open, and makes the subscribers.
+/// Two handles of the channel: the inactive one keeps it open, and makes the subscribers.
 #[derive(Drop)]
 struct Hub<E: Clone, P: Port<E, WakerSlot>> {
     events: Sender<E, P>,
@@ -27,7 +27,7 @@ impl<E: Clone, P: Port<E, WakerSlot>> Hub<E, P> {
         Ok(Hub { events, idle })
     }
 
-    /// Publishes an event while both subscribers take one, so that a full hub gets room.
+    /// Publishes an event while both subscribers receive one, so that a full hub gets room.
     fn publish_to<R: Wait + RandomSource + AllocGlobal>(
         &self,
         rt: &R,

@@ -9,7 +9,7 @@ use std::thread;
 fn main(rt: HostRuntime) -> Result<()> {
     let (sender, mut one) = broadcast::<u64, _, _>(&rt, rt.alloc(), 1)?;
     let mut two = one.clone()?;
-    // One thread sends while another waits for the message. The last sender goes with its thread.
+    // One thread sends, and drops the last sender, while another waits for the message.
     let (_, received) = thread::join(
         &rt,
         move || sender.broadcast_blocking(7),

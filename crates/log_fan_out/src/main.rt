@@ -17,7 +17,7 @@ struct Seen {
     missed: u64,
 }
 
-/// Writes the first records. They stand together in the log, or none of them does.
+/// Writes the first records. They are next to one another in the log, or none is written.
 fn begin<P: Port<u64, WakerSlot>>(log: &Sender<u64, P>, header: Vec<u64>) -> bool {
     log.try_broadcast_all(header).is_ok()
 }
@@ -30,7 +30,7 @@ fn produce<P: Port<u64, WakerSlot>>(log: Sender<u64, P>, first: u64) {
     }
 }
 
-/// Reads until the last producer is gone.
+/// Reads until the last producer's sender is dropped.
 fn consume<P: Port<u64, WakerSlot>>(
     rt: &impl Wait,
     mut log: Receiver<u64, P>,

@@ -1,4 +1,4 @@
-//! A promise that a law gives, with no proof file.
+//! A promise that follows from a law, with no proof file.
 ghost use Rattle.std.specs.Prelude.{◌≡◌, true};
 
 use bcast_core::{Inner, Silent, TrySendError};

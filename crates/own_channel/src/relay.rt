@@ -1,4 +1,4 @@
-//! What is sent comes back in order.
+//! What is sent is received in order.
 ghost use Rattle.std.specs.Prelude.{◌≡◌, ◌+◌, ◌^◌, ◌<◌, ◌++◌, length, IfOk};
 ghost use Rattle.uses.specs.Log.{unread, IsLog, IsReader};
 ghost use Rattle.uses.specs.Reading.{HasRoom};
@@ -7,7 +7,7 @@ use bcast_core::{Inner, Silent};
 use std::alloc::{AllocError, Global};
 use uses::laws::{opens_with_room, reads_in_order, sends_with_room};
 
-/// Sends all numbers over a new channel, and receives them: they come back in order.
+/// Sends all numbers over a new channel, and returns them as they are received: in order.
 ///
 /// # Errors
 ///
@@ -39,7 +39,7 @@ fn send_all(channel: &mut Inner<u64, Silent>, numbers: &[u64], reader: usize)
     }
 }
 
-// So many are there to be read.
+// Receives `count` messages, which are all that there are.
 fn receive_all(
     alloc: Global,
     channel: &mut Inner<u64, Silent>,

@@ -1,5 +1,5 @@
-//! A signal to stop: it is given by the drop of its last sender. Workers finish what they were sent
-//! before.
+//! A signal to stop: it is given by the drop of its last sender. Workers first finish the jobs that
+//! they were sent before.
 #![tactic(auto)]
 
 use anyhow::Result;

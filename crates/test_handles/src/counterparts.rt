@@ -70,7 +70,7 @@ const BASIC_BLOCKING: Rows = &[
     (Step::TryRecv(0), Answer::Empty),
 ];
 
-// Whichever way a message is sent, it is received in each way.
+// A message that is sent in one way can be received in each way.
 #[test]
 fn basic_blocking(rt: HostRuntime) -> Result<(), Fail> {
     play_on(&rt, 1, BASIC_BLOCKING)
@@ -106,7 +106,7 @@ const CHANNEL_SHRINK: Rows = &[
     (Step::TryRecv(3), Answer::Empty),
 ];
 
-// A smaller capacity drops the oldest, and those that had still to read them are told how many.
+// A smaller capacity drops the oldest messages, and receivers get how many of theirs were dropped.
 #[test]
 fn channel_shrink(rt: HostRuntime) -> Result<(), Fail> {
     play_on(&rt, 4, CHANNEL_SHRINK)
@@ -130,7 +130,7 @@ const README: Rows = &[
     (Step::TryRecv(1), Answer::Closed),
 ];
 
-// The example of its README.
+// The example of the original's README.
 #[test]
 fn readme(rt: HostRuntime) -> Result<(), Fail> {
     play_on(&rt, 2, README)
@@ -156,7 +156,7 @@ fn closes_by_its_inactive_receivers<P: Port<(), WakerSlot>>(
     Ok(())
 }
 
-// A stream that is made by `poll_recv` gives what was missed, the messages, and the end.
+// A stream that is made by `poll_recv` gives how many were missed, the messages, and the end.
 #[test]
 fn poll_recv(rt: HostRuntime) -> Result<(), Fail> {
     let (sender, receiver) = broadcast(&rt, rt.alloc(), 2)?;

@@ -22,7 +22,7 @@ fn is_pending<P: Port<u64, WakerSlot>>(task: &MockTask, receive: &mut Recv<'_, u
     matches!(task.poll(receive), Poll::Pending)
 }
 
-/// Sends a message, which wakes the task of the receive that stayed and no other.
+/// Sends a message, which wakes the task of the receive that was kept, and no other.
 fn wakes_who_stayed<P: Port<u64, WakerSlot>>(
     rt: &impl Abort,
     sender: &Sender<u64, P>,

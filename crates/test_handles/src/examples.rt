@@ -1,9 +1,9 @@
-//! The examples that stand in the documentation of `async_broadcast`.
+//! The examples in the documentation of `async_broadcast`.
 //!
-//! Each file here has those of the files of `async_broadcast/src` that its first line names. One
-//! test makes the channel of each example, as the example's first line does, and calls a function
-//! with the example's other lines. Those are over any port, so that their proofs name no lock, and
-//! borrow a handle that the example doesn't drop.
+//! The first line of each file here names the files of `async_broadcast/src` whose examples it has.
+//! One test makes the channel of each example, as the example's first line does, and calls a
+//! function with the example's other lines. These functions are over any port, so that their proofs
+//! name no lock, and borrow a handle that the example doesn't drop.
 use async_broadcast::{Port, Receiver, Sender, WakerSlot, broadcast};
 use std::alloc::AllocGlobal;
 use std::process::Abort;
@@ -28,7 +28,7 @@ enum Example {
     Receives(Receives),
 }
 
-/// Those that drop no handle which they are given.
+/// Examples that drop no handle which they are given.
 #[derive(Clone, Copy)]
 enum Borrows {
     Errors,
@@ -45,7 +45,7 @@ enum Borrows {
     SetOverflow,
 }
 
-/// Those of senders that drop a handle.
+/// Examples of senders that drop a handle.
 #[derive(Clone, Copy)]
 enum Sends {
     Broadcast,
@@ -57,7 +57,7 @@ enum Sends {
     SetAwaitActive,
 }
 
-/// Those of receivers that drop a handle.
+/// Examples of receivers that drop a handle.
 #[derive(Clone, Copy)]
 enum Receives {
     DirectReceive,

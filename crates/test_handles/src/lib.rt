@@ -2,8 +2,8 @@
 //! that wait, handles short of memory, what handles see of their channel, and threads that wait for
 //! one another.
 //!
-//! `examples` has those of the documentation: the first line of each file says of which. Tests of
-//! `counterparts` have the names of the original's.
+//! `examples` has those of the documentation: the first line of each file names its source. Tests
+//! of `counterparts` have the names of the original's.
 #![tactic(auto)]
 
 #[cfg(test)]

@@ -21,13 +21,13 @@ const MESSAGES: u64 = SENDERS * SHARE;
 /// How many messages the channel keeps at once.
 const CAPACITY: usize = 100;
 
-/// How often the channel is filled, where it is always emptied in between.
+/// How often the channel is filled, if it is emptied each time in between.
 const FILLS: u64 = MESSAGES / CAPACITY as u64;
 
-/// The most polls of receivers: one a message and receiver, and two a receiver and fill.
+/// The most polls of receivers: one per message and receiver, and two per receiver and fill.
 const MOST_RECEIVE_POLLS: u64 = RECEIVERS * (MESSAGES + 2 * FILLS);
 
-/// The most polls of sends: one a message, and one a sender and fill.
+/// The most polls of sends: one per message, and one per sender and fill.
 const MOST_SEND_POLLS: u64 = MESSAGES + SENDERS * FILLS;
 
 // All receivers see the same order, and few polls find nothing to do.

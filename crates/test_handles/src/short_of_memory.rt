@@ -1,4 +1,4 @@
-//! Handles of a channel whose heap is full: what is refused comes back, and nothing is lost.
+//! Handles of a channel whose heap is full: what is refused is handed back, and nothing is lost.
 use async_broadcast::{
     Lock, NoMemory, Port, Receiver, Send, Sender, Snapshot, WakerSlot, broadcast,
 };
@@ -16,10 +16,10 @@ use std::test::Fail;
 
 mod slots;
 
-/// The bytes of a channel's heap.
+/// The size of a channel's heap in bytes.
 const HEAP: usize = 4096;
 
-/// A block of a heap, of no use but that nobody else has it.
+/// A block of a heap, which only keeps others from having it.
 type Block<'a> = Vec<u8, &'a LocalHeap>;
 
 const TEXT: &[u8] = b"a message of some length";
@@ -44,7 +44,7 @@ impl<'a> Clone for Heavy<'a> {
     }
 }
 
-/// Takes all memory that the heap has left.
+/// Takes all memory that is left in the heap.
 fn fill<'a>(alloc: Global, heap: &'a LocalHeap) -> Result<Vec<Block<'a>>, AllocError> {
     let mut taken = Vec::new(alloc);
     for _ in 0..HEAP {
@@ -56,8 +56,8 @@ fn fill<'a>(alloc: Global, heap: &'a LocalHeap) -> Result<Vec<Block<'a>>, AllocE
     Ok(taken)
 }
 
-// A stream whose message can't be cloned says so, and gives the message once there is memory. The
-// other receiver gets it too: it is the last to read it, so it needs no memory.
+// A stream whose message can't be cloned returns an error, and gives the message when there is
+// memory. The other receiver gets it too: it is the last to read it, so it needs no memory.
 #[test]
 fn a_stream_goes_on_after_a_refused_clone(rt: HostRuntime) -> Result<(), Fail> {
     let heap = LocalHeap::new(rt.alloc(), HEAP)?;
@@ -109,7 +109,7 @@ fn gives<T: Clone + PartialEq>(polled: &Poll<Option<Result<T, AllocError>>>, msg
     matches!(polled, Poll::Ready(Some(Ok(given))) if given == msg)
 }
 
-// A send without a box hands its message back, and its place is free again.
+// A send for whose box there is no memory hands its message back, and its place is free again.
 #[test]
 fn a_send_without_a_box_frees_its_place(rt: HostRuntime) -> Result<(), Fail> {
     let heap = LocalHeap::new(rt.alloc(), HEAP)?;
@@ -127,7 +127,7 @@ fn hands_back_without_a_box<A: Allocator + Copy, P: Port<u64, WakerSlot<A>>>(
     heap: &LocalHeap,
     sender: &Sender<u64, P, A>,
 ) -> Result<(), Fail> {
-    // The channel keeps the memory of a place, so that the box alone is refused.
+    // The channel keeps the memory of a place, so that only the box is refused.
     drop(sender.broadcast_direct(1)?);
     let _taken = fill(alloc, heap)?;
     assert!(rt; sender.broadcast_direct(2).is_ok(), "a place");
@@ -141,8 +141,8 @@ fn expect_places(rt: &impl Abort, seen: &Snapshot<u64, &LocalHeap>, places: &[us
     assert!(rt; seen.waiting_sends.ids.is_empty());
 }
 
-// A send without a notice hands its message back and is pending from then on, and its drop frees
-// its place.
+// A send for whose notice there is no memory hands its message back and is pending from then on,
+// and its drop frees its place.
 #[test]
 fn a_send_without_a_notice_keeps_its_place(rt: HostRuntime) -> Result<(), Fail> {
     let heap = LocalHeap::new(rt.alloc(), HEAP)?;

@@ -1,5 +1,5 @@
-//! Threads that wait for one another: who sleeps in a call and what lets it go on, and counterparts
-//! of those tests of async-broadcast that have threads.
+//! Threads that wait for one another: which of them sleep in a call and what wakes them, and
+//! counterparts of those tests of async-broadcast that have threads.
 
 mod answers;
 mod counterparts;

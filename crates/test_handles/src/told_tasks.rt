@@ -1,4 +1,4 @@
-//! Tasks that all wait for one channel: how many polls follow once a call tells some of them.
+//! Tasks that all wait for one channel: how many polls follow after a call tells some of them.
 use async_broadcast::{Port, Receiver, Send, Sender, Snapshot, WakerSlot, broadcast};
 use futures::executor::{LocalPool, LocalSpawner};
 use futures::task::{Context, Poll, Source, Waker};
@@ -21,8 +21,8 @@ enum Ask {
     Close,
 }
 
-/// A name, how many streams and how many sends wait on a channel of capacity 1, what is asked then,
-/// and how many polls follow until no task is woken.
+/// A name, how many streams and how many sends wait on a channel of capacity 1, the calls that are
+/// made then, and how many polls follow until no task is woken.
 type Row = (&'static str, u64, u64, &'static [Ask], u64);
 
 const ROWS: &[Row] = &[
@@ -60,13 +60,13 @@ enum Awaited<'a, P: Port<u64, WakerSlot>> {
     Room(Send<'a, u64, P>),
 }
 
-/// A task that polls until its first answer, and then keeps its handle. Its polls are counted.
+/// A task that polls until it needn't wait, and then keeps its handle. Its polls are counted.
 #[derive(Drop)]
 struct Listener<'a, P: Port<u64, WakerSlot>> {
     awaited: Awaited<'a, P>,
     is_answered: bool,
     polls: &'a AtomicU64,
-    // What the task waits for once it was answered, and its waker there: it is never woken again.
+    // What the task waits for after it was answered, and its waker there: it is never woken again.
     rest: Source,
     waker: Option<Waker>,
 }
@@ -107,7 +107,7 @@ impl<P: Port<u64, WakerSlot>> Future for Listener<'_, P> {
     }
 }
 
-/// Makes a call. Whether it was answered as the row needs it.
+/// Makes a call, and returns whether it returns what the row needs.
 fn is_made<P: Port<u64, WakerSlot>>(
     ask: Ask,
     sender: &Sender<u64, P>,
@@ -132,7 +132,7 @@ struct Seen {
     listeners: u64,
     /// How many polls follow the calls.
     polls: u64,
-    /// How many listeners are told once no task is woken.
+    /// How many listeners are told when no task is woken any more.
     told: u64,
 }
 
@@ -157,7 +157,7 @@ fn add_tasks<'a, P: Port<u64, WakerSlot>>(
     Ok(())
 }
 
-/// Makes the calls, each of which must be answered as the row needs it.
+/// Makes the calls, each of which must return what the row needs.
 fn make_all<P: Port<u64, WakerSlot>>(
     asks: &[Ask],
     sender: &Sender<u64, P>,
@@ -222,10 +222,10 @@ fn is_woken_by_drops<R: Wait + Clone + AllocGlobal + RandomSource>(
     Ok(task.is_woken())
 }
 
-// No call is made beside the polls of tasks that were woken, and each of them polls once whenever
+// No call is made except the polls of tasks that were woken, and each of them polls once whenever
 // it is woken. So the polls of a row follow one another, and are compared with the bound of the law
-// that told polls come to rest: at most n (n + 1) / 2, where n listeners wait. That a task that is
-// woken was told is not looked at: one that wasn't would be a poll too many for its row.
+// that told polls end: at most n (n + 1) / 2, if n listeners wait. The test doesn't look at whether
+// a woken task was told: one that wasn't would be a poll too many for its row.
 #[test]
 fn told_tasks_come_to_rest(rt: HostRuntime) -> Result<(), Fail> {
     for row in ROWS {
@@ -241,7 +241,7 @@ fn told_tasks_come_to_rest(rt: HostRuntime) -> Result<(), Fail> {
     Ok(())
 }
 
-// A dropped receive leaves its waker to the next one.
+// Dropped receives wake no task.
 #[test]
 fn dropped_receives_wake_no_task(rt: HostRuntime) -> Result<(), Fail> {
     for receives in [1, 2, 3] {

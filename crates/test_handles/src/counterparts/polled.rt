@@ -31,8 +31,8 @@ impl<P: Port<u64, WakerSlot>> Stream for Polled<P> {
     }
 }
 
-/// Sends four messages by a channel of capacity 2 in overflow mode, awaits what the stream gives,
-/// and ends it by the drop of the sender.
+/// Sends four messages over a channel of capacity 2 in overflow mode, awaits what the stream gives,
+/// and ends it by dropping the sender.
 pub fn plays<R: Abort + Wait + RandomSource + AllocGlobal, P: Port<u64, WakerSlot>>(
     rt: &R,
     sender: Sender<u64, P>,

@@ -37,7 +37,7 @@ pub enum Step {
     DropSenders,
 }
 
-/// What a call is answered.
+/// What a call returns.
 #[derive(Clone, Copy, PartialEq, Eq)]
 pub enum Answer {
     /// A message is accepted, a handle is made, a setting is made.
@@ -125,7 +125,7 @@ impl<P: Port<u64, WakerSlot>> Hands<P> {
         Ok(Answer::Done)
     }
 
-    /// Makes a call, and waits in a task where the call's future has to.
+    /// Makes a call, and waits in a task if the call returns a future.
     fn make<R: Wait + RandomSource + AllocGlobal>(
         &mut self,
         rt: &R,
@@ -161,7 +161,7 @@ impl<P: Port<u64, WakerSlot>> Hands<P> {
     }
 }
 
-/// Makes the calls of all rows on a channel, and fails unless each is answered so.
+/// Makes the calls of all rows on a channel, and fails unless each returns its answer.
 pub fn play<R: Abort + Wait + RandomSource + AllocGlobal, P: Port<u64, WakerSlot>>(
     rt: &R,
     alloc: Global,

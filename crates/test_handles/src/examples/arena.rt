@@ -17,7 +17,7 @@ fn keeps_to_the_arena<A: Allocator + Copy, P: Port<u64, WakerSlot<A>>>(
     mut sender: Sender<u64, P, A>,
     mut receiver: Receiver<u64, P, A>,
 ) -> Result<(), Fail> {
-    // The arena has no memory for so much room, and the capacity stays 2.
+    // The arena has no memory for this much room, and the capacity stays 2.
     assert!(rt; sender.set_capacity(100_000).is_err());
     assert!(rt; sender.capacity() == 2);
     assert!(rt; sender.try_broadcast(7).is_ok());

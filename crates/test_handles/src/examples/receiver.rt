@@ -1,4 +1,4 @@
-//! Of `receiver.rt`, and of a setting of the channel, made by a receiver.
+//! Of `receiver.rt`, and one of a setting of the channel that a receiver makes.
 use async_broadcast::{
     Port, Receiver, RecvError, SendError, Sender, TryRecvError, TrySendError, WakerSlot,
 };

@@ -3,7 +3,7 @@ use async_broadcast::{Port, Receiver, SendError, Sender, TryRecvError, WakerSlot
 use std::process::Abort;
 use std::test::Fail;
 
-// Of the calls that say how a channel is.
+// Of the calls that return the channel's settings and counts.
 pub fn says<P: Port<u64, WakerSlot>>(
     rt: &impl Abort,
     sender: Sender<u64, P>,

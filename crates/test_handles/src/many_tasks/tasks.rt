@@ -7,12 +7,12 @@ use std::alloc::{AllocError, Global};
 use std::sync::atomic::{AtomicU64, Ordering};
 use std::sync::{Mutex, Wait};
 
-/// What all tasks count.
+/// The counts of all tasks.
 #[derive(Drop)]
 pub struct Counts {
     receive_polls: AtomicU64,
     send_polls: AtomicU64,
-    // That have still to send.
+    // How many senders have still to send.
     senders: AtomicU64,
 }
 
@@ -53,13 +53,13 @@ impl<P: Port<u64, WakerSlot>> Stream for Received<'_, P> {
 }
 
 /// The sends of a sender, one after another. An item says that a number was accepted, and the
-/// stream ends with the last one, or where one is refused.
+/// stream ends after the last number, or if one is refused.
 #[derive(Drop)]
 struct Sends<'a, P: Port<u64, WakerSlot>> {
     sender: &'a Sender<u64, P>,
     next: u64,
     end: u64,
-    // Of the number before `next`, until it is accepted.
+    // The send of the number before `next`, until it is accepted.
     send: Option<Send<'a, u64, P>>,
     counts: &'a Counts,
 }
@@ -94,7 +94,7 @@ pub enum Task<'a, R: Wait + Drop, P: Port<u64, WakerSlot>> {
     Sending(Sending<'a, P>),
 }
 
-/// Receives to the end, and keeps the list of what came.
+/// Receives to the end, and keeps the list of what was received.
 #[derive(Drop)]
 pub struct Receiving<'a, R: Wait + Drop, P: Port<u64, WakerSlot>> {
     rt: R,
@@ -111,7 +111,7 @@ pub struct Sending<'a, P: Port<u64, WakerSlot>> {
 }
 
 impl<'a, R: Wait + Drop, P: Port<u64, WakerSlot>> Task<'a, R, P> {
-    /// Receives to the end, and adds what came to `lists`.
+    /// Receives to the end, and adds what was received to `lists`.
     pub fn receiving(
         rt: R,
         alloc: Global,
@@ -152,7 +152,7 @@ impl<R: Wait + Drop, P: Port<u64, WakerSlot>> Future for Receiving<'_, R, P> {
     }
 }
 
-// A list that there is no memory for is missed by the test.
+// If there is no memory for a list, the test finds that it is missing.
 fn keep<R: Wait>(rt: &R, lists: &Mutex<Vec<Vec<u64>>>, list: Result<Vec<u64>, AllocError>) {
     if let Ok(list) = list {
         let _kept = lists.lock(rt).push(list);

@@ -1,4 +1,4 @@
-//! A port that gives no notices back: its polls leave their task's waker in a slot.
+//! A port that hands no notices back: its polls leave their task's waker in a slot.
 ghost use Rattle.std.specs.Prelude.{◌≡◌, true, false, IfOk, IfErr, OnErr};
 ghost use Rattle.futures.specs.Task.{IsArmed, Keeps};
 ghost use Rattle.bcast_model.specs.Words.{must_wait, HasPositiveCapacity};
@@ -8,7 +8,7 @@ use async_broadcast::{Ask, Call, Port, Registers, Reply, Wake, WakerSlot};
 use futures::task::Context;
 use std::alloc::Allocator;
 
-/// Asks another port. The slot of a poll takes memory, which that of a lock doesn't.
+/// Makes its calls on another port. The slot of a poll takes memory, which that of a lock doesn't.
 #[derive(Drop)]
 pub struct SlotPort<P> {
     pub port: P,

@@ -1,9 +1,9 @@
-//! What threads and tasks are answered.
+//! What the calls of threads and tasks return.
 use async_broadcast::{RecvError, SendError, TryRecvError, TrySendError};
 use futures::task::Poll;
 use std::alloc::AllocError;
 
-/// What a call is answered.
+/// What a call returns.
 #[derive(Clone, Copy, PartialEq, Eq)]
 pub enum Answer {
     Done,
@@ -25,7 +25,7 @@ pub enum Answer {
     NoMemory,
 }
 
-/// The answer of a send that doesn't wait.
+/// What a send that doesn't wait returned.
 pub fn of_try_send(answer: Result<Option<u64>, TrySendError<u64>>) -> Answer {
     match answer {
         Ok(None) => Answer::Done,
@@ -36,7 +36,7 @@ pub fn of_try_send(answer: Result<Option<u64>, TrySendError<u64>>) -> Answer {
     }
 }
 
-/// The answer of a send that may wait.
+/// What a send that may wait returned.
 pub fn of_send(answer: Result<Option<u64>, SendError<u64>>) -> Answer {
     match answer {
         Ok(None) => Answer::Done,
@@ -45,7 +45,7 @@ pub fn of_send(answer: Result<Option<u64>, SendError<u64>>) -> Answer {
     }
 }
 
-/// The answer of a receive that doesn't wait.
+/// What a receive that doesn't wait returned.
 pub fn of_try_recv(answer: Result<Result<u64, TryRecvError>, AllocError>) -> Answer {
     match answer {
         Ok(Ok(msg)) => Answer::Message(msg),
@@ -56,7 +56,7 @@ pub fn of_try_recv(answer: Result<Result<u64, TryRecvError>, AllocError>) -> Ans
     }
 }
 
-/// The answer of a receive that may wait.
+/// What a receive that may wait returned.
 pub fn of_recv(answer: Result<Result<u64, RecvError>, AllocError>) -> Answer {
     match answer {
         Ok(Ok(msg)) => Answer::Message(msg),
@@ -66,7 +66,7 @@ pub fn of_recv(answer: Result<Result<u64, RecvError>, AllocError>) -> Answer {
     }
 }
 
-/// The answer of a poll of a stream.
+/// What a poll of a stream returned.
 pub fn of_poll_recv(polled: Result<Poll<Option<Result<u64, RecvError>>>, AllocError>) -> Answer {
     match polled {
         Ok(Poll::Ready(Some(answer))) => of_recv(Ok(answer)),

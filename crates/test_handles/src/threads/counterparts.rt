@@ -115,13 +115,13 @@ where
     )
 }
 
-// A full channel refuses, what was sent is received, and the last sender closes.
+// A full channel refuses, what was sent is received, and the drop of the last sender closes.
 #[test]
 fn parallel(rt: HostRuntime) -> Result<(), Fail> {
     play_two(rt, rt.alloc(), PARALLEL_SENDS, PARALLEL_RECEIVES)
 }
 
-// The same, where both sides wait, and two more messages go through.
+// The same, with both sides waiting, and with two more messages.
 #[test]
 fn parallel_async(rt: HostRuntime) -> Result<(), Fail> {
     play_two(rt, rt.alloc(), WAITING_SENDS, WAITING_RECEIVES)
@@ -223,7 +223,7 @@ const OPEN_RECEIVES: Script = &[
     (Step::Receive(0), Answer::Message(10)),
 ];
 
-// Sends wait while the only receiver is inactive, and are refused where they don't wait.
+// Sends that may wait do so while the only receiver is inactive, and the others are refused.
 #[test]
 fn open_channel(rt: HostRuntime) -> Result<(), Fail> {
     let (sender, receiver) = broadcast(rt, rt.alloc(), 2)?;

@@ -1,4 +1,4 @@
-//! Listed calls on the handles of a thread.
+//! Lists of calls on the handles of a thread.
 use crate::threads::answers::{Answer, of_poll_recv, of_recv, of_send, of_try_recv, of_try_send};
 use crate::threads::steps::{Receiving, Sending};
 use async_broadcast::{InactiveReceiver, Port, WakerSlot};
@@ -10,7 +10,7 @@ use std::alloc::Global;
 /// What a thread does, with its sender or receiver of this number.
 #[derive(Clone, Copy)]
 pub enum Step {
-    /// Waits for the other threads that do so at the barrier of this number.
+    /// Waits at the barrier of this number for the other threads that wait there.
     Meet(usize),
     TrySend(usize, u64),
     /// Sends two messages as a list.
@@ -37,12 +37,12 @@ pub enum Polled {
     Recv,
     /// The stream.
     Next,
-    /// A send that waits, until the first receiver receives: whether its task is woken then, and
-    /// not before.
+    /// A send that waits until the first receiver receives: whether its task is woken then, and not
+    /// before.
     HeldSend(u64),
-    /// A receive that waits, until the first sender sends this: the same.
+    /// A receive that waits until the first sender sends this: the same.
     HeldFuture(u64),
-    /// Nothing: whether the task is woken.
+    /// Nothing is polled: whether the task is woken.
     Woken,
 }
 
@@ -68,7 +68,7 @@ pub enum Change {
     DropSenders,
 }
 
-/// What a thread does, with the answers.
+/// What a thread does, with what its calls return.
 pub type Script = &'static [(Step, Answer)];
 
 /// The handles of a thread.
@@ -77,7 +77,7 @@ pub struct Hands<P: Port<u64, WakerSlot>> {
     pub senders: Vec<Sending<P>>,
     pub receivers: Vec<Receiving<P>>,
     pub inactive: Option<InactiveReceiver<u64, P>>,
-    /// What polls.
+    /// The task that polls.
     pub task: Option<MockTask>,
     alloc: Global,
 }
@@ -94,7 +94,7 @@ impl<P: Port<u64, WakerSlot>> Hands<P> {
         }
     }
 
-    /// Does a step. None: there is no such handle, or no memory for one, or threads are to meet.
+    /// Does a step. None: there is no such handle, or no memory for one, or the step is `Meet`.
     pub fn make(&mut self, step: Step) -> Option<Answer> {
         match step {
             Step::Meet(_) => None,
@@ -125,7 +125,7 @@ impl<P: Port<u64, WakerSlot>> Hands<P> {
         }
     }
 
-    /// Whether each step is answered so.
+    /// Whether each step returns its answer.
     pub fn make_all(&mut self, script: Script) -> bool {
         for (step, answer) in script {
             if self.make(*step) != Some(*answer) {
@@ -190,7 +190,7 @@ impl<P: Port<u64, WakerSlot>> Hands<P> {
     }
 }
 
-/// Polls a receive of the kind that is named.
+/// Polls a receive of this kind.
 fn receive<P: Port<u64, WakerSlot>>(
     task: &MockTask,
     receiver: &mut Receiving<P>,

@@ -1,4 +1,4 @@
-//! Two threads that answer each other over two channels.
+//! Two threads that reply to each other over two channels.
 use crate::threads::steps::{Receiving, Sending, reaches};
 use async_broadcast::{Port, WakerSlot, broadcast};
 use std::alloc::Global;
@@ -12,7 +12,7 @@ use std::thread::Threads;
 /// How many messages each thread sends.
 const ROUNDS: u64 = 500;
 
-// Neither thread gets on alone: each waits for what the other sends.
+// Neither thread can finish alone: each waits for what the other sends.
 #[test]
 fn handshake(rt: HostRuntime) -> Result<(), Fail> {
     let (to_second, from_first) = broadcast(rt, rt.alloc(), 1)?;
@@ -46,7 +46,7 @@ where
     Ok(())
 }
 
-// Sends each number, and waits for it to come back.
+// Sends each number, and waits until it is sent back.
 fn ask<P: Port<u64, WakerSlot>>(
     rt: &impl Abort,
     numbers: Sending<P>,

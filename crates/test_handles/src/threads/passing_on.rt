@@ -29,7 +29,7 @@ fn receive<P: Port<u64, WakerSlot>>(port: P, key: usize, counts: &Counts) {
     count.fetch_add(1, Ordering::SeqCst);
 }
 
-/// Starts threads that wait for the messages of these receivers, each once those before it sleep.
+/// Starts threads that wait for the messages of these receivers, each when those before it sleep.
 fn start<R, P>(
     rt: R,
     alloc: Global,
@@ -52,7 +52,7 @@ where
     Ok(threads)
 }
 
-/// Sends to three threads of two receivers, and closes the channel once two of them got the
+/// Sends to three threads of two receivers, and closes the channel when two of them got the
 /// message.
 fn all_go_on<R, P>(rt: R, alloc: Global, port: &P, key: usize) -> Result<(), Fail>
 where
@@ -85,8 +85,8 @@ where
     Ok(())
 }
 
-// Two threads wait for one receiver's message, and a third, behind them, for another's. All three
-// are woken in turn. The second finds nothing, since the first has the message.
+// Two threads wait for one receiver's message, and a third, behind them, for another receiver's.
+// All three are woken in turn. The second finds nothing, since the first has the message.
 #[test]
 fn a_thread_that_finds_nothing_wakes_the_next(rt: HostRuntime) -> Result<(), Fail> {
     let (inner, key) = Inner::new(rt.alloc(), 1)?;

@@ -1,4 +1,4 @@
-//! Threads that make listed calls on their handles, and meet in between.
+//! Threads that make lists of calls on their handles, and meet in between.
 use crate::threads::answers::Answer;
 use crate::threads::hands::{Hands, Script, Step};
 use crate::threads::steps::reaches;
@@ -26,7 +26,7 @@ impl Shared {
     }
 }
 
-/// Does the steps of a thread, each of which must be answered so.
+/// Does the steps of a thread, each of which must return its answer.
 fn play<R: Abort + Wait, P: Port<u64, WakerSlot>>(
     rt: &R,
     shared: &Shared,
@@ -43,7 +43,7 @@ fn play<R: Abort + Wait, P: Port<u64, WakerSlot>>(
     shared.finished.fetch_add(1, Ordering::SeqCst);
 }
 
-/// No thread is finished yet. As many meet at each barrier as its number in `meet` says.
+/// No thread is finished yet. At each barrier as many threads meet as its number in `meet` says.
 fn shared_by(alloc: Global, meet: &[usize]) -> Result<Arc<Shared>, Fail> {
     let mut barriers = Vec::new(alloc);
     for met in meet {
@@ -68,8 +68,8 @@ where
     Ok(thread::spawn(&rt, move || play(&rt, &own, hands, script))?)
 }
 
-/// Plays each script in a thread of its own, and fails unless all of them end. As many threads meet
-/// at each barrier as its number in `meet` says.
+/// Plays each script in a thread of its own, and fails unless all of them end. At each barrier as
+/// many threads meet as its number in `meet` says.
 pub fn run<R, P>(
     rt: R,
     alloc: Global,

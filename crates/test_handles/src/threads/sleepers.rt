@@ -11,7 +11,7 @@ use std::test::Fail;
 use std::thread;
 use std::thread::{JoinHandle, Threads};
 
-/// How many threads sleep, in which call, and what each of them is answered.
+/// How many threads sleep, in which call, and what the call of each returns.
 pub type Sleep = (u64, Step, Answer);
 
 /// How many threads began their call, and how many ended it.
@@ -41,7 +41,7 @@ fn hands_for<P: Port<u64, WakerSlot>>(
     Ok(made)
 }
 
-/// Makes the call, which must be answered so.
+/// Makes the call, which must return this answer.
 fn sleep<P: Port<u64, WakerSlot>>(
     rt: &impl Abort,
     counts: &Counts,
@@ -75,8 +75,8 @@ where
     Ok(started)
 }
 
-/// Makes the calls, each of which must be answered so, once the threads sleep. All of them must go
-/// on then.
+/// Makes the calls, each of which must return its answer, while the threads sleep. All threads must
+/// wake and end their calls then.
 pub fn wakes<R, P>(
     rt: R,
     alloc: Global,

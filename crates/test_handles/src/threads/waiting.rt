@@ -10,16 +10,16 @@ use std::sync::Wait;
 use std::test::Fail;
 use std::thread::Threads;
 
-/// A name, what is done before, who sleeps, and the calls after which they go on.
+/// A name, the calls before, the threads that sleep, and the calls that wake them.
 type Row = (&'static str, Script, Sleep, Script);
 
-/// Two threads that are to get this message.
+/// Two threads that must get this message.
 const RECEIVE: Sleep = (2, Step::Receive(0), Answer::Message(7));
 
-/// Two threads that are to see that the channel closed.
+/// Two threads that must see that the channel closed.
 const END: Sleep = (2, Step::Receive(0), Answer::Ended);
 
-/// On a channel of capacity 2.
+/// Rows on a channel of capacity 2.
 const RECEIVERS: &[Row] = &[
     (
         "broadcast_blocking",
@@ -84,7 +84,7 @@ const RECEIVERS: &[Row] = &[
 /// One message, which fills a channel of capacity 1.
 const FULL: Script = &[(Step::TrySend(0, 1), Answer::Done)];
 
-/// The same, which one of two receivers has read.
+/// The same message, which one of two receivers has read.
 const HALF_READ: Script = &[
     (Step::Change(Change::CloneReceiver), Answer::Done),
     (Step::TrySend(0, 1), Answer::Done),
@@ -94,18 +94,18 @@ const HALF_READ: Script = &[
 /// The only receiver is inactive.
 const INACTIVE: Script = &[(Step::Change(Change::Deactivate), Answer::Done)];
 
-/// A thread whose message is to be accepted, and two.
+/// A thread whose message must be accepted, and two such threads.
 const SEND: Sleep = (1, Step::Send(0, 2), Answer::Done);
 
 const SEND_BOTH: Sleep = (2, Step::Send(0, 2), Answer::Done);
 
-/// A thread that is to drop the oldest message.
+/// A thread whose send must drop the oldest message.
 const DROP_OLDEST: Sleep = (1, Step::Send(0, 2), Answer::Dropped(1));
 
-/// Two threads that are to be refused.
+/// Two threads whose sends must be refused.
 const REFUSED: Sleep = (2, Step::Send(0, 2), Answer::Refused(2));
 
-/// On a channel of capacity 1.
+/// Rows on a channel of capacity 1.
 const SENDERS: &[Row] = &[
     (
         "try_recv",
@@ -231,7 +231,7 @@ where
     wakes(rt, alloc, &mut hands, (name, sleep, calls))
 }
 
-// What a thread that sleeps in `recv_blocking` can receive wakes it, and it wakes the next.
+// A thread that sleeps in `recv_blocking` is woken by what it can receive, and wakes the next.
 #[test]
 fn sleeping_receivers_go_on(rt: HostRuntime) -> Result<(), Fail> {
     for row in RECEIVERS {
@@ -241,7 +241,7 @@ fn sleeping_receivers_go_on(rt: HostRuntime) -> Result<(), Fail> {
     Ok(())
 }
 
-// What answers a thread that sleeps in `broadcast_blocking` wakes it, and it wakes the next.
+// A thread that sleeps in `broadcast_blocking` is woken if its send may end, and wakes the next.
 #[test]
 fn sleeping_senders_go_on(rt: HostRuntime) -> Result<(), Fail> {
     for row in SENDERS {
