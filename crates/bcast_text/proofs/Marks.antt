@@ -43,7 +43,7 @@ if_marked (x ∷ xs) marks n m = go (if_marked xs (with_mark marks x) n m)
     go (inl now) = one (was marks x n now)
     go (inr (k, below, is)) = inr (suc k, omega (arith, below), is)
 
--- a place is marked where it was, or where its number is in the list
+-- a place is marked if it was before, or if its number is in the list
 pub marked : (list : List ℕ) (marks : List Bool) (n : ℕ) → n < length marks → IsMarked (fold with_mark marks list) n ↔ (IsMarked marks n ⊎ Contains list n)
 marked list marks n within = (if_marked list marks n, marked_if list marks n within)
 

@@ -38,7 +38,7 @@ pub enum Ending {
 }
 
 impl Ending {
-    /// The exit status of a program that ended so.
+    /// The exit status of a program with this ending.
     pub fn status(self) -> u8
         ensures { result ≡ status_of self }
     {

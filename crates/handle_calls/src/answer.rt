@@ -35,7 +35,7 @@ pub enum Answer {
     Is(bool),
     /// What all handles see.
     All(Seen),
-    /// Handles of one channel see it differently.
+    /// The handles of the channel don't all see the same.
     Differs,
     Done,
 }

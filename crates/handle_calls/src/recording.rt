@@ -106,7 +106,7 @@ impl<A: Allocator> Ask<u64, WakerSlot<A>> for RecordingPort {
 
     ghost of_kind = { λ _ call reply gave. gave };
 
-    // If a port replies that a poll waits, it also tells it at once.
+    // A port that replies that a poll must wait tells it at once.
     fn ask(&self, call: Call<u64>, mut wake: Wake<WakerSlot<A>>) -> Reply<u64>
         requires { HasPositiveCapacity call }
         ensures { IsOfKind call result }

@@ -1,4 +1,4 @@
-//! Tests of the core, of its errors and of the recording shell, by their public calls.
+//! Tests of the core, of its errors and of logs and recorders, by their public calls.
 #![tactic(auto)]
 
 #[cfg(test)]

@@ -1,5 +1,5 @@
 //! Counterparts of those tests of async-broadcast that have one thread, and of the example of its
-//! first page.
+//! README.
 ghost use Rattle.std.specs.Prelude.{◌<◌};
 
 use async_broadcast::{Port, Receiver, Sender, WakerSlot, broadcast};

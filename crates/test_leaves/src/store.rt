@@ -22,7 +22,7 @@ enum Call {
     Read(usize),
 }
 
-// What is seen of a store beside its messages and cursors.
+// What is seen of a store apart from its messages and cursors.
 #[derive(Clone, Copy, PartialEq, Eq)]
 struct Seen {
     front: u64,

@@ -58,7 +58,7 @@ module _ {T : Type 0} where
   abbrev pub part_of : ℕ → List (Called T) → List (Called T)
   part_of first_key done = (call.Deactivate first_key, reply.Deactivate (Ok tt)) ∷ done
 
--- these calls and replies are a run of the machine, and what is seen of the topic is its end
+-- these calls and replies are a run, and the topic is seen as the run's end is
 pub record IsRunOf
     {T : Type 0} (is_clone : T → T → Type 0) (h : History T) (part : List (Called T))
     (topic : Option (View T)) : Type 0 where

@@ -45,7 +45,7 @@ module _ {S : Type 0} where
     same_end : v.end + 0 ≡ v.end
     same_end = omega arith
 
-    -- a watcher at the end
+    -- a watcher whose cursor is moved to the end
     seen_at : (number : ℕ) → number ≡ v.end → Leaves (with_cursor v.control key number)
     seen_at number at = record {
       config = record { capacity = config.capacity; overflow = config.overflow; watchers = len_insert v.control.cursors key number };

@@ -18,7 +18,7 @@ module _ (m : Cursors) (key cursor other : ℕ) where
   pub some_insert : IsSome (get m other) → IsSome (get (insert m key cursor) other)
   some_insert is = subst IsSome (sym (get-insert nat_cmp_total m key cursor other)) (elim (eq_by_cmp nat_cmp other key) as (λ b. IsSome (cond b (Some cursor) (get m other))) [ true ↦ refl | false ↦ is ])
 
-  -- all are as high as before
+  -- a cursor is at least `low`, if it was before and the new one is
   pub high_insert : (low at : ℕ) → low ≤ cursor → ((c : ℕ) → get m other ≡ Some c → low ≤ c) → get (insert m key cursor) other ≡ Some at → low ≤ at
   high_insert low at here there e =
       elim (eq_by_cmp nat_cmp other key) as (λ b. cond b (Some cursor) (get m other) ≡ Some at → low ≤ at) [

@@ -17,7 +17,7 @@ use Rattle.bcast_core.proofs.Settle.{inserted}
 use Rattle.uses.specs.Hub.{IsHub, IsOpened, event_of}
 use Rattle.uses.proofs.Called.{told, valid_after, after, unchanged}
 
--- nobody is left once the only receiver is gone
+-- no receiver is left after the only one leaves
 abbrev none : FinMap nat_cmp ℕ
 none = empty
 
@@ -45,7 +45,7 @@ module _ {T : Type 0} where
       let unused = left.3 in
       (left.0, record { capacity = left.1; closed = left.2; queue = nil_from_length w.queue (omega (arith, end, unused)); subscribers = left.4; made = v; first = key; opened = new; left = a })
 
-  -- a receive leaves a hub a hub
+  -- after a receive a hub is still a hub
   pub received_hub : {is_clone : T → T → Type 0} {v w : View T} {key : ℕ} {received : Result T TryRecvError} → Answers is_clone v (call.TryRecv key) (reply.TryRecv (Ok received)) w → IsHub v → IsHub w
   received_hub {v = v} {key = key} a hub = after a IsHub told_hub (moved (cursor_of v.control key))
     where

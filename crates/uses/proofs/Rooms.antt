@@ -49,7 +49,7 @@ module _ {T : Type 0} where
   accepted count (Ok back) a has = refl
   accepted {v = v} {msg = msg} count (Err error) a has = absurd (true≢false (sym (none_refused v msg count has) ∙ ap is_ok (sym (replied a))))
 
-  -- what is left beside the messages
+  -- what holds after it, apart from the messages
   record Left (v u : View T) (count : ℕ) : Type 0 where
     is_open : u.control.closed ≡ false
     receivers : has_no_receiver u.control ≡ false

@@ -36,7 +36,8 @@ module _ {T : Type 0} where
     pub others : KeepsUnread v w reader
     pub readers : KeepsReaders v w
 
--- a new channel has room for as many messages as its capacity, and its receiver has none to read
+-- a new channel has room for as many messages as its capacity, if that is less than 2^64 - 1, and
+-- its receiver has none to read
 abbrev pub OpensWithRoom : Type 0 → Type 0
 OpensWithRoom T =
     (v : View T) (capacity key : ℕ) → Represents v (opening capacity 0 key)

@@ -5,7 +5,7 @@ use Rattle.bcast_model.specs.declared.error.TrySendError.TheVariants as unsent
 use Rattle.bcast_model.specs.Words.{has_no_receiver, View}
 
 module _ {T : Type 0} where
-  -- `try_broadcast`: the first reason to refuse the message that holds, or none
+  -- `try_broadcast`: the first of its reasons to refuse that holds, or none
   abbrev pub send_answer : View T → T → Result (Unit {0}) (TrySendError T)
   send_answer v msg =
       if v.control.closed then Err (unsent.Closed msg)

@@ -37,7 +37,7 @@ pub record AddsWorker (old new : Signal) (added : ℕ) : Type 0 where
   pub others : (key : ℕ) → IsWorker old key → IsWorker new key
   pub only : (key : ℕ) → key ≢ added → IsWorker new key → IsWorker old key
 
--- `try_recv`: whether it says that everything was read and the channel is closed
+-- `try_recv`: whether its reply is that everything was read and the channel is closed
 abbrev pub is_closed_reply : Result (Result (Unit {0}) TryRecvError) AllocError → Bool
 is_closed_reply (Ok (Err unread.Closed)) = true
 is_closed_reply other = false

@@ -1,9 +1,9 @@
-//! What callers of a channel without overflow rely on from one call to the next: laws of what is
-//! seen.
+//! Laws of what is seen of a channel without overflow, on which callers rely from one call to the
+//! next.
 ghost use Rattle.uses.specs.Reading.{OpensWithRoom, SendsWithRoom, ReadsInOrder};
 
-/// Law: a new channel has room for as many messages as its capacity, and its receiver has none to
-/// read.
+/// Law: a new channel has room for as many messages as its capacity, if that is not the greatest
+/// `usize`, and its receiver has none to read.
 pub fn opens_with_room<T>()
     ensures { OpensWithRoom T }
 {}

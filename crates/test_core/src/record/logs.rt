@@ -93,7 +93,7 @@ fn refuses<R: Named, A: Allocator + Copy>(
     Ok(is_back && seat.count() == 0 && log.entries().is_empty())
 }
 
-/// Whether a new log hands a call back while its heap is full, and makes it once there is memory.
+/// Whether a new log hands a call back while its heap is full, and makes it when there is memory.
 fn refuses_once<R: Named>(
     alloc: Global,
     heap: &LocalHeap,

@@ -1,4 +1,4 @@
--- What the line was read as is done.
+-- What the line asks for is done.
 use Rattle.std.proofs.Common.{rules, ◌≡◌, ◌++◌, ◌∷◌, [], codes, Some, IfSome, inl, inr, refl, subst, Ok, IfOk}
 use Rattle.bcast_model.proofs.Clones.{answers_exact}
 use Rattle.bcast_text.specs.declared.trace.line.Line.TheVariants as lines

@@ -1,4 +1,4 @@
--- What `fill_buf` showed and `consume` dropped was moved.
+-- The bytes that `fill_buf` returned and `consume` dropped are those that were moved.
 use Rattle.std.proofs.Common.{◌≡◌, ◌≢◌, ◌-◌, All, Ok, take, drop, refl, sym, ap, subst, ◌∙◌, rules, arith, eq-eqb, eqb-true, get_or, get_or-take, length, le_refl, length-take-le, drop_of_length-le, []}
 use Rattle.std.proofs.lemmas.List.Elements.{All-more}
 use Rattle.std.specs.Io.{StopsAt, IsEmptyOrEndsWith}

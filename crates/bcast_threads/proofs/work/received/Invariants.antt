@@ -1,4 +1,4 @@
--- Each turn received one message.
+-- Each turn of the loop received one message.
 use Rattle.std.proofs.Common.{◌≡◌, vec_len}
 use Rattle.bcast_threads.specs.Given.{WereReceived}
 use Rattle.bcast_threads.proofs.work.received.Given as goal

@@ -1,4 +1,4 @@
--- A removal by a text changes what each text finds as it should.
+-- After a removal each name finds what it should.
 use Rattle.std.proofs.Common.{None, ap, ◌∙◌}
 use Rattle.std.specs.Str.{bytes_eq}
 use Rattle.std.specs.BTreeMap.{get_by_text}

@@ -1,4 +1,4 @@
--- An insertion at a text changes what each text finds as it should.
+-- After an insertion each name finds what it should.
 use Rattle.std.proofs.Common.{Some, ap, ◌∙◌}
 use Rattle.std.specs.Str.{bytes_eq}
 use Rattle.std.specs.String.{string_bytes}

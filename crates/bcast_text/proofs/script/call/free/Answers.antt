@@ -1,4 +1,4 @@
--- A removal by a text changes what each text finds as it should.
+-- After a removal each name finds what it should.
 use Rattle.std.specs.Prelude.{None}
 use Rattle.std.proofs.lemmas.Map.Text.{btree_map_updates_text}
 use Rattle.bcast_text.proofs.script.call.free.Goals as goal

@@ -1,4 +1,4 @@
--- An insertion at a text changes what each text finds as it should.
+-- After an insertion each name finds what it should.
 use Rattle.std.specs.Prelude.{Some, string_bytes}
 use Rattle.std.proofs.lemmas.Map.Text.{btree_map_updates_text}
 use Rattle.bcast_text.proofs.script.call.name_receiver.Goals as goal
