@@ -85,7 +85,7 @@ impl<A: Allocator + Copy, S: BuildHasher> RunLine for HubSession<A, S> {
 ///
 /// `output` is flushed before each read that may wait for more input, and at the end. The first
 /// line that is not a call ends the run. An input without lines is done. No follower has a name at
-/// the start. The names of topics are hashed with a random seed, since lines choose them.
+/// the start. The hub hashes the names of topics by a `RandomState`, since lines choose them.
 pub fn hub_script<A, R, W>(
     alloc: A,
     hub: Hub<u64, A, RandomState>,

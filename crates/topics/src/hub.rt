@@ -37,7 +37,7 @@ impl<T: Clone, A: Allocator + Copy> Hub<T, A> {
 impl<T: Clone, A: Allocator + Copy, S: BuildHasher> Hub<T, A, S> {
     /// A hub without topics, whose names are hashed with `hash_builder`.
     ///
-    /// `hash_builder` can be std's `RandomState`, whose seed is random. No clause is about hashes.
+    /// It can be std's `RandomState`, which is made from random bytes. No clause is about hashes.
     pub fn with_hasher(alloc: A, hash_builder: S) -> Self
         ensures { (name : List ℕ) → topic_of result name ≡ None }
     {
