@@ -27,6 +27,18 @@ const CAPACITY: usize = 16;
 /// How many wait, or stay, in rows that tell whether a cost grows.
 const SIZES: [u64; 3] = [10, 1_000, 100_000];
 
+/// Capacities and receivers of the rows in which numbers are sent and received.
+pub const SENT: [(usize, usize); 8] = [
+    (16, 1),
+    (16, 8),
+    (16, 64),
+    (16, 1_000),
+    (16, 10_000),
+    (1024, 1),
+    (1024, 8),
+    (1024, 64),
+];
+
 pub fn row(title: impl Into<String>, operations: u64, run: impl Fn(u64) -> u64 + 'static) -> Row {
     Row {
         title: title.into(),
@@ -112,18 +124,7 @@ fn of_crossbeam() -> Vec<Row> {
 
 /// Numbers that are sent and received.
 fn messages<C: Channel<u64> + 'static>() -> Vec<Row> {
-    let sizes = [
-        (16, 1),
-        (16, 8),
-        (16, 64),
-        (1024, 1),
-        (1024, 8),
-        (1024, 64),
-        (16, 1_000),
-        (16, 10_000),
-    ];
-    sizes
-        .into_iter()
+    SENT.into_iter()
         .flat_map(|(capacity, receivers)| {
             [
                 titles::step(capacity, receivers, move |times| {

@@ -1,7 +1,7 @@
 //! The port's channel without a lock: loops of calls in a static library of its own, which is linked
 //! in place of a crate (bench/crates/workloads).
 
-use crate::rows::Row;
+use crate::rows::{self, Row};
 use crate::titles;
 use crate::waker::Kind;
 
@@ -64,16 +64,16 @@ pub fn rows() -> Vec<Row> {
 
 fn messages() -> Vec<Row> {
     let mut all = Vec::new();
+    for (capacity, receivers) in rows::SENT {
+        let (cap, count) = (capacity as u64, receivers as u64);
+        all.push(titles::step(capacity, receivers, move |times| {
+            call!(bcast_bench_step(cap, count, times))
+        }));
+        all.push(titles::batch(capacity, receivers, move |times| {
+            call!(bcast_bench_batch(cap, count, times))
+        }));
+    }
     for capacity in [16, 1024] {
-        for receivers in [1, 8, 64] {
-            let (cap, count) = (capacity as u64, receivers as u64);
-            all.push(titles::step(capacity, receivers, move |times| {
-                call!(bcast_bench_step(cap, count, times))
-            }));
-            all.push(titles::batch(capacity, receivers, move |times| {
-                call!(bcast_bench_batch(cap, count, times))
-            }));
-        }
         let cap = capacity as u64;
         all.push(titles::overwrite(capacity, move |times| {
             call!(bcast_bench_overwrite(cap, times))
