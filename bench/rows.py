@@ -8,15 +8,16 @@ BASE = "original"
 
 # Senders, receivers, and messages of each sender.
 THREADS = ("1 1 20000", "2 3 4000", "4 4 1000", "16 16 50", "64 64 10")
+THREADS_HEADING = "Threads, of which tokio's senders don't wait"
 
 
 class Row:
     """A loop of calls, as a line of the file `rows` has it."""
 
-    def __init__(self, line):
-        """A line without its end."""
+    def __init__(self, line, heading):
+        """A line without its end, and the heading over it."""
         title, operations, *name = (part.strip() for part in line.split("|"))
-        self.title, self.operations, self.name = title, int(operations), "".join(name)
+        self.title, self.operations, self.name, self.heading = title, int(operations), "".join(name), heading
 
 
 class Program:
@@ -40,8 +41,13 @@ class Program:
 
 def read():
     """All rows."""
-    lines = (pathlib.Path(__file__).parent / "rows").read_text().splitlines()
-    return [Row(line) for line in lines if line and not line.startswith("#")]
+    found, heading = [], ""
+    for line in (pathlib.Path(__file__).parent / "rows").read_text().splitlines():
+        if line.startswith("## "):
+            heading = line.removeprefix("## ")
+        elif not line.startswith("#"):
+            found.append(Row(line, heading))
+    return found
 
 
 def programs(timings, peers, unlocked=None):
