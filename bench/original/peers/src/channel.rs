@@ -27,6 +27,9 @@ pub trait Channel<T> {
     type Sender;
     type Receiver;
 
+    /// A new channel with one receiver.
+    fn pair(capacity: usize) -> (Self::Sender, Self::Receiver);
+
     /// A new channel with so many receivers, at least one.
     fn make(capacity: usize, receivers: usize) -> (Self::Sender, Vec<Self::Receiver>);
 

@@ -9,6 +9,10 @@ impl<T: Clone> Channel<T> for FanOut {
     type Sender = Vec<Sender<T>>;
     type Receiver = Receiver<T>;
 
+    fn pair(capacity: usize) -> (Vec<Sender<T>>, Receiver<T>) {
+        let (sender, receiver) = bounded(capacity);
+        (vec![sender], receiver)
+    }
     fn make(capacity: usize, receivers: usize) -> (Vec<Sender<T>>, Vec<Receiver<T>>) {
         (0..receivers).map(|_| bounded(capacity)).unzip()
     }

@@ -13,6 +13,9 @@ impl<T: Clone> Channel<T> for Original {
     type Sender = Sender<T>;
     type Receiver = Receiver<T>;
 
+    fn pair(capacity: usize) -> (Sender<T>, Receiver<T>) {
+        broadcast(capacity)
+    }
     fn make(capacity: usize, receivers: usize) -> (Sender<T>, Vec<Receiver<T>>) {
         let (sender, first) = broadcast(capacity);
         (sender, vec![first; receivers])

@@ -14,6 +14,9 @@ impl<T: Clone> Channel<T> for Tokio {
     type Sender = Sender<T>;
     type Receiver = Receiver<T>;
 
+    fn pair(capacity: usize) -> (Sender<T>, Receiver<T>) {
+        channel(capacity)
+    }
     fn make(capacity: usize, receivers: usize) -> (Sender<T>, Vec<Receiver<T>>) {
         let (sender, first) = channel(capacity);
         let mut all = vec![first];
