@@ -32,6 +32,8 @@ pub fn step<T: Clone, N: Notice, A: Allocator + Copy>(
     ensures possible { IsPossible T.is_clone call result }
     // If no clone fails, no receive is refused.
     ensures sure { ((msg : T) → T.is_infallible msg) → is_receive_refused result ≡ false }
+    // If a clone equals its original, receives give the messages themselves.
+    ensures exact { ClonesEqual T.is_clone → Answers NoClone inner.old call result inner.new }
 {
     match poll(inner, call, &mut Given::new(notice)) {
         Ok(reply) => reply,
@@ -44,7 +46,7 @@ pub fn step<T: Clone, N: Notice, A: Allocator + Copy>(
 ///
 /// # Errors
 ///
-/// The call comes back, and nothing changed: no notice was made.
+/// The call is returned: no notice was made, and nothing changed.
 #[inline(always)]
 pub fn poll<T: Clone, N: Notice, A: Allocator + Copy, M: MakesNotice<N>>(
     inner: &mut Inner<T, N, A>,
@@ -170,11 +172,12 @@ pub struct Ran<T, A: Allocator = Global> {
 /// Makes all calls in order, on a channel of its own: `starting_at(alloc, cap, first)`.
 ///
 /// A call may name any key and place, also one that the channel never gave. New capacities must be
-/// positive. Nothing that a call inside meets ends the run.
+/// positive. No error of a call ends the run.
 ///
 /// # Errors
 ///
-/// The calls come back, and none was made: memory for the channel or for the replies was refused.
+/// The calls are returned, and none was made: memory for the channel or for the replies was
+/// refused.
 pub fn run<T: Clone, A: Allocator + Copy>(
     alloc: A,
     cap: usize,
@@ -202,13 +205,13 @@ pub fn run<T: Clone, A: Allocator + Copy>(
     // did.
     ensures missed { IfOk result (λ made. MissesWhatWasDropped []
         (opening cap first made.first_key) calls.items made.replies.items) }
-    // A poll waited exactly if the try of the same name found nothing, want of memory aside.
+    // A poll that was not refused memory waited exactly if the try of the same name found nothing.
     ensures polls { IfOk result (λ made. AtEachPoint WaitsAsItsTry
         (opening cap first made.first_key) calls.items made.replies.items) }
     // Polls of listeners that were told came to rest.
     ensures rest { IfOk result (λ made. AtEachPoint (ComesToRest T.is_clone)
         (opening cap first made.first_key) calls.items made.replies.items) }
-    // If a clone equals its original, the replies are the machine's to the letter.
+    // If a clone equals its original, the replies are exactly those of the definitions.
     ensures exact { ClonesEqual T.is_clone → IfOk result (λ made.
         IsRun NoClone (opening cap first made.first_key) calls.items made.replies.items) }
     // If no clone fails, no receive is refused.

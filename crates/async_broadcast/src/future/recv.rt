@@ -1,5 +1,5 @@
 //! Receiving in a task, one message at a time.
-ghost use Rattle.std.specs.Prelude.{◌≡◌, ◌⊎◌, ⊤, true, false, Ok, Err, IfOk, IfErr};
+ghost use Rattle.std.specs.Prelude.{◌≡◌, ◌⊎◌, ⊤, true, false, Ok, Err, IfOk, IfErr, OnOk, OnErr};
 ghost use Rattle.futures.specs.Task.{Covers, IsArmed, Keeps};
 ghost use Rattle.futures.specs.Poll.{IfReady, OnPending};
 ghost use Rattle.async_broadcast.specs.Futures.{GivesReceived};
@@ -45,9 +45,19 @@ impl<T: Clone, P: Ask<T, WakerSlot<A>>, A: Allocator + Copy> Receiver<T, P, A> {
         ensures lent { IfOk result (λ recv. recv.value.receiver.now ≡ self.old) }
         ensures same { IfOk result
             (λ recv. recv.value.receiver.ghost_name ≡ self.entry.ghost_name) }
+        ensures fresh { IfOk result (λ recv. recv.value.is_answered ≡ false) }
+        // The future that had no box was given up.
+        ensures refused { OnErr result
+            (P.gave self.old.port (Call.EndFuture self.old.role.key) Reply.EndFuture) }
     {
         let alloc = self.alloc;
-        Ok(Box::new(alloc, self.recv_direct())?)
+        match Box::new(alloc, self.recv_direct()) {
+            Ok(recv) => Ok(recv),
+            Err(refused) => {
+                let _given_up = refused.value;
+                Err(AllocError)
+            }
+        }
     }
 
     /// Receives the next message in a task, by a future.
@@ -66,6 +76,7 @@ impl<T: Clone, P: Ask<T, WakerSlot<A>>, A: Allocator + Copy> Receiver<T, P, A> {
     pub fn recv_direct(&mut self) -> Recv<'_, T, P, A>
         ensures lent { result.receiver.now ≡ self.old }
         ensures same { result.receiver.ghost_name ≡ self.entry.ghost_name }
+        ensures fresh { result.is_answered ≡ false }
     {
         Recv {
             receiver: self,
@@ -158,6 +169,10 @@ impl<T: Clone, P: Ask<T, WakerSlot<A>>, A: Allocator + Copy> Future for Recv<'_,
         ensures port { self.new.receiver.now.port ≡ self.old.receiver.now.port }
         ensures key { self.new.receiver.now.role.key ≡ self.old.receiver.now.role.key }
         ensures receiver { self.new.receiver.ghost_name ≡ self.old.receiver.ghost_name }
+        ensures answered { IfReady result (λ out. OnOk out (self.new.is_answered ≡ true)) }
+        ensures unanswered { OnPending result (self.new.is_answered ≡ false) }
+        ensures out_of_memory { IfReady result
+            (λ out. OnErr out (self.new.is_answered ≡ false)) }
     {
         self.is_answered = false;
         let receiver = &mut *self.receiver;

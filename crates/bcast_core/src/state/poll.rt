@@ -45,8 +45,8 @@ impl<T: Clone, N: Notice, A: Allocator + Copy> Inner<T, N, A> {
     }
 
     /// Receives as `try_recv` does, by the stream. `Ready(None)` says that everything was read and
-    /// the channel is closed. If there is nothing it waits, as `poll_future` does. If it waits and
-    /// was not told there is nothing, so it waits on without a look.
+    /// the channel is closed. If there is nothing it waits, as `poll_future` does. A stream that
+    /// waits and was not told doesn't look for a message, since there is none.
     ///
     /// # Errors
     ///
@@ -70,12 +70,12 @@ impl<T: Clone, N: Notice, A: Allocator + Copy> Inner<T, N, A> {
         }
     }
 
-    /// The same, but what the receiver missed is skipped in this call: the number beside the
-    /// message says how many messages those were.
+    /// Receives as `poll_recv` does, but skips what the receiver missed. The number beside the
+    /// message is how many messages it skipped.
     ///
     /// # Errors
     ///
-    /// `AllocError` as for `try_recv`; nothing changed, the skip among it.
+    /// `AllocError` as for `try_recv`; nothing changed, and nothing was skipped.
     ///
     /// Source: the `Stream` of async-broadcast's `Receiver`; the number is this crate's own.
     pub fn poll_next<L: Ledger>(
@@ -130,8 +130,8 @@ impl<T: Clone, N: Notice, A: Allocator + Copy> Inner<T, N, A> {
 }
 
 impl<T: Drop, N: Notice, A: Allocator + Copy> Inner<T, N, A> {
-    /// Gives up the future of the receiver of this key. If it was told, another listener is told in
-    /// its place. One that doesn't wait changes nothing.
+    /// Gives up the future of the receiver of this key. If it was told, the first listener that is
+    /// left is told in its place, unless it is told already. If it doesn't wait, nothing changes.
     ///
     /// Source: the drop of `Recv` of async-broadcast.
     pub fn end_future(&mut self, key: usize)
