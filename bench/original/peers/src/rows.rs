@@ -232,7 +232,7 @@ fn told_sends(kind: Kind) -> Vec<Row> {
     })]
 }
 
-/// Receives that wait together. The port has these rows without a lock.
+/// Receives that wait together. The port has these rows through handles and without a lock.
 fn many_waiting<C: Polled + 'static>() -> Vec<Row> {
     let served = SIZES.map(|count| {
         let title = format!("{count} receivers wait, and get one message, each");
