@@ -6,6 +6,7 @@ import states
 from channel import GREATEST, Channel, is_valid, witness
 from machine import READS, Choice, outcomes, step
 from library import call as apply
+from receiving import missed, unread
 from lists import Waiting
 from translate import CLONES, IS_CLONE, history, numbers_in, value, view
 
@@ -160,6 +161,9 @@ class Comparison:
         who = runs.polled(channel, call)
         is_poll = who is not None and (call[0] != 'PollSend' or call[1] in channel.places)
         self.agree('must_wait', (value(reply),), runs.must_wait(reply), where)
+        for key in states.IDS[:2]:
+            for name, count in (('unread', unread), ('missed', missed)):
+                self.agree(name, (view(channel), key), count(channel, key), where)
         count = len(channel.sends.ids) + len(channel.receives.ids)
         self.agree('listener_count', (view(channel)['control'],), count, where)
         self.agree('told_count', (view(channel)['control'],),

@@ -114,6 +114,8 @@ FUNCTIONS = {
     'unwrap_or': (2, lambda option, other: option[1] if option[0] == 'Some' else other),
     'option_map': (2, lambda function, option: some(call(function, option[1]))
                    if option[0] == 'Some' else option),
+    'option_map_or': (3, lambda function, option, other: call(function, option[1])
+                      if option[0] == 'Some' else other),
     'IsSomeAnd': (2, lambda option, test: option[0] == 'Some' and call(test, option[1])),
     'IfSome': (2, lambda option, test: option[0] == 'None' or call(test, option[1])),
     'AllByRecursion': (2, lambda test, items: all(call(test, item) for item in items)),

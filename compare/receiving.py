@@ -25,6 +25,19 @@ def read(channel, choice, key):
     return ('Ok', message)
 
 
+def unread(channel, key):
+    """'Receiving': how many kept messages the receiver's cursor hasn't passed."""
+    cursor = channel.cursors.get(key)
+    if cursor is None:
+        return 0
+    return sum(number >= cursor for number in range(channel.front(), channel.end()))
+
+
+def missed(channel, key):
+    """'Receiving': how many messages the receiver's next `try_recv` counts as missed."""
+    return max(0, channel.front() - channel.cursors.get(key, channel.front()))
+
+
 def try_recv(channel, choice, key):
     """'Receiving': `try_recv`."""
     found = read(channel, choice, key)

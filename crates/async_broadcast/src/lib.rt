@@ -29,6 +29,7 @@ mod receiver;
 mod sender;
 mod snapshot;
 mod text;
+mod unread;
 mod wake;
 
 pub use bcast_core::{

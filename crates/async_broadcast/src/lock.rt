@@ -1,6 +1,6 @@
 //! The channel of several handles, behind one lock.
 ghost use Rattle.std.specs.Prelude.{◌≡◌, ◌<◌, true, IfOk};
-ghost use Rattle.bcast_model.specs.Answers.{IsPossible};
+ghost use Rattle.bcast_model.specs.Words.{View, IsShown, IsPossible, unread, missed};
 ghost use Rattle.async_broadcast.specs.Kinds.{may_wait, is_answer};
 ghost use Rattle.async_broadcast.specs.Snapshots.{ShowsSomeState};
 
@@ -126,6 +126,18 @@ impl<T: Clone, R: Wait + Clone, A: Allocator + Copy> Lock<T, R, A> {
         ensures { IfOk result (λ snapshot. ShowsSomeState T.is_clone snapshot) }
     {
         self.channel.lock(&self.rt).snapshot(alloc)
+    }
+
+    pub(crate) fn unread(&self, key: usize) -> usize
+        ensures { (v : View T) × IsShown v × (result ≡ unread v key) }
+    {
+        self.channel.lock(&self.rt).unread(key)
+    }
+
+    pub(crate) fn missed(&self, key: usize) -> u64
+        ensures { (v : View T) × IsShown v × (result ≡ missed v key) }
+    {
+        self.channel.lock(&self.rt).missed(key)
     }
 }
 

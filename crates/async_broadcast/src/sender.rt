@@ -1,6 +1,6 @@
 //! The sending side.
 ghost use Rattle.std.specs.Prelude.{◌≡◌, Ok, Err, IfOk, IfErr, ◌⊎◌};
-ghost use Rattle.bcast_model.specs.SendAll.{in_lists};
+ghost use Rattle.bcast_model.specs.Encodings.{in_lists};
 ghost use Rattle.async_broadcast.specs.Ports.{IsSame};
 
 use crate::asked::{ask, make};

@@ -41,7 +41,7 @@ module _ {T : Type 0} where
   pub offer_accepted : (v : View T) (msg : T) → IsValidView v → is_ok (try_broadcast_reply v msg) ≡ true → has_no_receiver v.control ≡ false → is_full v ≡ false → settle v (offer v msg) ≡ with_message v msg
   offer_accepted v msg valid is some full =
       let low = low_next v 1 valid some in
-      let front : max (max v.front (accept v msg).floor) (least (v.end + 1) (values (accepting v.control v.end).cursors)) ≡ v.front = rw (full, cursors-accepting) (omega (arith, low)) in
+      let front : max (max v.front (accept v msg).floor) (least (v.end + 1) (values (accepting v.control (v.end + 1)).cursors)) ≡ v.front = rw (full, cursors-accepting) (omega (arith, low)) in
       let none : v.front - v.front ≡ 0 = omega arith in
       ap (λ b. settle v (cond b (accept v msg) (sets v.control))) is ∙ settle_to v (accept v msg) (with_message v msg) front (rw none refl) refl refl
 
@@ -50,10 +50,9 @@ module _ {T : Type 0} where
   offer_all_accepted v [] valid is some n = absurd (omega arith)
   offer_all_accepted v (msg ∷ rest) valid is some n =
       let low = low_next v (length (msg ∷ rest)) valid some in
-      let front : max (max v.front 0) (least (v.end + length (msg ∷ rest)) (values (accepting v.control (v.end + length rest)).cursors)) ≡ v.front = rw cursors-accepting (omega (arith, low)) in
+      let front : max (max v.front 0) (least (v.end + length (msg ∷ rest)) (values (accepting v.control (v.end + length (msg ∷ rest))).cursors)) ≡ v.front = rw cursors-accepting (omega (arith, low)) in
       let none : v.front - v.front ≡ 0 = omega arith in
-      let last : v.end + length rest ≡ v.end + length (msg ∷ rest) - 1 = omega arith in
-      ap (λ b. settle v (cond b (accept_all v (msg ∷ rest)) (sets v.control))) is ∙ settle_to v (accept_all v (msg ∷ rest)) (with_messages v (msg ∷ rest)) front (rw none refl) refl (ap (accepting v.control) last)
+      ap (λ b. settle v (cond b (accept_all v (msg ∷ rest)) (sets v.control))) is ∙ settle_to v (accept_all v (msg ∷ rest)) (with_messages v (msg ∷ rest)) front (rw none refl) refl refl
 
   -- without a message nothing changes
   pub offer_all_nothing : (v : View T) (msgs : List T) → IsValidView v → v.control.closed ≡ false → has_no_receiver v.control ≡ false → (length msgs == 0) ≡ true → settle v (offer_all v msgs) ≡ v
@@ -72,7 +71,7 @@ module _ {T : Type 0} where
       → v.queue ≡ oldest ∷ w.queue → w ≡ record v { front = v.front + 1; queue = w.queue } → settle v (offer v msg) ≡ with_message w msg
   offer_dropping v w msg oldest valid is some full first rest =
       let low = low_next v 1 valid some in
-      let front : max (max v.front (accept v msg).floor) (least (v.end + 1) (values (accepting v.control v.end).cursors)) ≡ v.front + 1 = rw (full, cursors-accepting) (omega (arith, low)) in
+      let front : max (max v.front (accept v msg).floor) (least (v.end + 1) (values (accepting v.control (v.end + 1)).cursors)) ≡ v.front + 1 = rw (full, cursors-accepting) (omega (arith, low)) in
       let one : (v.front + 1) - v.front ≡ 1 = omega arith in
       ap (λ b. settle v (cond b (accept v msg) (sets v.control))) is
       ∙ settle_to v (accept v msg) (with_message (record v { front = v.front + 1; queue = w.queue }) msg) front (rw (one, first) refl) refl refl

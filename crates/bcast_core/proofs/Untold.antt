@@ -8,7 +8,7 @@ use Rattle.bcast_model.specs.Words.{try_recv_reply, View, WouldWait, IsValidView
 use Rattle.bcast_model.proofs.Lists.{all_in}
 use Rattle.bcast_model.proofs.Receives.{empty_at_end}
 use Rattle.bcast_model.proofs.Tests.{test_pair}
-use Rattle.bcast_core.specs.Tries.{is_untold}
+use Rattle.bcast_core.specs.Telling.{is_untold}
 
 module _ {T : Type 0} where
   at_end : (v : View T) (key : ℕ) (at : Option ℕ) → v.front ≤ v.end → get v.control.cursors key ≡ Some v.end → (at ≡ cursor_of v.control key) ⊎ (at ≡ skipped_to v.front (cursor_of v.control key)) → at ≡ Some v.end
@@ -19,4 +19,4 @@ module _ {T : Type 0} where
       → (at ≡ cursor_of v.control pair.0) ⊎ (at ≡ skipped_to v.front (cursor_of v.control pair.0)) → try_recv_reply v at ≡ Err unread.Empty
   untold_empty v pair at valid untold is =
       let asleep = all_in same_pair test_pair (WouldWait v.control v.end) pair (untold_ids v.control.waiting_receives) valid.wake_ups.receives untold in
-      ap (try_recv_reply v) (at_end v pair.0 at valid.high asleep.at_end is) ∙ empty_at_end v valid asleep.is_open
+      ap (try_recv_reply v) (at_end v pair.0 at valid.high asleep.0 is) ∙ empty_at_end v valid asleep.1

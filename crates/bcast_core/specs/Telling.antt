@@ -3,11 +3,16 @@ use Rattle.std.specs.Prelude.{◌≡◌, Bool, false, is_ok, if◌then◌else◌
 use Rattle.bcast_model.specs.declared.run.SendPoll.{SendPoll}
 use Rattle.bcast_model.specs.declared.run.SendPoll.TheVariants as send
 use Rattle.bcast_model.specs.Words.{no_listeners, tell_all, Control, tell_receivers, View}
+use Rattle.bcast_model.specs.Words.{is_in, untold_ids, Pair, same_pair}
 
 -- no send waits, and no receiver
 pub record NobodyWaits (c : Control) : Type 0 where
   pub sends : c.waiting_sends ≡ no_listeners
   pub receives : c.waiting_receives ≡ no_listeners
+
+-- whether this listener is listed and not told
+abbrev pub is_untold : Control → Pair → Bool
+is_untold c pair = is_in same_pair pair (untold_ids c.waiting_receives)
 
 -- everyone that waits to receive is told; and everyone that waits to send, if the message closed
 -- the channel

@@ -17,6 +17,7 @@ mod receive;
 mod send;
 mod settings;
 mod snapshot;
+mod unread;
 
 /// The state of a broadcast channel: its messages, the receivers' cursors, the counts of senders
 /// and inactive receivers, the settings, and the listeners that wait.

@@ -35,7 +35,7 @@ differs_too one reader key same differs e = let is : one ≡ reader = grind (ari
 
 module _ {T : Type 0} where
   -- a receiver that lags missed messages; one past the front finds the message there, if any
-  lagging_answer : (v : View T) (cursor : ℕ) → cursor < v.front → try_recv_reply v (Some cursor) ≡ Err (unread.Overflowed (v.front - cursor))
+  pub lagging_answer : (v : View T) (cursor : ℕ) → cursor < v.front → try_recv_reply v (Some cursor) ≡ Err (unread.Overflowed (v.front - cursor))
   lagging_answer v cursor lags =
       let test : nat_lt cursor v.front ≡ true = grind (arith, common_steps, lags) in
       ap (λ b. cond b (Err (unread.Overflowed (v.front - cursor))) (recv_reply v.control.closed (kept_at v cursor))) test

@@ -7,6 +7,7 @@ pub mod Kept
 pub mod Answers
 pub mod Missed
 pub mod Clones
+pub mod Unread
 -- a closed channel
 pub mod Closing
 pub mod ClosedSends

@@ -42,7 +42,7 @@ module _ {T : Type 0} where
         | false ↦ λ t e. absurd (missed v.control.closed (kept_at v cursor) n e)
       ] refl e
 
-  finds : (closed : Bool) (items : List T) (index : ℕ) (o : Option T) → index < length items → slice_get items index ≡ o → IsOk (recv_reply closed o)
+  pub finds : (closed : Bool) (items : List T) (index : ℕ) (o : Option T) → index < length items → slice_get items index ≡ o → IsOk (recv_reply closed o)
   finds closed items index (Some msg) within is = refl
   finds closed items index None within is = let past = past_end items index is in absurd (omega (arith, past, within))
 

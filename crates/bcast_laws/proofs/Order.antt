@@ -5,7 +5,7 @@ use Rattle.bcast_model.specs.declared.run.Call.{Call}
 use Rattle.bcast_model.specs.declared.run.Reply.{Reply}
 use Rattle.bcast_model.specs.Words.{History, numbered, IsGiven, ClonesEqual, next, IsValid, IsRun}
 use Rattle.bcast_model.specs.Words.{end_of_run, AreAllExact, AtEachPoint}
-use Rattle.bcast_model.proofs.DeliveryLemmas.{deliveries_exact}
+use Rattle.bcast_model.proofs.DeliveryLemmas.{deliveries_exact, given_at}
 use Rattle.bcast_laws.specs.Order.{IsGivenAs, AtSomePoint, HasOneOrder}
 
 some_both : {X : Type 0} (P Q : X → Type 0) (o : Option X) → IsSomeAnd o P → IsSomeAnd o Q → IsSomeAnd o (λ x. P x × Q x)
@@ -16,7 +16,7 @@ module _ {T : Type 0} where
   module _ (is_clone : T → T → Type 0) (number : ℕ) (msg : T) where
     given_here : (h : History T) (calls : List (Call T)) (replies : List (Reply T)) → AreAllExact is_clone h calls replies → IsGivenAs number msg h calls replies → IsSomeAnd (numbered (end_of_run h calls replies) number) (λ accepted. IsGiven is_clone accepted msg)
     given_here h calls replies exact is =
-        subst (λ n. IsSomeAnd (numbered (end_of_run h calls replies) n) (λ accepted. IsGiven is_clone accepted msg)) is.is_number ((exact is.key is.start is.there).each is.index msg is.given)
+        subst (λ n. IsSomeAnd (numbered (end_of_run h calls replies) n) (λ accepted. IsGiven is_clone accepted msg)) is.is_number (given_at is_clone h is.key is.start calls replies (exact is.key is.start is.there) is.index msg is.given)
 
     given_somewhere : (h : History T) (calls : List (Call T)) (replies : List (Reply T)) → AtEachPoint (AreAllExact is_clone) h calls replies → AtSomePoint (IsGivenAs number msg) h calls replies
         → IsSomeAnd (numbered (end_of_run h calls replies) number) (λ accepted. IsGiven is_clone accepted msg)

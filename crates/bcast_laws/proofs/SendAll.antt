@@ -12,7 +12,7 @@ use Rattle.bcast_model.specs.Words.{cursor_of, History, view_of, end_number, num
 use Rattle.bcast_model.specs.Words.{IsGiven, IsValid, IsRun, end_of_run, AreExact, AreAllExact}
 use Rattle.bcast_model.specs.Words.{AtEachPoint, deliveries_of, last_cursor_of}
 use Rattle.bcast_model.proofs.Answers.{next_valid, cursors-next}
-use Rattle.bcast_model.proofs.DeliveryLemmas.{deliveries_exact}
+use Rattle.bcast_model.proofs.DeliveryLemmas.{deliveries_exact, given_at}
 use Rattle.bcast_model.proofs.DeliveryLists.{past_end}
 use Rattle.bcast_model.proofs.DeliveryMessages.{numbered_stays}
 use Rattle.bcast_model.proofs.SendAll.{cursors-offer_all}
@@ -56,7 +56,7 @@ module _ {T : Type 0} where
       delivers key start cursor index msg there last past at =
           let given = deliveries_of key (after_list h msgs) calls replies in
           let e : AreExact is_clone (after_list h msgs) key start calls replies = exact key start (same_cursors key ∙ there) in
-          let size : cursor ≡ start + length given = same_Some cursor (start + length given) (sym last ∙ e.size) in
+          let size : cursor ≡ start + length given = same_Some cursor (start + length given) (sym last ∙ e.0) in
           let within = slice_get_within msgs index msg at in
           let reach = (valid.cursors key start there).1 in
           let place : ℕ = end_number h + index - start in
@@ -65,7 +65,7 @@ module _ {T : Type 0} where
             | None ↦ λ none. let short = past_end given place none in absurd (omega (arith, short, size, past, within, reach))
             | Some entry ↦ elim entry as (λ x. slice_get given place ≡ Some x → IsDeliveryOf is_clone msg x) [
               | None ↦ λ _. tt
-              | Some copy ↦ λ is. subst (λ o. IsSomeAnd o (λ accepted. IsGiven is_clone accepted copy)) (ap (numbered (end_of_run (after_list h msgs) calls replies)) number ∙ keeps_numbers index msg at) (e.each place copy is)
+              | Some copy ↦ λ is. subst (λ o. IsSomeAnd o (λ accepted. IsGiven is_clone accepted copy)) (ap (numbered (end_of_run (after_list h msgs) calls replies)) number ∙ keeps_numbers index msg at) (given_at is_clone (after_list h msgs) key start calls replies e place copy is)
             ]
           ] refl
 

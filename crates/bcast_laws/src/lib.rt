@@ -6,6 +6,7 @@
 ghost use Rattle.bcast_laws.specs.Sends.{RefusedChangesNothing, OnlyAcceptedIsAdded, DroppedSendAddsNothing};
 ghost use Rattle.bcast_laws.specs.Closing.{StaysClosed, TerminatedGivesNothing};
 ghost use Rattle.bcast_laws.specs.Receives.{KeepsAtMostCapacity, MissedThenGiven, ReadsByOwnCursor, ClonesAnswerAlike};
+ghost use Rattle.bcast_laws.specs.Unread.{UnreadIsGiven};
 ghost use Rattle.bcast_laws.specs.Order.{RunsHaveOneOrder};
 ghost use Rattle.bcast_laws.specs.SendAll.{ListsStandInOnePiece};
 
@@ -55,6 +56,12 @@ pub fn keeps_at_most_capacity<T: Clone>()
 /// one finds a message if it follows at once.
 pub fn missed_then_given<T>()
     ensures { MissedThenGiven T }
+{}
+
+/// Law: a receiver that missed no message is given as many in a row as `unread` says, if no other
+/// call comes between; one that missed some is told `missed` of them first.
+pub fn unread_is_given<T>()
+    ensures { UnreadIsGiven T }
 {}
 
 /// Law: what a receive returns doesn't depend on what the other receivers read.

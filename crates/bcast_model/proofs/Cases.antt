@@ -20,8 +20,8 @@ close_is P c was now = test_is P c.closed c (closing c) was now
 pub deserted_is : (P : Control → Type 0) (c : Control) → P (close c) → (is_deserted c ≡ false → P c) → P (close_if_deserted c)
 deserted_is P c gone stays = test_is P (is_deserted c) (close c) c (λ _. gone) stays
 
-pub accepting_is : (P : Control → Type 0) (c : Control) (end : ℕ) → P (close (tell_receivers c)) → (((end + 1) == last_end) ≡ false → P (tell_receivers c)) → P (accepting c end)
-accepting_is P c end last more = test_is P ((end + 1) == last_end) (close (tell_receivers c)) (tell_receivers c) (λ _. last) more
+pub accepting_is : (P : Control → Type 0) (c : Control) (end : ℕ) → P (close (tell_receivers c)) → ((end == last_end) ≡ false → P (tell_receivers c)) → P (accepting c end)
+accepting_is P c end last more = test_is P (end == last_end) (close (tell_receivers c)) (tell_receivers c) (λ _. last) more
 
 -- a receiver that is cloned under no key changes nothing
 pub uncloned : (c : Control) (cursor : Option ℕ) → clone_receiver c cursor None ≡ c

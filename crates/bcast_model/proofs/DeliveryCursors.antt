@@ -1,22 +1,19 @@
 -- What each call does to the receivers' cursors.
-use Rattle.std.proofs.Common.{◌≡◌, inl, inr, ℕ, ◌+◌, ◌-◌, ◌≤◌, ◌==◌, ◌||◌, not, max, Bool, true, false, cond, Option, Some, None, nat_lt, refl, sym, ap, subst, arith}
-use Rattle.std.specs.Prelude.{is_ok}
+use Rattle.std.proofs.Common.{◌≡◌, inl, inr, ℕ, ◌+◌, ◌-◌, ◌≤◌, ◌==◌, max, Bool, true, false, cond, Option, Some, None, nat_lt, refl, sym, ap, subst, arith}
 use Rattle.std.proofs.lemmas.Grind.{common_steps}
 use Rattle.std.specs.FinMap.{get}
 use Rattle.bcast_model.specs.declared.run.Call.{Call}
 use Rattle.bcast_model.specs.declared.run.Call.TheVariants as call
 use Rattle.bcast_model.specs.declared.run.Reply.{Reply}
-use Rattle.bcast_model.specs.Words.{Pair, stream_of, future_of, Control, close_if_deserted}
-use Rattle.bcast_model.specs.Words.{has_place, with_cursor, place_waits, cursor_of, View}
-use Rattle.bcast_model.specs.Words.{sends_are_ready, Effect, sets, try_broadcast_reply, accept, offer}
-use Rattle.bcast_model.specs.Words.{with_place_answered, poll_send, receive, skipped_to}
-use Rattle.bcast_model.specs.Words.{receive_poll, is_empty_reply, try_recv_reply, Legal, resize}
+use Rattle.bcast_model.specs.Words.{Pair, stream_of, future_of, Control, with_cursor, cursor_of}
+use Rattle.bcast_model.specs.Words.{View, Effect, sets, receive, skipped_to, receive_poll}
+use Rattle.bcast_model.specs.Words.{is_empty_reply, try_recv_reply, Legal, resize}
 use Rattle.bcast_model.specs.Words.{set_unless_refused, effect, is_out_of_memory, chosen_id}
-use Rattle.bcast_model.specs.Words.{has_next, drop_receiver, deactivate, drop_sender, drop_inactive}
-use Rattle.bcast_model.specs.Words.{new_sender, clone_inactive, without_receiver, clone_receiver}
-use Rattle.bcast_model.specs.Words.{receives_for}
-use Rattle.bcast_model.proofs.Cases.{test_is, uncloned, cursors-close, cursors-close_if_deserted, cursors-accepting}
+use Rattle.bcast_model.specs.Words.{has_next, drop_receiver, deactivate, without_receiver}
+use Rattle.bcast_model.specs.Words.{clone_receiver, receives_for}
+use Rattle.bcast_model.proofs.Cases.{test_is, uncloned, cursors-close, cursors-close_if_deserted}
 use Rattle.bcast_model.proofs.SendAll.{cursors-offer_all}
+use Rattle.bcast_model.proofs.Stays.{stays-offer, stays-poll_send, stays-new_sender, stays-clone_inactive, stays-drop_sender, stays-drop_inactive}
 use Rattle.bcast_model.proofs.DeliveryMaps.{CursorsChange, stay, rise, make_at_end, make_where, leave, cursors-listens, cursors-begin_send}
 
 module _ {T : Type 0} (v : View T) where
@@ -55,28 +52,7 @@ cloned : (c : Control) (front end key : ℕ) (receives : ℕ → Bool) (other : 
 cloned c front end key receives other None is free = stay refl
 cloned c front end key receives other (Some cursor) is free = make_where key other cursor free is refl
 
-cursors-drop_sender : (c : Control) → (drop_sender c).cursors ≡ c.cursors
-cursors-drop_sender c = elim (c.senders == 0) as (λ b. (cond b c (close_if_deserted (record c { senders = c.senders - 1 }))).cursors ≡ c.cursors) [ true ↦ refl | false ↦ cursors-close_if_deserted (record c { senders = c.senders - 1 }) ]
-
-cursors-drop_inactive : (c : Control) → (drop_inactive c).cursors ≡ c.cursors
-cursors-drop_inactive c = elim (c.inactive == 0) as (λ b. (cond b c (close_if_deserted (record c { inactive = c.inactive - 1 }))).cursors ≡ c.cursors) [ true ↦ refl | false ↦ cursors-close_if_deserted (record c { inactive = c.inactive - 1 }) ]
-
-cursors-new_sender : (c : Control) → (new_sender c).cursors ≡ c.cursors
-cursors-new_sender c = elim (has_next c.senders) as (λ b. (cond b (record c { senders = c.senders + 1 }) c).cursors ≡ c.cursors) [ true ↦ refl | false ↦ refl ]
-
-cursors-clone_inactive : (c : Control) → (clone_inactive c).cursors ≡ c.cursors
-cursors-clone_inactive c = elim ((c.inactive == 0) || not (has_next c.inactive)) as (λ b. (cond b c (record c { inactive = c.inactive + 1 })).cursors ≡ c.cursors) [ true ↦ refl | false ↦ refl ]
-
 module _ {T : Type 0} where
-  cursors-offer : (v : View T) (msg : T) → (offer v msg).control.cursors ≡ v.control.cursors
-  cursors-offer v msg = test_is (λ (e : Effect T). e.control.cursors ≡ v.control.cursors) (is_ok (try_broadcast_reply v msg)) (accept v msg) (sets v.control) (λ _. cursors-accepting v.control v.end) (λ _. refl)
-
-  cursors-poll_send : (v : View T) (place : ℕ) (msg : T) → (poll_send v place msg).control.cursors ≡ v.control.cursors
-  cursors-poll_send v place msg =
-      test_is (λ (e : Effect T). e.control.cursors ≡ v.control.cursors) (has_place v.control place) (cond (sends_are_ready v) (with_place_answered (offer v msg) place) (sets (place_waits v.control place))) (sets v.control)
-      (λ _. test_is (λ (e : Effect T). e.control.cursors ≡ v.control.cursors) (sends_are_ready v) (with_place_answered (offer v msg) place) (sets (place_waits v.control place)) (λ _. cursors-offer v msg) (λ _. refl))
-      (λ _. refl)
-
   -- the change that a call makes
   abbrev pub Changes : View T → Call T → Control → Type 0
   Changes v c new = CursorsChange v.front v.end (λ key. receives_for key c) v.control.cursors new.cursors
@@ -91,11 +67,11 @@ module _ {T : Type 0} where
       (subst (CursorsChange v.front v.end (λ key. receives_for key c) v.control.cursors) (sym (cursors-listens (receive v pair.0 cursor) pair (is_empty_reply (try_recv_reply v cursor)))) change)
 
   pub changes : (is_clone : T → T → Type 0) (v : View T) (c : Call T) (r : Reply T) → Legal is_clone v c r → Changes v c (effect v c r).control
-  changes is_clone v (call.TryBroadcast msg) r legal = stay (cursors-offer v msg)
+  changes is_clone v (call.TryBroadcast msg) r legal = stay (stays-offer v msg).0
   changes is_clone v (call.TryBroadcastAll msgs) r legal = stay (cursors-offer_all v msgs)
-  changes is_clone v (call.AttemptSend msg) r legal = stay (cursors-offer v msg)
+  changes is_clone v (call.AttemptSend msg) r legal = stay (stays-offer v msg).0
   changes is_clone v call.BeginSend r legal = stay (cursors-begin_send v.control (chosen_id r))
-  changes is_clone v (call.PollSend place msg) r legal = stay (cursors-poll_send v place msg)
+  changes is_clone v (call.PollSend place msg) r legal = stay (stays-poll_send v place msg).0
   changes is_clone v (call.TryRecv key) r legal =
       unless v (sets (receive v key (cursor_of v.control key))) (call.TryRecv key) r (rise_at v _ key (cursor_of v.control key) (same_key key) refl)
   changes is_clone v (call.PollFuture key) r legal =
@@ -107,8 +83,8 @@ module _ {T : Type 0} where
       polled v (call.PollNext key) r (stream_of key) cursor (rise_skipping v _ key (cursor_of v.control key) (same_key key) refl)
   changes is_clone v call.Close r legal = stay (cursors-close v.control)
   changes is_clone v (call.SetCapacity n) r legal = unless v (resize v n) (call.SetCapacity n) r (stay refl)
-  changes is_clone v call.NewSender r legal = stay (cursors-new_sender v.control)
-  changes is_clone v call.CloneInactive r legal = stay (cursors-clone_inactive v.control)
+  changes is_clone v call.NewSender r legal = stay (stays-new_sender v.control).0
+  changes is_clone v call.CloneInactive r legal = stay (stays-clone_inactive v.control).0
   changes is_clone v (call.Deactivate key) r legal = deactivated v.control _ _ key _ (cursor_of v.control key)
   changes is_clone v call.NewReceiver r (inl (key, is, free)) = rw is (make_at_end key free refl)
   changes is_clone v call.NewReceiver r (inr is) = rw is (stay refl)
@@ -121,7 +97,7 @@ module _ {T : Type 0} where
   changes is_clone v (call.CloneReceiver other) r (inl (gone, is)) = rw is (stay (ap (λ (c : Control). c.cursors) (uncloned v.control (cursor_of v.control other))))
   changes is_clone v (call.CloneReceiver other) r (inr (there, inl (key, is, free))) = rw is (cloned v.control _ _ key _ other (cursor_of v.control other) refl free)
   changes is_clone v (call.CloneReceiver other) r (inr (there, inr is)) = rw is (stay (ap (λ (c : Control). c.cursors) (uncloned v.control (cursor_of v.control other))))
-  changes is_clone v call.DropSender r legal = stay (cursors-drop_sender v.control)
-  changes is_clone v call.DropInactive r legal = stay (cursors-drop_inactive v.control)
+  changes is_clone v call.DropSender r legal = stay (stays-drop_sender v.control).0
+  changes is_clone v call.DropInactive r legal = stay (stays-drop_inactive v.control).0
   changes is_clone v (call.DropReceiver key) r legal = left v.control _ _ key _ (cursor_of v.control key)
   changes is_clone v c r legal = stay refl

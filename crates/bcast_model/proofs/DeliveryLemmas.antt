@@ -5,11 +5,11 @@ use Rattle.std.specs.Prelude.{IsSomeAnd, is_some}
 use Rattle.bcast_model.specs.declared.run.Call.{Call}
 use Rattle.bcast_model.specs.declared.run.Reply.{Reply}
 use Rattle.bcast_model.specs.Words.{History, numbered, IsGiven, cursor_of, next, IsValid, IsRun}
-use Rattle.bcast_model.specs.Words.{end_of_run, given_to, deliveries_of, AreExact, AreAllExact}
-use Rattle.bcast_model.specs.Words.{AtEachPoint}
+use Rattle.bcast_model.specs.Words.{end_of_run, given_to, deliveries_of, last_cursor_of}
+use Rattle.bcast_model.specs.Words.{AtEachPoint, IsDelivery, AreExact, AreAllExact}
 use Rattle.bcast_model.proofs.DeliverySteps.{gives_call}
 use Rattle.bcast_model.proofs.DeliveryMessages.{numbered_stays}
-use Rattle.bcast_model.proofs.DeliveryLists.{in_parts}
+use Rattle.bcast_model.proofs.DeliveryLists.{in_parts, by_index, at_index}
 
 -- what is there stays there
 still_some : {X : Type 0} (P : X → Type 0) (o later : Option X) → ((x : X) → o ≡ Some x → later ≡ Some x) → IsSomeAnd o P → IsSomeAnd later P
@@ -17,7 +17,12 @@ still_some P None later stays there = absurd there
 still_some P (Some x) later stays there = subst (λ o. IsSomeAnd o P) (sym (stays x refl)) there
 
 module _ {T : Type 0} where
-  exact_at : (is_clone : T → T → Type 0) (h : History T) (key cursor : ℕ) (calls : List (Call T)) (replies : List (Reply T)) → h.first ≤ h.floor → IsRun is_clone h calls replies → cursor_of h.control key ≡ Some cursor → AreExact is_clone h key cursor calls replies
+  -- the same by index
+  record AreExactAt (is_clone : T → T → Type 0) (h : History T) (key start : ℕ) (calls : List (Call T)) (replies : List (Reply T)) : Type 0 where
+    size : last_cursor_of key h calls replies ≡ Some (start + length (deliveries_of key h calls replies))
+    each : (index : ℕ) (msg : T) → slice_get (deliveries_of key h calls replies) index ≡ Some (Some msg) → IsSomeAnd (numbered (end_of_run h calls replies) (start + index)) (λ accepted. IsGiven is_clone accepted msg)
+
+  exact_at : (is_clone : T → T → Type 0) (h : History T) (key cursor : ℕ) (calls : List (Call T)) (replies : List (Reply T)) → h.first ≤ h.floor → IsRun is_clone h calls replies → cursor_of h.control key ≡ Some cursor → AreExactAt is_clone h key cursor calls replies
   exact_at is_clone h key cursor [] replies low run is = record { size = is ∙ ap Some (omega arith); each = λ index msg e. absurd (none-some (Some msg) e) }
   exact_at is_clone h key cursor (c ∷ calls) [] low run is = absurd run
   exact_at is_clone h key cursor (c ∷ calls) (r ∷ replies) low run is =
@@ -43,11 +48,27 @@ module _ {T : Type 0} where
             })
       ]
 
+  exact : (is_clone : T → T → Type 0) (h : History T) (calls : List (Call T)) (replies : List (Reply T)) → h.first ≤ h.floor → IsRun is_clone h calls replies → AreAllExact is_clone h calls replies
+  exact is_clone h calls replies low run key start is =
+      (at.size, by_index (IsDelivery is_clone (end_of_run h calls replies)) start (deliveries_of key h calls replies) delivery)
+    where
+      at : AreExactAt is_clone h key start calls replies
+      at = exact_at is_clone h key start calls replies low run is
+
+      delivery : (index : ℕ) (entry : Option T) → slice_get (deliveries_of key h calls replies) index ≡ Some entry → IsDelivery is_clone (end_of_run h calls replies) (start + index) entry
+      delivery index None e = tt
+      delivery index (Some msg) e = at.each index msg e
+
+  pub given_at : (is_clone : T → T → Type 0) (h : History T) (key start : ℕ) (calls : List (Call T)) (replies : List (Reply T)) → AreExact is_clone h key start calls replies
+      → (index : ℕ) (msg : T) → slice_get (deliveries_of key h calls replies) index ≡ Some (Some msg) → IsSomeAnd (numbered (end_of_run h calls replies) (start + index)) (λ accepted. IsGiven is_clone accepted msg)
+  given_at is_clone h key start calls replies exact index msg e =
+      at_index (IsDelivery is_clone (end_of_run h calls replies)) start (deliveries_of key h calls replies) exact.1 index (Some msg) e
+
   all_exact : (is_clone : T → T → Type 0) (h : History T) (calls : List (Call T)) (replies : List (Reply T)) → h.first ≤ h.floor → IsRun is_clone h calls replies → AtEachPoint (AreAllExact is_clone) h calls replies
-  all_exact is_clone h [] replies low run = λ key cursor is. exact_at is_clone h key cursor [] replies low run is
+  all_exact is_clone h [] replies low run = exact is_clone h [] replies low run
   all_exact is_clone h (c ∷ calls) [] low run = absurd run
   all_exact is_clone h (c ∷ calls) (r ∷ replies) low run =
-      (λ key cursor is. exact_at is_clone h key cursor (c ∷ calls) (r ∷ replies) low run is, all_exact is_clone (next h c r) calls replies (omega (arith, low)) run.1)
+      (exact is_clone h (c ∷ calls) (r ∷ replies) low run, all_exact is_clone (next h c r) calls replies (omega (arith, low)) run.1)
 
   pub deliveries_exact : (is_clone : T → T → Type 0) (h : History T) (calls : List (Call T)) (replies : List (Reply T)) → IsValid h → IsRun is_clone h calls replies → AtEachPoint (AreAllExact is_clone) h calls replies
   deliveries_exact is_clone h calls replies valid run = all_exact is_clone h calls replies valid.floor_low run

@@ -1,6 +1,7 @@
 -- Lists of deliveries, and parts of lists.
-use Rattle.std.proofs.Common.{◌≡◌, ◌⊎◌, inl, inr, ℕ, zero, suc, ◌-◌, ◌<◌, ◌≤◌, List, [], ◌∷◌, ◌++◌, length, replicate, Option, Some, None, slice_get, refl, sym, ap, ◌∙◌, arith}
+use Rattle.std.proofs.Common.{◌≡◌, ◌⊎◌, inl, inr, ℕ, zero, suc, ◌+◌, ◌-◌, ◌<◌, ◌≤◌, List, [], ◌∷◌, ◌++◌, length, replicate, Option, Some, None, slice_get, refl, sym, ap, ◌∙◌, subst, arith}
 use Rattle.std.proofs.lemmas.Option.{none-some, same_Some}
+use Rattle.std.specs.List.{AllZip, range_with_len}
 
 pub within_missed : {X : Type 0} (n index : ℕ) (x : Option X) → slice_get (replicate n None) index ≡ Some x → (x ≡ None) × (index < n)
 within_missed zero index x e = absurd (none-some x e)
@@ -31,3 +32,17 @@ pub in_longer : {X : Type 0} (xs ys : List X) (index : ℕ) (x : X) → slice_ge
 in_longer [] ys index x e = absurd (none-some x e)
 in_longer (y ∷ xs) ys zero x e = e
 in_longer (y ∷ xs) ys (suc index) x e = in_longer xs ys index x e
+
+-- ---- a list beside the numbers from start on
+pub by_index : {X : Type 0} (P : ℕ → X → Type 0) (start : ℕ) (xs : List X) → ((index : ℕ) (x : X) → slice_get xs index ≡ Some x → P (start + index) x) → AllZip P (range_with_len start (length xs)) xs
+by_index P start [] each = tt
+by_index P start (x ∷ xs) each =
+    let here : start + 0 ≡ start = omega arith in
+    let on = λ (index : ℕ). let same : start + suc index ≡ start + 1 + index = omega arith in same in
+    (subst (λ n. P n x) here (each zero x refl), by_index P (start + 1) xs (λ index y at. subst (λ n. P n y) (on index) (each (suc index) y at)))
+
+pub at_index : {X : Type 0} (P : ℕ → X → Type 0) (start : ℕ) (xs : List X) → AllZip P (range_with_len start (length xs)) xs → (index : ℕ) (x : X) → slice_get xs index ≡ Some x → P (start + index) x
+at_index P start [] all index x e = absurd (none-some x e)
+at_index P start (y ∷ xs) all zero x e = let here : start ≡ start + 0 = omega arith in subst (λ n. P n x) here (subst (P start) (same_Some y x e) all.0)
+at_index P start (y ∷ xs) all (suc index) x e =
+    let same : start + 1 + index ≡ start + suc index = omega arith in subst (λ n. P n x) same (at_index P (start + 1) xs all.1 index x e)

@@ -76,12 +76,12 @@ module _ {T : Type 0} where
   unfolding hands
   floor-send h msg bounded = try_is (λ answer. FloorChange h (cond (is_ok answer) (accept (view_of h) msg) (sets h.control)) (cond (hands answer) (front_number h ∷ []) [])) (view_of h) msg (λ error e. stays refl refl) (λ e.
       elim (is_full (view_of h)) as (λ b. is_full (view_of h) ≡ b → FloorChange h
-      (record { control = accepting h.control (end_number h); accepted = msg ∷ []; floor = cond b (front_number h + 1) 0 })
+      (record { control = accepting h.control (end_number h + 1); accepted = msg ∷ []; floor = cond b (front_number h + 1) 0 })
       (cond (is_some (cond b (slice_get (queue_of h) 0) None)) (front_number h ∷ []) [])) [
         | true ↦ λ full.
             let there : is_some (slice_get (queue_of h) 0) ≡ true = oldest_there h (slice_get (queue_of h) 0) bounded full refl in
             let within = front-le-end h bounded in
-            rw there (passes 1 (cursors-accepting h.control (end_number h)) refl (omega (arith, within)) refl)
+            rw there (passes 1 (cursors-accepting h.control (end_number h + 1)) refl (omega (arith, within)) refl)
         | false ↦ λ full. stays refl refl
       ] refl)
 

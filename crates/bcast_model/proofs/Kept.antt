@@ -2,14 +2,13 @@
 use Rattle.std.proofs.Common.{◌≡◌, inl, inr, ℕ, ◌+◌, ◌^◌, ◌<◌, ◌≤◌, ◌==◌, ◌-◌, Bool, true, false, not, List, length, drop, ◌++◌, Some, [], refl, sym, ap, ◌∙◌, subst, arith, append-nil, length-append, length-drop}
 use Rattle.std.proofs.lemmas.Grind.{common_steps}
 use Rattle.std.specs.FinMap.{get, insert, len}
-use Rattle.bcast_model.specs.Words.{Listeners, untold_ids, Pair, Control, Places, is_ready, close}
-use Rattle.bcast_model.specs.Words.{close_if_deserted, with_cursor, WouldWait, View}
+use Rattle.bcast_model.specs.Words.{Listeners, Pair, Control, Places, is_ready, close}
+use Rattle.bcast_model.specs.Words.{close_if_deserted, with_cursor, View}
 use Rattle.bcast_model.specs.Words.{sends_are_ready, sets, settle, IsValidView}
-use Rattle.bcast_model.proofs.Lists.{all_more}
 use Rattle.bcast_model.proofs.Least.{len_insert}
 use Rattle.bcast_model.proofs.Cases.{close_is, deserted_is}
 use Rattle.bcast_model.proofs.WaitingSends.{OneIsTold, AreSends}
-use Rattle.bcast_model.proofs.WaitingReceives.{Sleeps, AreReceives}
+use Rattle.bcast_model.proofs.WaitingReceives.{AreReceives}
 use Rattle.bcast_model.proofs.Sound.{IsAttended, attended_closed, IsNoLower, IsSound, IsKept, sound_closing, sound_cursor, sound_receives, sound_sends, sound_counts}
 use Rattle.bcast_model.proofs.Lift.{KeepsValid}
 
@@ -71,7 +70,7 @@ module _ {T : Type 0} (v : View T) (valid : IsValidView v) where
       receives = record {
         in_order = l.lists.receives;
         keyed = l.lists.keys;
-        asleep = all_more (WouldWait v.control v.end) (Sleeps v.control.cursors v.control.closed v.end) (untold_ids v.control.waiting_receives) (λ pair s. (s.at_end, s.is_open)) valid.wake_ups.receives;
+        asleep = valid.wake_ups.receives;
       };
     };
     attended = record { sender = l.sender; receiver = l.receiver; open_end = l.open_end };

@@ -31,6 +31,9 @@ pub mod ListLaws
 pub mod Unrest
 pub mod Rest
 pub mod ToldPolls
+-- what every call leaves
+pub mod Stays
+pub mod Lasting
 -- what a run gives its receivers
 pub mod DeliveryLists
 pub mod DeliveryMaps
@@ -42,7 +45,6 @@ pub mod DeliveryLemmas
 pub mod Front
 pub mod DroppedBySends
 pub mod DroppedByCalls
-pub mod PositiveCapacity
 pub mod RisingNumbers
 pub mod MissedSteps
 pub mod MissedRuns

@@ -9,11 +9,10 @@ use Rattle.bcast_model.specs.Words.{least, end_number, front_number, queue_of, w
 use Rattle.bcast_model.specs.Words.{view_of, remember, sends_are_ready, View, tell_if_ready}
 use Rattle.bcast_model.specs.Words.{end_call, IsValid, IsValidControl, WouldWait, Effect, settle}
 use Rattle.bcast_model.specs.Words.{IsValidView}
-use Rattle.bcast_model.proofs.Lists.{all_more}
 use Rattle.bcast_model.proofs.Least.{least-le-limit, least-le-cursor, least-greatest}
 use Rattle.bcast_model.proofs.Cases.{tell_is}
 use Rattle.bcast_model.proofs.WaitingSends.{OneIsTold, AreSends, sends_told}
-use Rattle.bcast_model.proofs.WaitingReceives.{Sleeps, AreReceives}
+use Rattle.bcast_model.proofs.WaitingReceives.{AreReceives}
 use Rattle.bcast_model.proofs.Sound.{AreSizes, IsAttended, IsNoLower, IsSound}
 use Rattle.bcast_model.proofs.Views.{first_under, valid_view}
 
@@ -41,9 +40,6 @@ valid_control c end sizes attended sends receives = record {
   open_end = attended.open_end;
   lists = record { sends = sends.in_order; receives = receives.in_order; places = sends.placed; keys = receives.keyed };
 }
-
-pub would_wait : (c : Control) (end : ℕ) → AreReceives c.cursors c.closed end c.waiting_receives → AllByRecursion (WouldWait c end) (untold_ids c.waiting_receives)
-would_wait c end receives = all_more (Sleeps c.cursors c.closed end) (WouldWait c end) (untold_ids c.waiting_receives) (λ pair s. record { at_end = s.0; is_open = s.1 }) receives.asleep
 
 not_may : (may ready : Bool) → (may && ready) ≡ false → ready ≡ true → may ≡ false
 not_may true ready untold e = cc
@@ -121,7 +117,7 @@ module _ {T : Type 0} where
           fits = subst (λ n. n ≤ e.control.capacity) (sym (ap (λ (v : View T). length v.queue) view_of-remember)) keeps.fits;
           control = subst (IsValidControl c) (sym end-remember) (valid_control c (end_number h + length e.accepted) keeps.sound.sizes keeps.attended sends keeps.sound.receives);
           wake_ups = record {
-            receives = subst (λ n. AllByRecursion (WouldWait c n) (untold_ids c.waiting_receives)) (sym end-remember) (would_wait c (end_number h + length e.accepted) keeps.sound.receives);
+            receives = subst (λ n. AllByRecursion (WouldWait c n) (untold_ids c.waiting_receives)) (sym end-remember) keeps.sound.receives.asleep;
             sends = one;
           };
         }

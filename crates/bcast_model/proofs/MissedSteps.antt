@@ -13,7 +13,7 @@ use Rattle.bcast_model.proofs.DeliveryCursors.{changes}
 use Rattle.bcast_model.proofs.Front.{IsBounded, front-le-end}
 use Rattle.bcast_model.proofs.DroppedBySends.{FloorChange, stays, passes}
 use Rattle.bcast_model.proofs.DroppedByCalls.{floor-effect}
-use Rattle.bcast_model.proofs.PositiveCapacity.{capacity-next}
+use Rattle.bcast_model.proofs.Lasting.{capacity-next}
 use Rattle.bcast_model.proofs.RisingNumbers.{contains_range, IsRising, rising_range, rising_wider}
 
 module _ {T : Type 0} where

@@ -82,7 +82,7 @@ module _ {T : Type 0} (v : View T) (valid : IsValidView v) where
 
   -- ---- sends
   offered_ids : (msg : T) → ((offer v msg).control.waiting_sends.ids ≡ v.control.waiting_sends.ids) × ((offer v msg).control.waiting_receives.ids ≡ v.control.waiting_receives.ids)
-  offered_ids msg = test_is (λ (e : Effect T). (e.control.waiting_sends.ids ≡ v.control.waiting_sends.ids) × (e.control.waiting_receives.ids ≡ v.control.waiting_receives.ids)) (is_ok (try_broadcast_reply v msg)) (accept v msg) (sets v.control) (λ _. accepting_is (λ c. (c.waiting_sends.ids ≡ v.control.waiting_sends.ids) × (c.waiting_receives.ids ≡ v.control.waiting_receives.ids)) v.control v.end
+  offered_ids msg = test_is (λ (e : Effect T). (e.control.waiting_sends.ids ≡ v.control.waiting_sends.ids) × (e.control.waiting_receives.ids ≡ v.control.waiting_receives.ids)) (is_ok (try_broadcast_reply v msg)) (accept v msg) (sets v.control) (λ _. accepting_is (λ c. (c.waiting_sends.ids ≡ v.control.waiting_sends.ids) × (c.waiting_receives.ids ≡ v.control.waiting_receives.ids)) v.control (v.end + 1)
       (close_is (λ c. (c.waiting_sends.ids ≡ v.control.waiting_sends.ids) × (c.waiting_receives.ids ≡ v.control.waiting_receives.ids)) (tell_receivers v.control) (λ _. (refl, refl)) (λ _. (refl, refl)))
       (λ _. (refl, refl))) (λ _. (refl, refl))
 

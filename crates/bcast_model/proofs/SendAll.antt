@@ -2,13 +2,11 @@
 use Rattle.std.proofs.Common.{◌≡◌, inl, ℕ, ◌+◌, ◌-◌, ◌^◌, ◌<◌, ◌≤◌, not, true, false, cond, List, [], ◌∷◌, length, nat_lt, Ok, Err, refl, subst, arith, length-append, length-drop}
 use Rattle.std.proofs.lemmas.Grind.{common_steps}
 use Rattle.std.specs.Prelude.{is_ok}
-use Rattle.std.specs.FinMap.{len}
 use Rattle.bcast_model.specs.declared.error.TrySendError.TheVariants as unsent
-use Rattle.bcast_model.specs.Words.{has_no_receiver, accepting, Effect, sets, IsValidView}
+use Rattle.bcast_model.specs.Words.{has_no_receiver, Effect, sets, IsValidView}
 use Rattle.bcast_model.specs.Words.{free_room, try_broadcast_all_reply, accept_all}
 use Rattle.bcast_model.specs.Words.{offer_all, View, sends_are_ready}
 use Rattle.bcast_model.proofs.Cases.{capacity-accepting, cursors-accepting, test_is}
-use Rattle.bcast_model.proofs.Sound.{IsAttended, IsSound}
 use Rattle.bcast_model.proofs.Lift.{KeepsValid}
 use Rattle.bcast_model.proofs.Kept.{not_not, kept_idle, keeps_sets}
 use Rattle.bcast_model.proofs.Sends.{attended_accepting, sound_accepting, told_accepting}
@@ -26,10 +24,7 @@ module _ {T : Type 0} where
 
   -- ---- what it doesn't change
   pub cursors-offer_all : (v : View T) (msgs : List T) → (offer_all v msgs).control.cursors ≡ v.control.cursors
-  cursors-offer_all v msgs = offer_all_is (λ e. e.control.cursors ≡ v.control.cursors) v msgs refl (λ msg rest is e. cursors-accepting v.control (v.end + length rest))
-
-  pub capacity-offer_all : (v : View T) (msgs : List T) → (offer_all v msgs).control.capacity ≡ v.control.capacity
-  capacity-offer_all v msgs = offer_all_is (λ e. e.control.capacity ≡ v.control.capacity) v msgs refl (λ msg rest is e. capacity-accepting v.control (v.end + length rest))
+  cursors-offer_all v msgs = offer_all_is (λ e. e.control.cursors ≡ v.control.cursors) v msgs refl (λ msg rest is e. cursors-accepting v.control (v.end + length (msg ∷ rest)))
 
   pub floor-offer_all : (v : View T) (msgs : List T) → (offer_all v msgs).floor ≡ 0
   floor-offer_all v msgs = offer_all_is (λ e. e.floor ≡ 0) v msgs refl (λ msg rest is e. refl)
@@ -60,17 +55,14 @@ module _ {T : Type 0} where
     keeps_accept_all : (msg : T) (rest : List T) → IsRoomy v (length (msg ∷ rest)) → KeepsValid v (accept_all v (msg ∷ rest)) (not (sends_are_ready v))
     keeps_accept_all msg rest roomy =
         let idle = kept_idle v valid in
-        let end : ℕ = v.end + length rest in
-        let next : end + 1 ≡ v.end + length (msg ∷ rest) = omega arith in
-        let below : end + 1 < 2 ^ 64 = omega (arith, roomy.numbers, valid.control.open_end roomy.opened) in
+        let end : ℕ = v.end + length (msg ∷ rest) in
+        let below : end < 2 ^ 64 = omega (arith, roomy.numbers, valid.control.open_end roomy.opened) in
         let same = capacity-accepting v.control end in
-        let sound = sound_accepting v v.control v.end end (omega arith) below idle.sound in
-        let attended = attended_accepting v.control v.end end below idle.attended in
         record {
           floor = inl refl;
           fits = rw same (simp (length-drop, length-append) (omega (arith, roomy.room, valid.fits)));
-          sound = subst (λ n. IsSound v n (accepting v.control end)) next sound;
-          attended = subst (IsAttended (accepting v.control end).closed (accepting v.control end).senders (len (accepting v.control end).cursors) (accepting v.control end).inactive) next attended;
+          sound = sound_accepting v v.control v.end end (omega arith) below idle.sound;
+          attended = attended_accepting v.control v.end end below idle.attended;
           told = λ was _. told_accepting v.control end (valid.wake_ups.sends (not_not (sends_are_ready v) was));
         }
 

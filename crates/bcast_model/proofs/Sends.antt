@@ -26,11 +26,11 @@ attended_last c end = close_is (λ now. IsAttended now.closed now.senders (len n
     (λ e. attended_closed c.closed c.senders (len c.cursors) c.inactive end e)
     (λ _. attended_closed true c.senders (len c.cursors) c.inactive end refl)
 
--- if the last message that is accepted has the number end
-pub attended_accepting : (c : Control) (old end : ℕ) → end + 1 < 2 ^ 64 → IsAttended c.closed c.senders (len c.cursors) c.inactive old
-    → IsAttended (accepting c end).closed (accepting c end).senders (len (accepting c end).cursors) (accepting c end).inactive (end + 1)
-attended_accepting c old end below a = accepting_is (λ now. IsAttended now.closed now.senders (len now.cursors) now.inactive (end + 1)) c end
-    (attended_last (tell_receivers c) (end + 1))
+-- if this is the end after it
+pub attended_accepting : (c : Control) (old end : ℕ) → end < 2 ^ 64 → IsAttended c.closed c.senders (len c.cursors) c.inactive old
+    → IsAttended (accepting c end).closed (accepting c end).senders (len (accepting c end).cursors) (accepting c end).inactive end
+attended_accepting c old end below a = accepting_is (λ now. IsAttended now.closed now.senders (len now.cursors) now.inactive end) c end
+    (attended_last (tell_receivers c) end)
     (λ e. record { sender = a.sender; receiver = a.receiver; open_end = λ _. grind (arith, common_steps, e, below) })
 
 told_close : (c : Control) → OneIsTold c.waiting_sends → OneIsTold (close c).waiting_sends
@@ -41,16 +41,16 @@ told_accepting c end one = accepting_is (λ now. OneIsTold now.waiting_sends) c 
 
 module _ {T : Type 0} where
   -- all waiting receivers are told, and may be under the new end
-  pub sound_accepting : (v : View T) (c : Control) (old end : ℕ) → old ≤ end → end + 1 < 2 ^ 64 → IsSound v old c → IsSound v (end + 1) (accepting c end)
+  pub sound_accepting : (v : View T) (c : Control) (old end : ℕ) → old ≤ end → end < 2 ^ 64 → IsSound v old c → IsSound v end (accepting c end)
   sound_accepting v c old end grows below s =
       let sizes = s.sizes in
-      let told : IsSound v (end + 1) (tell_receivers c) = record {
+      let told : IsSound v end (tell_receivers c) = record {
         cursors = λ key cursor e. (let r = s.cursors key cursor e in (omega (arith, r.0), r.1));
         sizes = record { positive = sizes.positive; within = sizes.within; room_fits = sizes.room_fits; receivers_fit = sizes.receivers_fit; senders_fit = sizes.senders_fit; inactive_fit = sizes.inactive_fit; end_fits = below };
         sends = s.sends;
-        receives = receives_all_told c.cursors c.closed c.closed old (end + 1) c.waiting_receives s.receives;
+        receives = receives_all_told c.cursors c.closed c.closed old end c.waiting_receives s.receives;
       } in
-      accepting_is (IsSound v (end + 1)) c end (sound_close v (end + 1) (tell_receivers c) told) (λ _. told)
+      accepting_is (IsSound v end) c end (sound_close v end (tell_receivers c) told) (λ _. told)
 
   -- a send that is not refused finds an open channel
   open_offer : (v : View T) (msg : T) → is_ok (try_broadcast_reply v msg) ≡ true → v.control.closed ≡ false
@@ -64,17 +64,17 @@ module _ {T : Type 0} where
     keeps_accept msg open_now =
         let idle = kept_idle v valid in
         let below : v.end + 1 < 2 ^ 64 = valid.control.open_end open_now in
-        let same = capacity-accepting v.control v.end in
+        let same = capacity-accepting v.control (v.end + 1) in
         record {
           floor = test_is (λ n. (n ≡ 0) ⊎ (n < v.end + 1)) (is_full v) (v.front + 1) 0
               (λ e. let full : length v.queue ≡ v.control.capacity = grind (arith, common_steps, e) in inr (omega (arith, full, valid.control.capacity, valid.end)))
               (λ _. inl refl);
-          fits = rw same (test_is (λ n. length (drop (max (max v.front n) (least (v.end + 1) (values (accepting v.control v.end).cursors)) - v.front) (v.queue ++ msg ∷ [])) ≤ v.control.capacity) (is_full v) (v.front + 1) 0
+          fits = rw same (test_is (λ n. length (drop (max (max v.front n) (least (v.end + 1) (values (accepting v.control (v.end + 1)).cursors)) - v.front) (v.queue ++ msg ∷ [])) ≤ v.control.capacity) (is_full v) (v.front + 1) 0
               (λ e. let full : length v.queue ≡ v.control.capacity = grind (arith, common_steps, e) in simp (length-drop, length-append) (omega arith))
               (λ e. let other : length v.queue ≢ v.control.capacity = grind (arith, common_steps, e) in simp (length-drop, length-append) (omega (arith, valid.fits))));
-          sound = sound_accepting v v.control v.end v.end (omega arith) below idle.sound;
-          attended = attended_accepting v.control v.end v.end below idle.attended;
-          told = λ was _. told_accepting v.control v.end (valid.wake_ups.sends (not_not (sends_are_ready v) was));
+          sound = sound_accepting v v.control v.end (v.end + 1) (omega arith) below idle.sound;
+          attended = attended_accepting v.control v.end (v.end + 1) below idle.attended;
+          told = λ was _. told_accepting v.control (v.end + 1) (valid.wake_ups.sends (not_not (sends_are_ready v) was));
         }
 
     pub keeps_offer : (msg : T) → KeepsValid v (offer v msg) (not (sends_are_ready v))

@@ -1,12 +1,16 @@
 -- The tests whether two places, or two pairs, are the same.
-use Rattle.std.proofs.Common.{◌≡◌, ◌==◌, true, false, ◌&&◌, refl, arith}
+use Rattle.std.proofs.Common.{◌≡◌, ◌==◌, Bool, true, false, ◌&&◌, refl, arith}
 use Rattle.std.proofs.lemmas.Grind.{common_steps}
+use Rattle.bcast_model.specs.contracts.listener.KindPartialEq.TheImpl.{ghosts}
 use Rattle.bcast_model.specs.declared.listener.Kind.{Kind}
 use Rattle.bcast_model.specs.declared.listener.Kind.TheVariants as kind
-use Rattle.bcast_model.specs.Words.{IsTest, same_place, same_kind, same_pair}
+use Rattle.bcast_model.specs.Words.{IsTest, same_place, same_pair}
 
 pub test_place : IsTest same_place
 test_place = record { yes = λ place. grind (arith, common_steps); no = λ place other e. grind (arith, common_steps, e) }
+
+abbrev pub same_kind : Kind → Kind → Bool
+same_kind kind other = ghosts.eq kind other
 
 same_kind-yes : (k : Kind) → same_kind k k ≡ true
 same_kind-yes kind.Stream = refl

@@ -98,15 +98,15 @@ module _ {T : Type 0} (is_clone : T → T → Type 0) where
         send_waits_unready is_clone v place msg r placed legal ∙ unready place listed
     quiet_view (call.PollFuture key) r listed legal =
         let waits = asleep (future_of key) listed in
-        must_receive_wait key (cursor_of v.control key) (λ answer. reply.PollFuture (Ok (future_reply answer))) (reply.PollFuture (Err alloc_error)) r waits.at_end (empty_at_end v valid waits.is_open) refl legal
+        must_receive_wait key (cursor_of v.control key) (λ answer. reply.PollFuture (Ok (future_reply answer))) (reply.PollFuture (Err alloc_error)) r waits.0 (empty_at_end v valid waits.1) refl legal
     quiet_view (call.PollRecv key) r listed legal =
         let waits = asleep (stream_of key) listed in
-        must_receive_wait key (cursor_of v.control key) (λ answer. reply.PollRecv (Ok (stream_reply answer))) (reply.PollRecv (Err alloc_error)) r waits.at_end (empty_at_end v valid waits.is_open) refl legal
+        must_receive_wait key (cursor_of v.control key) (λ answer. reply.PollRecv (Ok (stream_reply answer))) (reply.PollRecv (Err alloc_error)) r waits.0 (empty_at_end v valid waits.1) refl legal
     quiet_view (call.PollNext key) r listed legal =
         let waits = asleep (stream_of key) listed in
         let front : max v.end v.front ≡ v.end = omega (arith, valid.high) in
-        let skip : skipped_to v.front (cursor_of v.control key) ≡ Some v.end = ap (skipped_to v.front) waits.at_end ∙ ap (λ n. Some n) front in
-        must_receive_wait key (skipped_to v.front (cursor_of v.control key)) (λ answer. reply.PollNext (Ok (next_reply (skipped_count v.front (cursor_of v.control key)) answer))) (reply.PollNext (Err alloc_error)) r skip (empty_at_end v valid waits.is_open) refl legal
+        let skip : skipped_to v.front (cursor_of v.control key) ≡ Some v.end = ap (skipped_to v.front) waits.0 ∙ ap (λ n. Some n) front in
+        must_receive_wait key (skipped_to v.front (cursor_of v.control key)) (λ answer. reply.PollNext (Ok (next_reply (skipped_count v.front (cursor_of v.control key)) answer))) (reply.PollNext (Err alloc_error)) r skip (empty_at_end v valid waits.1) refl legal
     quiet_view c r listed legal = cc
 
   -- both

@@ -1,6 +1,5 @@
 -- What a send of a whole list returns, and what it does to the channel.
 use Rattle.std.specs.Prelude.{ℕ, ◌+◌, ◌-◌, if◌then◌else◌, List, [], ◌∷◌, length, min, nat_lt, Result, Ok, Err, is_ok}
-use Rattle.std.specs.Global.{Vec}
 use Rattle.bcast_model.specs.declared.error.TrySendError.{TrySendError}
 use Rattle.bcast_model.specs.declared.error.TrySendError.TheVariants as unsent
 use Rattle.bcast_model.specs.Control.{has_no_receiver, accepting, last_end}
@@ -20,20 +19,12 @@ module _ {T : Type 0} where
       else (if has_no_receiver v.control then Err (unsent.Inactive msgs)
       else (if nat_lt (free_room v) (length msgs) then Err (unsent.Full msgs) else Ok tt))
 
-  -- the result for a vector of messages, as one for their list
-  abbrev pub in_lists : Result (Unit {0}) (TrySendError (Vec T))
-      → Result (Unit {0}) (TrySendError (List T))
-  in_lists (Ok done) = Ok done
-  in_lists (Err (unsent.Full msgs)) = Err (unsent.Full msgs.items)
-  in_lists (Err (unsent.Closed msgs)) = Err (unsent.Closed msgs.items)
-  in_lists (Err (unsent.Inactive msgs)) = Err (unsent.Inactive msgs.items)
-
   -- a list that is accepted comes last, in its order: all waiting receivers are told, and the last
   -- number closes the channel, once the whole list is there. If the list is empty, nothing changes
   abbrev pub accept_all : View T → List T → Effect T
   accept_all v [] = sets v.control
   accept_all v (msg ∷ rest) = record {
-    control = accepting v.control (v.end + length rest);
+    control = accepting v.control (v.end + length (msg ∷ rest));
     accepted = msg ∷ rest;
     floor = 0;
   }

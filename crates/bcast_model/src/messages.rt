@@ -2,7 +2,7 @@
 ghost use Rattle.std.specs.Prelude.{◌≡◌, ◌==◌, length, IfOk};
 ghost use Rattle.std.specs.Cmp.Lexicographic.{pointwise, lists_per};
 ghost use Rattle.std.specs.List.{AllZip};
-ghost use Rattle.bcast_model.specs.SendAll.{in_lists};
+ghost use Rattle.bcast_model.specs.Encodings.{in_lists};
 
 use crate::error::TrySendError;
 use std::alloc::AllocError;

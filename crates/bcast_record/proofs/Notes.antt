@@ -4,7 +4,7 @@ use Rattle.std.proofs.lemmas.List.{length-map}
 use Rattle.bcast_record.specs.declared.entry.Entry.{Entry}
 use Rattle.bcast_record.specs.declared.entry.Opening.{Opening}
 use Rattle.bcast_record.specs.declared.entry.Note.TheVariants as note
-use Rattle.bcast_record.specs.Recording.{notes_of}
+use Rattle.bcast_record.specs.Content.{notes_of}
 
 module _ {T : Type 0} where
   -- the entry of a note is one place before it

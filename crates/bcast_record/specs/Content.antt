@@ -1,5 +1,13 @@
 -- What a prefix of a journal has. Its pages are notes, and perhaps an end after the last note.
-use Rattle.std.specs.Prelude.{Bool, true, false, Option, Some, None, List, [], ◌∷◌, ◌++◌}
+use Rattle.std.specs.Prelude.{Bool, true, false, Option, Some, None, List, [], ◌∷◌, ◌++◌, map}
+use Rattle.bcast_record.specs.declared.entry.Opening.{Opening}
+use Rattle.bcast_record.specs.declared.entry.Entry.{Entry}
+use Rattle.bcast_record.specs.declared.entry.Note.{Note}
+use Rattle.bcast_record.specs.declared.entry.Note.TheVariants as note
+
+-- what the journal notes: the opening, then each entry
+abbrev pub notes_of : {T : Type 0} → Opening → List (Entry T) → List (Note T)
+notes_of opening entries = note.Opened opening ∷ map note.Answered entries
 
 pub record Content (X : Type 0) : Type 0 where
   pub notes : List X

@@ -24,7 +24,8 @@ pub struct Finished<T, R: Named, A: Allocator = Global> {
 impl<T, R: Named, A: Allocator> Model for Finished<T, R, A> {
     ghost use Rattle.std.specs.Prelude.{◌≡◌};
     ghost use Rattle.bcast_record.specs.Content.{ended};
-    ghost use Rattle.bcast_record.specs.Recording.{Recording, recording, notes_of};
+    ghost use Rattle.bcast_record.specs.Recording.{Recording, recording};
+    ghost use Rattle.bcast_record.specs.Content.{notes_of};
     ghost use Rattle.bcast_record.specs.Replay.{MayRunAgain};
 
     ghost Value = { Recording T };

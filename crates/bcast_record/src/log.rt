@@ -5,7 +5,8 @@ ghost use Rattle.bcast_record.specs.Copies.{list_of};
 ghost use Rattle.bcast_record.specs.Content.{so_far};
 ghost use Rattle.bcast_model.specs.Next.{HasPositiveCapacity};
 ghost use Rattle.bcast_record.specs.declared.entry.Note.TheVariants as note;
-ghost use Rattle.bcast_record.specs.Recording.{new_recording, with_entry, notes_of};
+ghost use Rattle.bcast_record.specs.Recording.{new_recording, with_entry};
+ghost use Rattle.bcast_record.specs.Content.{notes_of};
 ghost use Rattle.bcast_record.specs.Replay.{IsRecordedRun, Replays};
 ghost use Rattle.bcast_record.specs.Seats.{new_seats, answered};
 
@@ -40,7 +41,8 @@ pub struct Log<T: Copy + Clone, R: Named, A: Allocator = Global> {
 
 impl<T: Copy + Clone, R: Named, A: Allocator> Model for Log<T, R, A> {
     ghost use Rattle.std.specs.Prelude.{◌≡◌, vec_len};
-    ghost use Rattle.bcast_record.specs.Recording.{Recording, recording, notes_of};
+    ghost use Rattle.bcast_record.specs.Recording.{Recording, recording};
+    ghost use Rattle.bcast_record.specs.Content.{notes_of};
     ghost use Rattle.bcast_record.specs.Replay.{Replays, MayRunAgain};
 
     ghost Value = { Recording T };

@@ -15,3 +15,5 @@ mod memory;
 mod record;
 #[cfg(test)]
 mod told_polls;
+#[cfg(test)]
+mod unread;

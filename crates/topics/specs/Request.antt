@@ -34,13 +34,12 @@ module _ {T A : Type 0} where
   OpensPositive (request.Open name capacity) = 0 < capacity
   OpensPositive r = Unit {0}
 
-module _ {T : Type 0} where
-  -- the answer about a name, by whether a topic of it is open, and by the call that is asked for
-  abbrev pub IsAnswerTo : Bool → Option (Call T) → Answer T → Type 0
-  IsAnswerTo true None a = a ≡ answer.Exists
-  IsAnswerTo false None a = (a ≡ answer.Memory) ⊎ (a ≡ answer.Opened)
-  IsAnswerTo false (Some c) a = a ≡ answer.NoTopic
-  IsAnswerTo true (Some c) a = (reply : Reply T) × (a ≡ answer.Done reply)
+-- the answer about a name, by whether a topic of it is open, and by the call that is asked for
+abbrev pub IsAnswerTo : {T : Type 0} → Bool → Option (Call T) → Answer T → Type 0
+IsAnswerTo {T} true None a = a ≡ answer.Exists
+IsAnswerTo {T} false None a = (a ≡ answer.Memory) ⊎ (a ≡ answer.Opened)
+IsAnswerTo {T} false (Some c) a = a ≡ answer.NoTopic
+IsAnswerTo {T} true (Some c) a = (reply : Reply T) × (a ≡ answer.Done reply)
 
 -- the answer to a request
 pub record IsAnswer {T A : Type 0} (is_open : Bool) (r : Request T A) (a : Answer T) : Type 0 where

@@ -116,10 +116,10 @@ module _ {S : Type 0} where
   -- only the last of the kept messages is left
   pub latest : {is_clone : S → S → Type 0} {v w : View S} {msg : S} {back : Option S} → Answers is_clone v (call.TryBroadcast msg) (reply.TryBroadcast (Ok back)) w → IsConfig v → (w.queue ≡ msg ∷ []) × (w.end ≡ v.end + 1)
   latest {v = v} {msg = msg} a config =
-      let low : ℕ = least (v.end + 1) (values (accepting v.control v.end).cursors) in
+      let low : ℕ = least (v.end + 1) (values (accepting v.control (v.end + 1)).cursors) in
       let watcher = somebody v.control.cursors config.watchers in
       let reach = (valid a).reach watcher.0 watcher.1 watcher.2 in
-      let behind = least-le-cursor (v.end + 1) (accepting v.control v.end).cursors watcher.0 watcher.1 (ap (λ m. get m watcher.0) (cursors-accepting v.control v.end) ∙ watcher.2) in
+      let behind = least-le-cursor (v.end + 1) (accepting v.control (v.end + 1)).cursors watcher.0 watcher.1 (ap (λ m. get m watcher.0) (cursors-accepting v.control (v.end + 1)) ∙ watcher.2) in
       let end = (valid a).end in
       let fits = (valid a).fits in
       let one = config.capacity in

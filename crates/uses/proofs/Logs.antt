@@ -35,14 +35,14 @@ module _ {T : Type 0} where
   pub writes : {is_clone : T → T → Type 0} {v w : View T} {msg : T} {back : Option T} → Answers is_clone v (call.TryBroadcast msg) (reply.TryBroadcast (Ok back)) w → IsLog v → IsLog w × AddsUnread v w msg
   writes {v = v} {msg = msg} a log = put_last a log.overflow (λ u. IsLog u × AddsUnread v u msg) (λ u s. (told_log u s.0, s.1)) (
     record {
-      overflow = accepting_is (λ c. c.overflow ≡ v.control.overflow) v.control v.end (close_is (λ c. c.overflow ≡ v.control.overflow) _ (λ _. refl) (λ _. refl)) (λ _. refl) ∙ log.overflow;
-      reach = λ reader cursor e. log.reach reader cursor (ap (λ m. get m reader) (sym (cursors-accepting v.control v.end)) ∙ e);
+      overflow = accepting_is (λ c. c.overflow ≡ v.control.overflow) v.control (v.end + 1) (close_is (λ c. c.overflow ≡ v.control.overflow) _ (λ _. refl) (λ _. refl)) (λ _. refl) ∙ log.overflow;
+      reach = λ reader cursor e. log.reach reader cursor (ap (λ m. get m reader) (sym (cursors-accepting v.control (v.end + 1))) ∙ e);
     },
     λ reader is.
         let at = some_of (get v.control.cursors reader) is in
         let end = (valid a).end in
         let reach = (valid a).reach reader at.0 at.1 in
-        ap (kept_from (with_message v msg)) (ap (λ m. get m reader) (cursors-accepting v.control v.end) ∙ at.1)
+        ap (kept_from (with_message v msg)) (ap (λ m. get m reader) (cursors-accepting v.control (v.end + 1)) ∙ at.1)
         ∙ drop-append-le (at.0 - v.front) v.queue (msg ∷ []) (omega (arith, end, reach)) ∙ sym (ap (λ o. kept_from v o ++ msg ∷ []) at.1),
   )
 

@@ -66,7 +66,7 @@ module _ {T : Type 0} where
       let numbers = has.numbers in
       let more = length-append v.queue (msg ∷ []) in
       let before : ((v.end + 1) == last_end) ≡ false = apart _ _ (λ e. omega (arith, numbers, e)) in
-      let is : accepting v.control v.end ≡ tell_receivers v.control = ap (λ b. cond b (close (tell_receivers v.control)) (tell_receivers v.control)) before in
+      let is : accepting v.control (v.end + 1) ≡ tell_receivers v.control = ap (λ b. cond b (close (tell_receivers v.control)) (tell_receivers v.control)) before in
       record {
         is_open = ap (λ c. c.closed) is ∙ has.is_open;
         receivers = ap has_no_receiver is ∙ has.receivers;

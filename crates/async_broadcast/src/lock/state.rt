@@ -1,6 +1,7 @@
 //! What the lock guards: the channel, and the threads that wait for it.
 ghost use Rattle.std.specs.Prelude.{◌≡◌, false, IfOk};
 ghost use Rattle.bcast_core.specs.Snapshot.{Shows};
+ghost use Rattle.bcast_model.specs.Words.{View, IsShown, unread, missed};
 ghost use Rattle.async_broadcast.specs.Snapshots.{ShowsSomeState};
 ghost use Rattle.async_broadcast.specs.Woken.{HasNoThread, KnowsNews, HasWokenSender, HasWokenReceiver};
 
@@ -41,5 +42,21 @@ impl<T: Clone, A: Allocator + Copy> State<T, A> {
         self.inner.invariant_holds();
         let snapshot = self.inner.snapshot(alloc)?;
         Ok(snapshot)
+    }
+
+    /// How many messages the receiver `key` has still to read.
+    pub(super) fn unread(&self, key: usize) -> usize
+        ensures { (v : View T) × IsShown v × (result ≡ unread v key) }
+    {
+        self.inner.invariant_holds();
+        self.inner.unread(key)
+    }
+
+    /// How many messages the receiver `key` missed.
+    pub(super) fn missed(&self, key: usize) -> u64
+        ensures { (v : View T) × IsShown v × (result ≡ missed v key) }
+    {
+        self.inner.invariant_holds();
+        self.inner.missed(key)
     }
 }

@@ -9,7 +9,7 @@ use std::alloc::{AllocError, Allocator};
 
 impl<T: Drop, N: Notice, A: Allocator + Copy> Parts<T, N, A> {
     ghost use Rattle.bcast_model.specs.Laws.{IsValidView};
-    ghost use Rattle.bcast_core.specs.Tries.{is_untold};
+    ghost use Rattle.bcast_core.specs.Telling.{is_untold};
     ghost use Rattle.bcast_model.specs.Control.{has_place, with_place, place_answered, place_ended, place_waits, pair_waits, pair_answered, pair_ended};
 
     /// Whether a pending send has this place.

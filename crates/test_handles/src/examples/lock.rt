@@ -1,5 +1,5 @@
-//! Of `Lock::new` of `lock.rt`: a channel that its caller made.
-use async_broadcast::{Lock, Port, Receiver, Sender};
+//! Of `Lock::new` of `lock.rt`, a channel that its caller made, and of `unread.rt`.
+use async_broadcast::{Lock, Port, Receiver, Sender, TryRecvError, broadcast};
 use bcast_core::Inner;
 use std::test::Fail;
 
@@ -13,5 +13,19 @@ fn a_port_of_a_channel_that_its_caller_made(rt: HostRuntime) -> Result<(), Fail>
     assert!(rt; sender.try_broadcast(7).is_ok());
     assert!(rt; matches!(receiver.try_recv(), Ok(Ok(7))));
     assert!(rt; sender.snapshot()?.end == 101);
+    Ok(())
+}
+
+#[test]
+fn unread_messages(rt: HostRuntime) -> Result<(), Fail> {
+    let (mut sender, mut receiver) = broadcast(&rt, rt.alloc(), 2)?;
+    sender.set_overflow(true);
+    for msg in [1, 2, 3] {
+        assert!(rt; sender.try_broadcast(msg).is_ok());
+    }
+    assert!(rt; receiver.unread() == 2 && receiver.missed() == 1);
+    assert!(rt; matches!(receiver.try_recv(), Ok(Err(TryRecvError::Overflowed(1)))));
+    assert!(rt; matches!(receiver.try_recv(), Ok(Ok(2))));
+    assert!(rt; receiver.unread() == 1 && receiver.missed() == 0);
     Ok(())
 }

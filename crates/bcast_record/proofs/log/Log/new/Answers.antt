@@ -1,6 +1,7 @@
 use Rattle.std.proofs.Common.{ap, sym, subst, ◌∙◌}
 use Rattle.bcast_record.specs.declared.entry.Opening.{Opening}
-use Rattle.bcast_record.specs.Recording.{recording, notes_of}
+use Rattle.bcast_record.specs.Recording.{recording}
+use Rattle.bcast_record.specs.Content.{notes_of}
 use Rattle.bcast_record.specs.Replay.{MayRunAgain}
 use Rattle.bcast_record.proofs.Appends.{replays_opened}
 use Rattle.bcast_record.proofs.log.Log.new.Goals as goal

@@ -2,7 +2,8 @@ use Rattle.std.proofs.Common.{◌≡◌, [], ◌∷◌, ◌++◌, Some, suc, len
 use Rattle.bcast_record.specs.declared.entry.Entry.{Entry}
 use Rattle.bcast_record.specs.declared.entry.Note.TheVariants as note
 use Rattle.bcast_record.specs.Copies.{IsListOf}
-use Rattle.bcast_record.specs.Recording.{recording, notes_of}
+use Rattle.bcast_record.specs.Recording.{recording}
+use Rattle.bcast_record.specs.Content.{notes_of}
 use Rattle.bcast_record.specs.Replay.{Replays, MayRunAgain}
 use Rattle.bcast_record.proofs.Copies.{legal_list, same_entry}
 use Rattle.bcast_record.proofs.Appends.{replays_push, may_run_again_push}

@@ -1,0 +1,74 @@
+//! What receivers have still to read, and what they missed, after each of several calls.
+ghost use Rattle.bcast_model.specs.Next.{HasPositiveCapacity};
+
+use bcast_core::{Call, Inner, Silent, step};
+use std::process::Abort;
+use std::test::Fail;
+
+type Channel = Inner<u64, Silent>;
+
+/// A call of this name, with its argument. `Shrink` sets the capacity 1.
+#[derive(Clone, Copy)]
+enum Asked {
+    SetOverflow,
+    NewReceiver,
+    TryBroadcast(u64),
+    TryRecv(usize),
+    Shrink,
+    Close,
+    DropReceiver(usize),
+}
+
+/// A call, and `unread` and `missed` of the receivers 0 and 1 after it.
+type Row = (Asked, (usize, u64), (usize, u64));
+
+/// Calls on a new channel of capacity 2, one after another.
+const ROWS: &[Row] = &[
+    (Asked::SetOverflow, (0, 0), (0, 0)),
+    (Asked::NewReceiver, (0, 0), (0, 0)),
+    (Asked::TryBroadcast(1), (1, 0), (1, 0)),
+    (Asked::TryBroadcast(2), (2, 0), (2, 0)),
+    // 1 is dropped.
+    (Asked::TryBroadcast(3), (2, 1), (2, 1)),
+    (Asked::TryRecv(0), (2, 0), (2, 1)),
+    (Asked::TryRecv(0), (1, 0), (2, 1)),
+    // 2 is dropped, which the receiver 0 has read.
+    (Asked::Shrink, (1, 0), (1, 2)),
+    (Asked::TryRecv(0), (0, 0), (1, 2)),
+    (Asked::DropReceiver(1), (0, 0), (0, 0)),
+    (Asked::TryBroadcast(4), (1, 0), (0, 0)),
+    (Asked::Close, (1, 0), (0, 0)),
+    (Asked::TryRecv(0), (0, 0), (0, 0)),
+    (Asked::TryRecv(0), (0, 0), (0, 0)),
+];
+
+fn call_of(asked: Asked) -> Call<u64>
+    ensures { HasPositiveCapacity result }
+{
+    match asked {
+        Asked::SetOverflow => Call::SetOverflow(true),
+        Asked::NewReceiver => Call::NewReceiver,
+        Asked::TryBroadcast(msg) => Call::TryBroadcast(msg),
+        Asked::TryRecv(key) => Call::TryRecv(key),
+        Asked::Shrink => Call::SetCapacity(1),
+        Asked::Close => Call::Close,
+        Asked::DropReceiver(key) => Call::DropReceiver(key),
+    }
+}
+
+/// What this receiver has still to read, and what it missed.
+fn seen(inner: &Channel, key: usize) -> (usize, u64) {
+    (inner.unread(key), inner.missed(key))
+}
+
+#[test]
+fn unread_and_missed(rt: HostRuntime) -> Result<(), Fail> {
+    let (mut inner, first) = Inner::new(rt.alloc(), 2)?;
+    assert!(rt; first == 0);
+    for (asked, left, right) in ROWS {
+        drop(step(&mut inner, call_of(*asked), Silent));
+        assert!(rt; seen(&inner, 0) == *left);
+        assert!(rt; seen(&inner, 1) == *right);
+    }
+    Ok(())
+}
