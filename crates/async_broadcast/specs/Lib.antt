@@ -12,5 +12,7 @@ pub mod Made
 pub mod Woken
 -- snapshots through handles
 pub mod Snapshots
+-- calls with a limit, and a loop that blocks
+pub mod Timed
 -- how a view is stored
 pub mod Encodings

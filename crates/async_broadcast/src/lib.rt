@@ -23,12 +23,14 @@ mod asked;
 mod future;
 mod handle;
 mod inactive;
+mod iter;
 mod lock;
 mod port;
 mod receiver;
 mod sender;
 mod snapshot;
 mod text;
+mod timed;
 mod unread;
 mod wake;
 
@@ -39,8 +41,10 @@ pub use bcast_core::{
 pub use future::{Recv, Send};
 pub use handle::{Handle, Role};
 pub use inactive::{Inactive, InactiveReceiver};
+pub use iter::Iter;
 pub use lock::{Lock, LockInactiveReceiver, LockReceiver, LockSender, broadcast};
 pub use port::{Ask, Port};
 pub use receiver::{Receiver, Receiving};
 pub use sender::{Sender, Sending};
+pub use timed::{RecvTimeoutError, SendTimeoutError};
 pub use wake::{Registers, TaskWaker, Wake, WakerSlot};

@@ -11,11 +11,14 @@ use crate::sender::Sender;
 use crate::wake::{Wake, WakerSlot};
 use bcast_core::{Call, Inner, Reply, Snapshot, TryRecvError, TrySendError};
 use channel::Channel;
+use limit::{NoLimit, TimeLimit};
 use std::alloc::{AllocError, Allocator, Global};
 use std::sync::{Arc, Wait};
+use std::time::{Clock, Duration};
 
 mod asking;
 mod channel;
+pub(crate) mod limit;
 mod state;
 mod threads;
 mod waiting;
@@ -128,6 +131,14 @@ impl<T: Clone, R: Wait + Clone, A: Allocator + Copy> Lock<T, R, A> {
         self.channel.lock(&self.rt).snapshot(alloc)
     }
 
+    /// So long from now.
+    pub(crate) fn time_limit(&self, limit: Duration) -> TimeLimit
+    where
+        R: Clock,
+    {
+        TimeLimit::from_now(&self.rt, limit)
+    }
+
     pub(crate) fn unread(&self, key: usize) -> usize
         ensures { (v : View T) × IsShown v × (result ≡ unread v key) }
     {
@@ -178,8 +189,8 @@ impl<T: Clone, R: Wait + Clone, A: Allocator + Copy> Port<T, WakerSlot<A>> for L
         ensures answered { is_answer result ≡ true }
     {
         match call {
-            Call::AttemptSend(msg) => self.send_waiting(msg),
-            Call::TryRecv(key) => self.receive_waiting(key),
+            Call::AttemptSend(msg) => Reply::AttemptSend(self.send_waiting(msg, &NoLimit)),
+            Call::TryRecv(key) => Reply::TryRecv(self.receive_waiting(key, &NoLimit)),
             _ => unreachable!(),
         }
     }

@@ -19,6 +19,7 @@ mod lock;
 mod receiver;
 mod sender;
 mod sender_settings;
+mod timed;
 
 /// An example, by the call that it shows.
 #[derive(Clone, Copy)]
@@ -70,6 +71,7 @@ enum Receives {
     IsTerminated,
     NewSender,
     Deactivate,
+    Iter,
     ReceiverSetAwaitActive,
 }
 
@@ -93,6 +95,7 @@ const EXAMPLES: &[(usize, Example)] = &[
     (2, Example::Borrows(Borrows::ReceiverNewReceiver)),
     (1, Example::Receives(Receives::NewSender)),
     (1, Example::Receives(Receives::Deactivate)),
+    (2, Example::Receives(Receives::Iter)),
     (1, Example::Sends(Sends::TryBroadcast)),
     (3, Example::Borrows(Borrows::TryBroadcastAll)),
     (1, Example::Sends(Sends::BroadcastBlocking)),
@@ -187,6 +190,7 @@ fn play_receives<R: Abort + Wait + RandomSource + AllocGlobal, P: Port<u64, Wake
         Receives::IsTerminated => receiver::sees_the_end(rt, sender, receiver),
         Receives::NewSender => receiver::adds_a_sender(rt, sender, receiver)?,
         Receives::Deactivate => receiver::pauses(rt, sender, receiver)?,
+        Receives::Iter => receiver::loops(rt, sender, receiver)?,
         Receives::ReceiverSetAwaitActive => receiver::awaits_nobody(rt, &sender, receiver)?,
     }
     Ok(())

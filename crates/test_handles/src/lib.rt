@@ -1,6 +1,5 @@
 //! Tests of `async_broadcast`: the examples of its documentation, the original's own tests, tasks
-//! that wait, handles short of memory, what handles see of their channel, and threads that wait for
-//! one another.
+//! that wait, handles short of memory, and what handles see of their channel.
 //!
 //! `examples` has those of the documentation: the first line of each file names its source. Tests
 //! of `counterparts` have the names of the original's.
@@ -18,7 +17,5 @@ mod many_tasks;
 mod short_of_memory;
 #[cfg(test)]
 mod snapshots;
-#[cfg(test)]
-mod threads;
 #[cfg(test)]
 mod told_tasks;

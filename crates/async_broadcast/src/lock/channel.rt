@@ -1,6 +1,7 @@
 //! The lock, and the condition variables that threads wait on.
-ghost use Rattle.std.specs.Prelude.{◌≡◌};
+ghost use Rattle.std.specs.Prelude.{◌≡◌, false};
 
+use super::limit::Limit;
 use super::state::State;
 use super::threads::Woken;
 use crate::wake::{Wake, WakerSlot};
@@ -65,17 +66,21 @@ impl<T: Clone, A: Allocator + Copy> Channel<T, A> {
         }
     }
 
-    /// Wakes these threads, and releases the lock until the condition is notified.
-    pub(super) fn wait<'a>(
+    /// Wakes these threads, and releases the lock until the condition is notified or the time is
+    /// over. Returns whether it is over.
+    pub(super) fn wait<'a, R: Wait, L: Limit<R>>(
         &'a self,
-        rt: &impl Wait,
+        rt: &R,
         condition: &Condvar,
         state: Locked<'a, T, A>,
         woken: Option<Woken>,
-    ) -> Locked<'a, T, A> {
+        limit: &L,
+    ) -> (Locked<'a, T, A>, bool)
+        ensures { L.is_endless → result.1 ≡ false }
+    {
         if let Some(woken) = woken {
             self.wake(woken);
         }
-        condition.wait(rt, state)
+        limit.wait(rt, condition, state)
     }
 }

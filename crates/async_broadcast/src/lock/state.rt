@@ -12,7 +12,7 @@ use std::alloc::{AllocError, Allocator};
 
 /// Once the lock is taken, it is noted of every earlier call which threads it has to wake.
 #[derive(Drop)]
-pub(super) struct State<T: Clone, A: Allocator> {
+pub(crate) struct State<T: Clone, A: Allocator> {
     pub(super) inner: Inner<T, Wake<WakerSlot<A>>, A>,
     pub(super) threads: Threads,
     ghost knows: { KnowsNews inner threads },

@@ -32,6 +32,15 @@ pub(super) struct Woken {
     pub(super) receiver: bool,
 }
 
+/// A thread that is counted as one that waits to send. It can't be dropped: only when the thread has
+/// tried again it ends, so that a wake-up that was meant for it is passed on.
+pub(super) struct WaitingToSend;
+
+/// The same for a thread that waits for a message, with what it knew when it began (`news`).
+pub(super) struct WaitingToReceive {
+    known: (u64, bool),
+}
+
 impl Threads {
     /// No thread waits, and none was woken.
     pub(super) fn none() -> Threads
@@ -102,29 +111,31 @@ impl Threads {
     }
 
     /// A thread is about to wait to send.
-    pub(super) fn begin_to_send(&mut self)
+    pub(super) fn begin_to_send(&mut self) -> WaitingToSend
         ensures { self.new ≡ record self.old { senders = one_more self.old.senders } }
     {
         self.senders = self.senders.wrapping_add(1);
+        WaitingToSend
     }
 
     /// A thread that waited to send has tried again.
-    pub(super) fn has_tried_to_send(&mut self)
+    pub(super) fn end_waiting_to_send(&mut self, waiting: WaitingToSend)
         ensures { self.new ≡ record self.old {
           senders = one_less self.old.senders;
           is_sender_woken = false;
         } }
     {
+        let WaitingToSend = waiting;
         self.senders = self.senders.wrapping_sub(1);
         self.is_sender_woken = false;
     }
 
-    /// A thread that has nothing to receive is about to wait for a message. Returns what it knows.
+    /// A thread that has nothing to receive is about to wait for a message.
     pub(super) fn begin_to_receive<T: Clone, A: Allocator + Copy>(
         &mut self,
         inner: &Inner<T, Wake<WakerSlot<A>>, A>,
-    ) -> (u64, bool)
-        ensures known { result ≡ news_of inner.now }
+    ) -> WaitingToReceive
+        ensures known { result.known ≡ news_of inner.now }
         ensures waits { self.new ≡ record self.old {
           caught_up_receivers = one_more self.old.caught_up_receivers;
           known = news_of inner.now;
@@ -132,13 +143,14 @@ impl Threads {
     {
         self.caught_up_receivers = self.caught_up_receivers.wrapping_add(1);
         self.known = news(inner);
-        self.known
+        WaitingToReceive { known: self.known }
     }
 
-    /// A thread that began to wait when it knew this much has tried again.
-    pub(super) fn has_tried_to_receive(&mut self, known: (u64, bool))
-        ensures { EndsWait known self.old self.new }
+    /// A thread that waited for a message has tried again.
+    pub(super) fn end_waiting_to_receive(&mut self, waiting: WaitingToReceive)
+        ensures { EndsWait waiting.known self.old self.new }
     {
+        let WaitingToReceive { known } = waiting;
         if self.known == known {
             self.caught_up_receivers = self.caught_up_receivers.wrapping_sub(1);
         } else {

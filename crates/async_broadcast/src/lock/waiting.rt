@@ -1,104 +1,126 @@
-//! Calls of threads that wait until they are answered.
-ghost use Rattle.std.specs.Prelude.{◌≡◌, true, not};
+//! Calls of threads that wait until they are answered, or their time is over.
+ghost use Rattle.std.specs.Prelude.{◌≡◌, true, false, not};
 ghost use Rattle.bcast_model.specs.Answers.{IsPossible};
 ghost use Rattle.bcast_model.specs.declared.run.Call.TheVariants as call;
 ghost use Rattle.async_broadcast.specs.Kinds.{is_answer};
 
 use super::Lock;
+use super::limit::Limit;
 use bcast_core::{Reply, SendPoll, TryRecvError};
 use std::alloc::{AllocError, Allocator};
 use std::sync::Wait;
 use std::thread::yield_now;
 
-// What a thread did before the try that it makes now: nothing, or it yielded once, or it waited.
-#[derive(Clone, Copy, PartialEq, Eq)]
-enum Turn {
-    First,
-    Yielded,
-    Waited,
-}
+type Received<T> = Result<Result<T, TryRecvError>, AllocError>;
 
 impl<T: Clone, R: Wait + Clone, A: Allocator + Copy> Lock<T, R, A> {
-    pub(super) fn send_waiting(&self, msg: T) -> Reply<T>
-        ensures reply { IsPossible T.is_clone (call.AttemptSend msg) result }
-        ensures answered { is_answer result ≡ true }
+    /// Sends a message, and waits while it must. `Wait`: the time is over.
+    pub(crate) fn send_waiting<L: Limit<R>>(&self, msg: T, limit: &L) -> SendPoll<T>
+        ensures reply { IsPossible T.is_clone (call.AttemptSend msg) (Reply.AttemptSend result) }
+        ensures answered { L.is_endless → is_answer (Reply.AttemptSend result) ≡ true }
     {
-        let channel = &*self.channel;
         let mut left = msg;
-        let mut turn = Turn::First;
-        let mut state = channel.lock(&self.rt);
+        let mut waits = false;
         for _ in self.rt.forever() {
-            let locked = &mut *state;
-            let sent = locked.inner.attempt_send(left);
-            if turn == Turn::Waited {
-                locked.threads.has_tried_to_send();
+            match self.send_or_wait(left, waits, limit) {
+                (SendPoll::Wait(back), false) => left = back,
+                (sent, _) => return sent,
             }
-            let waits = turn == Turn::Yielded && matches!(sent, SendPoll::Wait(_));
-            if waits {
-                locked.threads.begin_to_send();
-            }
-            let woken = locked.threads.note(&locked.inner);
-            match sent {
-                SendPoll::Ready(answer) => {
-                    channel.unlock(state, woken);
-                    return Reply::AttemptSend(SendPoll::Ready(answer));
-                }
-                SendPoll::Wait(back) => left = back,
-            }
-            if waits {
-                state = channel.wait(&self.rt, &channel.ready, state, woken);
-                turn = Turn::Waited;
-            } else {
-                // Others may make room at once, and then no thread has to be woken.
-                channel.unlock(state, woken);
-                yield_now();
-                state = channel.lock(&self.rt);
-                turn = Turn::Yielded;
-            }
+            // Others may make room at once, and then no thread has to be woken.
+            yield_now();
+            waits = true;
         }
         unreachable!()
     }
 
-    pub(super) fn receive_waiting(&self, key: usize) -> Reply<T>
-        ensures reply { IsPossible T.is_clone (call.TryRecv key) result }
-        ensures answered { is_answer result ≡ true }
+    // Tries to send, and if it must wait and `waits`, waits once and tries again. Returns also
+    // whether the time is over.
+    fn send_or_wait<L: Limit<R>>(&self, msg: T, waits: bool, limit: &L) -> (SendPoll<T>, bool)
+        ensures reply { IsPossible T.is_clone (call.AttemptSend msg)
+            (Reply.AttemptSend result.0) }
+        ensures endless { L.is_endless → result.1 ≡ false }
     {
         let channel = &*self.channel;
-        let mut turn = Turn::First;
-        // What was known when the thread began to wait.
-        let mut known = (0, false);
         let mut state = channel.lock(&self.rt);
-        for _ in self.rt.forever() {
-            let locked = &mut *state;
-            let answer = locked.inner.try_recv(key);
-            if turn == Turn::Waited {
-                locked.threads.has_tried_to_receive(known);
-            }
-            let waits = turn == Turn::Yielded && is_empty(&answer);
-            if waits {
-                known = locked.threads.begin_to_receive(&locked.inner);
-            }
+        let locked = &mut *state;
+        let sent = locked.inner.attempt_send(msg);
+        if !waits || !must_wait(&sent) {
             let woken = locked.threads.note(&locked.inner);
-            if !is_empty(&answer) {
-                channel.unlock(state, woken);
-                return Reply::TryRecv(answer);
+            channel.unlock(state, woken);
+            return (sent, false);
+        }
+        let back = match sent {
+            SendPoll::Wait(back) => back,
+            SendPoll::Ready(_answer) => unreachable!(),
+        };
+        let waiting = locked.threads.begin_to_send();
+        let woken = locked.threads.note(&locked.inner);
+        let (mut state, is_over) = channel.wait(&self.rt, &channel.ready, state, woken, limit);
+        let locked = &mut *state;
+        let sent = locked.inner.attempt_send(back);
+        locked.threads.end_waiting_to_send(waiting);
+        let woken = locked.threads.note(&locked.inner);
+        channel.unlock(state, woken);
+        (sent, is_over)
+    }
+
+    /// Receives a message, and waits while there is none. `Empty`: the time is over.
+    pub(crate) fn receive_waiting<L: Limit<R>>(&self, key: usize, limit: &L) -> Received<T>
+        ensures reply { IsPossible T.is_clone (call.TryRecv key) (Reply.TryRecv result) }
+        ensures answered { L.is_endless → is_answer (Reply.TryRecv result) ≡ true }
+    {
+        let mut waits = false;
+        for _ in self.rt.forever() {
+            let (answer, is_over) = self.receive_or_wait(key, waits, limit);
+            if is_over || !is_empty(&answer) {
+                return answer;
             }
-            if waits {
-                state = channel.wait(&self.rt, &channel.news, state, woken);
-                turn = Turn::Waited;
-            } else {
-                // Several messages may come at once, and are then received without another wait.
-                channel.unlock(state, woken);
-                yield_now();
-                state = channel.lock(&self.rt);
-                turn = Turn::Yielded;
-            }
+            // Several messages may come at once, and are then received without another wait.
+            yield_now();
+            waits = true;
         }
         unreachable!()
+    }
+
+    // Tries to receive, and if there is nothing and `waits`, waits once and tries again. Returns
+    // also whether the time is over.
+    fn receive_or_wait<L: Limit<R>>(
+        &self,
+        key: usize,
+        waits: bool,
+        limit: &L,
+    ) -> (Received<T>, bool)
+        ensures reply { IsPossible T.is_clone (call.TryRecv key) (Reply.TryRecv result.0) }
+        ensures endless { L.is_endless → result.1 ≡ false }
+    {
+        let channel = &*self.channel;
+        let mut state = channel.lock(&self.rt);
+        let locked = &mut *state;
+        let answer = locked.inner.try_recv(key);
+        if !waits || !is_empty(&answer) {
+            let woken = locked.threads.note(&locked.inner);
+            channel.unlock(state, woken);
+            return (answer, false);
+        }
+        let waiting = locked.threads.begin_to_receive(&locked.inner);
+        let woken = locked.threads.note(&locked.inner);
+        let (mut state, is_over) = channel.wait(&self.rt, &channel.news, state, woken, limit);
+        let locked = &mut *state;
+        let answer = locked.inner.try_recv(key);
+        locked.threads.end_waiting_to_receive(waiting);
+        let woken = locked.threads.note(&locked.inner);
+        channel.unlock(state, woken);
+        (answer, is_over)
     }
 }
 
-fn is_empty<T>(answer: &Result<Result<T, TryRecvError>, AllocError>) -> bool
+fn must_wait<T>(sent: &SendPoll<T>) -> bool
+    ensures { is_answer (Reply.AttemptSend sent.now) ≡ not result }
+{
+    matches!(sent, SendPoll::Wait(_))
+}
+
+fn is_empty<T>(answer: &Received<T>) -> bool
     ensures { is_answer (Reply.TryRecv answer.now) ≡ not result }
 {
     matches!(answer, Ok(Err(TryRecvError::Empty)))

@@ -1,4 +1,4 @@
-//! Of `receiver.rt`, and one of a setting of the channel that a receiver makes.
+//! Of `receiver.rt` and `iter.rt`, and one of a setting of the channel that a receiver makes.
 use async_broadcast::{
     Port, Receiver, RecvError, SendError, Sender, TryRecvError, TrySendError, WakerSlot,
 };
@@ -46,6 +46,24 @@ pub fn blocks<P: Port<u64, WakerSlot>>(
     drop(sender);
     assert!(rt; matches!(receiver.recv_blocking(), Ok(Ok(1))));
     assert!(rt; matches!(receiver.recv_blocking(), Ok(Err(RecvError::Closed))));
+}
+
+// Of `iter`.
+pub fn loops<R: Abort + Wait, P: Port<u64, WakerSlot>>(
+    rt: &R,
+    sender: Sender<u64, P>,
+    mut receiver: Receiver<u64, P>,
+) -> Result<(), Fail> {
+    assert!(rt; sender.try_broadcast(1).is_ok());
+    assert!(rt; sender.try_broadcast(2).is_ok());
+    drop(sender);
+    let mut count = 0u64;
+    for received in receiver.iter(rt) {
+        count = count.wrapping_add(1);
+        assert!(rt; received? == Ok(count));
+    }
+    assert!(rt; count == 2);
+    Ok(())
 }
 
 // Of `is_terminated`.

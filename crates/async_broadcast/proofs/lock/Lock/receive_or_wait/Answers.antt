@@ -1,0 +1,10 @@
+-- The reply to the last try.
+use Rattle.std.proofs.Common.{refl}
+use Rattle.bcast_model.proofs.Answers.{possible}
+use Rattle.async_broadcast.proofs.lock.Lock.receive_or_wait.Goals as goal
+
+pub returns-then-not-waits-clause-reply : goal.returns-then-not-waits-clause-reply
+returns-then-not-waits-clause-reply g c = possible refl c.try_recv-answer.ensures.answers
+
+pub returns-clause-reply : goal.returns-clause-reply
+returns-clause-reply g c = possible refl c.try_recv-answer-2.ensures.answers

@@ -1,0 +1,78 @@
+//! How long a thread waits for the channel.
+ghost use Rattle.std.specs.Prelude.{◌≡◌, ⊤, false};
+
+use super::channel::Locked;
+use std::alloc::Allocator;
+use std::sync::{Condvar, Wait};
+use std::time::{Clock, Duration, Instant};
+
+/// How long a thread waits.
+pub(crate) trait Limit<R: Wait> {
+    // Holds if a wait has no end.
+    ghost is_endless: { Type 0 };
+
+    /// Releases the lock until the condition is notified or the time is over. Returns whether the
+    /// time is over.
+    fn wait<'a, T: Clone, A: Allocator>(
+        &self,
+        rt: &R,
+        condition: &Condvar,
+        state: Locked<'a, T, A>,
+    ) -> (Locked<'a, T, A>, bool)
+        ensures { is_endless → result.1 ≡ false };
+}
+
+/// Until the call is answered.
+pub(crate) struct NoLimit;
+
+/// So long from a start. `None`: the clock can't be read, and then the time is over.
+#[derive(Drop)]
+pub(crate) struct TimeLimit {
+    start: Option<Instant>,
+    limit: Duration,
+}
+
+impl TimeLimit {
+    /// So long from now.
+    pub(super) fn from_now(clock: &impl Clock, limit: Duration) -> TimeLimit {
+        TimeLimit {
+            start: Instant::now(clock).ok(),
+            limit,
+        }
+    }
+
+    // How much is left. `None`: the time is over.
+    fn left(&self, clock: &impl Clock) -> Option<Duration> {
+        self.limit.checked_sub(self.start?.elapsed(clock).ok()?)
+    }
+}
+
+impl<R: Wait> Limit<R> for NoLimit {
+    ghost is_endless = { ⊤ };
+
+    fn wait<'a, T: Clone, A: Allocator>(
+        &self,
+        rt: &R,
+        condition: &Condvar,
+        state: Locked<'a, T, A>,
+    ) -> (Locked<'a, T, A>, bool) {
+        (condition.wait(rt, state), false)
+    }
+}
+
+impl<R: Wait + Clock> Limit<R> for TimeLimit {
+    ghost is_endless = { ⊥ };
+
+    fn wait<'a, T: Clone, A: Allocator>(
+        &self,
+        rt: &R,
+        condition: &Condvar,
+        state: Locked<'a, T, A>,
+    ) -> (Locked<'a, T, A>, bool) {
+        let Some(left) = self.left(rt) else {
+            return (state, true);
+        };
+        let (state, waited) = condition.wait_timeout(rt, state, left);
+        (state, waited.timed_out())
+    }
+}

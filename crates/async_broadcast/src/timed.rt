@@ -1,0 +1,121 @@
+//! Blocking calls that wait for so long at most.
+ghost use Rattle.std.specs.Prelude.{◌≡◌};
+ghost use Rattle.bcast_model.specs.Words.{IsPossible};
+ghost use Rattle.async_broadcast.specs.Timed.{as_attempt, as_timed_try};
+
+use crate::lock::Lock;
+use crate::receiver::Receiver;
+use crate::sender::Sender;
+use bcast_core::{Call, Reply, SendError, SendPoll, TryRecvError};
+use std::alloc::{AllocError, Allocator};
+use std::sync::Wait;
+use std::time::{Clock, Duration};
+
+mod error;
+
+pub use error::{RecvTimeoutError, SendTimeoutError};
+
+impl<T: Clone, R: Wait + Clone + Clock, A: Allocator + Copy> Sender<T, Lock<T, R, A>, A> {
+    /// Sends a message as `broadcast_blocking` does, and blocks the thread for no longer than
+    /// `limit`, and for the lock.
+    ///
+    /// It tries once more when the time is over, and before it waits at all, also with a limit of
+    /// zero. The time is over too if the clock can't be read.
+    ///
+    /// # Errors
+    ///
+    /// Each hands the message back, and nothing changed.
+    ///
+    /// - `Timeout`: the time is over, and there is still no room, or, with `await_active`, no
+    ///   active receiver.
+    /// - `Refused`: the channel is closed, or it has no active receiver and `await_active` is off.
+    ///
+    /// ```rust
+    /// let (sender, receiver) = broadcast(rt, rt.alloc(), 1)?;
+    /// let limit = Duration::from_millis(1);
+    /// assert!(&rt; sender.broadcast_timeout(7, limit).is_ok());
+    /// let error = sender.broadcast_timeout(8, limit).err().ok_or("sent")?;
+    /// assert!(&rt; error.is_timeout() && error.into_inner() == 8);
+    /// drop(receiver);
+    /// let refused = sender.broadcast_timeout(9, limit);
+    /// assert!(&rt; matches!(refused, Err(SendTimeoutError::Refused(9))));
+    /// ```
+    ///
+    /// Source: this crate's own.
+    pub fn broadcast_timeout(
+        &self,
+        msg: T,
+        limit: Duration,
+    ) -> Result<Option<T>, SendTimeoutError<T>>
+        ensures { IsPossible T.is_clone (Call.AttemptSend msg)
+            (Reply.AttemptSend (as_attempt result)) }
+    {
+        sent_in_time(self.port.send_waiting(msg, &self.port.time_limit(limit)))
+    }
+}
+
+impl<T: Clone, R: Wait + Clone + Clock, A: Allocator + Copy> Receiver<T, Lock<T, R, A>, A> {
+    /// Receives the next message as `recv_blocking` does, and blocks the thread for no longer than
+    /// `limit`, and for the lock.
+    ///
+    /// It tries once more when the time is over, and before it waits at all, also with a limit of
+    /// zero. The time is over too if the clock can't be read.
+    ///
+    /// # Errors
+    ///
+    /// - `AllocError`: no memory for a clone of a message that others have still to read. Nothing
+    ///   changed.
+    /// - `Timeout`: the time is over, every message was read, and the channel is open. Nothing
+    ///   changed.
+    /// - `Overflowed(n)`: the next `n` messages were dropped. The receiver continues after them.
+    /// - `Closed`: every message was read, and the channel is closed.
+    ///
+    /// ```rust
+    /// let (sender, mut receiver) = broadcast(rt, rt.alloc(), 1)?;
+    /// let limit = Duration::from_millis(1);
+    /// let received = receiver.recv_timeout(limit);
+    /// assert!(&rt; matches!(received, Ok(Err(RecvTimeoutError::Timeout))));
+    /// assert!(&rt; sender.try_broadcast(7).is_ok());
+    /// drop(sender);
+    /// assert!(&rt; matches!(receiver.recv_timeout(limit), Ok(Ok(7))));
+    /// let ended = receiver.recv_timeout(limit);
+    /// assert!(&rt; matches!(ended, Ok(Err(RecvTimeoutError::Closed))));
+    /// ```
+    ///
+    /// Source: this crate's own.
+    pub fn recv_timeout(
+        &mut self,
+        limit: Duration,
+    ) -> Result<Result<T, RecvTimeoutError>, AllocError>
+        ensures asked { IsPossible T.is_clone (Call.TryRecv self.old.role.key)
+            (Reply.TryRecv (as_timed_try result)) }
+        ensures same { self.new ≡ self.old }
+    {
+        let limit = self.port.time_limit(limit);
+        received_in_time(self.port.receive_waiting(self.role.key, &limit))
+    }
+}
+
+fn sent_in_time<T>(sent: SendPoll<T>) -> Result<Option<T>, SendTimeoutError<T>>
+    ensures { as_attempt result ≡ sent }
+{
+    match sent {
+        SendPoll::Ready(Ok(dropped)) => Ok(dropped),
+        SendPoll::Ready(Err(SendError(back))) => Err(SendTimeoutError::Refused(back)),
+        SendPoll::Wait(back) => Err(SendTimeoutError::Timeout(back)),
+    }
+}
+
+fn received_in_time<T>(
+    received: Result<Result<T, TryRecvError>, AllocError>,
+) -> Result<Result<T, RecvTimeoutError>, AllocError>
+    ensures { as_timed_try result ≡ received }
+{
+    match received {
+        Ok(Ok(msg)) => Ok(Ok(msg)),
+        Ok(Err(TryRecvError::Overflowed(n))) => Ok(Err(RecvTimeoutError::Overflowed(n))),
+        Ok(Err(TryRecvError::Empty)) => Ok(Err(RecvTimeoutError::Timeout)),
+        Ok(Err(TryRecvError::Closed)) => Ok(Err(RecvTimeoutError::Closed)),
+        Err(error) => Err(error),
+    }
+}

@@ -1,0 +1,77 @@
+//! A log: producers write records from threads of their own, and each consumer reads all of them.
+use anyhow::Result;
+use async_broadcast::{Port, Receiver, RecvError, Sender, WakerSlot, broadcast};
+use std::alloc::{AllocError, AllocGlobal};
+use std::sync::Wait;
+use std::thread;
+use std::thread::Threads;
+
+/// How many records each producer writes.
+const RECORDS: u64 = 200;
+
+/// What a consumer saw.
+#[derive(Clone, Copy)]
+struct Seen {
+    records: u64,
+    missed: u64,
+}
+
+/// Writes the first records. They are next to one another in the log, or none is written.
+fn begin<P: Port<u64, WakerSlot>>(log: &Sender<u64, P>, header: Vec<u64>) -> bool {
+    log.try_broadcast_all(header).is_ok()
+}
+
+fn produce<P: Port<u64, WakerSlot>>(log: Sender<u64, P>, first: u64) {
+    for record in first..first.saturating_add(RECORDS) {
+        if log.broadcast_blocking(record).is_err() {
+            break;
+        }
+    }
+}
+
+/// Reads until the last producer's sender is dropped.
+fn consume<P: Port<u64, WakerSlot>>(
+    rt: &impl Wait,
+    mut log: Receiver<u64, P>,
+) -> Result<Seen, AllocError> {
+    let mut seen = Seen {
+        records: 0,
+        missed: 0,
+    };
+    for received in log.iter(rt) {
+        match received? {
+            Ok(_) => seen.records = seen.records.saturating_add(1),
+            Err(RecvError::Overflowed(n)) => seen.missed = seen.missed.saturating_add(n),
+            Err(RecvError::Closed) => break,
+        }
+    }
+    Ok(seen)
+}
+
+pub fn run<R>(rt: R) -> Result<()>
+where
+    R: Threads + Wait + AllocGlobal + Print + Copy + Send + Drop + 'static,
+{
+    let (log, one) = broadcast(rt, rt.alloc(), 8)?;
+    let two = one.clone()?;
+    let other = log.clone()?;
+    let header = vec![in rt.alloc(); 1_000, 1_001, 1_002]?;
+    println!(rt; "header written whole: {}", begin(&log, header))?;
+
+    let first = thread::spawn(&rt, move || produce(log, 0))?;
+    let second = thread::spawn(&rt, move || produce(other, RECORDS))?;
+    let reading = thread::spawn(&rt, move || consume(&rt, one))?;
+    let seen = consume(&rt, two)?;
+    println!(rt;
+        "one consumer: {} records, {} missed",
+        seen.records, seen.missed
+    )?;
+    let seen = reading.join(&rt)?;
+    println!(rt;
+        "the other: {} records, {} missed",
+        seen.records, seen.missed
+    )?;
+    first.join(&rt);
+    second.join(&rt);
+    Ok(())
+}

@@ -1,0 +1,21 @@
+//! Four programs of users of handles, one after another. Each is a module; as a program of its own
+//! its `run` is `fn main(rt: HostRuntime) -> Result<()>`.
+#![tactic(auto)]
+
+use anyhow::Result;
+
+mod config_watcher;
+mod event_hub;
+mod log_fan_out;
+mod shutdown;
+
+fn main(rt: HostRuntime) -> Result<()> {
+    println!(rt; "# event_hub")?;
+    event_hub::run(&rt)?;
+    println!(rt; "# config_watcher")?;
+    config_watcher::run(&rt)?;
+    println!(rt; "# log_fan_out")?;
+    log_fan_out::run(rt)?;
+    println!(rt; "# shutdown")?;
+    shutdown::run(rt)
+}

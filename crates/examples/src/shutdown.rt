@@ -1,0 +1,56 @@
+//! A signal to stop: it is given by the drop of its last sender. Workers first finish the jobs that
+//! they were sent before.
+use anyhow::Result;
+use async_broadcast::{Port, Receiver, WakerSlot, broadcast};
+use futures::executor::block_on;
+use futures::future::{Either, select};
+use std::alloc::AllocGlobal;
+use std::random::RandomSource;
+use std::sync::Wait;
+use std::thread;
+use std::thread::Threads;
+
+/// Does jobs until the signal is given, and then those that are left. Returns how many it did.
+fn work<R, P, Q>(rt: &R, mut jobs: Receiver<u64, P>, mut signal: Receiver<(), Q>) -> Result<u64>
+where
+    R: Wait + RandomSource + AllocGlobal,
+    P: Port<u64, WakerSlot>,
+    Q: Port<(), WakerSlot>,
+{
+    let mut done = 0u64;
+    for _ in rt.forever() {
+        match block_on(rt, select(jobs.recv_direct(), signal.recv_direct()))? {
+            Either::Left((job, _signal)) => {
+                job??;
+                done = done.saturating_add(1);
+            }
+            Either::Right(_) => break,
+        }
+    }
+    for _ in 0..u64::MAX {
+        if jobs.try_recv()?.is_err() {
+            break;
+        }
+        done = done.saturating_add(1);
+    }
+    Ok(done)
+}
+
+pub fn run<R>(rt: R) -> Result<()>
+where
+    R: Threads + Wait + RandomSource + AllocGlobal + Print + Copy + Send + Drop + 'static,
+{
+    let (jobs, one) = broadcast(rt, rt.alloc(), 2)?;
+    let (signal, told) = broadcast(rt, rt.alloc(), 1)?;
+    let two = one.clone()?;
+    let also_told = told.clone()?;
+    let first = thread::spawn(&rt, move || work(&rt, one, told))?;
+    let second = thread::spawn(&rt, move || work(&rt, two, also_told))?;
+    for job in 0..5 {
+        jobs.broadcast_blocking(job)?;
+    }
+    drop(signal);
+    println!(rt; "{} jobs done", first.join(&rt)?)?;
+    println!(rt; "{} jobs done", second.join(&rt)?)?;
+    Ok(())
+}

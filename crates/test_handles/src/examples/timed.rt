@@ -1,0 +1,33 @@
+//! Of `timed.rt`, whose calls ask a clock.
+use async_broadcast::{RecvTimeoutError, SendTimeoutError, broadcast};
+use std::test::Fail;
+use std::time::Duration;
+
+// Of `broadcast_timeout`.
+#[test]
+fn sends_in_time(rt: HostRuntime) -> Result<(), Fail> {
+    let (sender, receiver) = broadcast(rt, rt.alloc(), 1)?;
+    let limit = Duration::from_millis(1);
+    assert!(&rt; sender.broadcast_timeout(7, limit).is_ok());
+    let error = sender.broadcast_timeout(8, limit).err().ok_or("sent")?;
+    assert!(&rt; error.is_timeout() && error.into_inner() == 8);
+    drop(receiver);
+    let refused = sender.broadcast_timeout(9, limit);
+    assert!(&rt; matches!(refused, Err(SendTimeoutError::Refused(9))));
+    Ok(())
+}
+
+// Of `recv_timeout`.
+#[test]
+fn receives_in_time(rt: HostRuntime) -> Result<(), Fail> {
+    let (sender, mut receiver) = broadcast(rt, rt.alloc(), 1)?;
+    let limit = Duration::from_millis(1);
+    let received = receiver.recv_timeout(limit);
+    assert!(&rt; matches!(received, Ok(Err(RecvTimeoutError::Timeout))));
+    assert!(&rt; sender.try_broadcast(7).is_ok());
+    drop(sender);
+    assert!(&rt; matches!(receiver.recv_timeout(limit), Ok(Ok(7))));
+    let ended = receiver.recv_timeout(limit);
+    assert!(&rt; matches!(ended, Ok(Err(RecvTimeoutError::Closed))));
+    Ok(())
+}

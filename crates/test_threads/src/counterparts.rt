@@ -1,0 +1,250 @@
+//! Counterparts of those tests of async-broadcast that have threads.
+use crate::answers::{Answer, of_try_recv};
+use crate::hands::{Change, Hands, Script, Step};
+use crate::scripts::run;
+use crate::steps::{Receiving, Sending};
+use async_broadcast::{Port, WakerSlot, broadcast};
+use std::alloc::Global;
+use std::process::Abort;
+use std::sync::Wait;
+use std::test::Fail;
+use std::thread::Threads;
+
+const PARALLEL_SENDS: Script = &[
+    (Step::Meet(0), Answer::Done),
+    (Step::TrySend(0, 7), Answer::Done),
+    (Step::TrySend(1, 8), Answer::Done),
+    (Step::TrySend(1, 9), Answer::Full(9)),
+    (Step::TrySend(0, 10), Answer::Full(10)),
+    (Step::Meet(1), Answer::Done),
+    (Step::DropAll, Answer::Done),
+    (Step::Meet(2), Answer::Done),
+];
+
+const PARALLEL_RECEIVES: Script = &[
+    (Step::TryRecv(0), Answer::Empty),
+    (Step::TryRecv(1), Answer::Empty),
+    (Step::Meet(0), Answer::Done),
+    (Step::Meet(1), Answer::Done),
+    (Step::TryRecv(0), Answer::Message(7)),
+    (Step::TryRecv(0), Answer::Message(8)),
+    (Step::TryRecv(1), Answer::Message(7)),
+    (Step::TryRecv(1), Answer::Message(8)),
+    (Step::Meet(2), Answer::Done),
+    (Step::TryRecv(0), Answer::Ended),
+    (Step::TryRecv(1), Answer::Ended),
+];
+
+const WAITING_SENDS: Script = &[
+    (Step::Meet(0), Answer::Done),
+    (Step::Send(0, 7), Answer::Done),
+    (Step::Send(1, 8), Answer::Done),
+    (Step::TrySend(1, 9), Answer::Full(9)),
+    (Step::TrySend(0, 10), Answer::Full(10)),
+    (Step::Meet(1), Answer::Done),
+    (Step::Send(0, 9), Answer::Done),
+    (Step::Send(1, 10), Answer::Done),
+    (Step::DropAll, Answer::Done),
+    (Step::Meet(2), Answer::Done),
+];
+
+const WAITING_RECEIVES: Script = &[
+    (Step::TryRecv(0), Answer::Empty),
+    (Step::TryRecv(1), Answer::Empty),
+    (Step::Meet(0), Answer::Done),
+    (Step::Meet(1), Answer::Done),
+    (Step::Receive(0), Answer::Message(7)),
+    (Step::Receive(1), Answer::Message(7)),
+    (Step::Receive(0), Answer::Message(8)),
+    (Step::Receive(1), Answer::Message(8)),
+    (Step::Meet(2), Answer::Done),
+    (Step::Receive(0), Answer::Message(9)),
+    (Step::Receive(1), Answer::Message(9)),
+    (Step::Receive(0), Answer::Message(10)),
+    (Step::Receive(1), Answer::Message(10)),
+    (Step::Receive(0), Answer::Ended),
+    (Step::Receive(1), Answer::Ended),
+];
+
+/// The handles of a thread with two senders.
+fn two_senders<P: Port<u64, WakerSlot>>(
+    alloc: Global,
+    sender: Sending<P>,
+) -> Result<Hands<P>, Fail> {
+    let mut hands = Hands::new(alloc);
+    hands.senders.push(sender.clone()?)?;
+    hands.senders.push(sender)?;
+    Ok(hands)
+}
+
+/// The handles of a thread with two receivers.
+fn two_receivers<P: Port<u64, WakerSlot>>(
+    alloc: Global,
+    receiver: Receiving<P>,
+) -> Result<Hands<P>, Fail> {
+    let mut hands = Hands::new(alloc);
+    hands.receivers.push(receiver.clone()?)?;
+    hands.receivers.push(receiver)?;
+    Ok(hands)
+}
+
+/// A thread with two senders, and one with two receivers.
+fn two_threads<P: Port<u64, WakerSlot>>(
+    alloc: Global,
+    (sender, receiver): (Sending<P>, Receiving<P>),
+    sends: Script,
+    receives: Script,
+) -> Result<Vec<(Hands<P>, Script)>, Fail> {
+    let mut threads = Vec::new(alloc);
+    threads.push((two_senders(alloc, sender)?, sends))?;
+    threads.push((two_receivers(alloc, receiver)?, receives))?;
+    Ok(threads)
+}
+
+/// Plays two threads over a channel of capacity 2.
+fn play_two<R>(rt: R, alloc: Global, sends: Script, receives: Script) -> Result<(), Fail>
+where
+    R: Threads + Wait + Abort + Copy + Send + Drop + 'static,
+{
+    let channel = broadcast(rt, alloc, 2)?;
+    run(
+        rt,
+        alloc,
+        &[2, 2, 2],
+        two_threads(alloc, channel, sends, receives)?,
+    )
+}
+
+// A full channel refuses, what was sent is received, and the drop of the last sender closes.
+#[test]
+fn parallel(rt: HostRuntime) -> Result<(), Fail> {
+    play_two(rt, rt.alloc(), PARALLEL_SENDS, PARALLEL_RECEIVES)
+}
+
+// The same, with both sides waiting, and with two more messages.
+#[test]
+fn parallel_async(rt: HostRuntime) -> Result<(), Fail> {
+    play_two(rt, rt.alloc(), WAITING_SENDS, WAITING_RECEIVES)
+}
+
+const OVERFLOW_SENDS: Script = &[
+    (Step::Send(0, 7), Answer::Done),
+    (Step::Send(0, 8), Answer::Done),
+    (Step::Meet(0), Answer::Done),
+    (Step::Send(0, 9), Answer::Dropped(7)),
+    (Step::Meet(1), Answer::Done),
+];
+
+const OVERFLOW_FIRST: Script = &[
+    (Step::Receive(0), Answer::Message(7)),
+    (Step::Receive(0), Answer::Message(8)),
+    (Step::Meet(0), Answer::Done),
+    (Step::Receive(0), Answer::Message(9)),
+    (Step::Meet(1), Answer::Done),
+];
+
+const OVERFLOW_SECOND: Script = &[
+    (Step::Receive(0), Answer::Message(7)),
+    (Step::Receive(0), Answer::Message(8)),
+    (Step::Meet(0), Answer::Done),
+    (Step::Receive(0), Answer::Message(9)),
+];
+
+// A receiver that reads nothing misses what is dropped, and others get all messages.
+#[test]
+fn overflow(rt: HostRuntime) -> Result<(), Fail> {
+    let (sender, lagging) = broadcast(rt, rt.alloc(), 2)?;
+    one_lags(rt, rt.alloc(), sender, lagging)
+}
+
+fn one_lags<R, P>(
+    rt: R,
+    alloc: Global,
+    sender: Sending<P>,
+    mut lagging: Receiving<P>,
+) -> Result<(), Fail>
+where
+    R: Threads + Wait + Abort + Copy + Send + Drop + 'static,
+    P: Port<u64, WakerSlot> + Send + 'static,
+{
+    lagging.set_overflow(true);
+    run(
+        rt,
+        alloc,
+        &[3, 2],
+        overflow_threads(alloc, sender, &lagging)?,
+    )?;
+    for answer in [Answer::Missed(1), Answer::Message(8), Answer::Message(9)] {
+        assert!(&rt; of_try_recv(lagging.try_recv()) == answer);
+    }
+    Ok(())
+}
+
+/// A thread that sends, and two that receive by clones.
+fn overflow_threads<P: Port<u64, WakerSlot>>(
+    alloc: Global,
+    sender: Sending<P>,
+    receiver: &Receiving<P>,
+) -> Result<Vec<(Hands<P>, Script)>, Fail> {
+    let mut threads = Vec::new(alloc);
+    let mut hands = Hands::new(alloc);
+    hands.senders.push(sender)?;
+    threads.push((hands, OVERFLOW_SENDS))?;
+    for script in [OVERFLOW_FIRST, OVERFLOW_SECOND] {
+        let mut hands = Hands::new(alloc);
+        hands.receivers.push(receiver.clone()?)?;
+        threads.push((hands, script))?;
+    }
+    Ok(threads)
+}
+
+const OPEN_SENDS: Script = &[
+    (Step::Meet(0), Answer::Done),
+    (Step::Send(0, 7), Answer::Done),
+    (Step::Send(1, 8), Answer::Done),
+    (Step::Meet(1), Answer::Done),
+    (Step::TrySend(0, 9), Answer::Inactive(9)),
+    (Step::TrySend(1, 10), Answer::Inactive(10)),
+    (Step::Meet(2), Answer::Done),
+    (Step::Send(0, 9), Answer::Done),
+    (Step::Send(1, 10), Answer::Done),
+];
+
+const OPEN_RECEIVES: Script = &[
+    (Step::Meet(0), Answer::Done),
+    (Step::Change(Change::ActivateCloned), Answer::Done),
+    (Step::Receive(0), Answer::Message(7)),
+    (Step::Receive(0), Answer::Message(8)),
+    (Step::DropAll, Answer::Done),
+    (Step::Meet(1), Answer::Done),
+    (Step::Meet(2), Answer::Done),
+    (Step::Change(Change::Activate), Answer::Done),
+    (Step::Receive(0), Answer::Message(9)),
+    (Step::Receive(0), Answer::Message(10)),
+];
+
+// Sends that may wait do so while the only receiver is inactive, and the others are refused.
+#[test]
+fn open_channel(rt: HostRuntime) -> Result<(), Fail> {
+    let (sender, receiver) = broadcast(rt, rt.alloc(), 2)?;
+    run(
+        rt,
+        rt.alloc(),
+        &[2, 2, 2],
+        open_threads(rt.alloc(), sender, receiver)?,
+    )
+}
+
+/// A thread with two senders, and one whose receiver is inactive.
+fn open_threads<P: Port<u64, WakerSlot>>(
+    alloc: Global,
+    sender: Sending<P>,
+    receiver: Receiving<P>,
+) -> Result<Vec<(Hands<P>, Script)>, Fail> {
+    let mut receiving = Hands::new(alloc);
+    receiving.inactive = receiver.deactivate().ok();
+    let mut threads = Vec::new(alloc);
+    threads.push((two_senders(alloc, sender)?, OPEN_SENDS))?;
+    threads.push((receiving, OPEN_RECEIVES))?;
+    Ok(threads)
+}

@@ -1,0 +1,24 @@
+//! Tests of threads that wait for one another: which of them sleep in a call and what wakes them,
+//! calls with a limit, and counterparts of those tests of async-broadcast that have threads.
+#![tactic(auto)]
+
+#[cfg(test)]
+mod answers;
+#[cfg(test)]
+mod counterparts;
+#[cfg(test)]
+mod hands;
+#[cfg(test)]
+mod handshake;
+#[cfg(test)]
+mod passing_on;
+#[cfg(test)]
+mod scripts;
+#[cfg(test)]
+mod sleepers;
+#[cfg(test)]
+mod steps;
+#[cfg(test)]
+mod timed;
+#[cfg(test)]
+mod waiting;

@@ -1,0 +1,6 @@
+//! Calls that wait for so long at most, and loops that block.
+mod limits;
+mod loops;
+mod patience;
+mod runs;
+mod wakes;
