@@ -1,5 +1,5 @@
--- What calls return that wait for so long at most, and a loop that blocks.
-use Rattle.std.specs.Prelude.{ℕ, List, ◌++◌, codes, Option, Some, None, Result, Ok, Err}
+-- What calls with a limit of time return, and a loop that blocks.
+use Rattle.std.specs.Prelude.{◌≡◌, ℕ, List, ◌++◌, codes, Option, Some, None, Result, Ok, Err}
 use Rattle.std.specs.Fmt.{decimal}
 use Rattle.std.specs.declared.alloc.AllocError.{AllocError}
 use Rattle.bcast_model.specs.declared.error.RecvError.{RecvError}
@@ -34,6 +34,10 @@ module _ {T : Type 0} where
       → Result (Result T RecvError) AllocError
   as_received (Some received) = received
   as_received None = Ok (Err unreceived.Closed)
+
+  -- an item isn't `Closed`, which ends the loop
+  abbrev pub IsNoEnd : Result (Result T RecvError) AllocError → Type 0
+  IsNoEnd received = received ≡ Ok (Err unreceived.Closed) → ⊥
 
   -- `SendTimeoutError::into_inner`: the message that was not sent
   abbrev pub unsent_message : SendTimeoutError T → T

@@ -33,12 +33,19 @@ HasWokenSender v t =
 abbrev pub HasWokenReceiver : Threads → Type 0
 HasWokenReceiver t = 0 < t.due_receivers → t.is_receiver_woken ≡ true
 
--- a thread is newly noted as woken exactly if it is to be woken
-abbrev pub NotesSender : Threads → Threads → Woken → Type 0
-NotesSender old new woken = new.is_sender_woken ≡ (woken.sender || old.is_sender_woken)
+-- a thread is newly noted as woken exactly if it is to be woken: one that waits to send, if sends
+-- are ready and none is noted already
+abbrev pub NotesSender : {T : Type 0} → View T → Threads → Threads → Woken → Type 0
+NotesSender v old new woken =
+    (new.is_sender_woken ≡ (woken.sender || old.is_sender_woken))
+    × (woken.sender ≡ true
+    → (0 < old.senders) × (old.is_sender_woken ≡ false) × (is_ready v.control (is_full v) ≡ true))
 
+-- and one that has something to receive, if none is noted already
 abbrev pub NotesReceiver : Threads → Threads → Woken → Type 0
-NotesReceiver old new woken = new.is_receiver_woken ≡ (woken.receiver || old.is_receiver_woken)
+NotesReceiver old new woken =
+    (new.is_receiver_woken ≡ (woken.receiver || old.is_receiver_woken))
+    × (woken.receiver ≡ true → (0 < new.due_receivers) × (old.is_receiver_woken ≡ false))
 
 -- threads that wait for a message have something to receive, if there is more than they know
 abbrev pub MovesReceivers : {T : Type 0} → View T → Threads → Threads → Type 0

@@ -1,9 +1,9 @@
 //! A loop over the messages of a receiver, which blocks the thread.
-ghost use Rattle.std.specs.Prelude.{◌≡◌};
+ghost use Rattle.std.specs.Prelude.{◌≡◌, IfSome};
 ghost use Rattle.std.specs.Iterator.{at_most};
 ghost use Rattle.std.specs.Sync.Forever.{forever_left};
 ghost use Rattle.async_broadcast.specs.Ports.{as_try_recv};
-ghost use Rattle.async_broadcast.specs.Timed.{as_received};
+ghost use Rattle.async_broadcast.specs.Timed.{as_received, IsNoEnd};
 
 use crate::port::Port;
 use crate::receiver::Receiver;
@@ -19,7 +19,7 @@ use std::sync::{Forever, Wait};
 #[derive(Drop)]
 pub struct Iter<'a, T: Clone, P: Port<T, WakerSlot<A>>, R: Wait, A: Allocator = Global> {
     receiver: &'a mut Receiver<T, P, A>,
-    // How often the loop may wait, so that a loop over it has an end for its proof.
+    // Counts the turns of the loop, so that a proof about it has an end.
     turns: Forever<'a, R>,
 }
 
@@ -27,9 +27,9 @@ impl<T: Clone, P: Port<T, WakerSlot<A>>, A: Allocator + Copy> Receiver<T, P, A> 
     /// Receives in a loop, and blocks the thread while there is no message and the channel is
     /// open.
     ///
-    /// Rust's `for received in receiver` is `for received in receiver.iter(&rt)`. An item is a
-    /// message or `Overflowed(n)`, and never `Closed`, which ends the loop; or an `AllocError`,
-    /// after which the loop may go on.
+    /// What is `for msg in receiver` for a receiver of std's or crossbeam's is
+    /// `for received in receiver.iter(&rt)`. An item is a message, `Overflowed(n)`, or an
+    /// `AllocError`, after which the loop may go on. `Closed` is no item: it ends the loop.
     ///
     /// ```rust
     /// let (sender, mut receiver) = broadcast(&rt, rt.alloc(), 2)?;
@@ -64,6 +64,7 @@ impl<T: Clone, P: Port<T, WakerSlot<A>>, R: Wait, A: Allocator + Copy> Iterator
     ghost use Rattle.bcast_model.specs.declared.run.Reply.TheVariants as reply;
 
     ghost next_gives = { λ old item new. (new.receiver.now ≡ old.receiver.now)
+        × IfSome item IsNoEnd
         × P.gave old.receiver.now.port (call.TryRecv old.receiver.now.role.key)
         (reply.TryRecv (as_try_recv (as_received item))) };
 

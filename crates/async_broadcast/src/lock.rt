@@ -131,7 +131,7 @@ impl<T: Clone, R: Wait + Clone, A: Allocator + Copy> Lock<T, R, A> {
         self.channel.lock(&self.rt).snapshot(alloc)
     }
 
-    /// So long from now.
+    /// This long, from now.
     pub(crate) fn time_limit(&self, limit: Duration) -> TimeLimit
     where
         R: Clock,

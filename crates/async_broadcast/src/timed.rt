@@ -1,4 +1,4 @@
-//! Blocking calls that wait for so long at most.
+//! Blocking calls with a limit of time.
 ghost use Rattle.std.specs.Prelude.{◌≡◌};
 ghost use Rattle.bcast_model.specs.Words.{IsPossible};
 ghost use Rattle.async_broadcast.specs.Timed.{as_attempt, as_timed_try};
@@ -16,11 +16,11 @@ mod error;
 pub use error::{RecvTimeoutError, SendTimeoutError};
 
 impl<T: Clone, R: Wait + Clone + Clock, A: Allocator + Copy> Sender<T, Lock<T, R, A>, A> {
-    /// Sends a message as `broadcast_blocking` does, and blocks the thread for no longer than
-    /// `limit`, and for the lock.
+    /// Sends a message as `broadcast_blocking` does, and gives up once `limit` has passed. Waiting
+    /// for the lock, and until the system runs the thread again, comes on top.
     ///
-    /// It tries once more when the time is over, and before it waits at all, also with a limit of
-    /// zero. The time is over too if the clock can't be read.
+    /// It tries before it waits, also with a limit of zero, and once more when the time is over.
+    /// If the clock can't be read, the time counts as over.
     ///
     /// # Errors
     ///
@@ -55,11 +55,11 @@ impl<T: Clone, R: Wait + Clone + Clock, A: Allocator + Copy> Sender<T, Lock<T, R
 }
 
 impl<T: Clone, R: Wait + Clone + Clock, A: Allocator + Copy> Receiver<T, Lock<T, R, A>, A> {
-    /// Receives the next message as `recv_blocking` does, and blocks the thread for no longer than
-    /// `limit`, and for the lock.
+    /// Receives the next message as `recv_blocking` does, and gives up once `limit` has passed.
+    /// Waiting for the lock, and until the system runs the thread again, comes on top.
     ///
-    /// It tries once more when the time is over, and before it waits at all, also with a limit of
-    /// zero. The time is over too if the clock can't be read.
+    /// It tries before it waits, also with a limit of zero, and once more when the time is over.
+    /// If the clock can't be read, the time counts as over.
     ///
     /// # Errors
     ///

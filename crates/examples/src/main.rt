@@ -1,5 +1,5 @@
-//! Four programs of users of handles, one after another. Each is a module; as a program of its own
-//! its `run` is `fn main(rt: HostRuntime) -> Result<()>`.
+//! Four programs over handles, one after another. Each is a module; the `main` of a program of its
+//! own would call its `run`, as the one here does.
 #![tactic(auto)]
 
 use anyhow::Result;

@@ -83,7 +83,7 @@ fn gives_the_message_later<R, T, A, P>(
     msg: &T,
 ) -> Result<(), Fail>
 where
-    R: Abort + RandomSource + AllocGlobal,
+    R: Abort + Wait + RandomSource + AllocGlobal,
     T: Clone + PartialEq,
     A: Allocator + Copy,
     P: Port<T, WakerSlot<A>>,
@@ -95,6 +95,8 @@ where
         matches!(refused, Poll::Ready(Some(Err(AllocError)))),
         "no memory"
     );
+    assert!(rt; matches!(one.recv_blocking(), Err(AllocError)));
+    assert!(rt; matches!(one.iter(rt).next(), Some(Err(AllocError))));
     drop(taken);
     let later = task.poll(&mut one.next());
     assert!(rt; gives(&later, msg), "the message, later");

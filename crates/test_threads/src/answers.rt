@@ -50,7 +50,7 @@ pub fn of_send(answer: Result<Option<u64>, SendError<u64>>) -> Answer {
     }
 }
 
-/// What a send that waits for so long at most returned.
+/// What a send with a limit of time returned.
 pub fn of_send_timeout(answer: Result<Option<u64>, SendTimeoutError<u64>>) -> Answer {
     match answer {
         Ok(None) => Answer::Done,
@@ -60,7 +60,7 @@ pub fn of_send_timeout(answer: Result<Option<u64>, SendTimeoutError<u64>>) -> An
     }
 }
 
-/// What a receive that waits for so long at most returned.
+/// What a receive with a limit of time returned.
 pub fn of_recv_timeout(answer: Result<Result<u64, RecvTimeoutError>, AllocError>) -> Answer {
     match answer {
         Ok(Ok(msg)) => Answer::Message(msg),

@@ -1,6 +1,8 @@
-//! Calls that wait for so long at most, and loops that block.
+//! Calls with a limit of time, and loops that block.
+mod clock;
+mod late;
 mod limits;
 mod loops;
-mod patience;
+pub mod patience;
 mod runs;
 mod wakes;

@@ -52,18 +52,7 @@ impl<T: Clone, A: Allocator + Copy> Channel<T, A> {
     #[inline(never)]
     fn unlock_for(&self, state: Locked<'_, T, A>, woken: Woken) {
         drop(state);
-        self.wake(woken);
-    }
-
-    // Best called once the lock is free.
-    fn wake(&self, woken: Woken) {
-        let Woken { sender, receiver } = woken;
-        if sender {
-            self.ready.notify_one();
-        }
-        if receiver {
-            self.news.notify_one();
-        }
+        woken.wake(&self.ready, &self.news);
     }
 
     /// Wakes these threads, and releases the lock until the condition is notified or the time is
@@ -79,7 +68,7 @@ impl<T: Clone, A: Allocator + Copy> Channel<T, A> {
         ensures { L.is_endless → result.1 ≡ false }
     {
         if let Some(woken) = woken {
-            self.wake(woken);
+            woken.wake(&self.ready, &self.news);
         }
         limit.wait(rt, condition, state)
     }

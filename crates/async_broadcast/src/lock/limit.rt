@@ -8,11 +8,11 @@ use std::time::{Clock, Duration, Instant};
 
 /// How long a thread waits.
 pub(crate) trait Limit<R: Wait> {
-    // Holds if a wait has no end.
+    // Holds if `wait` never returns that the time is over.
     ghost is_endless: { Type 0 };
 
-    /// Releases the lock until the condition is notified or the time is over. Returns whether the
-    /// time is over.
+    /// Releases the lock until the condition is notified or the time is over, and returns whether
+    /// it is over. If it is over already, the lock is kept.
     fn wait<'a, T: Clone, A: Allocator>(
         &self,
         rt: &R,
@@ -25,7 +25,8 @@ pub(crate) trait Limit<R: Wait> {
 /// Until the call is answered.
 pub(crate) struct NoLimit;
 
-/// So long from a start. `None`: the clock can't be read, and then the time is over.
+/// This long, counted from `start`. If the clock couldn't be read, `start` is `None` and the time
+/// is over.
 #[derive(Drop)]
 pub(crate) struct TimeLimit {
     start: Option<Instant>,
@@ -33,7 +34,7 @@ pub(crate) struct TimeLimit {
 }
 
 impl TimeLimit {
-    /// So long from now.
+    /// This long, from now.
     pub(super) fn from_now(clock: &impl Clock, limit: Duration) -> TimeLimit {
         TimeLimit {
             start: Instant::now(clock).ok(),

@@ -7,11 +7,13 @@ ghost use Rattle.async_broadcast.specs.Woken.{NotesSender, NotesReceiver, MovesR
 use crate::wake::{Wake, WakerSlot};
 use bcast_core::Inner;
 use std::alloc::Allocator;
+use std::sync::Condvar;
 
 /// The threads that wait, to send or for a message, and which of them to wake.
 ///
-/// Of each kind at most one is woken at a time. It wakes the next after its own call, so that few
-/// threads want the lock at once.
+/// A call wakes at most one of each kind, and none while one is marked as woken, so that few
+/// threads want the lock at once. A thread that has tried, also one whose time is over, takes the
+/// mark away, and wakes the next.
 #[derive(Drop)]
 pub(super) struct Threads {
     // How many threads wait to send, and whether one of them was woken and hasn't tried yet.
@@ -26,15 +28,30 @@ pub(super) struct Threads {
     is_receiver_woken: bool,
 }
 
-/// Which threads to wake: one that waits to send, one that waits for a message.
+/// Which threads to wake: one that waits to send, one that waits for a message. It can't be dropped,
+/// so they have to be woken.
 pub(super) struct Woken {
-    pub(super) sender: bool,
-    pub(super) receiver: bool,
+    sender: bool,
+    receiver: bool,
 }
 
-/// A thread that is counted as one that waits to send. It can't be dropped: only when the thread has
-/// tried again it ends, so that a wake-up that was meant for it is passed on.
-pub(super) struct WaitingToSend;
+impl Woken {
+    /// Wakes them, by the condition variables that those wait on. Best called once the lock is free.
+    pub(super) fn wake(self, senders: &Condvar, receivers: &Condvar) {
+        let Woken { sender, receiver } = self;
+        if sender {
+            senders.notify_one();
+        }
+        if receiver {
+            receivers.notify_one();
+        }
+    }
+}
+
+/// A thread that is counted as one that waits to send. It can't be dropped, so it has to be given
+/// to `end_waiting_to_send`. The thread does that after its next try; `note` then wakes another if
+/// there is something for it.
+pub(super) struct WaitingToSend(());
 
 /// The same for a thread that waits for a message, with what it knew when it began (`news`).
 pub(super) struct WaitingToReceive {
@@ -71,7 +88,7 @@ impl Threads {
         ensures receives { HasWokenReceiver self.new }
 
         ensures nobody { IfNone result (self.new ≡ self.old) }
-        ensures sender { IfSome result (NotesSender self.old self.new) }
+        ensures sender { IfSome result (NotesSender inner.now self.old self.new) }
         ensures receiver { IfSome result (NotesReceiver self.old self.new) }
         ensures moved { MovesReceivers inner.now self.old self.new }
         ensures senders { self.new.senders ≡ self.old.senders }
@@ -92,7 +109,7 @@ impl Threads {
         ensures knows { KnowsNews inner.now self.new }
         ensures sends { HasWokenSender inner.now self.new }
         ensures receives { HasWokenReceiver self.new }
-        ensures sender { NotesSender self.old self.new result }
+        ensures sender { NotesSender inner.now self.old self.new result }
         ensures receiver { NotesReceiver self.old self.new result }
         ensures moved { MovesReceivers inner.now self.old self.new }
         ensures senders { self.new.senders ≡ self.old.senders }
@@ -115,7 +132,7 @@ impl Threads {
         ensures { self.new ≡ record self.old { senders = one_more self.old.senders } }
     {
         self.senders = self.senders.wrapping_add(1);
-        WaitingToSend
+        WaitingToSend(())
     }
 
     /// A thread that waited to send has tried again.
@@ -125,7 +142,7 @@ impl Threads {
           is_sender_woken = false;
         } }
     {
-        let WaitingToSend = waiting;
+        let WaitingToSend(()) = waiting;
         self.senders = self.senders.wrapping_sub(1);
         self.is_sender_woken = false;
     }

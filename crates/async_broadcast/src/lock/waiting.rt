@@ -26,7 +26,7 @@ impl<T: Clone, R: Wait + Clone, A: Allocator + Copy> Lock<T, R, A> {
                 (SendPoll::Wait(back), false) => left = back,
                 (sent, _) => return sent,
             }
-            // Others may make room at once, and then no thread has to be woken.
+            // Meanwhile others may make room, and then this thread needn't sleep and be woken.
             yield_now();
             waits = true;
         }
@@ -75,7 +75,7 @@ impl<T: Clone, R: Wait + Clone, A: Allocator + Copy> Lock<T, R, A> {
             if is_over || !is_empty(&answer) {
                 return answer;
             }
-            // Several messages may come at once, and are then received without another wait.
+            // Meanwhile several messages may come, which are then received without another wait.
             yield_now();
             waits = true;
         }

@@ -1,4 +1,4 @@
-//! The errors of calls that wait for so long at most, and their texts.
+//! The errors of calls with a limit of time, and their texts.
 ghost use Rattle.std.specs.Prelude.{◌≡◌, ◌↔◌, Some, IsTrue};
 ghost use Rattle.async_broadcast.specs.Timed.{unsent_message, send_timeout_text};
 ghost use Rattle.async_broadcast.specs.Timed.{send_timeout_debug, recv_timeout_text};
@@ -40,7 +40,8 @@ impl<T> SendTimeoutError<T> {
         }
     }
 
-    /// Whether the time was over. If not, the send can't be accepted as things are.
+    /// Whether this is `Timeout`. If not, the channel is closed, or it has no active receiver and
+    /// `await_active` is off.
     ///
     /// Source: this crate's own.
     pub fn is_timeout(&self) -> bool

@@ -126,6 +126,8 @@ fn errors_print(rt: HostRuntime) {
     let text = "sending into a closed channel";
     expect_both(&rt, rt.alloc(), &refused, text, "Refused(..)");
     assert!(&rt; late.is_timeout() && !refused.is_timeout());
+    assert!(&rt; RecvTimeoutError::Overflowed(1) != RecvTimeoutError::Overflowed(2));
+    assert!(&rt; SendTimeoutError::Timeout(1) != SendTimeoutError::Timeout(2));
     assert!(&rt; SendTimeoutError::Timeout(7).into_inner() == 7);
     assert!(&rt; SendTimeoutError::Refused(8).into_inner() == 8);
 }

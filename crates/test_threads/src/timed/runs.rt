@@ -70,7 +70,8 @@ fn run<R>(rt: R, alloc: Global, number: u64) -> Result<(), Fail>
 where
     R: Threads + Wait + Clock + Abort + Copy + Send + Drop + 'static,
 {
-    let (mut sender, receiver) = broadcast(rt, alloc, 1)?;
+    let capacity = if number % 4 < 2 { 1 } else { 2 };
+    let (mut sender, receiver) = broadcast(rt, alloc, capacity)?;
     sender.set_overflow(number % 2 == 1);
     let (other_sender, other_receiver) = (sender.clone()?, receiver.clone()?);
     let ended = Arc::new(alloc, AtomicU64::new(0))?;

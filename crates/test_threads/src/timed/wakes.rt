@@ -3,15 +3,14 @@ use crate::answers::{Answer, of_recv_timeout, of_send_timeout};
 use crate::steps::{pause, reaches};
 use async_broadcast::broadcast;
 use std::process::Abort;
+use std::sync::Arc;
 use std::sync::atomic::{AtomicU64, Ordering};
-use std::sync::{Arc, Wait};
 use std::test::Fail;
 use std::thread;
-use std::thread::{JoinHandle, Threads};
 use std::time::Duration;
 
-/// In seconds, and longer than a test may take.
-const LONG: u64 = 3600;
+/// Limits that are longer than a test may take, in seconds.
+const LONG: [u64; 2] = [3600, u64::MAX];
 
 /// How many threads began, and how many ended.
 #[derive(Drop)]
@@ -29,51 +28,86 @@ impl Counts {
     }
 }
 
-/// Waits until a thread sleeps.
-fn wait_for_sleep(rt: &impl Abort, counts: &Counts) {
-    assert!(rt; reaches(&counts.begun, 1), "it begins");
+/// Waits until so many threads sleep.
+fn wait_for_sleep(rt: &impl Abort, counts: &Counts, threads: u64) {
+    assert!(rt; reaches(&counts.begun, threads), "all begin");
     pause();
-    assert!(rt; counts.ended.load(Ordering::SeqCst) == 0, "it waits");
+    assert!(rt; counts.ended.load(Ordering::SeqCst) == 0, "all wait");
 }
 
-/// Waits until it ended its call.
-fn wait_for_end<R: Abort + Wait + Threads>(rt: &R, counts: &Counts, thread: JoinHandle<()>) {
-    assert!(rt; reaches(&counts.ended, 1), "it goes on");
-    thread.join(rt);
+/// Waits until they ended their calls.
+fn wait_for_end(rt: &impl Abort, counts: &Counts, threads: u64) {
+    assert!(rt; reaches(&counts.ended, threads), "all go on");
 }
 
 #[test]
 fn a_message_wakes_a_receive(rt: HostRuntime) -> Result<(), Fail> {
-    let (sender, mut receiver) = broadcast(rt, rt.alloc(), 1)?;
-    let counts = Arc::new(rt.alloc(), Counts::none())?;
-    let own = Arc::try_clone(&counts)?;
-    let thread = thread::spawn(&rt, move || {
-        own.begun.fetch_add(1, Ordering::SeqCst);
-        let received = of_recv_timeout(receiver.recv_timeout(Duration::from_secs(LONG)));
-        assert!(&rt; received == Answer::Message(7));
-        own.ended.fetch_add(1, Ordering::SeqCst);
-    })?;
-    wait_for_sleep(&rt, &counts);
-    assert!(&rt; sender.try_broadcast(7).is_ok());
-    wait_for_end(&rt, &counts, thread);
+    for limit in LONG {
+        let (sender, mut receiver) = broadcast(rt, rt.alloc(), 1)?;
+        let counts = Arc::new(rt.alloc(), Counts::none())?;
+        let own = Arc::try_clone(&counts)?;
+        let thread = thread::spawn(&rt, move || {
+            own.begun.fetch_add(1, Ordering::SeqCst);
+            let received = receiver.recv_timeout(Duration::from_secs(limit));
+            assert!(&rt; of_recv_timeout(received) == Answer::Message(7));
+            own.ended.fetch_add(1, Ordering::SeqCst);
+        })?;
+        wait_for_sleep(&rt, &counts, 1);
+        assert!(&rt; sender.try_broadcast(7).is_ok());
+        wait_for_end(&rt, &counts, 1);
+        thread.join(&rt);
+    }
     Ok(())
 }
 
 #[test]
 fn room_wakes_a_send(rt: HostRuntime) -> Result<(), Fail> {
-    let (sender, mut receiver) = broadcast(rt, rt.alloc(), 1)?;
-    assert!(&rt; sender.try_broadcast(7).is_ok());
+    for limit in LONG {
+        let (sender, mut receiver) = broadcast(rt, rt.alloc(), 1)?;
+        assert!(&rt; sender.try_broadcast(7).is_ok());
+        let counts = Arc::new(rt.alloc(), Counts::none())?;
+        let own = Arc::try_clone(&counts)?;
+        let thread = thread::spawn(&rt, move || {
+            own.begun.fetch_add(1, Ordering::SeqCst);
+            let sent = sender.broadcast_timeout(8, Duration::from_secs(limit));
+            assert!(&rt; of_send_timeout(sent) == Answer::Done);
+            own.ended.fetch_add(1, Ordering::SeqCst);
+        })?;
+        wait_for_sleep(&rt, &counts, 1);
+        assert!(&rt; matches!(receiver.try_recv(), Ok(Ok(7))));
+        wait_for_end(&rt, &counts, 1);
+        assert!(&rt; matches!(receiver.try_recv(), Ok(Ok(8))));
+        thread.join(&rt);
+    }
+    Ok(())
+}
+
+// Of two receivers of a full channel one has read the message, and waits for the next; a send waits
+// for the other. The end wakes both at once.
+#[test]
+fn the_end_wakes_both_sides(rt: HostRuntime) -> Result<(), Fail> {
+    let (sender, mut one) = broadcast(rt, rt.alloc(), 1)?;
+    let (other, _two) = (sender.clone()?, one.clone()?);
+    assert!(&rt; sender.try_broadcast(1).is_ok());
+    assert!(&rt; matches!(one.try_recv(), Ok(Ok(1))));
     let counts = Arc::new(rt.alloc(), Counts::none())?;
-    let own = Arc::try_clone(&counts)?;
-    let thread = thread::spawn(&rt, move || {
-        own.begun.fetch_add(1, Ordering::SeqCst);
-        let sent = of_send_timeout(sender.broadcast_timeout(8, Duration::from_secs(LONG)));
-        assert!(&rt; sent == Answer::Done);
-        own.ended.fetch_add(1, Ordering::SeqCst);
+    let (first, second) = (Arc::try_clone(&counts)?, Arc::try_clone(&counts)?);
+    let receiving = thread::spawn(&rt, move || {
+        first.begun.fetch_add(1, Ordering::SeqCst);
+        let received = one.recv_timeout(Duration::from_secs(3600));
+        assert!(&rt; of_recv_timeout(received) == Answer::Ended);
+        first.ended.fetch_add(1, Ordering::SeqCst);
     })?;
-    wait_for_sleep(&rt, &counts);
-    assert!(&rt; matches!(receiver.try_recv(), Ok(Ok(7))));
-    wait_for_end(&rt, &counts, thread);
-    assert!(&rt; matches!(receiver.try_recv(), Ok(Ok(8))));
+    let sending = thread::spawn(&rt, move || {
+        second.begun.fetch_add(1, Ordering::SeqCst);
+        let sent = other.broadcast_timeout(2, Duration::from_secs(3600));
+        assert!(&rt; of_send_timeout(sent) == Answer::Refused(2));
+        second.ended.fetch_add(1, Ordering::SeqCst);
+    })?;
+    wait_for_sleep(&rt, &counts, 2);
+    sender.close();
+    wait_for_end(&rt, &counts, 2);
+    receiving.join(&rt);
+    sending.join(&rt);
     Ok(())
 }

@@ -1,0 +1,54 @@
+//! A clock that a test sets.
+use std::io;
+use std::io::ErrorKind;
+use std::sync::atomic::{AtomicU64, Ordering};
+use std::sync::{Arc, Wait};
+use std::time::{Clock, Duration};
+
+/// What the clock shows, in seconds, and how often it was read.
+#[derive(Drop)]
+pub struct Dial {
+    pub seconds: AtomicU64,
+    pub reads: AtomicU64,
+    // After so many times it can't be read any more.
+    most: u64,
+}
+
+impl Dial {
+    /// At 0, for this many readings.
+    pub fn new(most: u64) -> Dial {
+        Dial {
+            seconds: AtomicU64::new(0),
+            reads: AtomicU64::new(0),
+            most,
+        }
+    }
+}
+
+/// A runtime whose clock shows what is set.
+#[derive(Clone, Drop)]
+pub struct SetClock<R: Wait> {
+    rt: R,
+    dial: Arc<Dial>,
+}
+
+impl<R: Wait> SetClock<R> {
+    pub fn new(rt: R, dial: Arc<Dial>) -> Self {
+        SetClock { rt, dial }
+    }
+}
+
+impl<R: Wait> Wait for SetClock<R> {}
+
+impl<R: Wait> Clock for SetClock<R> {
+    fn monotonic(&self) -> io::Result<Duration> {
+        if self.dial.reads.fetch_add(1, Ordering::SeqCst) >= self.dial.most {
+            return Err(io::Error::from(ErrorKind::Other));
+        }
+        Ok(Duration::from_secs(self.dial.seconds.load(Ordering::SeqCst)))
+    }
+
+    fn since_1970(&self) -> io::Result<Duration> {
+        Ok(Duration::ZERO)
+    }
+}
