@@ -9,5 +9,9 @@ pub mod Pointwise
 pub mod OwedBy
 -- the messages at the front that no reader owes
 pub mod Unowed
+-- a ring of which one entry changes
+pub mod Entries
 -- what a contract sees of a queue
 pub mod Queues
+-- a message that several owe is read
+pub mod Reading

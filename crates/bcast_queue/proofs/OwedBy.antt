@@ -55,6 +55,17 @@ owed_by-fewer b zero m (n ∷ ns) h e =
     cc
 owed_by-fewer b (suc i) m (n ∷ ns) h e = ap (λ xs. (b + n) ∷ xs) (owed_by-fewer (b + n) i m ns (omega arith) e)
 
+-- a reader that is taken away, at the first index perhaps from behind, is one fewer from there on
+pub owed_by-taken : (b c i m : ℕ) (ns : List ℕ) → i < length ns → c + m + 1 ≡ b + get_or ns i 0 → (0 < i → c ≡ b) → owed_by c (set ns i m) ≡ one_fewer_from i (owed_by b ns)
+owed_by-taken b c i m [] h e same = absurd (omega arith)
+owed_by-taken b c zero m (n ∷ ns) h e same =
+    let head : c + m ≡ b + n - 1 = omega (arith, e) in
+    let rest = one_fewer (b + n) (c + m) ns e in
+    cc
+owed_by-taken b c (suc i) m (n ∷ ns) h e same =
+    let front : c ≡ b = same (omega arith) in
+    ap (λ k. owed_by k (set (n ∷ ns) (suc i) m)) front ∙ owed_by-fewer b (suc i) m (n ∷ ns) h (omega (arith, e, front))
+
 pub owed_by-push : (b n : ℕ) (ns : List ℕ) → owed_by b (ns ++ n ∷ []) ≡ owed_by b ns ++ (b + sum ns + n) ∷ []
 owed_by-push b n [] = let e : b + n ≡ b + 0 + n = omega arith in ap (λ x. x ∷ []) e
 owed_by-push b n (m ∷ ns) =
@@ -84,9 +95,9 @@ pub total_le : (b t top : ℕ) (ns : List ℕ) → AreCounted b t ns → ForSome
 total_le b t top [] counted last = omega (arith, counted.empty refl)
 total_le b t top (n ∷ ns) counted last = omega (arith, counted.summed, last (b + sum (n ∷ ns)) (last-owed_by b n ns))
 
-pub total_lt : (b t top : ℕ) (ns : List ℕ) → AreCounted b t ns → 0 < length ns → ForSome (last_item (owed_by b ns)) (λ n. n < top) → t < top
-total_lt b t top [] counted some last = absurd (omega arith)
-total_lt b t top (n ∷ ns) counted some last = omega (arith, counted.summed, last (b + sum (n ∷ ns)) (last-owed_by b n ns))
+pub total_lt : (b t top : ℕ) (ns : List ℕ) → 0 < top → AreCounted b t ns → ForSome (last_item (owed_by b ns)) (λ n. n < top) → t < top
+total_lt b t top [] some counted last = omega (arith, some, counted.empty refl)
+total_lt b t top (n ∷ ns) some counted last = omega (arith, counted.summed, last (b + sum (n ∷ ns)) (last-owed_by b n ns))
 
 -- the first message of a queue that is appended to is owed
 pub first_owed : (b t n : ℕ) (ns : List ℕ) → AreCounted b t ns → 0 < t + n → 0 < b + get_or (ns ++ n ∷ []) 0 0
@@ -129,3 +140,9 @@ one_moves low zero [] h r = refl
 one_moves low (suc i) [] h r = refl
 one_moves low zero (n ∷ ns) h r = ap (λ xs. (n - 1) ∷ xs) (all_back n ns (omega (arith, r.0, h)) r.1)
 one_moves low (suc i) (n ∷ ns) h r = ap (λ xs. n ∷ xs) (one_moves n i ns (omega (arith, r.0, h)) r.1)
+
+-- the first message is still owed if a message that several readers owe is owed by one fewer
+pub first_left : (i : ℕ) (ns : List ℕ) → RisesFrom 1 ns → 1 < get_or ns i 0 → 0 < get_or (set ns i (get_or ns i 0 - 1)) 0 0
+first_left i [] r several = absurd (omega (arith, several))
+first_left zero (n ∷ ns) r several = omega (arith, several)
+first_left (suc i) (n ∷ ns) r several = omega (arith, r.0)

@@ -54,17 +54,18 @@ pub(crate) fn count_at<T, A: Allocator, C: Counter>(
     entry.next
 }
 
-// Adds a reader of the message at `index` and of those behind it, if there are any.
+// Adds a reader, who is in the total already, at the message at `index`. If there are not so many,
+// the reader owes nothing, and leaves the total.
 #[inline(always)]
-pub(crate) fn add_reader<T, A: Allocator, C: Counter>(
+pub(crate) fn read_next<T, A: Allocator, C: Counter>(
     ring: &mut HeapCircularBuffer<Entry<T>, A>,
     behind: usize,
     total: &mut usize,
     index: usize,
     steps: &mut C,
 )
-    requires summed { total.old ≡ behind + sum (counts ring.old) }
-    requires fits { index < length ring.old.items → total.old + 1 < 2 ^ 64 }
+    requires summed { total.old ≡ behind + sum (counts ring.old) + 1 }
+    requires fits { total.old < 2 ^ 64 }
     ensures owed { owed_by behind (counts ring.new)
         ≡ one_more_from index (owed_by behind (counts ring.old)) }
     ensures summed { total.new ≡ behind + sum (counts ring.new) }
@@ -73,15 +74,33 @@ pub(crate) fn add_reader<T, A: Allocator, C: Counter>(
     ensures steps { C.total steps.new ≤ C.total steps.old + 1 }
 {
     if index < ring.len() {
-        *total += 1;
         change_at(ring, index, 1, 0, steps);
+    } else {
+        *total -= 1;
+    }
+}
+
+// Takes a reader away from this message, which is at `index`. From the first message it takes one
+// that is behind it, if there is one.
+#[inline(always)]
+pub(crate) fn take_reader<T>(entry: &mut Entry<T>, behind: &mut usize, index: usize)
+    requires next { 0 < index → 0 < entry.old.next }
+    requires first { 0 < behind.old + entry.old.next }
+    ensures one { behind.new + entry.new.next + 1 ≡ behind.old + entry.old.next }
+    ensures later { 0 < index → behind.new ≡ behind.old }
+    ensures message { entry.new.message ≡ entry.old.message }
+{
+    if index == 0 && *behind > 0 {
+        *behind -= 1;
+    } else {
+        entry.next -= 1;
     }
 }
 
 // Takes a reader away from the message at `index` and from those behind it, and returns how many
-// read that message next. From the first message it takes one that is behind it, if there is one.
+// read that message next.
 #[inline(always)]
-pub(crate) fn take_reader<T, A: Allocator, C: Counter>(
+pub(crate) fn take_reader_at<T, A: Allocator, C: Counter>(
     ring: &mut HeapCircularBuffer<Entry<T>, A>,
     behind: &mut usize,
     total: &mut usize,
@@ -101,13 +120,13 @@ pub(crate) fn take_reader<T, A: Allocator, C: Counter>(
     ensures capacity { ring.new.capacity ≡ ring.old.capacity }
     ensures steps { C.total steps.new ≤ C.total steps.old + 1 }
 {
+    let Some(entry) = ring.get_mut(index) else {
+        unreachable!()
+    };
+    steps.count();
+    take_reader(entry, behind, index);
     *total -= 1;
-    if index == 0 && *behind > 0 {
-        *behind -= 1;
-        count_at(ring, 0, steps)
-    } else {
-        change_at(ring, index, 0, 1, steps)
-    }
+    entry.next
 }
 
 // Drops the messages at the front that no reader reads next, if no reader is behind them. `next`

@@ -10,7 +10,6 @@ ghost use Rattle.bcast_queue.specs.Queue.{last_item, queue_with, without};
 use circular_buffer::HeapCircularBuffer;
 use std::alloc::{AllocError, Allocator, Global};
 use std::marker::Model;
-use std::ops::Range;
 pub use steps::{Counter, Steps, Uncounted};
 
 mod counts;
@@ -125,14 +124,13 @@ impl<T, A: Allocator> Queue<T, A> {
         self.front
     }
 
-    /// The numbers of the messages: from that of the first one to that of the next one.
+    /// The number that the next message gets.
     ///
-    /// Source: `head_pos` and `head_pos + queue.len()` of async-broadcast.
-    pub fn numbers(&self) -> Range<u64>
-        ensures first { result.start ≡ self.now.front }
-        ensures next { result.end ≡ self.now.front + length self.now.messages }
+    /// Source: `head_pos + queue.len()` of async-broadcast.
+    pub fn end(&self) -> u64
+        ensures { result ≡ self.now.front + length self.now.messages }
     {
-        self.front..self.front + self.ring.len() as u64
+        self.front + self.ring.len() as u64
     }
 
     /// How many messages fit.

@@ -5,7 +5,7 @@ ghost use Rattle.std.specs.Option.{ForSome, IsSomeAnd};
 ghost use Rattle.std.specs.Result.{IsOkAnd};
 ghost use Rattle.bcast_queue.specs.Queue.{last_item, with_reader, without_reader, read_at};
 
-use crate::counts::{add_reader, drop_unowed, take_reader};
+use crate::counts::{drop_unowed, read_next, take_reader, take_reader_at};
 use crate::{Counter, Queue};
 use std::alloc::{AllocError, Allocator};
 
@@ -21,7 +21,8 @@ impl<T, A: Allocator> Queue<T, A> {
         ensures shared { self.new ≡ with_reader index self.old }
         ensures steps { C.total steps.new ≤ C.total steps.old + 1 }
     {
-        add_reader(&mut self.ring, self.behind, &mut self.total, index, steps);
+        self.total += 1;
+        read_next(&mut self.ring, self.behind, &mut self.total, index, steps);
     }
 }
 
@@ -43,7 +44,7 @@ impl<T: Drop, A: Allocator> Queue<T, A> {
         if index >= self.ring.len() {
             return;
         }
-        let next = take_reader(
+        let next = take_reader_at(
             &mut self.ring,
             &mut self.behind,
             &mut self.total,
@@ -57,26 +58,6 @@ impl<T: Drop, A: Allocator> Queue<T, A> {
 }
 
 impl<T: Clone, A: Allocator> Queue<T, A> {
-    // Takes a reader away from the message at `index` alone. Another reader must owe it too.
-    #[inline(always)]
-    fn read_next<C: Counter>(&mut self, index: usize, steps: &mut C)
-        requires within { index < length self.old.messages }
-        requires owed { 0 < index
-            → slice_index self.old.owed (index - 1) < slice_index self.old.owed index }
-        requires several { 1 < slice_index self.old.owed index }
-        ensures read { self.new ≡ read_at index self.old }
-        ensures steps { C.total steps.new ≤ C.total steps.old + 2 }
-    {
-        let before = self.total;
-        let mut total = before;
-        take_reader(&mut self.ring, &mut self.behind, &mut total, index, steps);
-        add_reader(&mut self.ring, self.behind, &mut total, index + 1, steps);
-        // Unless the message is the last one, as many owe as before, and the total isn't written.
-        if total != before {
-            self.total = total;
-        }
-    }
-
     /// Gives the message at `index` to one of its readers: a clone, or the message itself if no
     /// other reader owes it. It is the first message then, and the front moves past it.
     ///
@@ -104,7 +85,7 @@ impl<T: Clone, A: Allocator> Queue<T, A> {
         ensures refused { OnErr result (1 < slice_index self.old.owed index) }
         ensures steps { C.total steps.new ≤ C.total steps.old + 3 }
     {
-        let Some(entry) = self.ring.get(index) else {
+        let Some(entry) = self.ring.get_mut(index) else {
             unreachable!()
         };
         steps.count();
@@ -115,7 +96,14 @@ impl<T: Clone, A: Allocator> Queue<T, A> {
             return Ok(message);
         }
         let message = entry.message.clone()?;
-        self.read_next(index, steps);
+        take_reader(entry, &mut self.behind, index);
+        read_next(
+            &mut self.ring,
+            self.behind,
+            &mut self.total,
+            index + 1,
+            steps,
+        );
         Ok(message)
     }
 }

@@ -12,7 +12,6 @@ use bcast_model::messages::Messages;
 use bcast_queue::{Queue, Uncounted};
 use std::alloc::{AllocError, Allocator, Global};
 use std::marker::Model;
-use std::ops::Range;
 
 // Public only so that tests above can call it.
 pub mod cursors;
@@ -97,17 +96,7 @@ impl<T: Drop, A: Allocator + Copy> Store<T, A> {
     pub fn end(&self) -> u64
         ensures { result ≡ end_of self.now }
     {
-        self.queue.numbers().end
-    }
-
-    /// The numbers of the messages: from that of the first one to that of the next one.
-    ///
-    /// Source: `head_pos` and `head_pos + queue.len()` of async-broadcast.
-    pub fn numbers(&self) -> Range<u64>
-        ensures first { result.start ≡ self.now.front }
-        ensures next { result.end ≡ end_of self.now }
-    {
-        self.queue.numbers()
+        self.queue.end()
     }
 
     /// How many messages there are.

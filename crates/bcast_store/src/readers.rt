@@ -91,7 +91,7 @@ impl<T: Clone, A: Allocator + Copy> Store<T, A> {
         ensures err { OnErr result (self.new ≡ self.old) }
     {
         self.queue.invariant_holds();
-        let index = (number - self.queue.numbers().start) as usize;
+        let index = (number - self.queue.front()) as usize;
         let cursor = self.cursors.replace(key, number + 1).unwrap_or(number);
         match self.queue.read(index, &mut Uncounted) {
             Ok(msg) => {

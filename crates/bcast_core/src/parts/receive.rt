@@ -9,7 +9,6 @@ use bcast_model::listener::Kind;
 use bcast_queue::Counter;
 use bcast_waiting::notice::{MakesNotice, Notice, Refused};
 use std::alloc::{AllocError, Allocator};
-use std::ops::Range;
 
 impl<T: Clone, N: Notice, A: Allocator + Copy> Parts<T, N, A> {
     ghost use Rattle.bcast_model.specs.Words.{IsValidView, IsReceivedBy, receive, receive_poll};
@@ -61,12 +60,13 @@ impl<T: Clone, N: Notice, A: Allocator + Copy> Parts<T, N, A> {
         let Some(cursor) = at else {
             return Ok(Err(TryRecvError::Closed));
         };
-        let Range { start: front, end } = self.store.numbers();
+        let front = self.store.front();
         if cursor < front {
             self.skip(key);
             return Ok(Err(TryRecvError::Overflowed(front - cursor)));
         }
-        if cursor < end {
+        let index = cursor - front;
+        if index < self.store.len() as u64 {
             return match self.store.read(key, cursor) {
                 Ok(msg) => Ok(Ok(msg)),
                 Err(refused) => Err(refused),

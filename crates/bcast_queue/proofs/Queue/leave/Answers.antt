@@ -18,25 +18,25 @@ returns-then-index-len-clause-left g c =
     let long = ap (λ q. length q.messages) c.self.view_is in
     left_at_end c.args.self.now c.args.index is (omega (arith, sym long, c.if-index-len.true, c.len.ensures.len, length-map c.self.inside.ring.items message_of))
 
-pub take_reader-next-requires-clause-next : goal.take_reader-next-requires-clause-next
-take_reader-next-requires-clause-next g c = λ some.
+pub take_reader_at-next-requires-clause-next : goal.take_reader_at-next-requires-clause-next
+take_reader_at-next-requires-clause-next g c = λ some.
     let ring = c.self.inside.ring in
     let within : c.args.index < length ring.items = omega (arith, c.if-index-len.false, c.len.ensures.len) in
     somebody_next c.self.inside.behind c.args.index (counts ring) (omega (arith, within, length-map ring.items next_of)) some (rw (← c.self.view_is) at c.requires.owed some (omega (arith, within, length-map ring.items message_of)))
 
 pub drop_unowed-requires-clause-fits : goal.drop_unowed-requires-clause-fits
-drop_unowed-requires-clause-fits g c = omega (arith, c.take_reader-next.ensures.summed)
+drop_unowed-requires-clause-fits g c = omega (arith, c.take_reader_at-next.ensures.summed)
 
 pub invariant_of-self : goal.invariant_of-self
 invariant_of-self g c =
     let ring = c.self.inside.ring in
-    let left = c.take_reader-next.new.ring in
+    let left = c.take_reader_at-next.new.ring in
     let now = c.drop_unowed.new.ring in
     let k = prefix_len nobody (counts left) in
     let unowed = AreUnowed-front (counts left) in
     let is : counts now ≡ drop k (counts left) = c.drop_unowed.ensures.counts in
     let none = c.if-self-eq0.true in
-    let total : c.take_reader-next.new.total ≡ sum (counts now) = omega (arith, c.take_reader-next.ensures.summed, none, unowed.summed, ap sum is) in
+    let total : c.take_reader_at-next.new.total ≡ sum (counts now) = omega (arith, c.take_reader_at-next.ensures.summed, none, unowed.summed, ap sum is) in
     record {
       counted = record {
         summed = omega (arith, total, none);
@@ -51,40 +51,40 @@ invariant_of-self g c =
             length-drop k (counts left),
             length-map now.items next_of,
             length-map left.items next_of,
-            ap length c.take_reader-next.ensures.messages,
+            ap length c.take_reader_at-next.ensures.messages,
             length-map left.items message_of,
             length-map ring.items message_of,
             c.self.invariant.fits,
           );
-      has_room = omega (arith, c.drop_unowed.ensures.capacity, c.take_reader-next.ensures.capacity, c.self.invariant.has_room);
+      has_room = omega (arith, c.drop_unowed.ensures.capacity, c.take_reader_at-next.ensures.capacity, c.self.invariant.has_room);
     }
 
 pub returns-then-self-eq0-clause-left : goal.returns-then-self-eq0-clause-left
 returns-then-self-eq0-clause-left g c =
     let q = c.args.self.now in
-    let left = c.take_reader-next.new.ring in
+    let left = c.take_reader_at-next.new.ring in
     let k = prefix_len nobody (counts left) in
     let none = c.if-self-eq0.true in
     same_queue _ _ _ _ _ _ _ _
     (c.drop_unowed.ensures.front ∙ ap (λ p. p.front + k) c.self.view_is)
-    (c.drop_unowed.ensures.messages ∙ ap (drop k) (c.take_reader-next.ensures.messages ∙ ap (λ p. p.messages) c.self.view_is))
+    (c.drop_unowed.ensures.messages ∙ ap (drop k) (c.take_reader_at-next.ensures.messages ∙ ap (λ p. p.messages) c.self.view_is))
     (ap (λ b. owed_by b (counts c.drop_unowed.new.ring)) none ∙ ap (owed_by 0) c.drop_unowed.ensures.counts)
     (ap (λ p. p.room) c.self.view_is)
     ∙ left_front q c.args.index k (counts left)
-    (ap (λ b. owed_by b (counts left)) (sym none) ∙ c.take_reader-next.ensures.owed ∙ ap (λ p. one_fewer_from c.args.index p.owed) c.self.view_is)
+    (ap (λ b. owed_by b (counts left)) (sym none) ∙ c.take_reader_at-next.ensures.owed ∙ ap (λ p. one_fewer_from c.args.index p.owed) c.self.view_is)
     (AreUnowed-front (counts left))
 
 pub returns-else-index-eq0-clause-left : goal.returns-else-index-eq0-clause-left
 returns-else-index-eq0-clause-left g c =
     let q = c.args.self.now in
-    let b = c.take_reader-next.new.behind in
-    let left = c.take_reader-next.new.ring in
+    let b = c.take_reader_at-next.new.behind in
+    let left = c.take_reader_at-next.new.ring in
     let ns = owed_by b (counts left) in
-    let is : ns ≡ one_fewer_from c.args.index q.owed = c.take_reader-next.ensures.owed ∙ ap (λ p. one_fewer_from c.args.index p.owed) c.self.view_is in
+    let is : ns ≡ one_fewer_from c.args.index q.owed = c.take_reader_at-next.ensures.owed ∙ ap (λ p. one_fewer_from c.args.index p.owed) c.self.view_is in
     let seen : queue_with c.self.inside.front (messages left) ns c.self.inside.room ≡ queue_with q.front q.messages ns q.room =
     same_queue _ _ _ _ _ _ _ _
     (ap (λ p. p.front) c.self.view_is)
-    (c.take_reader-next.ensures.messages ∙ ap (λ p. p.messages) c.self.view_is)
+    (c.take_reader_at-next.ensures.messages ∙ ap (λ p. p.messages) c.self.view_is)
     refl
     (ap (λ p. p.room) c.self.view_is) in
     elim c.else-index-eq0.branch [

@@ -28,7 +28,7 @@ put_back m key cursor other at =
 
 back : (g : _) (c : After-replace-in-Err g) → c.replace-in-Err.new.self ≡ c.self.inside.cursors
 back g c =
-    let r = is_reading c.self.inside.queue c.self.inside.cursors c.args.self.now c.args.key c.args.number c.numbers.result.start c.self.view_is c.numbers.ensures.first c.requires.at c.requires.below in
+    let r = is_reading c.self.inside.queue c.self.inside.cursors c.args.self.now c.args.key c.args.number c.front.result c.self.view_is c.front.ensures c.requires.at c.requires.below in
     let set = rw (c.replace.ensures.value ∙ r.at) at c.replace.ensures.some in
     let there = ap (λ m. get m c.args.key) set ∙ inserted c.self.inside.cursors c.args.key (c.args.number + 1) in
     let value : c.unwrap_or-cursor.result ≡ r.cursor = rw (c.replace.ensures.value ∙ r.at) at c.unwrap_or-cursor.ensures in
@@ -39,16 +39,16 @@ back g c =
 
 pub read-requires-clause-owed : goal.read-requires-clause-owed
 read-requires-clause-owed g c = λ some.
-    let r = is_reading c.self.inside.queue c.self.inside.cursors c.args.self.now c.args.key c.args.number c.numbers.result.start c.self.view_is c.numbers.ensures.first c.requires.at c.requires.below in
-    reading_up c.self.inside.queue c.self.inside.cursors c.args.key c.args.number (c.args.number - c.numbers.result.start) c.self.invariant r some
+    let r = is_reading c.self.inside.queue c.self.inside.cursors c.args.self.now c.args.key c.args.number c.front.result c.self.view_is c.front.ensures c.requires.at c.requires.below in
+    reading_up c.self.inside.queue c.self.inside.cursors c.args.key c.args.number (c.args.number - c.front.result) c.self.invariant r some
 
 pub invariant_of-self : goal.invariant_of-self
 invariant_of-self g c =
-    let r = is_reading c.self.inside.queue c.self.inside.cursors c.args.self.now c.args.key c.args.number c.numbers.result.start c.self.view_is c.numbers.ensures.first c.requires.at c.requires.below in
+    let r = is_reading c.self.inside.queue c.self.inside.cursors c.args.self.now c.args.key c.args.number c.front.result c.self.view_is c.front.ensures c.requires.at c.requires.below in
     let n = c.invariant_holds.ensures in
     let set = rw (c.replace.ensures.value ∙ r.at) at c.replace.ensures.some in
     same_sound _ _ _ _ c.in-Ok.ensures.ok set
-    (sound_read c.self.inside.queue c.self.inside.cursors c.args.key c.args.number (c.args.number - c.numbers.result.start) c.self.invariant r (record { lengths = n.lengths; owed = n.owed }))
+    (sound_read c.self.inside.queue c.self.inside.cursors c.args.key c.args.number (c.args.number - c.front.result) c.self.invariant r (record { lengths = n.lengths; owed = n.owed }))
 
 pub invariant_of-self-in-Err : goal.invariant_of-self-in-Err
 invariant_of-self-in-Err g c =
@@ -56,27 +56,27 @@ invariant_of-self-in-Err g c =
 
 pub returns-in-Ok-clause-given : goal.returns-in-Ok-clause-given
 returns-in-Ok-clause-given g c =
-    let r = is_reading c.self.inside.queue c.self.inside.cursors c.args.self.now c.args.key c.args.number c.numbers.result.start c.self.view_is c.numbers.ensures.first c.requires.at c.requires.below in
+    let r = is_reading c.self.inside.queue c.self.inside.cursors c.args.self.now c.args.key c.args.number c.front.result c.self.view_is c.front.ensures c.requires.at c.requires.below in
     let n = c.invariant_holds.ensures in
     subst (λ s. IsHandedOut g.T.Clone.is_clone s c.args.key c.args.number c.in-Ok.msg) c.self.view_is
-    (handed_out c.self.inside.queue c.self.inside.cursors c.args.key c.args.number (c.args.number - c.numbers.result.start) c.self.invariant r g.T.Clone.is_clone c.in-Ok.msg (record { lengths = n.lengths; owed = n.owed }) c.in-Ok.ensures.moved c.in-Ok.ensures.cloned)
+    (handed_out c.self.inside.queue c.self.inside.cursors c.args.key c.args.number (c.args.number - c.front.result) c.self.invariant r g.T.Clone.is_clone c.in-Ok.msg (record { lengths = n.lengths; owed = n.owed }) c.in-Ok.ensures.moved c.in-Ok.ensures.cloned)
 
 pub returns-in-Ok-clause-ok : goal.returns-in-Ok-clause-ok
 returns-in-Ok-clause-ok g c =
-    let r = is_reading c.self.inside.queue c.self.inside.cursors c.args.self.now c.args.key c.args.number c.numbers.result.start c.self.view_is c.numbers.ensures.first c.requires.at c.requires.below in
+    let r = is_reading c.self.inside.queue c.self.inside.cursors c.args.self.now c.args.key c.args.number c.front.result c.self.view_is c.front.ensures c.requires.at c.requires.below in
     let n = c.invariant_holds.ensures in
     let m = c.invariant_holds-in-Ok.ensures in
     let set = rw (c.replace.ensures.value ∙ r.at) at c.replace.ensures.some in
     let after = subst IsCounted c.in-Ok.ensures.ok (record { lengths = m.lengths; owed = m.owed }) in
-    same_store c.read.new.self (read_at (c.args.number - c.numbers.result.start) c.self.inside.queue) c.replace.new.self (insert c.self.inside.cursors c.args.key (c.args.number + 1)) c.in-Ok.ensures.ok set
-    ∙ store_read c.self.inside.queue c.self.inside.cursors c.args.key c.args.number (c.args.number - c.numbers.result.start) c.self.invariant r (record { lengths = n.lengths; owed = n.owed }) after
+    same_store c.read.new.self (read_at (c.args.number - c.front.result) c.self.inside.queue) c.replace.new.self (insert c.self.inside.cursors c.args.key (c.args.number + 1)) c.in-Ok.ensures.ok set
+    ∙ store_read c.self.inside.queue c.self.inside.cursors c.args.key c.args.number (c.args.number - c.front.result) c.self.invariant r (record { lengths = n.lengths; owed = n.owed }) after
     ∙ ap (λ (s : Stored g.row.T.Denot). with_cursors s (insert s.cursors c.args.key (c.args.number + 1))) c.self.view_is
 
 pub returns-in-Err-clause-owed : goal.returns-in-Err-clause-owed
 returns-in-Err-clause-owed g c =
-    let r = is_reading c.self.inside.queue c.self.inside.cursors c.args.self.now c.args.key c.args.number c.numbers.result.start c.self.view_is c.numbers.ensures.first c.requires.at c.requires.below in
+    let r = is_reading c.self.inside.queue c.self.inside.cursors c.args.self.now c.args.key c.args.number c.front.result c.self.view_is c.front.ensures c.requires.at c.requires.below in
     subst (λ s. IsOwed s c.args.key c.args.number) c.self.view_is
-    (owed_by_another c.self.inside.queue c.self.inside.cursors c.args.key c.args.number (c.args.number - c.numbers.result.start) c.self.invariant r c.in-Err.ensures.refused)
+    (owed_by_another c.self.inside.queue c.self.inside.cursors c.args.key c.args.number (c.args.number - c.front.result) c.self.invariant r c.in-Err.ensures.refused)
 
 pub returns-in-Err-clause-err : goal.returns-in-Err-clause-err
 returns-in-Err-clause-err g c =

@@ -11,8 +11,8 @@ use Rattle.bcast_core.proofs.parts.Parts.receive.Goals.{in-Ok, in-Err, then-self
 
 pub returns-then-cursor-front-clause-reply : goal.returns-then-cursor-front-clause-reply
 returns-then-cursor-front-clause-reply g c =
-    let front = c.numbers-front.ensures.first ∙ ap (λ (v : View g.row.T.Denot). v.front) c.self.view_is in
-    inl (ap (λ a. reply.TryRecv (Ok a)) (sym (lagging c.args.self.now c.args.at c.in-Some.cursor c.numbers-front.result.start c.in-Some.is front c.if-cursor-front.true)))
+    let front = c.front-front.ensures ∙ ap (λ (v : View g.row.T.Denot). v.front) c.self.view_is in
+    inl (ap (λ a. reply.TryRecv (Ok a)) (sym (lagging c.args.self.now c.args.at c.in-Some.cursor c.front-front.result c.in-Some.is front c.if-cursor-front.true)))
 
 pub invariant_of-self : goal.invariant_of-self
 invariant_of-self g c =
@@ -20,11 +20,11 @@ invariant_of-self g c =
     let some = ap (λ (v : View g.row.T.Denot). is_some (get v.control.cursors c.args.key)) c.self.view_is ∙ there in
     room_read c.read.result c.self.inside.store c.read.new.self c.args.key (c.in-Some.cursor + 1) c.self.inside.receives.room some c.read.ensures.ok c.read.ensures.err c.self.invariant
 
-pub returns-then-cursor-end-clause-ok : goal.returns-then-cursor-end-clause-ok
-returns-then-cursor-end-clause-ok g c =
+pub returns-then-index-len-clause-ok : goal.returns-then-index-len-clause-ok
+returns-then-index-len-clause-ok g c =
     let v = c.args.self.now in
-    let above : v.front ≤ c.in-Some.cursor = omega (arith, c.if-cursor-front.false, c.numbers-front.ensures.first, ap (λ (x : View g.row.T.Denot). x.front) c.self.view_is) in
-    let below : c.in-Some.cursor < v.end = omega (arith, c.if-cursor-end.true, c.numbers-front.ensures.next, ap (λ (x : View g.row.T.Denot). x.end) c.self.view_is) in
+    let above : v.front ≤ c.in-Some.cursor = omega (arith, c.if-cursor-front.false, c.front-front.ensures, ap (λ (x : View g.row.T.Denot). x.front) c.self.view_is) in
+    let below : c.in-Some.cursor < v.end = omega (arith, c.if-index-len.true, c.len.ensures, c.front-front.ensures, ap (λ (x : View g.row.T.Denot). x.end) c.self.view_is) in
     let ok = on_ok_weaker c.read.result
     (λ is. view-with_cursors c.self.inside.store c.read.new.self _ c.self.inside.receives _ _ _ _ _ _ (insert c.self.inside.store.cursors c.args.key (c.in-Some.cursor + 1)) v is c.self.view_is
     ∙ ap (λ m. settle v (sets (record v.control { cursors = insert m c.args.key (c.in-Some.cursor + 1) }))) (ap (λ x. x.control.cursors) c.self.view_is)
@@ -39,8 +39,8 @@ pub returns-clause-reply : goal.returns-clause-reply
 returns-clause-reply g c =
     let v = c.args.self.now in
     let closed = ap (λ (x : View g.row.T.Denot). x.control.closed) c.self.view_is in
-    let front : v.front ≤ c.in-Some.cursor = omega (arith, c.if-cursor-front.false, c.numbers-front.ensures.first, ap (λ (x : View g.row.T.Denot). x.front) c.self.view_is) in
-    let end : v.end ≤ c.in-Some.cursor = omega (arith, c.if-cursor-end.false, c.numbers-front.ensures.next, ap (λ (x : View g.row.T.Denot). x.end) c.self.view_is) in
+    let front : v.front ≤ c.in-Some.cursor = omega (arith, c.if-cursor-front.false, c.front-front.ensures, ap (λ (x : View g.row.T.Denot). x.front) c.self.view_is) in
+    let end : v.end ≤ c.in-Some.cursor = omega (arith, c.if-index-len.false, c.len.ensures, c.front-front.ensures, ap (λ (x : View g.row.T.Denot). x.end) c.self.view_is) in
     let exact = sym (at_end v c.args.at c.in-Some.cursor c.requires.valid c.in-Some.is front end) in
     elim c.if-self.branch [
       | then-self w ↦ inl (ap reply.TryRecv (w.result-is ∙ ap Ok (ap (λ b. recv_reply b None) (sym w.if-self.true ∙ closed) ∙ exact)))

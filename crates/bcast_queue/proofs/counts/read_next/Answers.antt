@@ -3,7 +3,7 @@ use Rattle.std.proofs.Common.{ap, sym, ◌∙◌, arith}
 use Rattle.std.proofs.lemmas.List.{length-map}
 use Rattle.bcast_queue.specs.Entries.{counts, next_of, owed_by}
 use Rattle.bcast_queue.proofs.OwedBy.{length-owed_by, owed_by-more, one_more_from-end}
-use Rattle.bcast_queue.proofs.counts.add_reader.Goals as goal
+use Rattle.bcast_queue.proofs.counts.read_next.Goals as goal
 
 pub returns-then-index-len-clause-owed : goal.returns-then-index-len-clause-owed
 returns-then-index-len-clause-owed g c =
