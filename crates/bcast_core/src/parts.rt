@@ -191,10 +191,18 @@ impl<T: Drop, N: Notice, A: Allocator + Copy> Parts<T, N, A> {
 
     /// The last step of a call: tells the first send that waits, if sends are ready now and none is
     /// told already.
-    ///
-    /// It isn't inlined. The calls that are made most often first test whether a send waits.
-    #[inline(never)]
+    #[inline(always)]
     pub fn tell_a_sender(&mut self)
+        ensures { self.new ≡ tell_if_ready true self.old }
+    {
+        if !self.no_send_waits() {
+            self.tell_first_sender();
+        }
+    }
+
+    // In a function of its own, so that a call while no send waits costs one test.
+    #[inline(never)]
+    fn tell_first_sender(&mut self)
         ensures { self.new ≡ tell_if_ready true self.old }
     {
         if self.is_ready() {
@@ -204,12 +212,22 @@ impl<T: Drop, N: Notice, A: Allocator + Copy> Parts<T, N, A> {
 
     /// The last step of a call that sends: if it accepted a message, all that wait to receive are
     /// told first.
-    #[inline(never)]
+    #[inline(always)]
     pub fn tell_of_message(&mut self, is_accepted: bool)
         ensures { self.new ≡ tell_if_ready true (tell_news is_accepted self.old) }
     {
+        if !self.nobody_waits() {
+            self.tell_waiting(is_accepted);
+        }
+    }
+
+    // In a function of its own, so that a call while nobody waits costs two tests.
+    #[inline(never)]
+    fn tell_waiting(&mut self, is_accepted: bool)
+        ensures { self.new ≡ tell_if_ready true (tell_news is_accepted self.old) }
+    {
         self.tell_news(is_accepted);
-        self.tell_a_sender();
+        self.tell_first_sender();
     }
 
     // Tells all that wait to receive, if a message was accepted, and all sends, if it closed the
