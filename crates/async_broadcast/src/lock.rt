@@ -10,7 +10,7 @@ use crate::receiver::Receiver;
 use crate::sender::Sender;
 use crate::wake::{Wake, WakerSlot};
 use bcast_core::{Call, Inner, Reply, Snapshot, TryRecvError, TrySendError};
-use channel::Channel;
+use channel::{Channel, lock, locked};
 use limit::{NoLimit, TimeLimit};
 use std::alloc::{AllocError, Allocator, Global};
 use std::sync::{Arc, Wait};
@@ -128,7 +128,10 @@ impl<T: Clone, R: Wait + Clone, A: Allocator + Copy> Lock<T, R, A> {
     pub fn snapshot(&self, alloc: A) -> Result<Snapshot<T, A>, AllocError>
         ensures { IfOk result (λ snapshot. ShowsSomeState T.is_clone snapshot) }
     {
-        self.channel.lock(&self.rt).snapshot(alloc)
+        locked!(self, |inner| {
+            inner.invariant_holds();
+            inner.snapshot(alloc)
+        })
     }
 
     /// This long, from now.
@@ -142,13 +145,19 @@ impl<T: Clone, R: Wait + Clone, A: Allocator + Copy> Lock<T, R, A> {
     pub(crate) fn unread(&self, key: usize) -> usize
         ensures { (v : View T) × IsShown v × (result ≡ unread v key) }
     {
-        self.channel.lock(&self.rt).unread(key)
+        locked!(self, |inner| {
+            inner.invariant_holds();
+            inner.unread(key)
+        })
     }
 
     pub(crate) fn missed(&self, key: usize) -> u64
         ensures { (v : View T) × IsShown v × (result ≡ missed v key) }
     {
-        self.channel.lock(&self.rt).missed(key)
+        locked!(self, |inner| {
+            inner.invariant_holds();
+            inner.missed(key)
+        })
     }
 }
 
@@ -161,26 +170,14 @@ impl<T: Clone, R: Wait + Clone, A: Allocator + Copy> Port<T, WakerSlot<A>> for L
     fn try_broadcast(&self, msg: T) -> Result<Option<T>, TrySendError<T>>
         ensures { IsPossible T.is_clone (Call.TryBroadcast msg) (Reply.TryBroadcast result) }
     {
-        let channel = &*self.channel;
-        let mut state = channel.lock(&self.rt);
-        let locked = &mut *state;
-        let sent = locked.inner.try_broadcast(msg);
-        let woken = locked.threads.note(&locked.inner);
-        channel.unlock(state, woken);
-        sent
+        locked!(self, |inner| inner.try_broadcast(msg))
     }
 
     #[inline(always)]
     fn try_recv(&self, key: usize) -> Result<Result<T, TryRecvError>, AllocError>
         ensures { IsPossible T.is_clone (Call.TryRecv key) (Reply.TryRecv result) }
     {
-        let channel = &*self.channel;
-        let mut state = channel.lock(&self.rt);
-        let locked = &mut *state;
-        let received = locked.inner.try_recv(key);
-        let woken = locked.threads.note(&locked.inner);
-        channel.unlock(state, woken);
-        received
+        locked!(self, |inner| inner.try_recv(key))
     }
 
     fn ask_waiting(&self, call: Call<T>) -> Reply<T>

@@ -4,6 +4,7 @@ ghost use Rattle.futures.specs.Task.{IsArmed, Keeps};
 ghost use Rattle.bcast_model.specs.Words.{HasPositiveCapacity, IsPossible, must_wait};
 
 use super::Lock;
+use super::channel::{lock, locked};
 use crate::port::Ask;
 use crate::wake::making::{ForTask, RegistersIn};
 use crate::wake::{Registers, Wake, WakerSlot};
@@ -50,13 +51,7 @@ impl<T: Clone, R: Wait + Clone, A: Allocator + Copy> Ask<T, WakerSlot<A>> for Lo
         requires { HasPositiveCapacity call }
         ensures { IsPossible T.is_clone call result }
     {
-        let channel = &*self.channel;
-        let mut state = channel.lock(&self.rt);
-        let locked = &mut *state;
-        let reply = step(&mut locked.inner, call, wake);
-        let woken = locked.threads.note(&locked.inner);
-        channel.unlock(state, woken);
-        reply
+        locked!(self, |inner| step(inner, call, wake))
     }
 
     #[inline(always)]
@@ -80,26 +75,14 @@ impl<T: Clone, R: Wait + Clone, A: Allocator + Copy> Ask<T, WakerSlot<A>> for Lo
         ensures answered { IfOk result (λ reply. must_wait reply ≡ false
             → (task.new ≡ task.old) × (cx.new ≡ cx.old)) }
     {
-        let channel = &*self.channel;
-        let mut state = channel.lock(&self.rt);
-        let locked = &mut *state;
-        let answer = poll_for(&mut locked.inner, call, task, cx);
-        let woken = locked.threads.note(&locked.inner);
-        channel.unlock(state, woken);
-        answer
+        locked!(self, |inner| poll_for(inner, call, task, cx))
     }
 
     #[inline(always)]
     fn begin_send(&self) -> Result<usize, AllocError>
         ensures { IsPossible T.is_clone Call.BeginSend (Reply.BeginSend result) }
     {
-        let channel = &*self.channel;
-        let mut state = channel.lock(&self.rt);
-        let locked = &mut *state;
-        let begun = locked.inner.begin_send();
-        let woken = locked.threads.note(&locked.inner);
-        channel.unlock(state, woken);
-        begun
+        locked!(self, |inner| inner.begin_send())
     }
 
     // An answered poll has taken its listener off the list, and no other poll can have put it
@@ -111,12 +94,6 @@ impl<T: Clone, R: Wait + Clone, A: Allocator + Copy> Ask<T, WakerSlot<A>> for Lo
         if is_answered {
             return Wake::none();
         }
-        let channel = &*self.channel;
-        let mut state = channel.lock(&self.rt);
-        let locked = &mut *state;
-        let wake = locked.inner.take_future(key);
-        let woken = locked.threads.note(&locked.inner);
-        channel.unlock(state, woken);
-        wake.unwrap_or(Wake::none())
+        locked!(self, |inner| inner.take_future(key)).unwrap_or(Wake::none())
     }
 }

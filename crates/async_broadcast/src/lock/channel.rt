@@ -12,7 +12,7 @@ use std::sync::{Condvar, Mutex, MutexGuard, Wait};
 /// A channel behind its lock.
 #[derive(Drop)]
 pub(super) struct Channel<T: Clone, A: Allocator> {
-    state: Mutex<State<T, A>>,
+    pub(super) state: Mutex<State<T, A>>,
     /// Notified once a thread that waits to send should try again.
     pub(super) ready: Condvar,
     /// Notified once a thread that waits for a message should try again.
@@ -28,15 +28,6 @@ impl<T: Clone, A: Allocator + Copy> Channel<T, A> {
             state: Mutex::new(State::new(inner)),
             ready: Condvar::new(),
             news: Condvar::new(),
-        }
-    }
-
-    /// Tries once before it waits, since most often the lock is free.
-    #[inline(always)]
-    pub(super) fn lock(&self, rt: &impl Wait) -> Locked<'_, T, A> {
-        match self.state.try_lock() {
-            Some(state) => state,
-            None => self.state.lock(rt),
         }
     }
 
@@ -73,3 +64,33 @@ impl<T: Clone, A: Allocator + Copy> Channel<T, A> {
         limit.wait(rt, condition, state)
     }
 }
+
+/// Takes the lock of a channel. Tries once before it waits, since most often the lock is free.
+///
+/// It is a macro, since the compiler adds a test after each call of a function that may wait.
+macro_rules! lock {
+    ($channel:expr, $rt:expr) => {
+        match $channel.state.try_lock() {
+            Some(state) => state,
+            None => $channel.state.lock($rt),
+        }
+    };
+}
+
+/// Makes a call on the channel of a port, while its lock is held, and then wakes the threads that
+/// can do something.
+macro_rules! locked {
+    ($port:expr, |$inner:ident| $call:expr) => {{
+        let channel = &*$port.channel;
+        let mut state = lock!(channel, &$port.rt);
+        let locked = &mut *state;
+        let $inner = &mut locked.inner;
+        let reply = $call;
+        let woken = locked.threads.note(&locked.inner);
+        channel.unlock(state, woken);
+        reply
+    }};
+}
+
+pub(super) use lock;
+pub(super) use locked;

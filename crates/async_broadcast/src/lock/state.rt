@@ -1,14 +1,11 @@
 //! What the lock guards: the channel, and the threads that wait for it.
-ghost use Rattle.std.specs.Prelude.{◌≡◌, false, IfOk};
-ghost use Rattle.bcast_core.specs.Snapshot.{Shows};
-ghost use Rattle.bcast_model.specs.Words.{View, IsShown, unread, missed};
-ghost use Rattle.async_broadcast.specs.Snapshots.{ShowsSomeState};
+ghost use Rattle.std.specs.Prelude.{◌≡◌, false};
 ghost use Rattle.async_broadcast.specs.Woken.{HasNoThread, KnowsNews, HasWokenSender, HasWokenReceiver};
 
 use super::threads::Threads;
 use crate::wake::{Wake, WakerSlot};
-use bcast_core::{Inner, Snapshot};
-use std::alloc::{AllocError, Allocator};
+use bcast_core::Inner;
+use std::alloc::Allocator;
 
 /// Once the lock is taken, it is noted of every earlier call which threads it has to wake.
 #[derive(Drop)]
@@ -32,31 +29,5 @@ impl<T: Clone, A: Allocator + Copy> State<T, A> {
             inner,
             threads: Threads::none(),
         }
-    }
-
-    /// The view of the channel.
-    pub(super) fn snapshot(&self, alloc: A) -> Result<Snapshot<T, A>, AllocError>
-        ensures shows { IfOk result (λ snapshot. Shows T.is_clone snapshot self.now.inner) }
-        ensures valid { IfOk result (λ snapshot. ShowsSomeState T.is_clone snapshot) }
-    {
-        self.inner.invariant_holds();
-        let snapshot = self.inner.snapshot(alloc)?;
-        Ok(snapshot)
-    }
-
-    /// How many messages the receiver `key` has still to read.
-    pub(super) fn unread(&self, key: usize) -> usize
-        ensures { (v : View T) × IsShown v × (result ≡ unread v key) }
-    {
-        self.inner.invariant_holds();
-        self.inner.unread(key)
-    }
-
-    /// How many messages the receiver `key` missed.
-    pub(super) fn missed(&self, key: usize) -> u64
-        ensures { (v : View T) × IsShown v × (result ≡ missed v key) }
-    {
-        self.inner.invariant_holds();
-        self.inner.missed(key)
     }
 }

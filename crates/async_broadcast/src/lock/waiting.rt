@@ -5,6 +5,7 @@ ghost use Rattle.bcast_model.specs.declared.run.Call.TheVariants as call;
 ghost use Rattle.async_broadcast.specs.Kinds.{is_answer};
 
 use super::Lock;
+use super::channel::lock;
 use super::limit::Limit;
 use bcast_core::{Reply, SendPoll, TryRecvError};
 use std::alloc::{AllocError, Allocator};
@@ -41,7 +42,7 @@ impl<T: Clone, R: Wait + Clone, A: Allocator + Copy> Lock<T, R, A> {
         ensures endless { L.is_endless → result.1 ≡ false }
     {
         let channel = &*self.channel;
-        let mut state = channel.lock(&self.rt);
+        let mut state = lock!(channel, &self.rt);
         let locked = &mut *state;
         let sent = locked.inner.attempt_send(msg);
         if !waits || !must_wait(&sent) {
@@ -94,7 +95,7 @@ impl<T: Clone, R: Wait + Clone, A: Allocator + Copy> Lock<T, R, A> {
         ensures endless { L.is_endless → result.1 ≡ false }
     {
         let channel = &*self.channel;
-        let mut state = channel.lock(&self.rt);
+        let mut state = lock!(channel, &self.rt);
         let locked = &mut *state;
         let answer = locked.inner.try_recv(key);
         if !waits || !is_empty(&answer) {

@@ -5,7 +5,7 @@ use Rattle.bcast_model.proofs.Clones.{answers_any}
 use Rattle.async_broadcast.proofs.lock.LockPortWakerSlot.try_broadcast.Goals as goal
 
 pub returns : goal.returns
-returns g c = possible {is_clone = g.T.Clone.is_clone} refl (answers_any c.try_broadcast-sent.ensures)
+returns g c = possible {is_clone = g.T.Clone.is_clone} refl (answers_any c.try_broadcast-reply.ensures)
 
 pub invariant_of-locked : goal.invariant_of-locked
 invariant_of-locked g c =
