@@ -43,7 +43,7 @@ pub use handle::{Handle, Role};
 pub use inactive::{Inactive, InactiveReceiver};
 pub use iter::Iter;
 pub use lock::{Lock, LockInactiveReceiver, LockReceiver, LockSender, broadcast};
-pub use port::{Ask, Port};
+pub use port::{Ask, Port, TimedPort};
 pub use receiver::{Receiver, Receiving};
 pub use sender::{Sender, Sending};
 pub use timed::{RecvTimeoutError, SendTimeoutError};

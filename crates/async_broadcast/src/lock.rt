@@ -5,7 +5,7 @@ ghost use Rattle.async_broadcast.specs.Kinds.{may_wait, is_answer};
 ghost use Rattle.async_broadcast.specs.Snapshots.{ShowsSomeState};
 
 use crate::inactive::InactiveReceiver;
-use crate::port::Port;
+use crate::port::{Port, TimedPort};
 use crate::receiver::Receiver;
 use crate::sender::Sender;
 use crate::wake::{Wake, WakerSlot};
@@ -134,14 +134,6 @@ impl<T: Clone, R: Wait + Clone, A: Allocator + Copy> Lock<T, R, A> {
         })
     }
 
-    /// This long, from now.
-    pub(crate) fn time_limit(&self, limit: Duration) -> TimeLimit
-    where
-        R: Clock,
-    {
-        TimeLimit::from_now(&self.rt, limit)
-    }
-
     pub(crate) fn unread(&self, key: usize) -> usize
         ensures { (v : View T) × IsShown v × (result ≡ unread v key) }
     {
@@ -185,17 +177,23 @@ impl<T: Clone, R: Wait + Clone, A: Allocator + Copy> Port<T, WakerSlot<A>> for L
         ensures reply { IsPossible T.is_clone call result }
         ensures answered { is_answer result ≡ true }
     {
-        match call {
-            Call::AttemptSend(msg) => Reply::AttemptSend(self.send_waiting(msg, &NoLimit)),
-            Call::TryRecv(key) => Reply::TryRecv(self.receive_waiting(key, &NoLimit)),
-            _ => unreachable!(),
-        }
+        self.ask_within(call, &NoLimit)
     }
 
     fn same(&self) -> Option<Self> {
         let channel = Arc::try_clone(&self.channel).ok()?;
         let rt = self.rt.clone().ok()?;
         Some(Lock { channel, rt })
+    }
+}
+
+impl<T: Clone, R: Wait + Clone + Clock, A: Allocator + Copy> TimedPort<T, WakerSlot<A>>
+    for Lock<T, R, A> {
+    fn ask_timeout(&self, call: Call<T>, limit: Duration) -> Reply<T>
+        requires { may_wait call ≡ true }
+        ensures { IsPossible T.is_clone call result }
+    {
+        self.ask_within(call, &TimeLimit::from_now(&self.rt, limit))
     }
 }
 

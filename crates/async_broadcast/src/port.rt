@@ -10,6 +10,7 @@ use crate::wake::{Registers, Wake};
 use bcast_core::{Call, Reply, TryRecvError, TrySendError};
 use futures::task::Context;
 use std::alloc::AllocError;
+use std::time::Duration;
 
 /// The way from a handle to its channel: it makes a call, and returns its reply.
 ///
@@ -118,4 +119,14 @@ pub trait Port<T: Clone, S>: Ask<T, S> {
     fn same(&self) -> Option<Self>
         ensures channel { IfSome result (λ port. IsSame Self.gave port self.now) }
         ensures refused { IfNone result (lacks_memory self.now) };
+}
+
+/// A port that can also wait with a limit of time. `Lock` is one if its runtime has a clock.
+pub trait TimedPort<T: Clone, S>: Port<T, S> {
+    /// Makes an `AttemptSend` or a `TryRecv` again and again, and waits between, until its reply
+    /// is something other than `Wait` or `Empty`, or `limit` has passed. It tries once more then,
+    /// and that reply is returned. If the clock can't be read, the time counts as over.
+    fn ask_timeout(&self, call: Call<T>, limit: Duration) -> Reply<T>
+        requires { may_wait call ≡ true }
+        ensures { Self.gave self.now call result };
 }

@@ -1,21 +1,20 @@
 //! Blocking calls with a limit of time.
 ghost use Rattle.std.specs.Prelude.{◌≡◌};
-ghost use Rattle.bcast_model.specs.Words.{IsPossible};
 ghost use Rattle.async_broadcast.specs.Timed.{as_attempt, as_timed_try};
 
-use crate::lock::Lock;
+use crate::port::TimedPort;
 use crate::receiver::Receiver;
 use crate::sender::Sender;
+use crate::wake::WakerSlot;
 use bcast_core::{Call, Reply, SendError, SendPoll, TryRecvError};
 use std::alloc::{AllocError, Allocator};
-use std::sync::Wait;
-use std::time::{Clock, Duration};
+use std::time::Duration;
 
 mod error;
 
 pub use error::{RecvTimeoutError, SendTimeoutError};
 
-impl<T: Clone, R: Wait + Clone + Clock, A: Allocator + Copy> Sender<T, Lock<T, R, A>, A> {
+impl<T: Clone, P: TimedPort<T, WakerSlot<A>>, A: Allocator + Copy> Sender<T, P, A> {
     /// Sends a message as `broadcast_blocking` does, and gives up once `limit` has passed. Waiting
     /// for the lock, and until the system runs the thread again, comes on top.
     ///
@@ -47,14 +46,17 @@ impl<T: Clone, R: Wait + Clone + Clock, A: Allocator + Copy> Sender<T, Lock<T, R
         msg: T,
         limit: Duration,
     ) -> Result<Option<T>, SendTimeoutError<T>>
-        ensures { IsPossible T.is_clone (Call.AttemptSend msg)
+        ensures { P.gave self.now.port (Call.AttemptSend msg)
             (Reply.AttemptSend (as_attempt result)) }
     {
-        sent_in_time(self.port.send_waiting(msg, &self.port.time_limit(limit)))
+        match self.port.ask_timeout(Call::AttemptSend(msg), limit) {
+            Reply::AttemptSend(sent) => sent_in_time(sent),
+            _ => unreachable!(),
+        }
     }
 }
 
-impl<T: Clone, R: Wait + Clone + Clock, A: Allocator + Copy> Receiver<T, Lock<T, R, A>, A> {
+impl<T: Clone, P: TimedPort<T, WakerSlot<A>>, A: Allocator + Copy> Receiver<T, P, A> {
     /// Receives the next message as `recv_blocking` does, and gives up once `limit` has passed.
     /// Waiting for the lock, and until the system runs the thread again, comes on top.
     ///
@@ -87,12 +89,14 @@ impl<T: Clone, R: Wait + Clone + Clock, A: Allocator + Copy> Receiver<T, Lock<T,
         &mut self,
         limit: Duration,
     ) -> Result<Result<T, RecvTimeoutError>, AllocError>
-        ensures asked { IsPossible T.is_clone (Call.TryRecv self.old.role.key)
+        ensures asked { P.gave self.old.port (Call.TryRecv self.old.role.key)
             (Reply.TryRecv (as_timed_try result)) }
         ensures same { self.new ≡ self.old }
     {
-        let limit = self.port.time_limit(limit);
-        received_in_time(self.port.receive_waiting(self.role.key, &limit))
+        match self.port.ask_timeout(Call::TryRecv(self.role.key), limit) {
+            Reply::TryRecv(received) => received_in_time(received),
+            _ => unreachable!(),
+        }
     }
 }
 

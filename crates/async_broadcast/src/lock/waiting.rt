@@ -1,13 +1,12 @@
 //! Calls of threads that wait until they are answered, or their time is over.
 ghost use Rattle.std.specs.Prelude.{◌≡◌, true, false, not};
 ghost use Rattle.bcast_model.specs.Answers.{IsPossible};
-ghost use Rattle.bcast_model.specs.declared.run.Call.TheVariants as call;
-ghost use Rattle.async_broadcast.specs.Kinds.{is_answer};
+ghost use Rattle.async_broadcast.specs.Kinds.{may_wait, is_answer};
 
 use super::Lock;
 use super::channel::lock;
 use super::limit::Limit;
-use bcast_core::{Reply, SendPoll, TryRecvError};
+use bcast_core::{Call, Reply, SendPoll, TryRecvError};
 use std::alloc::{AllocError, Allocator};
 use std::sync::Wait;
 use std::thread::yield_now;
@@ -15,9 +14,23 @@ use std::thread::yield_now;
 type Received<T> = Result<Result<T, TryRecvError>, AllocError>;
 
 impl<T: Clone, R: Wait + Clone, A: Allocator + Copy> Lock<T, R, A> {
-    /// Sends a message, and waits while it must. `Wait`: the time is over.
-    pub(crate) fn send_waiting<L: Limit<R>>(&self, msg: T, limit: &L) -> SendPoll<T>
-        ensures reply { IsPossible T.is_clone (call.AttemptSend msg) (Reply.AttemptSend result) }
+    /// Makes an `AttemptSend` or a `TryRecv`, and waits while it must. `Wait` or `Empty`: the time
+    /// is over.
+    pub(crate) fn ask_within<L: Limit<R>>(&self, call: Call<T>, limit: &L) -> Reply<T>
+        requires { may_wait call ≡ true }
+        ensures reply { IsPossible T.is_clone call result }
+        ensures answered { L.is_endless → is_answer result ≡ true }
+    {
+        match call {
+            Call::AttemptSend(msg) => Reply::AttemptSend(self.send_waiting(msg, limit)),
+            Call::TryRecv(key) => Reply::TryRecv(self.receive_waiting(key, limit)),
+            _ => unreachable!(),
+        }
+    }
+
+    // Sends a message, and waits while it must. `Wait`: the time is over.
+    fn send_waiting<L: Limit<R>>(&self, msg: T, limit: &L) -> SendPoll<T>
+        ensures reply { IsPossible T.is_clone (Call.AttemptSend msg) (Reply.AttemptSend result) }
         ensures answered { L.is_endless → is_answer (Reply.AttemptSend result) ≡ true }
     {
         let mut left = msg;
@@ -37,7 +50,7 @@ impl<T: Clone, R: Wait + Clone, A: Allocator + Copy> Lock<T, R, A> {
     // Tries to send, and if it must wait and `waits`, waits once and tries again. Returns also
     // whether the time is over.
     fn send_or_wait<L: Limit<R>>(&self, msg: T, waits: bool, limit: &L) -> (SendPoll<T>, bool)
-        ensures reply { IsPossible T.is_clone (call.AttemptSend msg)
+        ensures reply { IsPossible T.is_clone (Call.AttemptSend msg)
             (Reply.AttemptSend result.0) }
         ensures endless { L.is_endless → result.1 ≡ false }
     {
@@ -65,9 +78,9 @@ impl<T: Clone, R: Wait + Clone, A: Allocator + Copy> Lock<T, R, A> {
         (sent, is_over)
     }
 
-    /// Receives a message, and waits while there is none. `Empty`: the time is over.
-    pub(crate) fn receive_waiting<L: Limit<R>>(&self, key: usize, limit: &L) -> Received<T>
-        ensures reply { IsPossible T.is_clone (call.TryRecv key) (Reply.TryRecv result) }
+    // Receives a message, and waits while there is none. `Empty`: the time is over.
+    fn receive_waiting<L: Limit<R>>(&self, key: usize, limit: &L) -> Received<T>
+        ensures reply { IsPossible T.is_clone (Call.TryRecv key) (Reply.TryRecv result) }
         ensures answered { L.is_endless → is_answer (Reply.TryRecv result) ≡ true }
     {
         let mut waits = false;
@@ -91,7 +104,7 @@ impl<T: Clone, R: Wait + Clone, A: Allocator + Copy> Lock<T, R, A> {
         waits: bool,
         limit: &L,
     ) -> (Received<T>, bool)
-        ensures reply { IsPossible T.is_clone (call.TryRecv key) (Reply.TryRecv result.0) }
+        ensures reply { IsPossible T.is_clone (Call.TryRecv key) (Reply.TryRecv result.0) }
         ensures endless { L.is_endless → result.1 ≡ false }
     {
         let channel = &*self.channel;
