@@ -7,18 +7,13 @@ use Rattle.bcast_text.specs.declared.script.command.Command.TheVariants.{Script,
 use Rattle.bcast_text.proofs.script.command.Command.from_words.Goals as goal
 
 single : {X : Type 0} (xs : List X) (x : X) → length xs ≡ 1 → x ≡ get_or xs 0 x → xs ≡ x ∷ []
-single [] x one is = absurd (omega arith)
 single (y ∷ []) x one is = grind (arith, is)
-single (y ∷ z ∷ ys) x one is = absurd (omega arith)
+single xs x one is = absurd (omega (arith, one))
 
 four : {X : Type 0} (xs : List X) (x y z w : X) → length xs ≡ 4 → x ≡ get_or xs 0 x → y ≡ get_or xs 1 y → z ≡ get_or xs 2 z → w ≡ get_or xs 3 w
     → xs ≡ x ∷ y ∷ z ∷ w ∷ []
-four [] x y z w long a b c d = absurd (omega arith)
-four (i ∷ []) x y z w long a b c d = absurd (omega arith)
-four (i ∷ j ∷ []) x y z w long a b c d = absurd (omega arith)
-four (i ∷ j ∷ k ∷ []) x y z w long a b c d = absurd (omega arith)
 four (i ∷ j ∷ k ∷ l ∷ []) x y z w long a b c d = rw (a, b, c, d) refl
-four (i ∷ j ∷ k ∷ l ∷ m ∷ xs) x y z w long a b c d = absurd (omega arith)
+four xs x y z w long a b c d = absurd (omega (arith, long))
 
 -- a command that words ask for is asked for by equal words
 spelt : (found : Option Command) (words others : List (List ℕ)) → words ≡ others
