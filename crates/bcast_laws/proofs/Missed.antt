@@ -16,14 +16,10 @@ use Rattle.bcast_model.proofs.Cases.{tell_is}
 use Rattle.bcast_model.proofs.Views.{valid_view, lagging}
 use Rattle.bcast_model.proofs.DeliveryLists.{past_end}
 use Rattle.bcast_model.proofs.DeliveryMaps.{inserted}
+use Rattle.bcast_model.proofs.DeliverySteps.{found_reached}
 use Rattle.bcast_model.proofs.Front.{front-le-cursor}
 
 module _ {T : Type 0} where
-  missed : (closed : Bool) (o : Option T) (n : ℕ) → ◌≡◌ {A = Result T TryRecvError} (recv_reply closed o) (Err (unread.Overflowed n)) → ⊥
-  missed closed (Some msg) n e = cc
-  missed true None n e = cc
-  missed false None n e = cc
-
   same_count : (m n : ℕ) → ◌≡◌ {A = Result T TryRecvError} (Err (unread.Overflowed m)) (Err (unread.Overflowed n)) → m ≡ n
   same_count m n e = cc
 
@@ -35,11 +31,11 @@ module _ {T : Type 0} where
     count : v.front - cursor ≡ n
 
   lags_at : (v : View T) (key n : ℕ) (cursor : Option ℕ) → cursor_of v.control key ≡ cursor → try_recv_reply v cursor ≡ Err (unread.Overflowed n) → Lags v key n
-  lags_at v key n None at e = absurd (missed true None n e)
+  lags_at v key n None at e = absurd (found_reached true None n e)
   lags_at v key n (Some cursor) at e =
       elim (nat_lt cursor v.front) as (λ b. nat_lt cursor v.front ≡ b → cond b (Err (unread.Overflowed (v.front - cursor))) (recv_reply v.control.closed (kept_at v cursor)) ≡ Err (unread.Overflowed n) → Lags v key n) [
         | true ↦ λ t e. record { cursor = cursor; at = at; low = grind (arith, common_steps, t); count = same_count (v.front - cursor) n e }
-        | false ↦ λ t e. absurd (missed v.control.closed (kept_at v cursor) n e)
+        | false ↦ λ t e. absurd (found_reached v.control.closed (kept_at v cursor) n e)
       ] refl e
 
   pub finds : (closed : Bool) (items : List T) (index : ℕ) (o : Option T) → index < length items → slice_get items index ≡ o → IsOk (recv_reply closed o)

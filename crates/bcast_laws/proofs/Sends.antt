@@ -50,21 +50,18 @@ module _ {T : Type 0} where
 
   adds_attempt : (v : View T) (msg : T) (await : Bool) (answer : Result (Option T) (TrySendError T)) → (cond (is_ok answer) (accept v msg) (sets v.control)).accepted ≡ added (is_accepted (reply.AttemptSend (reply_to_attempt await answer))) (msg ∷ [])
   adds_attempt v msg await (Ok back) = refl
-  adds_attempt v msg await (Err (unsent.Closed m)) = refl
-  adds_attempt v msg true (Err (unsent.Inactive m)) = refl
-  adds_attempt v msg false (Err (unsent.Inactive m)) = refl
   adds_attempt v msg await (Err (unsent.Full m)) = refl
+  adds_attempt v msg true (Err (unsent.Inactive m)) = refl
+  adds_attempt v msg await answer = refl
 
   -- a poll returns what an attempt does
   as_attempt : (answer : SendPoll T) → is_accepted (reply.PollSend answer) ≡ is_accepted (reply.AttemptSend answer)
   as_attempt (send.Ready (Ok back)) = refl
-  as_attempt (send.Ready (Err error)) = refl
-  as_attempt (send.Wait msg) = refl
+  as_attempt answer = refl
 
   waits_unaccepted : (answer : SendPoll T) → must_wait (reply.PollSend answer) ≡ true → is_accepted (reply.PollSend answer) ≡ false
   waits_unaccepted (send.Ready (Ok back)) e = apart e
-  waits_unaccepted (send.Ready (Err error)) e = refl
-  waits_unaccepted (send.Wait msg) e = refl
+  waits_unaccepted answer e = refl
 
   adds_poll : (is_clone : T → T → Type 0) (v : View T) (place : ℕ) (msg : T) (r : Reply T) → Legal is_clone v (call.PollSend place msg) r → (poll_send v place msg).accepted ≡ added (is_accepted r) (msg ∷ [])
   adds_poll is_clone v place msg r legal =
@@ -108,23 +105,18 @@ module _ {T : Type 0} where
   -- ---- what is handed back, by: closed, no receiver, full, no overflow, sends await a receiver
   returns_try : (closed none full : Bool) (back : Option T) (msg : T) → is_accepted (reply.TryBroadcast (cond closed (Err (unsent.Closed msg)) (cond none (Err (unsent.Inactive msg)) (cond full (Err (unsent.Full msg)) (Ok back))))) ≡ false
       → returned_by (reply.TryBroadcast (cond closed (Err (unsent.Closed msg)) (cond none (Err (unsent.Inactive msg)) (cond full (Err (unsent.Full msg)) (Ok back))))) ≡ Some msg
-  returns_try true none full back msg e = refl
-  returns_try false true full back msg e = refl
-  returns_try false false true back msg e = refl
   returns_try false false false back msg e = apart (sym e)
+  returns_try closed none full back msg e = refl
 
   returns_attempt : (closed none full await : Bool) (back : Option T) (msg : T) → is_accepted (reply.AttemptSend (reply_to_attempt await (cond closed (Err (unsent.Closed msg)) (cond none (Err (unsent.Inactive msg)) (cond full (Err (unsent.Full msg)) (Ok back)))))) ≡ false
       → returned_by (reply.AttemptSend (reply_to_attempt await (cond closed (Err (unsent.Closed msg)) (cond none (Err (unsent.Inactive msg)) (cond full (Err (unsent.Full msg)) (Ok back)))))) ≡ Some msg
-  returns_attempt true none full await back msg e = refl
-  returns_attempt false true full true back msg e = refl
-  returns_attempt false true full false back msg e = refl
-  returns_attempt false false true await back msg e = refl
   returns_attempt false false false await back msg e = apart (sym e)
+  returns_attempt false true full true back msg e = refl
+  returns_attempt closed none full await back msg e = refl
 
   returns_as_attempt : (answer : SendPoll T) → returned_by (reply.PollSend answer) ≡ returned_by (reply.AttemptSend answer)
   returns_as_attempt (send.Ready (Ok back)) = refl
-  returns_as_attempt (send.Ready (Err error)) = refl
-  returns_as_attempt (send.Wait msg) = refl
+  returns_as_attempt answer = refl
 
   returns_poll : (v : View T) (known : Bool) (msg : T) → is_accepted (reply.PollSend (cond known (attempt_send_reply v msg) (send.Wait msg))) ≡ false → returned_by (reply.PollSend (cond known (attempt_send_reply v msg) (send.Wait msg))) ≡ Some msg
   returns_poll v true msg e =
@@ -143,10 +135,8 @@ module _ {T : Type 0} where
 
   returns_all : (closed none full : Bool) (msgs : List T) → is_accepted {T = T} (reply.TryBroadcastAll (cond closed (Err (unsent.Closed msgs)) (cond none (Err (unsent.Inactive msgs)) (cond full (Err (unsent.Full msgs)) (Ok tt))))) ≡ false
       → returned_all_by {T = T} (reply.TryBroadcastAll (cond closed (Err (unsent.Closed msgs)) (cond none (Err (unsent.Inactive msgs)) (cond full (Err (unsent.Full msgs)) (Ok tt))))) ≡ Some msgs
-  returns_all true none full msgs e = refl
-  returns_all false true full msgs e = refl
-  returns_all false false true msgs e = refl
   returns_all false false false msgs e = apart (sym e)
+  returns_all closed none full msgs e = refl
 
   pub all_returned : (is_clone : T → T → Type 0) (v : View T) (msgs : List T) (r : Reply T) → Legal is_clone v (call.TryBroadcastAll msgs) r → is_accepted r ≡ false → returned_all_by r ≡ Some msgs
   all_returned is_clone v msgs r legal refused =

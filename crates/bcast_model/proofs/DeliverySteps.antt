@@ -26,31 +26,23 @@ skipping cursor front = elim (cases_lt front cursor) [ inl e ↦ inl (omega (ari
 module _ {T : Type 0} where
   -- ---- how the calls make their replies
   given_by-try_recv : (answer : Result T TryRecvError) → given_by (reply.TryRecv (Ok answer)) ≡ entries_of 0 answer
-  given_by-try_recv (Ok msg) = refl
   given_by-try_recv (Err (unread.Overflowed n)) = refl
-  given_by-try_recv (Err unread.Empty) = refl
-  given_by-try_recv (Err unread.Closed) = refl
+  given_by-try_recv answer = refl
 
   given_by-future : (answer : Result T TryRecvError) → given_by (reply.PollFuture (Ok (future_reply answer))) ≡ entries_of 0 answer
-  given_by-future (Ok msg) = refl
   given_by-future (Err (unread.Overflowed n)) = refl
-  given_by-future (Err unread.Empty) = refl
-  given_by-future (Err unread.Closed) = refl
+  given_by-future answer = refl
 
   given_by-stream : (answer : Result T TryRecvError) → given_by (reply.PollRecv (Ok (stream_reply answer))) ≡ entries_of 0 answer
-  given_by-stream (Ok msg) = refl
   given_by-stream (Err (unread.Overflowed n)) = refl
-  given_by-stream (Err unread.Empty) = refl
-  given_by-stream (Err unread.Closed) = refl
+  given_by-stream answer = refl
 
   given_by-next : (skips : ℕ) (answer : Result T TryRecvError) → ((n : ℕ) → answer ≡ Err (unread.Overflowed n) → ⊥) → given_by (reply.PollNext (Ok (next_reply skips answer))) ≡ entries_of skips answer
-  given_by-next skips (Ok msg) reached = refl
   given_by-next skips (Err (unread.Overflowed n)) reached = absurd (reached n refl)
-  given_by-next skips (Err unread.Empty) reached = refl
-  given_by-next skips (Err unread.Closed) reached = refl
+  given_by-next skips answer reached = refl
 
   -- from the front on nothing is missed
-  found_reached : (closed : Bool) (o : Option T) (n : ℕ) → recv_reply closed o ≡ Err (unread.Overflowed n) → ⊥
+  pub found_reached : (closed : Bool) (o : Option T) (n : ℕ) → recv_reply closed o ≡ Err (unread.Overflowed n) → ⊥
   found_reached closed (Some msg) n e = cc
   found_reached true None n e = cc
   found_reached false None n e = cc

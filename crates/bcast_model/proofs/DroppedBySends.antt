@@ -26,12 +26,9 @@ pub data FloorChange {T : Type 0} (h : History T) (e : Effect T) (dropped : List
 -- a send that isn't ready would be refused
 unready : (closed none full overflow await : Bool) {A E : Type 0} (x y z : E) (back : A) → (closed || (not none && (overflow || not full)) || (none && not await)) ≡ false
     → is_ok (cond closed (Err x) (cond none (Err y) (cond (full && not overflow) (Err z) (Ok back)))) ≡ true → ⊥
-unready true none full overflow await x y z back ready e = cc
-unready false true full overflow await x y z back ready e = cc
 unready false false true true await x y z back ready e = cc
-unready false false true false await x y z back ready e = cc
 unready false false false true await x y z back ready e = cc
-unready false false false false await x y z back ready e = cc
+unready closed none full overflow await x y z back ready e = cc
 
 module _ {T : Type 0} where
   -- ---- sends
@@ -43,26 +40,21 @@ module _ {T : Type 0} where
   pub hands_back-sent : (answer : Result (Option T) (TrySendError T)) → hands_back (reply.TryBroadcast answer) ≡ hands answer
   unfolding hands
   hands_back-sent (Ok None) = refl
-  hands_back-sent (Ok (Some msg)) = refl
-  hands_back-sent (Err error) = refl
+  hands_back-sent answer = refl
 
   pub hands_back-attempted : (await : Bool) (answer : Result (Option T) (TrySendError T)) → hands_back (reply.AttemptSend (reply_to_attempt await answer)) ≡ hands answer
   unfolding hands
   hands_back-attempted await (Ok None) = refl
-  hands_back-attempted await (Ok (Some msg)) = refl
-  hands_back-attempted await (Err (unsent.Closed msg)) = refl
-  hands_back-attempted true (Err (unsent.Inactive msg)) = refl
-  hands_back-attempted false (Err (unsent.Inactive msg)) = refl
   hands_back-attempted await (Err (unsent.Full msg)) = refl
+  hands_back-attempted true (Err (unsent.Inactive msg)) = refl
+  hands_back-attempted await answer = refl
 
   hands_back-poll_send : (await : Bool) (answer : Result (Option T) (TrySendError T)) → hands_back (reply.PollSend (reply_to_attempt await answer)) ≡ hands answer
   unfolding hands
   hands_back-poll_send await (Ok None) = refl
-  hands_back-poll_send await (Ok (Some msg)) = refl
-  hands_back-poll_send await (Err (unsent.Closed msg)) = refl
-  hands_back-poll_send true (Err (unsent.Inactive msg)) = refl
-  hands_back-poll_send false (Err (unsent.Inactive msg)) = refl
   hands_back-poll_send await (Err (unsent.Full msg)) = refl
+  hands_back-poll_send true (Err (unsent.Inactive msg)) = refl
+  hands_back-poll_send await answer = refl
 
   -- the oldest message of a full channel is there
   oldest_there : (h : History T) (o : Option T) → IsBounded h → is_full (view_of h) ≡ true → slice_get (queue_of h) 0 ≡ o → is_some o ≡ true

@@ -26,23 +26,18 @@ use Rattle.bcast_model.proofs.Receives.{empty_at}
 module _ {T : Type 0} where
   -- ---- sends
   send_waits : (await_active : Bool) (answer : Result (Option T) (TrySendError T)) → must_wait (reply.PollSend (reply_to_attempt await_active answer)) ≡ is_wait_reply await_active answer
-  send_waits await_active (Ok back) = refl
   send_waits await_active (Err (unsent.Full msg)) = refl
-  send_waits await_active (Err (unsent.Closed msg)) = refl
   send_waits true (Err (unsent.Inactive msg)) = refl
-  send_waits false (Err (unsent.Inactive msg)) = refl
+  send_waits await_active answer = refl
 
   -- by: closed, no receiver, overflow, full, sends await a receiver
   unready_waits : (closed none overflow full await_active : Bool) (back : Option T) (msg : T)
       → must_wait (reply.PollSend (reply_to_attempt await_active (cond closed (Err (unsent.Closed msg)) (cond none (Err (unsent.Inactive msg)) (cond (full && not overflow) (Err (unsent.Full msg)) (Ok back))))))
       ≡ not (closed || (not none && (overflow || not full)) || (none && not await_active))
-  unready_waits true none overflow full await_active back msg = refl
   unready_waits false true overflow full true back msg = refl
-  unready_waits false true overflow full false back msg = refl
   unready_waits false false true true await_active back msg = refl
-  unready_waits false false true false await_active back msg = refl
   unready_waits false false false true await_active back msg = refl
-  unready_waits false false false false await_active back msg = refl
+  unready_waits closed none overflow full await_active back msg = refl
 
   pub attempt_waits : (v : View T) (msg : T) → must_wait (reply.PollSend (attempt_send_reply v msg)) ≡ not (sends_are_ready v)
   attempt_waits v msg = unready_waits v.control.closed (has_no_receiver v.control) v.control.overflow (is_full v) v.control.await_active (handed_back v) msg
@@ -72,22 +67,16 @@ module _ {T : Type 0} where
       apart e = cc
 
   pub future_waits : (answer : Result T TryRecvError) → must_wait (reply.PollFuture (Ok (future_reply answer))) ≡ is_empty_reply answer
-  future_waits (Ok msg) = refl
   future_waits (Err (unread.Overflowed n)) = refl
-  future_waits (Err unread.Closed) = refl
-  future_waits (Err unread.Empty) = refl
+  future_waits answer = refl
 
   pub stream_waits : (answer : Result T TryRecvError) → must_wait (reply.PollRecv (Ok (stream_reply answer))) ≡ is_empty_reply answer
-  stream_waits (Ok msg) = refl
   stream_waits (Err (unread.Overflowed n)) = refl
-  stream_waits (Err unread.Closed) = refl
-  stream_waits (Err unread.Empty) = refl
+  stream_waits answer = refl
 
   pub next_waits : (skips : ℕ) (answer : Result T TryRecvError) → must_wait (reply.PollNext (Ok (next_reply skips answer))) ≡ is_empty_reply answer
-  next_waits skips (Ok msg) = refl
   next_waits skips (Err (unread.Overflowed n)) = refl
-  next_waits skips (Err unread.Closed) = refl
-  next_waits skips (Err unread.Empty) = refl
+  next_waits skips answer = refl
 
   -- a receiver that lags finds something, before a skip and after it
   not_empty : (v : View T) (at : ℕ) → IsValidView v → at ≤ v.front → v.front < v.end → is_empty_reply (try_recv_reply v (Some at)) ≡ false

@@ -38,22 +38,17 @@ module _ {T : Type 0} where
   ]
 
   future_is : (answer : Result T TryRecvError) (given : T) → future_reply answer ≡ poll.Ready (Ok given) → answer ≡ Ok given
-  future_is (Ok msg) given e = cc
   future_is (Err (unread.Overflowed n)) given e = cc
-  future_is (Err unread.Closed) given e = cc
-  future_is (Err unread.Empty) given e = cc
+  future_is answer given e = cc
 
   stream_is : (answer : Result T TryRecvError) (given : T) → stream_reply answer ≡ poll.Ready (Some (Ok given)) → answer ≡ Ok given
-  stream_is (Ok msg) given e = cc
   stream_is (Err (unread.Overflowed n)) given e = cc
-  stream_is (Err unread.Closed) given e = cc
-  stream_is (Err unread.Empty) given e = cc
+  stream_is answer given e = cc
 
   next_is : (skips n : ℕ) (answer : Result T TryRecvError) (given : T) → next_reply skips answer ≡ poll.Ready (Some (given, n)) → answer ≡ Ok given
   next_is skips n (Ok msg) given e = ap (λ (p : T × ℕ). Ok p.0) (let f : ◌≡◌ {A = T × ℕ} (msg, skips) (given, n) = cc in f)
   next_is skips n (Err (unread.Overflowed m)) given e = cc
-  next_is skips n (Err unread.Closed) given e = cc
-  next_is skips n (Err unread.Empty) given e = cc
+  next_is skips n answer given e = cc
 
   module _ (is_clone : T → T → Type 0) (v : View T) (key : ℕ) (given : T) where
     pub given_try_recv : Legal is_clone v (call.TryRecv key) (reply.TryRecv (Ok (Ok given))) → IsGivenFrom is_clone v.queue given

@@ -41,9 +41,8 @@ module _ (c : Control) where
   leaves-made made (Some n) each = each n
 
   pub leaves-cloned : (cursor key : Option ℕ) → Leaves c (clone_receiver c cursor key)
-  leaves-cloned None key = left c
-  leaves-cloned (Some cursor) None = left c
   leaves-cloned (Some cursor) (Some key) = left c
+  leaves-cloned cursor key = left c
 
   pub stays-new_sender : Stays c (new_sender c)
   stays-new_sender = test_is (Stays c) (has_next c.senders) (record c { senders = c.senders + 1 }) c (λ _. kept c) (λ _. kept c)
