@@ -5,7 +5,7 @@ use Rattle.std.specs.List.{join_by}
 use Rattle.bcast_model.specs.declared.listener.Kind.{Kind}
 use Rattle.bcast_model.specs.declared.listener.Kind.TheVariants.{Stream, Future}
 use Rattle.bcast_model.specs.ListenerId.{Pair}
-use Rattle.bcast_text.specs.TraceCall.{flag_text}
+use Rattle.bcast_text.specs.Words.{bool_text}
 use Rattle.bcast_core.specs.declared.snapshot.Snapshot.{Snapshot}
 
 -- the texts of these, with a comma between two of them
@@ -41,8 +41,8 @@ module _ {A : Type 0} where
   -- the settings, and how much fits
   abbrev pub settings_text : Snapshot ℕ A → List ℕ
   settings_text s =
-      (codes " closed=" ++ flag_text s.closed ++ codes " overflow=" ++ flag_text s.overflow)
-      ++ (codes " await=" ++ flag_text s.await_active ++ codes " capacity=" ++ decimal s.capacity)
+      (codes " closed=" ++ bool_text s.closed ++ codes " overflow=" ++ bool_text s.overflow)
+      ++ (codes " await=" ++ bool_text s.await_active ++ codes " capacity=" ++ decimal s.capacity)
       ++ codes " room=" ++ decimal s.room
 
   -- the places of pending sends

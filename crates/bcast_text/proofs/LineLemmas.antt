@@ -4,7 +4,7 @@ use Rattle.std.proofs.Math.Seq.{take-append_seam}
 use Rattle.std.proofs.lemmas.List.{get_or_default}
 use Rattle.std.proofs.Transfers.{All-of_StopsAt}
 use Rattle.std.specs.Io.{StopsAt}
-use Rattle.std.specs.Io.KnownBytes.{Consumes, IsAtEnd}
+use Rattle.std.specs.Io.KnownBytes.{Consumes}
 use Rattle.bcast_text.specs.Lines.{ReadsLines, EndsOrIsLast, BeginsTooLong}
 
 before_lf : (line : List ℕ) → StopsAt (line ++ 10 ∷ []) 10 → All (λ x. x ≢ 10) line
@@ -41,14 +41,6 @@ last_line (Some x) (Some y) text some not stops p (inr end) = (
   },
   refl,
 )
-
--- if nothing was consumed and the end is reached, nothing was left
-pub none_left : (a b : Option (List ℕ)) (text : List ℕ) → length text ≡ 0 → Consumes a b text → EndsOrIsLast text a b → IsAtEnd a
-none_left None b text none p last = tt
-none_left (Some x) None text none p last = absurd p
-none_left (Some x) (Some y) text none p (inl (some, ends)) = absurd (omega (arith, none, some))
-none_left (Some x) (Some y) [] none p (inr end) = p ∙ end
-none_left (Some x) (Some y) (z ∷ zs) none p (inr end) = absurd (omega (arith, none))
 
 -- bytes that were consumed without an LF, and are more than a line may have
 pub long_line : (a b : Option (List ℕ)) (text : List ℕ) (longest : ℕ) → longest < length text → get_or text (length text - 1) 0 ≢ 10

@@ -2,7 +2,7 @@
 use Rattle.std.proofs.Common.{arith, ◌≡◌, ◌↔◌, ◌⊎◌, inl, inr, ℕ, suc, zero, ◌<◌, ◌≤◌, List, [], ◌∷◌, Bool, true, false, length, take, replicate, slice_set, sym, ◌∙◌, ⊎_elim}
 use Rattle.std.specs.Prelude.{fold, All, Contains, IsTrue, IfOk, Result, Ok, Err, map}
 use Rattle.std.proofs.lemmas.List.{length-set, get_or-set_other, get_or-replicate, length-replicate, take_all}
-use Rattle.std.proofs.lemmas.List.Elements.{All-get_or, All-from_get_or, All-map}
+use Rattle.std.proofs.lemmas.List.Elements.{All-map}
 use Rattle.std.proofs.lemmas.Bool.{true≢false}
 use Rattle.std.proofs.lemmas.Grind.{get_or-set_at}
 use Rattle.std.proofs.lemmas.Bool.Decides.{eqb_tells}
@@ -50,16 +50,6 @@ marked list marks n within = (if_marked list marks n, marked_if list marks n wit
 pub marked_whole : (list : List ℕ) (marks now : List Bool) (i : ℕ) → length list ≤ i → now ≡ fold with_mark marks (take i list)
     → (n : ℕ) → n < length marks → IsMarked now n ↔ (IsMarked marks n ⊎ Contains list n)
 marked_whole list marks now i past is n within = rw (is, take_all i list past) (marked list marks n within)
-
--- if all are marked after the list, each number was marked before or is in the list
-pub every : (list : List ℕ) (before now : List Bool) (all : Bool) → length now ≡ length before
-    → ((n : ℕ) → n < length before → IsMarked now n ↔ (IsMarked before n ⊎ Contains list n))
-    → (IsTrue all ↔ All (λ is_held. is_held ≡ true) now)
-    → IsTrue all ↔ ((n : ℕ) → n < length before → IsMarked before n ⊎ Contains list n)
-every list before now all long marks tells = (
-  λ each n below. (marks n below).0 (All-get_or (λ is_held. is_held ≡ true) now n false (rw long below) (tells.0 each)),
-  λ each. tells.1 (All-from_get_or (λ is_held. is_held ≡ true) now false (λ n within. (marks n (rw (← long) within)).1 (each n (rw (← long) within)))),
-)
 
 -- a list of `count` numbers that has each number below `count`
 pub each_once : (list : List ℕ) (count : ℕ) (all : Bool) → length list ≡ count

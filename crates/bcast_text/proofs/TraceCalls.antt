@@ -6,8 +6,8 @@ use Rattle.std.specs.List.{AllByRecursion}
 use Rattle.std.proofs.lemmas.Option.{none-some}
 use Rattle.bcast_model.specs.declared.run.Call.{Call}
 use Rattle.bcast_model.specs.declared.run.Call.TheVariants.{TryBroadcast, TryBroadcastAll, PollSend, SetCapacity, SetOverflow, SetAwaitActive}
-use Rattle.bcast_text.specs.Words.{numbers_text, IsU64}
-use Rattle.bcast_text.specs.TraceCall.{flag_text, name_of, number_of, arguments_of, text_of, IsInRange}
+use Rattle.bcast_text.specs.Words.{numbers_text, bool_text, IsU64}
+use Rattle.bcast_text.specs.TraceCall.{name_of, number_of, arguments_of, text_of, IsInRange}
 use Rattle.bcast_text.proofs.Spaced.{Lacks, Lacks-nil, Lacks-cons, Lacks-append, Lacks-decimal, Lacks-spaced, is_plain, plain_hyphen}
 
 -- no name has a space or a hyphen
@@ -15,9 +15,9 @@ pub plain_name : (call : Call ℕ) → is_plain (name_of call) ≡ true
 plain_name (TryBroadcast msg) = refl
 plain_name call = refl
 
-flag_hyphen : (on : Bool) → Lacks 45 (flag_text on)
-flag_hyphen true = plain_hyphen (flag_text true) refl
-flag_hyphen false = plain_hyphen (flag_text false) refl
+flag_hyphen : (on : Bool) → Lacks 45 (bool_text on)
+flag_hyphen true = plain_hyphen (bool_text true) refl
+flag_hyphen false = plain_hyphen (bool_text false) refl
 
 numbers_hyphen : (msgs : List ℕ) → AllByRecursion IsU64 msgs → IfSome (numbers_text msgs) (Lacks 45)
 numbers_hyphen [] range = tt

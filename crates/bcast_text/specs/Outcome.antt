@@ -4,15 +4,11 @@ use Rattle.std.specs.Fmt.{decimal}
 use Rattle.bcast_text.specs.declared.ending.Ending.{Ending}
 use Rattle.bcast_text.specs.declared.ending.Ending.TheVariants.{Done, Differ, NoThread, NoMemory, OutputFailed}
 
--- the line of a run of this many receivers and messages that all saw one order
-abbrev pub one_order_text : ℕ → ℕ → List ℕ
-one_order_text receivers messages =
-    decimal receivers ++ (codes " receivers, "
-    ++ (decimal messages ++ codes " messages each, one order\n"))
-
 -- the line of a run, by whether all receivers saw one order
 abbrev pub outcome_text : Bool → ℕ → ℕ → List ℕ
-outcome_text true receivers messages = one_order_text receivers messages
+outcome_text true receivers messages =
+    decimal receivers ++ (codes " receivers, "
+    ++ (decimal messages ++ codes " messages each, one order\n"))
 outcome_text false receivers messages = codes "orders differ\n"
 
 -- what a run with this ending prints

@@ -1,16 +1,12 @@
 -- The answer to each reply, as a script's user sees it.
-use Rattle.std.specs.Prelude.{ℕ, List, Option, Some, None, Bool, true, false, Ok, Err, ◌++◌, codes}
+use Rattle.std.specs.Prelude.{ℕ, List, Option, Some, None, Ok, Err, ◌++◌, codes}
 use Rattle.std.specs.Fmt.{decimal}
 use Rattle.bcast_model.specs.declared.error.TrySendError.TheVariants as send
 use Rattle.bcast_model.specs.declared.error.TryRecvError.TheVariants as receive
 use Rattle.bcast_model.specs.declared.error.HandleError.TheVariants as handle
 use Rattle.bcast_model.specs.declared.run.Reply.{Reply}
 use Rattle.bcast_model.specs.declared.run.Reply.TheVariants as reply
-
--- how a flag is answered
-abbrev pub bool_text : Bool → List ℕ
-bool_text true = codes "true"
-bool_text false = codes "false"
+use Rattle.bcast_text.specs.Words.{bool_text}
 
 -- the line that answers a reply, its LF aside; none if there was no memory for the call
 abbrev pub answer_of : Reply ℕ → Option (List ℕ)

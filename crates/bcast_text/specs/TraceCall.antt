@@ -1,15 +1,10 @@
 -- The text of each call in a trace.
-use Rattle.std.specs.Prelude.{ℕ, List, Option, Some, None, Bool, true, false, option_map, IfSome, ◌++◌, codes}
+use Rattle.std.specs.Prelude.{ℕ, List, Option, Some, None, option_map, IfSome, ◌++◌, codes}
 use Rattle.std.specs.Fmt.{decimal}
 use Rattle.std.specs.List.{AllByRecursion}
-use Rattle.bcast_text.specs.Words.{spaced, numbers_text, IsU64, IsCapacity}
+use Rattle.bcast_text.specs.Words.{spaced, numbers_text, bool_text, IsU64, IsCapacity}
 use Rattle.bcast_model.specs.declared.run.Call.{Call}
 use Rattle.bcast_model.specs.declared.run.Call.TheVariants.{TryBroadcast, TryBroadcastAll, AttemptSend, BeginSend, PollSend, EndSend, TryRecv, PollFuture, EndFuture, PollRecv, PollNext, Close, SetCapacity, SetOverflow, SetAwaitActive, NewSender, CloneInactive, Deactivate, NewReceiver, Activate, ActivateCloned, CloneReceiver, DropSender, DropInactive, DropReceiver, Overflow, AwaitActive, IsEmpty, IsFull, IsClosed, IsTerminated, Capacity, Len, ReceiverCount, InactiveReceiverCount, SenderCount, EndNumber}
-
--- how a flag is spelled
-abbrev pub flag_text : Bool → List ℕ
-flag_text true = codes "true"
-flag_text false = codes "false"
 
 -- the call's name
 abbrev pub name_of : Call ℕ → List ℕ
@@ -71,8 +66,8 @@ abbrev pub arguments_of : Call ℕ → Option (List ℕ)
 arguments_of (TryBroadcastAll msgs) = numbers_text msgs
 arguments_of (PollSend place msg) = Some (decimal place ++ codes " " ++ decimal msg)
 arguments_of (SetCapacity n) = Some (decimal n)
-arguments_of (SetOverflow on) = Some (flag_text on)
-arguments_of (SetAwaitActive on) = Some (flag_text on)
+arguments_of (SetOverflow on) = Some (bool_text on)
+arguments_of (SetAwaitActive on) = Some (bool_text on)
 arguments_of call = option_map decimal (number_of call)
 
 -- the call's name and its arguments, with one space before each

@@ -1,11 +1,16 @@
 -- The words of a line, and its numbers.
-use Rattle.std.specs.Prelude.{ℕ, List, Option, Some, None, [], ◌++◌, ◌∷◌, ◌<◌, ◌^◌}
+use Rattle.std.specs.Prelude.{ℕ, List, Bool, true, false, Option, Some, None, [], ◌++◌, ◌∷◌, ◌<◌, ◌^◌, codes}
 use Rattle.std.specs.Fmt.{decimal}
 
 -- a word, and after one space its arguments, if there are any
 abbrev pub spaced : List ℕ → Option (List ℕ) → List ℕ
 spaced word None = word
 spaced word (Some arguments) = word ++ 32 ∷ arguments
+
+-- a flag
+abbrev pub bool_text : Bool → List ℕ
+bool_text true = codes "true"
+bool_text false = codes "false"
 
 -- a number that a line can have
 abbrev pub IsU64 : ℕ → Type 0

@@ -109,19 +109,15 @@ pub fn record<A: Allocator + Copy>(
         ≡ names_after (get_by_text names.old) line.now reply.now name) }
 {
     match (line, reply) {
-        (Line::Clone(_, new), Reply::CloneReceiver(Ok(key))) => {
-            name_receiver(alloc, names, new, *key)
+        (Line::Clone(_, new), Reply::CloneReceiver(Ok(key)))
+        | (Line::New(new), Reply::NewReceiver(Ok(key)))
+        | (Line::Activate(new), Reply::Activate(Ok(key))) => {
+            return name_receiver(alloc, names, new, *key);
         }
-        (Line::New(new), Reply::NewReceiver(Ok(key))) => name_receiver(alloc, names, new, *key),
-        (Line::Activate(new), Reply::Activate(Ok(key))) => name_receiver(alloc, names, new, *key),
-        (Line::Drop(name), _) => {
-            free(names, name);
-            Ok(())
+        (Line::Drop(name), _) | (Line::Deactivate(name), Reply::Deactivate(Ok(()))) => {
+            free(names, name)
         }
-        (Line::Deactivate(name), Reply::Deactivate(Ok(()))) => {
-            free(names, name);
-            Ok(())
-        }
-        _ => Ok(()),
+        _ => {}
     }
+    Ok(())
 }

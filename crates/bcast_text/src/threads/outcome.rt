@@ -2,7 +2,7 @@
 ghost use Rattle.std.specs.Prelude.{◌≡◌, ◌≢◌, OnOk, length, map};
 ghost use Rattle.std.specs.Io.KnownBytes.{Appends};
 ghost use Rattle.bcast_text.specs.Order.{IsOneOrder};
-ghost use Rattle.bcast_text.specs.Outcome.{one_order_text, outcome_text, printed_text, IsEnding};
+ghost use Rattle.bcast_text.specs.Outcome.{outcome_text, printed_text, IsEnding};
 
 use crate::ending::Ending;
 use crate::threads::order::is_one_order;
@@ -40,32 +40,13 @@ fn write_outcome<W: Write>(
     ensures { OnOk result (Appends (W.contents output.old) (W.contents output.new)
         (outcome_text is_one_order receivers messages)) }
 {
-    write_line(is_one_order, receivers, messages, output)?;
-    output.flush()
-}
-
-fn write_line<W: Write>(
-    is_one_order: bool,
-    receivers: u64,
-    messages: u64,
-    output: &mut W,
-) -> io::Result<()>
-    ensures { OnOk result (Appends (W.contents output.old) (W.contents output.new)
-        (outcome_text is_one_order receivers messages)) }
-{
     if is_one_order {
-        write_one_order(receivers, messages, output)
-    } else {
-        output.write_all(b"orders differ\n")
+        writeln!(
+            output,
+            "{receivers} receivers, {messages} messages each, one order"
+        )?;
+        return output.flush();
     }
-}
-
-fn write_one_order<W: Write>(receivers: u64, messages: u64, output: &mut W) -> io::Result<()>
-    ensures { OnOk result (Appends (W.contents output.old) (W.contents output.new)
-        (one_order_text receivers messages)) }
-{
-    writeln!(
-        output,
-        "{receivers} receivers, {messages} messages each, one order"
-    )
+    output.write_all(b"orders differ\n")?;
+    output.flush()
 }

@@ -2,8 +2,8 @@
 ghost use Rattle.std.specs.Prelude.{◌≡◌, ◌≢◌, ℕ, List, Bool, Some, None, IfOk, IfSome, IsNone, ◌++◌, ◌∷◌, codes};
 ghost use Rattle.std.specs.Fmt.{decimal};
 ghost use Rattle.bcast_model.specs.Next.{HasPositiveCapacity};
-ghost use Rattle.bcast_text.specs.TraceCall.{flag_text, name_of, number_of, arguments_of, text_of, IsInRange};
-ghost use Rattle.bcast_text.specs.Words.{numbers_text, IsU64};
+ghost use Rattle.bcast_text.specs.TraceCall.{name_of, number_of, arguments_of, text_of, IsInRange};
+ghost use Rattle.bcast_text.specs.Words.{numbers_text, bool_text, IsU64};
 ghost use Rattle.std.specs.List.{AllByRecursion};
 ghost use Rattle.bcast_model.specs.declared.run.Call.{Call};
 
@@ -133,8 +133,8 @@ fn with_number(name: &str, argument: &str) -> Option<Call<u64>>
 
 /// A flag, as `true` or `false`.
 fn flag(word: &str) -> Option<bool>
-    ensures text { IfSome result (λ on. word.now ≡ flag_text on) }
-    ensures none { IsNone result → (on : Bool) → word.now ≢ flag_text on }
+    ensures text { IfSome result (λ on. word.now ≡ bool_text on) }
+    ensures none { IsNone result → (on : Bool) → word.now ≢ bool_text on }
 {
     match word {
         "true" => Some(true),

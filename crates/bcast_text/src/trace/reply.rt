@@ -53,10 +53,6 @@ pub fn write_reply<W: Write>(reply: &Reply<u64>, output: &mut W) -> io::Result<(
         | Reply::Activate(answer)
         | Reply::ActivateCloned(answer)
         | Reply::CloneReceiver(answer) => made(answer, output),
-        Reply::EndSend | Reply::EndFuture | Reply::SetOverflow | Reply::SetAwaitActive => {
-            output.write_all(b"-")
-        }
-        Reply::DropSender | Reply::DropInactive | Reply::DropReceiver => output.write_all(b"-"),
         Reply::Close(answer)
         | Reply::Overflow(answer)
         | Reply::AwaitActive(answer)
@@ -70,6 +66,7 @@ pub fn write_reply<W: Write>(reply: &Reply<u64>, output: &mut W) -> io::Result<(
         | Reply::InactiveReceiverCount(count)
         | Reply::SenderCount(count) => write!(output, "{count}"),
         Reply::EndNumber(number) => write!(output, "{number}"),
+        _ => output.write_all(b"-"),
     }
 }
 

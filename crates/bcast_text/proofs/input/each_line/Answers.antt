@@ -1,12 +1,9 @@
 -- Each line that is run adds its answer.
-use Rattle.std.proofs.Common.{arith, ◌≡◌, ◌-◌, Err, ap, subst, sym, ◌∙◌, refl}
+use Rattle.std.proofs.Common.{arith, ◌≡◌, ◌-◌, Err, ap, subst, sym, ◌∙◌}
 use Rattle.bcast_text.specs.Lines.{unread, longest_of}
 use Rattle.bcast_text.specs.Run.{IsNumbered, IsRefused}
-use Rattle.bcast_text.proofs.Runs.{none_yet, one_more, nothing_more}
+use Rattle.bcast_text.proofs.Runs.{one_more, nothing_more}
 use Rattle.bcast_text.proofs.input.each_line.Goals as goal
-
-pub loop-number-init : goal.loop-number-init
-loop-number-init g c = record { some = omega arith; longest = refl; answered = none_yet g.P.RunLine.answers _ _ _ }
 
 pub loop-number-preserved : goal.loop-number-preserved
 loop-number-preserved g c = record {

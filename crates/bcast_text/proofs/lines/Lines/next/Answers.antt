@@ -1,13 +1,8 @@
 -- What was consumed is a line, by the LF at its end or by the end of the input.
-use Rattle.std.proofs.Common.{rules, arith, ◌≡◌, ◌≢◌, ◌<◌, ◌-◌, ◌∙◌, sym, [], ◌∷◌, ◌++◌, length, get_or}
+use Rattle.std.proofs.Common.{rules, ◌≡◌, ◌≢◌, ◌<◌, ◌-◌, ◌∙◌, sym, [], ◌∷◌, ◌++◌, length, get_or}
 use Rattle.std.proofs.lemmas.Bool.{true≢false}
-use Rattle.bcast_text.proofs.LineLemmas.{ended_line, last_line, none_left, long_line}
+use Rattle.bcast_text.proofs.LineLemmas.{ended_line, last_line, long_line}
 use Rattle.bcast_text.proofs.lines.Lines.next.Goals as goal
-
-pub returns-then-len-eq0-clause-end : goal.returns-then-len-eq0-clause-end
-returns-then-len-eq0-clause-end g c _ =
-    let none : length c.read_through.new.text.items ≡ 0 = search rules in
-    none_left _ _ c.read_through.new.text.items none c.read_through.ensures.bytes (c.in_ok-read_through.ensures.whole (omega (arith, none)))
 
 pub returns-then-ends_with_lf-clause-line : goal.returns-then-ends_with_lf-clause-line
 returns-then-ends_with_lf-clause-line g c _ =

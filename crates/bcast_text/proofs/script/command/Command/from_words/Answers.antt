@@ -1,14 +1,10 @@
--- A list of one word is that word, and a list of four is those four.
+-- A list of four words is those four.
 use Rattle.std.proofs.Common.{rules, arith, ◌≡◌, ◌≢◌, ℕ, length, List, [], ◌∷◌, get_or, map, string_bytes, codes, IfSome, Option, Some, None, refl, sym, ap, ◌∙◌}
 use Rattle.std.specs.Fmt.{decimal}
 use Rattle.bcast_text.specs.ScriptCommand.{words_of, IsInRange}
 use Rattle.bcast_text.specs.declared.script.command.Command.{Command}
 use Rattle.bcast_text.specs.declared.script.command.Command.TheVariants.{Script, Topics, Threads}
 use Rattle.bcast_text.proofs.script.command.Command.from_words.Goals as goal
-
-single : {X : Type 0} (xs : List X) (x : X) → length xs ≡ 1 → x ≡ get_or xs 0 x → xs ≡ x ∷ []
-single (y ∷ []) x one is = grind (arith, is)
-single xs x one is = absurd (omega (arith, one))
 
 four : {X : Type 0} (xs : List X) (x y z w : X) → length xs ≡ 4 → x ≡ get_or xs 0 x → y ≡ get_or xs 1 y → z ≡ get_or xs 2 z → w ≡ get_or xs 3 w
     → xs ≡ x ∷ y ∷ z ∷ w ∷ []
@@ -29,23 +25,6 @@ no_command s r m none Script range is = absurd (omega (arith, ap length is))
 no_command s r m none Topics range is = absurd (omega (arith, ap length is))
 no_command s r m none (Threads a b c) range is =
     none a b c range (ap (λ ws. get_or ws 1 []) is) (ap (λ ws. get_or ws 2 []) is) (ap (λ ws. get_or ws 3 []) is)
-
--- nor a word alone that is neither `script` nor `topics`
-no_word : (word : List ℕ) → (word ≢ codes "script") × (word ≢ codes "topics") → (asked : Command) → IsInRange asked → word ∷ [] ≡ words_of asked → ⊥
-no_word word none Script range is = none.0 (cc)
-no_word word none Topics range is = none.1 (cc)
-no_word word none (Threads a b c) range is = absurd (omega (arith, ap length is))
-
-pub returns-in-len1 : goal.returns-in-len1
-returns-in-len1 c =
-    let only : length c.args.words.now ≡ 1 = omega (arith, c.in-len1.len_at_least, c.in-len1.len_below) in
-    let same = single c.args.words.now c.only-item.result only c.only-item.is in
-    let words : map string_bytes c.args.words.now ≡ c.as_str.result.now ∷ [] = rw same (search rules) in
-    record {
-      words = spelt c.alone.result _ _ words c.alone.ensures.words;
-      range = c.alone.ensures.range;
-      none = λ none asked range is. no_word c.as_str.result.now (c.alone.ensures.none none) asked range (sym words ∙ is);
-    }
 
 pub returns-in-len4-clause-words : goal.returns-in-len4-clause-words
 returns-in-len4-clause-words c =
