@@ -21,6 +21,7 @@ pub fn refused_changes_nothing<T: Clone>()
 
 /// Law: a call adds its messages, in their order, if its reply says that they were accepted, else
 /// it adds none.
+#[tactic(auto, using(crate::proofs::Sends::messages_added, crate::proofs::Sends::nothing_added))]
 pub fn only_accepted_is_added<T: Clone>()
     ensures { OnlyAcceptedIsAdded T.is_clone }
 {}
@@ -28,11 +29,13 @@ pub fn only_accepted_is_added<T: Clone>()
 /// Law: a list that `try_broadcast_all` accepted is last, in its order, and in one piece: no other
 /// message comes between, whatever calls follow. Each receiver that was there and reads past the
 /// list is given each of its messages, or the message is counted as missed.
+#[tactic(auto, using(crate::proofs::SendAll::stands_in_one_piece))]
 pub fn lists_stand_in_one_piece<T: Clone>()
     ensures { ListsStandInOnePiece T.is_clone }
 {}
 
 /// Law: a pending send that is dropped before it is answered adds no message.
+#[tactic(auto, using(crate::proofs::Sends::nothing_added))]
 pub fn dropped_send_adds_nothing<T: Clone>()
     ensures { DroppedSendAddsNothing T.is_clone }
 {}
@@ -43,11 +46,13 @@ pub fn stays_closed<T: Clone>()
 {}
 
 /// Law: if `is_terminated` returns true, each receive returns that the channel is closed.
+#[tactic(auto, using(crate::proofs::Terminated::nothing_given))]
 pub fn terminated_gives_nothing<T: Clone>()
     ensures { TerminatedGivesNothing T.is_clone }
 {}
 
 /// Law: a channel keeps at most as many messages as its capacity, and none without receivers.
+#[tactic(auto, using(crate::proofs::Kept::none_kept, crate::proofs::Kept::len_within))]
 pub fn keeps_at_most_capacity<T: Clone>()
     ensures { KeepsAtMostCapacity T.is_clone }
 {}
@@ -60,11 +65,13 @@ pub fn missed_then_given<T>()
 
 /// Law: a receiver that missed no message is given as many in a row as `unread` says, if no other
 /// call comes between; one that missed some is told `missed` of them first.
+#[tactic(auto, using(crate::proofs::Unread::unread_given))]
 pub fn unread_is_given<T>()
     ensures { UnreadIsGiven T }
 {}
 
 /// Law: what a receive returns doesn't depend on what the other receivers read.
+#[tactic(auto, using(crate::proofs::Answers::own_answer, crate::proofs::Answers::others_answer))]
 pub fn reads_by_own_cursor<T>()
     ensures { ReadsByOwnCursor T }
 {}
@@ -75,6 +82,7 @@ pub fn clones_answer_alike<T: Clone>()
 {}
 
 /// Law: all receivers of a run are given the messages in one order, that of their acceptance.
+#[tactic(auto, using(crate::proofs::Order::has_one_order))]
 pub fn one_order<T: Clone>()
     ensures { RunsHaveOneOrder T.is_clone }
 {}

@@ -9,6 +9,7 @@ pub fn opening_is_valid<T>()
 {}
 
 /// Law: a legal reply to a call leads from a valid state to a valid one. So no wake-up is lost.
+#[tactic(auto, using(bcast_model::proofs::Answers::next_valid))]
 pub fn next_is_valid<T: Clone>()
     ensures { NextIsValid T.is_clone }
 {}
@@ -20,6 +21,7 @@ pub fn views_are_shown<T>()
 {}
 
 /// Law: if a clone equals its original, a receive gives the accepted message itself.
+#[tactic(auto, using(bcast_model::proofs::Clones::legal_exact))]
 pub fn replies_are_exact<T: Clone>()
     ensures { RepliesAreExact T.is_clone }
 {}
@@ -37,6 +39,7 @@ pub fn polls_wait_where_tries_find_nothing<T: Clone>()
 /// Law: told polls come to rest. If n listeners wait, then at most n (n + 1) / 2 calls in a row
 /// poll a listener that is told just before, if none is out of memory. If no listener is told,
 /// none of their polls would be answered.
+#[tactic(auto, using(bcast_model::proofs::ToldPolls::comes_to_rest))]
 pub fn told_polls_come_to_rest<T: Clone>()
     ensures { ToldPollsComeToRest T.is_clone }
 {}

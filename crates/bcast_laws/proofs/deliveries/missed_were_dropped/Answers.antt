@@ -1,5 +1,0 @@
-use Rattle.bcast_model.proofs.MissedLemmas.{tells_dropped}
-use Rattle.bcast_laws.proofs.deliveries.missed_were_dropped.Goals as goal
-
-pub returns : goal.returns
-returns g _ = λ h calls replies key cursor c r valid allowed run is legal. tells_dropped g.T.Clone.is_clone h calls replies key cursor c r valid allowed run is legal
