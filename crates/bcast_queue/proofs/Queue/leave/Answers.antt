@@ -24,9 +24,6 @@ take_reader_at-next-requires-clause-next g c = λ some.
     let within : c.args.index < length ring.items = omega (arith, c.if-index-len.false, c.len.ensures.len) in
     somebody_next c.self.inside.behind c.args.index (counts ring) (omega (arith, within, length-map ring.items next_of)) some (rw (← c.self.view_is) at c.requires.owed some (omega (arith, within, length-map ring.items message_of)))
 
-pub drop_unowed-requires-clause-fits : goal.drop_unowed-requires-clause-fits
-drop_unowed-requires-clause-fits g c = omega (arith, c.take_reader_at-next.ensures.summed)
-
 pub invariant_of-self : goal.invariant_of-self
 invariant_of-self g c =
     let ring = c.self.inside.ring in
