@@ -8,7 +8,7 @@ module _ {T : Type 0} where
   abbrev pub dropped : ℕ → Stored T → Stored T
   dropped n s = record s { front = s.front + n; queue = drop n s.queue }
 
-  pub same_stored : (a b : Stored T) → a.front ≡ b.front → a.queue ≡ b.queue → a.cursors ≡ b.cursors → a.room ≡ b.room → a ≡ b
+  same_stored : (a b : Stored T) → a.front ≡ b.front → a.queue ≡ b.queue → a.cursors ≡ b.cursors → a.room ≡ b.room → a ≡ b
   same_stored a b f q c r = λ i. record { front = f i; queue = q i; cursors = c i; room = r i }
 
   -- what `pop` does, if there is a message

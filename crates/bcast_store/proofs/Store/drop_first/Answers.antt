@@ -1,10 +1,7 @@
 -- The first messages are dropped.
-use Rattle.std.proofs.Common.{refl, arith}
-use Rattle.bcast_store.proofs.Dropping.{dropped_more, same_stored}
+use Rattle.std.proofs.Common.{arith}
+use Rattle.bcast_store.proofs.Dropping.{dropped_more}
 use Rattle.bcast_store.proofs.Store.drop_first.Goals as goal
-
-pub loop-index-init : goal.loop-index-init
-loop-index-init g c = same_stored _ _ (omega arith) refl refl refl
 
 pub loop-index-preserved : goal.loop-index-preserved
 loop-index-preserved g c =
