@@ -1,5 +1,5 @@
 -- A receive poll, which is answered or waits.
-use Rattle.std.proofs.Common.{◌≡◌, ℕ, true, false, Option, Result, Ok, Err, OnOk, OnErr, IsOk, refl, sym, ap, subst, ◌∙◌}
+use Rattle.std.proofs.Common.{◌≡◌, ℕ, true, false, Option, Result, Ok, Err, OnOk, OnErr, refl, sym, ap, subst, ◌∙◌}
 use Rattle.std.specs.Prelude.{alloc_error}
 use Rattle.std.specs.Result.{result_map_both}
 use Rattle.std.specs.declared.alloc.AllocError.{AllocError}
@@ -17,7 +17,6 @@ use Rattle.bcast_model.specs.Words.{Legal, tell_if_ready, must_wait, IsOwed, cur
 use Rattle.bcast_model.specs.Words.{is_empty_reply, listens, receive, receive_poll}
 use Rattle.bcast_model.specs.Words.{try_recv_reply, Steps, settle, View, skipped_to, skipped_count}
 use Rattle.bcast_model.specs.Words.{future_reply, stream_reply, next_reply}
-use Rattle.bcast_model.specs.Replies.{is_receive_refused}
 use Rattle.bcast_model.proofs.Polls.{future_waits, stream_waits, next_waits}
 use Rattle.bcast_core.specs.declared.receive_poll.ReceivePoll.{ReceivePoll}
 use Rattle.bcast_core.specs.declared.receive_poll.ReceivePoll.TheVariants as poll
@@ -116,16 +115,6 @@ module _ {T : Type 0} where
   waits_as poll.Next skips (Ok answer) = next_waits skips answer
   waits_as poll.Next skips (Err e) = refl
 
-  sure_as : (poll : ReceivePoll) (skips : ℕ) (found : Result (Result T TryRecvError) AllocError) → IsOk found → is_receive_refused (reply_of poll (record { found = found; skips = skips })) ≡ false
-  sure_as poll.Future skips (Ok answer) ok = refl
-  sure_as poll.Recv skips (Ok answer) ok = refl
-  sure_as poll.Next skips (Ok answer) ok = refl
-  sure_as poll skips (Err e) ok = cc
-
   -- it must wait where nothing was found
   pub reply_waits : (poll : ReceivePoll) (r : Received T) → must_wait (reply_of poll r) ≡ finds_nothing r.found
   reply_waits poll r = waits_as poll r.skips r.found
-
-  -- it isn't refused where no clone was
-  pub reply_sure : (poll : ReceivePoll) (r : Received T) → IsOk r.found → is_receive_refused (reply_of poll r) ≡ false
-  reply_sure poll r = sure_as poll r.skips r.found
