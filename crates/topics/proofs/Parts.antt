@@ -41,11 +41,7 @@ module _ {T : Type 0} (is_clone : T → T → Type 0) where
 
   called : (capacity : Option ℕ) (done : List (Called T)) (old new : Option (View T)) (c : Call T) (a : Answer T) → IsTopic is_clone capacity done old → IsCall is_clone (Some c) a old new → IsTopic is_clone (option_or capacity None) (done ++ done_by true (Some c) a) new
   called capacity done old new c (answer.Done r) topic is = done_more capacity done old new c r topic is
-  called capacity done old new c answer.BadName topic is = kept capacity done old new topic is
-  called capacity done old new c answer.Exists topic is = kept capacity done old new topic is
-  called capacity done old new c answer.Memory topic is = kept capacity done old new topic is
-  called capacity done old new c answer.Opened topic is = kept capacity done old new topic is
-  called capacity done old new c answer.NoTopic topic is = kept capacity done old new topic is
+  called capacity done old new c a topic is = kept capacity done old new topic is
 
 -- a name is opened once
 not_exists : {T : Type 0} → ◌≡◌ {A = Answer T} answer.Opened answer.Exists → ⊥
@@ -66,11 +62,7 @@ module _ {T A : Type 0} (is_clone : T → T → Type 0) where
   -- the topic of the request's name
   here : (capacity : Option ℕ) (done : List (Called T)) (old new : Option (View T)) (r : Request T A) (a : Answer T) → IsTopic is_clone capacity done old → IsAnswer (is_some old) r a → Changes is_clone r a old new → IsTopic is_clone (option_or capacity (opens true r a)) (done ++ done_by true (call_of r) a) new
   here capacity done old new (request.Open name asked) answer.Opened topic fit is = opened capacity done old new (request.Open name asked) asked refl topic fit is
-  here capacity done old new (request.Open name asked) answer.BadName topic fit is = kept is_clone capacity done old new topic is
-  here capacity done old new (request.Open name asked) answer.Exists topic fit is = kept is_clone capacity done old new topic is
-  here capacity done old new (request.Open name asked) answer.Memory topic fit is = kept is_clone capacity done old new topic is
-  here capacity done old new (request.Open name asked) answer.NoTopic topic fit is = kept is_clone capacity done old new topic is
-  here capacity done old new (request.Open name asked) (answer.Done r) topic fit is = kept is_clone capacity done old new topic is
+  here capacity done old new (request.Open name asked) a topic fit is = kept is_clone capacity done old new topic is
   here capacity done old new (request.Follow name) a topic fit is = called is_clone capacity done old new call.NewReceiver a topic is
   here capacity done old new (request.Publish name msg) a topic fit is = called is_clone capacity done old new (call.TryBroadcast msg) a topic is
   here capacity done old new (request.Receive name key) a topic fit is = called is_clone capacity done old new (call.TryRecv key) a topic is
