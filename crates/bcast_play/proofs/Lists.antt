@@ -7,7 +7,7 @@ use Rattle.bcast_model.specs.declared.run.Reply.{Reply}
 use Rattle.bcast_text.specs.Run.{AreAnswered, EndsLines, IsRun}
 use Rattle.bcast_text.specs.TraceReply as replies
 use Rattle.bcast_text.specs.declared.ending.Ending.{Ending}
-use Rattle.bcast_text.specs.declared.ending.Ending.TheVariants.{Done, Differ, WrongArguments, NotACall, NoMemory, NoThread, InputFailed, OutputFailed}
+use Rattle.bcast_text.specs.declared.ending.Ending.TheVariants.{Done, Differ, WrongArguments, NoThread, OutputFailed}
 use Rattle.std.specs.Prelude.{MatchOption}
 use Rattle.bcast_play.specs.TraceRun.{OpensNone, AsksForNone}
 use Rattle.std.specs.Fmt.{decimal}
@@ -118,11 +118,7 @@ run_opened run =
 
 -- an ending is one of a run over lines, if it is one when no write failed
 pub unfailed_ends : (e : Ending) → (e ≢ OutputFailed → EndsLines e) → EndsLines e
-unfailed_ends Done h = tt
 unfailed_ends Differ h = h (λ is. absurd (cc))
 unfailed_ends (WrongArguments program) h = h (λ is. absurd (cc))
-unfailed_ends (NotACall line) h = tt
-unfailed_ends NoMemory h = tt
 unfailed_ends NoThread h = h (λ is. absurd (cc))
-unfailed_ends InputFailed h = tt
-unfailed_ends OutputFailed h = tt
+unfailed_ends e h = tt

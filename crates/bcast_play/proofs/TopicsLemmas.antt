@@ -14,17 +14,13 @@ use Rattle.bcast_model.specs.declared.run.Call.{Call}
 use Rattle.bcast_play.specs.TopicsLine.{word_of}
 use Rattle.bcast_play.specs.TopicsShown.{follower_of}
 use Rattle.bcast_play.specs.declared.hub.line.Line.{Line}
-use Rattle.bcast_play.specs.declared.hub.line.Line.TheVariants.{Open, Follow, Publish, Receive, Leave, Close}
+use Rattle.bcast_play.specs.declared.hub.line.Line.TheVariants.{Open}
 use Rattle.bcast_play.specs.declared.hub.followers.Follower.{Follower}
 
 -- no word has a space
 plain_word : (line : Line) → is_plain (word_of line) ≡ true
 plain_word (Open topic n) = refl
-plain_word (Follow topic new) = refl
-plain_word (Publish topic msg) = refl
-plain_word (Receive name) = refl
-plain_word (Leave name) = refl
-plain_word (Close topic) = refl
+plain_word line = refl
 
 pub word_space : (line : Line) → Lacks 32 (word_of line)
 word_space line = plain_space (word_of line) (plain_word line)

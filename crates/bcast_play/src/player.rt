@@ -28,17 +28,6 @@ pub struct Player<A: Allocator> {
 }
 
 impl<A: Allocator + Copy> Player<A> {
-    /// A player before line 1.
-    pub fn new(alloc: A, heap: Global) -> Self
-        ensures { result.inner ≡ None }
-    {
-        Player {
-            alloc,
-            heap,
-            inner: None,
-        }
-    }
-
     /// Makes the channel that `line` opens, and writes the line.
     fn start<W: Write>(&mut self, line: &str, output: &mut W) -> Result<(), Fault>
         ensures ok { OnOk result ((answer : List ℕ)
@@ -143,6 +132,10 @@ pub fn trace<A: Allocator + Copy, R: Read + Drop, W: Write>(
         × IsRun IsNoTraceLine false LONGEST (IsTraceLine A) (R.remaining input)
         (W.contents output.old) (W.contents output.new) None last result }
 {
-    let mut player = Player::new(alloc, heap);
+    let mut player = Player {
+        alloc,
+        heap,
+        inner: None,
+    };
     run_lines(alloc, input, LONGEST, output, &mut player)
 }
