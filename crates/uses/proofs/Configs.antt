@@ -17,10 +17,10 @@ use Rattle.bcast_model.specs.Words.{skipped_to, is_empty_reply, try_recv_reply, 
 use Rattle.bcast_model.specs.Words.{View, is_full, Answers, IsValidView}
 use Rattle.bcast_model.proofs.Cases.{receive_is, test_is}
 use Rattle.bcast_model.proofs.Least.{least-le-cursor, len_insert}
+use Rattle.bcast_model.proofs.DeliveryMaps.{inserted_other}
 use Rattle.bcast_core.proofs.Settle.{inserted, somebody, cursors-accepting}
 use Rattle.uses.specs.Config.{IsConfig, IsUpToDate, KeepsOthers, set_answer}
 use Rattle.uses.proofs.Called.{valid, after, unchanged, on_ok}
-use Rattle.uses.proofs.Cursors.{get-insert_other}
 use Rattle.uses.proofs.Sends.{accepted}
 
 module _ {S : Type 0} where
@@ -49,7 +49,7 @@ module _ {S : Type 0} where
     seen_at : (number : ℕ) → number ≡ v.end → Leaves (with_cursor v.control key number)
     seen_at number at = record {
       config = record { capacity = config.capacity; overflow = config.overflow; watchers = len_insert v.control.cursors key number };
-      others = record { end = same_end; closed = refl; others = λ other differs. get-insert_other v.control.cursors key number other differs };
+      others = record { end = same_end; closed = refl; others = λ other differs. inserted_other v.control.cursors key number other differs };
       seen = λ n e. sym (same_Some number n (sym (inserted v.control.cursors key number) ∙ e)) ∙ at ∙ sym same_end;
     }
 

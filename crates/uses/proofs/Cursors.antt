@@ -1,20 +1,13 @@
 -- The cursors after one of them moved.
-use Rattle.std.proofs.Common.{◌≡◌, ℕ, ◌==◌, ◌≤◌, true, false, cond, Some, sym, refl, ap, ◌∙◌, subst, arith}
-use Rattle.std.proofs.lemmas.Grind.{common_steps}
+use Rattle.std.proofs.Common.{◌≡◌, ℕ, ◌≤◌, true, false, cond, Some, sym, refl, ◌∙◌, subst}
 use Rattle.std.proofs.lemmas.Option.{same_Some}
 use Rattle.std.specs.Prelude.{IsSome}
 use Rattle.std.specs.Ordering.{nat_cmp, eq_by_cmp}
-use Rattle.std.specs.Cmp.{nat_cmp_total, unsigned_tied}
+use Rattle.std.specs.Cmp.{nat_cmp_total}
 use Rattle.std.specs.FinMap.{get, insert, get-insert}
 use Rattle.bcast_model.specs.Control.{Cursors}
 
-pub apart : (x y : ℕ) → (x ≡ y → ⊥) → (x == y) ≡ false
-apart x y differs = elim (x == y) as (λ b. (x == y) ≡ b → b ≡ false) [ true ↦ λ e. absurd (differs (grind (arith, common_steps, e))) | false ↦ λ _. refl ] refl
-
 module _ (m : Cursors) (key cursor other : ℕ) where
-  pub get-insert_other : (other ≡ key → ⊥) → get (insert m key cursor) other ≡ get m other
-  get-insert_other differs = get-insert nat_cmp_total m key cursor other ∙ ap (λ b. cond b (Some cursor) (get m other)) (unsigned_tied other key ∙ apart other key differs)
-
   pub some_insert : IsSome (get m other) → IsSome (get (insert m key cursor) other)
   some_insert is = subst IsSome (sym (get-insert nat_cmp_total m key cursor other)) (elim (eq_by_cmp nat_cmp other key) as (λ b. IsSome (cond b (Some cursor) (get m other))) [ true ↦ refl | false ↦ is ])
 

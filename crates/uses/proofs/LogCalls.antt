@@ -16,7 +16,7 @@ use Rattle.bcast_model.specs.declared.run.Reply.TheVariants as reply
 use Rattle.bcast_model.specs.Words.{Control, cursor_of, with_cursor, sets, clone_receiver, IsOwed}
 use Rattle.bcast_model.specs.Words.{recv_reply, receive, try_recv_reply, ClonesEqual, settle, View}
 use Rattle.bcast_model.specs.Words.{kept_at, Answers, IsValidView}
-use Rattle.bcast_model.proofs.Cases.{receive_is}
+use Rattle.bcast_model.proofs.Cases.{receive_is, uncloned}
 use Rattle.bcast_model.proofs.Clones.{answers_exact}
 use Rattle.bcast_core.proofs.Settle.{settle_same}
 use Rattle.uses.specs.Log.{kept_from, unread, record_of, IsReader, IsLog, IsRead, KeepsReaders, KeepsUnread}
@@ -24,10 +24,6 @@ use Rattle.uses.specs.Reading.{IsTaken}
 use Rattle.uses.proofs.Called.{told, some_of, valid, after, unchanged}
 use Rattle.uses.proofs.Exact.{exact_of}
 use Rattle.uses.proofs.Logs.{told_log, ReadsFrom, told_reads, reads_from}
-
-nothing_added : (c : Control) (o : Option ℕ) → clone_receiver c o None ≡ c
-nothing_added c None = refl
-nothing_added c (Some cursor) = refl
 
 module _ {T : Type 0} where
   -- ---- `try_recv`
@@ -120,5 +116,5 @@ module _ {T : Type 0} where
         record { log = s.log; added = s.own ∙ sym (ap (kept_from v) at.1); others = s.others; reader = s.reader; readers = s.readers }
   ]
   adds {v = v} {w = w} {key = key} (Err error) a log =
-      let same : w ≡ v = unchanged a (ap (λ c. sets c) (nothing_added v.control (cursor_of v.control key))) refl in
+      let same : w ≡ v = unchanged a (ap (λ c. sets c) (uncloned v.control (cursor_of v.control key))) refl in
       subst (λ u. Adds v u key (Err error)) (sym same) (record { log = log; added = tt; others = tt; reader = tt; readers = λ other is. is })

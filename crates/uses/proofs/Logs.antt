@@ -11,10 +11,11 @@ use Rattle.bcast_model.specs.Words.{with_message, IsValid, View, Represents, Ans
 use Rattle.bcast_model.proofs.Cases.{accepting_is, close_is}
 use Rattle.bcast_model.proofs.Least.{least-le-cursor}
 use Rattle.bcast_model.proofs.Views.{valid_view}
+use Rattle.bcast_model.proofs.DeliveryMaps.{inserted_other}
 use Rattle.bcast_core.proofs.Settle.{inserted, cursors-accepting}
 use Rattle.uses.specs.Log.{kept_from, unread, IsReader, IsLog, KeepsReaders, AddsUnread, KeepsUnread}
 use Rattle.uses.proofs.Called.{told, some_of, valid}
-use Rattle.uses.proofs.Cursors.{get-insert_other, some_insert, high_insert}
+use Rattle.uses.proofs.Cursors.{some_insert, high_insert}
 use Rattle.uses.proofs.Sends.{put_last}
 
 module _ {T : Type 0} where
@@ -85,7 +86,7 @@ module _ {T : Type 0} where
       reader = subst IsSome (sym own) refl;
       own = ap (kept_from u) own ∙ kept_sets v (with_cursor v.control key number) (Some number) (λ n e. (subst (λ k. v.front ≤ k) (same_Some number n e) low, high key n (own ∙ e)));
       others = λ other differs.
-          let stays = get-insert_other v.control.cursors key number other differs in
+          let stays = inserted_other v.control.cursors key number other differs in
           ap (kept_from u) stays ∙ kept_sets v (with_cursor v.control key number) (get v.control.cursors other) (λ n e. (log.reach other n e, high other n (stays ∙ e)));
       readers = λ other is. some_insert v.control.cursors key number other is;
     }

@@ -11,11 +11,11 @@ use Rattle.bcast_model.specs.Words.{opening, view_of, try_broadcast_reply, with_
 use Rattle.bcast_model.specs.Words.{View, is_full, Answers, Represents}
 use Rattle.bcast_model.proofs.Least.{len_some}
 use Rattle.bcast_model.proofs.Views.{valid_view}
+use Rattle.bcast_core.proofs.Offers.{are_unequal}
 use Rattle.bcast_core.proofs.Settle.{inserted}
 use Rattle.uses.specs.Log.{unread, IsReader, KeepsReaders}
 use Rattle.uses.specs.Reading.{HasRoom, IsSent}
 use Rattle.uses.proofs.Called.{told}
-use Rattle.uses.proofs.Cursors.{apart}
 use Rattle.uses.proofs.Sends.{replied, put_last}
 use Rattle.uses.proofs.Logs.{new_log, writes}
 
@@ -31,7 +31,7 @@ module _ {T : Type 0} where
       let has : HasRoom u capacity = record {
         log = record { overflow = refl; reach = λ reader cursor e. omega (arith, high) };
         is_open = refl;
-        receivers = apart _ _ (λ e. omega (arith, some, e));
+        receivers = are_unequal _ _ (λ e. omega (arith, some, e));
         room = omega (arith, end);
         numbers = omega (arith, few);
       } in
@@ -42,7 +42,7 @@ module _ {T : Type 0} where
   none_refused : (v : View T) (msg : T) (count : ℕ) → HasRoom v (count + 1) → is_ok (try_broadcast_reply v msg) ≡ true
   none_refused v msg count has =
       let room = has.room in
-      let full : is_full v ≡ false = apart _ _ (λ e. omega (arith, room, e)) in
+      let full : is_full v ≡ false = are_unequal _ _ (λ e. omega (arith, room, e)) in
       rw (has.is_open, has.receivers, full) refl
 
   accepted : {is_clone : T → T → Type 0} {v w : View T} {msg : T} (count : ℕ) (r : Result (Option T) (TrySendError T)) → Answers is_clone v (call.TryBroadcast msg) (reply.TryBroadcast r) w → HasRoom v (count + 1) → IsOk r
@@ -65,7 +65,7 @@ module _ {T : Type 0} where
       let room = has.room in
       let numbers = has.numbers in
       let more = length-append v.queue (msg ∷ []) in
-      let before : ((v.end + 1) == last_end) ≡ false = apart _ _ (λ e. omega (arith, numbers, e)) in
+      let before : ((v.end + 1) == last_end) ≡ false = are_unequal _ _ (λ e. omega (arith, numbers, e)) in
       let is : accepting v.control (v.end + 1) ≡ tell_receivers v.control = ap (λ b. cond b (close (tell_receivers v.control)) (tell_receivers v.control)) before in
       record {
         is_open = ap (λ c. c.closed) is ∙ has.is_open;

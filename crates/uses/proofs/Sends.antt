@@ -19,11 +19,9 @@ module _ {T : Type 0} where
 
   -- if a message is accepted without overflow, there is a receiver and there is room
   room_of : (closed none full over : Bool) (x y z : TrySendError T) (back : Option T) → over ≡ false → is_ok (cond closed (Err x) (cond none (Err y) (cond (full && not over) (Err z) (Ok back)))) ≡ true → (none ≡ false) × (full ≡ false)
-  room_of true none full over x y z back plain e = absurd (true≢false (sym e))
-  room_of false true full over x y z back plain e = absurd (true≢false (sym e))
-  room_of false false true false x y z back plain e = absurd (true≢false (sym e))
   room_of false false true true x y z back plain e = absurd (true≢false plain)
   room_of false false false over x y z back plain e = (refl, refl)
+  room_of closed none full over x y z back plain e = absurd (true≢false (sym e))
 
   module _ {is_clone : T → T → Type 0} {v w : View T} {msg : T} where
     pub replied : {result : Result (Option T) (TrySendError T)} → Answers is_clone v (call.TryBroadcast msg) (reply.TryBroadcast result) w → result ≡ try_broadcast_reply v msg

@@ -12,10 +12,11 @@ use Rattle.bcast_model.specs.declared.run.Reply.TheVariants as reply
 use Rattle.bcast_model.specs.Words.{cursor_of, sets, effect, recv_reply, receive, try_recv_reply}
 use Rattle.bcast_model.specs.Words.{View, Answers, IsValidView}
 use Rattle.bcast_model.proofs.Cases.{receive_is}
+use Rattle.bcast_model.proofs.DeliveryMaps.{inserted_other}
 use Rattle.bcast_core.proofs.Settle.{inserted}
 use Rattle.uses.specs.Signal.{signal_of, IsSignal, AddsWorker, is_closed_reply}
 use Rattle.uses.proofs.Called.{valid, after, unchanged, some_of}
-use Rattle.uses.proofs.Cursors.{get-insert_other, some_insert}
+use Rattle.uses.proofs.Cursors.{some_insert}
 
 abbrev Nothing : Type 0
 Nothing = Unit {0}
@@ -65,6 +66,6 @@ added {v = v} (Ok key) a = after a (λ u. AddsWorker (signal_of v) (signal_of u)
   holders = refl;
   worker = subst IsSome (sym (inserted v.control.cursors key v.end)) refl;
   others = λ other is. some_insert v.control.cursors key v.end other is;
-  only = λ other differs is. subst IsSome (get-insert_other v.control.cursors key v.end other differs) is;
+  only = λ other differs is. subst IsSome (inserted_other v.control.cursors key v.end other differs) is;
 })
 added (Err error) a = tt
