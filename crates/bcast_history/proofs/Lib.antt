@@ -1,0 +1,3 @@
+pub mod Appends
+pub mod Prefixes
+pub mod Adding
