@@ -5,20 +5,24 @@ ghost use Rattle.async_broadcast.specs.Kinds.{may_wait, is_answer};
 ghost use Rattle.async_broadcast.specs.Snapshots.{ShowsSomeState};
 
 use crate::inactive::InactiveReceiver;
+use crate::keep::{Keep, KeepsNothing};
 use crate::port::{Port, TimedPort};
 use crate::receiver::Receiver;
 use crate::sender::Sender;
 use crate::wake::{Wake, WakerSlot};
 use bcast_core::{Call, Inner, Reply, Snapshot, TryRecvError, TrySendError};
-use channel::{Channel, lock, locked};
+use channel::{Channel, kept, lock, locked, look};
 use limit::{NoLimit, TimeLimit};
+use made::{TriedToReceive, TriedToSend};
 use std::alloc::{AllocError, Allocator, Global};
+use std::snapshot::Snapshot as Shown;
 use std::sync::{Arc, Wait};
 use std::time::{Clock, Duration};
 
 mod asking;
 mod channel;
 pub(crate) mod limit;
+mod made;
 mod state;
 mod threads;
 mod waiting;
@@ -27,13 +31,14 @@ mod waiting;
 /// call waits for it.
 ///
 /// A reply is one that the channel gives in some valid history. A contract knows nothing more of
-/// the channel, since its other handles change it too.
+/// the channel, since its other handles change it too, unless the lock keeps the calls (`K`).
 ///
 /// A message is cloned and dropped, and a waker is dropped, while the lock is held: none of these
 /// may use a handle of the same channel, which would wait for the lock for ever.
-pub struct Lock<T: Clone, R: Wait + Clone, A: Allocator = Global> {
-    channel: Arc<Channel<T, A>, A>,
+pub struct Lock<T: Clone, R: Wait + Clone, A: Allocator = Global, K: Keep<T> = KeepsNothing> {
+    channel: Arc<Channel<T, A, K>, A>,
     rt: R,
+    known: K::Known,
 }
 
 /// A sender of a channel that `broadcast` made.
@@ -114,8 +119,31 @@ impl<T: Clone, R: Wait + Clone, A: Allocator + Copy> Lock<T, R, A> {
         alloc: A,
         inner: Inner<T, Wake<WakerSlot<A>>, A>,
     ) -> Result<Self, AllocError> {
-        let channel = Arc::new(alloc, Channel::new(inner))?;
-        Ok(Lock { channel, rt })
+        Lock::keeping(rt, alloc, inner, KeepsNothing, ())
+    }
+}
+
+impl<T: Clone, R: Wait + Clone, A: Allocator + Copy, K: Keep<T>> Lock<T, R, A, K> {
+    /// The port of a channel that the caller made, as `new` makes it. Its lock begins with `kept`,
+    /// which keeps the calls on the channel, and `known` is what the port knows of them.
+    ///
+    /// # Errors
+    ///
+    /// - `AllocError`: no memory for what the ports share. The channel is dropped.
+    ///
+    /// Source: this crate's own.
+    pub fn keeping(
+        rt: R,
+        alloc: A,
+        inner: Inner<T, Wake<WakerSlot<A>>, A>,
+        kept: K,
+        known: K::Known,
+    ) -> Result<Self, AllocError>
+        requires { ∥ K.keeps kept inner ∥₁ }
+        ensures { IfOk result (λ port. port.known ≡ known) }
+    {
+        let channel = Arc::new(alloc, Channel::new(inner, kept))?;
+        Ok(Lock { channel, rt, known })
     }
 
     /// The view of the channel, as a value. It is allocated from `alloc`.
@@ -128,7 +156,7 @@ impl<T: Clone, R: Wait + Clone, A: Allocator + Copy> Lock<T, R, A> {
     pub fn snapshot(&self, alloc: A) -> Result<Snapshot<T, A>, AllocError>
         ensures { IfOk result (λ snapshot. ShowsSomeState T.is_clone snapshot) }
     {
-        locked!(self, |inner| {
+        look!(self, |inner| {
             inner.invariant_holds();
             inner.snapshot(alloc)
         })
@@ -137,7 +165,7 @@ impl<T: Clone, R: Wait + Clone, A: Allocator + Copy> Lock<T, R, A> {
     pub(crate) fn unread(&self, key: usize) -> usize
         ensures { (v : View T) × IsShown v × (result ≡ unread v key) }
     {
-        locked!(self, |inner| {
+        look!(self, |inner| {
             inner.invariant_holds();
             inner.unread(key)
         })
@@ -146,14 +174,15 @@ impl<T: Clone, R: Wait + Clone, A: Allocator + Copy> Lock<T, R, A> {
     pub(crate) fn missed(&self, key: usize) -> u64
         ensures { (v : View T) × IsShown v × (result ≡ missed v key) }
     {
-        locked!(self, |inner| {
+        look!(self, |inner| {
             inner.invariant_holds();
             inner.missed(key)
         })
     }
 }
 
-impl<T: Clone, R: Wait + Clone, A: Allocator + Copy> Port<T, WakerSlot<A>> for Lock<T, R, A> {
+impl<T: Clone, R: Wait + Clone, A: Allocator + Copy, K: Keep<T>> Port<T, WakerSlot<A>>
+    for Lock<T, R, A, K> {
     ghost use Rattle.std.specs.Prelude.{⊤};
 
     ghost lacks_memory = { λ _. ⊤ };
@@ -162,14 +191,35 @@ impl<T: Clone, R: Wait + Clone, A: Allocator + Copy> Port<T, WakerSlot<A>> for L
     fn try_broadcast(&self, msg: T) -> Result<Option<T>, TrySendError<T>>
         ensures { IsPossible T.is_clone (Call.TryBroadcast msg) (Reply.TryBroadcast result) }
     {
-        locked!(self, |inner| inner.try_broadcast(msg))
+        let msg_shown = Shown::of(&msg);
+        locked!(
+            self,
+            &mut K::same(&self.known),
+            |inner| inner.try_broadcast(msg),
+            |sent| {
+                TriedToSend {
+                    msg: msg_shown,
+                    sent: &sent
+                }
+            }
+        )
     }
 
     #[inline(always)]
     fn try_recv(&self, key: usize) -> Result<Result<T, TryRecvError>, AllocError>
         ensures { IsPossible T.is_clone (Call.TryRecv key) (Reply.TryRecv result) }
     {
-        locked!(self, |inner| inner.try_recv(key))
+        locked!(
+            self,
+            &mut K::same(&self.known),
+            |inner| inner.try_recv(key),
+            |answer| {
+                TriedToReceive {
+                    key,
+                    answer: &answer
+                }
+            }
+        )
     }
 
     fn ask_waiting(&self, call: Call<T>) -> Reply<T>
@@ -177,28 +227,37 @@ impl<T: Clone, R: Wait + Clone, A: Allocator + Copy> Port<T, WakerSlot<A>> for L
         ensures reply { IsPossible T.is_clone call result }
         ensures answered { is_answer result ≡ true }
     {
-        self.ask_within(call, &NoLimit)
+        self.ask_within(&mut K::same(&self.known), call, &NoLimit)
     }
 
     fn same(&self) -> Option<Self> {
         let channel = Arc::try_clone(&self.channel).ok()?;
         let rt = self.rt.clone().ok()?;
-        Some(Lock { channel, rt })
+        Some(Lock {
+            channel,
+            rt,
+            known: K::same(&self.known),
+        })
     }
 }
 
-impl<T: Clone, R: Wait + Clone + Clock, A: Allocator + Copy> TimedPort<T, WakerSlot<A>>
-    for Lock<T, R, A> {
+impl<T: Clone, R: Wait + Clone + Clock, A: Allocator + Copy, K: Keep<T>> TimedPort<T, WakerSlot<A>>
+    for Lock<T, R, A, K> {
     fn ask_timeout(&self, call: Call<T>, limit: Duration) -> Reply<T>
         requires { may_wait call ≡ true }
         ensures { IsPossible T.is_clone call result }
     {
-        self.ask_within(call, &TimeLimit::from_now(&self.rt, limit))
+        let limit = TimeLimit::from_now(&self.rt, limit);
+        self.ask_within(&mut K::same(&self.known), call, &limit)
     }
 }
 
-impl<T: Clone, R: Wait + Clone, A: Allocator> Drop for Lock<T, R, A> {
+impl<T: Clone, R: Wait + Clone, A: Allocator, K: Keep<T>> Drop for Lock<T, R, A, K> {
     fn drop(self) {
-        let Lock { channel: _, rt: _ } = self;
+        let Lock {
+            channel: _,
+            rt: _,
+            known: _,
+        } = self;
     }
 }

@@ -1,5 +1,6 @@
 //! The receiving side.
-ghost use Rattle.std.specs.Prelude.{◌≡◌, Ok, Err, IfOk, IfErr, ◌⊎◌};
+ghost use Rattle.std.specs.Prelude.{◌≡◌, true, Ok, Err, IfOk, IfErr, ◌⊎◌};
+ghost use Rattle.async_broadcast.specs.Kinds.{is_answer};
 ghost use Rattle.async_broadcast.specs.Ports.{IsSame, as_try_recv};
 
 use crate::asked::{ask, make};
@@ -111,12 +112,7 @@ impl<T: Clone, P: Port<T, WakerSlot<A>>, A: Allocator + Copy> Receiver<T, P, A> 
         ensures same { self.new ≡ self.old }
     {
         match self.port.ask_waiting(Call::TryRecv(self.role.key)) {
-            Reply::TryRecv(Ok(Ok(msg))) => Ok(Ok(msg)),
-            Reply::TryRecv(Ok(Err(TryRecvError::Overflowed(n)))) => {
-                Ok(Err(RecvError::Overflowed(n)))
-            }
-            Reply::TryRecv(Ok(Err(TryRecvError::Closed))) => Ok(Err(RecvError::Closed)),
-            Reply::TryRecv(Err(error)) => Err(error),
+            Reply::TryRecv(received) => answered(received),
             _ => unreachable!(),
         }
     }
@@ -260,6 +256,22 @@ impl<T: Clone, P: Port<T, WakerSlot<A>>, A: Allocator + Copy> Receiver<T, P, A> 
             Ok(()) => Ok(self.turned(Inactive)),
             Err(error) => Err((self, error)),
         }
+    }
+}
+
+// What a `try_recv` returned that found a message, or that there will be none.
+pub(crate) fn answered<T>(
+    received: Result<Result<T, TryRecvError>, AllocError>,
+) -> Result<Result<T, RecvError>, AllocError>
+    requires { is_answer (Reply.TryRecv received) ≡ true }
+    ensures { as_try_recv result ≡ received }
+{
+    match received {
+        Ok(Ok(msg)) => Ok(Ok(msg)),
+        Ok(Err(TryRecvError::Overflowed(n))) => Ok(Err(RecvError::Overflowed(n))),
+        Ok(Err(TryRecvError::Closed)) => Ok(Err(RecvError::Closed)),
+        Ok(Err(TryRecvError::Empty)) => unreachable!(),
+        Err(error) => Err(error),
     }
 }
 

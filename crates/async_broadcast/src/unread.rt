@@ -2,12 +2,13 @@
 ghost use Rattle.std.specs.Prelude.{◌≡◌};
 ghost use Rattle.bcast_model.specs.Words.{View, IsShown, unread, missed};
 
+use crate::keep::Keep;
 use crate::lock::Lock;
 use crate::receiver::Receiver;
 use std::alloc::Allocator;
 use std::sync::Wait;
 
-impl<T: Clone, R: Wait + Clone, A: Allocator + Copy> Receiver<T, Lock<T, R, A>, A> {
+impl<T: Clone, R: Wait + Clone, A: Allocator + Copy, K: Keep<T>> Receiver<T, Lock<T, R, A, K>, A> {
     /// How many of the messages that the channel keeps this receiver has still to read. `len` is
     /// how many the channel keeps, for all receivers.
     ///

@@ -1,16 +1,19 @@
 //! A call on a channel behind its lock, and a poll, whose notice is made under the same lock.
 ghost use Rattle.std.specs.Prelude.{◌≡◌, true, false, IfOk, IfErr, OnErr};
 ghost use Rattle.futures.specs.Task.{IsArmed, Keeps};
-ghost use Rattle.bcast_model.specs.Words.{HasPositiveCapacity, IsPossible, must_wait};
+ghost use Rattle.bcast_model.specs.Words.{Answers, HasPositiveCapacity, IsPossible, must_wait};
 
 use super::Lock;
-use super::channel::{lock, locked};
+use super::channel::{kept, lock, locked};
+use super::made::{Asked, BegunToSend, EndedFuture};
+use crate::keep::Keep;
 use crate::port::Ask;
 use crate::wake::making::{ForTask, RegistersIn};
 use crate::wake::{Registers, Wake, WakerSlot};
 use bcast_core::{Call, Inner, Reply, poll, step};
 use futures::task::Context;
 use std::alloc::{AllocError, Allocator};
+use std::snapshot::Snapshot;
 use std::sync::Wait;
 
 // Makes a call for a task: if it is a poll that must wait, the task is registered, and a notice for
@@ -23,8 +26,10 @@ fn poll_for<T: Clone, A: Allocator + Copy, C, W: RegistersIn<WakerSlot<A>, C>>(
     cx: &mut C,
 ) -> Result<Reply<T>, Call<T>>
     requires { HasPositiveCapacity call }
+    ensures answers { IfOk result (λ reply. Answers T.is_clone inner.old call reply inner.new) }
     ensures asked { IfOk result (IsPossible T.is_clone call) }
     ensures back { IfErr result (λ back. back ≡ call) }
+    ensures same { OnErr result (inner.new ≡ inner.old) }
 
     ensures notice { IfOk result (λ reply. must_wait reply ≡ true
         → W.is_refused task.new ≡ false) }
@@ -39,7 +44,80 @@ fn poll_for<T: Clone, A: Allocator + Copy, C, W: RegistersIn<WakerSlot<A>, C>>(
     poll(inner, call, &mut maker)
 }
 
-impl<T: Clone, R: Wait + Clone, A: Allocator + Copy> Ask<T, WakerSlot<A>> for Lock<T, R, A> {
+impl<T: Clone, R: Wait + Clone, A: Allocator + Copy, K: Keep<T>> Lock<T, R, A, K> {
+    /// Makes one call on the channel, and tells `known` of it.
+    #[inline(always)]
+    pub fn ask_seen(
+        &self,
+        known: &mut K::Known,
+        call: Call<T>,
+        wake: Wake<WakerSlot<A>>,
+    ) -> Reply<T>
+        requires { HasPositiveCapacity call }
+        ensures told { K.told known.old call result known.new }
+        ensures possible { IsPossible T.is_clone call result }
+    {
+        let call_shown = Snapshot::of(&call);
+        locked!(
+            self,
+            known,
+            |inner| step(inner, call, wake),
+            |reply| {
+                Asked {
+                    call: call_shown,
+                    reply: &reply
+                }
+            }
+        )
+    }
+
+    /// Makes one of the four polls, as `Ask::poll` does, and tells `known` of it.
+    #[inline(always)]
+    pub fn poll_seen<W: Registers<WakerSlot<A>>>(
+        &self,
+        known: &mut K::Known,
+        call: Call<T>,
+        task: &mut W,
+        cx: &mut Context<'_>,
+    ) -> Result<Reply<T>, Call<T>>
+        requires { HasPositiveCapacity call }
+        ensures told { IfOk result (λ reply. K.told known.old call reply known.new) }
+        ensures asked { IfOk result (IsPossible T.is_clone call) }
+        ensures back { IfErr result (λ back. (back ≡ call) × (known.new ≡ known.old)) }
+
+        ensures notice { IfOk result (λ reply. must_wait reply ≡ true
+            → W.is_refused task.new ≡ false) }
+        ensures refused { OnErr result (W.is_refused task.new ≡ true) }
+        ensures registered { IfOk result (λ reply. must_wait reply ≡ true → IsArmed cx.new) }
+        ensures again { OnErr result (IsArmed cx.new) }
+        ensures kept { Keeps cx.old cx.new }
+        // A call that is answered doesn't change the task's waker and the poll's context.
+        ensures answered { IfOk result (λ reply. must_wait reply ≡ false
+            → (task.new ≡ task.old) × (cx.new ≡ cx.old)) }
+    {
+        let call_shown = Snapshot::of(&call);
+        let channel = &*self.channel;
+        let mut state = lock!(channel, &self.rt);
+        let locked = &mut *state;
+        let before = Snapshot::of(&locked.inner);
+        let polled = poll_for(&mut locked.inner, call, task, cx);
+        if let Ok(reply) = &polled {
+            let made = &Asked {
+                call: call_shown,
+                reply,
+            };
+            locked
+                .kept
+                .keep(&self.rt, known, made, &before, &locked.inner);
+        }
+        let woken = locked.threads.note(&locked.inner);
+        channel.unlock(state, woken);
+        polled
+    }
+}
+
+impl<T: Clone, R: Wait + Clone, A: Allocator + Copy, K: Keep<T>> Ask<T, WakerSlot<A>>
+    for Lock<T, R, A, K> {
     ghost use Rattle.async_broadcast.specs.OfKind.{possible};
 
     ghost gave = { λ _ call reply. IsPossible T.is_clone call reply };
@@ -51,7 +129,7 @@ impl<T: Clone, R: Wait + Clone, A: Allocator + Copy> Ask<T, WakerSlot<A>> for Lo
         requires { HasPositiveCapacity call }
         ensures { IsPossible T.is_clone call result }
     {
-        locked!(self, |inner| step(inner, call, wake))
+        self.ask_seen(&mut K::same(&self.known), call, wake)
     }
 
     #[inline(always)]
@@ -75,14 +153,19 @@ impl<T: Clone, R: Wait + Clone, A: Allocator + Copy> Ask<T, WakerSlot<A>> for Lo
         ensures answered { IfOk result (λ reply. must_wait reply ≡ false
             → (task.new ≡ task.old) × (cx.new ≡ cx.old)) }
     {
-        locked!(self, |inner| poll_for(inner, call, task, cx))
+        self.poll_seen(&mut K::same(&self.known), call, task, cx)
     }
 
     #[inline(always)]
     fn begin_send(&self) -> Result<usize, AllocError>
         ensures { IsPossible T.is_clone Call.BeginSend (Reply.BeginSend result) }
     {
-        locked!(self, |inner| inner.begin_send())
+        locked!(
+            self,
+            &mut K::same(&self.known),
+            |inner| inner.begin_send(),
+            |begun| { BegunToSend { place: &begun } }
+        )
     }
 
     // An answered poll has taken its listener off the list, and no other poll can have put it
@@ -94,6 +177,12 @@ impl<T: Clone, R: Wait + Clone, A: Allocator + Copy> Ask<T, WakerSlot<A>> for Lo
         if is_answered {
             return Wake::none();
         }
-        locked!(self, |inner| inner.take_future(key)).unwrap_or(Wake::none())
+        locked!(
+            self,
+            &mut K::same(&self.known),
+            |inner| inner.take_future(key),
+            |_notice| { EndedFuture { key } }
+        )
+        .unwrap_or(Wake::none())
     }
 }

@@ -4,6 +4,7 @@ ghost use Rattle.std.specs.Prelude.{◌≡◌, false};
 use super::limit::Limit;
 use super::state::State;
 use super::threads::Woken;
+use crate::keep::Keep;
 use crate::wake::{Wake, WakerSlot};
 use bcast_core::Inner;
 use std::alloc::Allocator;
@@ -11,8 +12,8 @@ use std::sync::{Condvar, Mutex, MutexGuard, Wait};
 
 /// A channel behind its lock.
 #[derive(Drop)]
-pub(super) struct Channel<T: Clone, A: Allocator> {
-    pub(super) state: Mutex<State<T, A>>,
+pub(super) struct Channel<T: Clone, A: Allocator, K: Keep<T>> {
+    pub(super) state: Mutex<State<T, A, K>>,
     /// Notified once a thread that waits to send should try again.
     pub(super) ready: Condvar,
     /// Notified once a thread that waits for a message should try again.
@@ -20,12 +21,14 @@ pub(super) struct Channel<T: Clone, A: Allocator> {
 }
 
 /// The state, while the lock is held.
-pub(super) type Locked<'a, T, A> = MutexGuard<'a, State<T, A>>;
+pub(super) type Locked<'a, T, A, K> = MutexGuard<'a, State<T, A, K>>;
 
-impl<T: Clone, A: Allocator + Copy> Channel<T, A> {
-    pub(super) fn new(inner: Inner<T, Wake<WakerSlot<A>>, A>) -> Self {
+impl<T: Clone, A: Allocator + Copy, K: Keep<T>> Channel<T, A, K> {
+    pub(super) fn new(inner: Inner<T, Wake<WakerSlot<A>>, A>, kept: K) -> Self
+        requires { ∥ K.keeps kept inner ∥₁ }
+    {
         Channel {
-            state: Mutex::new(State::new(inner)),
+            state: Mutex::new(State::new(inner, kept)),
             ready: Condvar::new(),
             news: Condvar::new(),
         }
@@ -33,7 +36,7 @@ impl<T: Clone, A: Allocator + Copy> Channel<T, A> {
 
     /// Releases the lock, and then wakes these threads.
     #[inline(always)]
-    pub(super) fn unlock(&self, state: Locked<'_, T, A>, woken: Option<Woken>) {
+    pub(super) fn unlock(&self, state: Locked<'_, T, A, K>, woken: Option<Woken>) {
         if let Some(woken) = woken {
             self.unlock_for(state, woken);
         }
@@ -41,7 +44,7 @@ impl<T: Clone, A: Allocator + Copy> Channel<T, A> {
 
     // In a function of its own, so that a call while no thread waits costs one test.
     #[inline(never)]
-    fn unlock_for(&self, state: Locked<'_, T, A>, woken: Woken) {
+    fn unlock_for(&self, state: Locked<'_, T, A, K>, woken: Woken) {
         drop(state);
         woken.wake(&self.ready, &self.news);
     }
@@ -52,10 +55,10 @@ impl<T: Clone, A: Allocator + Copy> Channel<T, A> {
         &'a self,
         rt: &R,
         condition: &Condvar,
-        state: Locked<'a, T, A>,
+        state: Locked<'a, T, A, K>,
         woken: Option<Woken>,
         limit: &L,
-    ) -> (Locked<'a, T, A>, bool)
+    ) -> (Locked<'a, T, A, K>, bool)
         ensures { L.is_endless → result.1 ≡ false }
     {
         if let Some(woken) = woken {
@@ -77,20 +80,42 @@ macro_rules! lock {
     };
 }
 
-/// Makes a call on the channel of a port, while its lock is held, and then wakes the threads that
-/// can do something.
+/// Looks at the channel of a port, while its lock is held.
+macro_rules! look {
+    ($port:expr, |$inner:ident| $look:expr) => {{
+        let state = lock!($port.channel, &$port.rt);
+        let $inner = &state.inner;
+        $look
+    }};
+}
+
+/// Makes a call on the channel of a locked state, and keeps it. `known` is told of the call, as
+/// `made` shows it.
+macro_rules! kept {
+    ($rt:expr, $known:expr, $locked:ident, |$inner:ident| $call:expr, |$reply:ident| $made:expr) => {{
+        let before = std::snapshot::Snapshot::of(&$locked.inner);
+        let $inner = &mut $locked.inner;
+        let $reply = $call;
+        $locked.kept.keep($rt, $known, &$made, &before, &$locked.inner);
+        $reply
+    }};
+}
+
+/// Makes a call on the channel of a port, while its lock is held, keeps it, and then wakes the
+/// threads that can do something.
 macro_rules! locked {
-    ($port:expr, |$inner:ident| $call:expr) => {{
+    ($port:expr, $known:expr, |$inner:ident| $call:expr, |$reply:ident| $made:expr) => {{
         let channel = &*$port.channel;
         let mut state = lock!(channel, &$port.rt);
         let locked = &mut *state;
-        let $inner = &mut locked.inner;
-        let reply = $call;
+        let reply = kept!(&$port.rt, $known, locked, |$inner| $call, |$reply| $made);
         let woken = locked.threads.note(&locked.inner);
         channel.unlock(state, woken);
         reply
     }};
 }
 
+pub(super) use kept;
 pub(super) use lock;
 pub(super) use locked;
+pub(super) use look;

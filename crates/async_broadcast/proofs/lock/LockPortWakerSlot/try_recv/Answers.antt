@@ -4,4 +4,4 @@ use Rattle.bcast_model.proofs.Answers.{possible}
 use Rattle.async_broadcast.proofs.lock.LockPortWakerSlot.try_recv.Goals as goal
 
 pub returns : goal.returns
-returns g c = possible refl c.try_recv-reply.ensures.answers
+returns g c = possible refl c.try_recv-answer.ensures.answers

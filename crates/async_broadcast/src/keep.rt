@@ -1,0 +1,106 @@
+//! What a lock keeps of the calls on its channel.
+ghost use Rattle.std.specs.Prelude.{◌≡◌};
+ghost use Rattle.bcast_model.specs.Words.{Answers};
+
+use crate::wake::{Wake, WakerSlot};
+use bcast_core::Inner;
+use std::alloc::Allocator;
+use std::snapshot::Snapshot;
+use std::sync::Wait;
+
+/// Shows a call that was made, and its reply.
+pub trait Made<T> {
+    ghost use Rattle.bcast_model.specs.declared.run.Call.{Call};
+    ghost use Rattle.bcast_model.specs.declared.run.Reply.{Reply};
+
+    ghost call: { Self → Call T };
+
+    ghost reply: { Self → Reply T };
+}
+
+/// What a lock keeps of the calls on its channel, beside the channel, and what its ports know of
+/// them. What it keeps is for contracts alone.
+pub trait Keep<T: Clone>: Sized + Drop {
+    ghost use Rattle.bcast_model.specs.declared.run.Call.{Call};
+    ghost use Rattle.bcast_model.specs.declared.run.Reply.{Reply};
+    ghost use Rattle.bcast_model.specs.View.{View};
+
+    /// What a port knows of the calls so far.
+    type Known: Drop;
+
+    // Holds of what is kept, and of the channel, whenever the lock is free.
+    ghost keeps: { Self → View T → Type 0 };
+
+    // Holds of what is known, and of all that may be known later.
+    ghost reaches: { Self.Known → Self.Known → Type 0 };
+
+    // Holds of what was known before a call, the call and its reply, and what is known then.
+    ghost told: { Self.Known → Call T → Reply T → Self.Known → Type 0 };
+
+    /// The same knowledge, for another port or another call.
+    fn same(known: &Self::Known) -> Self::Known
+        ensures { result ≡ known.now };
+
+    /// Keeps a call that was made on the channel, and tells a port of it.
+    fn keep<Y: Made<T>, A: Allocator + Copy>(
+        &mut self,
+        rt: &impl Wait,
+        known: &mut Self::Known,
+        made: &Y,
+        before: &Snapshot<Inner<T, Wake<WakerSlot<A>>, A>>,
+        after: &Inner<T, Wake<WakerSlot<A>>, A>,
+    )
+        requires kept { ∥ keeps self.old before.now.value ∥₁ }
+        requires answers { Answers T.is_clone before.now.value (Y.call made.now)
+            (Y.reply made.now) after.now }
+        ensures keeps { ∥ keeps self.new after.now ∥₁ }
+        ensures told { told known.old (Y.call made.now) (Y.reply made.now) known.new };
+
+    // What was known is known.
+    ghost unchanged: { (known : Self.Known) → reaches known known };
+
+    // A call adds to what is known.
+    ghost reached: { (known after : Self.Known) (call : Call T) (reply : Reply T)
+        → told known call reply after → reaches known after };
+
+    // Who knows less may be told of a call, too.
+    ghost sooner: { (less known after : Self.Known) (call : Call T) (reply : Reply T)
+        → reaches less known → told known call reply after → told less call reply after };
+}
+
+/// What the lock of a channel keeps that `broadcast` made: nothing.
+#[derive(Drop)]
+pub struct KeepsNothing;
+
+impl<T: Clone> Keep<T> for KeepsNothing {
+    ghost use Rattle.std.specs.Prelude.{⊤};
+
+    type Known = ();
+
+    ghost keeps = { λ kept v. ⊤ };
+
+    ghost reaches = { λ known after. ⊤ };
+
+    ghost told = { λ known call reply after. ⊤ };
+
+    #[inline(always)]
+    fn same(known: &()) -> () {
+        *known
+    }
+
+    #[inline(always)]
+    fn keep<Y: Made<T>, A: Allocator + Copy>(
+        &mut self,
+        _rt: &impl Wait,
+        _known: &mut (),
+        _made: &Y,
+        _before: &Snapshot<Inner<T, Wake<WakerSlot<A>>, A>>,
+        _after: &Inner<T, Wake<WakerSlot<A>>, A>,
+    ) {}
+
+    ghost unchanged = { λ known. tt };
+
+    ghost reached = { λ known after call reply told. tt };
+
+    ghost sooner = { λ less known after call reply reaches told. tt };
+}
