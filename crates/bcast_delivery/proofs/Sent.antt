@@ -1,0 +1,34 @@
+-- Where the messages of a call stand.
+use Rattle.std.proofs.Common.{◌≡◌, true, List, [], ◌∷◌, ◌++◌, refl, ap, ◌∙◌, subst}
+use mathlib.Core.List.{IsPrefix}
+use Rattle.bcast_model.specs.declared.run.Call.{Call}
+use Rattle.bcast_model.specs.declared.run.Reply.{Reply}
+use Rattle.bcast_model.specs.Words.{History, next, end_of_run}
+use Rattle.bcast_laws.specs.Sends.{messages_of, is_accepted}
+use Rattle.bcast_laws.proofs.Sends.{messages_added}
+use Rattle.bcast_history.specs.declared.step.Opening.{Opening}
+use Rattle.bcast_history.specs.declared.step.Step.{Step}
+use Rattle.bcast_history.specs.History.{calls_of, replies_of, start_of, end_of}
+use Rattle.bcast_history.proofs.Prefixes.{prefix_self, prefix_trans}
+use Rattle.bcast_delivery.specs.Follows.{Follows, accepted_by}
+use Rattle.bcast_delivery.specs.Laws.{SendsStandLast}
+
+module _ {T : Type 0} where
+  -- accepted messages stay, and more come after them
+  grows : (h : History T) (steps rest : List (Step T))
+      → IsPrefix (end_of_run h (calls_of steps) (replies_of steps)).accepted (end_of_run h (calls_of (steps ++ rest)) (replies_of (steps ++ rest))).accepted
+  grows h [] [] = prefix_self h.accepted
+  grows h [] (step ∷ rest) =
+      prefix_trans h.accepted (next h step.call step.reply).accepted _ (_, refl) (grows (next h step.call step.reply) [] rest)
+  grows h (step ∷ steps) rest = grows (next h step.call step.reply) steps rest
+
+  pub accepted_grows : (o : Opening) (known later : List (Step T)) → IsPrefix known later → IsPrefix (accepted_by o known) (accepted_by o later)
+  accepted_grows o known later begins =
+      subst (λ steps. IsPrefix (accepted_by o known) (accepted_by o steps)) begins.1 (grows (start_of o) known begins.0)
+
+  pub stands_last : (is_clone : T → T → Type 0) → SendsStandLast is_clone
+  stands_last is_clone o known after call reply follows accepted = (
+    accepted_by o follows.before,
+    accepted_grows o known follows.before follows.begins,
+    ap (λ h. h.accepted) follows.end ∙ messages_added is_clone (end_of o follows.before) call reply follows.legal accepted,
+  )

@@ -1,0 +1,18 @@
+-- The steps are a run with one more, and who is told knows them all.
+use Rattle.bcast_delivery.proofs.Keeping.{replays, replays_longer, follows}
+use Rattle.bcast_delivery.proofs.steps.KeepsStepsKeep.keep.Goals as goal
+
+pub invariant_of-self : goal.invariant_of-self
+invariant_of-self g c =
+    let old = replays _ _ g.row.T.coded c.self.view_is c.requires.kept c.self.invariant in
+    let new = replays_longer c.append.ensures.appended old c.requires.answers in (new.run, new.valid)
+
+pub returns-clause-keeps : goal.returns-clause-keeps
+returns-clause-keeps g c =
+    let old = replays _ _ g.row.T.coded c.self.view_is c.requires.kept c.self.invariant in
+    ∣ (replays_longer c.append.ensures.appended old c.requires.answers).end ∣₁
+
+pub returns-clause-told : goal.returns-clause-told
+returns-clause-told g c =
+    let old = replays _ _ g.row.T.coded c.self.view_is c.requires.kept c.self.invariant in
+    follows c.append.ensures.knows c.append.ensures.appended c.append.ensures.before old c.requires.answers.legal

@@ -1,0 +1,14 @@
+//! What follows from what calls tell.
+ghost use Rattle.bcast_delivery.specs.Laws.{SendsStandLast, ReceiversReadOn};
+
+/// Law: the messages of a call that were accepted come last of all that were accepted till then.
+/// Before them are all that the caller knew of, in the order in which it knew them.
+pub fn sends_stand_last<T: Clone>()
+    ensures { SendsStandLast T.is_clone }
+{}
+
+/// Law: what a call gives a receiver are the accepted messages from its cursor on, each the message
+/// itself, a clone, or that it is counted as missed; and its cursor is then after them.
+pub fn receivers_read_on<T: Clone>()
+    ensures { ReceiversReadOn T.is_clone }
+{}

@@ -1,0 +1,29 @@
+//! A channel behind a lock whose handles promise more: each call has its place in one history of
+//! the channel, which only grows.
+//!
+//! `Opened` makes a channel with a journal of the steps on it, each a call with its reply, and
+//! `broadcast` its first handles. They are the handles of `async_broadcast`, and make the same
+//! calls. A call that ends in `_seen` also tells its caller: it is lent a `Seen`, a beginning of
+//! the history that its caller knows, which then has the steps of others since, and last its own
+//! (`Follows`). All that any `Seen` of the channel knows are beginnings of one list, which is a run
+//! of the channel. So the laws of `bcast_laws` speak of it.
+//!
+//! No step is stored: a `Seen` has no bytes, and the journal is a word.
+//!
+//! The channel's parameter is `J: Channel`, which names it. A program uses the channel inside a
+//! function over `J`, here `work`, and calls it at `Brand` of `std::marker` with `opened`, an
+//! `Opened`. The caller's `Invariants.antt` says that `J` names this channel:
+//!
+//! ```text
+//! ghosts-work g a = record { book = a.opened.book; opening = a.opened.opening }
+//! ```
+#![tactic(auto)]
+
+mod laws;
+mod opened;
+mod steps;
+
+pub use bcast_history::{Opening, Step};
+pub use laws::{receivers_read_on, sends_stand_last};
+pub use opened::{History, HistoryReceiver, HistorySender, Opened, broadcast};
+pub use steps::{Channel, KeepsSteps, Seen};

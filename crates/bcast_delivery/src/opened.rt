@@ -1,0 +1,105 @@
+//! A channel that was made, before it has a name, and its first handles.
+ghost use Rattle.std.specs.Prelude.{◌≡◌, ◌<◌, [], IfOk};
+
+use crate::steps::{Channel, KeepsSteps, Seen};
+use async_broadcast::{Lock, Port, Receiver, Sender, Wake, WakerSlot};
+use bcast_core::Inner;
+use bcast_history::{Journal, Opening, Step};
+use std::alloc::{AllocError, Allocator, Global};
+use std::marker::Model;
+use std::sync::Wait;
+
+/// A channel on which no call was made, and its journal. They have no name yet. A contract sees
+/// both as what a name has to say of them.
+#[derive(Drop)]
+pub struct Opened<T: Clone, A: Allocator = Global> {
+    inner: Inner<T, Wake<WakerSlot<A>>, A>,
+    opening: Opening,
+    journal: Journal<Step<T>>,
+}
+
+impl<T: Clone, A: Allocator> Model for Opened<T, A> {
+    ghost use Rattle.bcast_model.specs.Words.{IsValid, Represents};
+    ghost use Rattle.bcast_history.specs.History.{start_of};
+    ghost use Rattle.bcast_delivery.specs.Opened.{Opened};
+
+    ghost Value = { Opened };
+
+    ghost view = { λ o. record { book = o.journal; opening = o.opening } };
+
+    ghost invariant = { λ o. Represents o.inner (start_of {T = T} o.opening)
+        × IsValid (start_of {T = T} o.opening) };
+}
+
+impl<T: Clone, A: Allocator + Copy> Opened<T, A> {
+    /// A channel that keeps at most `cap` messages at once, as `async_broadcast::broadcast` makes
+    /// it.
+    ///
+    /// # Errors
+    ///
+    /// - `AllocError`: no memory for the channel.
+    pub fn new(alloc: A, cap: usize) -> Result<Self, AllocError>
+        requires { 0 < cap }
+        ensures { IfOk result (λ opened. (opened.opening.capacity ≡ cap)
+            × (opened.opening.first_number ≡ 0)) }
+    {
+        let (inner, first_key) = Inner::new(alloc, cap)?;
+        let opening = Opening {
+            capacity: cap,
+            first_number: 0,
+            first_key,
+        };
+        Ok(Opened {
+            inner,
+            opening,
+            journal: Journal::new(),
+        })
+    }
+}
+
+/// The port of a channel whose steps are kept.
+pub type History<T, R, J, A = Global> = Lock<T, R, A, KeepsSteps<T, J>>;
+
+/// A sender of a channel whose steps are kept.
+pub type HistorySender<T, R, J, A = Global> = Sender<T, History<T, R, J, A>, A>;
+
+/// A receiver of a channel whose steps are kept.
+pub type HistoryReceiver<T, R, J, A = Global> = Receiver<T, History<T, R, J, A>, A>;
+
+/// Makes the first sender and the first receiver of this channel, whose name is `J`, and a `Seen`
+/// that knows no step on it.
+///
+/// # Errors
+///
+/// - `AllocError`: no memory for what the handles share. The channel is dropped.
+pub fn broadcast<T: Clone, R: Wait + Clone, J: Channel, A: Allocator + Copy>(
+    rt: R,
+    alloc: A,
+    opened: Opened<T, A>,
+) -> Result<
+    (
+        HistorySender<T, R, J, A>,
+        HistoryReceiver<T, R, J, A>,
+        Seen<T, J>,
+    ),
+    AllocError,
+>
+    requires { (opened.book ≡ J.book) × (opened.opening ≡ J.opening) }
+    ensures { IfOk result (λ made. made.2 ≡ []) }
+{
+    let Opened {
+        inner,
+        opening,
+        journal,
+    } = opened;
+    let steps = KeepsSteps::new(journal);
+    let seen = steps.nothing();
+    let port = Lock::keeping(rt, alloc, inner, steps, seen.same())?;
+    let other = port.same().ok_or(AllocError)?;
+    let sender = Sender::over(port, alloc);
+    Ok((
+        sender,
+        Receiver::over(other, opening.first_key, alloc),
+        seen,
+    ))
+}

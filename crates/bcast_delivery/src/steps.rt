@@ -1,0 +1,117 @@
+//! What the lock of such a channel keeps: the steps on it.
+ghost use Rattle.std.specs.Prelude.{◌≡◌, []};
+ghost use Rattle.bcast_model.specs.Words.{IsValid};
+ghost use Rattle.bcast_history.specs.History.{start_of};
+
+use async_broadcast::{Keep, Made, Wake, WakerSlot};
+use bcast_core::Inner;
+use bcast_history::{Journal, Named, Notes, Prefix, Step, Writer};
+use std::alloc::Allocator;
+use std::marker::{Brand, Model};
+use std::snapshot::Snapshot;
+use std::sync::Wait;
+
+/// Names a channel in the types of all that belongs to it: its journal, and what it was opened
+/// with.
+pub trait Channel: Named {
+    ghost use Rattle.bcast_history.specs.declared.step.Opening.{Opening};
+
+    ghost opening: { Opening };
+}
+
+impl Channel for Brand {
+    ghost opening = { record { capacity = 1; first_number = 0; first_key = 0 } };
+}
+
+/// What is known of the steps on a channel: a beginning of them. It has no bytes.
+pub type Seen<T, J> = Prefix<Step<T>, J>;
+
+/// The steps on a channel, for contracts. They are a run of it.
+#[derive(Drop)]
+pub struct KeepsSteps<T: Clone, J: Channel> {
+    writer: Writer<Step<T>, J>,
+}
+
+impl<T: Clone, J: Channel> Model for KeepsSteps<T, J> {
+    ghost use Rattle.std.specs.Prelude.{List};
+    ghost use Rattle.bcast_model.specs.Words.{IsValid};
+    ghost use Rattle.bcast_history.specs.declared.step.Step.{Step};
+    ghost use Rattle.bcast_history.specs.History.{IsHistory, end_of};
+
+    ghost Value = { List (Step T) };
+
+    ghost view = { λ s. s.writer };
+
+    ghost invariant = { λ s. IsHistory T.is_clone J.opening s.writer
+        × IsValid (end_of J.opening s.writer) };
+}
+
+impl<T: Clone, J: Channel> KeepsSteps<T, J> {
+    // No step was made.
+    pub(crate) fn new(journal: Journal<Step<T>>) -> KeepsSteps<T, J>
+        requires book { journal ≡ J.book }
+        requires valid { IsValid (start_of {T = T} J.opening) }
+        ensures { result ≡ [] }
+    {
+        KeepsSteps {
+            writer: journal.into_writer(),
+        }
+    }
+
+    // Knows no step.
+    pub(crate) fn nothing(&self) -> Seen<T, J>
+        ensures { result ≡ [] }
+    {
+        self.writer.nothing()
+    }
+}
+
+// What was made, as a step.
+#[derive(Drop)]
+struct ShownStep<'a, Y> {
+    made: &'a Y,
+}
+
+impl<'a, T, Y: Made<T>> Notes<Step<T>> for ShownStep<'a, Y> {
+    ghost note = { λ shown. record { call = Y.call shown.made.now; reply = Y.reply shown.made.now } };
+}
+
+impl<T: Clone, J: Channel> Keep<T> for KeepsSteps<T, J> {
+    ghost use mathlib.Core.List.{IsPrefix};
+    ghost use Rattle.bcast_model.specs.Words.{Represents};
+    ghost use Rattle.bcast_history.specs.History.{end_of};
+    ghost use Rattle.bcast_history.proofs.Prefixes.{prefix_self};
+    ghost use Rattle.bcast_delivery.specs.Follows.{Follows};
+    ghost use Rattle.bcast_delivery.specs.Laws.{follows_reaches, follows_sooner};
+
+    type Known = Seen<T, J>;
+
+    ghost keeps = { λ kept v. Represents v (end_of J.opening kept) };
+
+    ghost reaches = { λ known after. IsPrefix known after };
+
+    ghost told = { λ known call reply after. Follows T.is_clone J.opening known call reply after };
+
+    #[inline(always)]
+    fn same(known: &Seen<T, J>) -> Seen<T, J> {
+        known.same()
+    }
+
+    #[inline(always)]
+    fn keep<Y: Made<T>, A: Allocator + Copy>(
+        &mut self,
+        rt: &impl Wait,
+        known: &mut Seen<T, J>,
+        made: &Y,
+        _before: &Snapshot<Inner<T, Wake<WakerSlot<A>>, A>>,
+        _after: &Inner<T, Wake<WakerSlot<A>>, A>,
+    ) {
+        self.writer.append(rt, known, &ShownStep { made });
+    }
+
+    ghost unchanged = { λ known. prefix_self known };
+
+    ghost reached = { λ known after call reply told. follows_reaches told };
+
+    ghost sooner = { λ less known after call reply reaches told. follows_sooner reaches told };
+}
