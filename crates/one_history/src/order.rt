@@ -1,0 +1,21 @@
+//! Two messages that stand in order.
+ghost use Rattle.std.specs.Prelude.{◌≡◌, true};
+ghost use Rattle.one_history.specs.Order.{StandInOrder};
+
+use bcast_delivery::{Channel, HistorySender, Seen, sends_stand_last};
+use std::sync::Wait;
+
+/// Sends two messages, and returns whether both were accepted. Then the second stands after the
+/// first, whatever other threads sent in between, and before both stands all that the caller knew.
+pub fn send_both<J: Channel, R: Wait + Clone>(
+    sender: &HistorySender<u64, R, J>,
+    seen: &mut Seen<u64, J>,
+    first: u64,
+    second: u64,
+) -> bool
+    ensures { result ≡ true → StandInOrder J.opening seen.old first second seen.new }
+{
+    sends_stand_last::<u64>();
+    sender.try_broadcast_seen(seen, first).is_ok()
+        && sender.try_broadcast_seen(seen, second).is_ok()
+}
