@@ -1,6 +1,6 @@
 //! What the calls of threads and tasks return.
 use async_broadcast::{
-    RecvError, RecvTimeoutError, SendError, SendTimeoutError, TryRecvError, TrySendError,
+    NoMemory, RecvError, RecvTimeoutError, SendError, SendTimeoutError, TryRecvError, TrySendError,
 };
 use futures::task::Poll;
 use std::alloc::AllocError;
@@ -92,7 +92,36 @@ pub fn of_recv(answer: Result<Result<u64, RecvError>, AllocError>) -> Answer {
     }
 }
 
+/// What a poll of a send returned.
+pub fn of_poll_send(
+    polled: Poll<Result<Result<Option<u64>, SendError<u64>>, NoMemory<u64>>>,
+) -> Answer {
+    match polled {
+        Poll::Ready(Ok(answer)) => of_send(answer),
+        Poll::Ready(Err(_)) => Answer::NoMemory,
+        Poll::Pending => Answer::Pending,
+    }
+}
+
+/// What a poll of a receive returned.
+pub fn of_poll_future(polled: Poll<Result<Result<u64, RecvError>, AllocError>>) -> Answer {
+    match polled {
+        Poll::Ready(answer) => of_recv(answer),
+        Poll::Pending => Answer::Pending,
+    }
+}
+
 /// What a poll of a stream returned.
+pub fn of_poll_next(polled: Poll<Option<Result<u64, AllocError>>>) -> Answer {
+    match polled {
+        Poll::Ready(Some(Ok(msg))) => Answer::Message(msg),
+        Poll::Ready(Some(Err(_))) => Answer::NoMemory,
+        Poll::Ready(None) => Answer::Ended,
+        Poll::Pending => Answer::Pending,
+    }
+}
+
+/// What `poll_recv` returned.
 pub fn of_poll_recv(polled: Result<Poll<Option<Result<u64, RecvError>>>, AllocError>) -> Answer {
     match polled {
         Ok(Poll::Ready(Some(answer))) => of_recv(Ok(answer)),

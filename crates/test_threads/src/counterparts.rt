@@ -1,16 +1,18 @@
 //! Counterparts of those tests of async-broadcast that have threads.
 use crate::answers::{Answer, of_try_recv};
 use crate::hands::{Change, Hands, Script, Step};
-use crate::scripts::run;
-use crate::steps::{Receiving, Sending};
-use async_broadcast::{Port, WakerSlot, broadcast};
+use crate::scripts::{Shared, start};
+use crate::steps::{Receiving, Sending, wait_for};
+use async_broadcast::{TimedPort, WakerSlot, broadcast};
 use std::alloc::Global;
 use std::process::Abort;
 use std::sync::Wait;
 use std::test::Fail;
 use std::thread::Threads;
+use std::time::Clock;
 
 const PARALLEL_SENDS: Script = &[
+    (Step::Change(Change::CloneSender), Answer::Done),
     (Step::Meet(0), Answer::Done),
     (Step::TrySend(0, 7), Answer::Done),
     (Step::TrySend(1, 8), Answer::Done),
@@ -22,6 +24,7 @@ const PARALLEL_SENDS: Script = &[
 ];
 
 const PARALLEL_RECEIVES: Script = &[
+    (Step::Change(Change::CloneReceiver), Answer::Done),
     (Step::TryRecv(0), Answer::Empty),
     (Step::TryRecv(1), Answer::Empty),
     (Step::Meet(0), Answer::Done),
@@ -36,6 +39,7 @@ const PARALLEL_RECEIVES: Script = &[
 ];
 
 const WAITING_SENDS: Script = &[
+    (Step::Change(Change::CloneSender), Answer::Done),
     (Step::Meet(0), Answer::Done),
     (Step::Send(0, 7), Answer::Done),
     (Step::Send(1, 8), Answer::Done),
@@ -49,6 +53,7 @@ const WAITING_SENDS: Script = &[
 ];
 
 const WAITING_RECEIVES: Script = &[
+    (Step::Change(Change::CloneReceiver), Answer::Done),
     (Step::TryRecv(0), Answer::Empty),
     (Step::TryRecv(1), Answer::Empty),
     (Step::Meet(0), Answer::Done),
@@ -66,53 +71,32 @@ const WAITING_RECEIVES: Script = &[
     (Step::Receive(1), Answer::Ended),
 ];
 
-/// The handles of a thread with two senders.
-fn two_senders<P: Port<u64, WakerSlot>>(
-    alloc: Global,
-    sender: Sending<P>,
-) -> Result<Hands<P>, Fail> {
-    let mut hands = Hands::new(alloc);
-    hands.senders.push(sender.clone()?)?;
-    hands.senders.push(sender)?;
-    Ok(hands)
+/// Plays a thread that sends, and one that receives, over a channel of capacity 2.
+fn play_two<R>(rt: R, alloc: Global, sends: Script, receives: Script) -> Result<(), Fail>
+where
+    R: Threads + Wait + Clock + Abort + Copy + Send + Drop + 'static,
+{
+    play(rt, alloc, broadcast(rt, alloc, 2)?, sends, receives)
 }
 
-/// The handles of a thread with two receivers.
-fn two_receivers<P: Port<u64, WakerSlot>>(
-    alloc: Global,
-    receiver: Receiving<P>,
-) -> Result<Hands<P>, Fail> {
-    let mut hands = Hands::new(alloc);
-    hands.receivers.push(receiver.clone()?)?;
-    hands.receivers.push(receiver)?;
-    Ok(hands)
-}
-
-/// A thread with two senders, and one with two receivers.
-fn two_threads<P: Port<u64, WakerSlot>>(
+fn play<R, P>(
+    rt: R,
     alloc: Global,
     (sender, receiver): (Sending<P>, Receiving<P>),
     sends: Script,
     receives: Script,
-) -> Result<Vec<(Hands<P>, Script)>, Fail> {
-    let mut threads = Vec::new(alloc);
-    threads.push((two_senders(alloc, sender)?, sends))?;
-    threads.push((two_receivers(alloc, receiver)?, receives))?;
-    Ok(threads)
-}
-
-/// Plays two threads over a channel of capacity 2.
-fn play_two<R>(rt: R, alloc: Global, sends: Script, receives: Script) -> Result<(), Fail>
+) -> Result<(), Fail>
 where
     R: Threads + Wait + Abort + Copy + Send + Drop + 'static,
+    P: TimedPort<u64, WakerSlot> + Send + 'static,
 {
-    let channel = broadcast(rt, alloc, 2)?;
-    run(
-        rt,
-        alloc,
-        &[2, 2, 2],
-        two_threads(alloc, channel, sends, receives)?,
-    )
+    let shared = Shared::new(alloc, &[2, 2, 2])?;
+    let first = start(rt, &shared, Hands::receiving(alloc, receiver)?, receives)?;
+    let second = start(rt, &shared, Hands::sending(alloc, sender)?, sends)?;
+    wait_for(&rt, &shared.finished, 2, "all threads end");
+    first.join(&rt);
+    second.join(&rt);
+    Ok(())
 }
 
 // A full channel refuses, what was sent is received, and the drop of the last sender closes.
@@ -165,40 +149,35 @@ fn one_lags<R, P>(
 ) -> Result<(), Fail>
 where
     R: Threads + Wait + Abort + Copy + Send + Drop + 'static,
-    P: Port<u64, WakerSlot> + Send + 'static,
+    P: TimedPort<u64, WakerSlot> + Send + 'static,
 {
     lagging.set_overflow(true);
-    run(
+    let shared = Shared::new(alloc, &[3, 2])?;
+    let first = start(
         rt,
-        alloc,
-        &[3, 2],
-        overflow_threads(alloc, sender, &lagging)?,
+        &shared,
+        Hands::receiving(alloc, lagging.clone()?)?,
+        OVERFLOW_FIRST,
     )?;
+    let second = start(
+        rt,
+        &shared,
+        Hands::receiving(alloc, lagging.clone()?)?,
+        OVERFLOW_SECOND,
+    )?;
+    let third = start(rt, &shared, Hands::sending(alloc, sender)?, OVERFLOW_SENDS)?;
+    wait_for(&rt, &shared.finished, 3, "all threads end");
+    for thread in [first, second, third] {
+        thread.join(&rt);
+    }
     for answer in [Answer::Missed(1), Answer::Message(8), Answer::Message(9)] {
         assert!(&rt; of_try_recv(lagging.try_recv()) == answer);
     }
     Ok(())
 }
 
-/// A thread that sends, and two that receive by clones.
-fn overflow_threads<P: Port<u64, WakerSlot>>(
-    alloc: Global,
-    sender: Sending<P>,
-    receiver: &Receiving<P>,
-) -> Result<Vec<(Hands<P>, Script)>, Fail> {
-    let mut threads = Vec::new(alloc);
-    let mut hands = Hands::new(alloc);
-    hands.senders.push(sender)?;
-    threads.push((hands, OVERFLOW_SENDS))?;
-    for script in [OVERFLOW_FIRST, OVERFLOW_SECOND] {
-        let mut hands = Hands::new(alloc);
-        hands.receivers.push(receiver.clone()?)?;
-        threads.push((hands, script))?;
-    }
-    Ok(threads)
-}
-
 const OPEN_SENDS: Script = &[
+    (Step::Change(Change::CloneSender), Answer::Done),
     (Step::Meet(0), Answer::Done),
     (Step::Send(0, 7), Answer::Done),
     (Step::Send(1, 8), Answer::Done),
@@ -211,6 +190,7 @@ const OPEN_SENDS: Script = &[
 ];
 
 const OPEN_RECEIVES: Script = &[
+    (Step::Change(Change::Deactivate), Answer::Done),
     (Step::Meet(0), Answer::Done),
     (Step::Change(Change::ActivateCloned), Answer::Done),
     (Step::Receive(0), Answer::Message(7)),
@@ -226,25 +206,5 @@ const OPEN_RECEIVES: Script = &[
 // Sends that may wait do so while the only receiver is inactive, and the others are refused.
 #[test]
 fn open_channel(rt: HostRuntime) -> Result<(), Fail> {
-    let (sender, receiver) = broadcast(rt, rt.alloc(), 2)?;
-    run(
-        rt,
-        rt.alloc(),
-        &[2, 2, 2],
-        open_threads(rt.alloc(), sender, receiver)?,
-    )
-}
-
-/// A thread with two senders, and one whose receiver is inactive.
-fn open_threads<P: Port<u64, WakerSlot>>(
-    alloc: Global,
-    sender: Sending<P>,
-    receiver: Receiving<P>,
-) -> Result<Vec<(Hands<P>, Script)>, Fail> {
-    let mut receiving = Hands::new(alloc);
-    receiving.inactive = receiver.deactivate().ok();
-    let mut threads = Vec::new(alloc);
-    threads.push((two_senders(alloc, sender)?, OPEN_SENDS))?;
-    threads.push((receiving, OPEN_RECEIVES))?;
-    Ok(threads)
+    play_two(rt, rt.alloc(), OPEN_SENDS, OPEN_RECEIVES)
 }

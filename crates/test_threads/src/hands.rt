@@ -1,13 +1,18 @@
 //! Lists of calls on the handles of a thread.
-use crate::answers::{Answer, of_poll_recv, of_recv, of_send, of_try_recv, of_try_send};
+use crate::answers::{
+    Answer, of_poll_future, of_poll_next, of_poll_recv, of_poll_send, of_recv, of_recv_timeout,
+    of_send, of_send_timeout, of_try_recv, of_try_send,
+};
 use crate::steps::{Receiving, Sending};
-use async_broadcast::{InactiveReceiver, Port, WakerSlot};
+use async_broadcast::{InactiveReceiver, TimedPort, WakerSlot};
 use futures::StreamExt;
 use futures::task::Poll;
 use futures::test::MockTask;
-use std::alloc::Global;
+use std::alloc::{AllocError, Global};
+use std::process::Abort;
+use std::time::Duration;
 
-/// What a thread does, with its sender or receiver of this number.
+/// What a thread does, with its sender or receiver of this number, or with its first one.
 #[derive(Clone, Copy)]
 pub enum Step {
     /// Waits at the barrier of this number for the other threads that wait there.
@@ -17,9 +22,15 @@ pub enum Step {
     TrySendBoth(u64, u64),
     /// Waits until the message is accepted.
     Send(usize, u64),
+    /// The same, until the limit of the handles is over.
+    SendInTime(u64),
     TryRecv(usize),
     /// Waits until there is a message.
     Receive(usize),
+    /// The same, until the limit of the handles is over.
+    ReceiveInTime,
+    /// Whether the channel keeps so many messages.
+    Keeps(usize),
     Poll(Polled),
     Change(Change),
     /// Drops all senders and receivers of the thread.
@@ -54,6 +65,7 @@ pub enum Change {
     /// Sends don't wait for an active receiver any more.
     NoAwaiting,
     Close,
+    CloneSender,
     CloneReceiver,
     NewReceiver,
     /// Makes the last receiver inactive.
@@ -73,90 +85,119 @@ pub type Script = &'static [(Step, Answer)];
 
 /// The handles of a thread.
 #[derive(Drop)]
-pub struct Hands<P: Port<u64, WakerSlot>> {
-    pub senders: Vec<Sending<P>>,
-    pub receivers: Vec<Receiving<P>>,
-    pub inactive: Option<InactiveReceiver<u64, P>>,
+pub struct Hands<P: TimedPort<u64, WakerSlot>> {
+    senders: Vec<Sending<P>>,
+    receivers: Vec<Receiving<P>>,
+    inactive: Option<InactiveReceiver<u64, P>>,
     /// The task that polls.
     pub task: Option<MockTask>,
-    alloc: Global,
+    /// The limit of calls that have one.
+    pub limit: Duration,
+    pub alloc: Global,
 }
 
-impl<P: Port<u64, WakerSlot>> Hands<P> {
-    /// No handles yet, and no task.
-    pub fn new(alloc: Global) -> Self {
+impl<P: TimedPort<u64, WakerSlot>> Hands<P> {
+    // No handles yet, no task, and a limit that is over at once.
+    fn new(alloc: Global) -> Self {
         Hands {
             senders: Vec::new(alloc),
             receivers: Vec::new(alloc),
             inactive: None,
             task: None,
+            limit: Duration::ZERO,
             alloc,
         }
     }
 
+    /// A sender.
+    pub fn sending(alloc: Global, sender: Sending<P>) -> Result<Self, AllocError> {
+        let mut hands = Hands::new(alloc);
+        hands.senders.push(sender)?;
+        Ok(hands)
+    }
+
+    /// A receiver.
+    pub fn receiving(alloc: Global, receiver: Receiving<P>) -> Result<Self, AllocError> {
+        let mut hands = Hands::new(alloc);
+        hands.receivers.push(receiver)?;
+        Ok(hands)
+    }
+
+    /// The handles of a new channel.
+    pub fn both(alloc: Global, channel: (Sending<P>, Receiving<P>)) -> Result<Self, AllocError> {
+        let mut hands = Hands::sending(alloc, channel.0)?;
+        hands.receivers.push(channel.1)?;
+        Ok(hands)
+    }
+
+    /// The handles for one call: a clone of the first sender, or of the first receiver.
+    pub fn cloned_for(&self, step: Step) -> Option<Self> {
+        let made = match step {
+            Step::Send(..) | Step::SendInTime(_) => {
+                Hands::sending(self.alloc, self.senders.first()?.clone().ok()?)
+            }
+            _ => Hands::receiving(self.alloc, self.receivers.first()?.clone().ok()?),
+        };
+        let mut made = made.ok()?;
+        made.limit = self.limit;
+        Some(made)
+    }
+
     /// Does a step. None: there is no such handle, or no memory for one, or the step is `Meet`.
     pub fn make(&mut self, step: Step) -> Option<Answer> {
-        match step {
-            Step::Meet(_) => None,
-            Step::TrySend(number, msg) => {
-                Some(of_try_send(self.senders.get(number)?.try_broadcast(msg)))
-            }
+        Some(match step {
+            Step::Meet(_) => return None,
+            Step::TrySend(number, msg) => of_try_send(self.senders.get(number)?.try_broadcast(msg)),
             Step::TrySendBoth(one, other) => {
                 let both = vec![in self.alloc; one, other].ok()?;
                 self.senders.first()?.try_broadcast_all(both).ok()?;
-                Some(Answer::Done)
+                Answer::Done
             }
-            Step::Send(number, msg) => {
-                Some(of_send(self.senders.get(number)?.broadcast_blocking(msg)))
+            Step::Send(number, msg) => of_send(self.senders.get(number)?.broadcast_blocking(msg)),
+            Step::SendInTime(msg) => {
+                of_send_timeout(self.senders.first()?.broadcast_timeout(msg, self.limit))
             }
-            Step::TryRecv(number) => {
-                Some(of_try_recv(self.receivers.get_mut(number)?.try_recv()))
+            Step::TryRecv(number) => of_try_recv(self.receivers.get_mut(number)?.try_recv()),
+            Step::Receive(number) => of_recv(self.receivers.get_mut(number)?.recv_blocking()),
+            Step::ReceiveInTime => {
+                of_recv_timeout(self.receivers.first_mut()?.recv_timeout(self.limit))
             }
-            Step::Receive(number) => {
-                Some(of_recv(self.receivers.get_mut(number)?.recv_blocking()))
-            }
-            Step::Poll(polled) => self.poll(polled),
-            Step::Change(change) => self.change(change),
+            Step::Keeps(count) => Answer::Is(self.senders.first()?.len() == count),
+            Step::Poll(polled) => return self.poll(polled),
+            Step::Change(change) => return self.change(change),
             Step::DropAll => {
                 self.senders.clear();
                 self.receivers.clear();
-                Some(Answer::Done)
+                Answer::Done
             }
-        }
+        })
     }
 
-    /// Whether each step returns its answer.
-    pub fn make_all(&mut self, script: Script) -> bool {
-        for (step, answer) in script {
-            if self.make(*step) != Some(*answer) {
-                return false;
-            }
+    /// Does all steps, each of which must return its answer.
+    pub fn make_all(&mut self, rt: &impl Abort, name: &str, script: Script) {
+        for (index, (step, answer)) in script.iter().enumerate() {
+            assert!(rt; self.make(*step) == Some(*answer), "{name}: step {index}");
         }
-        true
     }
 
     fn poll(&mut self, polled: Polled) -> Option<Answer> {
         let task = self.task.as_ref()?;
-        match polled {
-            Polled::Woken => Some(Answer::Is(task.is_woken())),
+        Some(match polled {
+            Polled::Woken => Answer::Is(task.is_woken()),
             Polled::Send(msg) => {
                 let mut send = self.senders.first()?.broadcast_direct(msg).ok()?;
-                match task.poll(&mut send) {
-                    Poll::Ready(Ok(answer)) => Some(of_send(answer)),
-                    Poll::Ready(Err(_)) => Some(Answer::NoMemory),
-                    Poll::Pending => Some(Answer::Pending),
-                }
+                of_poll_send(task.poll(&mut send))
             }
             Polled::HeldSend(msg) => {
                 let (sender, receiver) = (self.senders.first()?, self.receivers.first_mut()?);
-                Some(Answer::Is(wakes_a_send(task, sender, receiver, msg)))
+                Answer::Is(wakes_a_send(task, sender, receiver, msg))
             }
             Polled::HeldFuture(msg) => {
                 let (sender, receiver) = (self.senders.first()?, self.receivers.first_mut()?);
-                Some(Answer::Is(wakes_a_receive(task, sender, receiver, msg)))
+                Answer::Is(wakes_a_receive(task, sender, receiver, msg))
             }
-            _ => Some(receive(task, self.receivers.first_mut()?, polled)),
-        }
+            _ => receive(task, self.receivers.first_mut()?, polled),
+        })
     }
 
     fn change(&mut self, change: Change) -> Option<Answer> {
@@ -165,54 +206,49 @@ impl<P: Port<u64, WakerSlot>> Hands<P> {
             Change::Overflow => self.senders.first_mut()?.set_overflow(true),
             Change::NoAwaiting => self.senders.first_mut()?.set_await_active(false),
             Change::Close => return Some(Answer::Is(self.senders.first()?.close())),
-            Change::CloneReceiver => {
-                let made = self.receivers.first()?.clone().ok()?;
-                self.receivers.push(made).ok()?;
-            }
-            Change::NewReceiver => {
-                let made = self.senders.first()?.new_receiver().ok()?;
-                self.receivers.push(made).ok()?;
+            Change::CloneSender => {
+                let made = self.senders.first()?.clone().ok()?;
+                self.senders.push(made).ok()?;
             }
             Change::Deactivate => self.inactive = Some(self.receivers.pop()?.deactivate().ok()?),
-            Change::ActivateCloned => {
-                let made = self.inactive.as_ref()?.activate_cloned().ok()?;
-                self.receivers.push(made).ok()?;
-            }
-            Change::Activate => {
-                let made = self.inactive.take()?.activate().ok()?;
-                self.receivers.push(made).ok()?;
-            }
             Change::DropReceiver => drop(self.receivers.pop()?),
             Change::DropInactive => self.inactive = None,
             Change::DropSenders => self.senders.clear(),
+            _ => {
+                let made = self.receiver(change)?;
+                self.receivers.push(made).ok()?;
+            }
         }
         Some(Answer::Done)
+    }
+
+    // Another receiver, which is made in this way.
+    fn receiver(&mut self, change: Change) -> Option<Receiving<P>> {
+        match change {
+            Change::CloneReceiver => self.receivers.first()?.clone().ok(),
+            Change::NewReceiver => self.senders.first()?.new_receiver().ok(),
+            Change::ActivateCloned => self.inactive.as_ref()?.activate_cloned().ok(),
+            Change::Activate => self.inactive.take()?.activate().ok(),
+            _ => None,
+        }
     }
 }
 
 /// Polls a receive of this kind.
-fn receive<P: Port<u64, WakerSlot>>(
+fn receive<P: TimedPort<u64, WakerSlot>>(
     task: &MockTask,
     receiver: &mut Receiving<P>,
     polled: Polled,
 ) -> Answer {
     match polled {
         Polled::Recv => of_poll_recv(task.enter(|cx| receiver.poll_recv(cx))),
-        Polled::Next => match task.poll(&mut receiver.next()) {
-            Poll::Ready(Some(Ok(msg))) => Answer::Message(msg),
-            Poll::Ready(Some(Err(_))) => Answer::NoMemory,
-            Poll::Ready(None) => Answer::Ended,
-            Poll::Pending => Answer::Pending,
-        },
-        _ => match task.poll(&mut receiver.recv_direct()) {
-            Poll::Ready(answer) => of_recv(answer),
-            Poll::Pending => Answer::Pending,
-        },
+        Polled::Next => of_poll_next(task.poll(&mut receiver.next())),
+        _ => of_poll_future(task.poll(&mut receiver.recv_direct())),
     }
 }
 
 /// Whether a send of the task waits, and a receive wakes it.
-fn wakes_a_send<P: Port<u64, WakerSlot>>(
+fn wakes_a_send<P: TimedPort<u64, WakerSlot>>(
     task: &MockTask,
     sender: &Sending<P>,
     receiver: &mut Receiving<P>,
@@ -226,7 +262,7 @@ fn wakes_a_send<P: Port<u64, WakerSlot>>(
 }
 
 /// Whether a receive of the task waits, and a send wakes it.
-fn wakes_a_receive<P: Port<u64, WakerSlot>>(
+fn wakes_a_receive<P: TimedPort<u64, WakerSlot>>(
     task: &MockTask,
     sender: &Sending<P>,
     receiver: &mut Receiving<P>,

@@ -1,8 +1,7 @@
 //! Threads that make lists of calls on their handles, and meet in between.
 use crate::answers::Answer;
 use crate::hands::{Hands, Script, Step};
-use crate::steps::reaches;
-use async_broadcast::{Port, WakerSlot};
+use async_broadcast::{TimedPort, WakerSlot};
 use std::alloc::Global;
 use std::process::Abort;
 use std::sync::atomic::{AtomicU64, Ordering};
@@ -13,12 +12,22 @@ use std::thread::{JoinHandle, Threads};
 
 /// What threads share: the barriers, and how many threads are finished.
 #[derive(Drop)]
-struct Shared {
+pub struct Shared {
     barriers: Vec<Barrier>,
-    finished: AtomicU64,
+    pub finished: AtomicU64,
 }
 
 impl Shared {
+    /// No thread is finished yet. At each barrier as many threads meet as its number in `meet` says.
+    pub fn new(alloc: Global, meet: &[usize]) -> Result<Arc<Shared>, Fail> {
+        let mut barriers = Vec::new(alloc);
+        for met in meet {
+            barriers.push(Barrier::new(*met))?;
+        }
+        let finished = AtomicU64::new(0);
+        Ok(Arc::new(alloc, Shared { barriers, finished })?)
+    }
+
     /// Waits for other threads. None: there is no barrier of this number.
     fn meet(&self, rt: &impl Wait, number: usize) -> Option<Answer> {
         self.barriers.get(number)?.wait(rt);
@@ -27,7 +36,7 @@ impl Shared {
 }
 
 /// Does the steps of a thread, each of which must return its answer.
-fn play<R: Abort + Wait, P: Port<u64, WakerSlot>>(
+fn play<R: Abort + Wait, P: TimedPort<u64, WakerSlot>>(
     rt: &R,
     shared: &Shared,
     mut hands: Hands<P>,
@@ -43,18 +52,8 @@ fn play<R: Abort + Wait, P: Port<u64, WakerSlot>>(
     shared.finished.fetch_add(1, Ordering::SeqCst);
 }
 
-/// No thread is finished yet. At each barrier as many threads meet as its number in `meet` says.
-fn shared_by(alloc: Global, meet: &[usize]) -> Result<Arc<Shared>, Fail> {
-    let mut barriers = Vec::new(alloc);
-    for met in meet {
-        barriers.push(Barrier::new(*met))?;
-    }
-    let finished = AtomicU64::new(0);
-    Ok(Arc::new(alloc, Shared { barriers, finished })?)
-}
-
 /// Starts a thread that plays a script.
-fn start<R, P>(
+pub fn start<R, P>(
     rt: R,
     shared: &Arc<Shared>,
     hands: Hands<P>,
@@ -62,33 +61,8 @@ fn start<R, P>(
 ) -> Result<JoinHandle<()>, Fail>
 where
     R: Threads + Wait + Abort + Copy + Send + Drop + 'static,
-    P: Port<u64, WakerSlot> + Send + 'static,
+    P: TimedPort<u64, WakerSlot> + Send + 'static,
 {
     let own = Arc::try_clone(shared)?;
     Ok(thread::spawn(&rt, move || play(&rt, &own, hands, script))?)
-}
-
-/// Plays each script in a thread of its own, and fails unless all of them end. At each barrier as
-/// many threads meet as its number in `meet` says.
-pub fn run<R, P>(
-    rt: R,
-    alloc: Global,
-    meet: &[usize],
-    threads: Vec<(Hands<P>, Script)>,
-) -> Result<(), Fail>
-where
-    R: Threads + Wait + Abort + Copy + Send + Drop + 'static,
-    P: Port<u64, WakerSlot> + Send + 'static,
-{
-    let count = threads.len() as u64;
-    let shared = shared_by(alloc, meet)?;
-    let mut started = Vec::new(alloc);
-    for (hands, script) in threads {
-        started.push(start(rt, &shared, hands, script)?)?;
-    }
-    assert!(&rt; reaches(&shared.finished, count), "all threads end");
-    for thread in started {
-        thread.join(&rt);
-    }
-    Ok(())
 }

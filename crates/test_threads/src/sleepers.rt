@@ -1,9 +1,8 @@
 //! Threads that each sleep in one call, while another makes the calls that wake them.
 use crate::answers::Answer;
 use crate::hands::{Hands, Script, Step};
-use crate::steps::{pause, reaches};
-use async_broadcast::{Port, WakerSlot};
-use std::alloc::Global;
+use crate::steps::{pause, wait_for};
+use async_broadcast::{TimedPort, WakerSlot};
 use std::process::Abort;
 use std::sync::atomic::{AtomicU64, Ordering};
 use std::sync::{Arc, Wait};
@@ -11,8 +10,8 @@ use std::test::Fail;
 use std::thread;
 use std::thread::{JoinHandle, Threads};
 
-/// How many threads sleep, in which call, and what the call of each returns.
-pub type Sleep = (u64, Step, Answer);
+/// A name, the calls before, the calls in which a thread each sleeps, and those that wake them.
+pub type Row = (&'static str, Script, Script, Script);
 
 /// How many threads began their call, and how many ended it.
 #[derive(Drop)]
@@ -21,28 +20,15 @@ struct Counts {
     ended: AtomicU64,
 }
 
-/// The handles for one call: a clone of the first sender, or of the first receiver.
-fn hands_for<P: Port<u64, WakerSlot>>(
-    alloc: Global,
-    hands: &Hands<P>,
-    step: Step,
-) -> Result<Hands<P>, Fail> {
-    let mut made = Hands::new(alloc);
-    match step {
-        Step::Send(..) => {
-            let sender = hands.senders.first().ok_or("no sender")?;
-            made.senders.push(sender.clone()?)?;
-        }
-        _ => {
-            let receiver = hands.receivers.first().ok_or("no receiver")?;
-            made.receivers.push(receiver.clone()?)?;
-        }
-    }
-    Ok(made)
+/// Threads that each make one call.
+#[derive(Drop)]
+pub struct Sleepers {
+    counts: Arc<Counts>,
+    threads: Vec<JoinHandle<()>>,
 }
 
 /// Makes the call, which must return this answer.
-fn sleep<P: Port<u64, WakerSlot>>(
+fn sleep<P: TimedPort<u64, WakerSlot>>(
     rt: &impl Abort,
     counts: &Counts,
     mut hands: Hands<P>,
@@ -54,52 +40,75 @@ fn sleep<P: Port<u64, WakerSlot>>(
     counts.ended.fetch_add(1, Ordering::SeqCst);
 }
 
-/// Starts the threads.
-fn start<R, P>(
+/// Starts a thread that makes a call.
+fn start_one<R, P>(
     rt: R,
-    alloc: Global,
     counts: &Arc<Counts>,
     hands: &Hands<P>,
-    (threads, step, answer): Sleep,
-) -> Result<Vec<JoinHandle<()>>, Fail>
+    call: (Step, Answer),
+) -> Result<JoinHandle<()>, Fail>
 where
     R: Threads + Wait + Abort + Copy + Send + Drop + 'static,
-    P: Port<u64, WakerSlot> + Send + 'static,
+    P: TimedPort<u64, WakerSlot> + Send + 'static,
 {
-    let mut started = Vec::new(alloc);
-    for _ in 0..threads {
-        let made = hands_for(alloc, hands, step)?;
-        let own = Arc::try_clone(counts)?;
-        started.push(thread::spawn(&rt, move || sleep(&rt, &own, made, (step, answer)))?)?;
-    }
-    Ok(started)
+    let own = Arc::try_clone(counts)?;
+    let made = hands.cloned_for(call.0).ok_or("no handles")?;
+    Ok(thread::spawn(&rt, move || sleep(&rt, &own, made, call))?)
 }
 
-/// Makes the calls, each of which must return its answer, while the threads sleep. All threads must
-/// wake and end their calls then.
+impl Sleepers {
+    /// Starts a thread for each of these calls.
+    pub fn start<R, P>(rt: R, hands: &Hands<P>, calls: Script) -> Result<Sleepers, Fail>
+    where
+        R: Threads + Wait + Abort + Copy + Send + Drop + 'static,
+        P: TimedPort<u64, WakerSlot> + Send + 'static,
+    {
+        let (begun, ended) = (AtomicU64::new(0), AtomicU64::new(0));
+        let counts = Arc::new(hands.alloc, Counts { begun, ended })?;
+        let mut threads = Vec::new(hands.alloc);
+        for call in calls {
+            threads.push(start_one(rt, &counts, hands, *call)?)?;
+        }
+        Ok(Sleepers { counts, threads })
+    }
+
+    /// Waits until all of them sleep.
+    fn wait_for_sleep(&self, rt: &impl Abort, name: &str) {
+        let threads = self.threads.len() as u64;
+        wait_for(rt, &self.counts.begun, threads, name);
+        pause();
+        let ended = self.counts.ended.load(Ordering::SeqCst);
+        assert!(rt; ended == 0, "{name}: all wait");
+    }
+
+    /// Waits until all of them ended their call.
+    pub fn wait_for_end(self, rt: &(impl Threads + Abort), name: &str) {
+        let Sleepers { counts, threads } = self;
+        let count = threads.len() as u64;
+        wait_for(rt, &counts.ended, count, name);
+        for thread in threads {
+            thread.join(rt);
+        }
+    }
+}
+
+/// Plays a row: its threads must sleep until the last calls are made, and then all
+/// of them must wake and end their calls. Makes the calls `after` in the end.
 pub fn wakes<R, P>(
     rt: R,
-    alloc: Global,
-    hands: &mut Hands<P>,
-    (name, sleep, calls): (&'static str, Sleep, Script),
+    mut hands: Hands<P>,
+    (name, before, asleep, calls): Row,
+    after: Script,
 ) -> Result<(), Fail>
 where
     R: Threads + Wait + Abort + Copy + Send + Drop + 'static,
-    P: Port<u64, WakerSlot> + Send + 'static,
+    P: TimedPort<u64, WakerSlot> + Send + 'static,
 {
-    let (begun, ended) = (AtomicU64::new(0), AtomicU64::new(0));
-    let counts = Arc::new(alloc, Counts { begun, ended })?;
-    let threads = start(rt, alloc, &counts, hands, sleep)?;
-    assert!(&rt; reaches(&counts.begun, sleep.0), "{name}: all begin");
-    pause();
-    assert!(&rt;
-        counts.ended.load(Ordering::SeqCst) == 0,
-        "{name}: all wait"
-    );
-    assert!(&rt; hands.make_all(calls), "{name}: the calls");
-    assert!(&rt; reaches(&counts.ended, sleep.0), "{name}: all go on");
-    for thread in threads {
-        thread.join(&rt);
-    }
+    hands.make_all(&rt, name, before);
+    let sleepers = Sleepers::start(rt, &hands, asleep)?;
+    sleepers.wait_for_sleep(&rt, name);
+    hands.make_all(&rt, name, calls);
+    sleepers.wait_for_end(&rt, name);
+    hands.make_all(&rt, name, after);
     Ok(())
 }

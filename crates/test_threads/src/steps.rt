@@ -1,5 +1,6 @@
 //! The steps of threads, which a test waits for.
 use async_broadcast::{Receiver, Sender};
+use std::process::Abort;
 use std::sync::atomic::{AtomicU64, Ordering};
 use std::thread;
 
@@ -12,15 +13,15 @@ pub type Receiving<P> = Receiver<u64, P>;
 /// How often a test looks for what threads have done, before it fails.
 const MOST_LOOKS: u64 = 20_000_000;
 
-/// Whether the count gets to `target`, while this thread looks and yields.
-pub fn reaches(count: &AtomicU64, target: u64) -> bool {
+/// Looks and yields until the count gets to `target`. Fails the test if it doesn't.
+pub fn wait_for(rt: &impl Abort, count: &AtomicU64, target: u64, what: &str) {
     for _ in 0..MOST_LOOKS {
         if count.load(Ordering::SeqCst) == target {
-            return true;
+            return;
         }
         thread::yield_now();
     }
-    false
+    panic!(rt; "{what}: {target} are not reached");
 }
 
 /// Lets other threads run, so that those that wait are asleep.

@@ -1,4 +1,5 @@
 //! A clock that a test sets.
+use std::alloc::{AllocError, Global};
 use std::io;
 use std::io::ErrorKind;
 use std::sync::atomic::{AtomicU64, Ordering};
@@ -16,7 +17,7 @@ pub struct Dial {
 
 impl Dial {
     /// At 0, for this many readings.
-    pub fn new(most: u64) -> Dial {
+    fn new(most: u64) -> Dial {
         Dial {
             seconds: AtomicU64::new(0),
             reads: AtomicU64::new(0),
@@ -32,9 +33,12 @@ pub struct SetClock<R: Wait> {
     dial: Arc<Dial>,
 }
 
-impl<R: Wait> SetClock<R> {
-    pub fn new(rt: R, dial: Arc<Dial>) -> Self {
-        SetClock { rt, dial }
+impl<R: Wait + Drop> SetClock<R> {
+    /// A clock that can be read `most` times, and its dial.
+    pub fn new(rt: R, alloc: Global, most: u64) -> Result<(Self, Arc<Dial>), AllocError> {
+        let dial = Arc::new(alloc, Dial::new(most))?;
+        let own = Arc::try_clone(&dial)?;
+        Ok((SetClock { rt, dial: own }, dial))
     }
 }
 

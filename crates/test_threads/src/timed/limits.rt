@@ -1,8 +1,8 @@
 //! What the calls return when nobody else makes one: each answer, at once or when the time is over.
-use crate::answers::{Answer, of_recv_timeout, of_send_timeout};
-use async_broadcast::{
-    LockReceiver, LockSender, RecvTimeoutError, SendTimeoutError, TryRecvError, broadcast,
-};
+use crate::answers::Answer;
+use crate::hands::{Change, Hands, Script, Step};
+use crate::steps::{Receiving, Sending};
+use async_broadcast::{RecvTimeoutError, SendTimeoutError, TimedPort, WakerSlot, broadcast};
 use std::alloc::Global;
 use std::error::Error;
 use std::process::Abort;
@@ -13,83 +13,79 @@ use std::time::{Clock, Duration, Instant};
 /// Limits, in milliseconds.
 const LIMITS: [u64; 2] = [0, 2];
 
-/// The call must return this, and only if the time is over may it take as long as the limit.
-fn sends<R: Wait + Abort + Clock + Clone>(
+/// Each call must return its answer, and only if the time is over may it take as long as the limit.
+fn play<R: Abort + Clock, P: TimedPort<u64, WakerSlot>>(
     rt: &R,
-    sender: &LockSender<u64, R>,
-    (msg, limit): (u64, u64),
-    answer: Answer,
+    alloc: Global,
+    channel: (Sending<P>, Receiving<P>),
+    limit: Duration,
+    script: Script,
 ) -> Result<(), Fail> {
-    let (start, limit) = (Instant::now(rt)?, Duration::from_millis(limit));
-    let sent = of_send_timeout(sender.broadcast_timeout(msg, limit));
-    assert!(rt; sent == answer, "{msg}");
-    let waited = start.elapsed(rt)? >= limit;
-    assert!(rt;
-        waited || answer != Answer::TimedOut(msg),
-        "it waits for the whole time"
-    );
+    let mut hands = Hands::both(alloc, channel)?;
+    hands.limit = limit;
+    for (index, (step, answer)) in script.iter().enumerate() {
+        let start = Instant::now(rt)?;
+        assert!(rt; hands.make(*step) == Some(*answer), "step {index}");
+        let waited = start.elapsed(rt)? >= limit;
+        let is_over = matches!(answer, Answer::TimedOut(_) | Answer::Empty);
+        assert!(rt; waited || !is_over, "it waits for the whole time");
+    }
     Ok(())
 }
 
-/// The same of a receive.
-fn receives<R: Wait + Abort + Clock + Clone>(
-    rt: &R,
-    receiver: &mut LockReceiver<u64, R>,
-    limit: u64,
-    answer: Answer,
-) -> Result<(), Fail> {
-    let (start, limit) = (Instant::now(rt)?, Duration::from_millis(limit));
-    let received = of_recv_timeout(receiver.recv_timeout(limit));
-    assert!(rt; received == answer);
-    let waited = start.elapsed(rt)? >= limit;
-    assert!(rt;
-        waited || answer != Answer::Empty,
-        "it waits for the whole time"
-    );
+/// Makes the calls on a channel of capacity 1 with each of the limits.
+fn play_all<R>(rt: R, alloc: Global, script: Script) -> Result<(), Fail>
+where
+    R: Wait + Abort + Clock + Copy + Drop,
+{
+    for limit in LIMITS {
+        let limit = Duration::from_millis(limit);
+        play(&rt, alloc, broadcast(rt, alloc, 1)?, limit, script)?;
+    }
     Ok(())
 }
+
+const SENDS: Script = &[
+    (Step::SendInTime(1), Answer::Done),
+    (Step::SendInTime(2), Answer::TimedOut(2)),
+    (Step::Keeps(1), Answer::Is(true)),
+    (Step::Change(Change::Overflow), Answer::Done),
+    (Step::SendInTime(3), Answer::Dropped(1)),
+    (Step::TryRecv(0), Answer::Missed(1)),
+    (Step::TryRecv(0), Answer::Message(3)),
+    (Step::Change(Change::Deactivate), Answer::Done),
+    (Step::SendInTime(4), Answer::TimedOut(4)),
+    (Step::Change(Change::NoAwaiting), Answer::Done),
+    (Step::SendInTime(5), Answer::Refused(5)),
+    (Step::Change(Change::DropInactive), Answer::Done),
+    (Step::SendInTime(6), Answer::Refused(6)),
+    (Step::Keeps(0), Answer::Is(true)),
+];
 
 // What a send returns: accepted, with or without a message that it drops; no room; no receiver that
 // is active; refused. When its time is over, its message is handed back and was not accepted.
 #[test]
 fn sends_return(rt: HostRuntime) -> Result<(), Fail> {
-    for limit in LIMITS {
-        let (mut sender, mut receiver) = broadcast(rt, rt.alloc(), 1)?;
-        sends(&rt, &sender, (1, limit), Answer::Done)?;
-        sends(&rt, &sender, (2, limit), Answer::TimedOut(2))?;
-        assert!(&rt; sender.len() == 1);
-        sender.set_overflow(true);
-        sends(&rt, &sender, (3, limit), Answer::Dropped(1))?;
-        assert!(&rt; matches!(receiver.try_recv(), Ok(Err(TryRecvError::Overflowed(1)))));
-        assert!(&rt; matches!(receiver.try_recv(), Ok(Ok(3))));
-        let inactive = receiver.deactivate().ok().ok_or("no handle")?;
-        sends(&rt, &sender, (4, limit), Answer::TimedOut(4))?;
-        sender.set_await_active(false);
-        sends(&rt, &sender, (5, limit), Answer::Refused(5))?;
-        drop(inactive);
-        sends(&rt, &sender, (6, limit), Answer::Refused(6))?;
-        assert!(&rt; sender.is_empty());
-    }
-    Ok(())
+    play_all(rt, rt.alloc(), SENDS)
 }
+
+const RECEIVES: Script = &[
+    (Step::ReceiveInTime, Answer::Empty),
+    (Step::Change(Change::Overflow), Answer::Done),
+    (Step::TrySend(0, 1), Answer::Done),
+    (Step::TrySend(0, 2), Answer::Dropped(1)),
+    (Step::TrySend(0, 3), Answer::Dropped(2)),
+    (Step::ReceiveInTime, Answer::Missed(2)),
+    (Step::ReceiveInTime, Answer::Message(3)),
+    (Step::ReceiveInTime, Answer::Empty),
+    (Step::Change(Change::DropSenders), Answer::Done),
+    (Step::ReceiveInTime, Answer::Ended),
+];
 
 // What a receive returns: nothing, a message, how many it missed, the end.
 #[test]
 fn receives_return(rt: HostRuntime) -> Result<(), Fail> {
-    for limit in LIMITS {
-        let (mut sender, mut receiver) = broadcast(rt, rt.alloc(), 1)?;
-        receives(&rt, &mut receiver, limit, Answer::Empty)?;
-        sender.set_overflow(true);
-        for msg in [1, 2, 3] {
-            assert!(&rt; sender.try_broadcast(msg).is_ok());
-        }
-        receives(&rt, &mut receiver, limit, Answer::Missed(2))?;
-        receives(&rt, &mut receiver, limit, Answer::Message(3))?;
-        receives(&rt, &mut receiver, limit, Answer::Empty)?;
-        drop(sender);
-        receives(&rt, &mut receiver, limit, Answer::Ended)?;
-    }
-    Ok(())
+    play_all(rt, rt.alloc(), RECEIVES)
 }
 
 /// A message with neither a `Display` nor a `Debug`.

@@ -1,7 +1,11 @@
 //! A loop over a receiver, which blocks the thread while there is no message.
-use async_broadcast::{RecvError, broadcast};
+use crate::steps::{Receiving, Sending};
+use async_broadcast::{Port, RecvError, WakerSlot, broadcast};
+use std::process::Abort;
+use std::sync::Wait;
 use std::test::Fail;
 use std::thread;
+use std::thread::Threads;
 
 /// How many messages are sent.
 const MESSAGES: u64 = 100;
@@ -9,37 +13,58 @@ const MESSAGES: u64 = 100;
 // Each message that another thread sends, in order, until it drops its sender.
 #[test]
 fn a_loop_gets_each_message(rt: HostRuntime) -> Result<(), Fail> {
-    let (sender, mut receiver) = broadcast(rt, rt.alloc(), 1)?;
-    let thread = thread::spawn(&rt, move || {
-        for msg in 0..MESSAGES {
-            assert!(&rt; sender.broadcast_blocking(msg).is_ok());
-        }
-        drop(sender);
-    })?;
-    let mut next = 0u64;
-    for received in receiver.iter(&rt) {
-        assert!(&rt; received? == Ok(next));
-        next = next.wrapping_add(1);
-    }
-    assert!(&rt; next == MESSAGES);
+    gets_each_message(rt, broadcast(rt, rt.alloc(), 1)?)
+}
+
+fn gets_each_message<R, P>(
+    rt: R,
+    (sender, mut receiver): (Sending<P>, Receiving<P>),
+) -> Result<(), Fail>
+where
+    R: Threads + Wait + Abort + Copy + Send + Drop + 'static,
+    P: Port<u64, WakerSlot> + Send + 'static,
+{
+    let thread = thread::spawn(&rt, move || send_all(&rt, sender))?;
+    receive_all(&rt, &mut receiver);
     thread.join(&rt);
     Ok(())
+}
+
+fn send_all<P: Port<u64, WakerSlot>>(rt: &impl Abort, sender: Sending<P>) {
+    for msg in 0..MESSAGES {
+        assert!(rt; sender.broadcast_blocking(msg).is_ok());
+    }
+}
+
+fn receive_all<R: Abort + Wait, P: Port<u64, WakerSlot>>(rt: &R, receiver: &mut Receiving<P>) {
+    let mut next = 0u64;
+    for received in receiver.iter(rt) {
+        assert!(rt; matches!(received, Ok(Ok(msg)) if msg == next));
+        next = next.wrapping_add(1);
+    }
+    assert!(rt; next == MESSAGES);
 }
 
 // What was missed is an item, as a message is. After its end the loop has no more items.
 #[test]
 fn a_loop_says_what_was_missed(rt: HostRuntime) -> Result<(), Fail> {
-    let (mut sender, mut receiver) = broadcast(rt, rt.alloc(), 2)?;
+    says_what_was_missed(&rt, broadcast(rt, rt.alloc(), 2)?);
+    Ok(())
+}
+
+fn says_what_was_missed<R: Abort + Wait, P: Port<u64, WakerSlot>>(
+    rt: &R,
+    (mut sender, mut receiver): (Sending<P>, Receiving<P>),
+) {
     sender.set_overflow(true);
     for msg in 0..5u64 {
-        assert!(&rt; sender.try_broadcast(msg).is_ok());
+        assert!(rt; sender.try_broadcast(msg).is_ok());
     }
-    let mut received = receiver.iter(&rt);
-    assert!(&rt; matches!(received.next(), Some(Ok(Err(RecvError::Overflowed(3))))));
-    assert!(&rt; matches!(received.next(), Some(Ok(Ok(3)))));
+    let mut received = receiver.iter(rt);
+    assert!(rt; matches!(received.next(), Some(Ok(Err(RecvError::Overflowed(3))))));
+    assert!(rt; matches!(received.next(), Some(Ok(Ok(3)))));
     drop(sender);
-    assert!(&rt; matches!(received.next(), Some(Ok(Ok(4)))));
-    assert!(&rt; matches!(received.next(), None));
-    assert!(&rt; matches!(received.next(), None));
-    Ok(())
+    assert!(rt; matches!(received.next(), Some(Ok(Ok(4)))));
+    assert!(rt; matches!(received.next(), None));
+    assert!(rt; matches!(received.next(), None));
 }

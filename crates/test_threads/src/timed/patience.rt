@@ -1,10 +1,11 @@
 //! How long the calls of a thread wait.
 use crate::answers::{Answer, of_recv, of_recv_timeout, of_send, of_send_timeout};
-use async_broadcast::{LockReceiver, LockSender};
+use crate::steps::{Receiving, Sending};
+use async_broadcast::{TimedPort, WakerSlot};
 use rand_core::utils::NextWord;
 use rand_pcg::Pcg32;
 use std::sync::Wait;
-use std::time::{Clock, Duration};
+use std::time::Duration;
 
 /// How long the calls of a thread wait at most, before it tries again.
 #[derive(Drop)]
@@ -30,10 +31,10 @@ impl Patience {
     }
 
     /// Sends a message, as often as the time is over.
-    pub fn send<R: Wait + Clock + Clone>(
+    pub fn send<P: TimedPort<u64, WakerSlot>>(
         &mut self,
-        rt: &R,
-        sender: &LockSender<u64, R>,
+        rt: &impl Wait,
+        sender: &Sending<P>,
         msg: u64,
     ) -> Answer {
         for _ in rt.forever() {
@@ -49,10 +50,10 @@ impl Patience {
     }
 
     /// Receives, as often as the time is over.
-    pub fn receive<R: Wait + Clock + Clone>(
+    pub fn receive<P: TimedPort<u64, WakerSlot>>(
         &mut self,
-        rt: &R,
-        receiver: &mut LockReceiver<u64, R>,
+        rt: &impl Wait,
+        receiver: &mut Receiving<P>,
     ) -> Answer {
         for _ in rt.forever() {
             let received = match self.limit() {

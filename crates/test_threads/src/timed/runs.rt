@@ -1,16 +1,15 @@
 //! A thousand runs of threads of which some wait with random limits, and the others without one.
 use crate::answers::Answer;
-use crate::steps::reaches;
+use crate::steps::{Receiving, Sending, wait_for};
 use crate::timed::patience::Patience;
-use async_broadcast::{LockReceiver, LockSender, broadcast};
+use async_broadcast::{TimedPort, WakerSlot, broadcast};
 use std::alloc::Global;
 use std::process::Abort;
 use std::sync::atomic::{AtomicU64, Ordering};
 use std::sync::{Arc, Wait};
 use std::test::Fail;
 use std::thread;
-use std::thread::Threads;
-use std::time::Clock;
+use std::thread::{JoinHandle, Threads};
 
 const RUNS: u64 = 1000;
 
@@ -18,10 +17,10 @@ const RUNS: u64 = 1000;
 const MESSAGES: u64 = 8;
 
 /// Sends the messages from `first` on.
-fn send_all<R: Wait + Clock + Abort + Clone>(
+fn send_all<R: Wait + Abort, P: TimedPort<u64, WakerSlot>>(
     rt: &R,
     first: u64,
-    sender: LockSender<u64, R>,
+    sender: Sending<P>,
     mut patience: Patience,
     ended: &AtomicU64,
 ) {
@@ -38,9 +37,9 @@ fn send_all<R: Wait + Clock + Abort + Clone>(
 
 /// Receives until the channel is closed. Each message must come once, in the order of its sender,
 /// or be counted as missed.
-fn receive_all<R: Wait + Clock + Abort + Clone>(
+fn receive_all<R: Wait + Abort, P: TimedPort<u64, WakerSlot>>(
     rt: &R,
-    mut receiver: LockReceiver<u64, R>,
+    mut receiver: Receiving<P>,
     mut patience: Patience,
     ended: &AtomicU64,
 ) {
@@ -65,30 +64,57 @@ fn receive_all<R: Wait + Clock + Abort + Clone>(
     ended.fetch_add(1, Ordering::SeqCst);
 }
 
-/// Two threads send, and two receive. Of each two, one has random limits.
-fn run<R>(rt: R, alloc: Global, number: u64) -> Result<(), Fail>
+/// Starts a thread that receives.
+fn start_receiver<R, P>(
+    rt: R,
+    receiver: Receiving<P>,
+    patience: Patience,
+    ended: &Arc<AtomicU64>,
+) -> Result<JoinHandle<()>, Fail>
 where
-    R: Threads + Wait + Clock + Abort + Copy + Send + Drop + 'static,
+    R: Threads + Wait + Abort + Copy + Send + Drop + 'static,
+    P: TimedPort<u64, WakerSlot> + Send + 'static,
 {
-    let capacity = if number % 4 < 2 { 1 } else { 2 };
-    let (mut sender, receiver) = broadcast(rt, alloc, capacity)?;
+    let own = Arc::try_clone(ended)?;
+    Ok(thread::spawn(&rt, move || receive_all(&rt, receiver, patience, &own))?)
+}
+
+/// Starts a thread that sends the messages from `first` on.
+fn start_sender<R, P>(
+    rt: R,
+    first: u64,
+    sender: Sending<P>,
+    patience: Patience,
+    ended: &Arc<AtomicU64>,
+) -> Result<JoinHandle<()>, Fail>
+where
+    R: Threads + Wait + Abort + Copy + Send + Drop + 'static,
+    P: TimedPort<u64, WakerSlot> + Send + 'static,
+{
+    let own = Arc::try_clone(ended)?;
+    Ok(thread::spawn(&rt, move || send_all(&rt, first, sender, patience, &own))?)
+}
+
+/// Two threads send, and two receive. Of each two, one has random limits.
+fn run<R, P>(
+    rt: R,
+    alloc: Global,
+    number: u64,
+    (mut sender, receiver): (Sending<P>, Receiving<P>),
+) -> Result<(), Fail>
+where
+    R: Threads + Wait + Abort + Copy + Send + Drop + 'static,
+    P: TimedPort<u64, WakerSlot> + Send + 'static,
+{
     sender.set_overflow(number % 2 == 1);
-    let (other_sender, other_receiver) = (sender.clone()?, receiver.clone()?);
     let ended = Arc::new(alloc, AtomicU64::new(0))?;
-    let (one, two) = (Arc::try_clone(&ended)?, Arc::try_clone(&ended)?);
-    let (three, four) = (Arc::try_clone(&ended)?, Arc::try_clone(&ended)?);
-    let patience = Patience::random(number, 1);
-    let first = thread::spawn(&rt, move || receive_all(&rt, receiver, patience, &one))?;
-    let endless = Patience::Endless;
-    let second = thread::spawn(&rt, move || receive_all(&rt, other_receiver, endless, &two))?;
-    let patience = Patience::random(number, 2);
-    let third = thread::spawn(&rt, move || send_all(&rt, 0, sender, patience, &three))?;
-    let endless = Patience::Endless;
-    let fourth = thread::spawn(
-        &rt,
-        move || send_all(&rt, MESSAGES, other_sender, endless, &four),
-    )?;
-    assert!(&rt; reaches(&ended, 4), "run {number}: all threads end");
+    let other = receiver.clone()?;
+    let first = start_receiver(rt, other, Patience::random(number, 1), &ended)?;
+    let second = start_receiver(rt, receiver, Patience::Endless, &ended)?;
+    let other = sender.clone()?;
+    let third = start_sender(rt, 0, other, Patience::random(number, 2), &ended)?;
+    let fourth = start_sender(rt, MESSAGES, sender, Patience::Endless, &ended)?;
+    wait_for(&rt, &ended, 4, "all threads end");
     for thread in [first, second, third, fourth] {
         thread.join(&rt);
     }
@@ -100,7 +126,8 @@ where
 #[test]
 fn a_thousand_runs_end(rt: HostRuntime) -> Result<(), Fail> {
     for number in 0..RUNS {
-        run(rt, rt.alloc(), number)?;
+        let capacity = if number % 4 < 2 { 1 } else { 2 };
+        run(rt, rt.alloc(), number, broadcast(rt, rt.alloc(), capacity)?)?;
     }
     Ok(())
 }
