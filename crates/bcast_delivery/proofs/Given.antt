@@ -1,7 +1,6 @@
 -- What a call gives each receiver.
-use Rattle.std.proofs.Common.{◌≡◌, ℕ, ◌+◌, List, Option, Some, None, slice_get, refl, sym, ap, subst}
+use Rattle.std.proofs.Common.{◌≡◌, ℕ, ◌+◌, Option, Some, None, refl, sym, subst}
 use Rattle.bcast_model.specs.Words.{History, IsDelivery, given_to}
-use Rattle.bcast_model.proofs.DeliveryAnswers.{Gives}
 use Rattle.bcast_model.proofs.DeliveryLists.{by_index}
 use Rattle.bcast_model.proofs.DeliverySteps.{gives_call}
 use Rattle.bcast_history.specs.History.{end_of}

@@ -1,16 +1,13 @@
 -- Where the messages of a call stand.
-use Rattle.std.proofs.Common.{◌≡◌, true, List, [], ◌∷◌, ◌++◌, refl, ap, ◌∙◌, subst}
+use Rattle.std.proofs.Common.{List, [], ◌∷◌, ◌++◌, refl, ap, ◌∙◌, subst}
 use mathlib.Core.List.{IsPrefix}
-use Rattle.bcast_model.specs.declared.run.Call.{Call}
-use Rattle.bcast_model.specs.declared.run.Reply.{Reply}
 use Rattle.bcast_model.specs.Words.{History, next, end_of_run}
-use Rattle.bcast_laws.specs.Sends.{messages_of, is_accepted}
 use Rattle.bcast_laws.proofs.Sends.{messages_added}
 use Rattle.bcast_history.specs.declared.step.Opening.{Opening}
 use Rattle.bcast_history.specs.declared.step.Step.{Step}
 use Rattle.bcast_history.specs.History.{calls_of, replies_of, start_of, end_of}
 use Rattle.bcast_history.proofs.Prefixes.{prefix_self, prefix_trans}
-use Rattle.bcast_delivery.specs.Follows.{Follows, accepted_by}
+use Rattle.bcast_delivery.specs.Follows.{accepted_by}
 use Rattle.bcast_delivery.specs.Laws.{SendsStandLast}
 
 module _ {T : Type 0} where

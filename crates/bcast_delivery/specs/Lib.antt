@@ -1,5 +1,8 @@
--- what a call tells its caller, and what follows from it
+-- what a call tells its caller, what is known then, and what follows
 pub mod Follows
+pub mod Seen
 pub mod Laws
+-- what a receiver is given
+pub mod Reading
 -- a channel before it has a name
 pub mod Opened

@@ -8,7 +8,10 @@
 //! (`Follows`). All that any `Seen` of the channel knows are beginnings of one list, which is a run
 //! of the channel. So the laws of `bcast_laws` speak of it.
 //!
-//! No step is stored: a `Seen` has no bytes, and the journal is a word.
+//! A `Reading` belongs to a receiver. A receive by both promises that the receiver is given the
+//! accepted messages one after the other, from its start on, or told how many it missed (`Takes`).
+//!
+//! No step is stored: the journal is a word, and a `Seen` is where one receiver reads on.
 //!
 //! The channel's parameter is `J: Channel`, which names it. A program uses the channel inside a
 //! function over `J`, here `work`, and calls it at `Brand` of `std::marker` with `opened`, an
@@ -21,9 +24,13 @@
 
 mod laws;
 mod opened;
+mod reading;
+mod seen;
 mod steps;
 
 pub use bcast_history::{Opening, Step};
 pub use laws::{receivers_read_on, sends_stand_last};
 pub use opened::{History, HistoryReceiver, HistorySender, Opened, broadcast};
-pub use steps::{Channel, KeepsSteps, Seen};
+pub use reading::Reading;
+pub use seen::Seen;
+pub use steps::{Channel, KeepsSteps};

@@ -1,7 +1,8 @@
 //! A channel that was made, before it has a name, and its first handles.
 ghost use Rattle.std.specs.Prelude.{◌≡◌, ◌<◌, [], IfOk};
 
-use crate::steps::{Channel, KeepsSteps, Seen};
+use crate::reading::Reading;
+use crate::steps::{Channel, KeepsSteps};
 use async_broadcast::{Lock, Port, Receiver, Sender, Wake, WakerSlot};
 use bcast_core::Inner;
 use bcast_history::{Journal, Opening, Step};
@@ -66,8 +67,8 @@ pub type HistorySender<T, R, J, A = Global> = Sender<T, History<T, R, J, A>, A>;
 /// A receiver of a channel whose steps are kept.
 pub type HistoryReceiver<T, R, J, A = Global> = Receiver<T, History<T, R, J, A>, A>;
 
-/// Makes the first sender and the first receiver of this channel, whose name is `J`, and a `Seen`
-/// that knows no step on it.
+/// Makes the first sender and the first receiver of this channel, whose name is `J`, and how far
+/// the receiver has read: nothing.
 ///
 /// # Errors
 ///
@@ -80,12 +81,17 @@ pub fn broadcast<T: Clone, R: Wait + Clone, J: Channel, A: Allocator + Copy>(
     (
         HistorySender<T, R, J, A>,
         HistoryReceiver<T, R, J, A>,
-        Seen<T, J>,
+        Reading<T, J>,
     ),
     AllocError,
 >
     requires { (opened.book ≡ J.book) × (opened.opening ≡ J.opening) }
-    ensures { IfOk result (λ made. made.2 ≡ []) }
+    ensures reading { IfOk result (λ made. made.2 ≡ record {
+      key = J.opening.first_key;
+      next = J.opening.first_number;
+      steps = [];
+    }) }
+    ensures key { IfOk result (λ made. made.1.role.key ≡ made.2.key) }
 {
     let Opened {
         inner,
@@ -96,10 +102,12 @@ pub fn broadcast<T: Clone, R: Wait + Clone, J: Channel, A: Allocator + Copy>(
     let seen = steps.nothing();
     let port = Lock::keeping(rt, alloc, inner, steps, seen.same())?;
     let other = port.same().ok_or(AllocError)?;
+    let key = opening.first_key;
     let sender = Sender::over(port, alloc);
+    let receiver = Receiver::over(other, key, alloc);
     Ok((
         sender,
-        Receiver::over(other, opening.first_key, alloc),
-        seen,
+        receiver,
+        Reading::new(key, opening.first_number, &seen),
     ))
 }

@@ -1,11 +1,12 @@
 //! What the lock of such a channel keeps: the steps on it.
-ghost use Rattle.std.specs.Prelude.{◌≡◌, []};
+ghost use Rattle.std.specs.Prelude.{◌≡◌, [], None};
 ghost use Rattle.bcast_model.specs.Words.{IsValid};
 ghost use Rattle.bcast_history.specs.History.{start_of};
 
+use crate::seen::{Seen, place_in};
 use async_broadcast::{Keep, Made, Wake, WakerSlot};
 use bcast_core::Inner;
-use bcast_history::{Journal, Named, Notes, Prefix, Step, Writer};
+use bcast_history::{Journal, Named, Notes, Step, Writer};
 use std::alloc::Allocator;
 use std::marker::{Brand, Model};
 use std::snapshot::Snapshot;
@@ -22,9 +23,6 @@ pub trait Channel: Named {
 impl Channel for Brand {
     ghost opening = { record { capacity = 1; first_number = 0; first_key = 0 } };
 }
-
-/// What is known of the steps on a channel: a beginning of them. It has no bytes.
-pub type Seen<T, J> = Prefix<Step<T>, J>;
 
 /// The steps on a channel, for contracts. They are a run of it.
 #[derive(Drop)]
@@ -60,9 +58,12 @@ impl<T: Clone, J: Channel> KeepsSteps<T, J> {
 
     // Knows no step.
     pub(crate) fn nothing(&self) -> Seen<T, J>
-        ensures { result ≡ [] }
+        ensures { result ≡ record { steps = []; place = None } }
     {
-        self.writer.nothing()
+        Seen {
+            steps: self.writer.nothing(),
+            place: None,
+        }
     }
 }
 
@@ -77,20 +78,18 @@ impl<'a, T, Y: Made<T>> Notes<Step<T>> for ShownStep<'a, Y> {
 }
 
 impl<T: Clone, J: Channel> Keep<T> for KeepsSteps<T, J> {
-    ghost use mathlib.Core.List.{IsPrefix};
     ghost use Rattle.bcast_model.specs.Words.{Represents};
     ghost use Rattle.bcast_history.specs.History.{end_of};
-    ghost use Rattle.bcast_history.proofs.Prefixes.{prefix_self};
-    ghost use Rattle.bcast_delivery.specs.Follows.{Follows};
-    ghost use Rattle.bcast_delivery.specs.Laws.{follows_reaches, follows_sooner};
+    ghost use Rattle.bcast_delivery.specs.Seen.{Reaches, Tells};
+    ghost use Rattle.bcast_delivery.specs.Laws.{reaches_same, tells_reaches, tells_sooner};
 
     type Known = Seen<T, J>;
 
     ghost keeps = { λ kept v. Represents v (end_of J.opening kept) };
 
-    ghost reaches = { λ known after. IsPrefix known after };
+    ghost reaches = { λ known after. Reaches known after };
 
-    ghost told = { λ known call reply after. Follows T.is_clone J.opening known call reply after };
+    ghost told = { λ known call reply after. Tells T.is_clone J.opening known call reply after };
 
     #[inline(always)]
     fn same(known: &Seen<T, J>) -> Seen<T, J> {
@@ -104,14 +103,17 @@ impl<T: Clone, J: Channel> Keep<T> for KeepsSteps<T, J> {
         known: &mut Seen<T, J>,
         made: &Y,
         _before: &Snapshot<Inner<T, Wake<WakerSlot<A>>, A>>,
-        _after: &Inner<T, Wake<WakerSlot<A>>, A>,
+        after: &Inner<T, Wake<WakerSlot<A>>, A>,
     ) {
-        self.writer.append(rt, known, &ShownStep { made });
+        self.writer
+            .append(rt, &mut known.steps, &ShownStep { made });
+        let place = place_in(after, known.place);
+        known.place = place;
     }
 
-    ghost unchanged = { λ known. prefix_self known };
+    ghost unchanged = { λ known. reaches_same known };
 
-    ghost reached = { λ known after call reply told. follows_reaches told };
+    ghost reached = { λ known after call reply told. tells_reaches told };
 
-    ghost sooner = { λ less known after call reply reaches told. follows_sooner reaches told };
+    ghost sooner = { λ less known after call reply reaches told. tells_sooner reaches told };
 }

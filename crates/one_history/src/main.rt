@@ -6,8 +6,8 @@ ghost use Rattle.std.specs.Prelude.{◌≡◌};
 mod order;
 
 use anyhow::Result;
-use bcast_delivery::{Channel, Opened, Seen, broadcast};
-use order::send_both;
+use bcast_delivery::{Channel, Opened, Reading, broadcast};
+use order::{receive_all, send_both};
 use std::alloc::AllocGlobal;
 use std::marker::Brand;
 use std::sync::Wait;
@@ -24,9 +24,13 @@ fn send_from_two_threads<J: Channel + Send + Sync, R: Threads + Wait + Sync + Pr
 ) -> Result<()>
     requires { (opened.book ≡ J.book) × (opened.opening ≡ J.opening) }
 {
-    let (sender, mut receiver, seen): (_, _, Seen<u64, J>) = broadcast(rt, rt.alloc(), opened)?;
+    let (sender, mut receiver, mut reading): (_, _, Reading<u64, J>) = broadcast(
+        rt,
+        rt.alloc(),
+        opened,
+    )?;
     let other = sender.clone()?;
-    let (mut one, mut two) = (seen.same(), seen.same());
+    let (mut one, mut two) = (reading.seen(), reading.seen());
     let (odd, even) = thread::join(
         rt,
         || send_both(&sender, &mut one, 1, 3),
@@ -34,12 +38,9 @@ fn send_from_two_threads<J: Channel + Send + Sync, R: Threads + Wait + Sync + Pr
     );
     println!(rt; "1 stands before 3: {odd}")?;
     println!(rt; "2 stands before 4: {even}")?;
-    let mut sum = 0u64;
-    for _ in 0..4 {
-        if let Ok(Ok(number)) = receiver.try_recv() {
-            sum = sum.wrapping_add(number);
-        }
-    }
-    println!(rt; "received: {sum}")?;
+    println!(rt;
+        "received: {}",
+        receive_all(rt, &mut reading, &mut receiver)
+    )?;
     Ok(())
 }

@@ -1,5 +1,5 @@
 -- The steps are a run with one more, and who is told knows them all.
-use Rattle.bcast_delivery.proofs.Keeping.{replays, replays_longer, follows}
+use Rattle.bcast_delivery.proofs.Keeping.{replays, replays_longer, follows, tells}
 use Rattle.bcast_delivery.proofs.steps.KeepsStepsKeep.keep.Goals as goal
 
 pub invariant_of-self : goal.invariant_of-self
@@ -15,4 +15,6 @@ returns-clause-keeps g c =
 pub returns-clause-told : goal.returns-clause-told
 returns-clause-told g c =
     let old = replays _ _ g.row.T.coded c.self.view_is c.requires.kept c.self.invariant in
-    follows c.append.ensures.knows c.append.ensures.appended c.append.ensures.before old c.requires.answers.legal
+    let new = replays_longer c.append.ensures.appended old c.requires.answers in
+    let told = follows c.append.ensures.knows c.append.ensures.appended c.append.ensures.before old c.requires.answers.legal in
+    tells c.known.view_is told c.append.ensures.knows new.end c.place_in-place.ensures

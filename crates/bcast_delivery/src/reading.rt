@@ -1,0 +1,159 @@
+//! How far a receiver has read.
+ghost use Rattle.std.specs.Prelude.{◌≡◌, ◌+◌, None, IfSome, length};
+ghost use mathlib.Core.List.{IsPrefix};
+ghost use Rattle.bcast_model.specs.declared.run.Reply.TheVariants as reply;
+ghost use Rattle.bcast_model.specs.Words.{given_by};
+ghost use Rattle.async_broadcast.specs.Ports.{as_try_recv};
+ghost use Rattle.bcast_delivery.specs.Reading.{Takes};
+
+use crate::opened::HistoryReceiver;
+use crate::seen::Seen;
+use crate::steps::Channel;
+use async_broadcast::{RecvError, TryRecvError};
+use bcast_history::Named;
+use std::alloc::{AllocError, Allocator};
+use std::marker::Model;
+use std::sync::Wait;
+
+/// How far a receiver has read, and what it has seen of the steps on its channel. Its calls promise
+/// that the receiver is given the accepted messages one after the other, or told how many it missed.
+///
+/// A contract sees the receiver's key, the number of the message that it reads next, and the steps.
+/// With each call that number is compared with the channel's, under the lock. If they differ, since
+/// the receiver received without it, the call waits for ever.
+#[derive(Drop)]
+pub struct Reading<T, J: Named> {
+    key: usize,
+    next: u64,
+    seen: Seen<T, J>,
+}
+
+impl<T, J: Named> Model for Reading<T, J> {
+    ghost use Rattle.std.specs.Prelude.{◌≡◌, Some};
+    ghost use Rattle.bcast_delivery.specs.Reading.{Reading};
+
+    ghost Value = { Reading T };
+
+    ghost view = { λ r. record { key = r.key; next = r.next; steps = r.seen.steps } };
+
+    ghost invariant = { λ r. r.seen.place ≡ Some (r.key, r.next) };
+}
+
+impl<T, J: Named> Reading<T, J> {
+    // Of the receiver of this key, which reads next the message of this number.
+    pub(crate) fn new(key: usize, next: u64, seen: &Seen<T, J>) -> Self
+        ensures { result ≡ record { key = key; next = next; steps = seen.now.steps } }
+    {
+        Reading {
+            key,
+            next,
+            seen: seen.at(key, next),
+        }
+    }
+
+    /// What the receiver has seen, for other callers.
+    pub fn seen(&self) -> Seen<T, J>
+        ensures { result ≡ record { steps = self.now.steps; place = None } }
+    {
+        self.seen.elsewhere()
+    }
+}
+
+impl<T: Clone, J: Channel> Reading<T, J> {
+    /// Receives the next message by the receiver of this key, if there is one, as its `try_recv`
+    /// does.
+    ///
+    /// # Errors
+    ///
+    /// - `AllocError`: no memory for a clone of a message that others have still to read. Nothing
+    ///   changed.
+    /// - `Overflowed(n)`: the next `n` messages were dropped. The receiver continues after them.
+    /// - `Empty`: every message was read, and the channel is open.
+    /// - `Closed`: every message was read, and the channel is closed.
+    ///
+    /// Source: this crate's own.
+    pub fn try_recv<R: Wait + Clone, A: Allocator + Copy>(
+        &mut self,
+        rt: &impl Wait,
+        receiver: &mut HistoryReceiver<T, R, J, A>,
+    ) -> Result<Result<T, TryRecvError>, AllocError>
+        requires { receiver.old.role.key ≡ self.old.key }
+        ensures receiver { receiver.new ≡ receiver.old }
+        ensures key { self.new.key ≡ self.old.key }
+        ensures seen { IsPrefix self.old.steps self.new.steps }
+        ensures takes { Takes T.is_clone J.opening self.old self.new result }
+    {
+        let received = receiver.try_recv_seen(&mut self.seen);
+        let given = count_given(&received);
+        let place = self.seen.place();
+        let now = agreed(rt, place, self.next, given);
+        self.next = now;
+        received
+    }
+
+    /// Receives the next message by the receiver of this key, and blocks the thread while there is
+    /// none and the channel is open, as its `recv_blocking` does.
+    ///
+    /// # Errors
+    ///
+    /// - `AllocError`: no memory for a clone of a message that others have still to read. Nothing
+    ///   changed.
+    /// - `Overflowed(n)`: the next `n` messages were dropped. The receiver continues after them.
+    /// - `Closed`: every message was read, and the channel is closed.
+    ///
+    /// Source: this crate's own.
+    pub fn recv_blocking<R: Wait + Clone, A: Allocator + Copy>(
+        &mut self,
+        rt: &impl Wait,
+        receiver: &mut HistoryReceiver<T, R, J, A>,
+    ) -> Result<Result<T, RecvError>, AllocError>
+        requires { receiver.old.role.key ≡ self.old.key }
+        ensures receiver { receiver.new ≡ receiver.old }
+        ensures key { self.new.key ≡ self.old.key }
+        ensures seen { IsPrefix self.old.steps self.new.steps }
+        ensures takes { Takes T.is_clone J.opening self.old self.new (as_try_recv result) }
+    {
+        let received = receiver.recv_blocking_seen(&mut self.seen);
+        let given = count_received(&received);
+        let place = self.seen.place();
+        let now = agreed(rt, place, self.next, given);
+        self.next = now;
+        received
+    }
+}
+
+// How many messages this gives, or counts as missed.
+fn count_given<T>(received: &Result<Result<T, TryRecvError>, AllocError>) -> u64
+    ensures { result ≡ length (given_by (reply.TryRecv received.now)) }
+{
+    match received {
+        Ok(Ok(_)) => 1,
+        Ok(Err(TryRecvError::Overflowed(n))) => *n,
+        _ => 0,
+    }
+}
+
+// The same, of a receive that blocked.
+fn count_received<T>(received: &Result<Result<T, RecvError>, AllocError>) -> u64
+    ensures { result ≡ length (given_by (reply.TryRecv (as_try_recv received.now))) }
+{
+    match received {
+        Ok(Ok(_)) => 1,
+        Ok(Err(RecvError::Overflowed(n))) => *n,
+        _ => 0,
+    }
+}
+
+// The number at which the channel says that a receiver reads on, if that is `given` behind `next`.
+fn agreed(rt: &impl Wait, place: Option<(usize, u64)>, next: u64, given: u64) -> u64
+    ensures place { IfSome place (λ at. at.1 ≡ result) }
+    ensures next { result ≡ next + given }
+{
+    if let Some((_, now)) = place {
+        if next.checked_add(given) == Some(now) {
+            return now;
+        }
+    }
+    for _ in rt.forever() {}
+    unreachable!()
+}
