@@ -1,6 +1,6 @@
 //! What a lock keeps of the calls on its channel.
-ghost use Rattle.std.specs.Prelude.{◌≡◌};
-ghost use Rattle.bcast_model.specs.Words.{Answers};
+ghost use Rattle.std.specs.Prelude.{◌≡◌, ℕ};
+ghost use Rattle.bcast_model.specs.Words.{Answers, IsPossible};
 
 use crate::wake::{Wake, WakerSlot};
 use bcast_core::Inner;
@@ -35,13 +35,16 @@ pub trait Keep<T: Clone>: Sized + Drop {
     ghost reaches: { Self.Known → Self.Known → Type 0 };
 
     // Holds of what was known before a call, the call and its reply, and what is known then.
-    ghost told: { Self.Known → Call T → Reply T → Self.Known → Type 0 };
+    ghost learns: { Self.Known → Call T → Reply T → Self.Known → Type 0 };
+
+    // Holds of what a port knows, a call, and a reply that it may give to it.
+    ghost gave: { Self.Known → Call T → Reply T → Type 0 };
 
     /// The same knowledge, for another port or another call.
     fn same(known: &Self::Known) -> Self::Known
         ensures { result ≡ known.now };
 
-    /// Keeps a call that was made on the channel, and tells a port of it.
+    /// Keeps a call that was made on the channel, and adds it to what is known.
     fn keep<Y: Made<T>, A: Allocator + Copy>(
         &mut self,
         rt: &impl Wait,
@@ -54,18 +57,32 @@ pub trait Keep<T: Clone>: Sized + Drop {
         requires answers { Answers T.is_clone before.now.value (Y.call made.now)
             (Y.reply made.now) after.now }
         ensures keeps { ∥ keeps self.new after.now ∥₁ }
-        ensures told { told known.old (Y.call made.now) (Y.reply made.now) known.new };
+        ensures learned { learns known.old (Y.call made.now) (Y.reply made.now) known.new };
 
     // What was known is known.
     ghost unchanged: { (known : Self.Known) → reaches known known };
 
     // A call adds to what is known.
     ghost reached: { (known after : Self.Known) (call : Call T) (reply : Reply T)
-        → told known call reply after → reaches known after };
+        → learns known call reply after → reaches known after };
 
-    // Who knows less may be told of a call, too.
+    // Who knows less may learn of a call, too.
     ghost sooner: { (less known after : Self.Known) (call : Call T) (reply : Reply T)
-        → reaches less known → told known call reply after → told less call reply after };
+        → reaches less known → learns known call reply after → learns less call reply after };
+
+    // A port gave the reply to a call that was kept.
+    ghost kept: { (known after : Self.Known) (call : Call T) (reply : Reply T)
+        → IsPossible T.is_clone call reply → learns known call reply after
+        → gave known call reply };
+
+    // It also gives up a future by no call, if there is nothing to give up.
+    ghost left_out: { (known : Self.Known) (key : ℕ)
+        → IsPossible T.is_clone (Call.EndFuture key) Reply.EndFuture
+        → gave known (Call.EndFuture key) Reply.EndFuture };
+
+    // A reply that a port gave is one that the channel gives in some valid history.
+    ghost possible: { (known : Self.Known) (call : Call T) (reply : Reply T)
+        → gave known call reply → IsPossible T.is_clone call reply };
 }
 
 /// What the lock of a channel keeps that `broadcast` made: nothing.
@@ -81,7 +98,9 @@ impl<T: Clone> Keep<T> for KeepsNothing {
 
     ghost reaches = { λ known after. ⊤ };
 
-    ghost told = { λ known call reply after. ⊤ };
+    ghost learns = { λ known call reply after. ⊤ };
+
+    ghost gave = { λ known call reply. IsPossible T.is_clone call reply };
 
     #[inline(always)]
     fn same(known: &()) -> () {
@@ -100,7 +119,13 @@ impl<T: Clone> Keep<T> for KeepsNothing {
 
     ghost unchanged = { λ known. tt };
 
-    ghost reached = { λ known after call reply told. tt };
+    ghost reached = { λ known after call reply learned. tt };
 
-    ghost sooner = { λ less known after call reply reaches told. tt };
+    ghost sooner = { λ less known after call reply reaches learned. tt };
+
+    ghost kept = { λ known after call reply may learned. may };
+
+    ghost left_out = { λ known key may. may };
+
+    ghost possible = { λ known call reply may. may };
 }

@@ -1,6 +1,6 @@
 //! The channel of several handles, behind one lock.
 ghost use Rattle.std.specs.Prelude.{◌≡◌, ◌<◌, true, IfOk};
-ghost use Rattle.bcast_model.specs.Words.{View, IsShown, IsPossible, unread, missed};
+ghost use Rattle.bcast_model.specs.Words.{View, IsShown, unread, missed};
 ghost use Rattle.async_broadcast.specs.Kinds.{may_wait, is_answer};
 ghost use Rattle.async_broadcast.specs.Snapshots.{ShowsSomeState};
 
@@ -11,11 +11,9 @@ use crate::receiver::Receiver;
 use crate::sender::Sender;
 use crate::wake::{Wake, WakerSlot};
 use bcast_core::{Call, Inner, Reply, Snapshot, TryRecvError, TrySendError};
-use channel::{Channel, kept, lock, locked, look};
+use channel::{Channel, kept, lock, locked, look, try_broadcast_locked, try_recv_locked};
 use limit::{NoLimit, TimeLimit};
-use made::{TriedToReceive, TriedToSend};
 use std::alloc::{AllocError, Allocator, Global};
-use std::snapshot::Snapshot as Shown;
 use std::sync::{Arc, Wait};
 use std::time::{Clock, Duration};
 
@@ -38,7 +36,7 @@ mod waiting;
 pub struct Lock<T: Clone, R: Wait + Clone, A: Allocator = Global, K: Keep<T> = KeepsNothing> {
     channel: Arc<Channel<T, A, K>, A>,
     rt: R,
-    known: K::Known,
+    pub(crate) known: K::Known,
 }
 
 /// A sender of a channel that `broadcast` made.
@@ -189,42 +187,21 @@ impl<T: Clone, R: Wait + Clone, A: Allocator + Copy, K: Keep<T>> Port<T, WakerSl
 
     #[inline(always)]
     fn try_broadcast(&self, msg: T) -> Result<Option<T>, TrySendError<T>>
-        ensures { IsPossible T.is_clone (Call.TryBroadcast msg) (Reply.TryBroadcast result) }
+        ensures { K.gave self.now.known (Call.TryBroadcast msg) (Reply.TryBroadcast result) }
     {
-        let msg_shown = Shown::of(&msg);
-        locked!(
-            self,
-            &mut K::same(&self.known),
-            |inner| inner.try_broadcast(msg),
-            |sent| {
-                TriedToSend {
-                    msg: msg_shown,
-                    sent: &sent
-                }
-            }
-        )
+        try_broadcast_locked!(self, &mut K::same(&self.known), msg)
     }
 
     #[inline(always)]
     fn try_recv(&self, key: usize) -> Result<Result<T, TryRecvError>, AllocError>
-        ensures { IsPossible T.is_clone (Call.TryRecv key) (Reply.TryRecv result) }
+        ensures { K.gave self.now.known (Call.TryRecv key) (Reply.TryRecv result) }
     {
-        locked!(
-            self,
-            &mut K::same(&self.known),
-            |inner| inner.try_recv(key),
-            |answer| {
-                TriedToReceive {
-                    key,
-                    answer: &answer
-                }
-            }
-        )
+        try_recv_locked!(self, &mut K::same(&self.known), key)
     }
 
     fn ask_waiting(&self, call: Call<T>) -> Reply<T>
         requires { may_wait call ≡ true }
-        ensures reply { IsPossible T.is_clone call result }
+        ensures reply { K.gave self.now.known call result }
         ensures answered { is_answer result ≡ true }
     {
         self.ask_within(&mut K::same(&self.known), call, &NoLimit)
@@ -245,7 +222,7 @@ impl<T: Clone, R: Wait + Clone + Clock, A: Allocator + Copy, K: Keep<T>> TimedPo
     for Lock<T, R, A, K> {
     fn ask_timeout(&self, call: Call<T>, limit: Duration) -> Reply<T>
         requires { may_wait call ≡ true }
-        ensures { IsPossible T.is_clone call result }
+        ensures { K.gave self.now.known call result }
     {
         let limit = TimeLimit::from_now(&self.rt, limit);
         self.ask_within(&mut K::same(&self.known), call, &limit)

@@ -1,19 +1,29 @@
-//! Calls that tell their caller of the calls on the channel.
-ghost use Rattle.std.specs.Prelude.{◌≡◌};
+//! Calls that add themselves, and those that others made before them, to what their caller knows.
+ghost use Rattle.std.specs.Prelude.{◌≡◌, ◌⊎◌, true, false, Ok, Err, IfOk, IfErr};
+ghost use Rattle.futures.specs.Task.{IsArmed, Keeps};
+ghost use Rattle.futures.specs.Poll.{OnPending};
+ghost use Rattle.bcast_model.specs.Encodings.{in_lists};
 ghost use Rattle.bcast_model.specs.Words.{IsPossible};
 ghost use Rattle.async_broadcast.specs.Ports.{as_try_recv};
 
+use crate::handle::{Handle, Role};
+use crate::inactive::{Inactive, InactiveReceiver};
 use crate::keep::Keep;
 use crate::lock::Lock;
 use crate::lock::limit::NoLimit;
-use crate::receiver::{Receiver, answered};
+use crate::port::Port;
+use crate::receiver::{Receiver, Receiving, answered};
 use crate::sender::Sender;
-use crate::wake::Wake;
-use bcast_core::{Call, RecvError, Reply, SendError, SendPoll, TryRecvError, TrySendError};
+use crate::wake::{TaskWaker, Wake};
+use bcast_core::{
+    Call, HandleError, Messages, RecvError, Reply, SendError, SendPoll, TryRecvError, TrySendError,
+    in_vec,
+};
+use futures::task::{Context, Poll};
 use std::alloc::{AllocError, Allocator};
 use std::sync::Wait;
 
-/// Makes a call that never waits, of which `known` is told, and returns what the reply holds.
+/// Makes a call that never waits, adds it to `known`, and returns what the reply holds.
 macro_rules! ask_seen {
     ($handle:expr, $known:expr, $call:ident $(($argument:expr))?) => {
         match $handle.port.ask_seen($known, Call::$call $(($argument))?, Wake::none()) {
@@ -23,8 +33,26 @@ macro_rules! ask_seen {
     };
 }
 
+impl<T: Clone, R: Wait + Clone, A: Allocator + Copy, K: Keep<T>, H: Role<T>> Handle<
+    T,
+    Lock<T, R, A, K>,
+    H,
+    A,
+> {
+    /// Lets the handle know this. Each call that is made by it, or by a future of it, comes after
+    /// all that is known.
+    ///
+    /// Source: this crate's own.
+    pub fn set_known(&mut self, known: &K::Known)
+        ensures known { self.new.port.known ≡ known.now }
+        ensures same { self.new.role ≡ self.old.role }
+    {
+        self.port.known = K::same(known);
+    }
+}
+
 impl<T: Clone, R: Wait + Clone, A: Allocator + Copy, K: Keep<T>> Sender<T, Lock<T, R, A, K>, A> {
-    /// Sends a message as `try_broadcast` does, and tells `known` of the call.
+    /// Sends a message as `try_broadcast` does, and adds the call to `known`.
     ///
     /// Source: this crate's own.
     pub fn try_broadcast_seen(
@@ -32,25 +60,39 @@ impl<T: Clone, R: Wait + Clone, A: Allocator + Copy, K: Keep<T>> Sender<T, Lock<
         known: &mut K::Known,
         msg: T,
     ) -> Result<Option<T>, TrySendError<T>>
-        ensures told { K.told known.old (Call.TryBroadcast msg) (Reply.TryBroadcast result)
+        ensures learned { K.learns known.old (Call.TryBroadcast msg) (Reply.TryBroadcast result)
             known.new }
         ensures asked { IsPossible T.is_clone (Call.TryBroadcast msg)
             (Reply.TryBroadcast result) }
     {
-        ask_seen!(self, known, TryBroadcast(msg))
+        self.port.try_broadcast_seen(known, msg)
     }
 
-    /// Closes the channel as `close` does, and tells `known` of the call.
+    /// Sends a list of messages as `try_broadcast_all` does, and adds the call to `known`.
+    ///
+    /// Source: this crate's own.
+    pub fn try_broadcast_all_seen(
+        &self,
+        known: &mut K::Known,
+        msgs: Vec<T>,
+    ) -> Result<(), TrySendError<Vec<T>>>
+        ensures learned { K.learns known.old (Call.TryBroadcastAll msgs.items)
+            (Reply.TryBroadcastAll (in_lists result)) known.new }
+    {
+        in_vec(ask_seen!(self, known, TryBroadcastAll(Messages::new(msgs))))
+    }
+
+    /// Closes the channel as `close` does, and adds the call to `known`.
     ///
     /// Source: this crate's own.
     pub fn close_seen(&self, known: &mut K::Known) -> bool
-        ensures told { K.told known.old Call.Close (Reply.Close result) known.new }
+        ensures learned { K.learns known.old Call.Close (Reply.Close result) known.new }
         ensures asked { IsPossible T.is_clone Call.Close (Reply.Close result) }
     {
         ask_seen!(self, known, Close)
     }
 
-    /// Sends a message as `broadcast_blocking` does, and tells `known` of the try that sent it, or
+    /// Sends a message as `broadcast_blocking` does, and adds the try to `known` that sent it, or
     /// found that it can't be sent.
     ///
     /// Source: this crate's own.
@@ -59,7 +101,7 @@ impl<T: Clone, R: Wait + Clone, A: Allocator + Copy, K: Keep<T>> Sender<T, Lock<
         known: &mut K::Known,
         msg: T,
     ) -> Result<Option<T>, SendError<T>>
-        ensures told { K.told known.old (Call.AttemptSend msg)
+        ensures learned { K.learns known.old (Call.AttemptSend msg)
             (Reply.AttemptSend (SendPoll.Ready result)) known.new }
         ensures asked { IsPossible T.is_clone (Call.AttemptSend msg)
             (Reply.AttemptSend (SendPoll.Ready result)) }
@@ -73,26 +115,53 @@ impl<T: Clone, R: Wait + Clone, A: Allocator + Copy, K: Keep<T>> Sender<T, Lock<
             _ => unreachable!(),
         }
     }
+
+    /// Makes an active receiver as `new_receiver` does, and adds the call to `known`.
+    ///
+    /// Source: this crate's own.
+    pub fn new_receiver_seen(
+        &self,
+        known: &mut K::Known,
+    ) -> Result<Receiver<T, Lock<T, R, A, K>, A>, HandleError>
+        ensures learned { IfOk result (λ made. K.learns known.old Call.NewReceiver
+            (Reply.NewReceiver (Ok made.role.key)) known.new) }
+        ensures refused { IfErr result (λ error. (known.new ≡ known.old)
+            ⊎ K.learns known.old Call.NewReceiver (Reply.NewReceiver (Err error)) known.new) }
+    {
+        let port = self.port.same().ok_or(HandleError::Memory)?;
+        let key = ask_seen!(self, known, NewReceiver)?;
+        Ok(Receiver::over(port, key, self.alloc))
+    }
 }
 
 impl<T: Clone, R: Wait + Clone, A: Allocator + Copy, K: Keep<T>> Receiver<T, Lock<T, R, A, K>, A> {
-    /// Receives the next message as `try_recv` does, and tells `known` of the call.
+    /// The key under which the channel has the receiver's cursor.
+    ///
+    /// Source: this crate's own.
+    #[inline(always)]
+    pub fn key(&self) -> usize
+        ensures { result ≡ self.now.role.key }
+    {
+        self.role.key
+    }
+
+    /// Receives the next message as `try_recv` does, and adds the call to `known`.
     ///
     /// Source: this crate's own.
     pub fn try_recv_seen(
         &mut self,
         known: &mut K::Known,
     ) -> Result<Result<T, TryRecvError>, AllocError>
-        ensures told { K.told known.old (Call.TryRecv self.old.role.key) (Reply.TryRecv result)
+        ensures learned { K.learns known.old (Call.TryRecv self.old.role.key) (Reply.TryRecv result)
             known.new }
         ensures asked { IsPossible T.is_clone (Call.TryRecv self.old.role.key)
             (Reply.TryRecv result) }
         ensures same { self.new ≡ self.old }
     {
-        ask_seen!(self, known, TryRecv(self.role.key))
+        self.port.try_recv_seen(known, self.role.key)
     }
 
-    /// Receives the next message as `recv_blocking` does, and tells `known` of the try that found
+    /// Receives the next message as `recv_blocking` does, and adds the try to `known` that found
     /// it, or that the channel is closed.
     ///
     /// Source: this crate's own.
@@ -100,7 +169,7 @@ impl<T: Clone, R: Wait + Clone, A: Allocator + Copy, K: Keep<T>> Receiver<T, Loc
         &mut self,
         known: &mut K::Known,
     ) -> Result<Result<T, RecvError>, AllocError>
-        ensures told { K.told known.old (Call.TryRecv self.old.role.key)
+        ensures learned { K.learns known.old (Call.TryRecv self.old.role.key)
             (Reply.TryRecv (as_try_recv result)) known.new }
         ensures asked { IsPossible T.is_clone (Call.TryRecv self.old.role.key)
             (Reply.TryRecv (as_try_recv result)) }
@@ -110,6 +179,101 @@ impl<T: Clone, R: Wait + Clone, A: Allocator + Copy, K: Keep<T>> Receiver<T, Loc
         match self.port.ask_within(known, call, &NoLimit) {
             Reply::TryRecv(received) => answered(received),
             _ => unreachable!(),
+        }
+    }
+
+    /// Receives the next message as `poll_recv` does, and adds the call to `known`. No call is made
+    /// if memory for a notice is refused.
+    ///
+    /// Source: this crate's own.
+    pub fn poll_recv_seen(
+        &mut self,
+        known: &mut K::Known,
+        cx: &mut Context<'_>,
+    ) -> Result<Poll<Option<Result<T, RecvError>>>, AllocError>
+        ensures learned { IfOk result (λ poll. K.learns known.old
+            (Call.PollRecv self.old.role.key) (Reply.PollRecv (Ok poll)) known.new) }
+        ensures refused { IfErr result (λ error.
+            ((known.new ≡ known.old) × (self.new.role.waker.is_refused ≡ true))
+            ⊎ K.learns known.old (Call.PollRecv self.old.role.key) (Reply.PollRecv (Err error))
+            known.new) }
+        ensures same { (self.new.port ≡ self.old.port)
+            × (self.new.role.key ≡ self.old.role.key) }
+        ensures notice { IfOk result (λ poll. OnPending poll
+            (self.new.role.waker.is_refused ≡ false)) }
+        ensures registered { IfOk result (λ poll. OnPending poll (IsArmed cx.new)) }
+        ensures kept { Keeps cx.old cx.new }
+    {
+        let Receiving { key, waker } = &mut self.role;
+        match self.port.poll_seen(known, Call::PollRecv(*key), waker, cx) {
+            Ok(reply) => match reply {
+                Reply::PollRecv(answer) => answer,
+                _ => unreachable!(),
+            },
+            Err(_) => Err(AllocError),
+        }
+    }
+
+    /// Makes another active receiver as `clone` does, and adds the call to `known`.
+    ///
+    /// Source: this crate's own.
+    pub fn clone_seen(&self, known: &mut K::Known) -> Result<Self, HandleError>
+        ensures learned { IfOk result (λ made. K.learns known.old
+            (Call.CloneReceiver self.now.role.key) (Reply.CloneReceiver (Ok made.role.key))
+            known.new) }
+        ensures refused { IfErr result (λ error. (known.new ≡ known.old)
+            ⊎ K.learns known.old (Call.CloneReceiver self.now.role.key)
+            (Reply.CloneReceiver (Err error)) known.new) }
+    {
+        let port = self.port.same().ok_or(HandleError::Memory)?;
+        let key = ask_seen!(self, known, CloneReceiver(self.role.key))?;
+        Ok(Receiver::over(port, key, self.alloc))
+    }
+
+    /// Turns the receiver into an inactive one as `deactivate` does, and adds the call to `known`.
+    ///
+    /// Source: this crate's own.
+    pub fn deactivate_seen(
+        self,
+        known: &mut K::Known,
+    ) -> Result<InactiveReceiver<T, Lock<T, R, A, K>, A>, (Self, HandleError)>
+        ensures learned { IfOk result (λ _. K.learns known.old (Call.Deactivate self.role.key)
+            (Reply.Deactivate (Ok tt)) known.new) }
+        ensures refused { IfErr result (λ back. (back.0 ≡ self)
+            × K.learns known.old (Call.Deactivate self.role.key) (Reply.Deactivate (Err back.1))
+            known.new) }
+    {
+        match ask_seen!(self, known, Deactivate(self.role.key)) {
+            Ok(()) => Ok(self.turned(Inactive)),
+            Err(error) => Err((self, error)),
+        }
+    }
+}
+
+impl<T: Clone, R: Wait + Clone, A: Allocator + Copy, K: Keep<T>> InactiveReceiver<
+    T,
+    Lock<T, R, A, K>,
+    A,
+> {
+    /// Turns the inactive receiver into an active one as `activate` does, and adds the call to
+    /// `known`.
+    ///
+    /// Source: this crate's own.
+    pub fn activate_seen(
+        self,
+        known: &mut K::Known,
+    ) -> Result<Receiver<T, Lock<T, R, A, K>, A>, (Self, HandleError)>
+        ensures learned { IfOk result (λ made. K.learns known.old Call.Activate
+            (Reply.Activate (Ok made.role.key)) known.new) }
+        ensures refused { IfErr result (λ back. (back.0 ≡ self)
+            × K.learns known.old Call.Activate (Reply.Activate (Err back.1)) known.new) }
+    {
+        match ask_seen!(self, known, Activate) {
+            Ok(key) => {
+                let waker = TaskWaker::new(self.alloc);
+                Ok(self.turned(Receiving { key, waker }))
+            }
+            Err(error) => Err((self, error)),
         }
     }
 }

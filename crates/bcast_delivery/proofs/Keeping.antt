@@ -6,14 +6,14 @@ use base.Stored.{Coded-set}
 use mathlib.Core.List.{IsPrefix}
 use Rattle.bcast_model.specs.declared.run.Call.{Call}
 use Rattle.bcast_model.specs.declared.run.Reply.{Reply}
-use Rattle.bcast_model.specs.Words.{View, view_of, Legal, Answers, Represents, IsValid}
+use Rattle.bcast_model.specs.Words.{View, view_of, Legal, Answers, Represents, IsValid, end_number}
 use Rattle.bcast_model.specs.Encodings.{view_code}
 use Rattle.bcast_history.specs.declared.step.Opening.{Opening}
 use Rattle.bcast_history.specs.declared.step.Step.{Step}
 use Rattle.bcast_history.specs.History.{IsHistory, Replays, end_of}
 use Rattle.bcast_history.proofs.Appends.{replays_push, history_more, end_of-more}
 use Rattle.bcast_delivery.specs.Follows.{Follows}
-use Rattle.bcast_delivery.specs.Seen.{Known, Tells, place_in}
+use Rattle.bcast_delivery.specs.Seen.{Known, Learns, reader_in}
 
 module _ {T : Type 0} {is_clone : T → T → Type 0} {o : Opening} where
   -- the steps that were kept replay to what the channel shows
@@ -47,12 +47,14 @@ module _ {T : Type 0} {is_clone : T → T → Type 0} {o : Opening} where
         end = ap (end_of o) (same ∙ pushed) ∙ end_of-more is_clone o steps (record { call = call; reply = reply }) replays.run;
       }
 
-  -- who is told of it knows its place, too
-  pub tells : {known now after : Known T} {longer : List (Step T)} {shown : View T} {call : Call T} {reply : Reply T}
+  -- who learns of it knows where its receiver reads on, too, and the number that comes next
+  pub learned : {known now after : Known T} {longer : List (Step T)} {shown : View T} {call : Call T} {reply : Reply T}
       → known ≡ now → Follows is_clone o known.steps call reply after.steps → after.steps ≡ longer → Represents shown (end_of o longer)
-      → after.place ≡ place_in shown known.place → Tells is_clone o now call reply after
-  tells {known = known} {after = after} {call = call} {reply = reply} is_now follows same shows at =
-      subst (λ k. Tells is_clone o k call reply after) is_now (record {
+      → after.end ≡ shown.end → after.reader ≡ reader_in shown known.reader → Learns is_clone o now call reply after
+  learned {known = known} {after = after} {shown = shown} {call = call} {reply = reply} is_now follows same shows end at =
+      let shows_it : shown ≡ view_of (end_of o after.steps) = shows ∙ sym (ap (λ ss. view_of (end_of o ss)) same) in
+      subst (λ k. Learns is_clone o k call reply after) is_now (record {
         follows = follows;
-        place = at ∙ ap (λ v. place_in v known.place) (shows ∙ ap (λ ss. view_of (end_of o ss)) (sym same));
+        end = end ∙ ap (λ v. v.end) shows_it;
+        reader = at ∙ ap (λ v. reader_in v known.reader) shows_it;
       })

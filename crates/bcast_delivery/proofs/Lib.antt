@@ -1,6 +1,10 @@
 pub mod Found
 pub mod Given
 pub mod Keeping
+pub mod Making
 pub mod Places
+pub mod Polled
+pub mod Received
 pub mod Sent
+pub mod Started
 pub mod Taken

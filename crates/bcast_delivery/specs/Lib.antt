@@ -1,6 +1,7 @@
 -- what a call tells its caller, what is known then, and what follows
 pub mod Follows
 pub mod Seen
+pub mod Knowing
 pub mod Laws
 -- what a receiver is given
 pub mod Reading

@@ -1,12 +1,17 @@
 -- What a receiver is given, one message after the other.
-use Rattle.std.specs.Prelude.{◌≡◌, ℕ, ◌+◌, ◌<◌, List, Some, Result, Ok, Err}
+use Rattle.std.specs.Prelude.{◌≡◌, ℕ, ◌+◌, ◌<◌, List, Option, Some, None, Result, Ok, Err}
+use Rattle.futures.specs.declared.task.Poll.{Poll}
+use Rattle.futures.specs.declared.task.Poll.TheVariants as poll
 use Rattle.std.specs.declared.alloc.AllocError.{AllocError}
+use Rattle.bcast_model.specs.declared.error.RecvError.{RecvError}
+use Rattle.bcast_model.specs.declared.error.RecvError.TheVariants as unreceived
 use Rattle.bcast_model.specs.declared.error.TryRecvError.{TryRecvError}
 use Rattle.bcast_model.specs.declared.error.TryRecvError.TheVariants as unread
-use Rattle.bcast_model.specs.Words.{IsDelivery, end_number}
+use Rattle.bcast_model.specs.Words.{History, view_of, IsDelivery, end_number}
 use Rattle.bcast_history.specs.declared.step.Opening.{Opening}
 use Rattle.bcast_history.specs.declared.step.Step.{Step}
 use Rattle.bcast_history.specs.History.{end_of}
+use Rattle.bcast_delivery.specs.Seen.{reads_at}
 
 -- how far the receiver of this key has read: the number of the message that it reads next; and what
 -- it has seen of the channel
@@ -15,14 +20,37 @@ pub record Reading (T : Type 0) : Type 0 where
   pub next : ℕ
   pub steps : List (Step T)
 
-module _ {T : Type 0} (is_clone : T → T → Type 0) (o : Opening) (old new : Reading T) where
-  -- `try_recv`: a message is the accepted one of the number that was next, or a clone, and the one
-  -- behind it is next then; one that missed some goes on behind them; else it has read all that it
-  -- has seen
-  abbrev pub Takes : Result (Result T TryRecvError) AllocError → Type 0
-  Takes (Ok (Ok msg)) =
-      IsDelivery is_clone (end_of o new.steps) old.next (Some msg) × (new.next ≡ old.next + 1)
-  Takes (Ok (Err (unread.Overflowed n))) = (0 < n) × (new.next ≡ old.next + n)
-  Takes (Ok (Err unread.Empty)) = (new.next ≡ old.next) × (old.next ≡ end_number (end_of o new.steps))
-  Takes (Ok (Err unread.Closed)) = (new.next ≡ old.next) × (old.next ≡ end_number (end_of o new.steps))
-  Takes (Err error) = new.next ≡ old.next
+module _ {T : Type 0} where
+  -- the receiver reads on there, in the channel as it has seen it
+  abbrev pub ReadsOnThere : Opening → Reading T → Type 0
+  ReadsOnThere o r = r.next ≡ reads_at (view_of (end_of o r.steps)) r.key
+
+  -- it reads next the next message that is accepted
+  abbrev pub StartsAtTheEnd : Opening → Reading T → Type 0
+  StartsAtTheEnd o r = r.next ≡ end_number (end_of o r.steps)
+
+  -- what a `poll_recv` finds, as a `try_recv` returns it: `Pending` is `Empty`, and the end `Closed`
+  abbrev pub as_found
+      : Result (Poll (Option (Result T RecvError))) AllocError → Result (Result T TryRecvError) AllocError
+  as_found (Ok (poll.Ready (Some (Ok msg)))) = Ok (Ok msg)
+  as_found (Ok (poll.Ready (Some (Err (unreceived.Overflowed n))))) = Ok (Err (unread.Overflowed n))
+  as_found (Ok (poll.Ready (Some (Err unreceived.Closed)))) = Ok (Err unread.Closed)
+  as_found (Ok (poll.Ready None)) = Ok (Err unread.Closed)
+  as_found (Ok poll.Pending) = Ok (Err unread.Empty)
+  as_found (Err error) = Err error
+
+module _ {T : Type 0} (is_clone : T → T → Type 0) where
+  -- what a receiver finds that read on at `was`, and where it reads on now, on a channel that is `h`
+  -- then: a message is the accepted one of the number `was`, or a clone, and the one behind it is
+  -- next; one that missed some goes on behind them; else it has read all
+  abbrev pub Finds : History T → ℕ → ℕ → Result (Result T TryRecvError) AllocError → Type 0
+  Finds h was now (Ok (Ok msg)) = IsDelivery is_clone h was (Some msg) × (now ≡ was + 1)
+  Finds h was now (Ok (Err (unread.Overflowed n))) = (0 < n) × (now ≡ was + n)
+  Finds h was now (Ok (Err unread.Empty)) = (now ≡ was) × (was ≡ end_number h)
+  Finds h was now (Ok (Err unread.Closed)) = (now ≡ was) × (was ≡ end_number h)
+  Finds h was now (Err error) = now ≡ was
+
+  -- the same, of a receiver that has read so far, and then so far
+  abbrev pub Takes
+      : Opening → Reading T → Reading T → Result (Result T TryRecvError) AllocError → Type 0
+  Takes o old new found = Finds (end_of o new.steps) old.next new.next found

@@ -1,5 +1,11 @@
 //! What follows from what calls tell.
-ghost use Rattle.bcast_delivery.specs.Laws.{SendsStandLast, ReceiversReadOn};
+ghost use Rattle.bcast_delivery.specs.Laws.{MessagesStay, SendsStandLast, ReceiversReadOn};
+
+/// Law: a message keeps its number, whatever calls follow. So what two receivers are given of the
+/// same number is the same message, or a clone of it.
+pub fn messages_stay<T: Clone>()
+    ensures { MessagesStay T }
+{}
 
 /// Law: the messages of a call that were accepted come last of all that were accepted till then.
 /// Before them are all that the caller knew of, in the order in which it knew them.

@@ -8,8 +8,12 @@
 //! (`Follows`). All that any `Seen` of the channel knows are beginnings of one list, which is a run
 //! of the channel. So the laws of `bcast_laws` speak of it.
 //!
+//! Every other call of a handle, and of its futures, has its place in that history, too, after all
+//! that `set_known` of the handle let it know (`GivesInHistory`).
+//!
 //! A `Reading` belongs to a receiver. A receive by both promises that the receiver is given the
 //! accepted messages one after the other, from its start on, or told how many it missed (`Takes`).
+//! A clone starts where its original reads on, a new receiver at the end.
 //!
 //! No step is stored: the journal is a word, and a `Seen` is where one receiver reads on.
 //!
@@ -29,8 +33,8 @@ mod seen;
 mod steps;
 
 pub use bcast_history::{Opening, Step};
-pub use laws::{receivers_read_on, sends_stand_last};
-pub use opened::{History, HistoryReceiver, HistorySender, Opened, broadcast};
+pub use laws::{messages_stay, receivers_read_on, sends_stand_last};
+pub use opened::{History, HistoryInactive, HistoryReceiver, HistorySender, Opened, broadcast};
 pub use reading::Reading;
 pub use seen::Seen;
 pub use steps::{Channel, KeepsSteps};

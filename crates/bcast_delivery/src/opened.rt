@@ -3,7 +3,7 @@ ghost use Rattle.std.specs.Prelude.{◌≡◌, ◌<◌, [], IfOk};
 
 use crate::reading::Reading;
 use crate::steps::{Channel, KeepsSteps};
-use async_broadcast::{Lock, Port, Receiver, Sender, Wake, WakerSlot};
+use async_broadcast::{InactiveReceiver, Lock, Port, Receiver, Sender, Wake, WakerSlot};
 use bcast_core::Inner;
 use bcast_history::{Journal, Opening, Step};
 use std::alloc::{AllocError, Allocator, Global};
@@ -66,6 +66,9 @@ pub type HistorySender<T, R, J, A = Global> = Sender<T, History<T, R, J, A>, A>;
 
 /// A receiver of a channel whose steps are kept.
 pub type HistoryReceiver<T, R, J, A = Global> = Receiver<T, History<T, R, J, A>, A>;
+
+/// An inactive receiver of a channel whose steps are kept.
+pub type HistoryInactive<T, R, J, A = Global> = InactiveReceiver<T, History<T, R, J, A>, A>;
 
 /// Makes the first sender and the first receiver of this channel, whose name is `J`, and how far
 /// the receiver has read: nothing.

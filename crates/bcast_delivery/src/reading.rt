@@ -1,19 +1,26 @@
 //! How far a receiver has read.
-ghost use Rattle.std.specs.Prelude.{◌≡◌, ◌+◌, None, IfSome, length};
+ghost use Rattle.std.specs.Prelude.{◌≡◌, ◌+◌, Some, None, Ok, IfOk, IfSome, length};
 ghost use mathlib.Core.List.{IsPrefix};
+ghost use Rattle.futures.specs.Task.{IsArmed, Keeps};
+ghost use Rattle.futures.specs.Poll.{OnPending};
+ghost use Rattle.futures.specs.declared.task.Poll.TheVariants as poll;
 ghost use Rattle.bcast_model.specs.declared.run.Reply.TheVariants as reply;
-ghost use Rattle.bcast_model.specs.Words.{given_by};
+ghost use Rattle.bcast_model.specs.Words.{given_by, view_of};
+ghost use Rattle.bcast_history.specs.History.{end_of};
 ghost use Rattle.async_broadcast.specs.Ports.{as_try_recv};
-ghost use Rattle.bcast_delivery.specs.Reading.{Takes};
+ghost use Rattle.bcast_delivery.specs.Seen.{reads_at};
+ghost use Rattle.bcast_delivery.specs.Reading.{Takes, as_found};
 
 use crate::opened::HistoryReceiver;
 use crate::seen::Seen;
 use crate::steps::Channel;
 use async_broadcast::{RecvError, TryRecvError};
-use bcast_history::Named;
+use futures::task::{Context, Poll};
 use std::alloc::{AllocError, Allocator};
 use std::marker::Model;
 use std::sync::Wait;
+
+mod making;
 
 /// How far a receiver has read, and what it has seen of the steps on its channel. Its calls promise
 /// that the receiver is given the accepted messages one after the other, or told how many it missed.
@@ -22,26 +29,29 @@ use std::sync::Wait;
 /// With each call that number is compared with the channel's, under the lock. If they differ, since
 /// the receiver received without it, the call waits for ever.
 #[derive(Drop)]
-pub struct Reading<T, J: Named> {
+pub struct Reading<T, J: Channel> {
     key: usize,
     next: u64,
     seen: Seen<T, J>,
 }
 
-impl<T, J: Named> Model for Reading<T, J> {
+impl<T, J: Channel> Model for Reading<T, J> {
     ghost use Rattle.std.specs.Prelude.{◌≡◌, Some};
-    ghost use Rattle.bcast_delivery.specs.Reading.{Reading};
+    ghost use Rattle.bcast_delivery.specs.Reading.{Reading, ReadsOnThere};
 
     ghost Value = { Reading T };
 
     ghost view = { λ r. record { key = r.key; next = r.next; steps = r.seen.steps } };
 
-    ghost invariant = { λ r. r.seen.place ≡ Some (r.key, r.next) };
+    ghost invariant = { λ r. (r.seen.reader ≡ Some (r.key, r.next))
+        × ReadsOnThere J.opening
+        (record { key = r.key; next = r.next; steps = r.seen.steps }) };
 }
 
-impl<T, J: Named> Reading<T, J> {
+impl<T, J: Channel> Reading<T, J> {
     // Of the receiver of this key, which reads next the message of this number.
     pub(crate) fn new(key: usize, next: u64, seen: &Seen<T, J>) -> Self
+        requires { next ≡ reads_at (view_of (end_of J.opening seen.now.steps)) key }
         ensures { result ≡ record { key = key; next = next; steps = seen.now.steps } }
     {
         Reading {
@@ -53,7 +63,7 @@ impl<T, J: Named> Reading<T, J> {
 
     /// What the receiver has seen, for other callers.
     pub fn seen(&self) -> Seen<T, J>
-        ensures { result ≡ record { steps = self.now.steps; place = None } }
+        ensures { (result.steps ≡ self.now.steps) × (result.reader ≡ None) }
     {
         self.seen.elsewhere()
     }
@@ -85,8 +95,8 @@ impl<T: Clone, J: Channel> Reading<T, J> {
     {
         let received = receiver.try_recv_seen(&mut self.seen);
         let given = count_given(&received);
-        let place = self.seen.place();
-        let now = agreed(rt, place, self.next, given);
+        let reader = self.seen.reader();
+        let now = agreed(rt, reader, self.next, given);
         self.next = now;
         received
     }
@@ -115,10 +125,44 @@ impl<T: Clone, J: Channel> Reading<T, J> {
     {
         let received = receiver.recv_blocking_seen(&mut self.seen);
         let given = count_received(&received);
-        let place = self.seen.place();
-        let now = agreed(rt, place, self.next, given);
+        let reader = self.seen.reader();
+        let now = agreed(rt, reader, self.next, given);
         self.next = now;
         received
+    }
+
+    /// Receives the next message by the receiver of this key, or leaves the task waiting for it, as
+    /// its `poll_recv` does.
+    ///
+    /// `Ready(None)`: every message was read, and the channel is closed.
+    ///
+    /// # Errors
+    ///
+    /// - `AllocError`: no memory for a notice, or for a clone of a message that others have still
+    ///   to read. Nothing changed.
+    /// - `Overflowed(n)`: the next `n` messages were dropped. The receiver continues after them.
+    ///
+    /// Source: this crate's own.
+    pub fn poll_recv<R: Wait + Clone, A: Allocator + Copy>(
+        &mut self,
+        rt: &impl Wait,
+        receiver: &mut HistoryReceiver<T, R, J, A>,
+        cx: &mut Context<'_>,
+    ) -> Result<Poll<Option<Result<T, RecvError>>>, AllocError>
+        requires { receiver.old.role.key ≡ self.old.key }
+        ensures receiver { receiver.new.role.key ≡ receiver.old.role.key }
+        ensures key { self.new.key ≡ self.old.key }
+        ensures seen { IsPrefix self.old.steps self.new.steps }
+        ensures takes { Takes T.is_clone J.opening self.old self.new (as_found result) }
+        ensures registered { IfOk result (λ poll. OnPending poll (IsArmed cx.new)) }
+        ensures kept { Keeps cx.old cx.new }
+    {
+        let polled = receiver.poll_recv_seen(&mut self.seen, cx);
+        let given = count_polled(&polled);
+        let reader = self.seen.reader();
+        let now = agreed(rt, reader, self.next, given);
+        self.next = now;
+        polled
     }
 }
 
@@ -144,12 +188,38 @@ fn count_received<T>(received: &Result<Result<T, RecvError>, AllocError>) -> u64
     }
 }
 
+// The same, of a poll.
+fn count_polled<T>(polled: &Result<Poll<Option<Result<T, RecvError>>>, AllocError>) -> u64
+    ensures { result ≡ length (given_by (reply.TryRecv (as_found polled.now))) }
+{
+    let Ok(poll) = polled else {
+        return 0;
+    };
+    let Poll::Ready(next) = poll else {
+        return 0;
+    };
+    match next {
+        Some(received) => count_next(received),
+        None => 0,
+    }
+}
+
+fn count_next<T>(received: &Result<T, RecvError>) -> u64
+    ensures { result ≡ length (given_by (reply.TryRecv (as_found (Ok (poll.Ready (Some received.now)))))) }
+{
+    match received {
+        Ok(_) => 1,
+        Err(RecvError::Overflowed(n)) => *n,
+        Err(RecvError::Closed) => 0,
+    }
+}
+
 // The number at which the channel says that a receiver reads on, if that is `given` behind `next`.
-fn agreed(rt: &impl Wait, place: Option<(usize, u64)>, next: u64, given: u64) -> u64
-    ensures place { IfSome place (λ at. at.1 ≡ result) }
+fn agreed(rt: &impl Wait, reader: Option<(usize, u64)>, next: u64, given: u64) -> u64
+    ensures reader { IfSome reader (λ at. at.1 ≡ result) }
     ensures next { result ≡ next + given }
 {
-    if let Some((_, now)) = place {
+    if let Some((_, now)) = reader {
         if next.checked_add(given) == Some(now) {
             return now;
         }

@@ -1,7 +1,7 @@
 //! What is known of the steps on a channel.
 ghost use Rattle.std.specs.Prelude.{◌≡◌, None, Some};
 ghost use mathlib.Core.List.{IsPrefix};
-ghost use Rattle.bcast_delivery.specs.Seen.{place_in, reads_at};
+ghost use Rattle.bcast_delivery.specs.Seen.{reader_in, reads_at};
 
 use async_broadcast::{Wake, WakerSlot};
 use bcast_core::Inner;
@@ -9,12 +9,14 @@ use bcast_history::{Named, Prefix, Step};
 use std::alloc::Allocator;
 use std::marker::Model;
 
-/// What is known of a channel: a beginning of the steps on it. Where it belongs to a receiver, also
-/// the receiver's key and the number at which it reads on.
+/// What is known of a channel: a beginning of the steps on it, and the number of the message that
+/// came next after the last call that was learned of. Where it belongs to a receiver, also the
+/// receiver's key and the number at which it reads on.
 #[derive(Drop)]
 pub struct Seen<T, J: Named> {
     pub(crate) steps: Prefix<Step<T>, J>,
-    pub(crate) place: Option<(usize, u64)>,
+    pub(crate) end: u64,
+    pub(crate) reader: Option<(usize, u64)>,
 }
 
 impl<T, J: Named> Model for Seen<T, J> {
@@ -22,7 +24,7 @@ impl<T, J: Named> Model for Seen<T, J> {
 
     ghost Value = { Known T };
 
-    ghost view = { λ s. record { steps = s.steps; place = s.place } };
+    ghost view = { λ s. record { steps = s.steps; end = s.end; reader = s.reader } };
 }
 
 impl<T, J: Named> Seen<T, J> {
@@ -33,37 +35,40 @@ impl<T, J: Named> Seen<T, J> {
     {
         Seen {
             steps: self.steps.same(),
-            place: self.place,
+            end: self.end,
+            reader: self.reader,
         }
     }
 
     // The same, of the receiver of this key, which reads on at this number.
     #[inline(always)]
     pub(crate) fn at(&self, key: usize, next: u64) -> Self
-        ensures { result ≡ record { steps = self.now.steps; place = Some (key, next) } }
+        ensures { result ≡ record self.now { reader = Some (key, next) } }
     {
         Seen {
             steps: self.steps.same(),
-            place: Some((key, next)),
+            end: self.end,
+            reader: Some((key, next)),
         }
     }
 
     // Where the receiver reads on that this is of.
     #[inline(always)]
-    pub(crate) fn place(&self) -> Option<(usize, u64)>
-        ensures { result ≡ self.now.place }
+    pub(crate) fn reader(&self) -> Option<(usize, u64)>
+        ensures { result ≡ self.now.reader }
     {
-        self.place
+        self.reader
     }
 
     // The same, of no receiver.
     #[inline(always)]
     pub(crate) fn elsewhere(&self) -> Self
-        ensures { result ≡ record { steps = self.now.steps; place = None } }
+        ensures { result ≡ record self.now { reader = None } }
     {
         Seen {
             steps: self.steps.same(),
-            place: None,
+            end: self.end,
+            reader: None,
         }
     }
 
@@ -72,9 +77,18 @@ impl<T, J: Named> Seen<T, J> {
     pub fn learn(&mut self, other: &Seen<T, J>)
         ensures longer { IsPrefix self.old.steps self.new.steps }
         ensures other { IsPrefix other.now.steps self.new.steps }
-        ensures place { self.new.place ≡ self.old.place }
+        ensures same { (self.new.end ≡ self.old.end) × (self.new.reader ≡ self.old.reader) }
     {
         self.steps.learn(&other.steps);
+    }
+
+    /// The number of the message that came next after the last call by which this was made known:
+    /// that of the call's own last message is one less, if it was accepted.
+    #[inline(always)]
+    pub fn end(&self) -> u64
+        ensures { result ≡ self.now.end }
+    {
+        self.end
     }
 }
 
@@ -94,15 +108,15 @@ fn number_of<T: Clone, A: Allocator + Copy>(
         .saturating_sub(inner.missed(key))
 }
 
-/// A place, where the channel shows this.
+/// Where a receiver reads on, once the channel shows this.
 #[inline(always)]
-pub(crate) fn place_in<T: Clone, A: Allocator + Copy>(
+pub(crate) fn reader_in<T: Clone, A: Allocator + Copy>(
     inner: &Inner<T, Wake<WakerSlot<A>>, A>,
-    place: Option<(usize, u64)>,
+    reader: Option<(usize, u64)>,
 ) -> Option<(usize, u64)>
-    ensures { result ≡ place_in inner.now place }
+    ensures { result ≡ reader_in inner.now reader }
 {
-    match place {
+    match reader {
         Some((key, _)) => Some((key, number_of(inner, key))),
         None => None,
     }

@@ -3,7 +3,7 @@ ghost use Rattle.std.specs.Prelude.{◌≡◌, [], None};
 ghost use Rattle.bcast_model.specs.Words.{IsValid};
 ghost use Rattle.bcast_history.specs.History.{start_of};
 
-use crate::seen::{Seen, place_in};
+use crate::seen::{Seen, reader_in};
 use async_broadcast::{Keep, Made, Wake, WakerSlot};
 use bcast_core::Inner;
 use bcast_history::{Journal, Named, Notes, Step, Writer};
@@ -58,11 +58,12 @@ impl<T: Clone, J: Channel> KeepsSteps<T, J> {
 
     // Knows no step.
     pub(crate) fn nothing(&self) -> Seen<T, J>
-        ensures { result ≡ record { steps = []; place = None } }
+        ensures { result ≡ record { steps = []; end = 0; reader = None } }
     {
         Seen {
             steps: self.writer.nothing(),
-            place: None,
+            end: 0,
+            reader: None,
         }
     }
 }
@@ -78,10 +79,11 @@ impl<'a, T, Y: Made<T>> Notes<Step<T>> for ShownStep<'a, Y> {
 }
 
 impl<T: Clone, J: Channel> Keep<T> for KeepsSteps<T, J> {
+    ghost use Rattle.std.proofs.Common.{inl, inr, refl};
     ghost use Rattle.bcast_model.specs.Words.{Represents};
     ghost use Rattle.bcast_history.specs.History.{end_of};
-    ghost use Rattle.bcast_delivery.specs.Seen.{Reaches, Tells};
-    ghost use Rattle.bcast_delivery.specs.Laws.{reaches_same, tells_reaches, tells_sooner};
+    ghost use Rattle.bcast_delivery.specs.Seen.{Reaches, Learns, GivesInHistory};
+    ghost use Rattle.bcast_delivery.specs.Knowing.{reaches_same, learns_reaches, learns_sooner, gives_possible};
 
     type Known = Seen<T, J>;
 
@@ -89,7 +91,9 @@ impl<T: Clone, J: Channel> Keep<T> for KeepsSteps<T, J> {
 
     ghost reaches = { λ known after. Reaches known after };
 
-    ghost told = { λ known call reply after. Tells T.is_clone J.opening known call reply after };
+    ghost learns = { λ known call reply after. Learns T.is_clone J.opening known call reply after };
+
+    ghost gave = { λ known call reply. GivesInHistory T.is_clone J.opening known call reply };
 
     #[inline(always)]
     fn same(known: &Seen<T, J>) -> Seen<T, J> {
@@ -107,13 +111,21 @@ impl<T: Clone, J: Channel> Keep<T> for KeepsSteps<T, J> {
     ) {
         self.writer
             .append(rt, &mut known.steps, &ShownStep { made });
-        let place = place_in(after, known.place);
-        known.place = place;
+        known.end = after.end_number();
+        let reader = reader_in(after, known.reader);
+        known.reader = reader;
     }
 
     ghost unchanged = { λ known. reaches_same known };
 
-    ghost reached = { λ known after call reply told. tells_reaches told };
+    ghost reached = { λ known after call reply learned. learns_reaches learned };
 
-    ghost sooner = { λ less known after call reply reaches told. tells_sooner reaches told };
+    ghost sooner = { λ less known after call reply reaches learned.
+        learns_sooner reaches learned };
+
+    ghost kept = { λ known after call reply may learned. inl (after, learned) };
+
+    ghost left_out = { λ known key may. inr (key, refl, may) };
+
+    ghost possible = { λ known call reply gave. gives_possible gave };
 }

@@ -4,13 +4,13 @@ ghost use Rattle.futures.specs.Task.{IsArmed, Keeps};
 ghost use Rattle.bcast_model.specs.Words.{Answers, HasPositiveCapacity, IsPossible, must_wait};
 
 use super::Lock;
-use super::channel::{kept, lock, locked};
+use super::channel::{kept, lock, locked, try_broadcast_locked, try_recv_locked};
 use super::made::{Asked, BegunToSend, EndedFuture};
 use crate::keep::Keep;
 use crate::port::Ask;
 use crate::wake::making::{ForTask, RegistersIn};
 use crate::wake::{Registers, Wake, WakerSlot};
-use bcast_core::{Call, Inner, Reply, poll, step};
+use bcast_core::{Call, Inner, Reply, TryRecvError, TrySendError, poll, step};
 use futures::task::Context;
 use std::alloc::{AllocError, Allocator};
 use std::snapshot::Snapshot;
@@ -44,8 +44,46 @@ fn poll_for<T: Clone, A: Allocator + Copy, C, W: RegistersIn<WakerSlot<A>, C>>(
     poll(inner, call, &mut maker)
 }
 
+/// Makes any call on the channel of a port, and adds it to what is known. It is a macro for the
+/// reason that `lock!` is one.
+macro_rules! ask_locked {
+    ($port:expr, $known:expr, $call:ident, $wake:ident) => {{
+        let call_shown = Snapshot::of(&$call);
+        locked!(
+            $port,
+            $known,
+            |inner| step(inner, $call, $wake),
+            |reply| {
+                Asked {
+                    call: call_shown,
+                    reply: &reply
+                }
+            }
+        )
+    }};
+}
+
+/// Makes a poll on the channel of a port, and adds it to what is known. A poll for which memory was
+/// refused is handed back.
+macro_rules! poll_locked {
+    ($port:expr, $known:expr, $call:ident, $task:ident, $cx:ident) => {{
+        let call_shown = Snapshot::of(&$call);
+        Ok(locked!(
+            $port,
+            $known,
+            |inner| poll_for(inner, $call, $task, $cx)?,
+            |reply| {
+                Asked {
+                    call: call_shown,
+                    reply: &reply
+                }
+            }
+        ))
+    }};
+}
+
 impl<T: Clone, R: Wait + Clone, A: Allocator + Copy, K: Keep<T>> Lock<T, R, A, K> {
-    /// Makes one call on the channel, and tells `known` of it.
+    /// Makes one call on the channel, and adds it to what is known.
     #[inline(always)]
     pub fn ask_seen(
         &self,
@@ -54,24 +92,39 @@ impl<T: Clone, R: Wait + Clone, A: Allocator + Copy, K: Keep<T>> Lock<T, R, A, K
         wake: Wake<WakerSlot<A>>,
     ) -> Reply<T>
         requires { HasPositiveCapacity call }
-        ensures told { K.told known.old call result known.new }
+        ensures learned { K.learns known.old call result known.new }
         ensures possible { IsPossible T.is_clone call result }
     {
-        let call_shown = Snapshot::of(&call);
-        locked!(
-            self,
-            known,
-            |inner| step(inner, call, wake),
-            |reply| {
-                Asked {
-                    call: call_shown,
-                    reply: &reply
-                }
-            }
-        )
+        ask_locked!(self, known, call, wake)
     }
 
-    /// Makes one of the four polls, as `Ask::poll` does, and tells `known` of it.
+    #[inline(always)]
+    pub(crate) fn try_broadcast_seen(
+        &self,
+        known: &mut K::Known,
+        msg: T,
+    ) -> Result<Option<T>, TrySendError<T>>
+        ensures learned { K.learns known.old (Call.TryBroadcast msg) (Reply.TryBroadcast result)
+            known.new }
+        ensures asked { IsPossible T.is_clone (Call.TryBroadcast msg)
+            (Reply.TryBroadcast result) }
+    {
+        try_broadcast_locked!(self, known, msg)
+    }
+
+    #[inline(always)]
+    pub(crate) fn try_recv_seen(
+        &self,
+        known: &mut K::Known,
+        key: usize,
+    ) -> Result<Result<T, TryRecvError>, AllocError>
+        ensures learned { K.learns known.old (Call.TryRecv key) (Reply.TryRecv result) known.new }
+        ensures asked { IsPossible T.is_clone (Call.TryRecv key) (Reply.TryRecv result) }
+    {
+        try_recv_locked!(self, known, key)
+    }
+
+    /// Makes one of the four polls, as `Ask::poll` does, and adds it to what is known.
     #[inline(always)]
     pub fn poll_seen<W: Registers<WakerSlot<A>>>(
         &self,
@@ -81,7 +134,7 @@ impl<T: Clone, R: Wait + Clone, A: Allocator + Copy, K: Keep<T>> Lock<T, R, A, K
         cx: &mut Context<'_>,
     ) -> Result<Reply<T>, Call<T>>
         requires { HasPositiveCapacity call }
-        ensures told { IfOk result (λ reply. K.told known.old call reply known.new) }
+        ensures learned { IfOk result (λ reply. K.learns known.old call reply known.new) }
         ensures asked { IfOk result (IsPossible T.is_clone call) }
         ensures back { IfErr result (λ back. (back ≡ call) × (known.new ≡ known.old)) }
 
@@ -95,24 +148,7 @@ impl<T: Clone, R: Wait + Clone, A: Allocator + Copy, K: Keep<T>> Lock<T, R, A, K
         ensures answered { IfOk result (λ reply. must_wait reply ≡ false
             → (task.new ≡ task.old) × (cx.new ≡ cx.old)) }
     {
-        let call_shown = Snapshot::of(&call);
-        let channel = &*self.channel;
-        let mut state = lock!(channel, &self.rt);
-        let locked = &mut *state;
-        let before = Snapshot::of(&locked.inner);
-        let polled = poll_for(&mut locked.inner, call, task, cx);
-        if let Ok(reply) = &polled {
-            let made = &Asked {
-                call: call_shown,
-                reply,
-            };
-            locked
-                .kept
-                .keep(&self.rt, known, made, &before, &locked.inner);
-        }
-        let woken = locked.threads.note(&locked.inner);
-        channel.unlock(state, woken);
-        polled
+        poll_locked!(self, known, call, task, cx)
     }
 }
 
@@ -120,16 +156,17 @@ impl<T: Clone, R: Wait + Clone, A: Allocator + Copy, K: Keep<T>> Ask<T, WakerSlo
     for Lock<T, R, A, K> {
     ghost use Rattle.async_broadcast.specs.OfKind.{possible};
 
-    ghost gave = { λ _ call reply. IsPossible T.is_clone call reply };
+    ghost gave = { λ port call reply. K.gave port.known call reply };
 
-    ghost of_kind = { λ _ call reply may. possible T.is_clone call reply may };
+    ghost of_kind = { λ port call reply gave.
+        possible T.is_clone call reply (K.possible port.known call reply gave) };
 
     #[inline(always)]
     fn ask(&self, call: Call<T>, wake: Wake<WakerSlot<A>>) -> Reply<T>
         requires { HasPositiveCapacity call }
-        ensures { IsPossible T.is_clone call result }
+        ensures { K.gave self.now.known call result }
     {
-        self.ask_seen(&mut K::same(&self.known), call, wake)
+        ask_locked!(self, &mut K::same(&self.known), call, wake)
     }
 
     #[inline(always)]
@@ -140,7 +177,7 @@ impl<T: Clone, R: Wait + Clone, A: Allocator + Copy, K: Keep<T>> Ask<T, WakerSlo
         cx: &mut Context<'_>,
     ) -> Result<Reply<T>, Call<T>>
         requires { HasPositiveCapacity call }
-        ensures asked { IfOk result (IsPossible T.is_clone call) }
+        ensures asked { IfOk result (λ reply. K.gave self.now.known call reply) }
         ensures back { IfErr result (λ back. back ≡ call) }
 
         ensures notice { IfOk result (λ reply. must_wait reply ≡ true
@@ -153,12 +190,12 @@ impl<T: Clone, R: Wait + Clone, A: Allocator + Copy, K: Keep<T>> Ask<T, WakerSlo
         ensures answered { IfOk result (λ reply. must_wait reply ≡ false
             → (task.new ≡ task.old) × (cx.new ≡ cx.old)) }
     {
-        self.poll_seen(&mut K::same(&self.known), call, task, cx)
+        poll_locked!(self, &mut K::same(&self.known), call, task, cx)
     }
 
     #[inline(always)]
     fn begin_send(&self) -> Result<usize, AllocError>
-        ensures { IsPossible T.is_clone Call.BeginSend (Reply.BeginSend result) }
+        ensures { K.gave self.now.known Call.BeginSend (Reply.BeginSend result) }
     {
         locked!(
             self,
@@ -172,7 +209,7 @@ impl<T: Clone, R: Wait + Clone, A: Allocator + Copy, K: Keep<T>> Ask<T, WakerSlo
     // back: so the call would change nothing, and isn't made.
     #[inline(always)]
     fn end_future(&self, key: usize, is_answered: bool) -> Wake<WakerSlot<A>>
-        ensures { IsPossible T.is_clone (Call.EndFuture key) Reply.EndFuture }
+        ensures { K.gave self.now.known (Call.EndFuture key) Reply.EndFuture }
     {
         if is_answered {
             return Wake::none();

@@ -26,7 +26,7 @@ impl<T: Clone, R: Wait + Clone, A: Allocator + Copy, K: Keep<T>> Lock<T, R, A, K
         limit: &L,
     ) -> Reply<T>
         requires { may_wait call ≡ true }
-        ensures told { K.told known.old call result known.new }
+        ensures learned { K.learns known.old call result known.new }
         ensures reply { IsPossible T.is_clone call result }
         ensures answered { L.is_endless → is_answer result ≡ true }
     {
@@ -39,7 +39,7 @@ impl<T: Clone, R: Wait + Clone, A: Allocator + Copy, K: Keep<T>> Lock<T, R, A, K
 
     // Sends a message, and waits while it must. `Wait`: the time is over.
     fn send_waiting<L: Limit<R>>(&self, known: &mut K::Known, msg: T, limit: &L) -> SendPoll<T>
-        ensures told { K.told known.old (Call.AttemptSend msg) (Reply.AttemptSend result)
+        ensures learned { K.learns known.old (Call.AttemptSend msg) (Reply.AttemptSend result)
             known.new }
         ensures reply { IsPossible T.is_clone (Call.AttemptSend msg) (Reply.AttemptSend result) }
         ensures answered { L.is_endless → is_answer (Reply.AttemptSend result) ≡ true }
@@ -67,7 +67,7 @@ impl<T: Clone, R: Wait + Clone, A: Allocator + Copy, K: Keep<T>> Lock<T, R, A, K
         waits: bool,
         limit: &L,
     ) -> (SendPoll<T>, bool)
-        ensures told { K.told known.old (Call.AttemptSend msg) (Reply.AttemptSend result.0)
+        ensures learned { K.learns known.old (Call.AttemptSend msg) (Reply.AttemptSend result.0)
             known.new }
         ensures reply { IsPossible T.is_clone (Call.AttemptSend msg)
             (Reply.AttemptSend result.0) }
@@ -77,7 +77,7 @@ impl<T: Clone, R: Wait + Clone, A: Allocator + Copy, K: Keep<T>> Lock<T, R, A, K
         let channel = &*self.channel;
         let mut state = lock!(channel, &self.rt);
         let locked = &mut *state;
-        let sent = kept!(
+        kept!(
             &self.rt,
             known,
             locked,
@@ -103,7 +103,7 @@ impl<T: Clone, R: Wait + Clone, A: Allocator + Copy, K: Keep<T>> Lock<T, R, A, K
         let (mut state, is_over) = channel.wait(&self.rt, &channel.ready, state, woken, limit);
         let locked = &mut *state;
         let back_shown = Snapshot::of(&back);
-        let sent = kept!(
+        kept!(
             &self.rt,
             known,
             locked,
@@ -128,7 +128,7 @@ impl<T: Clone, R: Wait + Clone, A: Allocator + Copy, K: Keep<T>> Lock<T, R, A, K
         key: usize,
         limit: &L,
     ) -> Received<T>
-        ensures told { K.told known.old (Call.TryRecv key) (Reply.TryRecv result) known.new }
+        ensures learned { K.learns known.old (Call.TryRecv key) (Reply.TryRecv result) known.new }
         ensures reply { IsPossible T.is_clone (Call.TryRecv key) (Reply.TryRecv result) }
         ensures answered { L.is_endless → is_answer (Reply.TryRecv result) ≡ true }
     {
@@ -154,14 +154,14 @@ impl<T: Clone, R: Wait + Clone, A: Allocator + Copy, K: Keep<T>> Lock<T, R, A, K
         waits: bool,
         limit: &L,
     ) -> (Received<T>, bool)
-        ensures told { K.told known.old (Call.TryRecv key) (Reply.TryRecv result.0) known.new }
+        ensures learned { K.learns known.old (Call.TryRecv key) (Reply.TryRecv result.0) known.new }
         ensures reply { IsPossible T.is_clone (Call.TryRecv key) (Reply.TryRecv result.0) }
         ensures endless { L.is_endless → result.1 ≡ false }
     {
         let channel = &*self.channel;
         let mut state = lock!(channel, &self.rt);
         let locked = &mut *state;
-        let answer = kept!(
+        kept!(
             &self.rt,
             known,
             locked,
@@ -182,7 +182,7 @@ impl<T: Clone, R: Wait + Clone, A: Allocator + Copy, K: Keep<T>> Lock<T, R, A, K
         let woken = locked.threads.note(&locked.inner);
         let (mut state, is_over) = channel.wait(&self.rt, &channel.news, state, woken, limit);
         let locked = &mut *state;
-        let answer = kept!(
+        kept!(
             &self.rt,
             known,
             locked,

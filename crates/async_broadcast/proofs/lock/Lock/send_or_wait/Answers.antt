@@ -1,4 +1,4 @@
--- The reply to the last try, which was of the message that was given. Who is told of it knows the
+-- The reply to the last try, which was of the message that was given. Who learns of it knows the
 -- first try, too.
 use Rattle.std.proofs.Common.{refl, sym, ap, ◌∙◌}
 use Rattle.bcast_model.specs.declared.run.Call.TheVariants as call
@@ -26,9 +26,9 @@ returns-clause-reply g c =
     possible {is_clone = g.T.Clone.is_clone} (ap call.AttemptSend (sym same))
     (answers_any c.attempt_send-sent-2.ensures)
 
-pub returns-clause-told : goal.returns-clause-told
-returns-clause-told g c =
+pub returns-clause-learned : goal.returns-clause-learned
+returns-clause-learned g c =
     let first = possible {is_clone = g.T.Clone.is_clone} refl (answers_any c.attempt_send-sent.ensures) in
     let same = handed_back g.T.Clone.is_clone _ _ (rw c.in-Wait.is at first) in
-    g.met.K.Keep.sooner _ _ _ _ _ (g.met.K.Keep.reached _ _ _ _ c.keep.ensures.told)
-    (rw (c.of-back_shown.ensures ∙ same) at c.keep-2.ensures.told)
+    g.met.K.Keep.sooner _ _ _ _ _ (g.met.K.Keep.reached _ _ _ _ c.keep.ensures.learned)
+    (rw (c.of-back_shown.ensures ∙ same) at c.keep-2.ensures.learned)

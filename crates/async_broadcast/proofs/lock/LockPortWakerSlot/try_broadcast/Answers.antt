@@ -1,4 +1,4 @@
--- The reply, which clones nothing, is one that the channel may give.
+-- The reply, which clones nothing, is one that the channel may give, and its call was kept.
 use Rattle.std.proofs.Common.{refl}
 use Rattle.bcast_model.proofs.Answers.{possible}
 use Rattle.bcast_model.proofs.Clones.{answers_any}
@@ -9,7 +9,9 @@ keep-requires-clause-answers g c =
     rw (c.of-before.ensures, c.of-msg_shown.ensures) (answers_any {q = g.T.Clone.is_clone} c.try_broadcast-sent.ensures)
 
 pub returns : goal.returns
-returns g c = possible {is_clone = g.T.Clone.is_clone} refl (answers_any c.try_broadcast-sent.ensures)
+returns g c =
+    g.met.K.Keep.kept _ _ _ _ (possible {is_clone = g.T.Clone.is_clone} refl (answers_any c.try_broadcast-sent.ensures))
+    (rw (c.of-msg_shown.ensures, c.same.ensures) at c.keep.ensures.learned)
 
 pub invariant_of-locked : goal.invariant_of-locked
 invariant_of-locked g c =

@@ -1,15 +1,21 @@
--- What was told, and the number that was found.
+-- What was learned, and the number that was found.
 use Rattle.std.proofs.Common.{subst}
 use mathlib.Core.List.{IsPrefix}
-use Rattle.bcast_delivery.specs.Laws.{tells_reaches}
-use Rattle.bcast_delivery.proofs.Taken.{told_takes}
+use Rattle.bcast_delivery.proofs.Taken.{one_call, goes_on, reads_there}
+use Rattle.bcast_delivery.proofs.Received.{tried_takes}
 use Rattle.bcast_delivery.proofs.reading.Reading.try_recv.Goals as goal
+
+pub invariant_of-self : goal.invariant_of-self
+invariant_of-self g c =
+    reads_there _ (one_call _ _ c.try_recv_seen-received.ensures.learned) c.self.invariant.0 c.self.invariant.1
+    c.reader-reader.ensures c.agreed-now.ensures.reader
 
 pub returns-clause-seen : goal.returns-clause-seen
 returns-clause-seen g c =
-    subst (λ old. IsPrefix old.steps c.try_recv_seen-received.new.known.steps) c.self.view_is (tells_reaches c.try_recv_seen-received.ensures.told).steps
+    subst (λ old. IsPrefix old.steps c.try_recv_seen-received.new.known.steps) c.self.view_is (goes_on _ (one_call _ _ c.try_recv_seen-received.ensures.learned))
 
 pub returns-clause-takes : goal.returns-clause-takes
 returns-clause-takes g c =
-    told_takes g.T.Clone.is_clone c.self.view_is c.requires c.try_recv_seen-received.ensures.told c.self.invariant
-    c.place-place.ensures c.agreed-now.ensures.place c.count_given-given.ensures c.agreed-now.ensures.next
+    let there = reads_there _ (one_call _ _ c.try_recv_seen-received.ensures.learned) c.self.invariant.0 c.self.invariant.1
+    c.reader-reader.ensures c.agreed-now.ensures.reader in
+    tried_takes _ c.self.view_is c.requires c.try_recv_seen-received.ensures.learned there.1 c.count_given-given.ensures c.agreed-now.ensures.next

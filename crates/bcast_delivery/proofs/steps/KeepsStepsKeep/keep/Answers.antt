@@ -1,5 +1,5 @@
--- The steps are a run with one more, and who is told knows them all.
-use Rattle.bcast_delivery.proofs.Keeping.{replays, replays_longer, follows, tells}
+-- The steps are a run with one more, and who learns of it knows them all.
+use Rattle.bcast_delivery.proofs.Keeping.{replays, replays_longer, follows, learned}
 use Rattle.bcast_delivery.proofs.steps.KeepsStepsKeep.keep.Goals as goal
 
 pub invariant_of-self : goal.invariant_of-self
@@ -12,9 +12,9 @@ returns-clause-keeps g c =
     let old = replays _ _ g.row.T.coded c.self.view_is c.requires.kept c.self.invariant in
     ∣ (replays_longer c.append.ensures.appended old c.requires.answers).end ∣₁
 
-pub returns-clause-told : goal.returns-clause-told
-returns-clause-told g c =
+pub returns-clause-learned : goal.returns-clause-learned
+returns-clause-learned g c =
     let old = replays _ _ g.row.T.coded c.self.view_is c.requires.kept c.self.invariant in
     let new = replays_longer c.append.ensures.appended old c.requires.answers in
-    let told = follows c.append.ensures.knows c.append.ensures.appended c.append.ensures.before old c.requires.answers.legal in
-    tells c.known.view_is told c.append.ensures.knows new.end c.place_in-place.ensures
+    let made = follows c.append.ensures.knows c.append.ensures.appended c.append.ensures.before old c.requires.answers.legal in
+    learned c.known.view_is made c.append.ensures.knows new.end c.end_number-known-inside.ensures c.reader_in-reader.ensures

@@ -8,11 +8,13 @@ use Rattle.async_broadcast.proofs.lock.asking.LockAskWakerSlot.end_future.Goals 
 
 pub returns-then-is_answered : goal.returns-then-is_answered
 returns-then-is_answered g c =
-    (opening 1 0 0, opening_valid 1 0 0 (omega arith) (omega arith) (omega arith), refl)
+    g.met.K.Keep.left_out _ _ (opening 1 0 0, opening_valid 1 0 0 (omega arith) (omega arith) (omega arith), refl)
 
 pub keep-requires-clause-answers : goal.keep-requires-clause-answers
 keep-requires-clause-answers g c =
     rw c.of-before.ensures (answers_any {q = g.T.Clone.is_clone} c.take_future-notice.ensures)
 
 pub returns : goal.returns
-returns g c = possible {is_clone = g.T.Clone.is_clone} refl (answers_any c.take_future-notice.ensures)
+returns g c =
+    g.met.K.Keep.kept _ _ _ _ (possible {is_clone = g.T.Clone.is_clone} refl (answers_any c.take_future-notice.ensures))
+    (rw c.same.ensures at c.keep.ensures.learned)

@@ -1,0 +1,11 @@
+-- What was learned, and where the receiver starts.
+use Rattle.bcast_delivery.proofs.Making.{made_goes, new_reads_at}
+use Rattle.bcast_delivery.proofs.Taken.{goes_on}
+use Rattle.bcast_delivery.proofs.reading.Reading.new_receiver.Goals as goal
+
+pub new-reading-requires : goal.new-reading-requires
+new-reading-requires g c = rw (c.key.ensures, c.end.ensures) (new_reads_at c.in_ok-made.ensures.learned)
+
+pub returns-in_err-made-clause-seen : goal.returns-in_err-made-clause-seen
+returns-in_err-made-clause-seen g c =
+    goes_on _ (made_goes _ _ _ _ c.new_receiver_seen.ensures.learned c.new_receiver_seen.ensures.refused)
