@@ -1,13 +1,16 @@
-//! A channel with one history: two threads send, and each promises where its messages stand.
+//! A channel with one history: two threads send, and each promises where its messages stand. Then
+//! two threads receive, and each promises that its log is whole.
 #![tactic(auto)]
 
 ghost use Rattle.std.specs.Prelude.{◌≡◌};
 
+mod log;
 mod order;
 
 use anyhow::Result;
-use bcast_delivery::{Channel, Opened, Reading, broadcast};
-use order::{receive_all, send_both};
+use bcast_delivery::{Channel, HistoryReceiver, HistorySender, Opened, Reading, broadcast};
+use log::receive_all;
+use order::send_both;
 use std::alloc::AllocGlobal;
 use std::marker::Brand;
 use std::sync::Wait;
@@ -15,21 +18,31 @@ use std::thread::{self, Threads};
 
 fn main(rt: HostRuntime) -> Result<()> {
     let opened = Opened::new(rt.alloc(), 4)?;
-    send_from_two_threads::<Brand, _>(&rt, opened)
+    share::<Brand, _>(&rt, opened)
 }
 
-fn send_from_two_threads<J: Channel + Send + Sync, R: Threads + Wait + Sync + Print + AllocGlobal>(
+fn share<J: Channel + Send + Sync, R: Threads + Wait + Sync + Print + AllocGlobal>(
     rt: &R,
     opened: Opened<u64>,
 ) -> Result<()>
     requires { (opened.book ≡ J.book) × (opened.opening ≡ J.opening) }
 {
-    let (sender, mut receiver, mut reading): (_, _, Reading<u64, J>) = broadcast(
-        rt,
-        rt.alloc(),
-        opened,
-    )?;
+    let (sender, receiver, reading): (_, _, Reading<u64, J>) = broadcast(rt, rt.alloc(), opened)?;
     let other = sender.clone()?;
+    send_from_two_threads(rt, sender, other, &reading)?;
+    receive_in_two_threads(rt, receiver, reading)
+}
+
+fn send_from_two_threads<
+    'a,
+    J: Channel + Send + Sync,
+    R: Threads + Wait + Sync + Print + AllocGlobal,
+>(
+    rt: &'a R,
+    sender: HistorySender<u64, &'a R, J>,
+    other: HistorySender<u64, &'a R, J>,
+    reading: &Reading<u64, J>,
+) -> Result<()> {
     let (mut one, mut two) = (reading.seen(), reading.seen());
     let (odd, even) = thread::join(
         rt,
@@ -38,9 +51,25 @@ fn send_from_two_threads<J: Channel + Send + Sync, R: Threads + Wait + Sync + Pr
     );
     println!(rt; "1 stands before 3: {odd}")?;
     println!(rt; "2 stands before 4: {even}")?;
-    println!(rt;
-        "received: {}",
-        receive_all(rt, &mut reading, &mut receiver)
-    )?;
+    Ok(())
+}
+
+fn receive_in_two_threads<
+    'a,
+    J: Channel + Send + Sync,
+    R: Threads + Wait + Sync + Print + AllocGlobal,
+>(rt: &'a R, receiver: HistoryReceiver<u64, &'a R, J>, reading: Reading<u64, J>) -> Result<()>
+    requires { receiver.role.key ≡ reading.key }
+{
+    let (mut receiver, mut reading) = (receiver, reading);
+    let (mut copy, mut its_reading) = reading.clone(rt, &receiver)?;
+    let (log, same) = thread::join(
+        rt,
+        || receive_all(rt, &mut reading, &mut receiver),
+        || receive_all(rt, &mut its_reading, &mut copy),
+    );
+    let (log, same) = (log?, same?);
+    println!(rt; "messages in the log: {}", log.len())?;
+    println!(rt; "both logs are the same: {}", log == same)?;
     Ok(())
 }
