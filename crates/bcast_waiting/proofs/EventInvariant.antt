@@ -7,7 +7,8 @@ use Rattle.std.proofs.lemmas.List.Edits.{length-remove}
 use Rattle.bcast_model.specs.Listeners.{is_in, consume, untold_ids, AreInOrder}
 use Rattle.bcast_waiting.specs.Words.{is_told, Slots, listed, front, has, listeners_of, IsKept}
 use Rattle.bcast_waiting.proofs.Position.{IsFirstAt}
-use Rattle.bcast_waiting.proofs.Listed.{all_more, all_push, all_remove, all_absent}
+use Rattle.bcast_model.proofs.Lists.{all_more, all_append, all_absent}
+use Rattle.bcast_waiting.proofs.Listed.{all_remove}
 use Rattle.bcast_waiting.proofs.Few.{at_most}
 use Rattle.bcast_waiting.proofs.Listeners.{is_told_first, untold_is, consume_first, AreInOrder-removed, AreInOrder-join}
 use Rattle.bcast_waiting.proofs.InSlots.{front_less, front_mono, front_push, listed_push, listed_left, front_left, front_kept, is_some-has, has_within, first_listed}
@@ -34,7 +35,7 @@ module _ {I : Type 0} {same : I → I → Bool} {number : I → ℕ} {s : Slots 
           counted = omega (arith, kept.counted, more);
           told_front = kept.told_front ∙ sym (front_push s.ids id told_end kept.within);
           within = omega (arith, kept.within, length-append s.ids (Some id ∷ []));
-          in_room = subst (AllByRecursion (λ id. number id < s.room)) (sym ids) (all_push (λ id. number id < s.room) (listed s.ids) id kept.in_room room);
+          in_room = subst (AllByRecursion (λ id. number id < s.room)) (sym ids) (all_append (λ id. number id < s.room) (listed s.ids) (id ∷ []) kept.in_room (room, tt));
         }
 
     -- ---- a listener is taken out

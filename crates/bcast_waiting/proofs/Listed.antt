@@ -1,128 +1,95 @@
 -- A list of ids after an id was taken out, or was put last.
-use Rattle.std.proofs.Common.{◌≡◌, ℕ, zero, suc, ◌≤◌, Bool, true, false, cond, ◌||◌, ltb, List, [], ◌∷◌, ◌++◌, take, drop, refl, sym, ap, ◌∙◌, arith}
+use Rattle.std.proofs.Common.{◌≡◌, ℕ, zero, suc, ◌≤◌, Bool, true, false, cond, ◌||◌, ltb, List, [], ◌∷◌, ◌++◌, take, drop, refl, sym, ap, subst, ◌∙◌, arith}
 use Rattle.std.specs.Prelude.{remove}
 use Rattle.std.specs.List.{AllByRecursion}
 use Rattle.std.specs.Cmp.{IsEquivalence}
 use Rattle.std.proofs.lemmas.Bool.{true≢false}
+use Rattle.std.proofs.lemmas.List.{take-append-drop}
 use Rattle.bcast_model.specs.Listeners.{is_in, without, IsDistinct}
+use Rattle.bcast_model.proofs.Lists.{all_more, all_left, all_append, all_dropped, all_absent, absent, without_absent}
 use Rattle.bcast_waiting.proofs.Position.{IsFirstAt}
 
-module _ {I : Type 0} where
-  pub all_more : (P Q : I → Type 0) (ids : List I) → ((x : I) → P x → Q x) → AllByRecursion P ids → AllByRecursion Q ids
-  all_more P Q [] f a = a
-  all_more P Q (x ∷ ids) f a = (f x a.0, all_more P Q ids f a.1)
+module _ {I : Type 0} (same : I → I → Bool) where
+  abbrev Differs : I → I → Type 0
+  Differs id other = same id other ≡ false
 
-  pub all_push : (P : I → Type 0) (ids : List I) (x : I) → AllByRecursion P ids → P x → AllByRecursion P (ids ++ x ∷ [])
-  all_push P [] x a p = (p, tt)
-  all_push P (y ∷ ids) x a p = (a.0, all_push P ids x a.1 p)
+  -- ---- an id that is not in the list
+  pub absent_take : (id : I) (n : ℕ) (ids : List I) → is_in same id ids ≡ false → is_in same id (take n ids) ≡ false
+  absent_take id n ids h =
+      absent same id (take n ids) (all_left (Differs id) (take n ids) (drop n ids)
+      (subst (AllByRecursion (Differs id)) (sym (take-append-drop n ids)) (all_absent same id ids h)))
 
-  module _ (same : I → I → Bool) where
-    abbrev Differs : I → I → Type 0
-    Differs id other = same id other ≡ false
+  pub absent_drop : (id : I) (n : ℕ) (ids : List I) → is_in same id ids ≡ false → is_in same id (drop n ids) ≡ false
+  absent_drop id n ids h = absent same id (drop n ids) (all_dropped (Differs id) n ids (all_absent same id ids h))
 
-    -- ---- an id that is not in the list
-    pub all_absent : (id : I) (ids : List I) → is_in same id ids ≡ false → AllByRecursion (Differs id) ids
-    all_absent id [] h = tt
-    all_absent id (x ∷ ids) h = elim (same id x) as (λ b. same id x ≡ b → (b || is_in same id ids) ≡ false → AllByRecursion (Differs id) (x ∷ ids)) [
-      | true ↦ λ e h. absurd (true≢false h)
-      | false ↦ λ e h. (e, all_absent id ids h)
+  -- ---- an id that is in the list
+  later : (id x : I) (ids : List I) (i : ℕ) → IsFirstAt same id (x ∷ ids) (suc i) → IsFirstAt same id ids i
+  later id x ids i at = record {
+    within = omega (arith, at.within);
+    found = at.found;
+    before = λ k h. at.before (suc k) (omega (arith, h));
+  }
+
+  -- it is in a front part exactly if its position is
+  pub is_in-take : (id : I) (ids : List I) (i n : ℕ) → IsFirstAt same id ids i → is_in same id (take n ids) ≡ ltb i n
+  is_in-take id [] i n at = absurd (omega (arith, at.within))
+  is_in-take id (x ∷ ids) i zero at = let out : ltb i 0 ≡ false = grind arith in sym out
+  is_in-take id (x ∷ ids) zero (suc n) at =
+      let within : ltb 0 (suc n) ≡ true = grind arith in
+      ap (λ b. b || is_in same id (take n ids)) at.found ∙ sym within
+  is_in-take id (x ∷ ids) (suc i) (suc n) at =
+      let one_less : ltb (suc i) (suc n) ≡ ltb i n = grind arith in
+      ap (λ b. b || is_in same id (take n ids)) (at.before 0 (omega arith))
+      ∙ is_in-take id ids i n (later id x ids i at) ∙ sym one_less
+
+  -- and in the rest if its position is not
+  pub is_in-drop : (id : I) (ids : List I) (i n : ℕ) → IsFirstAt same id ids i → n ≤ i → is_in same id (drop n ids) ≡ true
+  is_in-drop id [] i n at h = absurd (omega (arith, at.within))
+  is_in-drop id (x ∷ ids) zero zero at h = ap (λ b. b || is_in same id ids) at.found
+  is_in-drop id (x ∷ ids) (suc i) zero at h =
+      ap (λ b. b || is_in same id ids) (at.before 0 (omega arith))
+      ∙ is_in-drop id ids i zero (later id x ids i at) (omega arith)
+  is_in-drop id (x ∷ ids) zero (suc n) at h = absurd (omega (arith, h))
+  is_in-drop id (x ∷ ids) (suc i) (suc n) at h = is_in-drop id ids i n (later id x ids i at) (omega (arith, h))
+
+  module _ (laws : IsEquivalence same) where
+    -- an id that is the same as the first of a distinct list is not in the rest
+    apart : (id x : I) (ids : List I) → same id x ≡ true → AllByRecursion (Differs x) ids → is_in same id ids ≡ false
+    apart id x ids e a = absent same id ids (all_more (Differs x) (Differs id) ids (λ y d. laws.congr id x y e ∙ d) a)
+
+    -- it is in one part of a distinct list only
+    pub apart_parts : (id : I) (n : ℕ) (ids : List I) → IsDistinct same ids → is_in same id (take n ids) ≡ true → is_in same id (drop n ids) ≡ false
+    apart_parts id zero ids d h = absurd (true≢false (sym h))
+    apart_parts id (suc n) [] d h = absurd (true≢false (sym h))
+    apart_parts id (suc n) (x ∷ ids) d h = elim (same id x) as (λ b. same id x ≡ b → (b || is_in same id (take n ids)) ≡ true → is_in same id (drop n ids) ≡ false) [
+      | true ↦ λ e h. absent_drop id n ids (apart id x ids e d.0)
+      | false ↦ λ e h. apart_parts id n ids d.1 h
     ] refl h
 
-    absent_all : (id : I) (ids : List I) → AllByRecursion (Differs id) ids → is_in same id ids ≡ false
-    absent_all id [] a = refl
-    absent_all id (x ∷ ids) a = ap (λ b. b || is_in same id ids) a.0 ∙ absent_all id ids a.1
+    -- a distinct list without an id is the list without its position
+    pub without-first : (id : I) (ids : List I) (i : ℕ) → IsDistinct same ids → IsFirstAt same id ids i → without same id ids ≡ remove ids i
+    without-first id [] i d at = absurd (omega (arith, at.within))
+    without-first id (x ∷ ids) zero d at =
+        ap (λ b. cond b (without same id ids) (x ∷ without same id ids)) at.found
+        ∙ without_absent same id ids (apart id x ids at.found d.0)
+    without-first id (x ∷ ids) (suc i) d at =
+        ap (λ b. cond b (without same id ids) (x ∷ without same id ids)) (at.before 0 (omega arith))
+        ∙ ap (λ rest. x ∷ rest) (without-first id ids i d.1 (later id x ids i at))
 
-    pub without_absent : (id : I) (ids : List I) → is_in same id ids ≡ false → without same id ids ≡ ids
-    without_absent id [] h = refl
-    without_absent id (x ∷ ids) h = elim (same id x) as (λ b. (b || is_in same id ids) ≡ false → cond b (without same id ids) (x ∷ without same id ids) ≡ x ∷ ids) [
-      | true ↦ λ h. absurd (true≢false h)
-      | false ↦ λ h. ap (λ rest. x ∷ rest) (without_absent id ids h)
-    ] h
+    pub all_remove : (P : I → Type 0) (i : ℕ) (ids : List I) → AllByRecursion P ids → AllByRecursion P (remove ids i)
+    all_remove P zero [] a = a
+    all_remove P zero (x ∷ ids) a = a.1
+    all_remove P (suc i) [] a = a
+    all_remove P (suc i) (x ∷ ids) a = (a.0, all_remove P i ids a.1)
 
-    all_take : (P : I → Type 0) (n : ℕ) (ids : List I) → AllByRecursion P ids → AllByRecursion P (take n ids)
-    all_take P zero ids a = tt
-    all_take P (suc n) [] a = tt
-    all_take P (suc n) (x ∷ ids) a = (a.0, all_take P n ids a.1)
+    pub IsDistinct-remove : (i : ℕ) (ids : List I) → IsDistinct same ids → IsDistinct same (remove ids i)
+    IsDistinct-remove zero [] d = d
+    IsDistinct-remove zero (x ∷ ids) d = d.1
+    IsDistinct-remove (suc i) [] d = d
+    IsDistinct-remove (suc i) (x ∷ ids) d = (all_remove (Differs x) i ids d.0, IsDistinct-remove i ids d.1)
 
-    all_drop : (P : I → Type 0) (n : ℕ) (ids : List I) → AllByRecursion P ids → AllByRecursion P (drop n ids)
-    all_drop P zero ids a = a
-    all_drop P (suc n) [] a = a
-    all_drop P (suc n) (x ∷ ids) a = all_drop P n ids a.1
-
-    pub absent_take : (id : I) (n : ℕ) (ids : List I) → is_in same id ids ≡ false → is_in same id (take n ids) ≡ false
-    absent_take id n ids h = absent_all id (take n ids) (all_take (Differs id) n ids (all_absent id ids h))
-
-    pub absent_drop : (id : I) (n : ℕ) (ids : List I) → is_in same id ids ≡ false → is_in same id (drop n ids) ≡ false
-    absent_drop id n ids h = absent_all id (drop n ids) (all_drop (Differs id) n ids (all_absent id ids h))
-
-    -- ---- an id that is in the list
-    later : (id x : I) (ids : List I) (i : ℕ) → IsFirstAt same id (x ∷ ids) (suc i) → IsFirstAt same id ids i
-    later id x ids i at = record {
-      within = omega (arith, at.within);
-      found = at.found;
-      before = λ k h. at.before (suc k) (omega (arith, h));
-    }
-
-    -- it is in a front part exactly if its position is
-    pub is_in-take : (id : I) (ids : List I) (i n : ℕ) → IsFirstAt same id ids i → is_in same id (take n ids) ≡ ltb i n
-    is_in-take id [] i n at = absurd (omega (arith, at.within))
-    is_in-take id (x ∷ ids) i zero at = let out : ltb i 0 ≡ false = grind arith in sym out
-    is_in-take id (x ∷ ids) zero (suc n) at =
-        let within : ltb 0 (suc n) ≡ true = grind arith in
-        ap (λ b. b || is_in same id (take n ids)) at.found ∙ sym within
-    is_in-take id (x ∷ ids) (suc i) (suc n) at =
-        let one_less : ltb (suc i) (suc n) ≡ ltb i n = grind arith in
-        ap (λ b. b || is_in same id (take n ids)) (at.before 0 (omega arith))
-        ∙ is_in-take id ids i n (later id x ids i at) ∙ sym one_less
-
-    -- and in the rest if its position is not
-    pub is_in-drop : (id : I) (ids : List I) (i n : ℕ) → IsFirstAt same id ids i → n ≤ i → is_in same id (drop n ids) ≡ true
-    is_in-drop id [] i n at h = absurd (omega (arith, at.within))
-    is_in-drop id (x ∷ ids) zero zero at h = ap (λ b. b || is_in same id ids) at.found
-    is_in-drop id (x ∷ ids) (suc i) zero at h =
-        ap (λ b. b || is_in same id ids) (at.before 0 (omega arith))
-        ∙ is_in-drop id ids i zero (later id x ids i at) (omega arith)
-    is_in-drop id (x ∷ ids) zero (suc n) at h = absurd (omega (arith, h))
-    is_in-drop id (x ∷ ids) (suc i) (suc n) at h = is_in-drop id ids i n (later id x ids i at) (omega (arith, h))
-
-    module _ (laws : IsEquivalence same) where
-      -- an id that is the same as the first of a distinct list is not in the rest
-      apart : (id x : I) (ids : List I) → same id x ≡ true → AllByRecursion (Differs x) ids → is_in same id ids ≡ false
-      apart id x ids e a = absent_all id ids (all_more (Differs x) (Differs id) ids (λ y d. laws.congr id x y e ∙ d) a)
-
-      -- it is in one part of a distinct list only
-      pub apart_parts : (id : I) (n : ℕ) (ids : List I) → IsDistinct same ids → is_in same id (take n ids) ≡ true → is_in same id (drop n ids) ≡ false
-      apart_parts id zero ids d h = absurd (true≢false (sym h))
-      apart_parts id (suc n) [] d h = absurd (true≢false (sym h))
-      apart_parts id (suc n) (x ∷ ids) d h = elim (same id x) as (λ b. same id x ≡ b → (b || is_in same id (take n ids)) ≡ true → is_in same id (drop n ids) ≡ false) [
-        | true ↦ λ e h. absent_drop id n ids (apart id x ids e d.0)
-        | false ↦ λ e h. apart_parts id n ids d.1 h
-      ] refl h
-
-      -- a distinct list without an id is the list without its position
-      pub without-first : (id : I) (ids : List I) (i : ℕ) → IsDistinct same ids → IsFirstAt same id ids i → without same id ids ≡ remove ids i
-      without-first id [] i d at = absurd (omega (arith, at.within))
-      without-first id (x ∷ ids) zero d at =
-          ap (λ b. cond b (without same id ids) (x ∷ without same id ids)) at.found
-          ∙ without_absent id ids (apart id x ids at.found d.0)
-      without-first id (x ∷ ids) (suc i) d at =
-          ap (λ b. cond b (without same id ids) (x ∷ without same id ids)) (at.before 0 (omega arith))
-          ∙ ap (λ rest. x ∷ rest) (without-first id ids i d.1 (later id x ids i at))
-
-      pub all_remove : (P : I → Type 0) (i : ℕ) (ids : List I) → AllByRecursion P ids → AllByRecursion P (remove ids i)
-      all_remove P zero [] a = a
-      all_remove P zero (x ∷ ids) a = a.1
-      all_remove P (suc i) [] a = a
-      all_remove P (suc i) (x ∷ ids) a = (a.0, all_remove P i ids a.1)
-
-      pub IsDistinct-remove : (i : ℕ) (ids : List I) → IsDistinct same ids → IsDistinct same (remove ids i)
-      IsDistinct-remove zero [] d = d
-      IsDistinct-remove zero (x ∷ ids) d = d.1
-      IsDistinct-remove (suc i) [] d = d
-      IsDistinct-remove (suc i) (x ∷ ids) d = (all_remove (Differs x) i ids d.0, IsDistinct-remove i ids d.1)
-
-      pub IsDistinct-push : (id : I) (ids : List I) → IsDistinct same ids → is_in same id ids ≡ false → IsDistinct same (ids ++ id ∷ [])
-      IsDistinct-push id [] d h = (tt, tt)
-      IsDistinct-push id (x ∷ ids) d h =
-          let a = all_absent id (x ∷ ids) h in
-          (all_push (Differs x) ids id d.0 (laws.symm x id ∙ a.0), IsDistinct-push id ids d.1 (absent_all id ids a.1))
+    pub IsDistinct-push : (id : I) (ids : List I) → IsDistinct same ids → is_in same id ids ≡ false → IsDistinct same (ids ++ id ∷ [])
+    IsDistinct-push id [] d h = (tt, tt)
+    IsDistinct-push id (x ∷ ids) d h =
+        let a = all_absent same id (x ∷ ids) h in
+        (all_append (Differs x) ids (id ∷ []) d.0 (laws.symm x id ∙ a.0, tt), IsDistinct-push id ids d.1 (absent same id ids a.1))

@@ -6,12 +6,12 @@ use Rattle.std.specs.FinMap.{nat_cmp-IsAntisymmetric}
 use Rattle.std.specs.Cmp.{nat_cmp_total, unsigned_tied}
 use Rattle.std.specs.FinSet as set
 use Rattle.std.specs.List.{AllByRecursion}
-use Rattle.bcast_model.specs.Listeners.{Listeners, AreInOrder, no_listeners, without, consume, abandon, wait_again}
+use Rattle.bcast_model.specs.Listeners.{Listeners, AreInOrder, no_listeners, consume, abandon, wait_again}
 use Rattle.bcast_model.specs.ListenerId.{same_place}
 use Rattle.bcast_model.specs.Control.{Places as Used}
 use Rattle.bcast_model.proofs.Tests.{test_place}
 use Rattle.bcast_model.proofs.WaitingSends.{HasPlace, AreSends, sends_inserted, sends_consumed, sends_abandoned, sends_waiting}
-use Rattle.bcast_waiting.specs.Words.{Event, Sends, IsSound, sends_of}
+use Rattle.bcast_waiting.specs.Words.{Event, IsSound}
 
 -- ---- what the calls keep
 sends_in : (used : Used) (e : Event ℕ) → IsSound used e → AreSends used e.listeners
@@ -56,13 +56,6 @@ back used place fresh =
     by_key : (q : ℕ) (b : Bool) → (q == place) ≡ b → (not b && (b || set.contains used q)) ≡ set.contains used q
     by_key q true e = sym (ap (set.contains used) (test_place.no q place e) ∙ fresh)
     by_key q false e = refl
-
--- what a contract sees once a place is given back
-pub given_back : (change : Listeners ℕ → Listeners ℕ) (place : ℕ) (p q : Used) (e f : Event ℕ) (now : Sends) → sends_of p e ≡ now → q ≡ set.remove p place → f ≡ record e { listeners = change e.listeners }
-    → sends_of q f ≡ record { places = set.remove now.places place; waiting = change now.waiting }
-given_back change place p q e f now seen without is =
-    (λ i. sends_of (without i) (is i))
-    ∙ ap (λ (s : Sends). record { places = set.remove s.places place; waiting = change s.waiting }) seen
 
 module _ (used : Used) (e : Event ℕ) (s : IsSound used e) where
   pub sound_wait : (place : ℕ) → HasPlace used place → IsSound used (record e { listeners = wait_again same_place place e.listeners })

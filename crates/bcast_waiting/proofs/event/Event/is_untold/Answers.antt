@@ -1,10 +1,7 @@
 -- A told listener is not among the others.
-use Rattle.std.proofs.Common.{Some, None}
+use Rattle.std.proofs.Common.{Some}
 use Rattle.bcast_waiting.proofs.Listeners.{untold_is}
 use Rattle.bcast_waiting.proofs.event.Event.is_untold.Goals as goal
 
 pub returns-in-Some : goal.returns-in-Some
 returns-in-Some g c = untold_is g.I.PartialEq.eq g.met.I.Eq.laws c.args.id c.args.self.now.listeners c.invariant_holds.ensures.in_order (Some c.in-Some.told) c.in-Some.ensures
-
-pub returns-in-None : goal.returns-in-None
-returns-in-None g c = untold_is g.I.PartialEq.eq g.met.I.Eq.laws c.args.id c.args.self.now.listeners c.invariant_holds.ensures.in_order None c.in-None.ensures

@@ -17,13 +17,6 @@ push-requires-clause-slots g c =
     let few = finds_room c.self.invariant g.met.I.Indexed.own c.args.id (absent_here g (goal.at.push-requires-clause-slots g c).After-compact_if_sparse-self-inside) room in
     omega (arith, few, c.self.invariant.counted, t.ensures.few, t.ensures.room)
 
-pub push-requires-clause-room : goal.push-requires-clause-room
-push-requires-clause-room g c = omega (arith, c.requires.room, ap (λ e. e.room) c.self.view_is, c.compact_if_sparse-self-inside.ensures.room)
-
-pub push-requires-clause-absent : goal.push-requires-clause-absent
-push-requires-clause-absent g c =
-    subst (λ ids. is_in g.I.PartialEq.eq c.args.id ids ≡ false) (sym c.compact_if_sparse-self-inside.ensures.listed) (absent_here g (goal.at.push-requires-clause-absent g c).After-compact_if_sparse-self-inside)
-
 pub overflow_add-self : goal.overflow_add-self
 overflow_add-self g c =
     let room : g.I.Indexed.number c.args.id < c.self.inside.slots.room = omega (arith, c.requires.room, ap (λ e. e.room) c.self.view_is) in

@@ -3,7 +3,7 @@ use Rattle.std.proofs.Common.{◌≡◌, ◌<◌, ◌≤◌, ◌-◌, true, fals
 use Rattle.bcast_model.specs.Listeners.{is_in, consume}
 use Rattle.bcast_waiting.specs.Words.{Event, is_told, listeners_of, IsKept}
 use Rattle.bcast_waiting.proofs.Listeners.{is_told_absent, consume_absent}
-use Rattle.bcast_waiting.proofs.EventInvariant.{first_at, told_before, is_told_at, taken, IsKept-left}
+use Rattle.bcast_waiting.proofs.EventInvariant.{told_before, is_told_at, taken, IsKept-left}
 use Rattle.bcast_waiting.proofs.event.Event.take.Goals as goal
 use Rattle.bcast_waiting.proofs.event.Event.take.Goals.{After-take_at-notice}
 
@@ -16,11 +16,6 @@ pub returns-in_default-clause-rest : goal.returns-in_default-clause-rest
 returns-in_default-clause-rest g c =
     let absent = subst (λ e. is_in g.I.PartialEq.eq c.args.id e.listeners.ids ≡ false) c.self.view_is c.in_default.ensures in
     λ i. record { listeners = sym (consume_absent g.I.PartialEq.eq c.args.id c.args.self.now.listeners absent) i; room = c.args.self.now.room }
-
-pub overflow_sub-self : goal.overflow_sub-self
-overflow_sub-self g c =
-    let at = first_at c.self.invariant g.met.I.Eq.laws c.args.id c.in-Some.position c.in-Some.ensures in
-    omega (arith, at.within, c.self.invariant.counted)
 
 pub overflow_sub-self-then-position-self : goal.overflow_sub-self-then-position-self
 overflow_sub-self-then-position-self g c =

@@ -1,15 +1,12 @@
 -- A listener that is listed and not told keeps its position; any other joins last.
-use Rattle.std.proofs.Common.{◌≡◌, true, false, cond, Result, Ok, Err, OnOk, sym, ap, ◌∙◌, subst}
+use Rattle.std.proofs.Common.{◌≡◌, true, false, cond, sym, ap, ◌∙◌, subst}
+use Rattle.std.proofs.lemmas.Result.{on_ok_weaker}
 use Rattle.bcast_model.specs.Listeners.{is_in, untold_ids, join, consume}
 use Rattle.bcast_waiting.specs.Words.{Event, listeners_of}
 use Rattle.bcast_waiting.proofs.Listed.{absent_drop}
 use Rattle.bcast_waiting.proofs.EventInvariant.{untold_after, untold_before}
 use Rattle.bcast_waiting.proofs.event.Event.wait_again.Goals as goal
 use Rattle.bcast_waiting.proofs.event.Event.wait_again.Goals.{in_default-via-in-Some+else-position-self, in_default-via-in_default}
-
-on_ok : {A B P : Type 0} (r : Result A B) → P → OnOk r P
-on_ok (Ok a) p = p
-on_ok (Err e) p = tt
 
 pub returns-in-Some-clause-waits : goal.returns-in-Some-clause-waits
 returns-in-Some-clause-waits g c =
@@ -19,10 +16,11 @@ returns-in-Some-clause-waits g c =
     let untold : true ≡ is_in same id (untold_ids now.listeners) =
     untold_after c.self.invariant g.met.I.Eq.laws id c.in-Some.position c.in-Some.ensures c.if-position-self.true
     ∙ ap (λ (e : Event g.row.I.Denot). is_in same id (untold_ids e.listeners)) c.self.view_is in
-    on_ok c.renew.result
-    ((λ i. record { listeners = listeners_of (c.renew.ensures.same i).ids c.self.inside.told; room = (c.renew.ensures.same i).room })
+    on_ok_weaker c.renew.result
+    (λ _. (λ i. record { listeners = listeners_of (c.renew.ensures.same i).ids c.self.inside.told; room = (c.renew.ensures.same i).room })
     ∙ c.self.view_is
     ∙ ap (λ b. record now { listeners = cond b now.listeners (join id (consume same id now.listeners)) }) untold)
+    c.renew.ensures.made
 
 pub list_last-requires-clause-not_untold : goal.list_last-requires-clause-not_untold
 list_last-requires-clause-not_untold g c =
