@@ -1,9 +1,6 @@
--- Lemmas of lines on topics: their words, the names of followers, and answers that are written.
-use Rattle.std.proofs.Common.{◌≡◌, ◌≢◌, inl, inr, ⊎_elim, arith, List, [], ℕ, Bool, true, false, Option, Some, None, Result, Ok, Err, OnOk, IfSome, cond, refl, sym, is_some}
-use Rattle.std.specs.Prelude.{IsSome}
+-- Lemmas of lines on topics: their words, and the names of followers.
+use Rattle.std.proofs.Common.{◌≡◌, ◌≢◌, inl, inr, ⊎_elim, arith, List, ℕ, Bool, true, false, Option, Some, None, cond, refl, sym, is_some}
 use Rattle.std.specs.Option.{option_map}
-use Rattle.std.specs.BTreeMap.{BTreeMap}
-use Rattle.std.specs.declared.string.String.{String}
 use Rattle.std.proofs.lemmas.Bool.{true≢false}
 use Rattle.std.proofs.lemmas.List.Elements.{All-get_or}
 use Rattle.bcast_text.proofs.Spaced.{Lacks, is_plain, plain_space}
@@ -12,10 +9,8 @@ use Rattle.topics.specs.Request.{IsAnswerTo}
 use Rattle.topics.specs.declared.request.Answer.TheVariants as answer
 use Rattle.bcast_model.specs.declared.run.Call.{Call}
 use Rattle.bcast_play.specs.TopicsLine.{word_of}
-use Rattle.bcast_play.specs.TopicsShown.{follower_of}
 use Rattle.bcast_play.specs.declared.hub.line.Line.{Line}
 use Rattle.bcast_play.specs.declared.hub.line.Line.TheVariants.{Open}
-use Rattle.bcast_play.specs.declared.hub.followers.Follower.{Follower}
 
 -- no word has a space
 plain_word : (line : Line) → is_plain (word_of line) ≡ true
@@ -50,12 +45,3 @@ named_answer false None (inl is) = absurd (cc)
 named_answer false None (inr is) = absurd (cc)
 named_answer false (Some c) is = absurd (cc)
 named_answer true (Some c) (reply, is) = absurd (cc)
-
-pub no_follower : {A : Type 0} (m : BTreeMap (String A) (Follower A)) → m.entries ≡ [] → (name : List ℕ) → follower_of m name ≡ None
-no_follower m empty name = rw empty refl
-
-pub written : {X F : Type 0} (r : Result X F) (o : Option (List ℕ)) (P : List ℕ → Type 0) (Q : Type 0)
-    → OnOk r (IfSome o P) → OnOk r (IsSome o) → ((text : List ℕ) → o ≡ Some text → P text → Q) → OnOk r Q
-written (Err x) o P Q text some to = tt
-written (Ok x) None P Q text some to = absurd (true≢false (sym some))
-written (Ok x) (Some t) P Q text some to = to t refl text

@@ -1,11 +1,11 @@
 -- Runs over lines, one after the other.
-use Rattle.std.proofs.Common.{◌≡◌, ℕ, ◌+◌, Bool, List, [], ◌∷◌, ◌++◌, Option, Some, None, Result, Ok, Err, OnOk, append-nil, length-append, refl, sym, ap, subst, ◌∙◌, arith, append_assoc}
+use Rattle.std.proofs.Common.{◌≡◌, ◌≢◌, ℕ, ◌+◌, Bool, List, [], ◌∷◌, ◌++◌, Option, Some, None, Result, Ok, Err, OnOk, append-nil, length-append, refl, sym, ap, subst, ◌∙◌, arith, append_assoc}
 use Rattle.std.proofs.KnownBytes.{Appends-nil, Appends-trans, Appends-kept}
 use Rattle.std.specs.Io.KnownBytes.{Keeps, Appends}
 use Rattle.bcast_text.specs.Lines.{BeginsWith, ReadsLines}
-use Rattle.bcast_text.specs.Run.{AreAnswered, Answered, IsRun}
+use Rattle.bcast_text.specs.Run.{AreAnswered, Answered, EndsLines, IsRun}
 use Rattle.bcast_text.specs.declared.ending.Ending.{Ending}
-use Rattle.bcast_text.specs.declared.ending.Ending.TheVariants.{NoMemory}
+use Rattle.bcast_text.specs.declared.ending.Ending.TheVariants.{Done, NotACall}
 
 begins_both : (bytes : List ℕ) (xs ys : List (List ℕ)) (mid rest : List ℕ) → BeginsWith bytes xs mid → BeginsWith mid ys rest → BeginsWith bytes (xs ++ ys) rest
 begins_both bytes [] ys mid rest same more = subst (λ b. BeginsWith b ys rest) (sym same) more
@@ -40,7 +40,7 @@ module _ {S : Type 0} (answers : S → List ℕ → List ℕ → S → Type 0) w
       (next, answer, rest ++ y, one, answered_both next t u ls ys rest y front more, ap (λ l. l ++ y) is ∙ append_assoc answer rest y)
 
   -- before the first line
-  pub none_yet : (input before : Option (List ℕ)) (s : S) → Answered answers input input before before s s 0
+  none_yet : (input before : Option (List ℕ)) (s : S) → Answered answers input input before before s s 0
   none_yet input before s = record {
     lines = [];
     count = refl;
@@ -87,16 +87,17 @@ module _ {S : Type 0} (answers : S → List ℕ → List ℕ → S → Type 0) w
   }
 
 module _ {S : Type 0} {refuses : S → List ℕ → Type 0} {may_be_empty : Bool} {longest : ℕ} (answers : S → List ℕ → List ℕ → S → Type 0) where
-  -- there is no memory for a line
-  pub no_line : (input before : Option (List ℕ)) (s : S) → IsRun refuses may_be_empty longest answers input before before s s NoMemory
-  no_line input before s = record {
+  -- no line is read
+  pub no_line : (input before : Option (List ℕ)) (s : S) (e : Ending) → EndsLines e → e ≢ Done → ((line : ℕ) → e ≢ NotACall line)
+      → IsRun refuses may_be_empty longest answers input before before s s e
+  no_line input before s e ends not_done called = record {
     left = input;
     last = s;
     count = 0;
     answered = none_yet answers input before s;
-    done = λ is. absurd (cc);
-    ends = tt;
-    not_a_call = λ number is. absurd (cc);
+    done = λ is. absurd (not_done is);
+    ends = ends;
+    not_a_call = λ line is. absurd (called line is);
   }
 
   -- nothing is written after the run

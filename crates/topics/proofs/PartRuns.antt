@@ -1,5 +1,6 @@
 -- A topic's part of the calls as a run: how it begins, and what one more call does.
 use Rattle.std.proofs.Common.{◌≡◌, ℕ, List, [], ◌∷◌, ◌++◌, map, Option, Some, None, refl, sym, ap, ◌∙◌, subst, arith}
+use Rattle.std.proofs.lemmas.List.{map-append}
 use Rattle.std.proofs.lemmas.Option.{same_Some}
 use Rattle.bcast_model.specs.declared.run.Call.{Call}
 use Rattle.bcast_model.specs.declared.run.Reply.{Reply}
@@ -10,10 +11,6 @@ use Rattle.bcast_core.proofs.Does.{valid_shown}
 use Rattle.bcast_core.proofs.Runs.{run_more, end_more}
 use Rattle.topics.specs.Hub.{IsNew}
 use Rattle.topics.specs.Part.{Called, IsRunOf, IsTopic}
-
-map_last : {A B : Type 0} (f : A → B) (xs : List A) (x : A) → map f (xs ++ x ∷ []) ≡ map f xs ++ f x ∷ []
-map_last f [] x = refl
-map_last f (y ∷ ys) x = ap (λ zs. f y ∷ zs) (map_last f ys x)
 
 module _ {T : Type 0} (is_clone : T → T → Type 0) where
   pub run_of_more : {h : History T} {part : List (Called T)} {before after : View T} {c : Call T} {r : Reply T} → IsRunOf is_clone h part (Some before) → Answers is_clone before c r after → IsRunOf is_clone h (part ++ (c, r) ∷ []) (Some after)
@@ -28,8 +25,8 @@ module _ {T : Type 0} (is_clone : T → T → Type 0) where
         subst IsValid (sym ends) (a.valid (end_of_run h calls replies) is.valid at),
       ) in
       let all : IsRun is_clone h (map (λ p. p.0) (part ++ (c, r) ∷ [])) (map (λ p. p.1) (part ++ (c, r) ∷ [])) × (Some after ≡ Some (view_of (end_of_run h (map (λ p. p.0) (part ++ (c, r) ∷ [])) (map (λ p. p.1) (part ++ (c, r) ∷ []))))) × IsValid (end_of_run h (map (λ p. p.0) (part ++ (c, r) ∷ [])) (map (λ p. p.1) (part ++ (c, r) ∷ []))) =
-      subst (λ cs. IsRun is_clone h cs (map (λ p. p.1) (part ++ (c, r) ∷ [])) × (Some after ≡ Some (view_of (end_of_run h cs (map (λ p. p.1) (part ++ (c, r) ∷ []))))) × IsValid (end_of_run h cs (map (λ p. p.1) (part ++ (c, r) ∷ [])))) (sym (map_last (λ p. p.0) part (c, r)))
-      (subst (λ rs. IsRun is_clone h (calls ++ c ∷ []) rs × (Some after ≡ Some (view_of (end_of_run h (calls ++ c ∷ []) rs))) × IsValid (end_of_run h (calls ++ c ∷ []) rs)) (sym (map_last (λ p. p.1) part (c, r))) more) in
+      subst (λ cs. IsRun is_clone h cs (map (λ p. p.1) (part ++ (c, r) ∷ [])) × (Some after ≡ Some (view_of (end_of_run h cs (map (λ p. p.1) (part ++ (c, r) ∷ []))))) × IsValid (end_of_run h cs (map (λ p. p.1) (part ++ (c, r) ∷ [])))) (sym (map-append (λ p. p.0) part ((c, r) ∷ [])))
+      (subst (λ rs. IsRun is_clone h (calls ++ c ∷ []) rs × (Some after ≡ Some (view_of (end_of_run h (calls ++ c ∷ []) rs))) × IsValid (end_of_run h (calls ++ c ∷ []) rs)) (sym (map-append (λ p. p.1) part ((c, r) ∷ []))) more) in
       record { run = all.0; end = all.1; valid = all.2 }
 
   pub new_run : {capacity : ℕ} {new : Option (View T)} → IsNew is_clone capacity new → IsTopic is_clone (Some capacity) [] new

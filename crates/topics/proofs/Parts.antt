@@ -1,7 +1,6 @@
 -- What one more exchange does to each topic's part of the calls.
 use Rattle.std.proofs.Common.{◌≡◌, ℕ, List, [], ◌∷◌, ◌++◌, Bool, true, false, Option, None, Some, refl, sym, ap, ◌∙◌, subst, append-nil, length}
 use Rattle.std.specs.Prelude.{is_some}
-use Rattle.std.proofs.lemmas.Option.{none-some, same_Some}
 use Rattle.std.specs.Option.{option_or}
 use Rattle.std.specs.Str.{bytes_eq}
 use Rattle.std.specs.Cmp.Lexicographic.{bytes_decides}
@@ -10,7 +9,7 @@ use Rattle.std.specs.List.{zip}
 use Rattle.bcast_model.specs.declared.run.Call.{Call}
 use Rattle.bcast_model.specs.declared.run.Call.TheVariants as call
 use Rattle.bcast_model.specs.declared.run.Reply.{Reply}
-use Rattle.bcast_model.specs.Words.{View, opening, Answers}
+use Rattle.bcast_model.specs.Words.{View}
 use Rattle.topics.specs.declared.request.Request.{Request}
 use Rattle.topics.specs.declared.request.Request.TheVariants as request
 use Rattle.topics.specs.declared.request.Answer.{Answer}
@@ -18,7 +17,7 @@ use Rattle.topics.specs.declared.request.Answer.TheVariants as answer
 use Rattle.topics.specs.declared.hub.Hub.{Hub}
 use Rattle.topics.specs.Request.{name_of, call_of, IsAnswer, IsAnswerTo}
 use Rattle.topics.specs.Hub.{topic_of, IsNew, IsCall, Changes, Asks}
-use Rattle.topics.specs.Part.{Exchange, Called, opens, opened_with, AreAnswers, done_by, done_on, part_of, IsRunOf, IsTopic, AreTopics}
+use Rattle.topics.specs.Part.{Exchange, Called, opens, opened_with, AreAnswers, done_by, done_on, IsTopic, AreTopics}
 use Rattle.topics.proofs.Exchanges.{option_or-None, opened_with-last, done_on-last, answers_more, zip_last}
 use Rattle.topics.proofs.PartRuns.{run_of_more, new_run}
 

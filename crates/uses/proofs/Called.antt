@@ -1,5 +1,5 @@
 -- What is seen after a call, apart from who was told.
-use Rattle.std.proofs.Common.{◌≡◌, ℕ, not, ◌&&◌, Option, Some, None, Result, Ok, Err, OnOk, OnErr, refl, sym, ap, ◌∙◌, subst}
+use Rattle.std.proofs.Common.{◌≡◌, ℕ, not, ◌&&◌, Option, Some, None, refl, sym, ap, ◌∙◌, subst}
 use Rattle.std.specs.Prelude.{IsSome}
 use Rattle.bcast_model.specs.declared.run.Call.{Call}
 use Rattle.bcast_model.specs.declared.run.Reply.{Reply}
@@ -34,15 +34,6 @@ module _ {T : Type 0} where
     unchanged is may =
         (steps a).next ∙ ap (λ b. tell_if_ready b (settle v (effect v c r))) may
         ∙ ap (tell_if_ready (not (sends_are_ready v))) (ap (settle v) is ∙ settle_same v valid) ∙ told_nobody v
-
--- what holds of a call that succeeded, or that failed
-pub on_ok : {A E P : Type 0} (r : Result A E) → P → OnOk r P
-on_ok (Ok x) p = p
-on_ok (Err e) p = tt
-
-pub on_err : {A E P : Type 0} (r : Result A E) → P → OnErr r P
-on_err (Ok x) p = tt
-on_err (Err e) p = p
 
 pub some_of : (o : Option ℕ) → IsSome o → (n : ℕ) × (o ≡ Some n)
 some_of (Some n) is = (n, refl)

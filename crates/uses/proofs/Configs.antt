@@ -4,7 +4,6 @@ use Rattle.std.proofs.lemmas.Bool.{cases_lt}
 use Rattle.std.proofs.lemmas.List.{drop_at, nil_from_length}
 use Rattle.std.proofs.lemmas.Grind.{common_steps}
 use Rattle.std.proofs.lemmas.Option.{none-some, same_Some}
-use Rattle.std.specs.declared.alloc.AllocError.{AllocError}
 use Rattle.std.specs.FinMap.{get, len, values}
 use Rattle.futures.specs.declared.task.Poll.{Poll}
 use Rattle.bcast_model.specs.declared.error.HandleError.{HandleError}
@@ -20,7 +19,7 @@ use Rattle.bcast_model.proofs.Least.{least-le-cursor, len_insert}
 use Rattle.bcast_model.proofs.DeliveryMaps.{inserted_other}
 use Rattle.bcast_core.proofs.Settle.{inserted, somebody, cursors-accepting}
 use Rattle.uses.specs.Config.{IsConfig, IsUpToDate, KeepsOthers, set_answer}
-use Rattle.uses.proofs.Called.{valid, after, unchanged, on_ok}
+use Rattle.uses.proofs.Called.{valid, after, unchanged}
 use Rattle.uses.proofs.Sends.{accepted}
 
 module _ {S : Type 0} where
@@ -93,9 +92,6 @@ module _ {S : Type 0} where
         | false ↦ heard v (settle v (sets c)) key (pair_answered c (stream_of key)) refl refl refl refl here
       ])
 
-  pub poll_refused : {is_clone : S → S → Type 0} {v w : View S} {key : ℕ} {error : AllocError} → Answers is_clone v (call.PollNext key) (reply.PollNext (Err error)) w → w ≡ v
-  poll_refused a = unchanged a refl refl
-
   -- ---- `new_receiver`
   -- a new watcher has seen the latest settings
   pub watched : {is_clone : S → S → Type 0} {v w : View S} {key : ℕ} → Answers is_clone v call.NewReceiver (reply.NewReceiver (Ok key)) w → IsConfig v → Looked v w key × (get w.control.cursors key ≡ Some v.end)
@@ -131,5 +127,5 @@ module _ {S : Type 0} where
 
   pub set_latest : {is_clone : S → S → Type 0} {v w : View S} {msg : S} (result : Result (Option S) (TrySendError S)) (kept : Result (Unit {0}) S) → Answers is_clone v (call.TryBroadcast msg) (reply.TryBroadcast result) w → IsConfig v
       → kept ≡ set_answer result → OnOk kept ((w.queue ≡ msg ∷ []) × (w.end ≡ v.end + 1))
-  set_latest (Ok back) kept a config is = on_ok kept (latest a config)
-  set_latest {v = v} {w = w} {msg = msg} (Err error) kept a config is = subst (λ k. OnOk k ((w.queue ≡ msg ∷ []) × (w.end ≡ v.end + 1))) (sym is) tt
+  set_latest (Ok back) kept a config is = rw is (latest a config)
+  set_latest (Err error) kept a config is = rw is tt

@@ -1,8 +1,7 @@
 -- A hub that refuses when it is full.
-use Rattle.std.proofs.Common.{◌≡◌, ◌+◌, ◌-◌, ◌≤◌, ℕ, true, false, cond, Option, Some, None, Result, Ok, Err, refl, sym, ap, ◌∙◌, subst, arith}
+use Rattle.std.proofs.Common.{◌≡◌, ◌+◌, ◌-◌, ◌≤◌, ℕ, true, false, cond, Option, Some, None, Result, Ok, refl, sym, ap, ◌∙◌, subst, arith}
 use Rattle.std.proofs.lemmas.List.{nil_from_length}
-use Rattle.std.specs.Prelude.{IfSome, is_some}
-use Rattle.std.specs.declared.alloc.AllocError.{AllocError}
+use Rattle.std.specs.Prelude.{is_some}
 use Rattle.std.specs.Ordering.{nat_cmp}
 use Rattle.std.specs.Cmp.{nat_cmp_total}
 use Rattle.std.specs.FinMap.{FinMap, contains_key, insert, remove, len, empty, len-empty, len-insert, len-remove}
@@ -11,11 +10,10 @@ use Rattle.bcast_model.specs.declared.run.Call.TheVariants as call
 use Rattle.bcast_model.specs.declared.run.Reply.TheVariants as reply
 use Rattle.bcast_model.specs.Words.{Control, with_cursor, cursor_of, sets, deactivate, opening}
 use Rattle.bcast_model.specs.Words.{view_of, NoClone, receive, settle, View, Represents, Answers}
-use Rattle.bcast_model.specs.Words.{ReceivedIsGiven, IsGivenFrom}
 use Rattle.bcast_model.proofs.Cases.{receive_is}
 use Rattle.bcast_core.proofs.Settle.{inserted}
-use Rattle.uses.specs.Hub.{IsHub, IsOpened, event_of}
-use Rattle.uses.proofs.Called.{told, valid_after, after, unchanged}
+use Rattle.uses.specs.Hub.{IsHub, IsOpened}
+use Rattle.uses.proofs.Called.{told, valid_after, after}
 
 -- no receiver is left after the only one leaves
 abbrev none : FinMap nat_cmp ℕ
@@ -56,12 +54,3 @@ module _ {T : Type 0} where
       moved None = still v.control refl refl refl
       moved (Some n) = receive_is v (λ c. IsHub (settle v (sets c))) key n
           (λ _. still (with_cursor v.control key v.front) refl refl refl) (λ _ _. still (with_cursor v.control key (n + 1)) refl refl refl) (λ _ _. still v.control refl refl refl)
-
-  pub receive_refused : {is_clone : T → T → Type 0} {v w : View T} {key : ℕ} {error : AllocError} → Answers is_clone v (call.TryRecv key) (reply.TryRecv (Err error)) w → w ≡ v
-  receive_refused a = unchanged a refl refl
-
-  -- an event is one that the hub keeps, or a clone of it
-  pub given_event : {is_clone : T → T → Type 0} {v w : View T} {key : ℕ} (received : Result T TryRecvError) → ReceivedIsGiven is_clone → Answers is_clone v (call.TryRecv key) (reply.TryRecv (Ok received)) w
-      → IfSome (event_of received) (IsGivenFrom is_clone v.queue)
-  given_event {v = v} {key = key} (Ok event) law a = law.try_recv v key event a.legal
-  given_event (Err error) law a = tt

@@ -10,7 +10,7 @@ use Rattle.bcast_model.specs.Words.{try_broadcast_reply, accept, settle}
 use Rattle.bcast_model.specs.Words.{with_message, View, is_full, Answers}
 use Rattle.bcast_model.proofs.Cases.{try_is}
 use Rattle.bcast_core.proofs.Offers.{offer_accepted}
-use Rattle.uses.proofs.Called.{told, valid, after, unchanged}
+use Rattle.uses.proofs.Called.{told, valid, after}
 
 module _ {T : Type 0} where
   -- if a message is accepted, what is handed back is `handed_back`
@@ -26,9 +26,6 @@ module _ {T : Type 0} where
   module _ {is_clone : T → T → Type 0} {v w : View T} {msg : T} where
     pub replied : {result : Result (Option T) (TrySendError T)} → Answers is_clone v (call.TryBroadcast msg) (reply.TryBroadcast result) w → result ≡ try_broadcast_reply v msg
     replied a = let e = a.legal in cc
-
-    pub refused_send : {error : TrySendError T} → Answers is_clone v (call.TryBroadcast msg) (reply.TryBroadcast (Err error)) w → w ≡ v
-    refused_send {error = error} a = unchanged a (ap (λ answer. cond (is_ok answer) (accept v msg) (sets v.control)) (sym (replied a))) refl
 
     none_refused : {back : Option T} → Answers is_clone v (call.TryBroadcast msg) (reply.TryBroadcast (Ok back)) w → is_ok (try_broadcast_reply v msg) ≡ true
     none_refused a = ap is_ok (sym (replied a))

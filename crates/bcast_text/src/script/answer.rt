@@ -1,5 +1,5 @@
 //! The answers of a script, as text.
-ghost use Rattle.std.specs.Prelude.{◌≡◌, ◌≢◌, ◌↔◌, Err, OnOk, IsNone, IfSome, ◌++◌, ◌∷◌, []};
+ghost use Rattle.std.specs.Prelude.{◌≡◌, ◌≢◌, ◌↔◌, Err, OnOk, IsNone, IsSome, IfSome, ◌++◌, ◌∷◌, []};
 ghost use Rattle.std.specs.Io.KnownBytes.{Appends};
 ghost use Rattle.bcast_text.specs.ScriptAnswer.{answer_of};
 
@@ -17,6 +17,7 @@ use std::io::Write;
 pub fn answer<W: Write>(reply: &Reply<u64>, output: &mut W) -> Result<(), Fault>
     ensures text { OnOk result (IfSome (answer_of reply.now) (λ text.
         Appends (W.contents output.old) (W.contents output.new) (text ++ 10 ∷ []))) }
+    ensures answered { OnOk result (IsSome (answer_of reply.now)) }
     ensures unwritten { result ≡ Err Fault.NoMemory → output.new ≡ output.old }
     ensures not_a_call { result ≢ Err Fault.NotACall }
     ensures no_memory { (result ≡ Err Fault.NoMemory) ↔ IsNone (answer_of reply.now) }

@@ -3,15 +3,12 @@ use Rattle.std.proofs.Common.{inl, inr, ap, string_bytes}
 use Rattle.uses.proofs.OneMessage.{only_new, only_cloned, only_sent, only_received, given_only}
 use Rattle.uses.proofs.send_to_two.Goals as goal
 
-pub returns-clause-first : goal.returns-clause-first
-returns-clause-first c =
-    let new = only_new c.args.text c.in_ok-inner.inner 1 c.in_ok-inner.one c.in_ok-inner.ensures.opened in
-    let sent = only_sent c.args.text (only_cloned c.args.text new c.clone_receiver.ensures) c.try_broadcast.ensures in
-    elim (given_only c.args.text sent (rw c.in-Ok-2.is at c.in_ok-first.ensures.answers) c.received_is_given.ensures) [ inl e ↦ ap string_bytes e | inr e ↦ e ]
-
-pub returns-clause-second : goal.returns-clause-second
-returns-clause-second c =
+pub returns : goal.returns
+returns c =
     let new = only_new c.args.text c.in_ok-inner.inner 1 c.in_ok-inner.one c.in_ok-inner.ensures.opened in
     let sent = only_sent c.args.text (only_cloned c.args.text new c.clone_receiver.ensures) c.try_broadcast.ensures in
     let received = only_received c.args.text sent c.in_ok-first.ensures.answers in
-    elim (given_only c.args.text received (rw c.in-Ok-3.is at c.in_ok-second.ensures.answers) c.received_is_given.ensures) [ inl e ↦ ap string_bytes e | inr e ↦ e ]
+    record {
+      first = elim (given_only c.args.text sent (rw c.in-Ok-2.is at c.in_ok-first.ensures.answers) c.received_is_given.ensures) [ inl e ↦ ap string_bytes e | inr e ↦ e ];
+      second = elim (given_only c.args.text received (rw c.in-Ok-3.is at c.in_ok-second.ensures.answers) c.received_is_given.ensures) [ inl e ↦ ap string_bytes e | inr e ↦ e ];
+    }

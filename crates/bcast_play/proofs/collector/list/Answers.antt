@@ -9,12 +9,8 @@ use Rattle.std.specs.Option.{is_some, option_map}
 use Rattle.std.proofs.lemmas.Bool.{false≢true}
 use Rattle.bcast_play.specs.Channels.{collected_of, named_by}
 use Rattle.bcast_play.specs.ListRun.{IsCollected, IsNoListLine, nothing_yet}
-use Rattle.bcast_play.proofs.Lists.{run_opened, run_keeps, run_read, unfailed_ends, written_after, ok_part}
+use Rattle.bcast_play.proofs.Lists.{run_opened, run_keeps, run_read, written_after, ok_part}
 use Rattle.bcast_play.proofs.collector.list.Goals as goal
-
-pub returns-then-ne-clause-ends : goal.returns-then-ne-clause-ends
-returns-then-ne-clause-ends g c =
-    unfailed_ends c.run_lines-ending.result (λ unfailed. (c.run_lines-ending.ensures unfailed).ends)
 
 pub returns-then-ne-clause-unwritten : goal.returns-then-ne-clause-unwritten
 returns-then-ne-clause-unwritten g c _ written = run_keeps (c.run_lines-ending.ensures written)

@@ -1,16 +1,13 @@
 -- Each line follows those before it.
-use Rattle.std.proofs.Common.{rules, ◌≡◌, ◌++◌, ◌∷◌, [], inl, inr, ⊎_elim, length, length-append, drop, codes, string_bytes, refl, sym, ap, subst, ◌∙◌, append_assoc, append-nil}
+use Rattle.std.proofs.Common.{rules, ◌≡◌, ◌++◌, ◌∷◌, [], inl, inr, ⊎_elim, length, length-append, drop, codes, string_bytes, sym, ap, subst, ◌∙◌, append_assoc, append-nil}
 use Rattle.std.specs.Io.KnownBytes.{Appends}
 use Rattle.std.specs.Iterator.Adapters.{zip_first, zip_second}
 use Rattle.std.specs.Slice.Iter.{iter_rest}
-use Rattle.std.proofs.KnownBytes.{Appends-nil, Appends-trans}
+use Rattle.std.proofs.KnownBytes.{Appends-trans}
 use Rattle.std.proofs.lemmas.Slice.Zip.{zip_turn, Zip-so_far, either_empty_from_Zip}
 use Rattle.bcast_text.specs.TraceReply as replies
 use Rattle.bcast_play.proofs.Lists.{played_more, played_end}
 use Rattle.bcast_play.proofs.collector.write_answers.Goals as goal
-
-pub loop-text-init : goal.loop-text-init
-loop-text-init g c = ([], Appends-nil _, refl)
 
 pub loop-text-preserved : goal.loop-text-preserved
 loop-text-preserved g c =

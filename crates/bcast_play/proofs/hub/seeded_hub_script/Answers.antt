@@ -1,6 +1,6 @@
 -- The run begins without topics. If there is no seed, nothing is read.
 use Rattle.std.proofs.Common.{None, refl, ◌∙◌}
-use Rattle.bcast_text.proofs.Runs.{none_yet}
+use Rattle.bcast_text.proofs.Runs.{no_line}
 use Rattle.bcast_play.specs.TopicsRun.{Followed, IsTopicsLine}
 use Rattle.bcast_play.proofs.hub.seeded_hub_script.Goals as goal
 
@@ -19,13 +19,5 @@ returns-in-Err g c _ =
       first,
       first,
       record { topics_are = λ _. refl; names = λ _. refl },
-      record {
-        left = g.R.Read.remaining c.args.input;
-        last = first;
-        count = 0;
-        answered = none_yet (IsTopicsLine g.row.A.Denot) (g.R.Read.remaining c.args.input) (g.W.Write.contents c.args.output.now) first;
-        done = λ is. absurd (cc);
-        ends = tt;
-        not_a_call = λ number is. absurd (cc);
-      },
+      no_line (IsTopicsLine g.row.A.Denot) _ _ first _ tt (λ is. absurd (cc)) (λ line is. absurd (cc)),
     )

@@ -3,7 +3,7 @@ use Rattle.bcast_text.proofs.Runs.{no_line, run_kept}
 use Rattle.bcast_text.proofs.input.run_lines.Goals as goal
 
 pub returns-in_default : goal.returns-in_default
-returns-in_default g c _ = no_line g.P.RunLine.answers _ _ _
+returns-in_default g c _ = no_line g.P.RunLine.answers _ _ _ _ tt (λ is. absurd (cc)) (λ line is. absurd (cc))
 
 pub returns : goal.returns
 returns g c written =

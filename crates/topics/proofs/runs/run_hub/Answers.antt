@@ -43,19 +43,13 @@ loop-request-preserved g c =
       topics = more.1;
     }
 
-pub returns-clause-count : goal.returns-clause-count
-returns-clause-count g c =
+pub returns : goal.returns
+returns g c =
     let i = c.loop-request.invariant in
-    i.count ∙ ap length (all_made c.loop-request.yielded (into_iter_items c.loop-request.request-iterator) c.args.requests.items (omega (arith, c.in-None.ensures.steps.0, c.loop-request.request-iterator.rest.ok)) i.rest)
-
-pub returns-clause-answers : goal.returns-clause-answers
-returns-clause-answers g c =
-    let i = c.loop-request.invariant in
-    subst (λ requests. AreAnswers [] (zip requests c.loop-request.answers.items))
-    (all_made c.loop-request.yielded (into_iter_items c.loop-request.request-iterator) c.args.requests.items (omega (arith, c.in-None.ensures.steps.0, c.loop-request.request-iterator.rest.ok)) i.rest) i.answers
-
-pub returns-clause-topics : goal.returns-clause-topics
-returns-clause-topics g c =
-    let i = c.loop-request.invariant in
-    subst (λ requests. AreTopics g.T.Clone.is_clone (zip requests c.loop-request.answers.items) c.loop-request.hub)
-    (all_made c.loop-request.yielded (into_iter_items c.loop-request.request-iterator) c.args.requests.items (omega (arith, c.in-None.ensures.steps.0, c.loop-request.request-iterator.rest.ok)) i.rest) i.topics
+    let all = all_made c.loop-request.yielded (into_iter_items c.loop-request.request-iterator) c.args.requests.items (omega (arith, c.in-None.ensures.steps.0, c.loop-request.request-iterator.rest.ok)) i.rest in
+    record {
+      count = i.count ∙ ap length all;
+      answers = subst (λ requests. AreAnswers [] (zip requests c.loop-request.answers.items)) all i.answers;
+      topics = subst (λ requests. AreTopics g.T.Clone.is_clone (zip requests c.loop-request.answers.items) c.loop-request.hub) all i.topics;
+      refused = tt;
+    }

@@ -7,7 +7,7 @@ use Rattle.bcast_play.proofs.channel.Channel.run.Goals as goal
 
 pub returns-clause-ok : goal.returns-clause-ok
 returns-clause-ok g c =
-    answered _ c.answer.result (answer_of c.step-reply.result) _ _ c.answer.ensures.text c.answer.ensures.no_memory (λ text spelt written. (
+    answered c.answer.result (answer_of c.step-reply.result) _ _ c.answer.ensures.text c.answer.ensures.answered (λ text spelt written. (
       text ++ 10 ∷ [],
       record {
         call = c.in_ok-call.call;

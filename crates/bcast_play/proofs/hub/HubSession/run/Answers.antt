@@ -1,14 +1,15 @@
 -- The answer to the line's request is written.
 use Rattle.std.proofs.Common.{◌++◌, ◌∷◌, [], inr, refl, is_some, subst}
 use Rattle.bcast_play.specs.TopicsRun.{answer_of}
-use Rattle.bcast_play.proofs.TopicsLemmas.{written, named_answer}
+use Rattle.bcast_play.proofs.Answered.{answered}
+use Rattle.bcast_play.proofs.TopicsLemmas.{named_answer}
 use Rattle.topics.specs.Request.{IsAnswerTo, name_of, call_of}
 use Rattle.topics.specs.Hub.{topic_of}
 use Rattle.bcast_play.proofs.hub.HubSession.run.Goals as goal
 
 pub returns-clause-ok : goal.returns-clause-ok
 returns-clause-ok g c =
-    written c.answer.result (answer_of c.ask-answered.result) _ _ c.answer.ensures.text c.answer.ensures.answered (λ text spelt wrote. (
+    answered c.answer.result (answer_of c.ask-answered.result) _ _ c.answer.ensures.text c.answer.ensures.answered (λ text spelt wrote. (
       text ++ 10 ∷ [],
       record {
         request = c.in_ok-request.request;

@@ -1,5 +1,4 @@
-use Rattle.uses.proofs.Called.{on_err}
-use Rattle.uses.proofs.Configs.{polled, poll_refused}
+use Rattle.uses.proofs.Configs.{polled}
 use Rattle.uses.proofs.Looks.{looks}
 use Rattle.uses.proofs.config_watcher.Config.look.Goals as goal
 
@@ -17,6 +16,3 @@ returns-clause-seen g c = (polled c.in_ok-poll_next.ensures.answers c.self.invar
 
 pub returns-clause-others : goal.returns-clause-others
 returns-clause-others g c = rw (← c.self.view_is) (polled c.in_ok-poll_next.ensures.answers c.self.invariant).others
-
-pub returns-in_err-poll_next-clause-err : goal.returns-in_err-poll_next-clause-err
-returns-in_err-poll_next-clause-err g c = rw (← c.self.view_is) (on_err c.from_residual.result (poll_refused c.in_err-poll_next.ensures.answers))

@@ -7,6 +7,3 @@ returns-clause-latest g c = on_ok_weaker c.into_settings.result (λ s. s.0) (set
 
 pub returns-clause-counted : goal.returns-clause-counted
 returns-clause-counted g c = rw (← c.self.view_is) (on_ok_weaker c.into_settings.result (λ s. s.1) (set_latest c.try_broadcast.result c.into_settings.result c.try_broadcast.ensures c.self.invariant c.into_settings.ensures))
-
-pub returns-clause-answers : goal.returns-clause-answers
-returns-clause-answers g c = rw (← c.self.view_is) (record { sent = c.try_broadcast.result; read = c.into_settings.ensures; answers = c.try_broadcast.ensures })

@@ -9,6 +9,3 @@ returns-clause-watcher g c = rw (← c.self.view_is) (watches c.new_receiver.res
 
 pub returns-clause-others : goal.returns-clause-others
 returns-clause-others g c = rw (← c.self.view_is) (watches c.new_receiver.result c.new_receiver.ensures c.self.invariant).others
-
-pub returns-clause-answers : goal.returns-clause-answers
-returns-clause-answers g c = rw (← c.self.view_is) c.new_receiver.ensures

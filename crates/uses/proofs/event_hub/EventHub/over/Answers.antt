@@ -3,6 +3,3 @@ use Rattle.uses.proofs.event_hub.EventHub.over.Goals as goal
 
 pub returns : goal.returns
 returns g c = (opened_hub c.in_ok-deactivate.ensures c.requires).1
-
-pub invariant_of-result : goal.invariant_of-result
-invariant_of-result g c = (opened_hub c.in_ok-deactivate.ensures c.requires).0

@@ -4,17 +4,14 @@ use Rattle.uses.proofs.log_fan_out.Log.read.Goals as goal
 pub invariant_of-self : goal.invariant_of-self
 invariant_of-self c = (reads (λ msg given e. e) c.try_recv.result (c.try_recv.ensures.sure (λ _. tt)) c.try_recv.ensures.answers c.self.invariant).log
 
-pub returns-clause-first : goal.returns-clause-first
-returns-clause-first c = rw (c.into_record.ensures, ← c.self.view_is) (reads (λ msg given e. e) c.try_recv.result (c.try_recv.ensures.sure (λ _. tt)) c.try_recv.ensures.answers c.self.invariant).first
-
-pub returns-clause-none : goal.returns-clause-none
-returns-clause-none c = rw (c.into_record.ensures, ← c.self.view_is) (reads (λ msg given e. e) c.try_recv.result (c.try_recv.ensures.sure (λ _. tt)) c.try_recv.ensures.answers c.self.invariant).none
-
-pub returns-clause-others : goal.returns-clause-others
-returns-clause-others c = rw (← c.self.view_is) (reads (λ msg given e. e) c.try_recv.result (c.try_recv.ensures.sure (λ _. tt)) c.try_recv.ensures.answers c.self.invariant).others
-
-pub returns-clause-readers : goal.returns-clause-readers
-returns-clause-readers c = rw (← c.self.view_is) (reads (λ msg given e. e) c.try_recv.result (c.try_recv.ensures.sure (λ _. tt)) c.try_recv.ensures.answers c.self.invariant).readers
-
-pub returns-clause-answers : goal.returns-clause-answers
-returns-clause-answers c = rw (c.into_record.ensures, ← c.self.view_is) (read_answers (λ msg given e. e) c.try_recv.result (c.try_recv.ensures.sure (λ _. tt)) c.try_recv.ensures.answers)
+pub returns : goal.returns
+returns c =
+    let sure = c.try_recv.ensures.sure (λ _. tt) in
+    let read = reads (λ msg given e. e) c.try_recv.result sure c.try_recv.ensures.answers c.self.invariant in
+    record {
+      first = rw (c.into_record.ensures, ← c.self.view_is) read.first;
+      none = rw (c.into_record.ensures, ← c.self.view_is) read.none;
+      others = rw (← c.self.view_is) read.others;
+      readers = rw (← c.self.view_is) read.readers;
+      answers = rw (c.into_record.ensures, ← c.self.view_is) (read_answers (λ msg given e. e) c.try_recv.result sure c.try_recv.ensures.answers);
+    }

@@ -1,11 +1,6 @@
-use Rattle.std.proofs.Common.{subst, sym}
-use Rattle.uses.specs.Log.{IsLog}
 use Rattle.uses.proofs.Logs.{writes}
-use Rattle.uses.proofs.Sends.{refused_send, sent_answers}
+use Rattle.uses.proofs.Sends.{sent_answers}
 use Rattle.uses.proofs.log_fan_out.Log.write.Goals as goal
-
-pub invariant_of-self : goal.invariant_of-self
-invariant_of-self c = subst IsLog (sym (refused_send c.in_err-try_broadcast.ensures)) c.self.invariant
 
 pub invariant_of-self-2 : goal.invariant_of-self-2
 invariant_of-self-2 c = (writes c.in_ok-try_broadcast.ensures c.self.invariant).0

@@ -26,16 +26,13 @@ no_command s r m none Topics range is = absurd (omega (arith, ap length is))
 no_command s r m none (Threads a b c) range is =
     none a b c range (ap (λ ws. get_or ws 1 []) is) (ap (λ ws. get_or ws 2 []) is) (ap (λ ws. get_or ws 3 []) is)
 
-pub returns-in-len4-clause-words : goal.returns-in-len4-clause-words
-returns-in-len4-clause-words c =
+pub returns-in-len4 : goal.returns-in-len4
+returns-in-len4 c =
     let long : length c.args.words.now ≡ 4 = omega (arith, c.in-len4.len_at_least, c.in-len4.len_below) in
     let same = four c.args.words.now c.first-item.result c.s-item.result c.r-item.result c.m-item.result long c.first-item.is c.s-item.is c.r-item.is c.m-item.is in
     let words : map string_bytes c.args.words.now ≡ codes "threads" ∷ c.as_str-in-len4.result.now ∷ c.as_str-in-len4-2.result.now ∷ c.as_str-in-len4-3.result.now ∷ [] = rw same (search rules) in
-    spelt c.with_numbers.result _ _ words c.with_numbers.ensures.words
-
-pub returns-in-len4-clause-none : goal.returns-in-len4-clause-none
-returns-in-len4-clause-none c none asked range is =
-    let long : length c.args.words.now ≡ 4 = omega (arith, c.in-len4.len_at_least, c.in-len4.len_below) in
-    let same = four c.args.words.now c.first-item.result c.s-item.result c.r-item.result c.m-item.result long c.first-item.is c.s-item.is c.r-item.is c.m-item.is in
-    let words : map string_bytes c.args.words.now ≡ codes "threads" ∷ c.as_str-in-len4.result.now ∷ c.as_str-in-len4-2.result.now ∷ c.as_str-in-len4-3.result.now ∷ [] = rw same (search rules) in
-    no_command c.as_str-in-len4.result.now c.as_str-in-len4-2.result.now c.as_str-in-len4-3.result.now (c.with_numbers.ensures.none none) asked range (sym words ∙ is)
+    record {
+      words = spelt c.with_numbers.result _ _ words c.with_numbers.ensures.words;
+      range = c.with_numbers.ensures.range;
+      none = λ none asked range is. no_command c.as_str-in-len4.result.now c.as_str-in-len4-2.result.now c.as_str-in-len4-3.result.now (c.with_numbers.ensures.none none) asked range (sym words ∙ is);
+    }
