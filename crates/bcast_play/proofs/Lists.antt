@@ -115,10 +115,3 @@ run_opened run =
     let end = run.done refl in
     ap (λ c. is_some c.opening) end.1
     ∙ opened_by _ run.answered.lines run.answered.text run.last run.answered.answered (λ none. end.2 (sym run.answered.count ∙ none))
-
--- an ending is one of a run over lines, if it is one when no write failed
-pub unfailed_ends : (e : Ending) → (e ≢ OutputFailed → EndsLines e) → EndsLines e
-unfailed_ends Differ h = h (λ is. absurd (cc))
-unfailed_ends (WrongArguments program) h = h (λ is. absurd (cc))
-unfailed_ends NoThread h = h (λ is. absurd (cc))
-unfailed_ends e h = tt

@@ -1,4 +1,4 @@
--- Lemmas of lines on topics: their words, and the names of followers.
+-- Lemmas of lines on topics: the names of topics and of followers.
 use Rattle.std.proofs.Common.{◌≡◌, ◌≢◌, inl, inr, ⊎_elim, arith, List, ℕ, Bool, true, false, Option, Some, None, cond, refl, sym, is_some}
 use Rattle.std.specs.Option.{option_map}
 use Rattle.std.proofs.lemmas.Bool.{true≢false}
@@ -12,15 +12,7 @@ use Rattle.bcast_play.specs.TopicsLine.{word_of}
 use Rattle.bcast_play.specs.declared.hub.line.Line.{Line}
 use Rattle.bcast_play.specs.declared.hub.line.Line.TheVariants.{Open}
 
--- no word has a space
-plain_word : (line : Line) → is_plain (word_of line) ≡ true
-plain_word (Open topic n) = refl
-plain_word line = refl
-
-pub word_space : (line : Line) → Lacks 32 (word_of line)
-word_space line = plain_space (word_of line) (plain_word line)
-
--- nor has a topic's name
+-- a topic's name has no space
 pub topic_space : (word : List ℕ) → IsName word → Lacks 32 word
 topic_space word is i below e =
     ⊎_elim (λ h. omega (arith, h, e)) (λ more. ⊎_elim (λ h. omega (arith, h, e)) (λ h. omega (arith, h, e)) more)
