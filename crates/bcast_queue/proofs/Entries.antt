@@ -1,14 +1,12 @@
 -- A ring of entries, from one of which a reader is taken away.
-use Rattle.std.proofs.Common.{◌≡◌, ℕ, ◌+◌, ◌<◌, Some, List, length, map, set, get_or, slice_get, sum, ap, subst, sym, ◌∙◌, arith}
+use Rattle.std.proofs.Common.{◌≡◌, ℕ, ◌-◌, ◌<◌, Some, List, map, set, get_or, slice_get, ap, subst, sym, ◌∙◌, arith}
 use Rattle.std.specs.Option.{option_map}
 use Rattle.std.proofs.lemmas.List.{length-map, map-set, set-get_or}
-use Rattle.std.proofs.lemmas.List.Sums.{sum_by-set}
-use Rattle.std.proofs.lemmas.Option.{slice_get-map, get_or_from_slice_get}
+use Rattle.std.proofs.lemmas.Option.{slice_get-map, slice_get_within, get_or_from_slice_get}
 use Rattle.circular_buffer.specs.Buffer.{Buffer, buffer}
 use Rattle.bcast_queue.specs.declared.Entry.{Entry}
-use Rattle.bcast_queue.specs.Queue.{one_fewer_from}
-use Rattle.bcast_queue.specs.Entries.{message_of, next_of, owed_by, IsSound}
-use Rattle.bcast_queue.proofs.OwedBy.{owed_by-taken}
+use Rattle.bcast_queue.specs.Entries.{message_of, next_of, AreCounted, IsSound}
+use Rattle.bcast_queue.proofs.Unowed.{AreLeft, AreLeft-set}
 
 module _ {X : Type 0} where
   -- the count of an entry
@@ -21,9 +19,9 @@ module _ {X : Type 0} where
       ap (λ items. buffer items ring.capacity)
       (ap (set ring.items i) (sym (get_or_from_slice_get ring.items i e e at)) ∙ set-get_or ring.items i e)
 
-  pub sound-same : (front b total room : ℕ) (ring : Buffer (Entry X)) (i : ℕ) (e : Entry X) → IsSound front b total room ring → slice_get ring.items i ≡ Some e
-      → IsSound front b total room (buffer (set ring.items i e) ring.capacity)
-  sound-same front b total room ring i e sound at = subst (IsSound front b total room) (sym (same_ring ring i e at)) sound
+  pub sound-same : (front total room : ℕ) (ring : Buffer (Entry X)) (i : ℕ) (e : Entry X) → IsSound front total room ring → slice_get ring.items i ≡ Some e
+      → IsSound front total room (buffer (set ring.items i e) ring.capacity)
+  sound-same front total room ring i e sound at = subst (IsSound front total room) (sym (same_ring ring i e at)) sound
 
   -- an entry with another count has the same message
   pub messages-set : (items : List (Entry X)) (i : ℕ) (e new : Entry X) → slice_get items i ≡ Some e → new.message ≡ e.message → map message_of (set items i new) ≡ map message_of items
@@ -33,19 +31,11 @@ module _ {X : Type 0} where
       ∙ ap (set (map message_of items) i) (same ∙ sym (get_or_from_slice_get (map message_of items) i e.message e.message there))
       ∙ set-get_or (map message_of items) i e.message
 
-  -- the entry at this index has one reader fewer, or, at the first index, there is one fewer behind
-  pub record IsTaken (items : List (Entry X)) (i b c : ℕ) (e new : Entry X) : Type 0 where
-    pub within : i < length items
-    pub at : slice_get items i ≡ Some e
-    pub one : c + new.next + 1 ≡ b + e.next
-    pub later : 0 < i → c ≡ b
+  -- the entry with one reader fewer
+  abbrev pub fewer : Entry X → Entry X
+  fewer e = record { message = e.message; next = e.next - 1 }
 
-  pub owed-taken : (items : List (Entry X)) (i b c : ℕ) (e new : Entry X) → IsTaken items i b c e new → owed_by c (map next_of (set items i new)) ≡ one_fewer_from i (owed_by b (map next_of items))
-  owed-taken items i b c e new t =
-      ap (owed_by c) (map-set next_of items i new)
-      ∙ owed_by-taken b c i new.next (map next_of items) (omega (arith, t.within, length-map items next_of)) (omega (arith, t.one, next_at items i e t.at)) t.later
-
-  pub sum-taken : (items : List (Entry X)) (i b c : ℕ) (e new : Entry X) → IsTaken items i b c e new → c + sum (map next_of (set items i new)) + 1 ≡ b + sum (map next_of items)
-  sum-taken items i b c e new t =
-      let ns = map next_of items in
-      omega (arith, ap sum (map-set next_of items i new), sum_by-set (λ n. n) ns i new.next 0 (omega (arith, t.within, length-map items next_of)), next_at items i e t.at, t.one)
+  pub taken : (t : ℕ) (items : List (Entry X)) (i : ℕ) (e : Entry X) → AreCounted t (map next_of items) → slice_get items i ≡ Some e → 0 < e.next → AreLeft t i (map next_of items) (map next_of (set items i (fewer e)))
+  taken t items i e counted at some =
+      AreLeft-set t i (e.next - 1) (map next_of items) _ counted
+      (omega (arith, slice_get_within items i e at, length-map items next_of)) (omega (arith, some, next_at items i e at)) (map-set next_of items i (fewer e))

@@ -15,3 +15,5 @@ pub mod Entries
 pub mod Queues
 -- a message that several owe is read
 pub mod Reading
+-- the first message goes
+pub mod Popped

@@ -1,5 +1,5 @@
 -- Lists of counts that never fall.
-use Rattle.std.proofs.Common.{ℕ, zero, suc, ◌<◌, ◌≤◌, List, [], ◌∷◌, length, get_or, arith}
+use Rattle.std.proofs.Common.{ℕ, zero, suc, ◌<◌, ◌≤◌, List, [], ◌∷◌, length, drop, get_or, arith}
 use Rattle.std.specs.List.Sorted.{IsNonDecreasing}
 
 -- each count is at least the one before it, and the first at least `low`
@@ -13,6 +13,10 @@ RisesFrom-weaker a b (n ∷ ns) h r = (omega (arith, r.0), r.1)
 
 pub RisesFrom-rest : (low n : ℕ) (ns : List ℕ) → RisesFrom low (n ∷ ns) → RisesFrom low ns
 RisesFrom-rest low n ns r = RisesFrom-weaker low n ns r.0 r.1
+
+pub RisesFrom-drop : (low : ℕ) (ns : List ℕ) → RisesFrom low ns → RisesFrom low (drop 1 ns)
+RisesFrom-drop low [] r = tt
+RisesFrom-drop low (n ∷ ns) r = RisesFrom-rest low n ns r
 
 pub at_least : (low : ℕ) (ns : List ℕ) → RisesFrom low ns → (k d : ℕ) → k < length ns → low ≤ get_or ns k d
 at_least low [] r k d h = absurd (omega arith)

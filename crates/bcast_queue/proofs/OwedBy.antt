@@ -1,11 +1,11 @@
 -- How many readers owe each message, when the count of one message changes.
-use Rattle.std.proofs.Common.{◌≡◌, ℕ, zero, suc, ◌+◌, ◌-◌, ◌<◌, ◌≤◌, List, [], ◌∷◌, ◌++◌, length, map, get_or, set, Some, sum, refl, ap, ◌∙◌, arith}
+use Rattle.std.proofs.Common.{◌≡◌, ℕ, zero, suc, ◌+◌, ◌-◌, ◌<◌, ◌≤◌, List, [], ◌∷◌, ◌++◌, length, map, drop, get_or, set, Some, sum, refl, ap, sym, subst, ◌∙◌, arith}
 use Rattle.std.specs.Prelude.{slice_get}
 use Rattle.std.specs.Option.{ForSome}
 use Rattle.std.proofs.lemmas.List.Sums.{sum_by-cons}
 use Rattle.circular_buffer.specs.Buffer.{last_item}
 use Rattle.bcast_queue.specs.Queue.{one_more_from, one_fewer_from}
-use Rattle.bcast_queue.specs.Entries.{owed_by, AreCounted}
+use Rattle.bcast_queue.specs.Entries.{owed_by, more_from, AreCounted}
 use Rattle.bcast_queue.proofs.Owed.{RisesFrom}
 
 pub length-owed_by : (b : ℕ) (ns : List ℕ) → length (owed_by b ns) ≡ length ns
@@ -17,19 +17,19 @@ rises_by b [] = tt
 rises_by b (n ∷ ns) = (omega arith, rises_by (b + n) ns)
 
 -- if some reader owes the first message, each message is owed, and no later one by fewer
-pub RisesFrom-owed_by : (b : ℕ) (ns : List ℕ) → (0 < length ns → 0 < b + get_or ns 0 0) → RisesFrom 1 (owed_by b ns)
-RisesFrom-owed_by b [] some = tt
-RisesFrom-owed_by b (n ∷ ns) some = (omega (arith, some (omega arith)), rises_by (b + n) ns)
+pub RisesFrom-owed_by : (ns : List ℕ) → (0 < length ns → 0 < get_or ns 0 0) → RisesFrom 1 (owed_by 0 ns)
+RisesFrom-owed_by [] some = tt
+RisesFrom-owed_by (n ∷ ns) some = (omega (arith, some (omega arith)), rises_by (0 + n) ns)
 
-one_more : (b c : ℕ) (ns : List ℕ) → c ≡ b + 1 → owed_by c ns ≡ map (λ n. n + 1) (owed_by b ns)
-one_more b c [] e = refl
-one_more b c (n ∷ ns) e =
-    let head : c + n ≡ b + n + 1 = omega arith in
-    let rest = one_more (b + n) (c + n) ns head in
+-- so many readers more before the first message
+pub more_before : (b c r : ℕ) (ns : List ℕ) → c ≡ b + r → owed_by c ns ≡ map (λ n. n + r) (owed_by b ns)
+more_before b c r [] e = refl
+more_before b c r (n ∷ ns) e =
+    let head : c + n ≡ b + n + r = omega arith in
+    let rest = more_before (b + n) (c + n) r ns head in
     cc
 
--- one reader fewer behind the front
-pub one_fewer : (b c : ℕ) (ns : List ℕ) → c + 1 ≡ b → owed_by c ns ≡ map (λ n. n - 1) (owed_by b ns)
+one_fewer : (b c : ℕ) (ns : List ℕ) → c + 1 ≡ b → owed_by c ns ≡ map (λ n. n - 1) (owed_by b ns)
 one_fewer b c [] e = refl
 one_fewer b c (n ∷ ns) e =
     let more : c + n + 1 ≡ b + n = omega arith in
@@ -37,14 +37,14 @@ one_fewer b c (n ∷ ns) e =
     let rest = one_fewer (b + n) (c + n) ns more in
     cc
 
--- one reader more or fewer at an index is one more or fewer from there on
-pub owed_by-more : (b i m : ℕ) (ns : List ℕ) → i < length ns → m ≡ get_or ns i 0 + 1 → owed_by b (set ns i m) ≡ one_more_from i (owed_by b ns)
-owed_by-more b i m [] h e = absurd (omega arith)
-owed_by-more b zero m (n ∷ ns) h e =
-    let head : b + m ≡ b + n + 1 = omega arith in
-    let rest = one_more (b + n) (b + m) ns head in
+-- readers more or one fewer at an index are more or one fewer from there on
+pub owed_by-more : (b r i m : ℕ) (ns : List ℕ) → i < length ns → m ≡ get_or ns i 0 + r → owed_by b (set ns i m) ≡ more_from r i (owed_by b ns)
+owed_by-more b r i m [] h e = absurd (omega arith)
+owed_by-more b r zero m (n ∷ ns) h e =
+    let head : b + m ≡ b + n + r = omega arith in
+    let rest = more_before (b + n) (b + m) r ns head in
     cc
-owed_by-more b (suc i) m (n ∷ ns) h e = ap (λ xs. (b + n) ∷ xs) (owed_by-more (b + n) i m ns (omega arith) e)
+owed_by-more b r (suc i) m (n ∷ ns) h e = ap (λ xs. (b + n) ∷ xs) (owed_by-more (b + n) r i m ns (omega arith) e)
 
 pub owed_by-fewer : (b i m : ℕ) (ns : List ℕ) → i < length ns → m + 1 ≡ get_or ns i 0 → owed_by b (set ns i m) ≡ one_fewer_from i (owed_by b ns)
 owed_by-fewer b i m [] h e = absurd (omega arith)
@@ -55,29 +55,23 @@ owed_by-fewer b zero m (n ∷ ns) h e =
     cc
 owed_by-fewer b (suc i) m (n ∷ ns) h e = ap (λ xs. (b + n) ∷ xs) (owed_by-fewer (b + n) i m ns (omega arith) e)
 
--- a reader that is taken away, at the first index perhaps from behind, is one fewer from there on
-pub owed_by-taken : (b c i m : ℕ) (ns : List ℕ) → i < length ns → c + m + 1 ≡ b + get_or ns i 0 → (0 < i → c ≡ b) → owed_by c (set ns i m) ≡ one_fewer_from i (owed_by b ns)
-owed_by-taken b c i m [] h e same = absurd (omega arith)
-owed_by-taken b c zero m (n ∷ ns) h e same =
-    let head : c + m ≡ b + n - 1 = omega (arith, e) in
-    let rest = one_fewer (b + n) (c + m) ns e in
-    cc
-owed_by-taken b c (suc i) m (n ∷ ns) h e same =
-    let front : c ≡ b = same (omega arith) in
-    ap (λ k. owed_by k (set (n ∷ ns) (suc i) m)) front ∙ owed_by-fewer b (suc i) m (n ∷ ns) h (omega (arith, e, front))
-
 pub owed_by-push : (b n : ℕ) (ns : List ℕ) → owed_by b (ns ++ n ∷ []) ≡ owed_by b ns ++ (b + sum ns + n) ∷ []
 owed_by-push b n [] = let e : b + n ≡ b + 0 + n = omega arith in ap (λ x. x ∷ []) e
 owed_by-push b n (m ∷ ns) =
     let e : b + m + sum ns + n ≡ b + sum (m ∷ ns) + n = omega (arith, sum_by-cons (λ x. x) m ns) in
     ap (λ xs. (b + m) ∷ xs) (owed_by-push (b + m) n ns ∙ ap (λ x. owed_by (b + m) ns ++ x ∷ []) e)
 
+-- a message that goes leaves its count to the next
+pub owed_by-rest : (r : ℕ) (ns : List ℕ) → get_or ns 0 0 ≡ r → more_from r 0 (owed_by 0 (drop 1 ns)) ≡ drop 1 (owed_by 0 ns)
+owed_by-rest r [] e = refl
+owed_by-rest r (n ∷ ns) e = sym (more_before 0 (0 + n) r ns (omega (arith, e)))
+
 -- no index is changed from the length on
-pub one_more_from-end : (i : ℕ) (ns : List ℕ) → length ns ≤ i → one_more_from i ns ≡ ns
-one_more_from-end zero [] h = refl
-one_more_from-end zero (n ∷ ns) h = absurd (omega arith)
-one_more_from-end (suc i) [] h = refl
-one_more_from-end (suc i) (n ∷ ns) h = ap (λ xs. n ∷ xs) (one_more_from-end i ns (omega arith))
+pub more_from-end : (r i : ℕ) (ns : List ℕ) → length ns ≤ i → more_from r i ns ≡ ns
+more_from-end r zero [] h = refl
+more_from-end r zero (n ∷ ns) h = absurd (omega arith)
+more_from-end r (suc i) [] h = refl
+more_from-end r (suc i) (n ∷ ns) h = ap (λ xs. n ∷ xs) (more_from-end r i ns (omega arith))
 
 last_at : (b n : ℕ) (ns : List ℕ) → slice_get (owed_by b (n ∷ ns)) (length (owed_by (b + n) ns)) ≡ Some (b + sum (n ∷ ns))
 last_at b n [] = let e : b + n ≡ b + sum (n ∷ []) = omega (arith, sum_by-cons (λ x. x) n []) in ap Some e
@@ -91,18 +85,18 @@ last-owed_by b n ns =
     let at : suc (length (owed_by (b + n) ns)) - 1 ≡ length (owed_by (b + n) ns) = omega arith in
     ap (slice_get (owed_by b (n ∷ ns))) at ∙ last_at b n ns
 
-pub total_le : (b t top : ℕ) (ns : List ℕ) → AreCounted b t ns → ForSome (last_item (owed_by b ns)) (λ n. n ≤ top) → t ≤ top
-total_le b t top [] counted last = omega (arith, counted.empty refl)
-total_le b t top (n ∷ ns) counted last = omega (arith, counted.summed, last (b + sum (n ∷ ns)) (last-owed_by b n ns))
+pub sum_le : (top : ℕ) (ns : List ℕ) → ForSome (last_item (owed_by 0 ns)) (λ n. n ≤ top) → sum ns ≤ top
+sum_le top [] last = omega arith
+sum_le top (n ∷ ns) last = omega (arith, last (0 + sum (n ∷ ns)) (last-owed_by 0 n ns))
 
-pub total_lt : (b t top : ℕ) (ns : List ℕ) → 0 < top → AreCounted b t ns → ForSome (last_item (owed_by b ns)) (λ n. n < top) → t < top
-total_lt b t top [] some counted last = omega (arith, some, counted.empty refl)
-total_lt b t top (n ∷ ns) some counted last = omega (arith, counted.summed, last (b + sum (n ∷ ns)) (last-owed_by b n ns))
+pub sum_lt : (top : ℕ) (ns : List ℕ) → 0 < top → ForSome (last_item (owed_by 0 ns)) (λ n. n < top) → sum ns < top
+sum_lt top [] some last = omega (arith, some)
+sum_lt top (n ∷ ns) some last = omega (arith, last (0 + sum (n ∷ ns)) (last-owed_by 0 n ns))
 
 -- the first message of a queue that is appended to is owed
-pub first_owed : (b t n : ℕ) (ns : List ℕ) → AreCounted b t ns → 0 < t + n → 0 < b + get_or (ns ++ n ∷ []) 0 0
-first_owed b t n [] counted some = omega (arith, counted.summed, some)
-first_owed b t n (m ∷ ns) counted some = counted.owed (omega arith)
+pub first_owed : (t n : ℕ) (ns : List ℕ) → AreCounted t ns → 0 < t + n → 0 < get_or (ns ++ n ∷ []) 0 0
+first_owed t n [] counted some = omega (arith, counted.summed, some)
+first_owed t n (m ∷ ns) counted some = counted.owed (omega arith)
 
 -- a message is owed by more readers than the one before it if some reader reads it next
 pub next_owed : (b i : ℕ) (ns : List ℕ) → suc i < length ns → get_or (owed_by b ns) (suc i) 0 ≡ get_or (owed_by b ns) i 0 + get_or ns (suc i) 0
@@ -117,15 +111,19 @@ somebody_next b (suc i) ns within h above =
     let at : suc i - 1 ≡ i = omega arith in
     omega (arith, next_owed b i ns within, rw at at above)
 
-pub get_or-owed_by : (b : ℕ) (ns : List ℕ) → 0 < length ns → get_or (owed_by b ns) 0 0 ≡ b + get_or ns 0 0
-get_or-owed_by b [] h = absurd (omega arith)
-get_or-owed_by b (n ∷ ns) h = refl
+pub get_or-owed_by : (ns : List ℕ) → get_or (owed_by 0 ns) 0 0 ≡ get_or ns 0 0
+get_or-owed_by [] = refl
+get_or-owed_by (n ∷ ns) = omega arith
 
--- if a reader leaves behind the first message, the count of the first stays
-pub first_kept : (i : ℕ) (ns : List ℕ) → 0 < i → get_or (one_fewer_from i ns) 0 0 ≡ get_or ns 0 0
-first_kept zero ns h = absurd (omega arith)
-first_kept (suc i) [] h = refl
-first_kept (suc i) (n ∷ ns) h = refl
+-- some reader owes the first message if no message is owed by none
+pub first_of : (ns ms : List ℕ) → owed_by 0 ns ≡ ms → RisesFrom 1 ms → 0 < length ns → 0 < get_or ns 0 0
+first_of [] ms e r some = absurd (omega (arith, some))
+first_of (n ∷ ns) ms e r some = omega (arith, (subst (RisesFrom 1) (sym e) r).0)
+
+-- a reader is counted at a message that more owe than the one before it
+pub reader_of : (t i : ℕ) (ns : List ℕ) → AreCounted t ns → i < length ns → (0 < i → get_or (owed_by 0 ns) (i - 1) 0 < get_or (owed_by 0 ns) i 0) → 0 < get_or ns i 0
+reader_of t zero ns counted within before = counted.owed (omega (arith, within))
+reader_of t (suc i) ns counted within before = somebody_next 0 (suc i) ns within (omega arith) (before (omega arith))
 
 all_back : (low : ℕ) (ns : List ℕ) → 0 < low → RisesFrom low ns → map (λ n. n + 1) (map (λ n. n - 1) ns) ≡ ns
 all_back low [] h r = refl

@@ -1,16 +1,16 @@
 -- What the calls of a queue do to what a contract sees of it.
-use Rattle.std.proofs.Common.{◌≡◌, ◌≢◌, ℕ, zero, suc, ◌+◌, ◌-◌, ◌<◌, ◌≤◌, get_or, set, count_by, false, cond, eqb, [], ◌∷◌, drop, length, List, map, slice_get, sum, Some, refl, sym, ap, subst, ◌∙◌, arith, add-zero}
+use Rattle.std.proofs.Common.{◌≡◌, ◌≢◌, ℕ, zero, suc, ◌+◌, ◌-◌, ◌<◌, ◌≤◌, ◌^◌, get_or, set, count_by, false, cond, eqb, [], ◌∷◌, drop, length, List, slice_get, Some, refl, sym, ap, subst, ◌∙◌, arith, add-zero}
 use Rattle.std.proofs.lemmas.List.{length-map}
-use Rattle.std.proofs.lemmas.List.Sums.{sum_by-cons}
-use Rattle.std.proofs.lemmas.Option.{none-some, get_or_from_slice_get, slice_get-map}
+use Rattle.std.proofs.lemmas.Option.{slice_get-map}
 use Rattle.std.specs.Option.{option_map}
 use Rattle.circular_buffer.specs.Buffer.{Buffer}
 use Rattle.bcast_queue.specs.declared.Entry.{Entry}
 use Rattle.bcast_queue.specs.Queue.{one_fewer_from, Queued, queue_with, without, without_reader, read_at}
-use Rattle.bcast_queue.specs.Entries.{counts, next_of, message_of, owed_by, queue_of, IsSound}
+use Rattle.bcast_queue.specs.Entries.{counts, messages, next_of, message_of, owed_by, queue_of, AreCounted, IsSound}
 use Rattle.bcast_queue.proofs.Owed.{RisesFrom, at_least}
 use Rattle.bcast_queue.proofs.Front.{nobody, none_gone}
-use Rattle.bcast_queue.proofs.OwedBy.{RisesFrom-owed_by, length-owed_by}
+use Rattle.bcast_queue.proofs.Entries.{next_at}
+use Rattle.bcast_queue.proofs.OwedBy.{RisesFrom-owed_by, length-owed_by, get_or-owed_by, reader_of}
 use Rattle.bcast_queue.proofs.Unowed.{AreUnowed}
 
 -- at the end no reader leaves
@@ -37,34 +37,37 @@ module _ {X : Type 0} where
     pub rises : RisesFrom 1 q.owed
     pub lengths : length q.owed ≡ length q.messages
 
-  pub IsQueue-seen : (front behind total room : ℕ) (ring : Buffer (Entry X)) (q : Queued X) → IsSound front behind total room ring → queue_of front ring behind room ≡ q → IsQueue q
-  IsQueue-seen front behind total room ring q sound seen =
+  pub IsQueue-seen : (front total room : ℕ) (ring : Buffer (Entry X)) (q : Queued X) → IsSound front total room ring → queue_of front ring room ≡ q → IsQueue q
+  IsQueue-seen front total room ring q sound seen =
       subst IsQueue seen (record {
-        rises = RisesFrom-owed_by behind (counts ring) sound.counted.owed;
-        lengths = length-owed_by behind (counts ring) ∙ length-map ring.items next_of ∙ sym (length-map ring.items message_of);
+        rises = RisesFrom-owed_by (counts ring) sound.counted.owed;
+        lengths = length-owed_by 0 (counts ring) ∙ length-map ring.items next_of ∙ sym (length-map ring.items message_of);
       })
 
+  -- a reader is counted at a message that more owe than the one before it
+  pub reader_at : (front total room : ℕ) (ring : Buffer (Entry X)) (q : Queued X) (i : ℕ) → IsSound front total room ring → queue_of front ring room ≡ q → i < length ring.items → (0 < i → get_or q.owed (i - 1) 0 < get_or q.owed i 0) → 0 < get_or (counts ring) i 0
+  reader_at front total room ring q i sound seen inside before = reader_of total i (counts ring) sound.counted (omega (arith, inside, length-map ring.items next_of)) (rw (← seen) at before)
+
+  -- a ring of which messages may have gone
+  pub sound-kept : (front f total t room : ℕ) (ring after : Buffer (Entry X)) → IsSound front total room ring → AreCounted t (counts after) → f + length after.items < 2 ^ 64 → length (messages after) ≤ length (messages ring) → after.capacity ≡ ring.capacity → IsSound f t room after
+  sound-kept front f total t room ring after sound counted numbered fewer capacity =
+      record {
+        counted = counted;
+        numbered = numbered;
+        fits = omega (arith, fewer, length-map after.items message_of, length-map ring.items message_of, sound.fits);
+        has_room = omega (arith, capacity, sound.has_room);
+      }
+
   -- the message of an entry
-  pub message_at : (front behind room : ℕ) (ring : Buffer (Entry X)) (q : Queued X) (i : ℕ) (e : Entry X) → queue_of front ring behind room ≡ q → slice_get ring.items i ≡ Some e → slice_get q.messages i ≡ Some e.message
-  message_at front behind room ring q i e seen is =
+  pub message_at : (front room : ℕ) (ring : Buffer (Entry X)) (q : Queued X) (i : ℕ) (e : Entry X) → queue_of front ring room ≡ q → slice_get ring.items i ≡ Some e → slice_get q.messages i ≡ Some e.message
+  message_at front room ring q i e seen is =
       ap (λ (p : Queued X). slice_get p.messages i) (sym seen) ∙ slice_get-map message_of ring.items i ∙ ap (option_map message_of) is
 
   -- how many owe the first message, by its entry
-  first_owed : (behind : ℕ) (items : List (Entry X)) (e : Entry X) → slice_get items 0 ≡ Some e → get_or (owed_by behind (map next_of items)) 0 0 ≡ behind + e.next
-  first_owed behind [] e is = absurd (none-some e is)
-  first_owed behind (x ∷ xs) e is = ap (λ (y : Entry X). behind + y.next) (get_or_from_slice_get (x ∷ xs) 0 e e is)
-
-  pub owed_first : (front behind room : ℕ) (ring : Buffer (Entry X)) (q : Queued X) (i : ℕ) (e : Entry X) → queue_of front ring behind room ≡ q → slice_get ring.items i ≡ Some e → i ≡ 0 → get_or q.owed i 0 ≡ behind + e.next
-  owed_first front behind room ring q i e seen is first =
-      ap (λ (p : Queued X). get_or p.owed i 0) (sym seen) ∙ ap (λ j. get_or (owed_by behind (counts ring)) j 0) first
-      ∙ first_owed behind ring.items e (ap (slice_get ring.items) (sym first) ∙ is)
-
-  -- these are no more than all owing readers
-  pub first_fits : (behind : ℕ) (items : List (Entry X)) (e : Entry X) → slice_get items 0 ≡ Some e → behind + e.next ≤ behind + sum (map next_of items)
-  first_fits behind [] e is = absurd (none-some e is)
-  first_fits behind (x ∷ xs) e is =
-      let first = ap (λ (y : Entry X). y.next) (get_or_from_slice_get (x ∷ xs) 0 e e is) in
-      omega (arith, first, sum_by-cons (λ n. n) x.next (map next_of xs))
+  pub owed_first : (front room : ℕ) (ring : Buffer (Entry X)) (q : Queued X) (i : ℕ) (e : Entry X) → queue_of front ring room ≡ q → slice_get ring.items i ≡ Some e → i ≡ 0 → get_or q.owed i 0 ≡ e.next
+  owed_first front room ring q i e seen is first =
+      ap (λ (p : Queued X). get_or p.owed i 0) (sym seen) ∙ ap (λ j. get_or (owed_by 0 (counts ring)) j 0) first
+      ∙ get_or-owed_by (counts ring) ∙ next_at ring.items 0 e (ap (slice_get ring.items) (sym first) ∙ is)
 
   -- a message that isn't the first is owed by several readers
   pub owed_more : (q : Queued X) (i : ℕ) → IsQueue q → i < length q.messages → (0 < i → get_or q.owed (i - 1) 0 < get_or q.owed i 0) → (i ≡ 0 → get_or q.owed i 0 ≢ 1) → 1 < get_or q.owed i 0

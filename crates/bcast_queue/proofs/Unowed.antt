@@ -1,12 +1,28 @@
--- The messages at the front that no reader owes any more.
-use Rattle.std.proofs.Common.{◌≡◌, ℕ, suc, ◌+◌, ◌<◌, List, [], ◌∷◌, length, drop, get_or, sum, Bool, true, false, cond, count_by, refl, ap, subst, ◌∙◌, arith}
+-- What a reader that leaves owes no more, and the messages at the front that no reader owes then.
+use Rattle.std.proofs.Common.{◌≡◌, ℕ, suc, ◌+◌, ◌<◌, List, [], ◌∷◌, length, drop, get_or, set, sum, Bool, true, false, cond, count_by, refl, ap, subst, ◌∙◌, arith}
 use Rattle.std.specs.List.{prefix_len}
-use Rattle.std.proofs.lemmas.List.Sums.{sum_by-cons}
-use Rattle.bcast_queue.specs.Entries.{owed_by}
+use Rattle.std.proofs.lemmas.List.{get_or-set_other}
+use Rattle.std.proofs.lemmas.List.Sums.{sum_by-cons, sum_by-set}
+use Rattle.bcast_queue.specs.Queue.{one_fewer_from}
+use Rattle.bcast_queue.specs.Entries.{owed_by, AreCounted}
 use Rattle.bcast_queue.proofs.Front.{nobody, none_gone, count_head}
-use Rattle.bcast_queue.proofs.OwedBy.{RisesFrom-owed_by}
+use Rattle.bcast_queue.proofs.OwedBy.{RisesFrom-owed_by, owed_by-fewer}
 
--- the first k messages are those that no reader owes, if no reader is behind the front
+-- the counts that are left of `ns` when a reader that is counted at the index i leaves
+pub record AreLeft (t i : ℕ) (ns ms : List ℕ) : Type 0 where
+  pub owed : owed_by 0 ms ≡ one_fewer_from i (owed_by 0 ns)
+  pub summed : t ≡ sum ms + 1
+  pub first : 0 < i → 0 < get_or ms 0 0
+
+pub AreLeft-set : (t i m : ℕ) (ns ms : List ℕ) → AreCounted t ns → i < length ns → m + 1 ≡ get_or ns i 0 → ms ≡ set ns i m → AreLeft t i ns ms
+AreLeft-set t i m ns ms counted within fewer is =
+    record {
+      owed = ap (owed_by 0) is ∙ owed_by-fewer 0 i m ns within fewer;
+      summed = omega (arith, ap sum is, sum_by-set (λ n. n) ns i m 0 within, fewer, counted.summed);
+      first = λ later. omega (arith, ap (λ ls. get_or ls 0 0) is, get_or-set_other ns i 0 m 0 (λ same. omega (arith, same, later)), counted.owed (omega (arith, within)));
+    }
+
+-- the first k messages are those that no reader owes
 pub record AreUnowed (ns : List ℕ) (k : ℕ) : Type 0 where
   pub gone : count_by nobody (owed_by 0 ns) ≡ k
   pub owed : drop k (owed_by 0 ns) ≡ owed_by 0 (drop k ns)
@@ -30,7 +46,7 @@ AreUnowed-if n k ns rest true is =
 AreUnowed-if n k ns rest false is =
     let some : 0 < n = grind (arith, is) in
     record {
-      gone = none_gone 1 (owed_by 0 (n ∷ ns)) (omega arith) (RisesFrom-owed_by 0 (n ∷ ns) (λ _. omega (arith, some)));
+      gone = none_gone 1 (owed_by 0 (n ∷ ns)) (omega arith) (RisesFrom-owed_by (n ∷ ns) (λ _. omega (arith, some)));
       owed = refl;
       summed = refl;
       first = λ _. some;
@@ -40,7 +56,3 @@ AreUnowed-if n k ns rest false is =
 pub AreUnowed-front : (ns : List ℕ) → AreUnowed ns (prefix_len nobody ns)
 AreUnowed-front [] = record { gone = refl; owed = refl; summed = refl; first = λ h. absurd (omega arith) }
 AreUnowed-front (n ∷ ns) = AreUnowed-if n (prefix_len nobody ns) ns (AreUnowed-front ns) (nobody n) refl
-
-pub sum-none : (ns : List ℕ) → length ns ≡ 0 → sum ns ≡ 0
-sum-none [] h = refl
-sum-none (n ∷ ns) h = absurd (omega (arith, h))

@@ -2,8 +2,7 @@
 ghost use Rattle.std.specs.Prelude.{◌≡◌, ◌+◌, ◌-◌, ◌<◌, ◌≤◌, ◌^◌, ◌==◌, drop, sum, length};
 ghost use Rattle.std.specs.Prelude.{slice_index, slice_set};
 ghost use Rattle.std.specs.List.{prefix_len};
-ghost use Rattle.bcast_queue.specs.Queue.{one_more_from, one_fewer_from};
-ghost use Rattle.bcast_queue.specs.Entries.{counts, messages, owed_by};
+ghost use Rattle.bcast_queue.specs.Entries.{counts, messages, owed_by, more_from};
 
 use crate::{Counter, Entry};
 use circular_buffer::HeapCircularBuffer;
@@ -54,83 +53,34 @@ pub(crate) fn count_at<T, A: Allocator, C: Counter>(
     entry.next
 }
 
-// Adds a reader, who is in the total already, at the message at `index`. If there are not so many,
-// the reader owes nothing, and leaves the total.
+// Adds readers, who are in the total already, at the message at `index`. If there are not so many,
+// they owe nothing, and leave the total.
 #[inline(always)]
-pub(crate) fn read_next<T, A: Allocator, C: Counter>(
+pub(crate) fn add_readers<T, A: Allocator, C: Counter>(
     ring: &mut HeapCircularBuffer<Entry<T>, A>,
-    behind: usize,
     total: &mut usize,
     index: usize,
+    readers: usize,
     steps: &mut C,
 )
-    requires summed { total.old ≡ behind + sum (counts ring.old) + 1 }
+    requires summed { total.old ≡ sum (counts ring.old) + readers }
     requires fits { total.old < 2 ^ 64 }
-    ensures owed { owed_by behind (counts ring.new)
-        ≡ one_more_from index (owed_by behind (counts ring.old)) }
-    ensures summed { total.new ≡ behind + sum (counts ring.new) }
+    ensures owed { owed_by 0 (counts ring.new)
+        ≡ more_from readers index (owed_by 0 (counts ring.old)) }
+    ensures summed { total.new ≡ sum (counts ring.new) }
     ensures messages { messages ring.new ≡ messages ring.old }
     ensures capacity { ring.new.capacity ≡ ring.old.capacity }
     ensures steps { C.total steps.new ≤ C.total steps.old + 1 }
 {
     if index < ring.len() {
-        change_at(ring, index, 1, 0, steps);
+        change_at(ring, index, readers, 0, steps);
     } else {
-        *total -= 1;
+        *total -= readers;
     }
 }
 
-// Takes a reader away from this message, which is at `index`. From the first message it takes one
-// that is behind it, if there is one.
-#[inline(always)]
-pub(crate) fn take_reader<T>(entry: &mut Entry<T>, behind: &mut usize, index: usize)
-    requires next { 0 < index → 0 < entry.old.next }
-    requires first { 0 < behind.old + entry.old.next }
-    ensures one { behind.new + entry.new.next + 1 ≡ behind.old + entry.old.next }
-    ensures later { 0 < index → behind.new ≡ behind.old }
-    ensures message { entry.new.message ≡ entry.old.message }
-{
-    if index == 0 && *behind > 0 {
-        *behind -= 1;
-    } else {
-        entry.next -= 1;
-    }
-}
-
-// Takes a reader away from the message at `index` and from those behind it, and returns how many
-// read that message next.
-#[inline(always)]
-pub(crate) fn take_reader_at<T, A: Allocator, C: Counter>(
-    ring: &mut HeapCircularBuffer<Entry<T>, A>,
-    behind: &mut usize,
-    total: &mut usize,
-    index: usize,
-    steps: &mut C,
-) -> usize
-    requires within { index < length ring.old.items }
-    requires summed { total.old ≡ behind.old + sum (counts ring.old) }
-    requires next { 0 < index → 0 < slice_index (counts ring.old) index }
-    requires first { 0 < behind.old + slice_index (counts ring.old) 0 }
-    ensures value { result ≡ slice_index (counts ring.new) index }
-    ensures owed { owed_by behind.new (counts ring.new)
-        ≡ one_fewer_from index (owed_by behind.old (counts ring.old)) }
-    ensures summed { total.new ≡ behind.new + sum (counts ring.new) }
-    ensures total { total.new + 1 ≡ total.old }
-    ensures messages { messages ring.new ≡ messages ring.old }
-    ensures capacity { ring.new.capacity ≡ ring.old.capacity }
-    ensures steps { C.total steps.new ≤ C.total steps.old + 1 }
-{
-    let Some(entry) = ring.get_mut(index) else {
-        unreachable!()
-    };
-    steps.count();
-    take_reader(entry, behind, index);
-    *total -= 1;
-    entry.next
-}
-
-// Drops the messages at the front that no reader reads next, if no reader is behind them. `next`
-// is how many read the first message next.
+// Drops the messages at the front that no reader reads next. `next` is how many read the first
+// message next.
 pub(crate) fn drop_unowed<T: Drop, A: Allocator, C: Counter>(
     ring: &mut HeapCircularBuffer<Entry<T>, A>,
     front: &mut u64,

@@ -8,6 +8,7 @@ ghost use Rattle.std.specs.Option.{ForSome, option_copied};
 ghost use Rattle.bcast_queue.specs.Queue.{last_item, queue_with, without};
 
 use circular_buffer::HeapCircularBuffer;
+use counts::add_readers;
 use std::alloc::{AllocError, Allocator, Global};
 use std::marker::Model;
 pub use steps::{Counter, Steps, Uncounted};
@@ -31,15 +32,14 @@ pub struct Queue<T, A: Allocator = Global> {
     ring: HeapCircularBuffer<Entry<T>, A>,
     // The number of the first message, or of the next one if there is none.
     front: u64,
-    // How many owing readers are behind the front: they read a message next that is gone.
-    behind: usize,
     // How many owing readers there are.
     total: usize,
     // How many messages fit. The ring may have room for more.
     room: usize,
 }
 
-// A message, and how many readers read it next.
+// A message, and how many readers read it next. Those that read a message next that is gone are
+// counted at the first one.
 #[derive(Drop)]
 struct Entry<T> {
     message: T,
@@ -55,9 +55,9 @@ impl<T, A: Allocator> Model for Queue<T, A> {
 
     ghost use Rattle.bcast_queue.specs.Entries.{queue_of, IsSound};
 
-    ghost view = { λ q. queue_of q.front q.ring q.behind q.room };
+    ghost view = { λ q. queue_of q.front q.ring q.room };
 
-    ghost invariant = { λ q. IsSound q.front q.behind q.total q.room q.ring };
+    ghost invariant = { λ q. IsSound q.front q.total q.room q.ring };
 }
 
 impl<T, A: Allocator> Queue<T, A> {
@@ -80,7 +80,6 @@ impl<T, A: Allocator> Queue<T, A> {
         Ok(Queue {
             ring,
             front: first,
-            behind: 0,
             total: 0,
             room,
         })
@@ -211,14 +210,8 @@ impl<T, A: Allocator> Queue<T, A> {
         ensures steps { C.total steps.new ≤ C.total steps.old + 1 }
     {
         let entry = self.ring.pop_front()?;
-        steps.count();
         self.front += 1;
-        if self.ring.is_empty() {
-            self.behind = 0;
-            self.total = 0;
-        } else {
-            self.behind += entry.next;
-        }
+        add_readers(&mut self.ring, &mut self.total, 0, entry.next, steps);
         Some(entry.message)
     }
 }

@@ -5,7 +5,7 @@ ghost use Rattle.std.specs.Option.{ForSome, IsSomeAnd};
 ghost use Rattle.std.specs.Result.{IsOkAnd};
 ghost use Rattle.bcast_queue.specs.Queue.{last_item, with_reader, without_reader, read_at};
 
-use crate::counts::{drop_unowed, read_next, take_reader, take_reader_at};
+use crate::counts::{add_readers, change_at, drop_unowed};
 use crate::{Counter, Queue};
 use std::alloc::{AllocError, Allocator};
 
@@ -22,7 +22,7 @@ impl<T, A: Allocator> Queue<T, A> {
         ensures steps { C.total steps.new ≤ C.total steps.old + 1 }
     {
         self.total += 1;
-        read_next(&mut self.ring, self.behind, &mut self.total, index, steps);
+        add_readers(&mut self.ring, &mut self.total, index, 1, steps);
     }
 }
 
@@ -44,14 +44,9 @@ impl<T: Drop, A: Allocator> Queue<T, A> {
         if index >= self.ring.len() {
             return;
         }
-        let next = take_reader_at(
-            &mut self.ring,
-            &mut self.behind,
-            &mut self.total,
-            index,
-            steps,
-        );
-        if index == 0 && self.behind == 0 {
+        let next = change_at(&mut self.ring, index, 0, 1, steps);
+        self.total -= 1;
+        if index == 0 {
             drop_unowed(&mut self.ring, &mut self.front, next, steps);
         }
     }
@@ -89,21 +84,15 @@ impl<T: Clone, A: Allocator> Queue<T, A> {
             unreachable!()
         };
         steps.count();
-        if index == 0 && self.behind + entry.next == 1 {
+        if index == 0 && entry.next == 1 {
             let Some(message) = self.pop(steps) else {
                 unreachable!()
             };
             return Ok(message);
         }
         let message = entry.message.clone()?;
-        take_reader(entry, &mut self.behind, index);
-        read_next(
-            &mut self.ring,
-            self.behind,
-            &mut self.total,
-            index + 1,
-            steps,
-        );
+        entry.next -= 1;
+        add_readers(&mut self.ring, &mut self.total, index + 1, 1, steps);
         Ok(message)
     }
 }

@@ -20,7 +20,7 @@ pub trait Counter {
         ensures exact { counts ≡ true → total self.new ≡ total self.old + 1 };
 }
 
-/// A count of steps that takes no bytes. A queue counts how many counts of messages it reads or
+/// A count of steps that takes no bytes. A queue counts how many counts in its ring it reads or
 /// changes, and a channel how often a receive looks for a message.
 #[derive(Drop)]
 pub struct Steps<L: Ledger> {

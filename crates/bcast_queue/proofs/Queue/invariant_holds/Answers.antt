@@ -9,10 +9,10 @@ use Rattle.bcast_queue.proofs.Queue.invariant_holds.Goals as goal
 pub returns-clause-lengths : goal.returns-clause-lengths
 returns-clause-lengths g c =
     let ring = c.self.inside.ring in
-    rw (← c.self.view_is) (length-owed_by c.self.inside.behind (counts ring) ∙ length-map ring.items next_of ∙ sym (length-map ring.items message_of))
+    rw (← c.self.view_is) (length-owed_by 0 (counts ring) ∙ length-map ring.items next_of ∙ sym (length-map ring.items message_of))
 
 pub returns-clause-owed : goal.returns-clause-owed
-returns-clause-owed g c = rw (← c.self.view_is) (λ k d h. at_least 1 _ (RisesFrom-owed_by c.self.inside.behind (counts c.self.inside.ring) c.self.invariant.counted.owed) k d h)
+returns-clause-owed g c = rw (← c.self.view_is) (λ k d h. at_least 1 _ (RisesFrom-owed_by (counts c.self.inside.ring) c.self.invariant.counted.owed) k d h)
 
 pub returns-clause-never_falls : goal.returns-clause-never_falls
-returns-clause-never_falls g c = rw (← c.self.view_is) (IsNonDecreasing-from_rises 1 _ (RisesFrom-owed_by c.self.inside.behind (counts c.self.inside.ring) c.self.invariant.counted.owed))
+returns-clause-never_falls g c = rw (← c.self.view_is) (IsNonDecreasing-from_rises 1 _ (RisesFrom-owed_by (counts c.self.inside.ring) c.self.invariant.counted.owed))

@@ -3,17 +3,17 @@ use Rattle.std.proofs.Common.{◌≡◌, ◌++◌, ◌∷◌, [], ◌-◌, ◌+�
 use Rattle.std.proofs.lemmas.List.{map_push, length-map, length_push}
 use Rattle.std.proofs.lemmas.List.Sums.{sum_by_push}
 use Rattle.bcast_queue.specs.Entries.{message_of, next_of, messages, counts, owed_by}
-use Rattle.bcast_queue.proofs.OwedBy.{total_le, owed_by-push, first_owed}
+use Rattle.bcast_queue.proofs.OwedBy.{sum_le, owed_by-push, first_owed}
 use Rattle.bcast_queue.proofs.Queues.{same_queue}
 use Rattle.bcast_queue.proofs.Queue.push.Goals as goal
 
 pub overflow_sub-next : goal.overflow_sub-next
 overflow_sub-next g c =
-    total_le c.self.inside.behind c.self.inside.total c.args.owing (counts c.self.inside.ring) c.self.invariant.counted (rw (← c.self.view_is) at c.requires.never_falls)
+    omega (arith, sum_le c.args.owing (counts c.self.inside.ring) (rw (← c.self.view_is) at c.requires.never_falls), c.self.invariant.counted.summed)
 
-sum_is : (g : _) (c : goal.After-self-1 g) → sum (counts c.self.inside.ring) + (c.args.owing - c.self.inside.total) + c.self.inside.behind ≡ c.args.owing
+sum_is : (g : _) (c : goal.After-self-1 g) → sum (counts c.self.inside.ring) + (c.args.owing - c.self.inside.total) ≡ c.args.owing
 sum_is g c =
-    let enough = total_le c.self.inside.behind c.self.inside.total c.args.owing (counts c.self.inside.ring) c.self.invariant.counted (rw (← c.self.view_is) at c.requires.never_falls) in
+    let enough = sum_le c.args.owing (counts c.self.inside.ring) (rw (← c.self.view_is) at c.requires.never_falls) in
     omega (arith, enough, c.self.invariant.counted.summed)
 
 pub invariant_of-self : goal.invariant_of-self
@@ -28,8 +28,7 @@ invariant_of-self g c =
     (record {
       counted = rw map_push (record {
         summed = omega (arith, sum_is g c, sum_by_push (λ x. x) ns n);
-        owed = λ _. first_owed c.self.inside.behind c.self.inside.total n ns c.self.invariant.counted (omega (arith, c.requires.owed));
-        empty = λ none. absurd (omega (arith, none, length_push ns n));
+        owed = λ _. first_owed c.self.inside.total n ns c.self.invariant.counted (omega (arith, c.requires.owed));
       });
       numbered = omega (arith, numbered, long, length-map items message_of);
       fits = omega (arith, fits, long, length-map items message_of);
@@ -39,12 +38,11 @@ invariant_of-self g c =
 pub returns-clause-pushed : goal.returns-clause-pushed
 returns-clause-pushed g c =
     let ring = c.self.inside.ring in
-    let behind = c.self.inside.behind in
     let n = c.args.owing - c.self.inside.total in
-    let last : behind + sum (counts ring) + n ≡ c.args.owing = omega (arith, sum_is g c) in
+    let last : 0 + sum (counts ring) + n ≡ c.args.owing = omega (arith, sum_is g c) in
     same_queue _ _ _ _ _ _ _ _
     (ap (λ q. q.front) c.self.view_is)
     (ap messages c.in-Ok.ensures.ok ∙ map_push message_of ring.items _ ∙ ap (λ q. q.messages ++ c.args.msg ∷ []) c.self.view_is)
-    (ap (λ b. owed_by behind (counts b)) c.in-Ok.ensures.ok ∙ ap (owed_by behind) (map_push next_of ring.items _) ∙ owed_by-push behind n (counts ring)
-    ∙ ap (λ m. owed_by behind (counts ring) ++ m ∷ []) last ∙ ap (λ q. q.owed ++ c.args.owing ∷ []) c.self.view_is)
+    (ap (λ b. owed_by 0 (counts b)) c.in-Ok.ensures.ok ∙ ap (owed_by 0) (map_push next_of ring.items _) ∙ owed_by-push 0 n (counts ring)
+    ∙ ap (λ m. owed_by 0 (counts ring) ++ m ∷ []) last ∙ ap (λ q. q.owed ++ c.args.owing ∷ []) c.self.view_is)
     (ap (λ q. q.room) c.self.view_is)

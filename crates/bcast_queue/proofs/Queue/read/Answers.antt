@@ -1,27 +1,21 @@
 -- A message that one reader owes is the first, and leaves; of one that several owe a clone is given.
-use Rattle.std.proofs.Common.{Result, Ok, Err, OnErr, ◌≡◌, ◌<◌, length, Some, ap, ◌∙◌, sym, get_or, slice_get, arith}
+use Rattle.std.proofs.Common.{Result, Ok, Err, OnErr, ◌≡◌, ◌<◌, Some, ap, ◌∙◌, sym, get_or, slice_get, arith}
 use Rattle.std.specs.Option.{option_copied_mut}
-use Rattle.std.proofs.lemmas.List.{length-map}
+use Rattle.std.proofs.lemmas.Option.{slice_get_within}
 use Rattle.std.proofs.lemmas.Result.{IfOk-from_err}
 use Rattle.bcast_queue.specs.Queue.{without}
-use Rattle.bcast_queue.specs.Entries.{messages, message_of, queue_of}
-use Rattle.bcast_queue.proofs.Entries.{IsTaken, same_ring, sound-same, sum-taken}
-use Rattle.bcast_queue.proofs.Queues.{IsQueue-seen, message_at, owed_first, first_fits, owed_more}
-use Rattle.bcast_queue.proofs.Reading.{MovesOn, somebody_reads, sound-moved, read-moved}
+use Rattle.bcast_queue.specs.Entries.{messages, queue_of}
+use Rattle.bcast_queue.proofs.Entries.{next_at, same_ring, sound-same, taken}
+use Rattle.bcast_queue.proofs.Queues.{IsQueue-seen, reader_at, message_at, owed_first, owed_more}
+use Rattle.bcast_queue.proofs.Reading.{MovesOn, sound-moved, read-moved}
 use Rattle.bcast_queue.proofs.Queue.read.Goals as goal
-use Rattle.bcast_queue.proofs.Queue.read.Goals.{Then-self-entry-eq1, After-clone, After-take_reader, After-read_next, else-index-eq0-via-then-index-eq0+else-self-entry-eq1, else-index-eq0-via-else-index-eq0}
-
-pub overflow_add-self-inside : goal.overflow_add-self-inside
-overflow_add-self-inside g c =
-    let s = c.self.inside in
-    let first = ap (slice_get s.ring.items) (sym c.if-index-eq0.true) ∙ (sym c.get_mut.ensures.value ∙ ap option_copied_mut c.in-Some.is) in
-    omega (arith, first_fits s.behind s.ring.items c.in-Some.entry.now first, c.self.invariant.counted.summed)
+use Rattle.bcast_queue.proofs.Queue.read.Goals.{Then-entry-eq1, After-clone, After-add_readers, else-index-eq0-via-then-index-eq0+else-entry-eq1, else-index-eq0-via-else-index-eq0}
 
 -- one reader owes the message
-once : (g : _) (c : Then-self-entry-eq1 g) → get_or c.args.self.now.owed c.args.index 0 ≡ 1
+once : (g : _) (c : Then-entry-eq1 g) → get_or c.args.self.now.owed c.args.index 0 ≡ 1
 once g c =
-    owed_first _ _ _ c.self.inside.ring c.args.self.now c.args.index c.in-Some.entry.now c.self.view_is (sym c.get_mut.ensures.value ∙ ap option_copied_mut c.in-Some.is) c.if-index-eq0.true
-    ∙ c.if-self-entry-eq1.true
+    owed_first _ _ c.self.inside.ring c.args.self.now c.args.index c.in-Some.entry.now c.self.view_is (sym c.get_mut.ensures.value ∙ ap option_copied_mut c.in-Some.is) c.if-index-eq0.true
+    ∙ c.if-entry-eq1.true
 
 -- several do
 several : (g : _) (c : After-clone g) → 1 < get_or c.args.self.now.owed c.args.index 0
@@ -30,41 +24,41 @@ several g c =
     let q = c.args.self.now in
     let i = c.args.index in
     let at = (sym c.get_mut.ensures.value ∙ ap option_copied_mut c.in-Some.is) in
-    owed_more q i (IsQueue-seen _ _ _ _ _ q c.self.invariant c.self.view_is) c.requires.within c.requires.owed
+    owed_more q i (IsQueue-seen _ _ _ _ q c.self.invariant c.self.view_is) c.requires.within c.requires.owed
     (elim c.else-index-eq0.branch [
-      | else-index-eq0-via-then-index-eq0+else-self-entry-eq1 w ↦ λ first one. w.if-self-entry-eq1.false (sym (owed_first s.front s.behind s.room s.ring q i c.in-Some.entry.now c.self.view_is at first) ∙ one)
+      | else-index-eq0-via-then-index-eq0+else-entry-eq1 w ↦ λ first one. w.if-entry-eq1.false (sym (owed_first s.front s.room s.ring q i c.in-Some.entry.now c.self.view_is at first) ∙ one)
       | else-index-eq0-via-else-index-eq0 w ↦ λ first. absurd (w.if-index-eq0.false first)
     ])
 
 message : (g : _) (c : After-clone g) → slice_get c.args.self.now.messages c.args.index ≡ Some c.in-Some.entry.now.message
 message g c =
-    message_at _ _ _ c.self.inside.ring c.args.self.now c.args.index c.in-Some.entry.now c.self.view_is (sym c.get_mut.ensures.value ∙ ap option_copied_mut c.in-Some.is)
+    message_at _ _ c.self.inside.ring c.args.self.now c.args.index c.in-Some.entry.now c.self.view_is (sym c.get_mut.ensures.value ∙ ap option_copied_mut c.in-Some.is)
 
 -- the ring, of which an entry was lent and has not changed
 pub invariant_of-self : goal.invariant_of-self
-invariant_of-self g c = sound-same _ _ _ _ _ c.args.index c.in-Some.entry.now c.self.invariant (sym c.get_mut.ensures.value ∙ ap option_copied_mut c.in-Some.is)
+invariant_of-self g c = sound-same _ _ _ _ c.args.index c.in-Some.entry.now c.self.invariant (sym c.get_mut.ensures.value ∙ ap option_copied_mut c.in-Some.is)
 
 pub invariant_of-self-in_err-message : goal.invariant_of-self-in_err-message
-invariant_of-self-in_err-message g c = sound-same _ _ _ _ _ c.args.index c.in-Some.entry.now c.self.invariant (sym c.get_mut.ensures.value ∙ ap option_copied_mut c.in-Some.is)
+invariant_of-self-in_err-message g c = sound-same _ _ _ _ c.args.index c.in-Some.entry.now c.self.invariant (sym c.get_mut.ensures.value ∙ ap option_copied_mut c.in-Some.is)
 
-pub returns-then-self-entry-eq1-clause-moved : goal.returns-then-self-entry-eq1-clause-moved
-returns-then-self-entry-eq1-clause-moved g c = λ one.
+pub returns-then-entry-eq1-clause-moved : goal.returns-then-entry-eq1-clause-moved
+returns-then-entry-eq1-clause-moved g c = λ one.
     let s = c.self.inside in
     ap (slice_get c.args.self.now.messages) c.if-index-eq0.true
     ∙ ap (λ q. slice_get q.messages 0) (sym c.self.view_is)
     ∙ ap (λ ring. slice_get (messages ring) 0) (sym (same_ring s.ring c.args.index c.in-Some.entry.now (sym c.get_mut.ensures.value ∙ ap option_copied_mut c.in-Some.is)))
     ∙ sym c.in-Some-pop.ensures.value
 
-pub returns-then-self-entry-eq1-clause-cloned : goal.returns-then-self-entry-eq1-clause-cloned
-returns-then-self-entry-eq1-clause-cloned g c =
-    let at = (goal.at.returns-then-self-entry-eq1-clause-cloned g c).Then-self-entry-eq1 in
+pub returns-then-entry-eq1-clause-cloned : goal.returns-then-entry-eq1-clause-cloned
+returns-then-entry-eq1-clause-cloned g c =
+    let at = (goal.at.returns-then-entry-eq1-clause-cloned g c).Then-entry-eq1 in
     λ more. absurd (omega (arith, more, once g at))
 
-pub returns-then-self-entry-eq1-clause-ok : goal.returns-then-self-entry-eq1-clause-ok
-returns-then-self-entry-eq1-clause-ok g c =
+pub returns-then-entry-eq1-clause-ok : goal.returns-then-entry-eq1-clause-ok
+returns-then-entry-eq1-clause-ok g c =
     let s = c.self.inside in
-    let here = (goal.at.returns-then-self-entry-eq1-clause-ok g c).Then-self-entry-eq1 in
-    let seen = ap (λ ring. queue_of s.front ring s.behind s.room) (same_ring s.ring c.args.index c.in-Some.entry.now (sym c.get_mut.ensures.value ∙ ap option_copied_mut c.in-Some.is)) ∙ c.self.view_is in
+    let here = (goal.at.returns-then-entry-eq1-clause-ok g c).Then-entry-eq1 in
+    let seen = ap (λ ring. queue_of s.front ring s.room) (same_ring s.ring c.args.index c.in-Some.entry.now (sym c.get_mut.ensures.value ∙ ap option_copied_mut c.in-Some.is)) ∙ c.self.view_is in
     rw (once g here) (c.in-Some-pop.ensures.some ∙ ap (without 1) seen)
 
 pub returns-in_err-message-clause-moved : goal.returns-in_err-message-clause-moved
@@ -84,7 +78,7 @@ pub returns-in_err-message-clause-err : goal.returns-in_err-message-clause-err
 returns-in_err-message-clause-err g c =
     let s = c.self.inside in
     on_err c.from_residual.result
-    (ap (λ ring. queue_of s.front ring s.behind s.room) (same_ring s.ring c.args.index c.in-Some.entry.now (sym c.get_mut.ensures.value ∙ ap option_copied_mut c.in-Some.is)) ∙ c.self.view_is)
+    (ap (λ ring. queue_of s.front ring s.room) (same_ring s.ring c.args.index c.in-Some.entry.now (sym c.get_mut.ensures.value ∙ ap option_copied_mut c.in-Some.is)) ∙ c.self.view_is)
 
 pub returns-in_err-message-clause-refused : goal.returns-in_err-message-clause-refused
 returns-in_err-message-clause-refused g c =
@@ -92,40 +86,30 @@ returns-in_err-message-clause-refused g c =
     on_err c.from_residual.result (several g at)
 
 -- a reader of the message moves to the next
-pub take_reader-requires-clause-next : goal.take_reader-requires-clause-next
-take_reader-requires-clause-next g c =
-    (somebody_reads _ _ _ _ _ c.args.self.now c.args.index c.in-Some.entry.now c.self.invariant c.self.view_is (sym c.get_mut.ensures.value ∙ ap option_copied_mut c.in-Some.is) c.requires.within c.requires.owed).0
+reader : (g : _) (c : After-clone g) → 0 < c.in-Some.entry.now.next
+reader g c =
+    let at = sym c.get_mut.ensures.value ∙ ap option_copied_mut c.in-Some.is in
+    let items = c.self.inside.ring.items in
+    let some = reader_at _ _ _ _ c.args.self.now c.args.index c.self.invariant c.self.view_is (slice_get_within items c.args.index c.in-Some.entry.now at) c.requires.owed in
+    omega (arith, some, next_at items c.args.index c.in-Some.entry.now at)
 
-pub take_reader-requires-clause-first : goal.take_reader-requires-clause-first
-take_reader-requires-clause-first g c =
-    (somebody_reads _ _ _ _ _ c.args.self.now c.args.index c.in-Some.entry.now c.self.invariant c.self.view_is (sym c.get_mut.ensures.value ∙ ap option_copied_mut c.in-Some.is) c.requires.within c.requires.owed).1
+pub overflow_sub-entry : goal.overflow_sub-entry
+overflow_sub-entry g c = reader g (goal.at.overflow_sub-entry g c).After-clone
 
-taken : (g : _) (c : After-take_reader g) → IsTaken c.self.inside.ring.items c.args.index c.self.inside.behind c.take_reader.new.behind c.in-Some.entry.now c.take_reader.new.entry
-taken g c =
+pub add_readers-requires-clause-summed : goal.add_readers-requires-clause-summed
+add_readers-requires-clause-summed g c =
+    let some = reader g (goal.at.add_readers-requires-clause-summed g c).After-clone in
+    (taken _ _ _ _ c.self.invariant.counted (sym c.get_mut.ensures.value ∙ ap option_copied_mut c.in-Some.is) some).summed
+
+moves : (g : _) (c : After-add_readers g) → 0 < c.in-Some.entry.now.next → MovesOn c.self.inside.ring c.add_readers.new.ring c.args.index c.add_readers.new.total c.in-Some.entry.now
+moves g c some =
     record {
-      within =
-          omega (arith, length-map c.self.inside.ring.items message_of, ap (λ q. length q.messages) c.self.view_is, c.requires.within);
-      at = (sym c.get_mut.ensures.value ∙ ap option_copied_mut c.in-Some.is);
-      one = c.take_reader.ensures.one;
-      later = c.take_reader.ensures.later;
-    }
-
-pub read_next-requires-clause-summed : goal.read_next-requires-clause-summed
-read_next-requires-clause-summed g c =
-    let left = sum-taken _ _ _ _ _ _ (taken g (goal.at.read_next-requires-clause-summed g c).After-take_reader) in
-    omega (arith, left, c.self.invariant.counted.summed)
-
-moves : (g : _) (c : After-read_next g)
-    → IsTaken c.self.inside.ring.items c.args.index c.self.inside.behind c.take_reader.new.behind c.in-Some.entry.now c.take_reader.new.entry
-    → MovesOn c.self.inside.ring c.read_next.new.ring c.args.index c.self.inside.behind c.take_reader.new.behind c.read_next.new.total c.in-Some.entry.now c.take_reader.new.entry
-moves g c t =
-    record {
-      taken = t;
-      message = c.take_reader.ensures.message;
-      owed = c.read_next.ensures.owed;
-      messages = c.read_next.ensures.messages;
-      summed = c.read_next.ensures.summed;
-      capacity = c.read_next.ensures.capacity;
+      at = sym c.get_mut.ensures.value ∙ ap option_copied_mut c.in-Some.is;
+      some = some;
+      owed = c.add_readers.ensures.owed;
+      messages = c.add_readers.ensures.messages;
+      summed = c.add_readers.ensures.summed;
+      capacity = c.add_readers.ensures.capacity;
     }
 
 pub returns-clause-moved : goal.returns-clause-moved
@@ -140,11 +124,11 @@ returns-clause-cloned g c =
 pub invariant_of-self-2 : goal.invariant_of-self-2
 invariant_of-self-2 g c =
     let at = goal.at.invariant_of-self-2 g c in
-    sound-moved _ _ _ _ _ c.args.self.now c.self.invariant c.self.view_is c.args.index (several g at.After-clone)
-    _ _ _ _ _ (moves g at.After-read_next (taken g at.After-take_reader))
+    sound-moved _ _ _ _ c.args.self.now c.self.invariant c.self.view_is c.args.index (several g at.After-clone)
+    _ _ _ (moves g at.After-add_readers (reader g at.After-clone))
 
 pub returns-clause-ok : goal.returns-clause-ok
 returns-clause-ok g c =
     let at = goal.at.returns-clause-ok g c in
-    read-moved _ _ _ _ _ c.args.self.now c.self.invariant c.self.view_is c.args.index (several g at.After-clone)
-    _ _ _ _ _ (moves g at.After-read_next (taken g at.After-take_reader))
+    read-moved _ _ _ _ c.args.self.now c.self.invariant c.self.view_is c.args.index (several g at.After-clone)
+    _ _ _ (moves g at.After-add_readers (reader g at.After-clone))
