@@ -33,6 +33,7 @@ impl<T: Drop, A: Allocator> Queue<T, A> {
     /// At an `index` that is the length it changes nothing.
     ///
     /// Source: the reads in `drop` of a `Receiver` of async-broadcast.
+    #[inline(always)]
     pub fn leave<C: Counter>(&mut self, index: usize, steps: &mut C)
         requires within { index ≤ length self.old.messages }
         requires owed { 0 < index → index < length self.old.messages

@@ -63,6 +63,7 @@ impl<A: Allocator> Cursors<A> {
 
     /// Removes a receiver, and returns the number that it would have read next. If no receiver has
     /// the key, returns `None` and changes nothing.
+    #[inline(always)]
     pub fn remove(&mut self, key: usize) -> Option<u64>
         ensures value { result ≡ map.get self.old key }
         ensures rest { self.new ≡ map.remove self.old key }

@@ -28,6 +28,7 @@ impl<T: Drop, A: Allocator + Copy> Store<T, A> {
     /// - `AllocError`: memory is refused for one more receiver. The store is unchanged.
     ///
     /// Source: `Receiver::clone` and `new_receiver` of async-broadcast.
+    #[inline(always)]
     pub fn add(&mut self, cursor: u64) -> Result<usize, AllocError>
         requires { cursor ≤ end_of self.old }
         ensures free { IfOk result (λ key. map.get self.old.cursors key ≡ None) }
@@ -47,6 +48,7 @@ impl<T: Drop, A: Allocator + Copy> Store<T, A> {
     /// returns whether there was such a receiver. Allocates nothing.
     ///
     /// Source: `drop` of a `Receiver` of async-broadcast.
+    #[inline(always)]
     pub fn remove(&mut self, key: usize) -> bool
         ensures found { result ≡ map.contains_key self.old.cursors key }
         ensures rest { self.new ≡ (if result

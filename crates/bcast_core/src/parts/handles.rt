@@ -13,6 +13,7 @@ impl<T: Drop, N: Notice, A: Allocator + Copy> Parts<T, N, A> {
     ghost use Rattle.bcast_model.specs.Words.{sets, cursor_of};
 
     /// Adds a receiver that reads the message of this number next, under a key that none has.
+    #[inline(always)]
     pub fn add_receiver(&mut self, cursor: u64) -> Result<usize, HandleError>
         requires valid { IsValidView self.old }
         requires reach { cursor ≤ self.old.end }
@@ -45,6 +46,7 @@ impl<T: Drop, N: Notice, A: Allocator + Copy> Parts<T, N, A> {
     }
 
     /// Removes a receiver: its stream is dropped, then its future, then its cursor.
+    #[inline(always)]
     pub fn remove_receiver(&mut self, key: usize)
         requires valid { IsValidView self.old }
         requires there { is_some (cursor_of self.old.control key) ≡ true }

@@ -46,6 +46,7 @@ impl<T: Drop, N: Notice, A: Allocator + Copy> Parts<T, N, A> {
         }
     }
 
+    #[inline(always)]
     pub fn drop_receiver(&mut self, key: usize)
         requires { IsValidView self.old }
         ensures { Does NoClone self.old (call.DropReceiver key) reply.DropReceiver self.new }

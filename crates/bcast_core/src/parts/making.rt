@@ -37,6 +37,7 @@ impl<T: Drop, N: Notice, A: Allocator + Copy> Parts<T, N, A> {
         Ok(())
     }
 
+    #[inline(always)]
     pub fn new_receiver(&mut self) -> Result<usize, HandleError>
         requires { IsValidView self.old }
         ensures does { Does NoClone self.old call.NewReceiver (reply.NewReceiver result) self.new }

@@ -69,6 +69,7 @@ impl<T: Drop, N: Notice, A: Allocator + Copy> Inner<T, N, A> {
     /// `Memory`: memory for it was refused. Nothing changed.
     ///
     /// Source: `new_receiver` of async-broadcast.
+    #[inline(always)]
     pub fn new_receiver(&mut self) -> Result<usize, HandleError>
         ensures { Answers NoClone self.old call.NewReceiver (reply.NewReceiver result) self.new }
     {
@@ -157,6 +158,7 @@ impl<T: Drop, N: Notice, A: Allocator + Copy> Inner<T, N, A> {
     /// left, the channel is closed. With an unknown key nothing changes.
     ///
     /// Source: the drop of `Receiver` of async-broadcast.
+    #[inline(always)]
     pub fn drop_receiver(&mut self, key: usize)
         ensures { Answers NoClone self.old (call.DropReceiver key) reply.DropReceiver self.new }
     {
