@@ -10,7 +10,7 @@ use Rattle.bcast_delivery.specs.Laws.{MessagesStay}
 use Rattle.bcast_delivery.specs.Reading.{Reading, Takes}
 use Rattle.one_history.specs.Log.{AreFrom, IsLog, IsWholeLog}
 
-is_there : (accepted : Option ℕ) (msg : ℕ) → IsSomeAnd accepted (λ a. IsGiven {ℕ} (λ x y. y ≡ x) a msg) → accepted ≡ Some msg
+is_there : (accepted : Option ℕ) (msg : ℕ) → IsSomeAnd accepted (λ a. IsGiven {T = ℕ} (λ x y. y ≡ x) a msg) → accepted ≡ Some msg
 is_there (Some a) msg (inl same) = ap Some (sym same)
 is_there (Some a) msg (inr same) = ap Some (sym same)
 is_there None msg there = absurd there
@@ -26,9 +26,9 @@ stay : (h later : History ℕ) (start : ℕ) (log : List ℕ) → ((number msg :
 stay h later start [] keeps all = tt
 stay h later start (msg ∷ log) keeps (here, rest) = (keeps start msg here, stay h later (start + 1) log keeps rest)
 
-pub longer : {o : Opening} {start msg : ℕ} {log : List ℕ} {old new : Reading ℕ} → MessagesStay ℕ → IsLog o start log old
+pub longer : {o : Opening} {start : ℕ} {log : List ℕ} {old new : Reading ℕ} (msg : ℕ) → MessagesStay ℕ → IsLog o start log old
     → IsPrefix old.steps new.steps → Takes (λ x y. y ≡ x) o old new (Ok (Ok msg)) → IsLog o start (log ++ msg ∷ []) new
-longer {o = o} {start = start} {msg = msg} {log = log} {old = old} {new = new} law so_far begins (given, on) =
+longer {o = o} {start = start} {log = log} {old = old} {new = new} msg law so_far begins (given, on) =
     let kept = stay (end_of o old.steps) (end_of o new.steps) start log (λ number m. law o old.steps new.steps number m begins) so_far.messages in
     let there = subst (λ n. numbered (end_of o new.steps) n ≡ Some msg) so_far.next (is_there _ msg given) in
     let next = so_far.next in

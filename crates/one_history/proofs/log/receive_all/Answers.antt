@@ -6,7 +6,7 @@ use Rattle.one_history.proofs.log.receive_all.Goals as goal
 pub loop-preserved : goal.loop-preserved
 loop-preserved g c =
     let received = c.in_ok-msg.ensures in
-    let log = longer c.messages_stay.ensures c.loop.invariant.3 received.seen (rw c.in-Ok.is at received.takes) in
+    let log = longer c.in-Ok.msg c.messages_stay.ensures c.loop.invariant.3 received.seen (rw c.in-Ok.is at received.takes) in
     (tt, tt, ap (λ r. r.role.key) received.receiver ∙ c.loop.invariant.2 ∙ sym received.key, rw c.in_ok-push-in-Ok.ensures.items log)
 
 pub returns-in-Err-Closed : goal.returns-in-Err-Closed
