@@ -29,9 +29,10 @@ module _ {T : Type 0} where
   abbrev pub StartsAtTheEnd : Opening → Reading T → Type 0
   StartsAtTheEnd o r = r.next ≡ end_number (end_of o r.steps)
 
-  -- what a `poll_recv` finds, as a `try_recv` returns it: `Pending` is `Empty`, and the end `Closed`
+  -- what a `poll_recv` finds, as a `try_recv` returns it: `Pending` is `Empty`, the end `Closed`
   abbrev pub as_found
-      : Result (Poll (Option (Result T RecvError))) AllocError → Result (Result T TryRecvError) AllocError
+      : Result (Poll (Option (Result T RecvError))) AllocError
+      → Result (Result T TryRecvError) AllocError
   as_found (Ok (poll.Ready (Some (Ok msg)))) = Ok (Ok msg)
   as_found (Ok (poll.Ready (Some (Err (unreceived.Overflowed n))))) = Ok (Err (unread.Overflowed n))
   as_found (Ok (poll.Ready (Some (Err unreceived.Closed)))) = Ok (Err unread.Closed)
@@ -40,8 +41,8 @@ module _ {T : Type 0} where
   as_found (Err error) = Err error
 
 module _ {T : Type 0} (is_clone : T → T → Type 0) where
-  -- what a receiver finds that read on at `was`, and where it reads on now, on a channel that is `h`
-  -- then: a message is the accepted one of the number `was`, or a clone, and the one behind it is
+  -- what a receiver finds that read on at `was`, and where it reads on now, on a channel that is
+  -- `h` then: a message is the accepted one of the number `was`, or a clone, and the one behind it is
   -- next; one that missed some goes on behind them; else it has read all
   abbrev pub Finds : History T → ℕ → ℕ → Result (Result T TryRecvError) AllocError → Type 0
   Finds h was now (Ok (Ok msg)) = IsDelivery is_clone h was (Some msg) × (now ≡ was + 1)

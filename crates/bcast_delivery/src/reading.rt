@@ -205,7 +205,8 @@ fn count_polled<T>(polled: &Result<Poll<Option<Result<T, RecvError>>>, AllocErro
 }
 
 fn count_next<T>(received: &Result<T, RecvError>) -> u64
-    ensures { result ≡ length (given_by (reply.TryRecv (as_found (Ok (poll.Ready (Some received.now)))))) }
+    ensures { result
+        ≡ length (given_by (reply.TryRecv (as_found (Ok (poll.Ready (Some received.now)))))) }
 {
     match received {
         Ok(_) => 1,

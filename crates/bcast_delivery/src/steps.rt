@@ -75,7 +75,8 @@ struct ShownStep<'a, Y> {
 }
 
 impl<'a, T, Y: Made<T>> Notes<Step<T>> for ShownStep<'a, Y> {
-    ghost note = { λ shown. record { call = Y.call shown.made.now; reply = Y.reply shown.made.now } };
+    ghost note = { λ shown.
+        record { call = Y.call shown.made.now; reply = Y.reply shown.made.now } };
 }
 
 impl<T: Clone, J: Channel> Keep<T> for KeepsSteps<T, J> {
