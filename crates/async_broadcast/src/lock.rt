@@ -1,6 +1,6 @@
 //! The channel of several handles, behind one lock.
 ghost use Rattle.std.specs.Prelude.{◌≡◌, ◌<◌, true, IfOk};
-ghost use Rattle.bcast_model.specs.Words.{View, IsShown, unread, missed};
+ghost use Rattle.bcast_model.specs.Words.{View, IsShown, IsPossible, unread, missed};
 ghost use Rattle.async_broadcast.specs.Kinds.{may_wait, is_answer};
 ghost use Rattle.async_broadcast.specs.Snapshots.{ShowsSomeState};
 
@@ -218,14 +218,25 @@ impl<T: Clone, R: Wait + Clone, A: Allocator + Copy, K: Keep<T>> Port<T, WakerSl
     }
 }
 
+impl<T: Clone, R: Wait + Clone + Clock, A: Allocator + Copy, K: Keep<T>> Lock<T, R, A, K> {
+    /// Makes an `AttemptSend` or a `TryRecv` as `ask_within` does, and waits this long at most.
+    pub(crate) fn ask_for(&self, known: &mut K::Known, call: Call<T>, limit: Duration) -> Reply<T>
+        requires { may_wait call ≡ true }
+        ensures learned { K.learns known.old call result known.new }
+        ensures reply { IsPossible T.is_clone call result }
+    {
+        let limit = TimeLimit::from_now(&self.rt, limit);
+        self.ask_within(known, call, &limit)
+    }
+}
+
 impl<T: Clone, R: Wait + Clone + Clock, A: Allocator + Copy, K: Keep<T>> TimedPort<T, WakerSlot<A>>
     for Lock<T, R, A, K> {
     fn ask_timeout(&self, call: Call<T>, limit: Duration) -> Reply<T>
         requires { may_wait call ≡ true }
         ensures { K.gave self.now.known call result }
     {
-        let limit = TimeLimit::from_now(&self.rt, limit);
-        self.ask_within(&mut K::same(&self.known), call, &limit)
+        self.ask_for(&mut K::same(&self.known), call, limit)
     }
 }
 

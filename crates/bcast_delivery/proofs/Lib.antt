@@ -6,5 +6,6 @@ pub mod Places
 pub mod Polled
 pub mod Received
 pub mod Sent
+pub mod Skipped
 pub mod Started
 pub mod Taken

@@ -1,5 +1,5 @@
 -- What a receiver is given, one message after the other.
-use Rattle.std.specs.Prelude.{◌≡◌, ℕ, ◌+◌, ◌<◌, List, Option, Some, None, Result, Ok, Err}
+use Rattle.std.specs.Prelude.{◌≡◌, ℕ, ◌+◌, ◌<◌, ◌≤◌, List, Option, Some, None, Result, Ok, Err}
 use Rattle.futures.specs.declared.task.Poll.{Poll}
 use Rattle.futures.specs.declared.task.Poll.TheVariants as poll
 use Rattle.std.specs.declared.alloc.AllocError.{AllocError}
@@ -55,3 +55,17 @@ module _ {T : Type 0} (is_clone : T → T → Type 0) where
   abbrev pub Takes
       : Opening → Reading T → Reading T → Result (Result T TryRecvError) AllocError → Type 0
   Takes o old new found = Finds (end_of o new.steps) old.next new.next found
+
+  -- what a receiver finds that skips what it missed: a message is the accepted one of its number, or
+  -- a clone, and the one behind it is next; else it has read all
+  abbrev pub FindsNext : History T → ℕ → ℕ → Result (Poll (Option T)) AllocError → Type 0
+  FindsNext h was now (Ok (poll.Ready (Some msg))) =
+      (number : ℕ) × (was ≤ number) × IsDelivery is_clone h number (Some msg) × (now ≡ number + 1)
+  FindsNext h was now (Ok (poll.Ready None)) = (was ≤ now) × (now ≡ end_number h)
+  FindsNext h was now (Ok poll.Pending) = (was ≤ now) × (now ≡ end_number h)
+  FindsNext h was now (Err error) = was ≤ now
+
+  -- the same, of a receiver that has read so far, and then so far
+  abbrev pub TakesNext
+      : Opening → Reading T → Reading T → Result (Poll (Option T)) AllocError → Type 0
+  TakesNext o old new found = FindsNext (end_of o new.steps) old.next new.next found

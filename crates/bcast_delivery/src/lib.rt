@@ -9,13 +9,15 @@
 //! of the channel. So the laws of `bcast_laws` speak of it.
 //!
 //! Every other call of a handle, and of its futures, has its place in that history, too, after all
-//! that `set_known` of the handle let it know (`GivesInHistory`).
+//! that `set_known` of the handle let it know (`GivesInHistory`). Only giving up a future may have
+//! none, if there is nothing to give up.
 //!
 //! A `Reading` belongs to a receiver. A receive by both promises that the receiver is given the
 //! accepted messages one after the other, from its start on, or told how many it missed (`Takes`).
 //! A clone starts where its original reads on, a new receiver at the end.
 //!
-//! No step is stored: the journal is a word, and a `Seen` is where one receiver reads on.
+//! No step is stored: the journal is a word, and a `Seen` is the number of the message that came
+//! next, and where one receiver reads on.
 //!
 //! The channel's parameter is `J: Channel`, which names it. A program uses the channel inside a
 //! function over `J`, here `work`, and calls it at `Brand` of `std::marker` with `opened`, an

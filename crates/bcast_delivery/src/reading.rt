@@ -1,26 +1,25 @@
 //! How far a receiver has read.
-ghost use Rattle.std.specs.Prelude.{◌≡◌, ◌+◌, Some, None, Ok, IfOk, IfSome, length};
+ghost use Rattle.std.specs.Prelude.{◌≡◌, ◌+◌, Some, None, IfSome, length};
 ghost use mathlib.Core.List.{IsPrefix};
-ghost use Rattle.futures.specs.Task.{IsArmed, Keeps};
-ghost use Rattle.futures.specs.Poll.{OnPending};
-ghost use Rattle.futures.specs.declared.task.Poll.TheVariants as poll;
 ghost use Rattle.bcast_model.specs.declared.run.Reply.TheVariants as reply;
 ghost use Rattle.bcast_model.specs.Words.{given_by, view_of};
 ghost use Rattle.bcast_history.specs.History.{end_of};
 ghost use Rattle.async_broadcast.specs.Ports.{as_try_recv};
+ghost use Rattle.async_broadcast.specs.Timed.{as_timed_try};
 ghost use Rattle.bcast_delivery.specs.Seen.{reads_at};
-ghost use Rattle.bcast_delivery.specs.Reading.{Takes, as_found};
+ghost use Rattle.bcast_delivery.specs.Reading.{Takes};
 
 use crate::opened::HistoryReceiver;
 use crate::seen::Seen;
 use crate::steps::Channel;
-use async_broadcast::{RecvError, TryRecvError};
-use futures::task::{Context, Poll};
+use async_broadcast::{RecvError, RecvTimeoutError, TryRecvError};
 use std::alloc::{AllocError, Allocator};
 use std::marker::Model;
 use std::sync::Wait;
+use std::time::{Clock, Duration};
 
 mod making;
+mod polling;
 
 /// How far a receiver has read, and what it has seen of the steps on its channel. Its calls promise
 /// that the receiver is given the accepted messages one after the other, or told how many it missed.
@@ -131,38 +130,36 @@ impl<T: Clone, J: Channel> Reading<T, J> {
         received
     }
 
-    /// Receives the next message by the receiver of this key, or leaves the task waiting for it, as
-    /// its `poll_recv` does.
-    ///
-    /// `Ready(None)`: every message was read, and the channel is closed.
+    /// Receives the next message by the receiver of this key, and gives up once `limit` has passed,
+    /// as its `recv_timeout` does.
     ///
     /// # Errors
     ///
-    /// - `AllocError`: no memory for a notice, or for a clone of a message that others have still
-    ///   to read. Nothing changed.
+    /// - `AllocError`: no memory for a clone of a message that others have still to read. Nothing
+    ///   changed.
+    /// - `Timeout`: the time is over, every message was read, and the channel is open.
     /// - `Overflowed(n)`: the next `n` messages were dropped. The receiver continues after them.
+    /// - `Closed`: every message was read, and the channel is closed.
     ///
     /// Source: this crate's own.
-    pub fn poll_recv<R: Wait + Clone, A: Allocator + Copy>(
+    pub fn recv_timeout<R: Wait + Clone + Clock, A: Allocator + Copy>(
         &mut self,
         rt: &impl Wait,
         receiver: &mut HistoryReceiver<T, R, J, A>,
-        cx: &mut Context<'_>,
-    ) -> Result<Poll<Option<Result<T, RecvError>>>, AllocError>
+        limit: Duration,
+    ) -> Result<Result<T, RecvTimeoutError>, AllocError>
         requires { receiver.old.role.key ≡ self.old.key }
-        ensures receiver { receiver.new.role.key ≡ receiver.old.role.key }
+        ensures receiver { receiver.new ≡ receiver.old }
         ensures key { self.new.key ≡ self.old.key }
         ensures seen { IsPrefix self.old.steps self.new.steps }
-        ensures takes { Takes T.is_clone J.opening self.old self.new (as_found result) }
-        ensures registered { IfOk result (λ poll. OnPending poll (IsArmed cx.new)) }
-        ensures kept { Keeps cx.old cx.new }
+        ensures takes { Takes T.is_clone J.opening self.old self.new (as_timed_try result) }
     {
-        let polled = receiver.poll_recv_seen(&mut self.seen, cx);
-        let given = count_polled(&polled);
+        let received = receiver.recv_timeout_seen(&mut self.seen, limit);
+        let given = count_in_time(&received);
         let reader = self.seen.reader();
         let now = agreed(rt, reader, self.next, given);
         self.next = now;
-        polled
+        received
     }
 }
 
@@ -188,30 +185,14 @@ fn count_received<T>(received: &Result<Result<T, RecvError>, AllocError>) -> u64
     }
 }
 
-// The same, of a poll.
-fn count_polled<T>(polled: &Result<Poll<Option<Result<T, RecvError>>>, AllocError>) -> u64
-    ensures { result ≡ length (given_by (reply.TryRecv (as_found polled.now))) }
-{
-    let Ok(poll) = polled else {
-        return 0;
-    };
-    let Poll::Ready(next) = poll else {
-        return 0;
-    };
-    match next {
-        Some(received) => count_next(received),
-        None => 0,
-    }
-}
-
-fn count_next<T>(received: &Result<T, RecvError>) -> u64
-    ensures { result
-        ≡ length (given_by (reply.TryRecv (as_found (Ok (poll.Ready (Some received.now)))))) }
+// The same, of a receive with a limit.
+fn count_in_time<T>(received: &Result<Result<T, RecvTimeoutError>, AllocError>) -> u64
+    ensures { result ≡ length (given_by (reply.TryRecv (as_timed_try received.now))) }
 {
     match received {
-        Ok(_) => 1,
-        Err(RecvError::Overflowed(n)) => *n,
-        Err(RecvError::Closed) => 0,
+        Ok(Ok(_)) => 1,
+        Ok(Err(RecvTimeoutError::Overflowed(n))) => *n,
+        _ => 0,
     }
 }
 
