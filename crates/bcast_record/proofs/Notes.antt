@@ -2,7 +2,7 @@
 use Rattle.std.proofs.Common.{◌≡◌, ℕ, zero, suc, Some, List, [], ◌∷◌, ◌++◌, map, slice_get, length, refl, ap}
 use Rattle.std.proofs.lemmas.List.{length-map}
 use Rattle.bcast_record.specs.declared.entry.Entry.{Entry}
-use Rattle.bcast_record.specs.declared.entry.Opening.{Opening}
+use Rattle.bcast_history.specs.declared.step.Opening.{Opening}
 use Rattle.bcast_record.specs.declared.entry.Note.TheVariants as note
 use Rattle.bcast_record.specs.Content.{notes_of}
 

@@ -1,6 +1,6 @@
 -- What a prefix of a journal has. Its pages are notes, and perhaps an end after the last note.
 use Rattle.std.specs.Prelude.{Bool, true, false, Option, Some, None, List, [], ◌∷◌, ◌++◌, map}
-use Rattle.bcast_record.specs.declared.entry.Opening.{Opening}
+use Rattle.bcast_history.specs.declared.step.Opening.{Opening}
 use Rattle.bcast_record.specs.declared.entry.Entry.{Entry}
 use Rattle.bcast_record.specs.declared.entry.Note.{Note}
 use Rattle.bcast_record.specs.declared.entry.Note.TheVariants as note

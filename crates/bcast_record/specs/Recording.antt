@@ -1,6 +1,6 @@
 -- What a recorder stores.
 use Rattle.std.specs.Prelude.{ℕ, List, [], ◌∷◌, ◌++◌}
-use Rattle.bcast_record.specs.declared.entry.Opening.{Opening}
+use Rattle.bcast_history.specs.declared.step.Opening.{Opening}
 use Rattle.bcast_record.specs.declared.entry.Entry.{Entry}
 
 -- what the channel was opened with, and the calls with their replies, in the order of the replies
@@ -19,7 +19,7 @@ module _ {T : Type 0} where
 
   abbrev pub new_recording : ℕ → ℕ → Recording T
   new_recording capacity first_key =
-      recording (record { capacity = capacity; first_key = first_key }) []
+      recording (record { capacity = capacity; first_number = 0; first_key = first_key }) []
 
   -- with one more entry
   abbrev pub with_entry : Recording T → Entry T → Recording T

@@ -1,14 +1,6 @@
 //! What a recorder stores.
 use bcast_core::{Call, Reply};
-
-/// What a recorder's channel was opened with.
-#[derive(Clone, Copy)]
-pub struct Opening {
-    /// How many messages the channel keeps at most.
-    pub capacity: usize,
-    /// The key of its first receiver.
-    pub first_key: usize,
-}
+use bcast_history::Opening;
 
 /// One call on a recorder, and its reply.
 #[derive(Drop)]

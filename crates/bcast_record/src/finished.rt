@@ -5,10 +5,11 @@ ghost use Rattle.bcast_model.specs.Next.{HasPositiveCapacity};
 ghost use Rattle.bcast_record.specs.Replay.{calls_of};
 
 use crate::copy::copy_of_call;
-use crate::entry::{Entry, Note, Opening};
+use crate::entry::{Entry, Note};
 use crate::journal::{Named, Prefix};
 use crate::receipt::Receipt;
 use bcast_core::Call;
+use bcast_history::Opening;
 use std::alloc::{AllocError, Allocator, Global};
 use std::marker::Model;
 

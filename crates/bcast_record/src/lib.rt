@@ -32,8 +32,9 @@ pub use bcast_core::{
     Call, HandleError, Kind, Messages, NoMemory, RecvError, Reply, SendError, SendPoll,
     TryRecvError, TrySendError, Waiting, run,
 };
+pub use bcast_history::Opening;
 pub use copy::{copy_of_call, copy_of_reply};
-pub use entry::{Entry, Note, Opening};
+pub use entry::{Entry, Note};
 pub use finished::Finished;
 pub use journal::{Journal, Named};
 pub use log::Log;

@@ -10,13 +10,14 @@ ghost use Rattle.bcast_record.specs.Content.{notes_of};
 ghost use Rattle.bcast_record.specs.Replay.{IsRecordedRun, Replays};
 ghost use Rattle.bcast_record.specs.Seats.{new_seats, answered};
 
-use crate::entry::{Entry, Note, Opening};
+use crate::entry::{Entry, Note};
 use crate::finished::Finished;
 use crate::journal::{Journal, Named, Prefix, Slot, Writer};
 use crate::receipt::Receipt;
 use crate::seat::{Seat, gather, make_seats};
 use crate::spares::Spares;
 use bcast_core::{Call, Inner, NoMemory, Silent, step};
+use bcast_history::Opening;
 use std::alloc::{AllocError, Allocator, Global};
 use std::marker::Model;
 use std::sync::ledger::{Blank, Book, Share};
@@ -84,6 +85,7 @@ impl<T: Copy + Clone, R: Named, A: Allocator + Copy> Log<T, R, A> {
         let (inner, first_key) = Inner::new(alloc, cap)?;
         let opening = Opening {
             capacity: cap,
+            first_number: 0,
             first_key,
         };
         let Some(journal) = opened(journal, opening) else {

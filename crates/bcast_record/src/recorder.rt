@@ -6,13 +6,14 @@ ghost use Rattle.bcast_record.specs.Opened.{Opened};
 ghost use Rattle.bcast_record.specs.Replay.{IsRecordedRun};
 ghost use Rattle.bcast_record.specs.Seats.{new_seats, answered};
 
-use crate::entry::{Note, Opening};
+use crate::entry::Note;
 use crate::finished::Finished;
 use crate::journal::{Journal, Named, Prefix};
 use crate::log::Log;
 use crate::receipt::Receipt;
 use crate::seat::Seat;
 use bcast_core::{Call, NoMemory};
+use bcast_history::Opening;
 use std::alloc::{AllocError, Allocator, Global};
 use std::marker::Model;
 use std::sync::ledger::Blank;
@@ -67,7 +68,7 @@ impl<T: Copy + Clone, R: Named, A: Allocator + Copy> Recorder<T, R, A> {
             × (calls.parts ≡ seats + 1) }
         requires journal { journal ≡ R.book }
         ensures recorder { IfOk result (λ made. made.0 ≡ record {
-          opening = record { capacity = cap; first_key = made.1 };
+          opening = record { capacity = cap; first_number = 0; first_key = made.1 };
           seats = seats;
         }) }
         ensures seats { IfOk result (λ made. made.2.items ≡ new_seats seats) }
@@ -78,6 +79,7 @@ impl<T: Copy + Clone, R: Named, A: Allocator + Copy> Recorder<T, R, A> {
             log: Mutex::new(log),
             opening: Opening {
                 capacity: cap,
+                first_number: 0,
                 first_key,
             },
             seats,

@@ -1,5 +1,5 @@
 use Rattle.std.proofs.Common.{ap, sym, subst, ◌∙◌}
-use Rattle.bcast_record.specs.declared.entry.Opening.{Opening}
+use Rattle.bcast_history.specs.declared.step.Opening.{Opening}
 use Rattle.bcast_record.specs.Recording.{recording}
 use Rattle.bcast_record.specs.Content.{notes_of}
 use Rattle.bcast_record.specs.Replay.{MayRunAgain}
@@ -8,7 +8,7 @@ use Rattle.bcast_record.proofs.log.Log.new.Goals as goal
 
 pub invariant_of-log : goal.invariant_of-log
 invariant_of-log g c =
-    let opening : Opening = record { capacity = c.args.cap; first_key = c.in_ok-inner.first_key } in
+    let opening : Opening = record { capacity = c.args.cap; first_number = 0; first_key = c.in_ok-inner.first_key } in
     let none = c.new-2.ensures.items in (
       replays_opened g.T.Clone.is_clone opening c.new-2.result.items c.in_ok-inner.inner none c.in_ok-inner.ensures.opened c.in_ok-inner.ensures.valid,
       c.in-Some.ensures ∙ ap (notes_of opening) (sym none),
