@@ -1,6 +1,7 @@
 pub mod Found
 pub mod Given
 pub mod Keeping
+pub mod Logged
 pub mod Making
 pub mod Places
 pub mod Polled

@@ -3,7 +3,8 @@ pub mod Follows
 pub mod Seen
 pub mod Knowing
 pub mod Laws
--- what a receiver is given
+-- what a receiver is given, and a log of it
 pub mod Reading
+pub mod Log
 -- a channel before it has a name
 pub mod Opened

@@ -1,5 +1,6 @@
 //! What follows from what calls tell.
 ghost use Rattle.bcast_delivery.specs.Laws.{MessagesStay, SendsStandLast, ReceiversReadOn};
+ghost use Rattle.bcast_delivery.specs.Log.{LogsAreAccepted};
 
 /// Law: a message keeps its number, whatever calls follow. So what two receivers are given of the
 /// same number is the same message, or a clone of it.
@@ -17,4 +18,10 @@ pub fn sends_stand_last<T: Clone>()
 /// itself, a clone, or that it is counted as missed; and its cursor is then after them.
 pub fn receivers_read_on<T: Clone>()
     ensures { ReceiversReadOn T.is_clone }
+{}
+
+/// Law: a receiver's log of all messages from the first on is what the channel had accepted, if it
+/// ends where the channel ended. So two such logs are the same list.
+pub fn logs_are_accepted<T>()
+    ensures { LogsAreAccepted T }
 {}

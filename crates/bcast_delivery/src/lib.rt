@@ -35,7 +35,7 @@ mod seen;
 mod steps;
 
 pub use bcast_history::{Opening, Step};
-pub use laws::{messages_stay, receivers_read_on, sends_stand_last};
+pub use laws::{logs_are_accepted, messages_stay, receivers_read_on, sends_stand_last};
 pub use opened::{History, HistoryInactive, HistoryReceiver, HistorySender, Opened, broadcast};
 pub use reading::Reading;
 pub use seen::Seen;
