@@ -1,6 +1,6 @@
 //! A log of all messages from a receiver's start on.
 ghost use Rattle.std.specs.Prelude.{◌≡◌, IfOk};
-ghost use Rattle.one_history.specs.Log.{IsWholeLog};
+ghost use Rattle.bcast_delivery.specs.Log.{IsWholeLog};
 
 use anyhow::{Result, bail};
 use async_broadcast::RecvError;

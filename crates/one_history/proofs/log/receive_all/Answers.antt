@@ -1,6 +1,6 @@
 -- The log goes on, and is whole once the channel is closed.
 use Rattle.std.proofs.Common.{sym, ap, ◌∙◌}
-use Rattle.one_history.proofs.Logged.{longer, whole}
+use Rattle.bcast_delivery.proofs.Logged.{longer, whole}
 use Rattle.one_history.proofs.log.receive_all.Goals as goal
 
 pub loop-preserved : goal.loop-preserved

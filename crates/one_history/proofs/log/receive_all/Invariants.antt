@@ -1,6 +1,6 @@
 -- What was received so far is a log.
 use Rattle.std.proofs.Common.{◌≡◌}
-use Rattle.one_history.specs.Log.{IsLog}
+use Rattle.bcast_delivery.specs.Log.{IsLog}
 use Rattle.one_history.proofs.log.receive_all.Given as goal
 
 abbrev pub invariant-loop : goal.invariant-loop
