@@ -1,9 +1,9 @@
 //! Many tasks in one thread: senders that wait, and receivers as streams.
-use async_broadcast::broadcast;
-use futures::executor::LocalPool;
-use std::alloc::AllocError;
+use async_broadcast::{Port, Receiver, Sender, WakerSlot, broadcast};
+use futures::executor::{LocalPool, LocalSpawner};
+use std::alloc::{AllocError, AllocGlobal};
 use std::process::Abort;
-use std::sync::Mutex;
+use std::sync::{Mutex, Wait};
 use std::test::Fail;
 use tasks::{Counts, Task};
 
@@ -37,23 +37,34 @@ fn many_receivers_get_one_order(rt: HostRuntime) -> Result<(), Fail> {
     let counts = Counts::new(SENDERS);
     let lists = Mutex::new(Vec::new(rt.alloc()));
     let mut pool = LocalPool::new(&rt)?;
-    let spawner = pool.spawner()?;
-    for _ in 0..RECEIVERS {
-        let clone = receiver.clone()?;
-        let task = Task::receiving(rt, rt.alloc(), clone, &counts, &lists);
-        spawner.spawn(task).ok().ok_or("no task")?;
-    }
-    drop(receiver);
-    for number in 0..SENDERS {
-        let task = Task::sending(&sender, number * SHARE, SHARE, &counts);
-        spawner.spawn(task).ok().ok_or("no task")?;
-    }
+    start_all(rt, &pool.spawner()?, &sender, receiver, &counts, &lists)?;
     pool.run(&rt);
-    drop((pool, spawner));
+    drop(pool);
     expect_one_order(&rt, lists.into_inner().as_slice())?;
     let (received, sent) = (counts.receive_polls(), counts.send_polls());
     println!(rt; "{received} polls of receivers, {sent} of sends")?;
     assert!(rt; received <= MOST_RECEIVE_POLLS && sent <= MOST_SEND_POLLS);
+    Ok(())
+}
+
+/// Starts the task of each receiver, and of each sender.
+fn start_all<'a, R: Wait + AllocGlobal + Copy + Drop, P: Port<u64, WakerSlot>>(
+    rt: R,
+    spawner: &LocalSpawner<Task<'a, R, P>>,
+    sender: &'a Sender<u64, P>,
+    receiver: Receiver<u64, P>,
+    counts: &'a Counts,
+    lists: &'a Mutex<Vec<Vec<u64>>>,
+) -> Result<(), Fail> {
+    for _ in 0..RECEIVERS {
+        let clone = receiver.clone()?;
+        let task = Task::receiving(rt, rt.alloc(), clone, counts, lists);
+        spawner.spawn(task).ok().ok_or("no task")?;
+    }
+    for number in 0..SENDERS {
+        let task = Task::sending(sender, number * SHARE, SHARE, counts);
+        spawner.spawn(task).ok().ok_or("no task")?;
+    }
     Ok(())
 }
 
