@@ -11,6 +11,8 @@ mod hands;
 #[cfg(test)]
 mod handshake;
 #[cfg(test)]
+mod history;
+#[cfg(test)]
 mod passing_on;
 #[cfg(test)]
 mod scripts;

@@ -4,5 +4,5 @@ mod late;
 mod limits;
 mod loops;
 pub mod patience;
-mod runs;
+pub mod runs;
 mod wakes;

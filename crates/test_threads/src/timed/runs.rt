@@ -11,7 +11,7 @@ use std::test::Fail;
 use std::thread;
 use std::thread::{JoinHandle, Threads};
 
-const RUNS: u64 = 1000;
+pub const RUNS: u64 = 1000;
 
 /// The messages of the first sender, from 0, and those of the second, from here, are so many.
 const MESSAGES: u64 = 8;
@@ -96,7 +96,7 @@ where
 }
 
 /// Two threads send, and two receive. Of each two, one has random limits.
-fn run<R, P>(
+pub fn run<R, P>(
     rt: R,
     alloc: Global,
     number: u64,

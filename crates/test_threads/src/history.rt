@@ -1,0 +1,118 @@
+//! Threads over a channel whose handles promise one history.
+use crate::timed::runs::{RUNS, run};
+use bcast_delivery::{Channel, HistoryReceiver, HistorySender, Opened, Reading, Seen, broadcast};
+use std::alloc::{AllocError, Global};
+use std::marker::Brand;
+use std::process::Abort;
+use std::sync::Wait;
+use std::test::Fail;
+use std::thread;
+use std::thread::Threads;
+use std::time::Clock;
+
+/// How many messages each sender sends.
+const SHARE: u64 = 2000;
+
+type List = Result<Vec<u64>, AllocError>;
+
+// The handles make the same calls as those of a channel that keeps no history.
+#[test]
+fn a_thousand_runs_over_a_history_end(rt: HostRuntime) -> Result<(), Fail> {
+    for number in 0..RUNS {
+        let opened = Opened::new(rt.alloc(), 1)?;
+        run_over::<Brand, _>(rt, rt.alloc(), number, opened)?;
+    }
+    Ok(())
+}
+
+fn run_over<J, R>(rt: R, alloc: Global, number: u64, opened: Opened<u64>) -> Result<(), Fail>
+where
+    J: Channel + Send + Sync + 'static,
+    R: Threads + Wait + Clock + Abort + Copy + Send + Drop + 'static,
+    requires { (opened.book ≡ J.book) × (opened.opening ≡ J.opening) }
+{
+    let (sender, receiver, _): (_, _, Reading<u64, J>) = broadcast(rt, alloc, opened)?;
+    run(rt, alloc, number, (sender, receiver))
+}
+
+// Each sender is told at which number of the history each of its messages stands, and there both
+// receivers find it.
+#[test]
+fn messages_stand_where_their_senders_were_told(rt: HostRuntime) -> Result<(), Fail> {
+    let opened = Opened::new(rt.alloc(), 4)?;
+    send_and_receive::<Brand, _>(rt, rt.alloc(), opened)
+}
+
+fn send_and_receive<J, R>(rt: R, alloc: Global, opened: Opened<u64>) -> Result<(), Fail>
+where
+    J: Channel + Send + Sync + 'static,
+    R: Threads + Wait + Abort + Copy + Send + Drop + 'static,
+    requires { (opened.book ≡ J.book) × (opened.opening ≡ J.opening) }
+{
+    let (sender, receiver, mut reading): (_, _, Reading<u64, J>) = broadcast(rt, alloc, opened)?;
+    let (other, its_reading) = reading.clone(&rt, &receiver)?;
+    let (first, second) = (reading.seen(), reading.seen());
+    let other_sender = sender.clone()?;
+    let logs = (
+        thread::spawn(&rt, move || receive_all(&rt, alloc, receiver, reading))?,
+        thread::spawn(&rt, move || receive_all(&rt, alloc, other, its_reading))?,
+    );
+    let places = (
+        thread::spawn(&rt, move || send_all(alloc, sender, first, 0))?,
+        thread::spawn(&rt, move || send_all(alloc, other_sender, second, SHARE))?,
+    );
+    let (first, second) = (places.0.join(&rt)?, places.1.join(&rt)?);
+    let (log, same) = (logs.0.join(&rt)?, logs.1.join(&rt)?);
+    assert!(&rt; log == same && log.len() as u64 == 2 * SHARE);
+    expect_there(&rt, log.as_slice(), 0, first.as_slice());
+    expect_there(&rt, log.as_slice(), SHARE, second.as_slice());
+    Ok(())
+}
+
+/// Sends the messages from `first` on, and returns the number at which each stands.
+fn send_all<J: Channel, R: Wait + Clone>(
+    alloc: Global,
+    sender: HistorySender<u64, R, J>,
+    mut seen: Seen<u64, J>,
+    first: u64,
+) -> List {
+    let mut places = Vec::new(alloc);
+    for msg in first..first.wrapping_add(SHARE) {
+        if sender.broadcast_blocking_seen(&mut seen, msg).is_ok() {
+            places.push(seen.end().wrapping_sub(1))?;
+        }
+    }
+    Ok(places)
+}
+
+/// Receives until the channel is closed.
+fn receive_all<J: Channel, R: Wait + Clone>(
+    rt: &R,
+    alloc: Global,
+    mut receiver: HistoryReceiver<u64, R, J>,
+    mut reading: Reading<u64, J>,
+) -> List
+    requires { receiver.role.key ≡ reading.key }
+{
+    let mut log = Vec::new(alloc);
+    for _ in rt.forever() {
+        match reading.recv_blocking(rt, &mut receiver)? {
+            Ok(msg) => log.push(msg)?,
+            Err(_) => break,
+        }
+    }
+    Ok(log)
+}
+
+// The messages from `first` on stand at these places of the log.
+fn expect_there(rt: &impl Abort, log: &[u64], first: u64, places: &[u64]) {
+    assert!(rt; places.len() as u64 == SHARE, "all were sent");
+    let mut msg = first;
+    for place in places {
+        assert!(rt;
+            log.get(*place as usize) == Some(&msg),
+            "{msg} stands at {place}"
+        );
+        msg = msg.wrapping_add(1);
+    }
+}
