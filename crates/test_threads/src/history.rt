@@ -1,4 +1,6 @@
 //! Threads over a channel whose handles promise one history.
+ghost use Rattle.std.specs.Prelude.{◌≡◌};
+
 use crate::timed::runs::{RUNS, run};
 use bcast_delivery::{Channel, HistoryReceiver, HistorySender, Opened, Reading, Seen, broadcast};
 use std::alloc::{AllocError, Global};
@@ -7,13 +9,16 @@ use std::process::Abort;
 use std::sync::Wait;
 use std::test::Fail;
 use std::thread;
-use std::thread::Threads;
+use std::thread::{JoinHandle, Threads};
 use std::time::Clock;
 
 /// How many messages each sender sends.
 const SHARE: u64 = 2000;
 
 type List = Result<Vec<u64>, AllocError>;
+
+/// Two threads that return a list.
+type Pair = (JoinHandle<List>, JoinHandle<List>);
 
 // The handles make the same calls as those of a channel that keeps no history.
 #[test]
@@ -49,24 +54,52 @@ where
     R: Threads + Wait + Abort + Copy + Send + Drop + 'static,
     requires { (opened.book ≡ J.book) × (opened.opening ≡ J.opening) }
 {
-    let (sender, receiver, mut reading): (_, _, Reading<u64, J>) = broadcast(rt, alloc, opened)?;
-    let (other, its_reading) = reading.clone(&rt, &receiver)?;
+    let (sender, receiver, reading): (_, _, Reading<u64, J>) = broadcast(rt, alloc, opened)?;
     let (first, second) = (reading.seen(), reading.seen());
-    let other_sender = sender.clone()?;
-    let logs = (
-        thread::spawn(&rt, move || receive_all(&rt, alloc, receiver, reading))?,
-        thread::spawn(&rt, move || receive_all(&rt, alloc, other, its_reading))?,
-    );
-    let places = (
-        thread::spawn(&rt, move || send_all(alloc, sender, first, 0))?,
-        thread::spawn(&rt, move || send_all(alloc, other_sender, second, SHARE))?,
-    );
+    let logs = start_receivers(rt, alloc, receiver, reading)?;
+    let places = start_senders(rt, alloc, sender, first, second)?;
     let (first, second) = (places.0.join(&rt)?, places.1.join(&rt)?);
     let (log, same) = (logs.0.join(&rt)?, logs.1.join(&rt)?);
     assert!(&rt; log == same && log.len() as u64 == 2 * SHARE);
     expect_there(&rt, log.as_slice(), 0, first.as_slice());
     expect_there(&rt, log.as_slice(), SHARE, second.as_slice());
     Ok(())
+}
+
+/// Starts two threads that receive all messages.
+fn start_receivers<J, R>(
+    rt: R,
+    alloc: Global,
+    receiver: HistoryReceiver<u64, R, J>,
+    mut reading: Reading<u64, J>,
+) -> Result<Pair, Fail>
+where
+    J: Channel + Send + Sync + 'static,
+    R: Threads + Wait + Copy + Send + Drop + 'static,
+    requires { receiver.role.key ≡ reading.key }
+{
+    let (other, its_reading) = reading.clone(&rt, &receiver)?;
+    let first = thread::spawn(&rt, move || receive_all(&rt, alloc, receiver, reading))?;
+    let second = thread::spawn(&rt, move || receive_all(&rt, alloc, other, its_reading))?;
+    Ok((first, second))
+}
+
+/// Starts two threads that send, the second one the messages from `SHARE` on.
+fn start_senders<J, R>(
+    rt: R,
+    alloc: Global,
+    sender: HistorySender<u64, R, J>,
+    first: Seen<u64, J>,
+    second: Seen<u64, J>,
+) -> Result<Pair, Fail>
+where
+    J: Channel + Send + Sync + 'static,
+    R: Threads + Wait + Copy + Send + Drop + 'static,
+{
+    let other = sender.clone()?;
+    let first = thread::spawn(&rt, move || send_all(alloc, sender, first, 0))?;
+    let second = thread::spawn(&rt, move || send_all(alloc, other, second, SHARE))?;
+    Ok((first, second))
 }
 
 /// Sends the messages from `first` on, and returns the number at which each stands.
