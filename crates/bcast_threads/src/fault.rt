@@ -5,11 +5,13 @@ use std::io;
 
 /// Why a run has no lists to compare.
 #[derive(Clone, Copy, Debug, PartialEq, Eq)]
-pub(crate) enum Fault {
+pub enum Fault {
     /// There was no memory in some thread.
     NoMemory,
     /// A thread could not be started.
     NoThread,
+    /// A receiver missed messages.
+    Missed,
 }
 
 impl From<AllocError> for Fault {

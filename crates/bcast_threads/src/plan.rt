@@ -1,13 +1,14 @@
 //! How many threads are run, and the run of them.
-ghost use Rattle.std.specs.Prelude.{◌≢◌, ◌<◌, ◌≤◌, ◌*◌};
+ghost use Rattle.std.specs.Prelude.{◌≢◌, ◌<◌, ◌≤◌, ◌*◌, false, OnOk};
 ghost use Rattle.std.specs.Io.KnownBytes.{Appends};
-ghost use Rattle.bcast_text.specs.Outcome.{IsEnding, printed_text};
+ghost use Rattle.bcast_text.specs.Outcome.{IsEnding, outcome_text, printed_text};
 
 use crate::fault::Fault;
-use crate::started::lists_of;
+use crate::lists::lists_of;
 use bcast_text::ending::Ending;
 use bcast_text::threads::outcome::print_seen;
 use std::alloc::Global;
+use std::io;
 use std::io::Write;
 use std::sync::Wait;
 use std::thread::Threads;
@@ -36,9 +37,10 @@ pub struct Plan {
 /// Sender number i, from 0 on, sends the `m` numbers from `i * m` on in rising order. All receivers
 /// are made before a thread starts.
 ///
-/// Returns `Done` or `Differ` by what was seen; `NoThread` if a thread could not be started,
-/// `NoMemory` if there was no memory: every started thread has ended then too, and nothing was
-/// written; and `OutputFailed` if the write failed.
+/// Returns `Done` or `Differ` by what was seen. All receivers see the same list (`lists_of`), so
+/// `Differ` says that it isn't each number once, or that a receiver missed messages. `NoThread` if
+/// a thread could not be started, `NoMemory` if there was no memory: every started thread has ended
+/// then too, and nothing was written; and `OutputFailed` if the write failed.
 pub fn threads<R: Threads + Wait + Clone + Send + 'static, W: Write>(
     rt: &R,
     alloc: Global,
@@ -81,6 +83,19 @@ pub fn run<R: Threads + Wait + Clone + Send + 'static, W: Write>(
     match lists_of(rt, alloc, plan) {
         Err(Fault::NoMemory) => Ending::NoMemory,
         Err(Fault::NoThread) => Ending::NoThread,
+        Err(Fault::Missed) => match write_missed(output) {
+            Ok(()) => Ending::Differ,
+            Err(_) => Ending::OutputFailed,
+        },
         Ok(lists) => print_seen(alloc, lists.as_slice(), total, output),
     }
+}
+
+/// Writes that the receivers did not see one order, since one missed messages.
+fn write_missed<W: Write>(output: &mut W) -> io::Result<()>
+    ensures { OnOk result (Appends (W.contents output.old) (W.contents output.new)
+        (outcome_text false 0 0)) }
+{
+    output.write_all(b"orders differ\n")?;
+    output.flush()
 }

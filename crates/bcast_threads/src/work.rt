@@ -1,12 +1,35 @@
 //! What each thread does with its handle.
 ghost use Rattle.std.specs.Prelude.{◌≡◌, IfOk, IfErr};
-ghost use Rattle.bcast_threads.specs.Given.{WereReceived, HasEnded, WasClosed};
+ghost use Rattle.bcast_delivery.specs.Follows.{accepted_by};
+ghost use Rattle.bcast_delivery.specs.Log.{IsWholeLog};
+ghost use Rattle.bcast_delivery.specs.Seen.{GivesInHistory};
+ghost use Rattle.bcast_threads.specs.Given.{WasClosed};
 
-use async_broadcast::{Port, Receiver, Sender, WakerSlot};
-use std::alloc::{AllocError, Allocator, Global};
+use crate::fault::Fault;
+use async_broadcast::{Port, Receiver, RecvError, Sender, WakerSlot};
+use bcast_delivery::{
+    Channel, History, HistoryReceiver, Reading, logs_are_accepted, messages_stay,
+};
+use std::alloc::{Allocator, Global};
+use std::sync::Wait;
 
-/// What a receiver received, in order.
-pub type List<A = Global> = Result<Vec<u64, A>, AllocError>;
+/// A receiver that has read nothing: it starts with the channel's first message.
+#[derive(Drop)]
+pub struct Reader<J: Channel, P: Port<u64, WakerSlot>> {
+    pub receiver: Receiver<u64, P>,
+    pub reading: Reading<u64, J>,
+    ghost key: { receiver.role.key ≡ reading.key },
+    ghost start: { reading.next ≡ J.opening.first_number },
+}
+
+/// What a receiver received till it found the channel closed: all messages that the channel had
+/// accepted, in order.
+#[derive(Drop)]
+pub struct Log<J: Channel, A: Allocator = Global> {
+    pub list: Vec<u64, A>,
+    pub reading: Reading<u64, J>,
+    ghost whole: { list.items ≡ accepted_by J.opening reading.steps },
+}
 
 /// Sends `count` numbers from `first` on, in rising order, unless the channel is closed before.
 pub fn send_all<P: Port<u64, WakerSlot>>(sender: Sender<u64, P>, first: u64, count: u64) {
@@ -17,44 +40,60 @@ pub fn send_all<P: Port<u64, WakerSlot>>(sender: Sender<u64, P>, first: u64, cou
     }
 }
 
-/// Returns what the receiver receives until there is no more message, as on a closed channel. If
-/// there is no memory for that, it closes the channel.
+/// Returns what the receiver receives until the channel is closed.
 ///
 /// Memory for `count` messages is taken before the first one is received.
-pub fn receive_all<P: Port<u64, WakerSlot>, A: Allocator>(
+///
+/// # Errors
+///
+/// After each, the channel is closed.
+///
+/// - `NoMemory`: there was no memory for a message, or for the list.
+/// - `Missed`: the receiver missed messages.
+pub fn receive_all<J: Channel, R: Wait + Clone, A: Allocator>(
+    rt: &impl Wait,
     alloc: A,
-    mut receiver: Receiver<u64, P>,
+    reader: Reader<J, History<u64, R, J>>,
     count: usize,
-) -> List<A>
-    ensures received { IfOk result (λ list. WereReceived (P.gave receiver.port) receiver.role.key
-        list.items) }
-    ensures ended { IfOk result (λ _. HasEnded (P.gave receiver.port) receiver.role.key) }
-    ensures closed { IfErr result (λ _. WasClosed (P.gave receiver.port)) }
+) -> Result<Log<J, A>, Fault>
+    ensures closed { IfErr result (λ _. WasClosed
+        (GivesInHistory (λ x y. y ≡ x) J.opening reader.receiver.port.known)) }
 {
-    let list = received(alloc, &mut receiver, count);
-    if list.is_err() {
-        receiver.close();
-    }
-    list
-}
-
-fn received<P: Port<u64, WakerSlot>, A: Allocator>(
-    alloc: A,
-    receiver: &mut Receiver<u64, P>,
-    count: usize,
-) -> List<A>
-    ensures received { IfOk result (λ list. WereReceived (P.gave receiver.old.port)
-        receiver.old.role.key list.items) }
-    ensures ended { IfOk result (λ _. HasEnded (P.gave receiver.old.port) receiver.old.role.key) }
-    ensures same { receiver.new ≡ receiver.old }
-{
-    let mut list = Vec::with_capacity(alloc, count)?;
-    for _ in 0..u64::MAX {
-        match receiver.recv_blocking()? {
-            Ok(msg) => list.push(msg)?,
-            Err(_) => return Ok(list),
+    logs_are_accepted::<u64>();
+    let Reader {
+        mut receiver,
+        mut reading,
+    } = reader;
+    match received(rt, alloc, &mut reading, &mut receiver, count) {
+        Ok(list) => Ok(Log { list, reading }),
+        Err(fault) => {
+            receiver.close();
+            Err(fault)
         }
     }
-    // No list is that long.
+}
+
+fn received<J: Channel, R: Wait + Clone, A: Allocator>(
+    rt: &impl Wait,
+    alloc: A,
+    reading: &mut Reading<u64, J>,
+    receiver: &mut HistoryReceiver<u64, R, J>,
+    count: usize,
+) -> Result<Vec<u64, A>, Fault>
+    requires key { receiver.old.role.key ≡ reading.old.key }
+    requires start { reading.old.next ≡ J.opening.first_number }
+    ensures whole { IfOk result (λ list.
+        IsWholeLog J.opening J.opening.first_number list.items reading.new) }
+    ensures same { receiver.new ≡ receiver.old }
+{
+    messages_stay::<u64>();
+    let mut list = Vec::with_capacity(alloc, count)?;
+    for _ in rt.forever() {
+        match reading.recv_blocking(rt, receiver)? {
+            Ok(msg) => list.push(msg)?,
+            Err(RecvError::Closed) => return Ok(list),
+            Err(RecvError::Overflowed(_)) => return Err(Fault::Missed),
+        }
+    }
     unreachable!()
 }

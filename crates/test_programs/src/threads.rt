@@ -1,15 +1,17 @@
 //! Runs of threads.
-ghost use Rattle.std.specs.Prelude.{◌<◌, ◌≤◌};
+ghost use Rattle.std.specs.Prelude.{◌≡◌, ◌<◌, ◌≤◌};
 
 use crate::streams::Taker;
-use async_broadcast::{Port, Receiver, Sender, WakerSlot, broadcast};
+use async_broadcast::{Port, Receiver, Sender, WakerSlot, broadcast as plain};
+use bcast_delivery::{Channel, Opened, Reading, broadcast};
 use bcast_text::threads::outcome::print_seen;
 use bcast_threads::plan::{Plan, run as run_plan, threads};
-use bcast_threads::work::{receive_all, send_all};
+use bcast_threads::work::{Reader, receive_all, send_all};
 use linked_list_allocator::LocalHeap;
 use std::alloc::{AllocError, Global};
 use std::io;
 use std::io::{BufWriter, Write};
+use std::marker::Brand;
 use std::sync::Wait;
 use std::thread::Threads;
 
@@ -124,9 +126,29 @@ fn order_is_kept<R: Wait + Clone, W: Write>(
     alloc: Global,
     output: &mut W,
 ) -> io::Result<()> {
-    let (sender, receiver) = broadcast(rt.clone()?, alloc, 3)?;
+    let opened = Opened::new(alloc, 3)?;
+    order_over::<Brand, R, W>(rt, alloc, opened, output)
+}
+
+fn order_over<J: Channel, R: Wait + Clone, W: Write>(
+    rt: &R,
+    alloc: Global,
+    opened: Opened<u64>,
+    output: &mut W,
+) -> io::Result<()>
+    requires { (opened.book ≡ J.book) × (opened.opening ≡ J.opening) }
+{
+    let (sender, receiver, reading): (_, _, Reading<u64, J>) = broadcast(
+        rt.clone()?,
+        alloc,
+        opened,
+    )?;
     send_three(&sender, output)?;
-    receive_three(alloc, receiver, output)
+    let reader = Reader { receiver, reading };
+    match receive_all(rt, alloc, reader, 3) {
+        Ok(log) => writeln!(output, "received {:?}", log.list.as_slice()),
+        Err(fault) => writeln!(output, "{fault:?}"),
+    }
 }
 
 /// Sends three messages, and closes the channel.
@@ -143,15 +165,6 @@ fn send_three<P: Port<u64, WakerSlot>, W: Write>(
     Ok(())
 }
 
-fn receive_three<P: Port<u64, WakerSlot>, W: Write>(
-    alloc: Global,
-    receiver: Receiver<u64, P>,
-    output: &mut W,
-) -> io::Result<()> {
-    let list = receive_all(alloc, receiver, 3)?;
-    writeln!(output, "received {:?}", list.as_slice())
-}
-
 /// A receiver that is refused memory closes the channel, whether it takes memory for all messages
 /// at first or for one after another, and another receiver can still read what it had to read.
 fn no_memory_closes<R: Wait + Clone, W: Write>(
@@ -160,28 +173,53 @@ fn no_memory_closes<R: Wait + Clone, W: Write>(
     awaited: usize,
     output: &mut W,
 ) -> io::Result<()> {
+    let opened = Opened::new(alloc, 100)?;
+    closes_over::<Brand, R, W>(rt, alloc, opened, awaited, output)
+}
+
+fn closes_over<J: Channel, R: Wait + Clone, W: Write>(
+    rt: &R,
+    alloc: Global,
+    opened: Opened<u64>,
+    awaited: usize,
+    output: &mut W,
+) -> io::Result<()>
+    requires { (opened.book ≡ J.book) × (opened.opening ≡ J.opening) }
+{
+    let (sender, receiver, reading): (_, _, Reading<u64, J>) = broadcast(
+        rt.clone()?,
+        alloc,
+        opened,
+    )?;
+    send_hundred(&sender, output)?;
+    let Ok(other) = receiver.clone() else {
+        return output.write_all(b"no clone\n");
+    };
     let heap = LocalHeap::new(alloc, 64)?;
-    let (sender, receiver) = broadcast(rt.clone()?, alloc, 100)?;
+    let reader = Reader { receiver, reading };
+    let is_err = receive_all(rt, &heap, reader, awaited).is_err();
+    write_closed(is_err, &sender, &other, output)
+}
+
+fn send_hundred<P: Port<u64, WakerSlot>, W: Write>(
+    sender: &Sender<u64, P>,
+    output: &mut W,
+) -> io::Result<()> {
     for msg in 0..100u64 {
         if sender.try_broadcast(msg).is_err() {
             output.write_all(b"not sent\n")?;
         }
     }
-    receive_without_memory(&heap, &sender, receiver, awaited, output)
+    Ok(())
 }
 
-/// Receives with too little memory, and writes what is kept for another receiver.
-fn receive_without_memory<P: Port<u64, WakerSlot>, W: Write>(
-    heap: &LocalHeap,
+/// Writes whether memory was refused, and what is kept for another receiver.
+fn write_closed<P: Port<u64, WakerSlot>, W: Write>(
+    is_err: bool,
     sender: &Sender<u64, P>,
-    receiver: Receiver<u64, P>,
-    awaited: usize,
+    other: &Receiver<u64, P>,
     output: &mut W,
 ) -> io::Result<()> {
-    let Ok(other) = receiver.clone() else {
-        return output.write_all(b"no clone\n");
-    };
-    let is_err = receive_all(heap, receiver, awaited).is_err();
     let is_closed = sender.is_closed();
     writeln!(
         output,
@@ -196,7 +234,7 @@ fn closed_ends_sender<R: Wait + Clone, W: Write>(
     alloc: Global,
     output: &mut W,
 ) -> io::Result<()> {
-    let (sender, receiver) = broadcast(rt.clone()?, alloc, 1)?;
+    let (sender, receiver) = plain(rt.clone()?, alloc, 1)?;
     receiver.close();
     send_all(sender, 0, 100);
     writeln!(output, "closed, and {} sent", receiver.len())

@@ -1,11 +1,10 @@
--- Each turn of the loop received one message.
-use Rattle.std.proofs.Common.{◌≡◌, vec_len}
-use Rattle.bcast_threads.specs.Given.{WereReceived}
+-- What was received so far is a log.
+use Rattle.std.proofs.Common.{◌≡◌}
+use Rattle.bcast_delivery.specs.Log.{IsLog}
 use Rattle.bcast_threads.proofs.work.received.Given as goal
 
 abbrev pub invariant-loop : goal.invariant-loop
-invariant-loop g l = record {
-  count : vec_len l.list ≡ l.counter;
-  received : WereReceived (g.P.Ask.gave l.receiver.port) l.receiver.role.key l.list.items;
-  same : l.receiver ≡ l.initial.receiver;
-}
+invariant-loop g l =
+    (goal.iterator-loop g).can_next l.iterator' × (goal.iterator-loop g).is_finite l.iterator'
+    × (l.receiver ≡ l.initial.receiver) × (l.receiver.role.key ≡ l.reading.key)
+    × IsLog g.J.Channel.opening g.J.Channel.opening.first_number l.list.items l.reading
