@@ -47,14 +47,16 @@ module _ {T : Type 0} {is_clone : T → T → Type 0} {o : Opening} where
         end = ap (end_of o) (same ∙ pushed) ∙ end_of-more is_clone o steps (record { call = call; reply = reply }) replays.run;
       }
 
-  -- who learns of it knows where its receiver reads on, too, and the number that comes next
+  -- who learns of it knows what comes next, whether the channel is closed, and where its receiver reads on
   pub learned : {known now after : Known T} {longer : List (Step T)} {shown : View T} {call : Call T} {reply : Reply T}
       → known ≡ now → Follows is_clone o known.steps call reply after.steps → after.steps ≡ longer → Represents shown (end_of o longer)
-      → after.end ≡ shown.end → after.reader ≡ reader_in shown known.reader → Learns is_clone o now call reply after
-  learned {known = known} {after = after} {shown = shown} {call = call} {reply = reply} is_now follows same shows end at =
+      → after.end ≡ shown.end → after.closed ≡ shown.control.closed → after.reader ≡ reader_in shown known.reader
+      → Learns is_clone o now call reply after
+  learned {known = known} {after = after} {shown = shown} {call = call} {reply = reply} is_now follows same shows end closed at =
       let shows_it : shown ≡ view_of (end_of o after.steps) = shows ∙ sym (ap (λ ss. view_of (end_of o ss)) same) in
       subst (λ k. Learns is_clone o k call reply after) is_now (record {
         follows = follows;
         end = end ∙ ap (λ v. v.end) shows_it;
+        closed = closed ∙ ap (λ v. v.control.closed) shows_it;
         reader = at ∙ ap (λ v. reader_in v known.reader) shows_it;
       })

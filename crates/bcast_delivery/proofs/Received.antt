@@ -1,6 +1,6 @@
 -- What the calls of a `Reading` take.
-use Rattle.std.proofs.Common.{◌≡◌, ◌⊎◌, inl, inr, ℕ, ◌+◌, length, Result, Ok, Err, refl, sym, ap, ◌∙◌, subst, arith}
-use Rattle.std.specs.Prelude.{IfOk, IfErr}
+use Rattle.std.proofs.Common.{◌≡◌, ◌⊎◌, inl, inr, ℕ, ◌+◌, Bool, length, Option, Some, None, Result, Ok, Err, refl, sym, ap, ◌∙◌, subst, arith}
+use Rattle.std.specs.Prelude.{IfOk, IfErr, IfSome}
 use Rattle.std.specs.declared.alloc.AllocError.{AllocError}
 use Rattle.futures.specs.declared.task.Poll.{Poll}
 use Rattle.bcast_model.specs.declared.error.RecvError.{RecvError}
@@ -11,9 +11,19 @@ use Rattle.bcast_model.specs.Words.{view_of, given_by}
 use Rattle.bcast_history.specs.declared.step.Opening.{Opening}
 use Rattle.bcast_history.specs.History.{end_of}
 use Rattle.bcast_delivery.specs.Seen.{Known, Learns, reads_at}
-use Rattle.bcast_delivery.specs.Reading.{Reading, Finds, Takes, as_found}
+use Rattle.bcast_delivery.specs.Reading.{Reading, Finds, Takes, as_found, said_closed}
 use Rattle.bcast_delivery.proofs.Taken.{Goes, no_call, one_call, finds}
 use Rattle.bcast_delivery.proofs.Polled.{Polled, polled_finds}
+
+module _ {T : Type 0} where
+  -- what a receive says of the channel is so
+  pub is_so : (o : Opening) (after : Known T) {said found : Option Bool} → after.closed ≡ (end_of o after.steps).control.closed
+      → found ≡ said → IfSome found (λ closed. closed ≡ after.closed) → IfSome said (λ closed. (end_of o after.steps).control.closed ≡ closed)
+  is_so o after {said = said} shown same told = shown_so said (subst (λ f. IfSome f (λ closed. closed ≡ after.closed)) same told)
+    where
+      shown_so : (s : Option Bool) → IfSome s (λ closed. closed ≡ after.closed) → IfSome s (λ closed. (end_of o after.steps).control.closed ≡ closed)
+      shown_so None t = tt
+      shown_so (Some b) t = sym (t ∙ shown)
 
 module _ {T : Type 0} (is_clone : T → T → Type 0) where
   pub tried_takes : {o : Opening} {known after : Known T} {old : Reading T} {key was now given reader : ℕ} {r : Result (Result T TryRecvError) AllocError}
@@ -28,6 +38,13 @@ module _ {T : Type 0} (is_clone : T → T → Type 0) where
       (at ∙ ap (λ h. reads_at (view_of h) key) f.end) (behind ∙ ap (λ n. was + n) counted) in
       subst (λ (old : Reading T). Takes is_clone o old (record { key = key; next = now; steps = after.steps }) r) is_old
       (subst (λ h. Finds is_clone h was now r) (sym f.end) found)
+
+  pub polled_is_so : (o : Opening) (known after : Known T) (reader : ℕ) (p : Polled T) {found : Option Bool}
+      → IfOk p (λ poll. Learns is_clone o known (call.PollRecv reader) (reply.PollRecv (Ok poll)) after)
+      → found ≡ said_closed (as_found p) → IfSome found (λ closed. closed ≡ after.closed)
+      → IfSome (said_closed (as_found p)) (λ closed. (end_of o after.steps).control.closed ≡ closed)
+  polled_is_so o known after reader (Ok poll) learned same told = is_so o after learned.closed same told
+  polled_is_so o known after reader (Err error) learned same told = tt
 
   -- a poll for which memory was refused made no call
   pub polled_goes : (X : Type 0) (o : Opening) (known after : Known T) (reader : ℕ) (p : Polled T)

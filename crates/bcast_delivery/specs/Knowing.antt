@@ -56,6 +56,7 @@ module _ {T : Type 0} where
           end = follows.end;
         };
         end = learned.end;
+        closed = learned.closed;
         reader = learned.reader ∙ by_key (view_of (end_of o after.steps)) less.reader known.reader reaches.key;
       }
 

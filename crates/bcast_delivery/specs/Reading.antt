@@ -1,5 +1,5 @@
 -- What a receiver is given, one message after the other.
-use Rattle.std.specs.Prelude.{◌≡◌, ℕ, ◌+◌, ◌<◌, ◌≤◌, List, Option, Some, None, Result, Ok, Err}
+use Rattle.std.specs.Prelude.{◌≡◌, ℕ, ◌+◌, ◌<◌, ◌≤◌, Bool, true, false, List, Option, Some, None, Result, Ok, Err, IfSome}
 use Rattle.futures.specs.declared.task.Poll.{Poll}
 use Rattle.futures.specs.declared.task.Poll.TheVariants as poll
 use Rattle.std.specs.declared.alloc.AllocError.{AllocError}
@@ -39,6 +39,22 @@ module _ {T : Type 0} where
   as_found (Ok (poll.Ready None)) = Ok (Err unread.Closed)
   as_found (Ok poll.Pending) = Ok (Err unread.Empty)
   as_found (Err error) = Err error
+
+  -- what a receive says of the channel, if it finds nothing: that it is closed, or that it isn't
+  abbrev pub said_closed : Result (Result T TryRecvError) AllocError → Option Bool
+  said_closed (Ok (Err unread.Closed)) = Some true
+  said_closed (Ok (Err unread.Empty)) = Some false
+  said_closed other = None
+
+  -- the same of a stream: it ends, or has to wait
+  abbrev pub said_ended : Result (Poll (Option T)) AllocError → Option Bool
+  said_ended (Ok (poll.Ready None)) = Some true
+  said_ended (Ok poll.Pending) = Some false
+  said_ended other = None
+
+  -- and so it is, in the channel as the receiver has seen it
+  abbrev pub IsSo : Opening → Reading T → Option Bool → Type 0
+  IsSo o r said = IfSome said (λ closed. (end_of o r.steps).control.closed ≡ closed)
 
 module _ {T : Type 0} (is_clone : T → T → Type 0) where
   -- what a receiver finds that read on at `was`, and where it reads on now, on a channel that is

@@ -1,5 +1,5 @@
 -- What is known of a channel.
-use Rattle.std.specs.Prelude.{◌≡◌, ◌⊎◌, ℕ, List, Option}
+use Rattle.std.specs.Prelude.{◌≡◌, ◌⊎◌, ℕ, Bool, List, Option}
 use Rattle.std.specs.Option.{option_map, option_map_or}
 use mathlib.Core.List.{IsPrefix}
 use Rattle.bcast_model.specs.declared.run.Call.{Call}
@@ -11,12 +11,13 @@ use Rattle.bcast_history.specs.declared.step.Step.{Step}
 use Rattle.bcast_history.specs.History.{end_of}
 use Rattle.bcast_delivery.specs.Follows.{Follows}
 
--- a beginning of the steps on it; the number of the message that comes next, as the last call left
--- it that was learned of; and where it is known of a receiver, its key, and the number at which it
--- reads on
+-- a beginning of the steps on it; the number of the message that comes next, and whether it is
+-- closed, as the last call left it that was learned of; and where it is known of a receiver, its key,
+-- and the number at which it reads on
 pub record Known (T : Type 0) : Type 0 where
   pub steps : List (Step T)
   pub end : ℕ
+  pub closed : Bool
   pub reader : Option (ℕ × ℕ)
 
 abbrev pub key_of : Option (ℕ × ℕ) → Option ℕ
@@ -37,6 +38,7 @@ pub record Learns
     (call : Call T) (reply : Reply T) (after : Known T) : Type 0 where
   pub follows : Follows is_clone o known.steps call reply after.steps
   pub end : after.end ≡ end_number (end_of o after.steps)
+  pub closed : after.closed ≡ (end_of o after.steps).control.closed
   pub reader : after.reader ≡ reader_in (view_of (end_of o after.steps)) known.reader
 
 -- a call and a reply that a port gives: they have a place in the history of its channel, after all

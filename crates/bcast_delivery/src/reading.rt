@@ -7,7 +7,7 @@ ghost use Rattle.bcast_history.specs.History.{end_of};
 ghost use Rattle.async_broadcast.specs.Ports.{as_try_recv};
 ghost use Rattle.async_broadcast.specs.Timed.{as_timed_try};
 ghost use Rattle.bcast_delivery.specs.Seen.{reads_at};
-ghost use Rattle.bcast_delivery.specs.Reading.{Takes};
+ghost use Rattle.bcast_delivery.specs.Reading.{Takes, IsSo, said_closed};
 
 use crate::opened::HistoryReceiver;
 use crate::seen::Seen;
@@ -91,11 +91,11 @@ impl<T: Clone, J: Channel> Reading<T, J> {
         ensures key { self.new.key ≡ self.old.key }
         ensures seen { IsPrefix self.old.steps self.new.steps }
         ensures takes { Takes T.is_clone J.opening self.old self.new result }
+        ensures closed { IsSo J.opening self.new (said_closed result) }
     {
         let received = receiver.try_recv_seen(&mut self.seen);
-        let given = count_given(&received);
-        let reader = self.seen.reader();
-        let now = agreed(rt, reader, self.next, given);
+        let found = found_by_try(&received);
+        let now = agreed(rt, &self.seen, self.next, found);
         self.next = now;
         received
     }
@@ -121,11 +121,11 @@ impl<T: Clone, J: Channel> Reading<T, J> {
         ensures key { self.new.key ≡ self.old.key }
         ensures seen { IsPrefix self.old.steps self.new.steps }
         ensures takes { Takes T.is_clone J.opening self.old self.new (as_try_recv result) }
+        ensures closed { IsSo J.opening self.new (said_closed (as_try_recv result)) }
     {
         let received = receiver.recv_blocking_seen(&mut self.seen);
-        let given = count_received(&received);
-        let reader = self.seen.reader();
-        let now = agreed(rt, reader, self.next, given);
+        let found = found_blocking(&received);
+        let now = agreed(rt, &self.seen, self.next, found);
         self.next = now;
         received
     }
@@ -153,56 +153,96 @@ impl<T: Clone, J: Channel> Reading<T, J> {
         ensures key { self.new.key ≡ self.old.key }
         ensures seen { IsPrefix self.old.steps self.new.steps }
         ensures takes { Takes T.is_clone J.opening self.old self.new (as_timed_try result) }
+        ensures closed { IsSo J.opening self.new (said_closed (as_timed_try result)) }
     {
         let received = receiver.recv_timeout_seen(&mut self.seen, limit);
-        let given = count_in_time(&received);
-        let reader = self.seen.reader();
-        let now = agreed(rt, reader, self.next, given);
+        let found = found_in_time(&received);
+        let now = agreed(rt, &self.seen, self.next, found);
         self.next = now;
         received
     }
 }
 
-// How many messages this gives, or counts as missed.
-fn count_given<T>(received: &Result<Result<T, TryRecvError>, AllocError>) -> u64
-    ensures { result ≡ length (given_by (reply.TryRecv received.now)) }
-{
-    match received {
-        Ok(Ok(_)) => 1,
-        Ok(Err(TryRecvError::Overflowed(n))) => *n,
-        _ => 0,
+/// What a receive found.
+#[derive(Clone, Copy)]
+struct Found {
+    // How many messages it gives, or counts as missed.
+    given: u64,
+    // If it gives none, whether it says that the channel is closed.
+    closed: Option<bool>,
+}
+
+impl Found {
+    fn gives(given: u64) -> Found
+        ensures { result ≡ record { given = given; closed = None } }
+    {
+        Found {
+            given,
+            closed: None,
+        }
+    }
+
+    fn says(closed: bool) -> Found
+        ensures { result ≡ record { given = 0; closed = Some closed } }
+    {
+        Found {
+            given: 0,
+            closed: Some(closed),
+        }
     }
 }
 
-// The same, of a receive that blocked.
-fn count_received<T>(received: &Result<Result<T, RecvError>, AllocError>) -> u64
-    ensures { result ≡ length (given_by (reply.TryRecv (as_try_recv received.now))) }
+fn found_by_try<T>(received: &Result<Result<T, TryRecvError>, AllocError>) -> Found
+    ensures given { result.given ≡ length (given_by (reply.TryRecv received.now)) }
+    ensures closed { result.closed ≡ said_closed received.now }
 {
     match received {
-        Ok(Ok(_)) => 1,
-        Ok(Err(RecvError::Overflowed(n))) => *n,
-        _ => 0,
+        Ok(Ok(_)) => Found::gives(1),
+        Ok(Err(TryRecvError::Overflowed(n))) => Found::gives(*n),
+        Ok(Err(TryRecvError::Empty)) => Found::says(false),
+        Ok(Err(TryRecvError::Closed)) => Found::says(true),
+        Err(_) => Found::gives(0),
     }
 }
 
-// The same, of a receive with a limit.
-fn count_in_time<T>(received: &Result<Result<T, RecvTimeoutError>, AllocError>) -> u64
-    ensures { result ≡ length (given_by (reply.TryRecv (as_timed_try received.now))) }
+fn found_blocking<T>(received: &Result<Result<T, RecvError>, AllocError>) -> Found
+    ensures given { result.given ≡ length (given_by (reply.TryRecv (as_try_recv received.now))) }
+    ensures closed { result.closed ≡ said_closed (as_try_recv received.now) }
 {
     match received {
-        Ok(Ok(_)) => 1,
-        Ok(Err(RecvTimeoutError::Overflowed(n))) => *n,
-        _ => 0,
+        Ok(Ok(_)) => Found::gives(1),
+        Ok(Err(RecvError::Overflowed(n))) => Found::gives(*n),
+        Ok(Err(RecvError::Closed)) => Found::says(true),
+        Err(_) => Found::gives(0),
     }
 }
 
-// The number at which the channel says that a receiver reads on, if that is `given` behind `next`.
-fn agreed(rt: &impl Wait, reader: Option<(usize, u64)>, next: u64, given: u64) -> u64
-    ensures reader { IfSome reader (λ at. at.1 ≡ result) }
-    ensures next { result ≡ next + given }
+fn found_in_time<T>(received: &Result<Result<T, RecvTimeoutError>, AllocError>) -> Found
+    ensures given { result.given ≡ length (given_by (reply.TryRecv (as_timed_try received.now))) }
+    ensures closed { result.closed ≡ said_closed (as_timed_try received.now) }
 {
-    if let Some((_, now)) = reader {
-        if next.checked_add(given) == Some(now) {
+    match received {
+        Ok(Ok(_)) => Found::gives(1),
+        Ok(Err(RecvTimeoutError::Overflowed(n))) => Found::gives(*n),
+        Ok(Err(RecvTimeoutError::Timeout)) => Found::says(false),
+        Ok(Err(RecvTimeoutError::Closed)) => Found::says(true),
+        Err(_) => Found::gives(0),
+    }
+}
+
+// The number at which the channel says that a receiver reads on. It is behind `next` by what was
+// found, and the channel is closed, or open, if that was.
+fn agreed<T, J: Channel>(rt: &impl Wait, seen: &Seen<T, J>, next: u64, found: Found) -> u64
+    ensures reader { IfSome seen.now.reader (λ at. at.1 ≡ result) }
+    ensures next { result ≡ next + found.given }
+    ensures closed { IfSome found.closed (λ closed. closed ≡ seen.now.closed) }
+{
+    let is_so = match found.closed {
+        Some(closed) => closed == seen.is_closed(),
+        None => true,
+    };
+    if let Some((_, now)) = seen.reader() {
+        if is_so && next.checked_add(found.given) == Some(now) {
             return now;
         }
     }

@@ -9,13 +9,14 @@ use bcast_history::{Named, Prefix, Step};
 use std::alloc::Allocator;
 use std::marker::Model;
 
-/// What is known of a channel: a beginning of the steps on it, and the number of the message that
-/// came next after the last call that was learned of. Where it belongs to a receiver, also the
-/// receiver's key and the number at which it reads on.
+/// What is known of a channel: a beginning of the steps on it; the number of the message that came
+/// next after the last call that was learned of, and whether the channel was closed then. Where it
+/// belongs to a receiver, also the receiver's key and the number at which it reads on.
 #[derive(Drop)]
 pub struct Seen<T, J: Named> {
     pub(crate) steps: Prefix<Step<T>, J>,
     pub(crate) end: u64,
+    pub(crate) closed: bool,
     pub(crate) reader: Option<(usize, u64)>,
 }
 
@@ -24,7 +25,7 @@ impl<T, J: Named> Model for Seen<T, J> {
 
     ghost Value = { Known T };
 
-    ghost view = { λ s. record { steps = s.steps; end = s.end; reader = s.reader } };
+    ghost view = { λ s. record { steps = s.steps; end = s.end; closed = s.closed; reader = s.reader } };
 }
 
 impl<T, J: Named> Seen<T, J> {
@@ -36,6 +37,7 @@ impl<T, J: Named> Seen<T, J> {
         Seen {
             steps: self.steps.same(),
             end: self.end,
+            closed: self.closed,
             reader: self.reader,
         }
     }
@@ -48,6 +50,7 @@ impl<T, J: Named> Seen<T, J> {
         Seen {
             steps: self.steps.same(),
             end: self.end,
+            closed: self.closed,
             reader: Some((key, next)),
         }
     }
@@ -68,6 +71,7 @@ impl<T, J: Named> Seen<T, J> {
         Seen {
             steps: self.steps.same(),
             end: self.end,
+            closed: self.closed,
             reader: None,
         }
     }
@@ -77,7 +81,8 @@ impl<T, J: Named> Seen<T, J> {
     pub fn learn(&mut self, other: &Seen<T, J>)
         ensures longer { IsPrefix self.old.steps self.new.steps }
         ensures other { IsPrefix other.now.steps self.new.steps }
-        ensures same { (self.new.end ≡ self.old.end) × (self.new.reader ≡ self.old.reader) }
+        ensures same { (self.new.end ≡ self.old.end) × (self.new.closed ≡ self.old.closed)
+            × (self.new.reader ≡ self.old.reader) }
     {
         self.steps.learn(&other.steps);
     }
@@ -89,6 +94,14 @@ impl<T, J: Named> Seen<T, J> {
         ensures { result ≡ self.now.end }
     {
         self.end
+    }
+
+    /// Whether the channel was closed after the last call by which this was made known.
+    #[inline(always)]
+    pub fn is_closed(&self) -> bool
+        ensures { result ≡ self.now.closed }
+    {
+        self.closed
     }
 }
 

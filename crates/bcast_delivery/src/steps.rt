@@ -1,5 +1,5 @@
 //! What the lock of such a channel keeps: the steps on it.
-ghost use Rattle.std.specs.Prelude.{◌≡◌, [], None};
+ghost use Rattle.std.specs.Prelude.{◌≡◌, [], None, false};
 ghost use Rattle.bcast_model.specs.Words.{IsValid};
 ghost use Rattle.bcast_history.specs.History.{start_of};
 
@@ -58,11 +58,12 @@ impl<T: Clone, J: Channel> KeepsSteps<T, J> {
 
     // Knows no step.
     pub(crate) fn nothing(&self) -> Seen<T, J>
-        ensures { result ≡ record { steps = []; end = 0; reader = None } }
+        ensures { result ≡ record { steps = []; end = 0; closed = false; reader = None } }
     {
         Seen {
             steps: self.writer.nothing(),
             end: 0,
+            closed: false,
             reader: None,
         }
     }
@@ -113,6 +114,7 @@ impl<T: Clone, J: Channel> Keep<T> for KeepsSteps<T, J> {
         self.writer
             .append(rt, &mut known.steps, &ShownStep { made });
         known.end = after.end_number();
+        known.closed = after.is_closed();
         let reader = reader_in(after, known.reader);
         known.reader = reader;
     }

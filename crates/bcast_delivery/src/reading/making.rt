@@ -3,7 +3,7 @@ ghost use Rattle.std.specs.Prelude.{◌≡◌, IfOk, IfErr};
 ghost use mathlib.Core.List.{IsPrefix};
 ghost use Rattle.bcast_delivery.specs.Reading.{StartsAtTheEnd};
 
-use super::{Reading, agreed};
+use super::{Found, Reading, agreed};
 use crate::opened::{HistoryInactive, HistoryReceiver, HistorySender};
 use crate::seen::Seen;
 use crate::steps::Channel;
@@ -80,7 +80,11 @@ impl<T: Clone, J: Channel> Reading<T, J> {
         ensures starts { IfOk result (λ made. made.1.next ≡ self.old.next) }
     {
         let made = receiver.clone_seen(&mut self.seen);
-        agreed(rt, self.seen.reader(), self.next, 0);
+        let found = Found {
+            given: 0,
+            closed: None,
+        };
+        agreed(rt, &self.seen, self.next, found);
         let made = made?;
         let reading = Reading::new(made.key(), self.next, &self.seen);
         Ok((made, reading))

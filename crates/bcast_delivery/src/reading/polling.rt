@@ -6,9 +6,9 @@ ghost use Rattle.futures.specs.Poll.{OnPending};
 ghost use Rattle.futures.specs.declared.task.Poll.TheVariants as poll;
 ghost use Rattle.bcast_model.specs.declared.run.Reply.TheVariants as reply;
 ghost use Rattle.bcast_model.specs.Words.{given_by};
-ghost use Rattle.bcast_delivery.specs.Reading.{Takes, TakesNext, as_found};
+ghost use Rattle.bcast_delivery.specs.Reading.{Takes, TakesNext, IsSo, as_found, said_closed, said_ended};
 
-use super::{Reading, agreed};
+use super::{Found, Reading, agreed};
 use crate::opened::HistoryReceiver;
 use crate::steps::Channel;
 use async_broadcast::RecvError;
@@ -40,13 +40,13 @@ impl<T: Clone, J: Channel> Reading<T, J> {
         ensures key { self.new.key ≡ self.old.key }
         ensures seen { IsPrefix self.old.steps self.new.steps }
         ensures takes { Takes T.is_clone J.opening self.old self.new (as_found result) }
+        ensures closed { IsSo J.opening self.new (said_closed (as_found result)) }
         ensures registered { IfOk result (λ poll. OnPending poll (IsArmed cx.new)) }
         ensures kept { Keeps cx.old cx.new }
     {
         let polled = receiver.poll_recv_seen(&mut self.seen, cx);
-        let given = count_polled(&polled);
-        let reader = self.seen.reader();
-        let now = agreed(rt, reader, self.next, given);
+        let found = found_by_poll(&polled);
+        let now = agreed(rt, &self.seen, self.next, found);
         self.next = now;
         polled
     }
@@ -73,6 +73,7 @@ impl<T: Clone, J: Channel> Reading<T, J> {
         ensures key { self.new.key ≡ self.old.key }
         ensures seen { IsPrefix self.old.steps self.new.steps }
         ensures takes { TakesNext T.is_clone J.opening self.old self.new result }
+        ensures closed { IsSo J.opening self.new (said_ended result) }
         ensures registered { IfOk result (λ poll. OnPending poll (IsArmed cx.new)) }
         ensures kept { Keeps cx.old cx.new }
     {
@@ -95,29 +96,30 @@ impl<T: Clone, J: Channel> Reading<T, J> {
     }
 }
 
-// How many messages a poll gives, or counts as missed.
-fn count_polled<T>(polled: &Result<Poll<Option<Result<T, RecvError>>>, AllocError>) -> u64
-    ensures { result ≡ length (given_by (reply.TryRecv (as_found polled.now))) }
+fn found_by_poll<T>(polled: &Result<Poll<Option<Result<T, RecvError>>>, AllocError>) -> Found
+    ensures given { result.given ≡ length (given_by (reply.TryRecv (as_found polled.now))) }
+    ensures closed { result.closed ≡ said_closed (as_found polled.now) }
 {
     let Ok(poll) = polled else {
-        return 0;
+        return Found::gives(0);
     };
     let Poll::Ready(next) = poll else {
-        return 0;
+        return Found::says(false);
     };
     match next {
-        Some(received) => count_next(received),
-        None => 0,
+        Some(received) => found_next(received),
+        None => Found::says(true),
     }
 }
 
-fn count_next<T>(received: &Result<T, RecvError>) -> u64
-    ensures { result
+fn found_next<T>(received: &Result<T, RecvError>) -> Found
+    ensures given { result.given
         ≡ length (given_by (reply.TryRecv (as_found (Ok (poll.Ready (Some received.now)))))) }
+    ensures closed { result.closed ≡ said_closed (as_found (Ok (poll.Ready (Some received.now)))) }
 {
     match received {
-        Ok(_) => 1,
-        Err(RecvError::Overflowed(n)) => *n,
-        Err(RecvError::Closed) => 0,
+        Ok(_) => Found::gives(1),
+        Err(RecvError::Overflowed(n)) => Found::gives(*n),
+        Err(RecvError::Closed) => Found::says(true),
     }
 }

@@ -17,4 +17,4 @@ returns-clause-learned g c =
     let old = replays _ _ g.row.T.coded c.self.view_is c.requires.kept c.self.invariant in
     let new = replays_longer c.append.ensures.appended old c.requires.answers in
     let made = follows c.append.ensures.knows c.append.ensures.appended c.append.ensures.before old c.requires.answers.legal in
-    learned c.known.view_is made c.append.ensures.knows new.end c.end_number-known-inside.ensures c.reader_in-reader.ensures
+    learned c.known.view_is made c.append.ensures.knows new.end c.end_number-known-inside.ensures c.is_closed-known-inside.ensures c.reader_in-reader.ensures
