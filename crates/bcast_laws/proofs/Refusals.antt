@@ -1,7 +1,6 @@
 -- A refused call changes nothing.
-use Rattle.std.proofs.Common.{◌≡◌, inl, inr, ℕ, ◌+◌, ◌-◌, ◌≤◌, ◌==◌, ◌&&◌, not, Bool, true, false, cond, List, length, max, Option, Some, None, Result, Ok, Err, nat_lt, refl, sym, ap, ◌∙◌, arith, append-nil}
+use Rattle.std.proofs.Common.{◌≡◌, inl, inr, ℕ, ◌+◌, ◌-◌, ◌≤◌, ◌==◌, ◌&&◌, not, Bool, true, false, cond, List, length, max, Option, Some, None, Result, Ok, Err, nat_lt, refl, sym, ap, ◌∙◌, arith, append-nil, alloc_error, is_ok}
 use Rattle.std.proofs.lemmas.Grind.{common_steps}
-use Rattle.std.specs.Prelude.{alloc_error, is_ok}
 use Rattle.bcast_model.specs.declared.error.TrySendError.{TrySendError}
 use Rattle.bcast_model.specs.declared.error.TryRecvError.{TryRecvError}
 use Rattle.bcast_model.specs.declared.error.TryRecvError.TheVariants as unread
@@ -11,13 +10,12 @@ use Rattle.bcast_model.specs.declared.run.Reply.{Reply}
 use Rattle.bcast_model.specs.declared.run.Reply.TheVariants as reply
 use Rattle.bcast_model.specs.Words.{Control, tell_a_sender, closing, with_cursor, cursor_of, View}
 use Rattle.bcast_model.specs.Words.{kept_at, sends_are_ready, Effect, sets, try_broadcast_reply}
-use Rattle.bcast_model.specs.Words.{reply_to_attempt, accept, try_broadcast_all_reply}
-use Rattle.bcast_model.specs.Words.{accept_all, receive, recv_reply}
-use Rattle.bcast_model.specs.Words.{skipped_count, skipped_to, future_reply, stream_reply}
-use Rattle.bcast_model.specs.Words.{next_reply, try_recv_reply, IsOwed, Legal, IsReceived}
-use Rattle.bcast_model.specs.Words.{set_unless_refused, effect, History, view_of, remember}
-use Rattle.bcast_model.specs.Words.{with_control, is_out_of_memory, tell_if_ready, end_call}
-use Rattle.bcast_model.specs.Words.{may_tell, next, IsValid, IsValidView, has_next}
+use Rattle.bcast_model.specs.Words.{reply_to_attempt, accept, try_broadcast_all_reply, accept_all}
+use Rattle.bcast_model.specs.Words.{receive, recv_reply, skipped_count, skipped_to, future_reply}
+use Rattle.bcast_model.specs.Words.{stream_reply, next_reply, try_recv_reply, IsOwed, Legal}
+use Rattle.bcast_model.specs.Words.{IsReceived, set_unless_refused, effect, History, view_of}
+use Rattle.bcast_model.specs.Words.{remember, with_control, is_out_of_memory, tell_if_ready}
+use Rattle.bcast_model.specs.Words.{end_call, may_tell, next, IsValid, IsValidView, has_next}
 use Rattle.bcast_model.proofs.Views.{valid_view}
 use Rattle.bcast_model.proofs.DeliveryLists.{past_end}
 use Rattle.bcast_model.proofs.Cases.{test_is, uncloned}

@@ -1,6 +1,5 @@
 -- What a send adds, and what it hands back.
-use Rattle.std.proofs.Common.{◌≡◌, ℕ, ◌&&◌, not, Bool, true, false, cond, nat_lt, List, [], ◌∷◌, ◌++◌, length, Option, Some, None, Result, Ok, Err, refl, sym, ap, ◌∙◌, append-nil}
-use Rattle.std.specs.Prelude.{is_ok}
+use Rattle.std.proofs.Common.{◌≡◌, ℕ, ◌&&◌, not, Bool, true, false, cond, nat_lt, List, [], ◌∷◌, ◌++◌, length, Option, Some, None, Result, Ok, Err, refl, sym, ap, ◌∙◌, append-nil, is_ok}
 use Rattle.bcast_model.specs.declared.error.TrySendError.{TrySendError}
 use Rattle.bcast_model.specs.declared.error.TrySendError.TheVariants as unsent
 use Rattle.bcast_model.specs.declared.run.SendPoll.{SendPoll}
@@ -11,11 +10,10 @@ use Rattle.bcast_model.specs.declared.run.Reply.{Reply}
 use Rattle.bcast_model.specs.declared.run.Reply.TheVariants as reply
 use Rattle.bcast_model.specs.Words.{has_no_receiver, has_place, place_waits, View, is_full}
 use Rattle.bcast_model.specs.Words.{sends_are_ready, Effect, sets, try_broadcast_reply}
-use Rattle.bcast_model.specs.Words.{reply_to_attempt, handed_back, attempt_send_reply}
-use Rattle.bcast_model.specs.Words.{accept, offer, with_place_answered, poll_send, free_room}
-use Rattle.bcast_model.specs.Words.{try_broadcast_all_reply, accept_all}
-use Rattle.bcast_model.specs.Words.{effect, is_out_of_memory, History, view_of, next, Legal}
-use Rattle.bcast_model.specs.Words.{must_wait}
+use Rattle.bcast_model.specs.Words.{reply_to_attempt, handed_back, attempt_send_reply, accept}
+use Rattle.bcast_model.specs.Words.{offer, with_place_answered, poll_send, free_room}
+use Rattle.bcast_model.specs.Words.{try_broadcast_all_reply, accept_all, effect, is_out_of_memory}
+use Rattle.bcast_model.specs.Words.{History, view_of, next, Legal, must_wait}
 use Rattle.bcast_model.proofs.Cases.{test_is}
 use Rattle.bcast_model.proofs.Polls.{send_waits_unready}
 use Rattle.bcast_laws.specs.Sends.{sent_by, messages_of, returned_by, returned_all_by, is_accepted}

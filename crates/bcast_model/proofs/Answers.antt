@@ -1,12 +1,10 @@
 -- A step from view to view keeps each valid history with this view valid.
 use Rattle.std.proofs.Common.{◌≡◌, Bool, ◌&&◌, refl, sym, ap, ◌∙◌, subst}
 use Rattle.std.specs.FinMap.{len}
-use Rattle.bcast_model.specs.declared.run.Call.{Call}
-use Rattle.bcast_model.specs.declared.run.Reply.{Reply}
-use Rattle.bcast_model.specs.Words.{Cursors, tell_a_sender, View, sends_are_ready, Legal, effect}
-use Rattle.bcast_model.specs.Words.{History, view_of, remember, tell_if_ready, may_tell, next}
-use Rattle.bcast_model.specs.Words.{IsValid, Represents, IsShown, IsPossible, Answers, settle}
-use Rattle.bcast_model.specs.Words.{next_view, Steps, HasRange}
+use Rattle.bcast_model.specs.Words.{Call, Reply, Cursors, tell_a_sender, View, sends_are_ready}
+use Rattle.bcast_model.specs.Words.{Legal, effect, History, view_of, remember, tell_if_ready}
+use Rattle.bcast_model.specs.Words.{may_tell, next, IsValid, Represents, IsShown, IsPossible}
+use Rattle.bcast_model.specs.Words.{Answers, settle, next_view, Steps, HasRange}
 use Rattle.bcast_model.proofs.Cases.{test_is, tell_is}
 use Rattle.bcast_model.proofs.Views.{valid_view}
 use Rattle.bcast_model.proofs.Lift.{KeepsValid, valid_told, view_of-told}

@@ -1,17 +1,15 @@
 -- What each call does to the view keeps a history valid.
 use Rattle.std.proofs.Common.{inr, ℕ, ◌==◌, true, not, Option, is_some, refl}
 use Rattle.std.specs.FinMap.{len}
-use Rattle.bcast_model.specs.declared.run.Call.{Call}
-use Rattle.bcast_model.specs.declared.run.Call.TheVariants as call
-use Rattle.bcast_model.specs.declared.run.Reply.{Reply}
-use Rattle.bcast_model.specs.declared.run.Reply.TheVariants as reply
-use Rattle.bcast_model.specs.Words.{stream_of, future_of, close, place_ended, pair_ended, cursor_of}
-use Rattle.bcast_model.specs.Words.{begin_send, new_receiver, activate, clone_receiver, new_sender}
-use Rattle.bcast_model.specs.Words.{clone_inactive, drop_receiver, deactivate, drop_sender}
-use Rattle.bcast_model.specs.Words.{drop_inactive, receive, skipped_to, receive_poll}
-use Rattle.bcast_model.specs.Words.{is_out_of_memory, chosen_id, may_tell, View}
+use Rattle.bcast_model.specs.Words.{Call, Reply, stream_of, future_of, close, place_ended}
+use Rattle.bcast_model.specs.Words.{pair_ended, cursor_of, begin_send, new_receiver, activate}
+use Rattle.bcast_model.specs.Words.{clone_receiver, new_sender, clone_inactive, drop_receiver}
+use Rattle.bcast_model.specs.Words.{deactivate, drop_sender, drop_inactive, receive, skipped_to}
+use Rattle.bcast_model.specs.Words.{receive_poll, is_out_of_memory, chosen_id, may_tell, View}
 use Rattle.bcast_model.specs.Words.{sends_are_ready, Legal, sets, effect, resize, HasRange}
 use Rattle.bcast_model.specs.Words.{IsValidView}
+use Rattle.bcast_model.specs.declared.run.Call.TheVariants as call
+use Rattle.bcast_model.specs.declared.run.Reply.TheVariants as reply
 use Rattle.bcast_model.proofs.Cases.{test_is, uncloned}
 use Rattle.bcast_model.proofs.Lift.{KeepsValid}
 use Rattle.bcast_model.proofs.Kept.{kept_idle, kept_close, keeps_sets}

@@ -4,10 +4,9 @@ use Rattle.std.proofs.lemmas.Grind.{common_steps}
 use Rattle.bcast_model.specs.Words.{Control, last_end, tell_a_sender, tell_receivers, closing}
 use Rattle.bcast_model.specs.Words.{close, is_deserted, close_if_deserted, accepting, with_cursor}
 use Rattle.bcast_model.specs.Words.{History, with_control, view_of, View, sends_are_ready}
-use Rattle.bcast_model.specs.declared.error.TrySendError.{TrySendError}
+use Rattle.bcast_model.specs.Words.{TrySendError, clone_receiver, end_call, receive}
+use Rattle.bcast_model.specs.Words.{has_no_receiver, is_full, try_broadcast_reply, handed_back}
 use Rattle.bcast_model.specs.declared.error.TrySendError.TheVariants as unsent
-use Rattle.bcast_model.specs.Words.{clone_receiver, end_call, receive, has_no_receiver, is_full}
-use Rattle.bcast_model.specs.Words.{try_broadcast_reply, handed_back}
 
 -- a value that is one of two, if the test was computed
 pub test_is : {A : Type 0} (P : A → Type 0) (b : Bool) (x y : A) → (b ≡ true → P x) → (b ≡ false → P y) → P (cond b x y)

@@ -1,14 +1,12 @@
 -- Fewer clones, and what a receive hands out.
 use Rattle.std.proofs.Common.{inl, inr, ℕ, Option, List, [], ◌∷◌, Result, Ok, sym, ap, ◌∙◌}
 use Rattle.std.specs.declared.alloc.AllocError.{AllocError}
-use Rattle.bcast_model.specs.declared.error.TryRecvError.{TryRecvError}
-use Rattle.bcast_model.specs.declared.run.Call.{Call}
+use Rattle.bcast_model.specs.Words.{TryRecvError, Call, Reply, History, view_of, Legal, IsGiven}
+use Rattle.bcast_model.specs.Words.{NoClone, ClonesEqual, IsReceivedBy, next, View, Answers, IsRun}
+use Rattle.bcast_model.specs.Words.{cursor_of, skipped_to, skipped_count, future_reply}
+use Rattle.bcast_model.specs.Words.{stream_reply, next_reply}
 use Rattle.bcast_model.specs.declared.run.Call.TheVariants as call
-use Rattle.bcast_model.specs.declared.run.Reply.{Reply}
 use Rattle.bcast_model.specs.declared.run.Reply.TheVariants as reply
-use Rattle.bcast_model.specs.Words.{History, view_of, Legal, IsGiven, NoClone, ClonesEqual}
-use Rattle.bcast_model.specs.Words.{IsReceivedBy, next, View, Answers, IsRun, cursor_of}
-use Rattle.bcast_model.specs.Words.{skipped_to, skipped_count, future_reply, stream_reply, next_reply}
 
 module _ {T : Type 0} where
   module _ (p q : T → T → Type 0) (wider : (msg given : T) → p msg given → IsGiven q msg given) where

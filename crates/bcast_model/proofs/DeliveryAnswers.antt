@@ -1,15 +1,13 @@
 -- What a reply gives a receiver, and its cursor afterwards.
-use Rattle.std.proofs.Common.{◌≡◌, ◌⊎◌, inl, inr, ℕ, ◌+◌, ◌-◌, ◌<◌, ◌≤◌, Bool, true, false, cond, List, [], ◌∷◌, ◌++◌, length, replicate, Option, Some, None, Ok, Err, Result, nat_lt, slice_get, refl, sym, ap, ◌∙◌, subst, arith, length-append}
+use Rattle.std.proofs.Common.{◌≡◌, ◌⊎◌, inl, inr, ℕ, ◌+◌, ◌-◌, ◌<◌, ◌≤◌, Bool, true, false, cond, List, [], ◌∷◌, ◌++◌, length, replicate, Option, Some, None, Ok, Err, Result, nat_lt, slice_get, refl, sym, ap, ◌∙◌, subst, arith, length-append, IsSomeAnd}
 use Rattle.std.proofs.lemmas.Grind.{common_steps}
 use Rattle.std.proofs.lemmas.Option.{none-some, same_Some, slice_get_within}
 use Rattle.std.proofs.lemmas.List.{length-replicate}
-use Rattle.std.specs.Prelude.{IsSomeAnd}
 use Rattle.std.specs.FinMap.{get, insert}
-use Rattle.bcast_model.specs.declared.error.TryRecvError.{TryRecvError}
+use Rattle.bcast_model.specs.Words.{TryRecvError, Cursors, with_cursor, cursor_of, History, view_of}
+use Rattle.bcast_model.specs.Words.{front_number, end_number, numbered, kept_at, receive}
+use Rattle.bcast_model.specs.Words.{recv_reply, try_recv_reply, IsGiven}
 use Rattle.bcast_model.specs.declared.error.TryRecvError.TheVariants as unread
-use Rattle.bcast_model.specs.Words.{Cursors, with_cursor, cursor_of, History, view_of, front_number}
-use Rattle.bcast_model.specs.Words.{end_number, numbered, kept_at, receive, recv_reply}
-use Rattle.bcast_model.specs.Words.{try_recv_reply, IsGiven}
 use Rattle.bcast_model.proofs.Views.{numbered-queue, first_under}
 use Rattle.bcast_model.proofs.DeliveryMaps.{inserted}
 use Rattle.bcast_model.proofs.DeliveryLists.{within_missed, within_given, past_end}

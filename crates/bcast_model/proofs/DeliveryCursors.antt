@@ -2,15 +2,13 @@
 use Rattle.std.proofs.Common.{◌≡◌, inl, inr, ℕ, ◌+◌, ◌-◌, ◌≤◌, ◌==◌, max, Bool, true, false, cond, Option, Some, None, nat_lt, refl, sym, ap, subst, arith}
 use Rattle.std.proofs.lemmas.Grind.{common_steps}
 use Rattle.std.specs.FinMap.{get}
-use Rattle.bcast_model.specs.declared.run.Call.{Call}
-use Rattle.bcast_model.specs.declared.run.Call.TheVariants as call
-use Rattle.bcast_model.specs.declared.run.Reply.{Reply}
-use Rattle.bcast_model.specs.Words.{Pair, stream_of, future_of, Control, with_cursor, cursor_of}
-use Rattle.bcast_model.specs.Words.{View, Effect, sets, receive, skipped_to, receive_poll}
-use Rattle.bcast_model.specs.Words.{is_empty_reply, try_recv_reply, Legal, resize}
+use Rattle.bcast_model.specs.Words.{Call, Reply, Pair, stream_of, future_of, Control, with_cursor}
+use Rattle.bcast_model.specs.Words.{cursor_of, View, Effect, sets, receive, skipped_to}
+use Rattle.bcast_model.specs.Words.{receive_poll, is_empty_reply, try_recv_reply, Legal, resize}
 use Rattle.bcast_model.specs.Words.{set_unless_refused, effect, is_out_of_memory, chosen_id}
 use Rattle.bcast_model.specs.Words.{has_next, drop_receiver, deactivate, without_receiver}
 use Rattle.bcast_model.specs.Words.{clone_receiver, receives_for}
+use Rattle.bcast_model.specs.declared.run.Call.TheVariants as call
 use Rattle.bcast_model.proofs.Cases.{test_is, uncloned, cursors-close, cursors-close_if_deserted}
 use Rattle.bcast_model.proofs.SendAll.{cursors-offer_all}
 use Rattle.bcast_model.proofs.Stays.{stays-offer, stays-poll_send, stays-new_sender, stays-clone_inactive, stays-drop_sender, stays-drop_inactive}

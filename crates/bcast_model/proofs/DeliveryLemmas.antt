@@ -1,12 +1,9 @@
 -- The deliveries of every receiver of a run are exact.
-use Rattle.std.proofs.Common.{◌≡◌, inl, inr, ℕ, ◌+◌, ◌-◌, ◌≤◌, true, false, List, [], ◌∷◌, ◌++◌, length, Option, Some, None, slice_get, refl, sym, ap, ◌∙◌, subst, arith, length-append}
+use Rattle.std.proofs.Common.{◌≡◌, inl, inr, ℕ, ◌+◌, ◌-◌, ◌≤◌, true, false, List, [], ◌∷◌, ◌++◌, length, Option, Some, None, slice_get, refl, sym, ap, ◌∙◌, subst, arith, length-append, IsSomeAnd, is_some}
 use Rattle.std.proofs.lemmas.Option.{none-some}
-use Rattle.std.specs.Prelude.{IsSomeAnd, is_some}
-use Rattle.bcast_model.specs.declared.run.Call.{Call}
-use Rattle.bcast_model.specs.declared.run.Reply.{Reply}
-use Rattle.bcast_model.specs.Words.{History, numbered, IsGiven, cursor_of, next, IsValid, IsRun}
-use Rattle.bcast_model.specs.Words.{end_of_run, given_to, deliveries_of, last_cursor_of}
-use Rattle.bcast_model.specs.Words.{AtEachPoint, IsDelivery, AreExact, AreAllExact}
+use Rattle.bcast_model.specs.Words.{Call, Reply, History, numbered, IsGiven, cursor_of, next}
+use Rattle.bcast_model.specs.Words.{IsValid, IsRun, end_of_run, given_to, deliveries_of}
+use Rattle.bcast_model.specs.Words.{last_cursor_of, AtEachPoint, IsDelivery, AreExact, AreAllExact}
 use Rattle.bcast_model.proofs.DeliverySteps.{gives_call}
 use Rattle.bcast_model.proofs.DeliveryMessages.{numbered_stays}
 use Rattle.bcast_model.proofs.DeliveryLists.{in_parts, by_index, at_index}

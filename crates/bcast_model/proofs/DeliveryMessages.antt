@@ -1,8 +1,7 @@
 -- An accepted message keeps its number in every state that follows.
 use Rattle.std.proofs.Common.{◌≡◌, ℕ, ◌-◌, true, false, cond, List, [], ◌∷◌, ◌++◌, None, Some, nat_lt, slice_get}
-use Rattle.bcast_model.specs.declared.run.Call.{Call}
-use Rattle.bcast_model.specs.declared.run.Reply.{Reply}
-use Rattle.bcast_model.specs.Words.{effect, History, view_of, numbered, next, end_of_run}
+use Rattle.bcast_model.specs.Words.{Call, Reply, effect, History, view_of, numbered, next}
+use Rattle.bcast_model.specs.Words.{end_of_run}
 use Rattle.bcast_model.proofs.DeliveryLists.{in_longer}
 
 module _ {T : Type 0} where

@@ -1,20 +1,16 @@
 -- What each call gives a receiver, and which messages it keeps.
-use Rattle.std.proofs.Common.{◌≡◌, ◌⊎◌, inl, inr, ℕ, ◌+◌, ◌-◌, ◌≤◌, Bool, true, false, cond, [], Option, Some, None, Ok, Err, Result, nat_lt, refl, sym, ap, ◌∙◌, subst, arith}
+use Rattle.std.proofs.Common.{◌≡◌, ◌⊎◌, inl, inr, ℕ, ◌+◌, ◌-◌, ◌≤◌, Bool, true, false, cond, [], Option, Some, None, Ok, Err, Result, nat_lt, refl, sym, ap, ◌∙◌, subst, arith, alloc_error}
 use Rattle.std.proofs.lemmas.Bool.{cases_lt, false≢true}
 use Rattle.std.proofs.lemmas.Grind.{common_steps}
-use Rattle.std.specs.Prelude.{alloc_error}
-use Rattle.bcast_model.specs.declared.error.TryRecvError.{TryRecvError}
+use Rattle.bcast_model.specs.Words.{TryRecvError, Call, Reply, stream_of, future_of, Cursors}
+use Rattle.bcast_model.specs.Words.{cursor_of, History, view_of, front_number, end_number, receive}
+use Rattle.bcast_model.specs.Words.{recv_reply, try_recv_reply, is_empty_reply, skipped_count}
+use Rattle.bcast_model.specs.Words.{skipped_to, future_reply, stream_reply, next_reply, IsOwed}
+use Rattle.bcast_model.specs.Words.{Legal, IsReceived, kept_at, effect, next, receives_for}
+use Rattle.bcast_model.specs.Words.{given_by, given_to, View}
 use Rattle.bcast_model.specs.declared.error.TryRecvError.TheVariants as unread
-use Rattle.bcast_model.specs.declared.run.Call.{Call}
 use Rattle.bcast_model.specs.declared.run.Call.TheVariants as call
-use Rattle.bcast_model.specs.declared.run.Reply.{Reply}
 use Rattle.bcast_model.specs.declared.run.Reply.TheVariants as reply
-use Rattle.bcast_model.specs.Words.{stream_of, future_of, Cursors, cursor_of, History, view_of}
-use Rattle.bcast_model.specs.Words.{front_number, end_number, receive, recv_reply}
-use Rattle.bcast_model.specs.Words.{try_recv_reply, is_empty_reply, skipped_count, skipped_to}
-use Rattle.bcast_model.specs.Words.{future_reply, stream_reply, next_reply, IsOwed, Legal}
-use Rattle.bcast_model.specs.Words.{IsReceived, kept_at, effect, next, receives_for, given_by}
-use Rattle.bcast_model.specs.Words.{given_to, View}
 use Rattle.bcast_model.proofs.Answers.{cursors-next}
 use Rattle.bcast_model.proofs.DeliveryMaps.{cursors-listens, stands_or_left}
 use Rattle.bcast_model.proofs.DeliveryCursors.{changes}

@@ -1,18 +1,16 @@
 -- Which messages each call drops: those from the front up to the floor after it.
 use Rattle.std.proofs.Common.{◌≡◌, inl, inr, ℕ, ◌-◌, ◌<◌, max, Bool, true, false, cond, List, [], ◌∷◌, length, nat_lt, Option, Result, refl, ap, ◌∙◌, arith}
 use Rattle.std.specs.declared.alloc.AllocError.{AllocError}
-use Rattle.bcast_model.specs.declared.error.TryRecvError.{TryRecvError}
+use Rattle.bcast_model.specs.Words.{TryRecvError, Call, Reply, Control, Effect, sets}
+use Rattle.bcast_model.specs.Words.{try_broadcast_reply, Legal, resize, effect, History, view_of}
+use Rattle.bcast_model.specs.Words.{front_number, end_number, queue_of, is_out_of_memory}
+use Rattle.bcast_model.specs.Words.{hands_back, dropped_by, IsReceivedBy, View, cursor_of}
+use Rattle.bcast_model.specs.Words.{skipped_to, skipped_count, future_reply, stream_reply}
+use Rattle.bcast_model.specs.Words.{next_reply}
 use Rattle.bcast_model.specs.declared.run.Reply.TheVariants as reply
 use Rattle.std.proofs.lemmas.Grind.{common_steps}
 use Rattle.std.specs.List.{range_with_len}
-use Rattle.bcast_model.specs.declared.run.Call.{Call}
 use Rattle.bcast_model.specs.declared.run.Call.TheVariants as call
-use Rattle.bcast_model.specs.declared.run.Reply.{Reply}
-use Rattle.bcast_model.specs.Words.{Control, Effect, sets, try_broadcast_reply, Legal, resize}
-use Rattle.bcast_model.specs.Words.{effect, History, view_of, front_number, end_number, queue_of}
-use Rattle.bcast_model.specs.Words.{is_out_of_memory, hands_back, dropped_by, IsReceivedBy, View}
-use Rattle.bcast_model.specs.Words.{cursor_of, skipped_to, skipped_count, future_reply}
-use Rattle.bcast_model.specs.Words.{stream_reply, next_reply}
 use Rattle.bcast_model.proofs.Cases.{test_is}
 use Rattle.bcast_model.proofs.Front.{IsBounded, length-queue}
 use Rattle.bcast_model.proofs.SendAll.{floor-offer_all}

@@ -1,19 +1,16 @@
 -- Which messages a send drops: those from the front up to the floor after it.
-use Rattle.std.proofs.Common.{◌≡◌, ℕ, ◌+◌, ◌≤◌, ◌&&◌, ◌||◌, not, Bool, true, false, cond, List, [], ◌∷◌, length, Option, Some, None, Result, Ok, Err, slice_get, refl, ap, arith}
+use Rattle.std.proofs.Common.{◌≡◌, ℕ, ◌+◌, ◌≤◌, ◌&&◌, ◌||◌, not, Bool, true, false, cond, List, [], ◌∷◌, length, Option, Some, None, Result, Ok, Err, slice_get, refl, ap, arith, is_some, is_ok}
 use Rattle.std.proofs.lemmas.Grind.{common_steps}
-use Rattle.std.specs.Prelude.{is_some, is_ok}
 use Rattle.std.specs.List.{range_with_len}
-use Rattle.bcast_model.specs.declared.error.TrySendError.{TrySendError}
+use Rattle.bcast_model.specs.Words.{TrySendError, Reply, has_no_receiver, accepting, has_place}
+use Rattle.bcast_model.specs.Words.{place_waits, View, is_full, sends_are_ready, Effect, sets}
+use Rattle.bcast_model.specs.Words.{reply_to_attempt, handed_back, try_broadcast_reply}
+use Rattle.bcast_model.specs.Words.{attempt_send_reply, accept, offer, with_place_answered}
+use Rattle.bcast_model.specs.Words.{poll_send, History, view_of, front_number, end_number, queue_of}
+use Rattle.bcast_model.specs.Words.{hands_back}
 use Rattle.bcast_model.specs.declared.error.TrySendError.TheVariants as unsent
 use Rattle.bcast_model.specs.declared.run.SendPoll.TheVariants as send
-use Rattle.bcast_model.specs.declared.run.Reply.{Reply}
 use Rattle.bcast_model.specs.declared.run.Reply.TheVariants as reply
-use Rattle.bcast_model.specs.Control.{has_no_receiver, accepting, has_place, place_waits}
-use Rattle.bcast_model.specs.View.{View, is_full, sends_are_ready}
-use Rattle.bcast_model.specs.Effect.{Effect, sets}
-use Rattle.bcast_model.specs.Sending.{reply_to_attempt, handed_back, try_broadcast_reply, attempt_send_reply, accept, offer, with_place_answered, poll_send}
-use Rattle.bcast_model.specs.History.{History, view_of, front_number, end_number, queue_of}
-use Rattle.bcast_model.specs.Dropped.{hands_back}
 use Rattle.bcast_model.proofs.Cases.{cursors-accepting, try_is}
 use Rattle.bcast_model.proofs.DeliveryLists.{past_end}
 use Rattle.bcast_model.proofs.Front.{IsBounded, front-le-end}

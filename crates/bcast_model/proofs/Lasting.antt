@@ -1,13 +1,11 @@
 -- What lasts: a positive capacity, and that a closed channel is closed.
 use Rattle.std.proofs.Common.{◌≡◌, ◌-◌, ◌≤◌, Bool, true, false, refl, arith}
-use Rattle.bcast_model.specs.declared.run.Call.{Call}
-use Rattle.bcast_model.specs.declared.run.Call.TheVariants as call
-use Rattle.bcast_model.specs.declared.run.Reply.{Reply}
-use Rattle.bcast_model.specs.Words.{stream_of, future_of, Control, with_place, with_cursor}
-use Rattle.bcast_model.specs.Words.{cursor_of, View, sends_are_ready, Effect, sets, receive}
-use Rattle.bcast_model.specs.Words.{skipped_to, resize, effect, History, view_of, remember}
+use Rattle.bcast_model.specs.Words.{Call, Reply, stream_of, future_of, Control, with_place}
+use Rattle.bcast_model.specs.Words.{with_cursor, cursor_of, View, sends_are_ready, Effect, sets}
+use Rattle.bcast_model.specs.Words.{receive, skipped_to, resize, effect, History, view_of, remember}
 use Rattle.bcast_model.specs.Words.{is_out_of_memory, chosen_id, may_tell, next}
 use Rattle.bcast_model.specs.Words.{HasPositiveCapacity}
+use Rattle.bcast_model.specs.declared.run.Call.TheVariants as call
 use Rattle.bcast_model.proofs.Cases.{test_is, tell_is}
 use Rattle.bcast_model.proofs.Stays.{Leaves, left, leaves-made, leaves-cloned, leaves-dropped, leaves-deactivate, leaves-receive, leaves-unless, leaves-poll}
 use Rattle.bcast_model.proofs.Stays.{stays-close, stays-new_sender, stays-clone_inactive, stays-drop_sender, stays-drop_inactive, stays-offer, stays-offer_all, stays-poll_send}

@@ -2,8 +2,7 @@
 use Rattle.std.proofs.Common.{◌≡◌, ℕ, zero, suc, ◌+◌, ◌-◌, ◌<◌, ◌≤◌, Bool, true, false, cond, ◌||◌, List, [], ◌∷◌, ◌++◌, length, drop, refl, sym, ap, ◌∙◌, subst, arith}
 use Rattle.std.proofs.lemmas.List.{drop-drop}
 use Rattle.std.specs.List.{AllByRecursion}
-use Rattle.bcast_model.specs.Listeners.{is_in, without, IsDistinct}
-use Rattle.bcast_model.specs.ListLaws.{IsTest}
+use Rattle.bcast_model.specs.Words.{is_in, without, IsDistinct, IsTest}
 
 module _ {A : Type 0} where
   pub all_more : (P Q : A → Type 0) (ids : List A) → ((id : A) → P id → Q id) → AllByRecursion P ids → AllByRecursion Q ids

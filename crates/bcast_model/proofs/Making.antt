@@ -3,12 +3,11 @@ use Rattle.std.proofs.Common.{◌≡◌, ◌⊎◌, inl, inr, ℕ, ◌+◌, ◌-
 use Rattle.std.proofs.lemmas.Grind.{common_steps}
 use Rattle.std.proofs.lemmas.Option.{none-some}
 use Rattle.std.specs.FinMap.{get, insert, len, values}
-use Rattle.bcast_model.specs.declared.error.HandleError.{HandleError}
+use Rattle.bcast_model.specs.Words.{HandleError, Reply, Control, Cursors, with_cursor, has_next}
+use Rattle.bcast_model.specs.Words.{new_receiver, activate, clone_receiver, new_sender}
+use Rattle.bcast_model.specs.Words.{clone_inactive, least, IsMadeFrom, chosen_id, View}
+use Rattle.bcast_model.specs.Words.{sends_are_ready, resize, IsValidView}
 use Rattle.bcast_model.specs.declared.error.HandleError.TheVariants as handle
-use Rattle.bcast_model.specs.declared.run.Reply.{Reply}
-use Rattle.bcast_model.specs.Words.{Control, Cursors, with_cursor, has_next, new_receiver, activate}
-use Rattle.bcast_model.specs.Words.{clone_receiver, new_sender, clone_inactive, least, IsMadeFrom}
-use Rattle.bcast_model.specs.Words.{chosen_id, View, sends_are_ready, resize, IsValidView}
 use Rattle.bcast_model.proofs.Least.{len_insert}
 use Rattle.bcast_model.proofs.Cases.{test_is}
 use Rattle.bcast_model.proofs.Sound.{IsNoLower, IsKept, sound_counts}

@@ -1,16 +1,13 @@
 -- What the receivers of a run miss was dropped, and what they are given was not.
-use Rattle.std.proofs.Common.{◌≡◌, ◌⊎◌, inl, inr, ℕ, ◌+◌, ◌-◌, ◌<◌, ◌≤◌, true, false, List, [], ◌∷◌, ◌++◌, length, Some, None, IsNone, ◌↔◌, slice_get, refl, ap, arith}
+use Rattle.std.proofs.Common.{◌≡◌, ◌⊎◌, inl, inr, ℕ, ◌+◌, ◌-◌, ◌<◌, ◌≤◌, true, false, List, [], ◌∷◌, ◌++◌, length, Some, None, IsNone, ◌↔◌, slice_get, refl, ap, arith, is_some}
 use Rattle.std.proofs.lemmas.Option.{none-some}
 use Rattle.std.proofs.lemmas.List.Elements.{Contains-append_left, Contains-append_right, Contains-append_cases}
-use Rattle.std.specs.Prelude.{is_some}
 use Rattle.std.specs.List.{AllByRecursion, Contains}
 use Rattle.std.specs.List.Sorted.{IsStrictlyIncreasing}
-use Rattle.bcast_model.specs.declared.run.Call.{Call}
-use Rattle.bcast_model.specs.declared.run.Reply.{Reply}
-use Rattle.bcast_model.specs.Words.{History, view_of, cursor_of, Legal, HasPositiveCapacity, next}
-use Rattle.bcast_model.specs.Words.{IsValid, IsRun, end_of_run, given_to, deliveries_of, dropped_by}
-use Rattle.bcast_model.specs.Words.{dropped_in, WasDropped, TellsDropped, MissesOnlyDropped}
-use Rattle.bcast_model.specs.Words.{MissesWhatWasDropped}
+use Rattle.bcast_model.specs.Words.{Call, Reply, History, view_of, cursor_of, Legal}
+use Rattle.bcast_model.specs.Words.{HasPositiveCapacity, next, IsValid, IsRun, end_of_run, given_to}
+use Rattle.bcast_model.specs.Words.{deliveries_of, dropped_by, dropped_in, WasDropped, TellsDropped}
+use Rattle.bcast_model.specs.Words.{MissesOnlyDropped, MissesWhatWasDropped}
 use Rattle.bcast_model.proofs.DeliveryLists.{in_parts}
 use Rattle.bcast_model.proofs.DeliverySteps.{gives_call}
 use Rattle.bcast_model.proofs.Front.{IsBounded, bounded_valid}

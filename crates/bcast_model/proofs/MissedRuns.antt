@@ -4,10 +4,9 @@ use Rattle.std.proofs.lemmas.Bool.{cases_lt}
 use Rattle.std.proofs.lemmas.List.Elements.{Contains-append_left, Contains-append_right}
 use Rattle.std.specs.List.{AllByRecursion, Contains}
 use Rattle.std.specs.FinMap.{get}
-use Rattle.bcast_model.specs.declared.run.Call.{Call}
-use Rattle.bcast_model.specs.declared.run.Reply.{Reply}
-use Rattle.bcast_model.specs.Words.{History, view_of, cursor_of, Legal, HasPositiveCapacity, next}
-use Rattle.bcast_model.specs.Words.{IsRun, end_of_run, given_to, dropped_by, dropped_in, WasDropped}
+use Rattle.bcast_model.specs.Words.{Call, Reply, History, view_of, cursor_of, Legal}
+use Rattle.bcast_model.specs.Words.{HasPositiveCapacity, next, IsRun, end_of_run, given_to}
+use Rattle.bcast_model.specs.Words.{dropped_by, dropped_in, WasDropped}
 use Rattle.bcast_model.proofs.Views.{floor_under}
 use Rattle.bcast_model.proofs.DeliverySteps.{gives_call}
 use Rattle.bcast_model.proofs.Front.{IsBounded, front-le-cursor}

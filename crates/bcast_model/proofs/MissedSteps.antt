@@ -2,10 +2,9 @@
 use Rattle.std.proofs.Common.{◌≡◌, ◌⊎◌, inl, inr, ℕ, ◌+◌, ◌<◌, ◌≤◌, List, Some, sym, ap, ◌∙◌, arith, length-append}
 use Rattle.std.specs.List.{Contains, range_with_len}
 use Rattle.std.specs.FinMap.{get}
-use Rattle.bcast_model.specs.declared.run.Call.{Call}
-use Rattle.bcast_model.specs.declared.run.Reply.{Reply}
-use Rattle.bcast_model.specs.Words.{History, view_of, front_number, end_number, cursor_of, Legal}
-use Rattle.bcast_model.specs.Words.{effect, HasPositiveCapacity, next, receives_for, dropped_by}
+use Rattle.bcast_model.specs.Words.{Call, Reply, History, view_of, front_number, end_number}
+use Rattle.bcast_model.specs.Words.{cursor_of, Legal, effect, HasPositiveCapacity, next}
+use Rattle.bcast_model.specs.Words.{receives_for, dropped_by}
 use Rattle.bcast_model.proofs.Views.{floor_under}
 use Rattle.bcast_model.proofs.Answers.{cursors-next}
 use Rattle.bcast_model.proofs.DeliveryMaps.{came_from}

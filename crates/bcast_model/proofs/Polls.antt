@@ -1,25 +1,19 @@
 -- A poll waits exactly if its try finds nothing.
-use Rattle.std.proofs.Common.{◌≡◌, inl, inr, ℕ, ◌<◌, ◌≤◌, Bool, true, false, cond, not, ◌&&◌, ◌||◌, max, Option, Some, None, Result, Ok, Err, refl, sym, ap, ◌∙◌, arith}
+use Rattle.std.proofs.Common.{◌≡◌, inl, inr, ℕ, ◌<◌, ◌≤◌, Bool, true, false, cond, not, ◌&&◌, ◌||◌, max, Option, Some, None, Result, Ok, Err, refl, sym, ap, ◌∙◌, arith, alloc_error}
 use Rattle.std.proofs.lemmas.Bool.{cases_lt}
-use Rattle.std.specs.Prelude.{alloc_error}
 use Rattle.std.specs.FinMap.{get}
-use Rattle.bcast_model.specs.declared.error.TrySendError.{TrySendError}
+use Rattle.bcast_model.specs.Words.{TrySendError, TryRecvError, Call, Reply, has_place}
+use Rattle.bcast_model.specs.Words.{has_no_receiver, cursor_of, is_full, sends_are_ready, View}
+use Rattle.bcast_model.specs.Words.{reply_to_attempt, handed_back, attempt_send_reply}
+use Rattle.bcast_model.specs.Words.{try_broadcast_reply, is_empty_reply, skipped_count, skipped_to}
+use Rattle.bcast_model.specs.Words.{future_reply, stream_reply, next_reply, try_recv_reply, IsOwed}
+use Rattle.bcast_model.specs.Words.{Legal, IsReceived, is_out_of_memory, IsValidView, must_wait}
+use Rattle.bcast_model.specs.Words.{is_wait_reply, is_poll, try_finds_nothing}
 use Rattle.bcast_model.specs.declared.error.TrySendError.TheVariants as unsent
-use Rattle.bcast_model.specs.declared.error.TryRecvError.{TryRecvError}
 use Rattle.bcast_model.specs.declared.error.TryRecvError.TheVariants as unread
 use Rattle.bcast_model.specs.declared.run.SendPoll.TheVariants as send
-use Rattle.bcast_model.specs.declared.run.Call.{Call}
 use Rattle.bcast_model.specs.declared.run.Call.TheVariants as call
-use Rattle.bcast_model.specs.declared.run.Reply.{Reply}
 use Rattle.bcast_model.specs.declared.run.Reply.TheVariants as reply
-use Rattle.bcast_model.specs.Control.{has_place, has_no_receiver, cursor_of}
-use Rattle.bcast_model.specs.View.{is_full, sends_are_ready, View}
-use Rattle.bcast_model.specs.Sending.{reply_to_attempt, handed_back, attempt_send_reply, try_broadcast_reply}
-use Rattle.bcast_model.specs.Receiving.{is_empty_reply, skipped_count, skipped_to, future_reply, stream_reply, next_reply, try_recv_reply, IsOwed}
-use Rattle.bcast_model.specs.Legal.{Legal}
-use Rattle.bcast_model.specs.Steps.{IsReceived}
-use Rattle.bcast_model.specs.Next.{is_out_of_memory}
-use Rattle.bcast_model.specs.Laws.{IsValidView, must_wait, is_wait_reply, is_poll, try_finds_nothing}
 use Rattle.bcast_model.proofs.Views.{lagging}
 use Rattle.bcast_model.proofs.Receives.{empty_at}
 

@@ -1,15 +1,12 @@
 -- What a receive hands out.
-use Rattle.std.proofs.Common.{◌≡◌, inl, inr, ℕ, ◌-◌, Bool, true, false, cond, Option, Some, None, Result, Ok, Err, nat_lt, slice_get, refl, sym, ap, subst}
-use Rattle.std.specs.Prelude.{IsSomeAnd, alloc_error}
+use Rattle.std.proofs.Common.{◌≡◌, inl, inr, ℕ, ◌-◌, Bool, true, false, cond, Option, Some, None, Result, Ok, Err, nat_lt, slice_get, refl, sym, ap, subst, IsSomeAnd, alloc_error}
 use Rattle.futures.specs.declared.task.Poll.TheVariants as poll
-use Rattle.bcast_model.specs.declared.error.TryRecvError.{TryRecvError}
+use Rattle.bcast_model.specs.Words.{TryRecvError, Reply, recv_reply, skipped_count, skipped_to}
+use Rattle.bcast_model.specs.Words.{future_reply, stream_reply, next_reply, IsOwed, try_recv_reply}
+use Rattle.bcast_model.specs.Words.{IsGiven, IsReceived, Legal, View, cursor_of, IsGivenFrom}
 use Rattle.bcast_model.specs.declared.error.TryRecvError.TheVariants as unread
 use Rattle.bcast_model.specs.declared.run.Call.TheVariants as call
-use Rattle.bcast_model.specs.declared.run.Reply.{Reply}
 use Rattle.bcast_model.specs.declared.run.Reply.TheVariants as reply
-use Rattle.bcast_model.specs.Words.{recv_reply, skipped_count, skipped_to, future_reply}
-use Rattle.bcast_model.specs.Words.{stream_reply, next_reply, IsOwed, try_recv_reply, IsGiven}
-use Rattle.bcast_model.specs.Words.{IsReceived, Legal, View, cursor_of, IsGivenFrom}
 
 module _ {T : Type 0} where
   found_message : (closed : Bool) (o : Option T) (msg : T) → recv_reply closed o ≡ Ok msg → o ≡ Some msg

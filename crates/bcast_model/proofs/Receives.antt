@@ -6,8 +6,7 @@ use Rattle.std.proofs.lemmas.Option.{same_Some, slice_get_past}
 use Rattle.std.specs.Cmp.{nat_cmp_total}
 use Rattle.std.specs.FinMap.{get, insert, len, len-insert}
 use Rattle.bcast_model.specs.declared.error.TryRecvError.TheVariants as unread
-use Rattle.bcast_model.specs.declared.run.Reply.{Reply}
-use Rattle.bcast_model.specs.Words.{consume, wait_again, Pair, same_pair, Control, Cursors}
+use Rattle.bcast_model.specs.Words.{Reply, consume, wait_again, Pair, same_pair, Control, Cursors}
 use Rattle.bcast_model.specs.Words.{with_cursor, receive, listens, skipped_to, recv_reply}
 use Rattle.bcast_model.specs.Words.{is_empty_reply, receive_poll, try_recv_reply, is_out_of_memory}
 use Rattle.bcast_model.specs.Words.{View, sends_are_ready, sets, set_unless_refused, IsValidView}

@@ -1,18 +1,15 @@
 -- What a poll of a told listener leaves: fewer listeners, or fewer that are told.
-use Rattle.std.proofs.Common.{◌≡◌, ℕ, ◌+◌, ◌≤◌, ◌==◌, Bool, true, false, cond, not, ◌&&◌, List, length, Option, Some, None, refl, sym, ap, ◌∙◌, subst, arith}
-use Rattle.std.specs.Prelude.{is_ok}
-use Rattle.bcast_model.specs.declared.run.Call.{Call}
+use Rattle.std.proofs.Common.{◌≡◌, ℕ, ◌+◌, ◌≤◌, ◌==◌, Bool, true, false, cond, not, ◌&&◌, List, length, Option, Some, None, refl, sym, ap, ◌∙◌, subst, arith, is_ok}
+use Rattle.bcast_model.specs.Words.{Call, Reply, Listeners, told_ids, is_in, without, Pair}
+use Rattle.bcast_model.specs.Words.{stream_of, future_of, same_place, same_pair, Control, is_ready}
+use Rattle.bcast_model.specs.Words.{tell_a_sender, tell_receivers, has_place, place_waits}
+use Rattle.bcast_model.specs.Words.{pair_answered, pair_waits, cursor_of, View, sends_are_ready}
+use Rattle.bcast_model.specs.Words.{sets, try_broadcast_reply, accept, offer, with_place_answered}
+use Rattle.bcast_model.specs.Words.{poll_send, receive, Effect, receive_poll, listens, skipped_to}
+use Rattle.bcast_model.specs.Words.{is_empty_reply, try_recv_reply, set_unless_refused}
+use Rattle.bcast_model.specs.Words.{is_out_of_memory, tell_if_ready, settle, next_view, AreListed}
+use Rattle.bcast_model.specs.Words.{IsValidView, listener_count, told_count, polls_told}
 use Rattle.bcast_model.specs.declared.run.Call.TheVariants as call
-use Rattle.bcast_model.specs.declared.run.Reply.{Reply}
-use Rattle.bcast_model.specs.Words.{Listeners, told_ids, is_in, without, Pair, stream_of, future_of}
-use Rattle.bcast_model.specs.Words.{same_place, same_pair, Control, is_ready, tell_a_sender}
-use Rattle.bcast_model.specs.Words.{tell_receivers, has_place, place_waits, pair_answered}
-use Rattle.bcast_model.specs.Words.{pair_waits, cursor_of, View, sends_are_ready, sets, try_broadcast_reply}
-use Rattle.bcast_model.specs.Words.{accept, offer, with_place_answered, poll_send, receive}
-use Rattle.bcast_model.specs.Words.{Effect, receive_poll, listens, skipped_to, is_empty_reply}
-use Rattle.bcast_model.specs.Words.{try_recv_reply, set_unless_refused, is_out_of_memory}
-use Rattle.bcast_model.specs.Words.{tell_if_ready, settle, next_view, AreListed, IsValidView}
-use Rattle.bcast_model.specs.Words.{listener_count, told_count, polls_told}
 use Rattle.bcast_model.proofs.Lists.{all_in}
 use Rattle.bcast_model.proofs.Listeners.{told_listed, told_some}
 use Rattle.bcast_model.proofs.Tests.{test_place, test_pair}

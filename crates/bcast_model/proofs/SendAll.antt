@@ -1,7 +1,6 @@
 -- What a send of a whole list keeps.
-use Rattle.std.proofs.Common.{◌≡◌, inl, ℕ, ◌+◌, ◌-◌, ◌^◌, ◌<◌, ◌≤◌, not, true, false, cond, List, [], ◌∷◌, length, nat_lt, Ok, Err, refl, subst, arith, length-append, length-drop}
+use Rattle.std.proofs.Common.{◌≡◌, inl, ℕ, ◌+◌, ◌-◌, ◌^◌, ◌<◌, ◌≤◌, not, true, false, cond, List, [], ◌∷◌, length, nat_lt, Ok, Err, refl, subst, arith, length-append, length-drop, is_ok}
 use Rattle.std.proofs.lemmas.Grind.{common_steps}
-use Rattle.std.specs.Prelude.{is_ok}
 use Rattle.bcast_model.specs.declared.error.TrySendError.TheVariants as unsent
 use Rattle.bcast_model.specs.Words.{has_no_receiver, Effect, sets, IsValidView}
 use Rattle.bcast_model.specs.Words.{free_room, try_broadcast_all_reply, accept_all}

@@ -1,6 +1,5 @@
 -- What sends keep.
-use Rattle.std.proofs.Common.{◌≡◌, ◌≢◌, ◌⊎◌, inl, inr, ℕ, ◌+◌, ◌-◌, ◌^◌, ◌<◌, ◌≤◌, ◌&&◌, true, false, cond, not, [], ◌∷◌, ◌++◌, length, max, drop, Option, Some, None, Ok, Err, refl, arith, length-append, length-drop}
-use Rattle.std.specs.Prelude.{is_ok}
+use Rattle.std.proofs.Common.{◌≡◌, ◌≢◌, ◌⊎◌, inl, inr, ℕ, ◌+◌, ◌-◌, ◌^◌, ◌<◌, ◌≤◌, ◌&&◌, true, false, cond, not, [], ◌∷◌, ◌++◌, length, max, drop, Option, Some, None, Ok, Err, refl, arith, length-append, length-drop, is_ok}
 use Rattle.std.proofs.lemmas.Grind.{common_steps}
 use Rattle.std.specs.FinMap.{len, values}
 use Rattle.std.specs.FinSet as set

@@ -1,16 +1,14 @@
 -- Which parts of a call leave the capacity, a closed channel closed, and the cursors, as they are.
-use Rattle.std.proofs.Common.{◌≡◌, ℕ, ◌+◌, ◌-◌, ◌==◌, ◌||◌, not, true, cond, List, ◌∷◌, length, Option, Some, None, refl}
-use Rattle.std.specs.Prelude.{is_ok}
+use Rattle.std.proofs.Common.{◌≡◌, ℕ, ◌+◌, ◌-◌, ◌==◌, ◌||◌, not, true, cond, List, ◌∷◌, length, Option, Some, None, refl, is_ok}
 use Rattle.std.specs.Option.{option_map_or}
-use Rattle.bcast_model.specs.declared.run.Reply.{Reply}
-use Rattle.bcast_model.specs.Words.{Pair, Control, tell_receivers, close, close_if_deserted}
+use Rattle.bcast_model.specs.Words.{Reply, Pair, Control, tell_receivers, close, close_if_deserted}
 use Rattle.bcast_model.specs.Words.{accepting, has_place, place_waits, pair_waits, pair_answered}
 use Rattle.bcast_model.specs.Words.{View, sends_are_ready, Effect, sets, try_broadcast_reply}
 use Rattle.bcast_model.specs.Words.{accept, offer, with_place_answered, poll_send, offer_all}
 use Rattle.bcast_model.specs.Words.{receive, receive_poll, is_empty_reply, try_recv_reply}
-use Rattle.bcast_model.specs.Words.{set_unless_refused, is_out_of_memory, has_next}
-use Rattle.bcast_model.specs.Words.{clone_receiver, new_sender, clone_inactive, without_receiver}
-use Rattle.bcast_model.specs.Words.{drop_receiver, deactivate, drop_sender, drop_inactive}
+use Rattle.bcast_model.specs.Words.{set_unless_refused, is_out_of_memory, has_next, clone_receiver}
+use Rattle.bcast_model.specs.Words.{new_sender, clone_inactive, without_receiver, drop_receiver}
+use Rattle.bcast_model.specs.Words.{deactivate, drop_sender, drop_inactive}
 use Rattle.bcast_model.proofs.SendAll.{offer_all_is}
 use Rattle.bcast_model.proofs.Cases.{test_is, close_is, deserted_is, accepting_is, receive_is}
 

@@ -1,13 +1,11 @@
 -- The view after a call, without a hidden history.
 use Rattle.std.proofs.Common.{◌≡◌, inl, inr, true, false, cond, arith, Bool, not, refl, sym, ap, ◌∙◌, subst}
 use Rattle.std.specs.FinMap.{len}
-use Rattle.bcast_model.specs.declared.run.Call.{Call}
+use Rattle.bcast_model.specs.Words.{Call, Reply, Control, Cursors, tell_a_sender, Effect, sets}
+use Rattle.bcast_model.specs.Words.{View, sends_are_ready, Legal, effect, resize, History, view_of}
+use Rattle.bcast_model.specs.Words.{remember, is_out_of_memory, end_call, may_tell, next, IsValid}
+use Rattle.bcast_model.specs.Words.{Answers, next_view, Steps, HasRange, IsValidView}
 use Rattle.bcast_model.specs.declared.run.Call.TheVariants as call
-use Rattle.bcast_model.specs.declared.run.Reply.{Reply}
-use Rattle.bcast_model.specs.Words.{Control, Cursors, tell_a_sender, Effect, sets, View}
-use Rattle.bcast_model.specs.Words.{sends_are_ready, Legal, effect, resize, History, view_of}
-use Rattle.bcast_model.specs.Words.{remember, is_out_of_memory, end_call, may_tell, next}
-use Rattle.bcast_model.specs.Words.{IsValid, Answers, next_view, Steps, HasRange, IsValidView}
 use Rattle.bcast_model.proofs.Cases.{tell_is}
 use Rattle.bcast_model.proofs.Sound.{AreSizes}
 use Rattle.bcast_model.proofs.Views.{valid_view}

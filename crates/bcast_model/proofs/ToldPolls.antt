@@ -1,22 +1,19 @@
 -- Polls of told listeners come to rest.
-use Rattle.std.proofs.Common.{◌≡◌, inl, inr, ℕ, ◌+◌, ◌*◌, ◌≤◌, true, false, cond, not, ◌&&◌, List, [], ◌∷◌, drop, max, Option, Some, Result, Ok, Err, refl, sym, ap, ◌∙◌, subst, arith}
+use Rattle.std.proofs.Common.{◌≡◌, inl, inr, ℕ, ◌+◌, ◌*◌, ◌≤◌, true, false, cond, not, ◌&&◌, List, [], ◌∷◌, drop, max, Option, Some, Result, Ok, Err, refl, sym, ap, ◌∙◌, subst, arith, alloc_error}
 use Rattle.std.proofs.lemmas.Option.{same_Some}
 use Rattle.std.specs.List.{AllByRecursion}
 use Rattle.std.specs.FinMap.{len}
-use Rattle.std.specs.Prelude.{alloc_error}
-use Rattle.bcast_model.specs.declared.error.TryRecvError.{TryRecvError}
+use Rattle.bcast_model.specs.Words.{TryRecvError, Call, Reply, is_in, Pair, same_pair, same_place}
+use Rattle.bcast_model.specs.Words.{stream_of, future_of, Control, has_place, cursor_of, View}
+use Rattle.bcast_model.specs.Words.{sends_are_ready, History, view_of, IsOwed, try_recv_reply}
+use Rattle.bcast_model.specs.Words.{skipped_to, skipped_count, future_reply, stream_reply}
+use Rattle.bcast_model.specs.Words.{next_reply, Legal, IsReceived, is_out_of_memory, next, IsValid}
+use Rattle.bcast_model.specs.Words.{IsValidView, AreListed, WouldWait, IsRun, HasRange, must_wait}
+use Rattle.bcast_model.specs.Words.{listener_count, told_count, polls_told, polls_listed}
+use Rattle.bcast_model.specs.Words.{told_polls, ComesToRest}
 use Rattle.bcast_model.specs.declared.error.TryRecvError.TheVariants as unread
-use Rattle.bcast_model.specs.declared.run.Call.{Call}
 use Rattle.bcast_model.specs.declared.run.Call.TheVariants as call
-use Rattle.bcast_model.specs.declared.run.Reply.{Reply}
 use Rattle.bcast_model.specs.declared.run.Reply.TheVariants as reply
-use Rattle.bcast_model.specs.Words.{is_in, Pair, same_pair, same_place, stream_of, future_of}
-use Rattle.bcast_model.specs.Words.{Control, has_place, cursor_of, View, sends_are_ready, History}
-use Rattle.bcast_model.specs.Words.{view_of, IsOwed, try_recv_reply, skipped_to, skipped_count}
-use Rattle.bcast_model.specs.Words.{future_reply, stream_reply, next_reply, Legal, IsReceived}
-use Rattle.bcast_model.specs.Words.{is_out_of_memory, next, IsValid, IsValidView, AreListed}
-use Rattle.bcast_model.specs.Words.{WouldWait, IsRun, HasRange, must_wait, listener_count}
-use Rattle.bcast_model.specs.Words.{told_count, polls_told, polls_listed, told_polls, ComesToRest}
 use Rattle.bcast_model.proofs.Lists.{all_in, some}
 use Rattle.bcast_model.proofs.Tests.{test_place, test_pair}
 use Rattle.bcast_model.proofs.Polls.{send_waits_unready}

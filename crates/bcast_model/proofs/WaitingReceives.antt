@@ -5,9 +5,8 @@ use Rattle.std.specs.Ordering.{nat_cmp, eq_by_cmp}
 use Rattle.std.specs.Cmp.{nat_cmp_total, unsigned_tied}
 use Rattle.std.specs.FinMap.{get, insert, remove, get-insert, get-remove}
 use Rattle.std.specs.List.{AllByRecursion}
-use Rattle.bcast_model.specs.Listeners.{Listeners, untold_ids, tell_all, consume, abandon, wait_again, AreInOrder}
-use Rattle.bcast_model.specs.ListenerId.{Pair, same_pair, stream_of, future_of}
-use Rattle.bcast_model.specs.Control.{Cursors}
+use Rattle.bcast_model.specs.Words.{Listeners, untold_ids, tell_all, consume, abandon, wait_again}
+use Rattle.bcast_model.specs.Words.{AreInOrder, Pair, same_pair, stream_of, future_of, Cursors}
 use Rattle.bcast_model.proofs.Lists.{all_more, both_left, all_fewer}
 use Rattle.bcast_model.proofs.Listeners.{in_order_tell_all, in_order_consume, in_order_abandon, in_order_waits, untold_tell_all, untold_consume, untold_abandon, untold_waits, all_abandon, all_waits}
 use Rattle.bcast_model.proofs.Tests.{same_kind, test_pair, stream_or_future}

@@ -1,6 +1,6 @@
 -- What a send of a whole list returns, and what it does to the channel.
 use Rattle.std.specs.Prelude.{ℕ, ◌+◌, ◌-◌, if◌then◌else◌, List, [], ◌∷◌, length, min, nat_lt, Result, Ok, Err, is_ok}
-use Rattle.bcast_model.specs.declared.error.TrySendError.{TrySendError}
+use Rattle.bcast_model.specs.Calls.{TrySendError}
 use Rattle.bcast_model.specs.declared.error.TrySendError.TheVariants as unsent
 use Rattle.bcast_model.specs.Control.{has_no_receiver, accepting, last_end}
 use Rattle.bcast_model.specs.View.{View}

@@ -1,8 +1,7 @@
 -- Told polls come to rest: polls of told listeners, one after another, come to an end.
 use Rattle.std.specs.Prelude.{◌≡◌, ℕ, ◌+◌, ◌*◌, ◌≤◌, Bool, true, false, not, ◌&&◌, if◌then◌else◌, List, [], ◌∷◌, length}
-use Rattle.bcast_model.specs.declared.run.Call.{Call}
+use Rattle.bcast_model.specs.Calls.{Call, Reply}
 use Rattle.bcast_model.specs.declared.run.Call.TheVariants as call
-use Rattle.bcast_model.specs.declared.run.Reply.{Reply}
 use Rattle.bcast_model.specs.Listeners.{told_ids, is_in}
 use Rattle.bcast_model.specs.ListenerId.{Pair, stream_of, future_of, same_place, same_pair}
 use Rattle.bcast_model.specs.Control.{Control}

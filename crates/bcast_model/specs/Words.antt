@@ -1,4 +1,5 @@
 -- The definitions that clauses name, from one place.
+pub use Rattle.bcast_model.specs.Calls.{TrySendError, TryRecvError, RecvError, HandleError, SendPoll, Call, Reply}
 pub use Rattle.bcast_model.specs.Listeners.{Listeners, no_listeners, told_ids, untold_ids, tell, tell_all, join, is_in, without, consume, abandon, wait_again, IsDistinct, AreInOrder}
 pub use Rattle.bcast_model.specs.ListenerId.{Pair, stream_of, future_of, same_place, same_pair}
 pub use Rattle.bcast_model.specs.ControlFields.{Cursors, Places, Control}
