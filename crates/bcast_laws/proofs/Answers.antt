@@ -13,11 +13,10 @@ use Rattle.bcast_model.specs.Words.{receive, listens, skipped_to, receive_poll, 
 use Rattle.bcast_model.specs.Words.{recv_reply, try_recv_reply, set_unless_refused, effect, History}
 use Rattle.bcast_model.specs.Words.{view_of, remember, front_number, numbered, is_out_of_memory}
 use Rattle.bcast_model.specs.Words.{may_tell, next, receives_for}
-use Rattle.bcast_model.proofs.Cases.{test_is, receive_is, tell_is}
-use Rattle.bcast_model.proofs.Views.{numbered-queue, first_under}
-use Rattle.bcast_model.proofs.DeliveryMaps.{inserted_other}
-use Rattle.bcast_model.proofs.Front.{front-le-cursor}
 use Rattle.bcast_laws.specs.Receives.{ShareMessages}
+use Rattle.bcast_model.proofs.Cases.{test_is, receive_is, tell_is}
+use Rattle.bcast_model.proofs.Views.{numbered-queue, first_under, front-le-cursor}
+use Rattle.bcast_model.proofs.DeliveryMaps.{inserted_other}
 use Rattle.bcast_laws.proofs.Sends.{apart}
 
 -- ---- a receive doesn't change the other cursors

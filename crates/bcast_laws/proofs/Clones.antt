@@ -1,12 +1,12 @@
 -- A receiver and its new clone receive alike.
 use Rattle.std.proofs.Common.{◌≡◌, inl, inr, ◌≢◌, ℕ, ◌≤◌, true, Option, Some, None, Ok, refl, sym, ap, ◌∙◌, arith, is_some}
 use Rattle.std.proofs.lemmas.Grind.{common_steps}
+use Rattle.std.specs.FinMap.{get}
 use Rattle.bcast_model.specs.declared.run.Call.TheVariants as call
 use Rattle.bcast_model.specs.declared.run.Reply.{Reply}
 use Rattle.bcast_model.specs.declared.run.Reply.TheVariants as reply
 use Rattle.bcast_model.specs.Words.{clone_receiver, Control, cursor_of, View, try_recv_reply}
 use Rattle.bcast_model.specs.Words.{History, view_of, next, Legal, IsValid}
-use Rattle.std.specs.FinMap.{get}
 use Rattle.bcast_model.proofs.Answers.{cursors-next}
 use Rattle.bcast_model.proofs.DeliveryMaps.{inserted, inserted_other}
 use Rattle.bcast_laws.proofs.Sends.{apart}

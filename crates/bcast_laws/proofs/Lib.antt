@@ -10,7 +10,6 @@ pub mod Clones
 pub mod Unread
 -- a closed channel
 pub mod Closing
-pub mod ClosedSends
 pub mod Terminated
 -- whole runs
 pub mod Order

@@ -12,11 +12,10 @@ use Rattle.bcast_model.specs.Words.{receive, recv_reply, try_recv_reply, effect,
 use Rattle.bcast_model.specs.Words.{remember, front_number, end_number, queue_of, may_tell, next}
 use Rattle.bcast_model.specs.Words.{IsValid}
 use Rattle.bcast_model.proofs.Cases.{tell_is}
-use Rattle.bcast_model.proofs.Views.{valid_view, lagging}
+use Rattle.bcast_model.proofs.Views.{valid_view, lagging, front-le-cursor}
 use Rattle.bcast_model.proofs.DeliveryLists.{past_end}
 use Rattle.bcast_model.proofs.DeliveryMaps.{inserted}
 use Rattle.bcast_model.proofs.DeliverySteps.{found_reached}
-use Rattle.bcast_model.proofs.Front.{front-le-cursor}
 
 module _ {T : Type 0} where
   same_count : (m n : ℕ) → ◌≡◌ {A = Result T TryRecvError} (Err (unread.Overflowed m)) (Err (unread.Overflowed n)) → m ≡ n

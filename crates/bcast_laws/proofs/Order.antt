@@ -4,8 +4,8 @@ use Rattle.bcast_model.specs.declared.run.Call.{Call}
 use Rattle.bcast_model.specs.declared.run.Reply.{Reply}
 use Rattle.bcast_model.specs.Words.{History, numbered, IsGiven, ClonesEqual, next, IsValid, IsRun}
 use Rattle.bcast_model.specs.Words.{end_of_run, AreAllExact, AtEachPoint}
-use Rattle.bcast_model.proofs.DeliveryLemmas.{deliveries_exact, given_at}
 use Rattle.bcast_laws.specs.Order.{IsGivenAs, AtSomePoint, HasOneOrder}
+use Rattle.bcast_model.proofs.DeliveryLemmas.{deliveries_exact, given_at}
 
 some_both : {X : Type 0} (P Q : X → Type 0) (o : Option X) → IsSomeAnd o P → IsSomeAnd o Q → IsSomeAnd o (λ x. P x × Q x)
 some_both P Q None p q = absurd p

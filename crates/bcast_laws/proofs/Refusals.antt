@@ -16,10 +16,10 @@ use Rattle.bcast_model.specs.Words.{stream_reply, next_reply, try_recv_reply, Is
 use Rattle.bcast_model.specs.Words.{IsReceived, set_unless_refused, effect, History, view_of}
 use Rattle.bcast_model.specs.Words.{remember, with_control, is_out_of_memory, tell_if_ready}
 use Rattle.bcast_model.specs.Words.{end_call, may_tell, next, IsValid, IsValidView, has_next}
+use Rattle.bcast_laws.specs.Sends.{is_refused}
 use Rattle.bcast_model.proofs.Views.{valid_view}
 use Rattle.bcast_model.proofs.DeliveryLists.{past_end}
 use Rattle.bcast_model.proofs.Cases.{test_is, uncloned}
-use Rattle.bcast_laws.specs.Sends.{is_refused}
 use Rattle.bcast_laws.proofs.Sends.{apart}
 use Rattle.bcast_laws.proofs.RefusedHandles.{same_cloned, same_deactivated, same_sender}
 

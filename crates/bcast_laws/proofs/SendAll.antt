@@ -10,12 +10,12 @@ use Rattle.bcast_model.specs.declared.run.Reply.TheVariants as reply
 use Rattle.bcast_model.specs.Words.{cursor_of, History, view_of, end_number, numbered, Legal}
 use Rattle.bcast_model.specs.Words.{IsGiven, IsValid, IsRun, end_of_run, AreExact, AreAllExact}
 use Rattle.bcast_model.specs.Words.{AtEachPoint, deliveries_of, last_cursor_of}
+use Rattle.bcast_laws.specs.SendAll.{after_list, IsDeliveryOf, StandsInOnePiece}
 use Rattle.bcast_model.proofs.Answers.{next_valid, cursors-next}
 use Rattle.bcast_model.proofs.DeliveryLemmas.{deliveries_exact, given_at}
 use Rattle.bcast_model.proofs.DeliveryLists.{past_end}
 use Rattle.bcast_model.proofs.DeliveryMessages.{numbered_stays}
 use Rattle.bcast_model.proofs.SendAll.{cursors-offer_all}
-use Rattle.bcast_laws.specs.SendAll.{after_list, IsDeliveryOf, StandsInOnePiece}
 use Rattle.bcast_laws.proofs.Sends.{messages_added}
 
 -- an entry of the second of two lists

@@ -14,9 +14,9 @@ use Rattle.bcast_model.specs.Words.{reply_to_attempt, handed_back, attempt_send_
 use Rattle.bcast_model.specs.Words.{offer, with_place_answered, poll_send, free_room}
 use Rattle.bcast_model.specs.Words.{try_broadcast_all_reply, accept_all, effect, is_out_of_memory}
 use Rattle.bcast_model.specs.Words.{History, view_of, next, Legal, must_wait}
+use Rattle.bcast_laws.specs.Sends.{sent_by, messages_of, returned_by, returned_all_by, is_accepted}
 use Rattle.bcast_model.proofs.Cases.{test_is}
 use Rattle.bcast_model.proofs.Polls.{send_waits_unready}
-use Rattle.bcast_laws.specs.Sends.{sent_by, messages_of, returned_by, returned_all_by, is_accepted}
 
 pub apart : {A : Type 0} → false ≡ true → A
 apart e = cc

@@ -7,14 +7,13 @@ use Rattle.std.specs.FinMap.{get}
 use Rattle.bcast_model.specs.declared.error.TryRecvError.TheVariants as unread_error
 use Rattle.bcast_model.specs.declared.run.Call.TheVariants as call
 use Rattle.bcast_model.specs.declared.run.Reply.TheVariants as reply
-use Rattle.bcast_model.specs.Words.{with_cursor, cursor_of, kept_at, receive, recv_reply, try_recv_reply}
-use Rattle.bcast_model.specs.Words.{History, view_of, front_number, end_number, queue_of, NoClone}
-use Rattle.bcast_model.specs.Words.{IsValid, unread, missed}
-use Rattle.bcast_model.proofs.Answers.{next_valid, cursors-next}
-use Rattle.bcast_model.proofs.Views.{valid_view, floor_under}
-use Rattle.bcast_model.proofs.DeliveryMaps.{inserted}
-use Rattle.bcast_model.proofs.Front.{front-le-cursor}
+use Rattle.bcast_model.specs.Words.{with_cursor, cursor_of, kept_at, receive, recv_reply}
+use Rattle.bcast_model.specs.Words.{try_recv_reply, History, view_of, front_number, end_number}
+use Rattle.bcast_model.specs.Words.{queue_of, NoClone, IsValid, unread, missed}
 use Rattle.bcast_laws.specs.Unread.{after_try, GivesInARow, UnreadIsGiven}
+use Rattle.bcast_model.proofs.Answers.{next_valid, cursors-next}
+use Rattle.bcast_model.proofs.Views.{valid_view, floor_under, front-le-cursor}
+use Rattle.bcast_model.proofs.DeliveryMaps.{inserted}
 use Rattle.bcast_laws.proofs.Answers.{lagging_answer}
 use Rattle.bcast_laws.proofs.Missed.{finds}
 

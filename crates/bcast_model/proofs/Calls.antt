@@ -1,5 +1,5 @@
 -- What each call does to the view keeps a history valid.
-use Rattle.std.proofs.Common.{inr, ℕ, ◌==◌, true, not, Option, is_some, refl}
+use Rattle.std.proofs.Common.{inr, ℕ, ◌==◌, true, not, Option, is_some, refl, subst, sym}
 use Rattle.std.specs.FinMap.{len}
 use Rattle.bcast_model.specs.Words.{Call, Reply, stream_of, future_of, close, place_ended}
 use Rattle.bcast_model.specs.Words.{pair_ended, cursor_of, begin_send, new_receiver, activate}
@@ -16,8 +16,8 @@ use Rattle.bcast_model.proofs.Kept.{kept_idle, kept_close, keeps_sets}
 use Rattle.bcast_model.proofs.Sends.{kept_begin_send, kept_end_send, keeps_offer, keeps_poll_send}
 use Rattle.bcast_model.proofs.SendAll.{keeps_offer_all}
 use Rattle.bcast_model.proofs.Receives.{kept_receive, kept_poll, kept_poll_next, keeps_unless}
-use Rattle.bcast_model.proofs.Leaving.{kept_pair_dropped, kept_drop_receiver, kept_deactivate, kept_drop_sender, kept_drop_inactive}
-use Rattle.bcast_model.proofs.Making.{kept_new_receiver, kept_activate, kept_clone_receiver, kept_made, kept_new_sender, kept_clone_inactive, kept_settings, keeps_resize}
+use Rattle.bcast_model.proofs.Making.{kept_pair_dropped, kept_drop_receiver, kept_deactivate, kept_drop_sender, kept_drop_inactive, kept_new_receiver, kept_activate, kept_clone_receiver, kept_made, kept_new_sender, kept_clone_inactive, kept_settings, keeps_resize}
+use Rattle.bcast_model.proofs.Sound.{IsKept}
 
 module _ {T : Type 0} (is_clone : T → T → Type 0) where
   pub keeps_valid : (c : Call T) (r : Reply T) (v : View T) → IsValidView v → HasRange c (len (effect v c r).control.cursors) → Legal is_clone v c r → KeepsValid v (effect v c r) (may_tell v.control (sends_are_ready v) c)
@@ -46,13 +46,13 @@ module _ {T : Type 0} (is_clone : T → T → Type 0) where
   keeps_valid call.CloneInactive r v valid range legal = keeps_sets v valid (clone_inactive v.control) (kept_clone_inactive v valid)
   keeps_valid (call.Deactivate key) r v valid range legal = keeps_sets v valid (deactivate v.control key (cursor_of v.control key)) (kept_deactivate v valid key (cursor_of v.control key))
   keeps_valid call.NewReceiver r v valid range legal = keeps_sets v valid (new_receiver v.control v.end (chosen_id r))
-      (kept_made v valid (new_receiver v.control v.end) true reply.NewReceiver r (λ _. refl) (λ _. refl) (inr (refl, legal)) (kept_new_receiver v valid) refl range)
+      (kept_made v valid (new_receiver v.control v.end) true reply.NewReceiver r (inr (refl, legal)) (kept_new_receiver v valid) (λ _. kept_idle v valid) range)
   keeps_valid call.Activate r v valid range legal = keeps_sets v valid (activate v.control v.end (chosen_id r))
-      (kept_made v valid (activate v.control v.end) (not (v.control.inactive == 0)) reply.Activate r (λ _. refl) (λ _. refl) legal (kept_activate v valid) refl range)
+      (kept_made v valid (activate v.control v.end) (not (v.control.inactive == 0)) reply.Activate r legal (kept_activate v valid) (λ _. kept_idle v valid) range)
   keeps_valid call.ActivateCloned r v valid range legal = keeps_sets v valid (new_receiver v.control v.end (chosen_id r))
-      (kept_made v valid (new_receiver v.control v.end) (not (v.control.inactive == 0)) reply.ActivateCloned r (λ _. refl) (λ _. refl) legal (kept_new_receiver v valid) refl range)
+      (kept_made v valid (new_receiver v.control v.end) (not (v.control.inactive == 0)) reply.ActivateCloned r legal (kept_new_receiver v valid) (λ _. kept_idle v valid) range)
   keeps_valid (call.CloneReceiver key) r v valid range legal = keeps_sets v valid (clone_receiver v.control (cursor_of v.control key) (chosen_id r))
-      (kept_made v valid (clone_receiver v.control (cursor_of v.control key)) (is_some (cursor_of v.control key)) reply.CloneReceiver r (λ _. refl) (λ _. refl) legal (λ made. kept_clone_receiver v valid key (cursor_of v.control key) made refl) (uncloned v.control (cursor_of v.control key)) range)
+      (kept_made v valid (clone_receiver v.control (cursor_of v.control key)) (is_some (cursor_of v.control key)) reply.CloneReceiver r legal (λ made. kept_clone_receiver v valid key (cursor_of v.control key) made refl) (λ _. subst (IsKept v) (sym (uncloned v.control (cursor_of v.control key))) (kept_idle v valid)) range)
   keeps_valid call.DropSender r v valid range legal = keeps_sets v valid (drop_sender v.control) (kept_drop_sender v valid)
   keeps_valid call.DropInactive r v valid range legal = keeps_sets v valid (drop_inactive v.control) (kept_drop_inactive v valid)
   keeps_valid (call.DropReceiver key) r v valid range legal = keeps_sets v valid (drop_receiver v.control key (cursor_of v.control key)) (kept_drop_receiver v valid key (cursor_of v.control key))

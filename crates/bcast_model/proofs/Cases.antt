@@ -1,11 +1,15 @@
 -- The conditional parts of a call, each by its cases.
-use Rattle.std.proofs.Common.{◌≡◌, ℕ, ◌+◌, ◌<◌, ◌≤◌, ◌==◌, ◌&&◌, Bool, true, false, cond, Option, Some, None, Result, Ok, Err, not, nat_lt, refl, arith}
+use Rattle.std.proofs.Common.{◌≡◌, ℕ, ◌+◌, ◌<◌, ◌≤◌, ◌==◌, ◌&&◌, Bool, true, false, cond, Option, Some, None, Result, Ok, Err, not, nat_lt, inl, inr, refl, sym, subst, arith}
 use Rattle.std.proofs.lemmas.Grind.{common_steps}
-use Rattle.bcast_model.specs.Words.{Control, last_end, tell_a_sender, tell_receivers, closing}
-use Rattle.bcast_model.specs.Words.{close, is_deserted, close_if_deserted, accepting, with_cursor}
-use Rattle.bcast_model.specs.Words.{History, with_control, view_of, View, sends_are_ready}
-use Rattle.bcast_model.specs.Words.{TrySendError, clone_receiver, end_call, receive}
-use Rattle.bcast_model.specs.Words.{has_no_receiver, is_full, try_broadcast_reply, handed_back}
+use Rattle.std.specs.FinMap.{get}
+use Rattle.bcast_model.specs.Words.{IsMadeFrom, IsReceived, HandleError, TryRecvError, Cursors}
+use Rattle.bcast_model.specs.Words.{Reply, Control, last_end, tell_a_sender, tell_receivers}
+use Rattle.bcast_model.specs.Words.{closing, close, is_deserted, close_if_deserted, accepting}
+use Rattle.bcast_model.specs.Words.{with_cursor, History, with_control, view_of, View}
+use Rattle.bcast_model.specs.Words.{sends_are_ready, TrySendError, clone_receiver, end_call}
+use Rattle.bcast_model.specs.Words.{receive, has_no_receiver, is_full, try_broadcast_reply}
+use Rattle.bcast_model.specs.Words.{handed_back}
+use Rattle.bcast_model.specs.declared.error.HandleError.TheVariants as handle
 use Rattle.bcast_model.specs.declared.error.TrySendError.TheVariants as unsent
 
 -- a value that is one of two, if the test was computed
@@ -27,21 +31,32 @@ pub uncloned : (c : Control) (cursor : Option ℕ) → clone_receiver c cursor N
 uncloned c None = refl
 uncloned c (Some cursor) = refl
 
--- ---- closing and accepting don't change the capacity and the cursors
-pub capacity-close : (c : Control) → (close c).capacity ≡ c.capacity
-capacity-close c = close_is (λ now. now.capacity ≡ c.capacity) c (λ _. refl) (λ _. refl)
+-- ---- closing and accepting change neither the capacity nor the cursors, and open no channel
+-- the capacity stays, and a closed channel stays closed
+abbrev pub Leaves : Control → Control → Type 0
+Leaves old new = (new.capacity ≡ old.capacity) × (old.closed ≡ true → new.closed ≡ true)
 
-pub capacity-accepting : (c : Control) (end : ℕ) → (accepting c end).capacity ≡ c.capacity
-capacity-accepting c end = accepting_is (λ now. now.capacity ≡ c.capacity) c end (capacity-close (tell_receivers c)) (λ _. refl)
+-- the cursors stay too
+abbrev pub Stays : Control → Control → Type 0
+Stays old new = (new.cursors ≡ old.cursors) × Leaves old new
+
+pub kept : (c : Control) → Stays c c
+kept c = (refl, (refl, λ is. is))
+
+pub stays-close : (c : Control) → Stays c (close c)
+stays-close c = close_is (Stays c) c (λ _. kept c) (λ _. (refl, (refl, λ _. refl)))
+
+pub stays-deserted : (c : Control) → Stays c (close_if_deserted c)
+stays-deserted c = deserted_is (Stays c) c (stays-close c) (λ _. kept c)
+
+pub stays-accepting : (c : Control) (end : ℕ) → Stays c (accepting c end)
+stays-accepting c end = accepting_is (Stays c) c end (stays-close (tell_receivers c)) (λ _. kept c)
 
 pub cursors-close : (c : Control) → (close c).cursors ≡ c.cursors
-cursors-close c = close_is (λ now. now.cursors ≡ c.cursors) c (λ _. refl) (λ _. refl)
-
-pub cursors-close_if_deserted : (c : Control) → (close_if_deserted c).cursors ≡ c.cursors
-cursors-close_if_deserted c = deserted_is (λ now. now.cursors ≡ c.cursors) c (cursors-close c) (λ _. refl)
+cursors-close c = (stays-close c).0
 
 pub cursors-accepting : (c : Control) (end : ℕ) → (accepting c end).cursors ≡ c.cursors
-cursors-accepting c end = accepting_is (λ now. now.cursors ≡ c.cursors) c end (cursors-close (tell_receivers c)) (λ _. refl)
+cursors-accepting c end = (stays-accepting c end).0
 
 -- ---- receiving and telling
 module _ {T : Type 0} (v : View T) where
@@ -79,3 +94,19 @@ module _ {T : Type 0} where
       → P (try_broadcast_reply v msg)
   try_is P v msg refused accepted =
       sent_is (λ answer. try_broadcast_reply v msg ≡ answer → P answer) v.control.closed (has_no_receiver v.control) (is_full v && not v.control.overflow) (unsent.Closed msg) (unsent.Inactive msg) (unsent.Full msg) (handed_back v) refused accepted refl
+
+-- ---- replies
+module _ {T : Type 0} where
+  -- a call that makes a receiver gives it a free key, or is refused
+  pub made_is : (P : Reply T → Type 0) (there : Bool) (cursors : Cursors) (spelt : Result ℕ HandleError → Reply T) (r : Reply T) → IsMadeFrom there cursors spelt r
+      → ((key : ℕ) → get cursors key ≡ None → P (spelt (Ok key))) → ((error : HandleError) → P (spelt (Err error))) → P r
+  made_is P there cursors spelt r (inl gone) made refused = subst P (sym gone.1) (refused handle.Gone)
+  made_is P there cursors spelt r (inr (is, inl some)) made refused = subst P (sym some.1) (made some.0 some.2)
+  made_is P there cursors spelt r (inr (is, inr e)) made refused = subst P (sym e) (refused handle.Memory)
+
+  -- a receive returns its exact result, or gives a clone, or is out of memory for one
+  pub received_is : (P : Reply T → Type 0) (is_clone : T → T → Type 0) (owed : Type 0) (spelt : Result T TryRecvError → Reply T) (refused : Reply T) (exact : Result T TryRecvError) (r : Reply T) → IsReceived is_clone owed spelt refused exact r
+      → P (spelt exact) → (owed → (msg given : T) → exact ≡ Ok msg → is_clone msg given → P (spelt (Ok given))) → (owed → P refused) → P r
+  received_is P is_clone owed spelt refused exact r (inl e) same clone none = subst P (sym e) same
+  received_is P is_clone owed spelt refused exact r (inr (owes, inl (msg, given, was, copy, e))) same clone none = subst P (sym e) (clone owes msg given was copy)
+  received_is P is_clone owed spelt refused exact r (inr (owes, inr e)) same clone none = subst P (sym e) (none owes)

@@ -1,12 +1,15 @@
 -- Fewer clones, and what a receive hands out.
-use Rattle.std.proofs.Common.{inl, inr, ℕ, Option, List, [], ◌∷◌, Result, Ok, sym, ap, ◌∙◌}
+use Rattle.std.proofs.Common.{inl, inr, ℕ, Option, List, [], ◌∷◌, Result, Ok, sym, ap, ◌∙◌, ◌≡◌, ◌-◌, Bool, true, false, cond, Some, None, Err, nat_lt, slice_get, refl, subst, IsSomeAnd, alloc_error}
 use Rattle.std.specs.declared.alloc.AllocError.{AllocError}
+use Rattle.futures.specs.declared.task.Poll.TheVariants as poll
 use Rattle.bcast_model.specs.Words.{TryRecvError, Call, Reply, History, view_of, Legal, IsGiven}
 use Rattle.bcast_model.specs.Words.{NoClone, ClonesEqual, IsReceivedBy, next, View, Answers, IsRun}
 use Rattle.bcast_model.specs.Words.{cursor_of, skipped_to, skipped_count, future_reply}
-use Rattle.bcast_model.specs.Words.{stream_reply, next_reply}
+use Rattle.bcast_model.specs.Words.{stream_reply, next_reply, recv_reply, IsOwed, try_recv_reply}
+use Rattle.bcast_model.specs.Words.{IsReceived, IsGivenFrom}
 use Rattle.bcast_model.specs.declared.run.Call.TheVariants as call
 use Rattle.bcast_model.specs.declared.run.Reply.TheVariants as reply
+use Rattle.bcast_model.specs.declared.error.TryRecvError.TheVariants as unread
 
 module _ {T : Type 0} where
   module _ (p q : T → T → Type 0) (wider : (msg given : T) → p msg given → IsGiven q msg given) where
@@ -51,3 +54,61 @@ module _ {T : Type 0} where
   run_exact p h (c ∷ calls) (r ∷ replies) equal run = (legal_exact p (view_of h) c r equal run.0, run_exact p (next h c r) calls replies equal run.1)
   run_exact p h [] (r ∷ replies) equal run = absurd run
   run_exact p h (c ∷ calls) [] equal run = absurd run
+
+module _ {T : Type 0} where
+  found_message : (closed : Bool) (o : Option T) (msg : T) → recv_reply closed o ≡ Ok msg → o ≡ Some msg
+  found_message closed (Some other) msg e = cc
+  found_message closed None msg e = cc
+
+  kept_message : (v : View T) (cursor : Option ℕ) (msg : T) → try_recv_reply v cursor ≡ Ok msg → (index : ℕ) × (slice_get v.queue index ≡ Some msg)
+  kept_message v None msg e = cc
+  kept_message v (Some cursor) msg e = elim (nat_lt cursor v.front) as (λ b. cond b (Err (unread.Overflowed (v.front - cursor))) (recv_reply v.control.closed (slice_get v.queue (cursor - v.front))) ≡ Ok msg → (index : ℕ) × (slice_get v.queue index ≡ Some msg)) [
+    | true ↦ λ e. cc
+    | false ↦ λ e. (cursor - v.front, found_message v.control.closed (slice_get v.queue (cursor - v.front)) msg e)
+  ] e
+
+  given_kept : (is_clone : T → T → Type 0) (v : View T) (cursor : Option ℕ) (msg given : T) → try_recv_reply v cursor ≡ Ok msg → IsGiven is_clone msg given → IsGivenFrom is_clone v.queue given
+  given_kept is_clone v cursor msg given e is = let k = kept_message v cursor msg e in record { index = k.0; message = subst (λ o. IsSomeAnd o (λ msg. IsGiven is_clone msg given)) (sym k.1) is }
+
+  -- a receive whose replies are made so hands out a kept message, or a clone of one
+  received_from : (is_clone : T → T → Type 0) (owed : Type 0) (spelt : Result T TryRecvError → Reply T) (refused : Reply T) (v : View T) (cursor : Option ℕ) (r : Reply T) (given : T)
+      → ((answer : Result T TryRecvError) → r ≡ spelt answer → answer ≡ Ok given) → (r ≡ refused → ⊥) → IsReceived is_clone owed spelt refused (try_recv_reply v cursor) r → IsGivenFrom is_clone v.queue given
+  received_from is_clone owed spelt refused v cursor r given one none legal = elim legal [
+    | inl e ↦ given_kept is_clone v cursor given given (one (try_recv_reply v cursor) e) (inl refl)
+    | inr s ↦ elim s.1 [
+      | inl clone ↦ (let same : clone.1 ≡ given = (let e = one (Ok clone.1) clone.4 in cc) in given_kept is_clone v cursor clone.0 given clone.2 (inr (subst (is_clone clone.0) same clone.3)))
+      | inr e ↦ absurd (none e)
+    ]
+  ]
+
+  future_is : (answer : Result T TryRecvError) (given : T) → future_reply answer ≡ poll.Ready (Ok given) → answer ≡ Ok given
+  future_is (Err (unread.Overflowed n)) given e = cc
+  future_is answer given e = cc
+
+  stream_is : (answer : Result T TryRecvError) (given : T) → stream_reply answer ≡ poll.Ready (Some (Ok given)) → answer ≡ Ok given
+  stream_is (Err (unread.Overflowed n)) given e = cc
+  stream_is answer given e = cc
+
+  next_is : (skips n : ℕ) (answer : Result T TryRecvError) (given : T) → next_reply skips answer ≡ poll.Ready (Some (given, n)) → answer ≡ Ok given
+  next_is skips n (Ok msg) given e = ap (λ (p : T × ℕ). Ok p.0) (let f : ◌≡◌ {A = T × ℕ} (msg, skips) (given, n) = cc in f)
+  next_is skips n (Err (unread.Overflowed m)) given e = cc
+  next_is skips n answer given e = cc
+
+  module _ (is_clone : T → T → Type 0) (v : View T) (key : ℕ) (given : T) where
+    pub given_try_recv : Legal is_clone v (call.TryRecv key) (reply.TryRecv (Ok (Ok given))) → IsGivenFrom is_clone v.queue given
+    given_try_recv legal = received_from is_clone (IsOwed v key (cursor_of v.control key)) (λ answer. reply.TryRecv (Ok answer)) (reply.TryRecv (Err alloc_error)) v (cursor_of v.control key) (reply.TryRecv (Ok (Ok given))) given (λ answer e. cc) (λ e. cc) legal
+
+    pub given_future : Legal is_clone v (call.PollFuture key) (reply.PollFuture (Ok (poll.Ready (Ok given)))) → IsGivenFrom is_clone v.queue given
+    given_future legal = received_from is_clone (IsOwed v key (cursor_of v.control key)) (λ answer. reply.PollFuture (Ok (future_reply answer))) (reply.PollFuture (Err alloc_error)) v (cursor_of v.control key) (reply.PollFuture (Ok (poll.Ready (Ok given)))) given
+        (λ answer e. future_is answer given (cc)) (λ e. cc) legal
+
+    pub given_recv : Legal is_clone v (call.PollRecv key) (reply.PollRecv (Ok (poll.Ready (Some (Ok given))))) → IsGivenFrom is_clone v.queue given
+    given_recv legal = received_from is_clone (IsOwed v key (cursor_of v.control key)) (λ answer. reply.PollRecv (Ok (stream_reply answer))) (reply.PollRecv (Err alloc_error)) v (cursor_of v.control key) (reply.PollRecv (Ok (poll.Ready (Some (Ok given))))) given
+        (λ answer e. stream_is answer given (cc)) (λ e. cc) legal
+
+    pub given_next : (n : ℕ) → Legal is_clone v (call.PollNext key) (reply.PollNext (Ok (poll.Ready (Some (given, n))))) → IsGivenFrom is_clone v.queue given
+    given_next n legal =
+        let cursor : Option ℕ = skipped_to v.front (cursor_of v.control key) in
+        let skips : ℕ = skipped_count v.front (cursor_of v.control key) in
+        received_from is_clone (IsOwed v key cursor) (λ answer. reply.PollNext (Ok (next_reply skips answer))) (reply.PollNext (Err alloc_error)) v cursor (reply.PollNext (Ok (poll.Ready (Some (given, n))))) given
+        (λ answer e. next_is skips n answer given (cc)) (λ e. cc) legal

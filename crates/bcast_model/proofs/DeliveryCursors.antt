@@ -1,15 +1,16 @@
 -- What each call does to the receivers' cursors.
-use Rattle.std.proofs.Common.{◌≡◌, inl, inr, ℕ, ◌+◌, ◌-◌, ◌≤◌, ◌==◌, max, Bool, true, false, cond, Option, Some, None, nat_lt, refl, sym, ap, subst, arith}
+use Rattle.std.proofs.Common.{Ok, Result, ◌≡◌, inl, inr, ℕ, ◌+◌, ◌-◌, ◌≤◌, ◌==◌, max, Bool, true, false, cond, Option, Some, None, nat_lt, refl, sym, ap, subst, arith, Err}
 use Rattle.std.proofs.lemmas.Grind.{common_steps}
 use Rattle.std.specs.FinMap.{get}
-use Rattle.bcast_model.specs.Words.{Call, Reply, Pair, stream_of, future_of, Control, with_cursor}
-use Rattle.bcast_model.specs.Words.{cursor_of, View, Effect, sets, receive, skipped_to}
-use Rattle.bcast_model.specs.Words.{receive_poll, is_empty_reply, try_recv_reply, Legal, resize}
-use Rattle.bcast_model.specs.Words.{set_unless_refused, effect, is_out_of_memory, chosen_id}
-use Rattle.bcast_model.specs.Words.{has_next, drop_receiver, deactivate, without_receiver}
-use Rattle.bcast_model.specs.Words.{clone_receiver, receives_for}
+use Rattle.bcast_model.specs.Words.{IsMadeFrom, HandleError, Call, Reply, Pair, stream_of}
+use Rattle.bcast_model.specs.Words.{future_of, Control, with_cursor, cursor_of, View, Effect, sets}
+use Rattle.bcast_model.specs.Words.{receive, skipped_to, receive_poll, is_empty_reply}
+use Rattle.bcast_model.specs.Words.{try_recv_reply, Legal, resize, set_unless_refused, effect}
+use Rattle.bcast_model.specs.Words.{is_out_of_memory, chosen_id, has_next, drop_receiver}
+use Rattle.bcast_model.specs.Words.{deactivate, without_receiver, clone_receiver, receives_for}
+use Rattle.bcast_model.specs.declared.run.Reply.TheVariants as reply
 use Rattle.bcast_model.specs.declared.run.Call.TheVariants as call
-use Rattle.bcast_model.proofs.Cases.{test_is, uncloned, cursors-close, cursors-close_if_deserted}
+use Rattle.bcast_model.proofs.Cases.{test_is, uncloned, made_is, stays-close, stays-deserted}
 use Rattle.bcast_model.proofs.SendAll.{cursors-offer_all}
 use Rattle.bcast_model.proofs.Stays.{stays-offer, stays-poll_send, stays-new_sender, stays-clone_inactive, stays-drop_sender, stays-drop_inactive}
 use Rattle.bcast_model.proofs.DeliveryMaps.{CursorsChange, stay, rise, make_at_end, make_where, leave, cursors-listens, cursors-begin_send}
@@ -39,7 +40,7 @@ same_key key = grind (arith, common_steps)
 
 left : (c : Control) (front end key : ℕ) (receives : ℕ → Bool) (cursor : Option ℕ) → CursorsChange front end receives c.cursors (drop_receiver c key cursor).cursors
 left c front end key receives None = stay refl
-left c front end key receives (Some cursor) = leave key (cursors-close_if_deserted (without_receiver c key))
+left c front end key receives (Some cursor) = leave key (stays-deserted (without_receiver c key)).0
 
 deactivated : (c : Control) (front end key : ℕ) (receives : ℕ → Bool) (cursor : Option ℕ) → CursorsChange front end receives c.cursors (deactivate c key cursor).cursors
 deactivated c front end key receives None = stay refl
@@ -64,6 +65,10 @@ module _ {T : Type 0} where
       unless v (sets (receive_poll v pair cursor)) c r
       (subst (CursorsChange v.front v.end (λ key. receives_for key c) v.control.cursors) (sym (cursors-listens (receive v pair.0 cursor) pair (is_empty_reply (try_recv_reply v cursor)))) change)
 
+  new : (v : View T) (c : Call T) (there : Bool) (spelt : Result ℕ HandleError → Reply T) (r : Reply T) → IsMadeFrom there v.control.cursors spelt r
+      → ((key : ℕ) → get v.control.cursors key ≡ None → Changes v c (effect v c (spelt (Ok key))).control) → ((error : HandleError) → Changes v c (effect v c (spelt (Err error))).control) → Changes v c (effect v c r).control
+  new v c there spelt r legal made refused = made_is (λ r. Changes v c (effect v c r).control) there v.control.cursors spelt r legal made refused
+
   pub changes : (is_clone : T → T → Type 0) (v : View T) (c : Call T) (r : Reply T) → Legal is_clone v c r → Changes v c (effect v c r).control
   changes is_clone v (call.TryBroadcast msg) r legal = stay (stays-offer v msg).0
   changes is_clone v (call.TryBroadcastAll msgs) r legal = stay (cursors-offer_all v msgs)
@@ -79,22 +84,16 @@ module _ {T : Type 0} where
   changes is_clone v (call.PollNext key) r legal =
       let cursor = skipped_to v.front (cursor_of v.control key) in
       polled v (call.PollNext key) r (stream_of key) cursor (rise_skipping v _ key (cursor_of v.control key) (same_key key) refl)
-  changes is_clone v call.Close r legal = stay (cursors-close v.control)
+  changes is_clone v call.Close r legal = stay (stays-close v.control).0
   changes is_clone v (call.SetCapacity n) r legal = unless v (resize v n) (call.SetCapacity n) r (stay refl)
   changes is_clone v call.NewSender r legal = stay (stays-new_sender v.control).0
   changes is_clone v call.CloneInactive r legal = stay (stays-clone_inactive v.control).0
   changes is_clone v (call.Deactivate key) r legal = deactivated v.control _ _ key _ (cursor_of v.control key)
-  changes is_clone v call.NewReceiver r (inl (key, is, free)) = rw is (make_at_end key free refl)
-  changes is_clone v call.NewReceiver r (inr is) = rw is (stay refl)
-  changes is_clone v call.Activate r (inl (gone, is)) = rw is (stay refl)
-  changes is_clone v call.Activate r (inr (there, inl (key, is, free))) = rw is (make_at_end key free refl)
-  changes is_clone v call.Activate r (inr (there, inr is)) = rw is (stay refl)
-  changes is_clone v call.ActivateCloned r (inl (gone, is)) = rw is (stay refl)
-  changes is_clone v call.ActivateCloned r (inr (there, inl (key, is, free))) = rw is (make_at_end key free refl)
-  changes is_clone v call.ActivateCloned r (inr (there, inr is)) = rw is (stay refl)
-  changes is_clone v (call.CloneReceiver other) r (inl (gone, is)) = rw is (stay (ap (λ (c : Control). c.cursors) (uncloned v.control (cursor_of v.control other))))
-  changes is_clone v (call.CloneReceiver other) r (inr (there, inl (key, is, free))) = rw is (cloned v.control _ _ key _ other (cursor_of v.control other) refl free)
-  changes is_clone v (call.CloneReceiver other) r (inr (there, inr is)) = rw is (stay (ap (λ (c : Control). c.cursors) (uncloned v.control (cursor_of v.control other))))
+  changes is_clone v call.NewReceiver r legal = new v call.NewReceiver true reply.NewReceiver r (inr (refl, legal)) (λ key free. make_at_end key free refl) (λ _. stay refl)
+  changes is_clone v call.Activate r legal = new v call.Activate _ reply.Activate r legal (λ key free. make_at_end key free refl) (λ _. stay refl)
+  changes is_clone v call.ActivateCloned r legal = new v call.ActivateCloned _ reply.ActivateCloned r legal (λ key free. make_at_end key free refl) (λ _. stay refl)
+  changes is_clone v (call.CloneReceiver other) r legal = new v (call.CloneReceiver other) _ reply.CloneReceiver r legal
+      (λ key free. cloned v.control _ _ key _ other (cursor_of v.control other) refl free) (λ _. stay (ap (λ (c : Control). c.cursors) (uncloned v.control (cursor_of v.control other))))
   changes is_clone v call.DropSender r legal = stay (stays-drop_sender v.control).0
   changes is_clone v call.DropInactive r legal = stay (stays-drop_inactive v.control).0
   changes is_clone v (call.DropReceiver key) r legal = left v.control _ _ key _ (cursor_of v.control key)

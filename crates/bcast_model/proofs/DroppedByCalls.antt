@@ -1,6 +1,8 @@
 -- Which messages each call drops: those from the front up to the floor after it.
 use Rattle.std.proofs.Common.{◌≡◌, inl, inr, ℕ, ◌-◌, ◌<◌, max, Bool, true, false, cond, List, [], ◌∷◌, length, nat_lt, Option, Result, refl, ap, ◌∙◌, arith}
 use Rattle.std.specs.declared.alloc.AllocError.{AllocError}
+use Rattle.std.proofs.lemmas.Grind.{common_steps}
+use Rattle.std.specs.List.{range_with_len}
 use Rattle.bcast_model.specs.Words.{TryRecvError, Call, Reply, Control, Effect, sets}
 use Rattle.bcast_model.specs.Words.{try_broadcast_reply, Legal, resize, effect, History, view_of}
 use Rattle.bcast_model.specs.Words.{front_number, end_number, queue_of, is_out_of_memory}
@@ -8,11 +10,9 @@ use Rattle.bcast_model.specs.Words.{hands_back, dropped_by, IsReceivedBy, View, 
 use Rattle.bcast_model.specs.Words.{skipped_to, skipped_count, future_reply, stream_reply}
 use Rattle.bcast_model.specs.Words.{next_reply}
 use Rattle.bcast_model.specs.declared.run.Reply.TheVariants as reply
-use Rattle.std.proofs.lemmas.Grind.{common_steps}
-use Rattle.std.specs.List.{range_with_len}
 use Rattle.bcast_model.specs.declared.run.Call.TheVariants as call
 use Rattle.bcast_model.proofs.Cases.{test_is}
-use Rattle.bcast_model.proofs.Front.{IsBounded, length-queue}
+use Rattle.bcast_model.proofs.Views.{IsBounded, length-queue}
 use Rattle.bcast_model.proofs.SendAll.{floor-offer_all}
 use Rattle.bcast_model.proofs.DroppedBySends.{FloorChange, stays, passes, hands_back-sent, hands_back-attempted, floor-send, floor-poll_send}
 

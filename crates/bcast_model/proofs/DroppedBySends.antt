@@ -13,7 +13,7 @@ use Rattle.bcast_model.specs.declared.run.SendPoll.TheVariants as send
 use Rattle.bcast_model.specs.declared.run.Reply.TheVariants as reply
 use Rattle.bcast_model.proofs.Cases.{cursors-accepting, try_is}
 use Rattle.bcast_model.proofs.DeliveryLists.{past_end}
-use Rattle.bcast_model.proofs.Front.{IsBounded, front-le-end}
+use Rattle.bcast_model.proofs.Views.{IsBounded, front-le-end}
 
 -- an effect drops no message, or some from the front on while the cursors stay
 pub data FloorChange {T : Type 0} (h : History T) (e : Effect T) (dropped : List ℕ) : Type 0 where

@@ -3,8 +3,8 @@ use Rattle.std.proofs.Common.{◌≡◌, inl, inr, ℕ, ◌+◌, ◌^◌, ◌<�
 use Rattle.std.proofs.lemmas.Grind.{common_steps}
 use Rattle.std.specs.FinMap.{get, insert, len}
 use Rattle.bcast_model.specs.Words.{Listeners, Pair, Control, Places, is_ready, close}
-use Rattle.bcast_model.specs.Words.{close_if_deserted, with_cursor, View}
-use Rattle.bcast_model.specs.Words.{sends_are_ready, sets, settle, IsValidView}
+use Rattle.bcast_model.specs.Words.{close_if_deserted, with_cursor, View, sends_are_ready, sets}
+use Rattle.bcast_model.specs.Words.{settle, IsValidView}
 use Rattle.bcast_model.proofs.Least.{len_insert}
 use Rattle.bcast_model.proofs.Cases.{close_is, deserted_is}
 use Rattle.bcast_model.proofs.WaitingSends.{OneIsTold, AreSends}

@@ -1,10 +1,9 @@
 -- The least cursor.
 use Rattle.std.proofs.Common.{◌≡◌, ℕ, ◌<◌, ◌≤◌, Bool, true, false, cond, List, [], ◌∷◌, length, map, min, Some, None, refl, sym, ap, ◌∙◌, arith, nat_cmp, T, ◌&&◌, nat_lt, ◌==◌, is_lt}
 use Rattle.std.proofs.lemmas.Grind.{common_steps}
-use Rattle.std.specs.Cmp.{nat_cmp_total}
+use Rattle.std.specs.Cmp.{nat_cmp_total, unsigned_tied}
 use Rattle.std.specs.FinMap.{get, insert, len, values, entries, entries_sorted, find, is_sorted, get-insert, get-entries, len-entries}
 use Rattle.std.specs.FinMap.Entries.{below_all}
-use Rattle.std.specs.Cmp.{unsigned_tied}
 use Rattle.std.specs.Ordering.{eq_by_cmp}
 use Rattle.std.specs.declared.cmp.Ordering.TheVariants.{Less, Equal, Greater}
 use Rattle.std.proofs.lemmas.Option.{none-some, same_Some}

@@ -15,17 +15,14 @@ pub mod Kept
 pub mod Sends
 pub mod SendAll
 pub mod Receives
-pub mod Leaving
 pub mod Making
 pub mod Calls
 -- histories and their views
 pub mod Answers
 pub mod Steps
-pub mod Witness
 pub mod Opening
 -- the laws
 pub mod Clones
-pub mod ReceiveReplies
 pub mod Polls
 pub mod ListLaws
 pub mod Unrest
@@ -33,7 +30,6 @@ pub mod Rest
 pub mod ToldPolls
 -- what every call leaves
 pub mod Stays
-pub mod Lasting
 -- what a run gives its receivers
 pub mod DeliveryLists
 pub mod DeliveryMaps
@@ -42,7 +38,6 @@ pub mod DeliveryAnswers
 pub mod DeliverySteps
 pub mod DeliveryMessages
 pub mod DeliveryLemmas
-pub mod Front
 pub mod DroppedBySends
 pub mod DroppedByCalls
 pub mod RisingNumbers

@@ -1,8 +1,8 @@
 -- The laws of the lists of listeners.
 use Rattle.std.proofs.Common.{◌≡◌, ℕ, ◌+◌, ◌-◌, Bool, true, false, cond, [], ◌∷◌, ◌++◌, length, refl, ap, ◌∙◌, arith}
 use Rattle.std.proofs.lemmas.List.{take_at, take-append-le, drop-append-le}
-use Rattle.bcast_model.specs.Listeners.{Listeners, told_ids, untold_ids, is_in, without, join, consume, AreInOrder}
-use Rattle.bcast_model.specs.ListLaws.{IsTest, StaysInOrder, KeepsPositions, KeepsCounts}
+use Rattle.bcast_model.specs.Words.{Listeners, told_ids, untold_ids, is_in, without, join, consume}
+use Rattle.bcast_model.specs.Words.{AreInOrder, IsTest, StaysInOrder, KeepsPositions, KeepsCounts}
 use Rattle.bcast_model.proofs.Lists.{without_absent}
 use Rattle.bcast_model.proofs.Listeners.{consume-is, untold-consume, in_order_tell, in_order_tell_all, in_order_join, in_order_consume, in_order_abandon, in_order_waits, told_listed, told_some, consume_listed}
 

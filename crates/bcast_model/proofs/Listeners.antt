@@ -2,8 +2,9 @@
 use Rattle.std.proofs.Common.{◌≡◌, ℕ, ◌+◌, ◌-◌, ◌<◌, ◌≤◌, Bool, true, false, cond, ◌||◌, List, [], ◌∷◌, ◌++◌, length, min, max, take, drop, refl, sym, ap, ◌∙◌, subst, arith, length-append}
 use Rattle.std.proofs.lemmas.List.{length-take, take-append-drop, drop_at, drop-append-le, drop_all}
 use Rattle.std.specs.List.{AllByRecursion}
-use Rattle.bcast_model.specs.Listeners.{Listeners, told_ids, untold_ids, is_in, without, tell, tell_all, join, consume, abandon, wait_again, IsDistinct, AreInOrder}
-use Rattle.bcast_model.specs.ListLaws.{IsTest}
+use Rattle.bcast_model.specs.Words.{Listeners, told_ids, untold_ids, is_in, without, tell, tell_all}
+use Rattle.bcast_model.specs.Words.{join, consume, abandon, wait_again, IsDistinct, AreInOrder}
+use Rattle.bcast_model.specs.Words.{IsTest}
 use Rattle.bcast_model.proofs.Lists.{all_more, all_fewer, all_append, all_later, all_without, all_absent, absent, some, without-append, in-append, distinct_left, distinct_without, length-without}
 
 module _ {A : Type 0} (same : A → A → Bool) (test : IsTest same) where

@@ -1,32 +1,22 @@
 -- What calls that make handles keep, and calls that change settings.
-use Rattle.std.proofs.Common.{◌≡◌, ◌⊎◌, inl, inr, ℕ, ◌+◌, ◌-◌, ◌^◌, ◌<◌, ◌≤◌, ◌==◌, ◌||◌, Bool, not, [], ◌++◌, length, max, drop, Option, Some, None, Result, Ok, Err, nat_lt, refl, sym, ◌∙◌, subst, arith, length-append, length-drop}
+use Rattle.std.proofs.Common.{◌≡◌, ◌⊎◌, inl, inr, ℕ, ◌+◌, ◌-◌, ◌^◌, ◌<◌, ◌≤◌, ◌==◌, ◌||◌, Bool, not, [], ◌++◌, length, max, drop, Option, Some, None, Result, Ok, Err, nat_lt, refl, sym, ◌∙◌, arith, length-append, length-drop}
 use Rattle.std.proofs.lemmas.Grind.{common_steps}
 use Rattle.std.proofs.lemmas.Option.{none-some}
 use Rattle.std.specs.FinMap.{get, insert, len, values}
-use Rattle.bcast_model.specs.Words.{HandleError, Reply, Control, Cursors, with_cursor, has_next}
+use Rattle.bcast_model.specs.Words.{HandleError, Reply, Control, with_cursor, has_next}
 use Rattle.bcast_model.specs.Words.{new_receiver, activate, clone_receiver, new_sender}
 use Rattle.bcast_model.specs.Words.{clone_inactive, least, IsMadeFrom, chosen_id, View}
-use Rattle.bcast_model.specs.Words.{sends_are_ready, resize, IsValidView}
-use Rattle.bcast_model.specs.declared.error.HandleError.TheVariants as handle
+use Rattle.bcast_model.specs.Words.{sends_are_ready, resize, IsValidView, abandon, Pair, same_pair}
+use Rattle.bcast_model.specs.Words.{close_if_deserted, pair_ended, without_receiver, drop_receiver}
+use Rattle.bcast_model.specs.Words.{deactivate, drop_sender, drop_inactive}
 use Rattle.bcast_model.proofs.Least.{len_insert}
-use Rattle.bcast_model.proofs.Cases.{test_is}
-use Rattle.bcast_model.proofs.Sound.{IsNoLower, IsKept, sound_counts}
+use Rattle.bcast_model.proofs.Cases.{test_is, made_is}
+use Rattle.bcast_model.proofs.Sound.{IsNoLower, IsKept, sound_counts, IsSound, sound_without}
 use Rattle.bcast_model.proofs.Lift.{KeepsValid}
-use Rattle.bcast_model.proofs.Kept.{not_not, kept_idle, kept_cursor, kept_counts}
+use Rattle.bcast_model.proofs.Kept.{not_not, kept_idle, kept_cursor, kept_counts, kept_deserted, kept_receives}
+use Rattle.bcast_model.proofs.WaitingReceives.{receives_abandoned}
 
 module _ {T : Type 0} where
-  -- a reply that gives a key gives one that was free
-  pub made_is : (P : Option ℕ → Type 0) (there : Bool) (cursors : Cursors) (spelt : Result ℕ HandleError → Reply T) (r : Reply T)
-      → ((key : ℕ) → chosen_id (spelt (Ok key)) ≡ Some key) → ((error : HandleError) → chosen_id (spelt (Err error)) ≡ None) → IsMadeFrom there cursors spelt r
-      → ((key : ℕ) → get cursors key ≡ None → P (Some key)) → P None → P (chosen_id r)
-  made_is P there cursors spelt r given none legal made refused = elim legal [
-    | inl gone ↦ subst (λ (r : Reply T). P (chosen_id r)) (sym gone.1) (subst P (sym (none handle.Gone)) refused)
-    | inr m ↦ elim m.1 [
-      | inl some ↦ subst (λ (r : Reply T). P (chosen_id r)) (sym some.1) (subst P (sym (given some.0)) (made some.0 some.2))
-      | inr e ↦ subst (λ (r : Reply T). P (chosen_id r)) (sym e) (subst P (sym (none handle.Memory)) refused)
-    ]
-  ]
-
   module _ (v : View T) (valid : IsValidView v) where
     -- ---- receivers
     made_at : (key cursor : ℕ) → get v.control.cursors key ≡ None → cursor ≤ v.end → IsNoLower v cursor → len (insert v.control.cursors key cursor) < 2 ^ 64 → IsKept v (with_cursor v.control key cursor)
@@ -45,12 +35,11 @@ module _ {T : Type 0} where
     kept_clone_receiver other None key e free few = kept_idle v valid
     kept_clone_receiver other (Some cursor) key e free few = made_at key cursor free (valid.reach other cursor e) (inr (other, cursor, e, omega arith)) few
 
-    -- the key that a reply gives was free, and the count of receivers fits if one was made
-    pub kept_made : (of : Option ℕ → Control) (there : Bool) (spelt : Result ℕ HandleError → Reply T) (r : Reply T)
-        → ((key : ℕ) → chosen_id (spelt (Ok key)) ≡ Some key) → ((error : HandleError) → chosen_id (spelt (Err error)) ≡ None) → IsMadeFrom there v.control.cursors spelt r
-        → ((key : ℕ) → get v.control.cursors key ≡ None → len (of (Some key)).cursors < 2 ^ 64 → IsKept v (of (Some key))) → of None ≡ v.control
+    -- the count of receivers fits if one was made
+    pub kept_made : (of : Option ℕ → Control) (there : Bool) (spelt : Result ℕ HandleError → Reply T) (r : Reply T) → IsMadeFrom there v.control.cursors spelt r
+        → ((key : ℕ) → get v.control.cursors key ≡ None → len (of (chosen_id (spelt (Ok key)))).cursors < 2 ^ 64 → IsKept v (of (chosen_id (spelt (Ok key))))) → ((error : HandleError) → IsKept v (of (chosen_id (spelt (Err error)))))
         → len (of (chosen_id r)).cursors < 2 ^ 64 → IsKept v (of (chosen_id r))
-    kept_made of there spelt r given none legal made idle = made_is (λ o. len (of o).cursors < 2 ^ 64 → IsKept v (of o)) there v.control.cursors spelt r given none legal made (λ _. subst (IsKept v) (sym idle) (kept_idle v valid))
+    kept_made of there spelt r legal made refused = made_is (λ r. len (of (chosen_id r)).cursors < 2 ^ 64 → IsKept v (of (chosen_id r))) there v.control.cursors spelt r legal made (λ error _. refused error)
 
     -- ---- senders and inactive receivers
     pub kept_new_sender : IsKept v (new_sender v.control)
@@ -85,3 +74,59 @@ module _ {T : Type 0} where
           attended = rw e idle.attended;
           told = λ was _. valid.wake_ups.sends (not_not (sends_are_ready v) was);
         }
+
+module _ {T : Type 0} (v : View T) (valid : IsValidView v) where
+  pub kept_pair_dropped : (pair : Pair) → IsKept v (pair_ended v.control pair)
+  kept_pair_dropped pair =
+      let idle = kept_idle v valid in
+      kept_receives v v.control (abandon same_pair pair v.control.waiting_receives) (receives_abandoned v.control.cursors v.control.closed v.end v.control.waiting_receives pair idle.sound.receives) idle
+
+  -- ---- receivers
+  left : (key : ℕ) → IsSound v v.end (without_receiver v.control key)
+  left key = sound_without v v.end v.control key (kept_idle v valid).sound
+
+  pub kept_drop_receiver : (key : ℕ) (cursor : Option ℕ) → IsKept v (drop_receiver v.control key cursor)
+  kept_drop_receiver key None = kept_idle v valid
+  kept_drop_receiver key (Some cursor) = kept_deserted v (without_receiver v.control key) (left key) valid.fits (λ one. one) valid.control.open_end
+
+  -- the receiver leaves, and one more is inactive
+  inactive_instead : (key : ℕ) → v.control.inactive + 1 < 2 ^ 64 → IsKept v (record (without_receiver v.control key) { inactive = v.control.inactive + 1 })
+  inactive_instead key few =
+      let s = left key in
+      let sizes = s.sizes in
+      let c : Control = without_receiver v.control key in
+      record {
+        sound = sound_counts v v.end c c.capacity c.room c.senders (v.control.inactive + 1) c.overflow c.await_active
+            (record { positive = sizes.positive; within = sizes.within; room_fits = sizes.room_fits; receivers_fit = sizes.receivers_fit; senders_fit = sizes.senders_fit; inactive_fit = few; end_fits = sizes.end_fits }) s;
+        attended = record { sender = valid.control.sender; receiver = λ _. omega arith; open_end = valid.control.open_end };
+        fits = valid.fits;
+        told = λ one. one;
+      }
+
+  pub kept_deactivate : (key : ℕ) (cursor : Option ℕ) → IsKept v (deactivate v.control key cursor)
+  kept_deactivate key None = kept_idle v valid
+  kept_deactivate key (Some cursor) = test_is (IsKept v) (has_next v.control.inactive) (record (without_receiver v.control key) { inactive = v.control.inactive + 1 }) v.control
+      (λ e. inactive_instead key (grind (arith, common_steps, e)))
+      (λ _. kept_idle v valid)
+
+  -- ---- counts
+  -- fewer senders or inactive receivers
+  deserted : (senders inactive : ℕ) → senders ≤ v.control.senders → inactive ≤ v.control.inactive → IsKept v (close_if_deserted (record v.control { senders = senders; inactive = inactive }))
+  deserted senders inactive few less =
+      let idle = kept_idle v valid in
+      let sizes = idle.sound.sizes in
+      let c : Control = v.control in
+      kept_deserted v (record c { senders = senders; inactive = inactive })
+      (sound_counts v v.end c c.capacity c.room senders inactive c.overflow c.await_active
+      (record { positive = sizes.positive; within = sizes.within; room_fits = sizes.room_fits; receivers_fit = sizes.receivers_fit; senders_fit = omega (arith, sizes.senders_fit); inactive_fit = omega (arith, sizes.inactive_fit); end_fits = sizes.end_fits }) idle.sound)
+      valid.fits (λ one. one) valid.control.open_end
+
+  pub kept_drop_sender : IsKept v (drop_sender v.control)
+  kept_drop_sender = test_is (IsKept v) (v.control.senders == 0) v.control (close_if_deserted (record v.control { senders = v.control.senders - 1 }))
+      (λ _. kept_idle v valid)
+      (λ _. deserted (v.control.senders - 1) v.control.inactive (omega arith) (omega arith))
+
+  pub kept_drop_inactive : IsKept v (drop_inactive v.control)
+  kept_drop_inactive = test_is (IsKept v) (v.control.inactive == 0) v.control (close_if_deserted (record v.control { inactive = v.control.inactive - 1 }))
+      (λ _. kept_idle v valid)
+      (λ _. deserted v.control.senders (v.control.inactive - 1) (omega arith) (omega arith))

@@ -10,7 +10,7 @@ use Rattle.bcast_model.specs.Words.{deliveries_of, dropped_by, dropped_in, WasDr
 use Rattle.bcast_model.specs.Words.{MissesOnlyDropped, MissesWhatWasDropped}
 use Rattle.bcast_model.proofs.DeliveryLists.{in_parts}
 use Rattle.bcast_model.proofs.DeliverySteps.{gives_call}
-use Rattle.bcast_model.proofs.Front.{IsBounded, bounded_valid}
+use Rattle.bcast_model.proofs.Views.{IsBounded, bounded_valid}
 use Rattle.bcast_model.proofs.RisingNumbers.{within_rising, increasing}
 use Rattle.bcast_model.proofs.MissedSteps.{drops_next, bounded-next}
 use Rattle.bcast_model.proofs.MissedRuns.{joined, bounded_run, rising_run, AreGone, gone_next, gone_from, under_floor, missed_gone, given_kept}

@@ -7,9 +7,8 @@ use Rattle.std.specs.FinMap.{get}
 use Rattle.bcast_model.specs.Words.{Call, Reply, History, view_of, cursor_of, Legal}
 use Rattle.bcast_model.specs.Words.{HasPositiveCapacity, next, IsRun, end_of_run, given_to}
 use Rattle.bcast_model.specs.Words.{dropped_by, dropped_in, WasDropped}
-use Rattle.bcast_model.proofs.Views.{floor_under}
+use Rattle.bcast_model.proofs.Views.{floor_under, IsBounded, front-le-cursor}
 use Rattle.bcast_model.proofs.DeliverySteps.{gives_call}
-use Rattle.bcast_model.proofs.Front.{IsBounded, front-le-cursor}
 use Rattle.bcast_model.proofs.RisingNumbers.{IsRising, rising_append, within_rising}
 use Rattle.bcast_model.proofs.MissedSteps.{drops_next, stood_before, bounded-next}
 

@@ -5,14 +5,13 @@ use Rattle.std.specs.FinMap.{get}
 use Rattle.bcast_model.specs.Words.{Call, Reply, History, view_of, front_number, end_number}
 use Rattle.bcast_model.specs.Words.{cursor_of, Legal, effect, HasPositiveCapacity, next}
 use Rattle.bcast_model.specs.Words.{receives_for, dropped_by}
-use Rattle.bcast_model.proofs.Views.{floor_under}
+use Rattle.bcast_model.proofs.Views.{floor_under, IsBounded, front-le-end}
 use Rattle.bcast_model.proofs.Answers.{cursors-next}
 use Rattle.bcast_model.proofs.DeliveryMaps.{came_from}
 use Rattle.bcast_model.proofs.DeliveryCursors.{changes}
-use Rattle.bcast_model.proofs.Front.{IsBounded, front-le-end}
 use Rattle.bcast_model.proofs.DroppedBySends.{FloorChange, stays, passes}
 use Rattle.bcast_model.proofs.DroppedByCalls.{floor-effect}
-use Rattle.bcast_model.proofs.Lasting.{capacity-next}
+use Rattle.bcast_model.proofs.Stays.{capacity-next}
 use Rattle.bcast_model.proofs.RisingNumbers.{contains_range, IsRising, rising_range, rising_wider}
 
 module _ {T : Type 0} where

@@ -1,6 +1,6 @@
 -- A poll waits exactly if its try finds nothing.
 use Rattle.std.proofs.Common.{◌≡◌, inl, inr, ℕ, ◌<◌, ◌≤◌, Bool, true, false, cond, not, ◌&&◌, ◌||◌, max, Option, Some, None, Result, Ok, Err, refl, sym, ap, ◌∙◌, arith, alloc_error}
-use Rattle.std.proofs.lemmas.Bool.{cases_lt}
+use Rattle.std.proofs.lemmas.Bool.{cases_lt, false≢true}
 use Rattle.std.specs.FinMap.{get}
 use Rattle.bcast_model.specs.Words.{TrySendError, TryRecvError, Call, Reply, has_place}
 use Rattle.bcast_model.specs.Words.{has_no_receiver, cursor_of, is_full, sends_are_ready, View}
@@ -16,6 +16,7 @@ use Rattle.bcast_model.specs.declared.run.Call.TheVariants as call
 use Rattle.bcast_model.specs.declared.run.Reply.TheVariants as reply
 use Rattle.bcast_model.proofs.Views.{lagging}
 use Rattle.bcast_model.proofs.Receives.{empty_at}
+use Rattle.bcast_model.proofs.Cases.{received_is}
 
 module _ {T : Type 0} where
   -- ---- sends
@@ -49,16 +50,9 @@ module _ {T : Type 0} where
   -- ---- receives
   received_waits : (is_clone : T → T → Type 0) (owed : Type 0) (spelt : Result T TryRecvError → Reply T) (refused : Reply T) (exact : Result T TryRecvError) (r : Reply T)
       → ((answer : Result T TryRecvError) → must_wait (spelt answer) ≡ is_empty_reply answer) → is_out_of_memory refused ≡ true → is_out_of_memory r ≡ false → IsReceived is_clone owed spelt refused exact r → must_wait r ≡ is_empty_reply exact
-  received_waits is_clone owed spelt refused exact r waits none memory legal = elim legal [
-    | inl e ↦ ap must_wait e ∙ waits exact
-    | inr s ↦ elim s.1 [
-      | inl clone ↦ ap must_wait clone.4 ∙ waits (Ok clone.1) ∙ sym (ap is_empty_reply clone.2)
-      | inr e ↦ (let f = sym memory ∙ ap is_out_of_memory e ∙ none in absurd (apart f))
-    ]
-  ]
-    where
-      apart : false ≡ true → ⊥
-      apart e = cc
+  received_waits is_clone owed spelt refused exact r waits none memory legal =
+      received_is (λ r. is_out_of_memory r ≡ false → must_wait r ≡ is_empty_reply exact) is_clone owed spelt refused exact r legal (λ _. waits exact)
+      (λ _ msg given was _ _. waits (Ok given) ∙ sym (ap is_empty_reply was)) (λ _ e. absurd (false≢true (sym e ∙ none))) memory
 
   pub future_waits : (answer : Result T TryRecvError) → must_wait (reply.PollFuture (Ok (future_reply answer))) ≡ is_empty_reply answer
   future_waits (Err (unread.Overflowed n)) = refl

@@ -2,10 +2,10 @@
 use Rattle.std.proofs.Common.{◌≡◌, inl, ℕ, ◌+◌, ◌-◌, ◌^◌, ◌<◌, ◌≤◌, not, true, false, cond, List, [], ◌∷◌, length, nat_lt, Ok, Err, refl, subst, arith, length-append, length-drop, is_ok}
 use Rattle.std.proofs.lemmas.Grind.{common_steps}
 use Rattle.bcast_model.specs.declared.error.TrySendError.TheVariants as unsent
-use Rattle.bcast_model.specs.Words.{has_no_receiver, Effect, sets, IsValidView}
-use Rattle.bcast_model.specs.Words.{free_room, try_broadcast_all_reply, accept_all}
-use Rattle.bcast_model.specs.Words.{offer_all, View, sends_are_ready}
-use Rattle.bcast_model.proofs.Cases.{capacity-accepting, cursors-accepting, test_is}
+use Rattle.bcast_model.specs.Words.{has_no_receiver, Effect, sets, IsValidView, free_room}
+use Rattle.bcast_model.specs.Words.{try_broadcast_all_reply, accept_all, offer_all, View}
+use Rattle.bcast_model.specs.Words.{sends_are_ready}
+use Rattle.bcast_model.proofs.Cases.{stays-accepting, cursors-accepting, test_is}
 use Rattle.bcast_model.proofs.Lift.{KeepsValid}
 use Rattle.bcast_model.proofs.Kept.{not_not, kept_idle, keeps_sets}
 use Rattle.bcast_model.proofs.Sends.{attended_accepting, sound_accepting, told_accepting}
@@ -56,7 +56,7 @@ module _ {T : Type 0} where
         let idle = kept_idle v valid in
         let end : ℕ = v.end + length (msg ∷ rest) in
         let below : end < 2 ^ 64 = omega (arith, roomy.numbers, valid.control.open_end roomy.opened) in
-        let same = capacity-accepting v.control end in
+        let same = (stays-accepting v.control end).1.0 in
         record {
           floor = inl refl;
           fits = rw same (simp (length-drop, length-append) (omega (arith, roomy.room, valid.fits)));

@@ -7,9 +7,10 @@ use Rattle.bcast_model.specs.declared.error.TrySendError.TheVariants as unsent
 use Rattle.bcast_model.specs.Words.{consume, abandon, wait_again, same_place, Control}
 use Rattle.bcast_model.specs.Words.{has_no_receiver, tell_receivers, close, accepting, has_place}
 use Rattle.bcast_model.specs.Words.{place_ended, place_waits, begin_send, accept}
-use Rattle.bcast_model.specs.Words.{try_broadcast_reply, handed_back, offer, with_place_answered, poll_send, least}
-use Rattle.bcast_model.specs.Words.{View, is_full, sends_are_ready, sets, IsValidView}
-use Rattle.bcast_model.proofs.Cases.{test_is, close_is, accepting_is, capacity-accepting}
+use Rattle.bcast_model.specs.Words.{try_broadcast_reply, handed_back, offer, with_place_answered}
+use Rattle.bcast_model.specs.Words.{poll_send, least, View, is_full, sends_are_ready, sets}
+use Rattle.bcast_model.specs.Words.{IsValidView}
+use Rattle.bcast_model.proofs.Cases.{test_is, close_is, accepting_is, stays-accepting}
 use Rattle.bcast_model.proofs.Listeners.{one_abandon}
 use Rattle.bcast_model.proofs.Tests.{test_place}
 use Rattle.bcast_model.proofs.WaitingSends.{OneIsTold, sends_inserted, sends_consumed, sends_abandoned, sends_waiting}
@@ -63,7 +64,7 @@ module _ {T : Type 0} where
     keeps_accept msg open_now =
         let idle = kept_idle v valid in
         let below : v.end + 1 < 2 ^ 64 = valid.control.open_end open_now in
-        let same = capacity-accepting v.control (v.end + 1) in
+        let same = (stays-accepting v.control (v.end + 1)).1.0 in
         record {
           floor = test_is (λ n. (n ≡ 0) ⊎ (n < v.end + 1)) (is_full v) (v.front + 1) 0
               (λ e. let full : length v.queue ≡ v.control.capacity = grind (arith, common_steps, e) in inr (omega (arith, full, valid.control.capacity, valid.end)))

@@ -1,39 +1,25 @@
 -- Which parts of a call leave the capacity, a closed channel closed, and the cursors, as they are.
-use Rattle.std.proofs.Common.{◌≡◌, ℕ, ◌+◌, ◌-◌, ◌==◌, ◌||◌, not, true, cond, List, ◌∷◌, length, Option, Some, None, refl, is_ok}
+use Rattle.std.proofs.Common.{◌≡◌, ℕ, ◌+◌, ◌-◌, ◌==◌, ◌||◌, not, true, cond, List, ◌∷◌, length, Option, Some, None, refl, is_ok, ◌≤◌, Bool, false, arith}
 use Rattle.std.specs.Option.{option_map_or}
-use Rattle.bcast_model.specs.Words.{Reply, Pair, Control, tell_receivers, close, close_if_deserted}
-use Rattle.bcast_model.specs.Words.{accepting, has_place, place_waits, pair_waits, pair_answered}
-use Rattle.bcast_model.specs.Words.{View, sends_are_ready, Effect, sets, try_broadcast_reply}
-use Rattle.bcast_model.specs.Words.{accept, offer, with_place_answered, poll_send, offer_all}
-use Rattle.bcast_model.specs.Words.{receive, receive_poll, is_empty_reply, try_recv_reply}
-use Rattle.bcast_model.specs.Words.{set_unless_refused, is_out_of_memory, has_next, clone_receiver}
-use Rattle.bcast_model.specs.Words.{new_sender, clone_inactive, without_receiver, drop_receiver}
-use Rattle.bcast_model.specs.Words.{deactivate, drop_sender, drop_inactive}
+use Rattle.bcast_model.specs.Words.{Reply, Pair, Control, close_if_deserted, has_place, place_waits}
+use Rattle.bcast_model.specs.Words.{pair_waits, pair_answered, View, sends_are_ready, Effect, sets}
+use Rattle.bcast_model.specs.Words.{try_broadcast_reply, accept, offer, with_place_answered}
+use Rattle.bcast_model.specs.Words.{poll_send, offer_all, receive, receive_poll, is_empty_reply}
+use Rattle.bcast_model.specs.Words.{try_recv_reply, set_unless_refused, is_out_of_memory, has_next}
+use Rattle.bcast_model.specs.Words.{clone_receiver, new_sender, clone_inactive, without_receiver}
+use Rattle.bcast_model.specs.Words.{drop_receiver, deactivate, drop_sender, drop_inactive, Call}
+use Rattle.bcast_model.specs.Words.{stream_of, future_of, with_place, with_cursor, cursor_of}
+use Rattle.bcast_model.specs.Words.{skipped_to, resize, effect, History, view_of, remember}
+use Rattle.bcast_model.specs.Words.{chosen_id, may_tell, next, HasPositiveCapacity}
+use Rattle.bcast_model.specs.declared.run.Call.TheVariants as call
 use Rattle.bcast_model.proofs.SendAll.{offer_all_is}
-use Rattle.bcast_model.proofs.Cases.{test_is, close_is, deserted_is, accepting_is, receive_is}
-
--- the capacity stays, and a closed channel stays closed
-abbrev pub Leaves : Control → Control → Type 0
-Leaves old new = (new.capacity ≡ old.capacity) × (old.closed ≡ true → new.closed ≡ true)
-
--- the cursors stay too
-abbrev pub Stays : Control → Control → Type 0
-Stays old new = (new.cursors ≡ old.cursors) × Leaves old new
+use Rattle.bcast_model.proofs.Cases.{test_is, receive_is, tell_is, Leaves, Stays, kept, stays-close, stays-deserted, stays-accepting}
 
 pub left : (c : Control) → Leaves c c
-left c = (refl, λ is. is)
-
-pub kept : (c : Control) → Stays c c
-kept c = (refl, left c)
+left c = (kept c).1
 
 -- ---- the parts of a call
 module _ (c : Control) where
-  pub stays-close : Stays c (close c)
-  stays-close = close_is (Stays c) c (λ _. kept c) (λ _. (refl, (refl, λ _. refl)))
-
-  pub stays-deserted : Stays c (close_if_deserted c)
-  stays-deserted = deserted_is (Stays c) c stays-close (λ _. kept c)
-
   pub leaves-made : (made : ℕ → Control) (id : Option ℕ) → ((n : ℕ) → Leaves c (made n)) → Leaves c (option_map_or made id c)
   leaves-made made None each = left c
   leaves-made made (Some n) each = each n
@@ -47,9 +33,6 @@ module _ (c : Control) where
 
   pub stays-clone_inactive : Stays c (clone_inactive c)
   stays-clone_inactive = test_is (Stays c) ((c.inactive == 0) || not (has_next c.inactive)) c (record c { inactive = c.inactive + 1 }) (λ _. kept c) (λ _. kept c)
-
-pub stays-accepting : (c : Control) (end : ℕ) → Stays c (accepting c end)
-stays-accepting c end = accepting_is (Stays c) c end (stays-close (tell_receivers c)) (λ _. kept c)
 
 pub leaves-dropped : (c : Control) (key : ℕ) (cursor : Option ℕ) → Leaves c (drop_receiver c key cursor)
 leaves-dropped c key None = left c
@@ -94,3 +77,55 @@ module _ {T : Type 0} (v : View T) where
       let moved : Leaves v.control c = leaves-receive pair.0 cursor in
       leaves-unless (receive_poll v pair cursor) r
       (test_is (Leaves v.control) (is_empty_reply (try_recv_reply v cursor)) (pair_waits c pair) (pair_answered c pair) (λ _. moved) (λ _. moved))
+
+module _ {T : Type 0} where
+  -- ---- each call
+  abbrev is_resize : Call T → Bool
+  is_resize (call.SetCapacity n) = true
+  is_resize c = false
+
+  effect_leaves : (v : View T) (c : Call T) (r : Reply T) → is_resize c ≡ false → Leaves v.control (effect v c r).control
+  effect_leaves v (call.TryBroadcast msg) r other = (stays-offer v msg).1
+  effect_leaves v (call.TryBroadcastAll msgs) r other = (stays-offer_all v msgs).1
+  effect_leaves v (call.AttemptSend msg) r other = (stays-offer v msg).1
+  effect_leaves v call.BeginSend r other = leaves-made v.control (with_place v.control) (chosen_id r) (λ _. left v.control)
+  effect_leaves v (call.PollSend place msg) r other = (stays-poll_send v place msg).1
+  effect_leaves v (call.TryRecv key) r other = leaves-unless v (receive v key (cursor_of v.control key)) r (leaves-receive v key (cursor_of v.control key))
+  effect_leaves v (call.PollFuture key) r other = leaves-poll v r (future_of key) (cursor_of v.control key)
+  effect_leaves v (call.PollRecv key) r other = leaves-poll v r (stream_of key) (cursor_of v.control key)
+  effect_leaves v (call.PollNext key) r other = leaves-poll v r (stream_of key) (skipped_to v.front (cursor_of v.control key))
+  effect_leaves v call.Close r other = (stays-close v.control).1
+  effect_leaves v (call.SetCapacity n) r other = cc
+  effect_leaves v call.NewSender r other = (stays-new_sender v.control).1
+  effect_leaves v call.CloneInactive r other = (stays-clone_inactive v.control).1
+  effect_leaves v (call.Deactivate key) r other = leaves-deactivate v.control key (cursor_of v.control key)
+  effect_leaves v call.NewReceiver r other = leaves-made v.control (λ key. with_cursor v.control key v.end) (chosen_id r) (λ _. left v.control)
+  effect_leaves v call.Activate r other = leaves-made v.control (λ key. record (with_cursor v.control key v.end) { inactive = v.control.inactive - 1 }) (chosen_id r) (λ _. left v.control)
+  effect_leaves v call.ActivateCloned r other = leaves-made v.control (λ key. with_cursor v.control key v.end) (chosen_id r) (λ _. left v.control)
+  effect_leaves v (call.CloneReceiver key) r other = leaves-cloned v.control (cursor_of v.control key) (chosen_id r)
+  effect_leaves v call.DropSender r other = (stays-drop_sender v.control).1
+  effect_leaves v call.DropInactive r other = (stays-drop_inactive v.control).1
+  effect_leaves v (call.DropReceiver key) r other = leaves-dropped v.control key (cursor_of v.control key)
+  effect_leaves v c r other = left v.control
+
+  abbrev Lasts : Call T → Control → Control → Type 0
+  Lasts c old new = (HasPositiveCapacity c → 1 ≤ old.capacity → 1 ≤ new.capacity) × (old.closed ≡ true → new.closed ≡ true)
+
+  lasting : (c : Call T) (old new : Control) → Leaves old new → Lasts c old new
+  lasting c old new l = (λ _ positive. let capacity = l.0 in omega (arith, capacity, positive), l.1)
+
+  effect_lasts : (v : View T) (c : Call T) (r : Reply T) → Lasts c v.control (effect v c r).control
+  effect_lasts v (call.SetCapacity n) r =
+      test_is (λ (e : Effect T). Lasts (call.SetCapacity n) v.control e.control) (is_out_of_memory r) (sets v.control) (resize v n) (λ _. (λ _ positive. positive, λ is. is)) (λ _. (λ allowed _. allowed, λ is. is))
+  effect_lasts v c r = lasting c v.control (effect v c r).control (effect_leaves v c r refl)
+
+  next_lasts : (h : History T) (c : Call T) (r : Reply T) → Lasts c h.control (next h c r).control
+  next_lasts h c r =
+      let now = effect_lasts (view_of h) c r in
+      tell_is (λ (after : History T). Lasts c h.control after.control) (may_tell h.control (sends_are_ready (view_of h)) c) (remember h (effect (view_of h) c r)) (λ _. now) (λ _. now)
+
+  pub capacity-next : (h : History T) (c : Call T) (r : Reply T) → HasPositiveCapacity c → 1 ≤ h.control.capacity → 1 ≤ (next h c r).control.capacity
+  capacity-next h c r = (next_lasts h c r).0
+
+  pub closed-next : (h : History T) (c : Call T) (r : Reply T) → h.control.closed ≡ true → (next h c r).control.closed ≡ true
+  closed-next h c r = (next_lasts h c r).1

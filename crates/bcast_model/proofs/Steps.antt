@@ -1,21 +1,21 @@
 -- The view after a call, without a hidden history.
-use Rattle.std.proofs.Common.{◌≡◌, inl, inr, true, false, cond, arith, Bool, not, refl, sym, ap, ◌∙◌, subst}
+use Rattle.std.proofs.Common.{◌≡◌, inr, true, false, cond, arith, Bool, not, refl, sym, ap, ◌∙◌, subst, Err, Ok, Result, ℕ}
 use Rattle.std.specs.FinMap.{len}
+use Rattle.std.proofs.lemmas.Bool.{false≢true}
 use Rattle.bcast_model.specs.Words.{Call, Reply, Control, Cursors, tell_a_sender, Effect, sets}
 use Rattle.bcast_model.specs.Words.{View, sends_are_ready, Legal, effect, resize, History, view_of}
 use Rattle.bcast_model.specs.Words.{remember, is_out_of_memory, end_call, may_tell, next, IsValid}
-use Rattle.bcast_model.specs.Words.{Answers, next_view, Steps, HasRange, IsValidView}
+use Rattle.bcast_model.specs.Words.{Answers, next_view, Steps, HasRange, IsValidView, HandleError}
+use Rattle.bcast_model.specs.Words.{IsMadeFrom}
 use Rattle.bcast_model.specs.declared.run.Call.TheVariants as call
-use Rattle.bcast_model.proofs.Cases.{tell_is}
+use Rattle.bcast_model.specs.declared.run.Reply.TheVariants as reply
+use Rattle.bcast_model.proofs.Cases.{tell_is, made_is}
 use Rattle.bcast_model.proofs.Sound.{AreSizes}
 use Rattle.bcast_model.proofs.Views.{valid_view}
 use Rattle.bcast_model.proofs.Lift.{KeepsValid, view_of-told}
 use Rattle.bcast_model.proofs.Kept.{kept_idle, keeps_sets}
 use Rattle.bcast_model.proofs.Calls.{keeps_valid}
 use Rattle.bcast_model.proofs.Answers.{cursors-next}
-
-apart : false ≡ true → ⊥
-apart e = cc
 
 module _ {T : Type 0} where
   told_same : {A : Type 0} (f : Control → A) → ((c : Control) → f (tell_a_sender c) ≡ f c) → (may : Bool) (h : History T) → f (end_call may h).control ≡ f h.control
@@ -34,20 +34,16 @@ module _ {T : Type 0} where
   range_of (call.CloneReceiver key) r v memory s = s.receivers_fit
   range_of c r v memory s = tt
 
+  made_in : {A : Type 0} (r : Reply T) (there : Bool) (cursors : Cursors) (spelt : Result ℕ HandleError → Reply T) → ((made : Result ℕ HandleError) → is_out_of_memory (spelt made) ≡ false) → is_out_of_memory r ≡ true → IsMadeFrom there cursors spelt r → A
+  made_in {A = A} r there cursors spelt in_memory none legal = made_is (λ r. is_out_of_memory r ≡ true → A) there cursors spelt r legal (λ key _ e. absurd (false≢true (sym (in_memory (Ok key)) ∙ e))) (λ error e. absurd (false≢true (sym (in_memory (Err error)) ∙ e))) none
+
   -- a call that is out of memory does nothing
   keeps_refused : (is_clone : T → T → Type 0) (c : Call T) (r : Reply T) (v : View T) → IsValidView v → is_out_of_memory r ≡ true → Legal is_clone v c r → KeepsValid v (effect v c r) (may_tell v.control (sends_are_ready v) c)
   keeps_refused is_clone (call.SetCapacity n) r v valid none legal = subst (λ e. KeepsValid v e (not (sends_are_ready v))) (sym (ap (λ b. cond b (sets v.control) (resize v n)) none)) (keeps_sets v valid v.control (kept_idle v valid))
-  keeps_refused is_clone call.NewReceiver r v valid none (inl (key, is, free)) = absurd (apart (sym (ap is_out_of_memory is) ∙ none))
-  keeps_refused is_clone call.NewReceiver r v valid none (inr is) = absurd (apart (sym (ap is_out_of_memory is) ∙ none))
-  keeps_refused is_clone call.Activate r v valid none (inl (gone, is)) = absurd (apart (sym (ap is_out_of_memory is) ∙ none))
-  keeps_refused is_clone call.Activate r v valid none (inr (there, inl (key, is, free))) = absurd (apart (sym (ap is_out_of_memory is) ∙ none))
-  keeps_refused is_clone call.Activate r v valid none (inr (there, inr is)) = absurd (apart (sym (ap is_out_of_memory is) ∙ none))
-  keeps_refused is_clone call.ActivateCloned r v valid none (inl (gone, is)) = absurd (apart (sym (ap is_out_of_memory is) ∙ none))
-  keeps_refused is_clone call.ActivateCloned r v valid none (inr (there, inl (key, is, free))) = absurd (apart (sym (ap is_out_of_memory is) ∙ none))
-  keeps_refused is_clone call.ActivateCloned r v valid none (inr (there, inr is)) = absurd (apart (sym (ap is_out_of_memory is) ∙ none))
-  keeps_refused is_clone (call.CloneReceiver key) r v valid none (inl (gone, is)) = absurd (apart (sym (ap is_out_of_memory is) ∙ none))
-  keeps_refused is_clone (call.CloneReceiver key) r v valid none (inr (there, inl (made, is, free))) = absurd (apart (sym (ap is_out_of_memory is) ∙ none))
-  keeps_refused is_clone (call.CloneReceiver key) r v valid none (inr (there, inr is)) = absurd (apart (sym (ap is_out_of_memory is) ∙ none))
+  keeps_refused is_clone call.NewReceiver r v valid none legal = made_in r true v.control.cursors reply.NewReceiver (λ _. refl) none (inr (refl, legal))
+  keeps_refused is_clone call.Activate r v valid none legal = made_in r _ v.control.cursors reply.Activate (λ _. refl) none legal
+  keeps_refused is_clone call.ActivateCloned r v valid none legal = made_in r _ v.control.cursors reply.ActivateCloned (λ _. refl) none legal
+  keeps_refused is_clone (call.CloneReceiver key) r v valid none legal = made_in r _ v.control.cursors reply.CloneReceiver (λ _. refl) none legal
   keeps_refused is_clone c r v valid none legal = keeps_valid is_clone c r v valid tt legal
 
   keeps_shown : (is_clone : T → T → Type 0) (h : History T) (c : Call T) (r : Reply T) → IsValid h → Legal is_clone (view_of h) c r → IsValid (next h c r) → KeepsValid (view_of h) (effect (view_of h) c r) (may_tell h.control (sends_are_ready (view_of h)) c)

@@ -1,5 +1,5 @@
 -- Polls of told listeners come to rest.
-use Rattle.std.proofs.Common.{◌≡◌, inl, inr, ℕ, ◌+◌, ◌*◌, ◌≤◌, true, false, cond, not, ◌&&◌, List, [], ◌∷◌, drop, max, Option, Some, Result, Ok, Err, refl, sym, ap, ◌∙◌, subst, arith, alloc_error}
+use Rattle.std.proofs.Common.{◌≡◌, ℕ, ◌+◌, ◌*◌, ◌≤◌, true, false, cond, not, ◌&&◌, List, [], ◌∷◌, drop, max, Option, Some, Result, Ok, Err, refl, sym, ap, ◌∙◌, subst, arith, alloc_error}
 use Rattle.std.proofs.lemmas.Option.{same_Some}
 use Rattle.std.specs.List.{AllByRecursion}
 use Rattle.std.specs.FinMap.{len}
@@ -22,6 +22,7 @@ use Rattle.bcast_model.proofs.Views.{valid_view}
 use Rattle.bcast_model.proofs.Answers.{next_valid, view_of-next}
 use Rattle.bcast_model.proofs.Unrest.{unrest, triangle}
 use Rattle.bcast_model.proofs.Rest.{lowers}
+use Rattle.bcast_model.proofs.Cases.{received_is}
 
 module _ {T : Type 0} (is_clone : T → T → Type 0) where
   -- a poll names no capacity and makes no receiver
@@ -78,8 +79,8 @@ module _ {T : Type 0} (is_clone : T → T → Type 0) where
 
     must_receive_wait : (key : ℕ) (cursor : Option ℕ) (spelt : Result T TryRecvError → Reply T) (refused r : Reply T) → cursor ≡ Some v.end → try_recv_reply v (Some v.end) ≡ Err unread.Empty
         → must_wait (spelt (Err unread.Empty)) ≡ true → IsReceived is_clone (IsOwed v key cursor) spelt refused (try_recv_reply v cursor) r → must_wait r ≡ true
-    must_receive_wait key cursor spelt refused r at empty waits (inl same) = ap must_wait (same ∙ ap spelt (ap (try_recv_reply v) at ∙ empty)) ∙ waits
-    must_receive_wait key cursor spelt refused r at empty waits (inr (owed, other)) = absurd (unowed key cursor at owed)
+    must_receive_wait key cursor spelt refused r at empty waits legal = received_is (λ r. must_wait r ≡ true) is_clone (IsOwed v key cursor) spelt refused (try_recv_reply v cursor) r legal
+        (ap must_wait (ap spelt (ap (try_recv_reply v) at ∙ empty)) ∙ waits) (λ owed _ _ _ _. absurd (unowed key cursor at owed)) (λ owed. absurd (unowed key cursor at owed))
 
     unready : (place : ℕ) → is_in same_place place v.control.waiting_sends.ids ≡ true → not (sends_are_ready v) ≡ true
     unready place listed =

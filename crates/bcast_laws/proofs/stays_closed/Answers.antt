@@ -1,6 +1,5 @@
 -- Whole runs, and the sends.
-use Rattle.bcast_laws.proofs.Closing.{run_stays}
-use Rattle.bcast_laws.proofs.ClosedSends.{try_refused, all_refused, attempt_refused, poll_refused}
+use Rattle.bcast_laws.proofs.Closing.{run_stays, try_refused, all_refused, attempt_refused, poll_refused}
 use Rattle.bcast_laws.proofs.stays_closed.Goals as goal
 
 pub returns : goal.returns

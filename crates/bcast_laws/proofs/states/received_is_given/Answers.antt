@@ -1,5 +1,5 @@
 -- Each of the four receives.
-use Rattle.bcast_model.proofs.ReceiveReplies.{given_try_recv, given_future, given_recv, given_next}
+use Rattle.bcast_model.proofs.Clones.{given_try_recv, given_future, given_recv, given_next}
 use Rattle.bcast_laws.proofs.states.received_is_given.Goals as goal
 
 pub returns : goal.returns
