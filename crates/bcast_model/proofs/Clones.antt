@@ -10,6 +10,7 @@ use Rattle.bcast_model.specs.Words.{IsReceived, IsGivenFrom}
 use Rattle.bcast_model.specs.declared.run.Call.TheVariants as call
 use Rattle.bcast_model.specs.declared.run.Reply.TheVariants as reply
 use Rattle.bcast_model.specs.declared.error.TryRecvError.TheVariants as unread
+use Rattle.bcast_model.proofs.Cases.{received_is}
 
 module _ {T : Type 0} where
   module _ (p q : T → T → Type 0) (wider : (msg given : T) → p msg given → IsGiven q msg given) where
@@ -73,13 +74,10 @@ module _ {T : Type 0} where
   -- a receive whose replies are made so hands out a kept message, or a clone of one
   received_from : (is_clone : T → T → Type 0) (owed : Type 0) (spelt : Result T TryRecvError → Reply T) (refused : Reply T) (v : View T) (cursor : Option ℕ) (r : Reply T) (given : T)
       → ((answer : Result T TryRecvError) → r ≡ spelt answer → answer ≡ Ok given) → (r ≡ refused → ⊥) → IsReceived is_clone owed spelt refused (try_recv_reply v cursor) r → IsGivenFrom is_clone v.queue given
-  received_from is_clone owed spelt refused v cursor r given one none legal = elim legal [
-    | inl e ↦ given_kept is_clone v cursor given given (one (try_recv_reply v cursor) e) (inl refl)
-    | inr s ↦ elim s.1 [
-      | inl clone ↦ (let same : clone.1 ≡ given = (let e = one (Ok clone.1) clone.4 in cc) in given_kept is_clone v cursor clone.0 given clone.2 (inr (subst (is_clone clone.0) same clone.3)))
-      | inr e ↦ absurd (none e)
-    ]
-  ]
+  received_from is_clone owed spelt refused v cursor r given one none legal = received_is (λ (now : Reply T). now ≡ r → IsGivenFrom is_clone v.queue given) is_clone owed spelt refused (try_recv_reply v cursor) r legal
+      (λ e. given_kept is_clone v cursor given given (one (try_recv_reply v cursor) (sym e)) (inl refl))
+      (λ _ msg x was copy e. let same : x ≡ given = (let e = one (Ok x) (sym e) in cc) in given_kept is_clone v cursor msg given was (inr (subst (is_clone msg) same copy)))
+      (λ _ e. absurd (none (sym e))) refl
 
   future_is : (answer : Result T TryRecvError) (given : T) → future_reply answer ≡ poll.Ready (Ok given) → answer ≡ Ok given
   future_is (Err (unread.Overflowed n)) given e = cc

@@ -1,5 +1,5 @@
 -- What each call gives a receiver, and which messages it keeps.
-use Rattle.std.proofs.Common.{◌≡◌, ◌⊎◌, inl, inr, ℕ, ◌+◌, ◌-◌, ◌≤◌, Bool, true, false, cond, [], Option, Some, None, Ok, Err, Result, nat_lt, refl, sym, ap, ◌∙◌, subst, arith, alloc_error}
+use Rattle.std.proofs.Common.{◌≡◌, ◌⊎◌, inl, inr, ℕ, ◌+◌, ◌-◌, ◌≤◌, Bool, true, false, cond, [], Option, Some, None, Ok, Err, Result, nat_lt, refl, sym, ap, ◌∙◌, subst, arith, alloc_error, ◌==◌}
 use Rattle.std.proofs.lemmas.Bool.{cases_lt, false≢true}
 use Rattle.std.proofs.lemmas.Grind.{common_steps}
 use Rattle.bcast_model.specs.Words.{TryRecvError, Call, Reply, stream_of, future_of, Cursors}
@@ -15,9 +15,10 @@ use Rattle.bcast_model.proofs.Answers.{cursors-next}
 use Rattle.bcast_model.proofs.DeliveryMaps.{cursors-listens, stands_or_left}
 use Rattle.bcast_model.proofs.DeliveryCursors.{changes}
 use Rattle.bcast_model.proofs.DeliveryAnswers.{Gives, entries_of, IsAnswer, gives_nothing, gives_answer, ok_err}
+use Rattle.bcast_model.proofs.Cases.{received_is}
 
-skipping : (cursor front : ℕ) → (front - cursor ≡ 0) ⊎ (cursor + (front - cursor) ≡ front)
-skipping cursor front = elim (cases_lt front cursor) [ inl e ↦ inl (omega (arith, e)) | inr e ↦ inr (omega (arith, e)) ]
+same_reader : (reader key : ℕ) → (reader == key) ≡ true → reader ≡ key
+same_reader reader key reads = grind (arith, common_steps, reads)
 
 module _ {T : Type 0} where
   -- ---- how the calls make their replies
@@ -53,68 +54,53 @@ module _ {T : Type 0} where
   answer_reached is_clone exact answer reached (inr (msg, given, was, copy, same)) n e = ok_err given (unread.Overflowed n) (sym e ∙ same)
 
   -- ---- a receive, by its cursors after each reply
-  gives_reply : (is_clone : T → T → Type 0) (h : History T) (key cursor skips : ℕ) (cursors_after : Reply T → Cursors) (after : Cursors) (owed : Type 0) (spelt : Result T TryRecvError → Reply T) (refused : Reply T) (exact : Result T TryRecvError) (r : Reply T)
-      → cursor_of h.control key ≡ Some cursor → ((answer : Result T TryRecvError) → cursors_after (spelt answer) ≡ after) → cursors_after refused ≡ h.control.cursors
-      → ((answer : Result T TryRecvError) → IsAnswer is_clone exact answer → given_by (spelt answer) ≡ entries_of skips answer) → given_by refused ≡ []
-      → ((answer : Result T TryRecvError) → IsAnswer is_clone exact answer → Gives is_clone h key cursor after (entries_of skips answer))
-      → IsReceived is_clone owed spelt refused exact r → Gives is_clone h key cursor (cursors_after r) (given_by r)
-  gives_reply is_clone h key cursor skips cursors_after after owed spelt refused exact r is moved kept spells none gives (inl e) =
-      subst (λ r. Gives is_clone h key cursor (cursors_after r) (given_by r)) (sym e)
-      (rw (moved exact, spells exact (inl refl)) (gives exact (inl refl)))
-  gives_reply is_clone h key cursor skips cursors_after after owed spelt refused exact r is moved kept spells none gives (inr (owes, inl clone)) =
-      let answer : IsAnswer is_clone exact (Ok clone.1) = inr (clone.0, clone.1, clone.2, clone.3, refl) in
-      subst (λ r. Gives is_clone h key cursor (cursors_after r) (given_by r)) (sym clone.4)
-      (rw (moved (Ok clone.1), spells (Ok clone.1) answer) (gives (Ok clone.1) answer))
-  gives_reply is_clone h key cursor skips cursors_after after owed spelt refused exact r is moved kept spells none gives (inr (owes, inr e)) =
-      subst (λ r. Gives is_clone h key cursor (cursors_after r) (given_by r)) (sym e)
-      (rw (kept, none) (gives_nothing h key cursor h.control.cursors (inl is)))
+  gives_reply : (is_clone : T → T → Type 0) (h : History T) (key cursor skips : ℕ) (o : Option ℕ) (cursors_after : Reply T → Cursors) (spelt : Result T TryRecvError → Reply T) (refused r : Reply T)
+      → h.first ≤ h.floor → cursor_of h.control key ≡ Some cursor → o ≡ Some (cursor + skips) → (skips ≡ 0) ⊎ (cursor + skips ≡ front_number h)
+      → ((answer : Result T TryRecvError) → cursors_after (spelt answer) ≡ (receive (view_of h) key o).cursors) → cursors_after refused ≡ h.control.cursors
+      → ((answer : Result T TryRecvError) → IsAnswer is_clone (try_recv_reply (view_of h) o) answer → given_by (spelt answer) ≡ entries_of skips answer) → given_by refused ≡ []
+      → IsReceived is_clone (IsOwed (view_of h) key o) spelt refused (try_recv_reply (view_of h) o) r → Gives is_clone h key cursor (cursors_after r) (given_by r)
+  gives_reply is_clone h key cursor skips o cursors_after spelt refused r low is at exact moved kept spells none legal =
+      received_is (λ r. Gives is_clone h key cursor (cursors_after r) (given_by r)) is_clone (IsOwed (view_of h) key o) spelt refused (try_recv_reply (view_of h) o) r legal
+      (each (try_recv_reply (view_of h) o) (inl refl)) (λ _ msg given was copy. each (Ok given) (inr (msg, given, was, copy, refl))) (λ _. rw (kept, none) (gives_nothing h key cursor h.control.cursors (inl is)))
+    where
+      each : (answer : Result T TryRecvError) → IsAnswer is_clone (try_recv_reply (view_of h) o) answer → Gives is_clone h key cursor (cursors_after (spelt answer)) (given_by (spelt answer))
+      each answer given = rw (moved answer, spells answer given) (subst (λ o. Gives is_clone h key cursor (receive (view_of h) key o).cursors (entries_of skips answer)) (sym at)
+          (gives_answer h key cursor skips answer low is exact (subst (λ o. IsAnswer is_clone (try_recv_reply (view_of h) o) answer) at given)))
 
-  -- what each receive gives the receiver that makes it: at its cursor, or from the front on
+  -- a receive at the receiver's cursor, and one from the front on
   gives_at_cursor : (is_clone : T → T → Type 0) (h : History T) (key cursor : ℕ) (cursors_after : Reply T → Cursors) (spelt : Result T TryRecvError → Reply T) (refused r : Reply T) → h.first ≤ h.floor → cursor_of h.control key ≡ Some cursor
       → ((answer : Result T TryRecvError) → cursors_after (spelt answer) ≡ (receive (view_of h) key (cursor_of h.control key)).cursors) → cursors_after refused ≡ h.control.cursors
       → ((answer : Result T TryRecvError) → given_by (spelt answer) ≡ entries_of 0 answer) → given_by refused ≡ []
       → IsReceived is_clone (IsOwed (view_of h) key (cursor_of h.control key)) spelt refused (try_recv_reply (view_of h) (cursor_of h.control key)) r → Gives is_clone h key cursor (cursors_after r) (given_by r)
   gives_at_cursor is_clone h key cursor cursors_after spelt refused r low is moved kept spells none legal =
-      let at : cursor_of h.control key ≡ Some (cursor + 0) = is ∙ ap Some (omega arith) in
-      gives_reply is_clone h key cursor 0 cursors_after (receive (view_of h) key (Some (cursor + 0))).cursors
-      (IsOwed (view_of h) key (Some (cursor + 0))) spelt refused (try_recv_reply (view_of h) (Some (cursor + 0))) r is
-      (λ answer. moved answer ∙ ap (λ o. (receive (view_of h) key o).cursors) at) kept (λ answer given. spells answer) none
-      (λ answer given. gives_answer h key cursor 0 answer low is (inl refl) given)
-      (subst (λ o. IsReceived is_clone (IsOwed (view_of h) key o) spelt refused (try_recv_reply (view_of h) o) r) at legal)
+      gives_reply is_clone h key cursor 0 (cursor_of h.control key) cursors_after spelt refused r low is (is ∙ ap Some (omega arith)) (inl refl) moved kept (λ answer _. spells answer) none legal
 
   gives_next : (is_clone : T → T → Type 0) (h : History T) (key cursor : ℕ) (r : Reply T) → h.first ≤ h.floor → cursor_of h.control key ≡ Some cursor → Legal is_clone (view_of h) (call.PollNext key) r
       → Gives is_clone h key cursor (effect (view_of h) (call.PollNext key) r).control.cursors (given_by r)
   gives_next is_clone h key cursor r low is legal =
       let front = front_number h in
+      let own : Option ℕ = cursor_of h.control key in
       let skips = front_number h - cursor in
-      let at : skipped_to front (cursor_of h.control key) ≡ Some (cursor + skips) = ap (skipped_to front) is ∙ ap Some (omega arith) in
-      let by : skipped_count front (cursor_of h.control key) ≡ skips = ap (skipped_count front) is in
+      let at : skipped_to front own ≡ Some (cursor + skips) = ap (skipped_to front) is ∙ ap Some (omega arith) in
       let past : front_number h ≤ cursor + skips = omega arith in
-      gives_reply is_clone h key cursor skips (λ r. (effect (view_of h) (call.PollNext key) r).control.cursors) (receive (view_of h) key (Some (cursor + skips))).cursors
-      (IsOwed (view_of h) key (Some (cursor + skips))) (λ answer. reply.PollNext (Ok (next_reply skips answer))) (reply.PollNext (Err alloc_error)) (try_recv_reply (view_of h) (Some (cursor + skips))) r is
-      (λ answer. cursors-listens (receive (view_of h) key (skipped_to front (cursor_of h.control key))) (stream_of key) (is_empty_reply (try_recv_reply (view_of h) (skipped_to front (cursor_of h.control key)))) ∙ ap (λ o. (receive (view_of h) key o).cursors) at) refl
-      (λ answer given. given_by-next skips answer (answer_reached is_clone _ answer (λ n e. received_reached (view_of h) (cursor + skips) n past e) given)) refl
-      (λ answer given. gives_answer h key cursor skips answer low is (elim (skipping cursor front) [ inl e ↦ inl e | inr e ↦ inr e ]) given)
-      (subst (λ n. IsReceived is_clone (IsOwed (view_of h) key (Some (cursor + skips))) (λ answer. reply.PollNext (Ok (next_reply n answer))) (reply.PollNext (Err alloc_error)) (try_recv_reply (view_of h) (Some (cursor + skips))) r) by
-      (subst (λ o. IsReceived is_clone (IsOwed (view_of h) key o) (λ answer. reply.PollNext (Ok (next_reply (skipped_count front (cursor_of h.control key)) answer))) (reply.PollNext (Err alloc_error)) (try_recv_reply (view_of h) o) r) at legal))
+      gives_reply is_clone h key cursor skips (skipped_to front own) (λ r. (effect (view_of h) (call.PollNext key) r).control.cursors) (λ answer. reply.PollNext (Ok (next_reply (skipped_count front own) answer))) (reply.PollNext (Err alloc_error)) r low is at
+      (elim (cases_lt front cursor) [ inl e ↦ inl (omega (arith, e)) | inr e ↦ inr (omega (arith, e)) ])
+      (λ answer. cursors-listens (receive (view_of h) key (skipped_to front own)) (stream_of key) (is_empty_reply (try_recv_reply (view_of h) (skipped_to front own)))) refl
+      (λ answer given. given_by-next (skipped_count front own) answer (answer_reached is_clone _ answer (λ n e. received_reached (view_of h) (cursor + skips) n past (sym (ap (try_recv_reply (view_of h)) at) ∙ e)) given)
+      ∙ ap (λ o. entries_of (skipped_count front o) answer) is) refl legal
 
   gives_received : (is_clone : T → T → Type 0) (h : History T) (key cursor : ℕ) (c : Call T) (r : Reply T) → h.first ≤ h.floor → cursor_of h.control key ≡ Some cursor → receives_for key c ≡ true → Legal is_clone (view_of h) c r
       → Gives is_clone h key cursor (effect (view_of h) c r).control.cursors (given_by r)
-  gives_received is_clone h key cursor (call.TryRecv reader) r low is reads legal =
-      let same : reader ≡ key = grind (arith, common_steps, reads) in
+  gives_received is_clone h key cursor (call.TryRecv reader) r low is reads legal = let same = same_reader reader key reads in
       rw same (gives_at_cursor is_clone h key cursor (λ r. (effect (view_of h) (call.TryRecv key) r).control.cursors) (λ answer. reply.TryRecv (Ok answer)) (reply.TryRecv (Err alloc_error)) r low is
       (λ answer. refl) refl given_by-try_recv refl (rw same at legal))
-  gives_received is_clone h key cursor (call.PollFuture reader) r low is reads legal =
-      let same : reader ≡ key = grind (arith, common_steps, reads) in
+  gives_received is_clone h key cursor (call.PollFuture reader) r low is reads legal = let same = same_reader reader key reads in
       rw same (gives_at_cursor is_clone h key cursor (λ r. (effect (view_of h) (call.PollFuture key) r).control.cursors) (λ answer. reply.PollFuture (Ok (future_reply answer))) (reply.PollFuture (Err alloc_error)) r low is
       (λ answer. cursors-listens (receive (view_of h) key (cursor_of h.control key)) (future_of key) (is_empty_reply (try_recv_reply (view_of h) (cursor_of h.control key)))) refl given_by-future refl (rw same at legal))
-  gives_received is_clone h key cursor (call.PollRecv reader) r low is reads legal =
-      let same : reader ≡ key = grind (arith, common_steps, reads) in
+  gives_received is_clone h key cursor (call.PollRecv reader) r low is reads legal = let same = same_reader reader key reads in
       rw same (gives_at_cursor is_clone h key cursor (λ r. (effect (view_of h) (call.PollRecv key) r).control.cursors) (λ answer. reply.PollRecv (Ok (stream_reply answer))) (reply.PollRecv (Err alloc_error)) r low is
       (λ answer. cursors-listens (receive (view_of h) key (cursor_of h.control key)) (stream_of key) (is_empty_reply (try_recv_reply (view_of h) (cursor_of h.control key)))) refl given_by-stream refl (rw same at legal))
-  gives_received is_clone h key cursor (call.PollNext reader) r low is reads legal =
-      let same : reader ≡ key = grind (arith, common_steps, reads) in
-      rw same (gives_next is_clone h key cursor r low is (rw same at legal))
+  gives_received is_clone h key cursor (call.PollNext reader) r low is reads legal = let same = same_reader reader key reads in rw same (gives_next is_clone h key cursor r low is (rw same at legal))
   gives_received is_clone h key cursor c r low is reads legal = absurd (false≢true reads)
 
   -- what each call gives each receiver

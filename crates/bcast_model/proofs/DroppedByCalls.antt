@@ -1,5 +1,5 @@
 -- Which messages each call drops: those from the front up to the floor after it.
-use Rattle.std.proofs.Common.{◌≡◌, inl, inr, ℕ, ◌-◌, ◌<◌, max, Bool, true, false, cond, List, [], ◌∷◌, length, nat_lt, Option, Result, refl, ap, ◌∙◌, arith}
+use Rattle.std.proofs.Common.{◌≡◌, inl, inr, ℕ, ◌-◌, ◌<◌, max, Bool, true, false, cond, List, [], ◌∷◌, length, nat_lt, Option, Result, refl, ap, arith, Err, Ok, alloc_error}
 use Rattle.std.specs.declared.alloc.AllocError.{AllocError}
 use Rattle.std.proofs.lemmas.Grind.{common_steps}
 use Rattle.std.specs.List.{range_with_len}
@@ -8,10 +8,10 @@ use Rattle.bcast_model.specs.Words.{try_broadcast_reply, Legal, resize, effect, 
 use Rattle.bcast_model.specs.Words.{front_number, end_number, queue_of, is_out_of_memory}
 use Rattle.bcast_model.specs.Words.{hands_back, dropped_by, IsReceivedBy, View, cursor_of}
 use Rattle.bcast_model.specs.Words.{skipped_to, skipped_count, future_reply, stream_reply}
-use Rattle.bcast_model.specs.Words.{next_reply}
+use Rattle.bcast_model.specs.Words.{next_reply, IsOwed, try_recv_reply}
 use Rattle.bcast_model.specs.declared.run.Reply.TheVariants as reply
 use Rattle.bcast_model.specs.declared.run.Call.TheVariants as call
-use Rattle.bcast_model.proofs.Cases.{test_is}
+use Rattle.bcast_model.proofs.Cases.{test_is, made_is, received_is}
 use Rattle.bcast_model.proofs.Views.{IsBounded, length-queue}
 use Rattle.bcast_model.proofs.SendAll.{floor-offer_all}
 use Rattle.bcast_model.proofs.DroppedBySends.{FloorChange, stays, passes, hands_back-sent, hands_back-attempted, floor-send, floor-poll_send}
@@ -40,9 +40,8 @@ module _ {T : Type 0} where
   none_dropped h r none = ap (λ b. cond b (front_number h ∷ []) []) none
 
   hands_nothing : {X : Type 0} (is_clone : T → T → Type 0) (v : View T) (key : ℕ) (cursor : Option ℕ) (variant : Result X AllocError → Reply T) (word : Result T TryRecvError → X) (r : Reply T) → ((out : Result X AllocError) → hands_back (variant out) ≡ false) → IsReceivedBy is_clone v key cursor variant word r → hands_back r ≡ false
-  hands_nothing is_clone v key cursor variant word r none (inl e) = ap hands_back e ∙ none _
-  hands_nothing is_clone v key cursor variant word r none (inr (owed, inl clone)) = ap hands_back clone.4 ∙ none _
-  hands_nothing is_clone v key cursor variant word r none (inr (owed, inr e)) = ap hands_back e ∙ none _
+  hands_nothing is_clone v key cursor variant word r none legal =
+      received_is (λ r. hands_back r ≡ false) is_clone (IsOwed v key cursor) (λ answer. variant (Ok (word answer))) (variant (Err alloc_error)) (try_recv_reply v cursor) r legal (none _) (λ _ _ _ _ _. none _) (λ _. none _)
 
   floor-receive : (h : History T) (r : Reply T) (control : Control) → hands_back r ≡ false → FloorChange h (cond (is_out_of_memory r) (sets h.control) (sets control)) (cond (hands_back r) (front_number h ∷ []) [])
   floor-receive h r control none = test_is (λ e. FloorChange h e (cond (hands_back r) (front_number h ∷ []) [])) (is_out_of_memory r) (sets h.control) (sets control) (λ _. stays refl (none_dropped h r none)) (λ _. stays refl (none_dropped h r none))
@@ -64,15 +63,8 @@ module _ {T : Type 0} where
       floor-receive h r _ (hands_nothing is_clone (view_of h) key (skipped_to (front_number h) cursor) reply.PollNext (next_reply (skipped_count (front_number h) cursor)) r (λ out. refl) legal)
   floor-effect is_clone h call.BeginSend r bounded (inl (place, is, free)) = stays refl (none_dropped h r (ap hands_back is))
   floor-effect is_clone h call.BeginSend r bounded (inr is) = stays refl (none_dropped h r (ap hands_back is))
-  floor-effect is_clone h call.NewReceiver r bounded (inl (key, is, free)) = stays refl (none_dropped h r (ap hands_back is))
-  floor-effect is_clone h call.NewReceiver r bounded (inr is) = stays refl (none_dropped h r (ap hands_back is))
-  floor-effect is_clone h call.Activate r bounded (inl (gone, is)) = stays refl (none_dropped h r (ap hands_back is))
-  floor-effect is_clone h call.Activate r bounded (inr (there, inl (made, is, free))) = stays refl (none_dropped h r (ap hands_back is))
-  floor-effect is_clone h call.Activate r bounded (inr (there, inr is)) = stays refl (none_dropped h r (ap hands_back is))
-  floor-effect is_clone h call.ActivateCloned r bounded (inl (gone, is)) = stays refl (none_dropped h r (ap hands_back is))
-  floor-effect is_clone h call.ActivateCloned r bounded (inr (there, inl (made, is, free))) = stays refl (none_dropped h r (ap hands_back is))
-  floor-effect is_clone h call.ActivateCloned r bounded (inr (there, inr is)) = stays refl (none_dropped h r (ap hands_back is))
-  floor-effect is_clone h (call.CloneReceiver key) r bounded (inl (gone, is)) = stays refl (none_dropped h r (ap hands_back is))
-  floor-effect is_clone h (call.CloneReceiver key) r bounded (inr (there, inl (made, is, free))) = stays refl (none_dropped h r (ap hands_back is))
-  floor-effect is_clone h (call.CloneReceiver key) r bounded (inr (there, inr is)) = stays refl (none_dropped h r (ap hands_back is))
+  floor-effect is_clone h call.NewReceiver r bounded legal = stays refl (none_dropped h r (made_is (λ r. hands_back r ≡ false) true h.control.cursors reply.NewReceiver r (inr (refl, legal)) (λ _ _. refl) (λ _. refl)))
+  floor-effect is_clone h call.Activate r bounded legal = stays refl (none_dropped h r (made_is (λ r. hands_back r ≡ false) _ h.control.cursors reply.Activate r legal (λ _ _. refl) (λ _. refl)))
+  floor-effect is_clone h call.ActivateCloned r bounded legal = stays refl (none_dropped h r (made_is (λ r. hands_back r ≡ false) _ h.control.cursors reply.ActivateCloned r legal (λ _ _. refl) (λ _. refl)))
+  floor-effect is_clone h (call.CloneReceiver key) r bounded legal = stays refl (none_dropped h r (made_is (λ r. hands_back r ≡ false) _ h.control.cursors reply.CloneReceiver r legal (λ _ _. refl) (λ _. refl)))
   floor-effect is_clone h c r bounded legal = stays refl (none_dropped h r (ap hands_back legal))

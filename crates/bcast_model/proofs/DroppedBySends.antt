@@ -1,57 +1,46 @@
 -- Which messages a send drops: those from the front up to the floor after it.
-use Rattle.std.proofs.Common.{◌≡◌, ℕ, ◌+◌, ◌≤◌, ◌&&◌, ◌||◌, not, Bool, true, false, cond, List, [], ◌∷◌, length, Option, Some, None, Result, Ok, Err, slice_get, refl, ap, arith, is_some, is_ok}
+use Rattle.std.proofs.Common.{◌≡◌, ℕ, ◌+◌, ◌≤◌, not, Bool, true, false, cond, List, [], ◌∷◌, length, Option, Some, None, Result, Ok, Err, slice_get, refl, ap, arith, is_some, is_ok, ◌∙◌}
 use Rattle.std.proofs.lemmas.Grind.{common_steps}
 use Rattle.std.specs.List.{range_with_len}
-use Rattle.bcast_model.specs.Words.{TrySendError, Reply, has_no_receiver, accepting, has_place}
-use Rattle.bcast_model.specs.Words.{place_waits, View, is_full, sends_are_ready, Effect, sets}
-use Rattle.bcast_model.specs.Words.{reply_to_attempt, handed_back, try_broadcast_reply}
-use Rattle.bcast_model.specs.Words.{attempt_send_reply, accept, offer, with_place_answered}
-use Rattle.bcast_model.specs.Words.{poll_send, History, view_of, front_number, end_number, queue_of}
-use Rattle.bcast_model.specs.Words.{hands_back}
+use Rattle.std.proofs.lemmas.Bool.{false≢true}
+use Rattle.bcast_model.specs.Words.{TrySendError, Reply, accepting, has_place, place_waits, View}
+use Rattle.bcast_model.specs.Words.{is_full, sends_are_ready, Effect, sets, reply_to_attempt}
+use Rattle.bcast_model.specs.Words.{try_broadcast_reply, attempt_send_reply, accept, offer}
+use Rattle.bcast_model.specs.Words.{with_place_answered, poll_send, History, view_of, front_number}
+use Rattle.bcast_model.specs.Words.{end_number, queue_of, hands_back, SendPoll, must_wait}
 use Rattle.bcast_model.specs.declared.error.TrySendError.TheVariants as unsent
 use Rattle.bcast_model.specs.declared.run.SendPoll.TheVariants as send
 use Rattle.bcast_model.specs.declared.run.Reply.TheVariants as reply
 use Rattle.bcast_model.proofs.Cases.{cursors-accepting, try_is}
 use Rattle.bcast_model.proofs.DeliveryLists.{past_end}
 use Rattle.bcast_model.proofs.Views.{IsBounded, front-le-end}
+use Rattle.bcast_model.proofs.Polls.{attempt_waits}
 
 -- an effect drops no message, or some from the front on while the cursors stay
 pub data FloorChange {T : Type 0} (h : History T) (e : Effect T) (dropped : List ℕ) : Type 0 where
   stays : e.floor ≡ 0 → dropped ≡ [] → FloorChange h e dropped
   passes : (count : ℕ) → e.control.cursors ≡ h.control.cursors → e.floor ≡ front_number h + count → front_number h + count ≤ end_number h + length e.accepted → dropped ≡ range_with_len (front_number h) count → FloorChange h e dropped
 
--- a send that isn't ready would be refused
-unready : (closed none full overflow await : Bool) {A E : Type 0} (x y z : E) (back : A) → (closed || (not none && (overflow || not full)) || (none && not await)) ≡ false
-    → is_ok (cond closed (Err x) (cond none (Err y) (cond (full && not overflow) (Err z) (Ok back)))) ≡ true → ⊥
-unready false false true true await x y z back ready e = cc
-unready false false false true await x y z back ready e = cc
-unready closed none full overflow await x y z back ready e = cc
-
 module _ {T : Type 0} where
   -- ---- sends
   -- whether a send hands back a message
-  pub hands : Result (Option T) (TrySendError T) → Bool
+  abbrev pub hands : Result (Option T) (TrySendError T) → Bool
   hands (Ok back) = is_some back
   hands (Err error) = false
 
   pub hands_back-sent : (answer : Result (Option T) (TrySendError T)) → hands_back (reply.TryBroadcast answer) ≡ hands answer
-  unfolding hands
   hands_back-sent (Ok None) = refl
   hands_back-sent answer = refl
 
   pub hands_back-attempted : (await : Bool) (answer : Result (Option T) (TrySendError T)) → hands_back (reply.AttemptSend (reply_to_attempt await answer)) ≡ hands answer
-  unfolding hands
   hands_back-attempted await (Ok None) = refl
   hands_back-attempted await (Err (unsent.Full msg)) = refl
   hands_back-attempted true (Err (unsent.Inactive msg)) = refl
   hands_back-attempted await answer = refl
 
-  hands_back-poll_send : (await : Bool) (answer : Result (Option T) (TrySendError T)) → hands_back (reply.PollSend (reply_to_attempt await answer)) ≡ hands answer
-  unfolding hands
-  hands_back-poll_send await (Ok None) = refl
-  hands_back-poll_send await (Err (unsent.Full msg)) = refl
-  hands_back-poll_send true (Err (unsent.Inactive msg)) = refl
-  hands_back-poll_send await answer = refl
+  hands_back-poll_send : (answer : SendPoll T) → hands_back (reply.PollSend answer) ≡ hands_back (reply.AttemptSend answer)
+  hands_back-poll_send (send.Ready (Ok (Some oldest))) = refl
+  hands_back-poll_send answer = refl
 
   -- the oldest message of a full channel is there
   oldest_there : (h : History T) (o : Option T) → IsBounded h → is_full (view_of h) ≡ true → slice_get (queue_of h) 0 ≡ o → is_some o ≡ true
@@ -62,7 +51,6 @@ module _ {T : Type 0} where
       absurd (grind (arith, common_steps, none, positive, full))
 
   pub floor-send : (h : History T) (msg : T) → IsBounded h → FloorChange h (offer (view_of h) msg) (cond (hands (try_broadcast_reply (view_of h) msg)) (front_number h ∷ []) [])
-  unfolding hands
   floor-send h msg bounded = try_is (λ answer. FloorChange h (cond (is_ok answer) (accept (view_of h) msg) (sets h.control)) (cond (hands answer) (front_number h ∷ []) [])) (view_of h) msg (λ error e. stays refl refl) (λ e.
       elim (is_full (view_of h)) as (λ b. is_full (view_of h) ≡ b → FloorChange h
       (record { control = accepting h.control (end_number h + 1); accepted = msg ∷ []; floor = cond b (front_number h + 1) 0 })
@@ -74,10 +62,12 @@ module _ {T : Type 0} where
         | false ↦ λ full. stays refl refl
       ] refl)
 
+  waits_unhanded : (await : Bool) (answer : Result (Option T) (TrySendError T)) → must_wait (reply.PollSend (reply_to_attempt await answer)) ≡ true → hands answer ≡ false
+  waits_unhanded await (Ok back) e = absurd (false≢true e)
+  waits_unhanded await (Err error) e = refl
+
   not_handed : (v : View T) (msg : T) → sends_are_ready v ≡ false → hands (try_broadcast_reply v msg) ≡ false
-  unfolding hands
-  not_handed v msg ready = try_is (λ answer. hands answer ≡ false) v msg (λ error e. refl)
-      (λ e. absurd (unready v.control.closed (has_no_receiver v.control) (is_full v) v.control.overflow v.control.await_active (unsent.Closed msg) (unsent.Inactive msg) (unsent.Full msg) (handed_back v) ready (ap is_ok e)))
+  not_handed v msg ready = waits_unhanded v.control.await_active (try_broadcast_reply v msg) (attempt_waits v msg ∙ ap not ready)
 
   answered_same : (h : History T) (e : Effect T) (place : ℕ) (dropped : List ℕ) → FloorChange h e dropped → FloorChange h (with_place_answered e place) dropped
   answered_same h e place dropped (stays floor none) = stays floor none
@@ -91,7 +81,7 @@ module _ {T : Type 0} where
       (cond b (cond (sends_are_ready v) (with_place_answered (offer v msg) place) (sets (place_waits h.control place))) (sets h.control))
       (cond (hands_back (reply.PollSend (cond b (attempt_send_reply v msg) (send.Wait msg)))) (front_number h ∷ []) [])) [
         | true ↦
-            rw (hands_back-poll_send h.control.await_active (try_broadcast_reply v msg))
+            rw (hands_back-poll_send (attempt_send_reply v msg), hands_back-attempted h.control.await_active (try_broadcast_reply v msg))
             (elim (sends_are_ready v) as (λ b. sends_are_ready v ≡ b → FloorChange h
             (cond b (with_place_answered (offer v msg) place) (sets (place_waits h.control place))) (cond (hands (try_broadcast_reply v msg)) (front_number h ∷ []) [])) [
               | true ↦ λ ready. answered_same h (offer v msg) place _ (floor-send h msg bounded)

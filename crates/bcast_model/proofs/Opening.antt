@@ -1,14 +1,14 @@
 -- The state of a new channel.
-use Rattle.std.proofs.Common.{◌≡◌, inl, ℕ, ◌+◌, ◌-◌, ◌<◌, ◌≤◌, ◌^◌, true, false, cond, [], Some, refl, sym, ◌∙◌, arith, length-drop, ◌↔◌, inr, ◌==◌, List, ◌∷◌, ◌++◌, length, drop, replicate, subst, length-append}
+use Rattle.std.proofs.Common.{◌≡◌, inl, ℕ, ◌+◌, ◌-◌, ◌<◌, ◌≤◌, ◌^◌, true, false, cond, [], Some, refl, sym, ◌∙◌, arith, length-drop, ◌↔◌, inr, List, ◌∷◌, ◌++◌, length, drop, replicate, subst, length-append, ap, ◌⊎◌}
 use Rattle.std.proofs.lemmas.Grind.{common_steps}
 use Rattle.std.proofs.lemmas.Option.{none-some, same_Some}
 use Rattle.std.proofs.lemmas.List.{drop_all, length-replicate, drop_at}
 use Rattle.std.specs.Ordering.{nat_cmp, eq_by_cmp}
 use Rattle.std.specs.Cmp.{nat_cmp_total}
 use Rattle.std.specs.FinMap.{get, insert, empty, values, get-insert, get-empty, len-insert, len-empty}
-use Rattle.bcast_model.specs.Words.{History, opening, front_number, view_of, IsValid, Control}
-use Rattle.bcast_model.specs.Words.{front_of, IsValidControl, NoLostWakeUp, View, IsShown}
-use Rattle.bcast_model.specs.Words.{Represents, IsValidView}
+use Rattle.bcast_model.specs.Words.{History, opening, front_number, view_of, IsValid}
+use Rattle.bcast_model.specs.Words.{IsValidControl, NoLostWakeUp, View, IsShown, Represents}
+use Rattle.bcast_model.specs.Words.{IsValidView, end_number, is_full, queue_of}
 use Rattle.bcast_model.proofs.Least.{least-le-limit}
 use Rattle.bcast_model.proofs.Lift.{same_view}
 use Rattle.bcast_model.proofs.Views.{valid_view}
@@ -56,56 +56,38 @@ module _ {T : Type 0} where
       let limit = least-le-limit (first + 0) (values h.control.cursors) in
       same_view _ _ (omega (arith, limit)) (drop_all (front_number h - first) [] (omega arith)) (omega arith) refl
 
--- no message is kept: the history begins at the front. Else the gone ones are copies of the oldest
+-- ---- each valid view is that of some valid history
 module _ {T : Type 0} where
-  witness_of : (front end : ℕ) (queue : List T) (control : Control) → IsValidView (record { front = front; queue = queue; end = end; control = control })
-      → (h : History T) × IsValid h × Represents (record { front = front; queue = queue; end = end; control = control }) h
-  witness_of front end [] control valid =
-      let n : front + 0 ≡ end = omega (arith, valid.end) in
-      let f : front_of front (front + 0) control.cursors ≡ front = rw n (omega (arith, valid.low, valid.high)) in
-      let none : front - front ≡ 0 = omega arith in
-      let is : Represents (record { front = front; queue = []; end = end; control = control }) (record { first = front; accepted = []; floor = front; control = control }) =
-      same_view (record { front = front; queue = []; end = end; control = control }) (view_of {T = T} (record { first = front; accepted = []; floor = front; control = control })) (sym f) (rw f (rw none refl)) (sym n) refl in (
-        record { first = front; accepted = []; floor = front; control = control },
+  -- one with these gone messages, from this number on
+  witness : (v : View T) (first : ℕ) (gone : List T) → IsValidView v → first + length gone ≡ v.front → ((key cursor : ℕ) → get v.control.cursors key ≡ Some cursor → first ≤ cursor) → (v.front ≡ first) ⊎ (v.front < v.end)
+      → (h : History T) × IsValid h × Represents v h
+  witness v first gone valid size above below =
+      let h : History T = record { first = first; accepted = gone ++ v.queue; floor = v.front; control = v.control } in
+      let all = length-append gone v.queue in
+      let n : end_number h ≡ v.end = omega (arith, all, size, valid.end) in
+      let f : front_number h ≡ v.front = rw n (omega (arith, valid.low, valid.high)) in
+      let d : queue_of h ≡ v.queue = ap (λ front. drop (front - first) (gone ++ v.queue)) f ∙ drop_at gone v.queue (v.front - first) (omega (arith, size)) in
+      let is : Represents v h = same_view v (view_of h) (sym f) (sym d) (sym n) refl in (
+        h,
         record {
-          floor_low = omega arith;
-          floor_high = omega arith;
-          floor_below = inl refl;
-          cursors = λ key cursor e. let a = valid.caught_up key cursor refl e in let b = valid.reach key cursor e in (omega (arith, n), omega (arith, n));
-          fits = rw f (rw none valid.fits);
-          control = subst (IsValidControl control) (sym n) valid.control;
-          wake_ups = subst (λ (v : View T). NoLostWakeUp v.control (length v.queue == v.control.capacity) v.end) is valid.wake_ups;
-        },
-        is,
-      )
-  witness_of front end (msg ∷ queue) control valid =
-      let size : length (replicate front msg ++ msg ∷ queue) ≡ front + length (msg ∷ queue) = omega (arith, length-append (replicate front msg) (msg ∷ queue), length-replicate front msg) in
-      let n : 0 + length (replicate front msg ++ msg ∷ queue) ≡ end = omega (arith, size, valid.end) in
-      let f : front_of front (0 + length (replicate front msg ++ msg ∷ queue)) control.cursors ≡ front = rw n (omega (arith, valid.low, valid.high)) in
-      let z : front - 0 ≡ front = omega arith in
-      let d : drop front (replicate front msg ++ msg ∷ queue) ≡ msg ∷ queue = drop_at (replicate front msg) (msg ∷ queue) front (length-replicate front msg) in
-      let is : Represents (record { front = front; queue = msg ∷ queue; end = end; control = control }) (record { first = 0; accepted = replicate front msg ++ msg ∷ queue; floor = front; control = control }) =
-      same_view (record { front = front; queue = msg ∷ queue; end = end; control = control }) (view_of {T = T} (record { first = 0; accepted = replicate front msg ++ msg ∷ queue; floor = front; control = control })) (sym f) (rw (f, z, d) refl) (sym n) refl in (
-        record { first = 0; accepted = replicate front msg ++ msg ∷ queue; floor = front; control = control },
-        record {
-          floor_low = omega arith;
-          floor_high = omega (arith, size);
-          floor_below = inr (omega (arith, size));
-          cursors = λ key cursor e. let b = valid.reach key cursor e in (omega arith, omega (arith, n));
-          fits = rw (f, z, d) valid.fits;
-          control = subst (IsValidControl control) (sym n) valid.control;
-          wake_ups = subst (λ (v : View T). NoLostWakeUp v.control (length v.queue == v.control.capacity) v.end) is valid.wake_ups;
+          floor_low = omega (arith, size);
+          floor_high = omega (arith, n, valid.high);
+          floor_below = elim below [ inl e ↦ inl e | inr e ↦ inr (omega (arith, n, e)) ];
+          cursors = λ key cursor e. let reach = valid.reach key cursor e in (above key cursor e, omega (arith, n, reach));
+          fits = rw d valid.fits;
+          control = subst (IsValidControl v.control) (sym n) valid.control;
+          wake_ups = subst (λ (v : View T). NoLostWakeUp v.control (is_full v) v.end) is valid.wake_ups;
         },
         is,
       )
 
-  -- a view whose parts fit together is shown
-  pub view_shown : (v : View T) → IsValidView v → IsShown v
-  view_shown v valid = witness_of v.front v.end v.queue v.control valid
-
-  -- the parts of a view that is shown fit together
-  pub shown_valid : (v : View T) → IsShown v → IsValidView v
-  shown_valid v shown = subst IsValidView (sym shown.2) (valid_view shown.0 shown.1)
+  -- if no message is kept, the history begins at the front; else the gone ones are copies of the oldest
+  view_shown : (v : View T) → IsValidView v → IsShown v
+  view_shown v valid = by v.queue refl
+    where
+      by : (queue : List T) → v.queue ≡ queue → IsShown v
+      by [] e = witness v v.front [] valid (omega arith) (λ key cursor is. let past = valid.caught_up key cursor e is in omega (arith, past, valid.high)) (inl refl)
+      by (msg ∷ queue) e = let some = ap length e in witness v 0 (replicate v.front msg) valid (omega (arith, length-replicate v.front msg)) (λ key cursor is. omega arith) (inr (omega (arith, some, valid.end)))
 
   pub views_shown : (v : View T) → IsValidView v ↔ IsShown v
-  views_shown v = (view_shown v, shown_valid v)
+  views_shown v = (view_shown v, λ shown. subst IsValidView (sym shown.2) (valid_view shown.0 shown.1))
