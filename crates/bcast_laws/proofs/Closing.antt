@@ -1,5 +1,5 @@
--- A closed channel stays closed.
-use Rattle.std.proofs.Common.{◌≡◌, true, List, [], ◌∷◌, ℕ, ◌&&◌, not, cond, nat_lt, length, Ok, Err, ap, ◌∙◌}
+-- A closed channel stays closed, and each send on it is refused.
+use Rattle.std.proofs.Common.{◌≡◌, true, List, ◌∷◌, ℕ, ◌&&◌, not, cond, nat_lt, length, Ok, Err, ap, ◌∙◌}
 use Rattle.bcast_model.specs.declared.run.Call.{Call}
 use Rattle.bcast_model.specs.declared.run.Reply.{Reply}
 use Rattle.bcast_model.specs.Words.{Control, History, next, end_of_run, has_no_receiver, has_place}
@@ -15,9 +15,8 @@ abbrev pub IsClosed : Control → Type 0
 IsClosed c = c.closed ≡ true
 
 pub run_stays : {T : Type 0} (h : History T) (calls : List (Call T)) (replies : List (Reply T)) → IsClosed h.control → IsClosed (end_of_run h calls replies).control
-run_stays h [] replies is = is
-run_stays h (c ∷ calls) [] is = is
 run_stays h (c ∷ calls) (r ∷ replies) is = run_stays (next h c r) calls replies (closed-next h c r is)
+run_stays h calls replies is = is
 
 module _ {T : Type 0} where
   refuses : (v : View T) (msg : T) → IsClosed v.control → try_broadcast_reply v msg ≡ Err (unsent.Closed msg)

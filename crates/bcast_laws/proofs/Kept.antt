@@ -2,7 +2,6 @@
 use Rattle.std.proofs.Common.{◌≡◌, ℕ, ◌≤◌, List, [], ◌∷◌, length, map, refl, arith}
 use Rattle.std.specs.FinMap.{len, values, entries, len-entries}
 use Rattle.bcast_model.specs.declared.run.Call.TheVariants as call
-use Rattle.bcast_model.specs.declared.run.Reply.{Reply}
 use Rattle.bcast_model.specs.declared.run.Reply.TheVariants as reply
 use Rattle.bcast_model.specs.Words.{least, Legal, IsValidView, View}
 
@@ -21,14 +20,8 @@ module _ {T : Type 0} where
       let all : least v.end (values v.control.cursors) ≡ v.end = least_deserted v.end (entries v.control.cursors) (omega (arith, count, none)) in
       empty v.queue (omega (arith, all, valid.low, valid.end))
 
-  same_len : (x y : ℕ) → ◌≡◌ {A = Reply T} (reply.Len x) (reply.Len y) → x ≡ y
-  same_len x y e = cc
-
-  same_capacity : (x y : ℕ) → ◌≡◌ {A = Reply T} (reply.Capacity x) (reply.Capacity y) → x ≡ y
-  same_capacity x y e = cc
-
   pub len_within : (is_clone : T → T → Type 0) (v : View T) (n capacity : ℕ) → IsValidView v → Legal is_clone v call.Len (reply.Len n) → Legal is_clone v call.Capacity (reply.Capacity capacity) → n ≤ capacity
   len_within is_clone v n capacity valid is at =
-      let count = same_len n (length v.queue) is in
-      let room = same_capacity capacity v.control.capacity at in
+      let count : n ≡ length v.queue = cc in
+      let room : capacity ≡ v.control.capacity = cc in
       omega (arith, count, room, valid.fits)

@@ -1,12 +1,10 @@
 -- sends, and refused calls
 pub mod Sends
-pub mod RefusedHandles
 pub mod Refusals
 -- receivers, and the messages that are kept
 pub mod Kept
 pub mod Answers
 pub mod Missed
-pub mod Clones
 pub mod Unread
 -- a closed channel
 pub mod Closing

@@ -1,5 +1,5 @@
 -- Messages of one number are one message.
-use Rattle.std.proofs.Common.{◌≡◌, inl, inr, ℕ, List, [], ◌∷◌, Option, Some, None, sym, ◌∙◌, subst, IsSomeAnd}
+use Rattle.std.proofs.Common.{◌≡◌, inl, inr, ℕ, List, ◌∷◌, Option, Some, None, sym, ◌∙◌, subst, IsSomeAnd}
 use Rattle.bcast_model.specs.declared.run.Call.{Call}
 use Rattle.bcast_model.specs.declared.run.Reply.{Reply}
 use Rattle.bcast_model.specs.Words.{History, numbered, IsGiven, ClonesEqual, next, IsValid, IsRun}
@@ -19,10 +19,9 @@ module _ {T : Type 0} where
 
     given_somewhere : (h : History T) (calls : List (Call T)) (replies : List (Reply T)) → AtEachPoint (AreAllExact is_clone) h calls replies → AtSomePoint (IsGivenAs number msg) h calls replies
         → IsSomeAnd (numbered (end_of_run h calls replies) number) (λ accepted. IsGiven is_clone accepted msg)
-    given_somewhere h [] replies exact is = given_here h [] replies exact is
-    given_somewhere h (c ∷ calls) [] exact is = given_here h (c ∷ calls) [] exact is
     given_somewhere h (c ∷ calls) (r ∷ replies) exact (inl now) = given_here h (c ∷ calls) (r ∷ replies) exact.0 now
     given_somewhere h (c ∷ calls) (r ∷ replies) exact (inr later) = given_somewhere (next h c r) calls replies exact.1 later
+    given_somewhere h calls replies exact is = given_here h calls replies exact is
 
   is_original : (is_clone : T → T → Type 0) (msg given : T) → ClonesEqual is_clone → IsGiven is_clone msg given → given ≡ msg
   is_original is_clone msg given equal (inl same) = same

@@ -1,5 +1,5 @@
 -- A refused call changes nothing.
-use Rattle.std.proofs.Common.{◌≡◌, inl, inr, ℕ, ◌+◌, ◌-◌, ◌≤◌, ◌==◌, ◌&&◌, not, Bool, true, false, cond, List, length, max, Option, Some, None, Result, Ok, Err, nat_lt, refl, sym, ap, ◌∙◌, arith, append-nil, alloc_error, is_ok}
+use Rattle.std.proofs.Common.{◌≡◌, inl, inr, ℕ, ◌+◌, ◌-◌, ◌≤◌, ◌==◌, ◌&&◌, not, Bool, true, false, cond, List, length, max, Option, Some, None, Result, Ok, Err, nat_lt, refl, sym, ap, ◌∙◌, arith, append-nil, alloc_error, is_ok, ◌||◌, is_some}
 use Rattle.std.proofs.lemmas.Grind.{common_steps}
 use Rattle.bcast_model.specs.declared.error.TrySendError.{TrySendError}
 use Rattle.bcast_model.specs.declared.error.TryRecvError.{TryRecvError}
@@ -16,12 +16,13 @@ use Rattle.bcast_model.specs.Words.{stream_reply, next_reply, try_recv_reply, Is
 use Rattle.bcast_model.specs.Words.{IsReceived, set_unless_refused, effect, History, view_of}
 use Rattle.bcast_model.specs.Words.{remember, with_control, is_out_of_memory, tell_if_ready}
 use Rattle.bcast_model.specs.Words.{end_call, may_tell, next, IsValid, IsValidView, has_next}
+use Rattle.bcast_model.specs.Words.{count_reply, deactivate, without_receiver}
+use Rattle.bcast_model.specs.declared.error.HandleError.TheVariants as handle
 use Rattle.bcast_laws.specs.Sends.{is_refused}
 use Rattle.bcast_model.proofs.Views.{valid_view}
 use Rattle.bcast_model.proofs.DeliveryLists.{past_end}
-use Rattle.bcast_model.proofs.Cases.{test_is, uncloned}
+use Rattle.bcast_model.proofs.Cases.{test_is, uncloned, made_is, received_is}
 use Rattle.bcast_laws.proofs.Sends.{apart}
-use Rattle.bcast_laws.proofs.RefusedHandles.{same_cloned, same_deactivated, same_sender}
 
 not_not : (b : Bool) → not (not b) ≡ true → b ≡ true
 not_not true e = refl
@@ -31,6 +32,24 @@ not_not false e = apart e
 quiet : {A : Type 0} (b : Bool) (x y : A) → cond (not b && b) x y ≡ y
 quiet true x y = refl
 quiet false x y = refl
+
+-- ---- calls that make handles
+same_cloned : (T : Type 0) (none has : Bool) (c more : Control) → is_refused {T = T} (reply.CloneInactive (cond (not none) (cond has (Ok tt) (Err handle.TooMany)) (Err handle.Gone))) ≡ true → cond (none || not has) c more ≡ c
+same_cloned T true has c more e = refl
+same_cloned T false true c more e = apart e
+same_cloned T false false c more e = refl
+
+same_deactivated : (T : Type 0) (c : Control) (key : ℕ) (cursor : Option ℕ) → is_refused {T = T} (reply.Deactivate (count_reply (is_some cursor) c.inactive)) ≡ true → deactivate c key cursor ≡ c
+same_deactivated T c key None e = refl
+same_deactivated T c key (Some cursor) e =
+    elim (has_next c.inactive) as (λ b. is_refused {T = T} (reply.Deactivate (cond b (Ok tt) (Err handle.TooMany))) ≡ true → cond b (record (without_receiver c key) { inactive = c.inactive + 1 }) c ≡ c) [
+      | true ↦ λ e. apart e
+      | false ↦ λ e. refl
+    ] e
+
+same_sender : (T : Type 0) (c more : Control) (has : Bool) → is_refused {T = T} (reply.NewSender (cond has (Ok tt) (Err handle.TooMany))) ≡ true → cond has more c ≡ c
+same_sender T c more true e = apart e
+same_sender T c more false e = refl
 
 module _ {T : Type 0} where
   -- ---- sends
@@ -70,15 +89,11 @@ module _ {T : Type 0} where
 
   -- a receive is refused if its exact result is a refusal, or memory was refused
   same_received : (is_clone : T → T → Type 0) (owed : Type 0) (spelt : Result T TryRecvError → Reply T) (refused : Reply T) (exact : Result T TryRecvError) (v : View T) (c : Control) (r : Reply T)
-      → (is_refused (spelt exact) ≡ true → set_unless_refused v r c ≡ sets v.control) → ((msg : T) → is_refused (spelt (Ok msg)) ≡ false) → is_out_of_memory refused ≡ true
+      → (is_refused (spelt exact) ≡ true → set_unless_refused v (spelt exact) c ≡ sets v.control) → ((msg : T) → is_refused (spelt (Ok msg)) ≡ false) → is_out_of_memory refused ≡ true
       → IsReceived is_clone owed spelt refused exact r → is_refused r ≡ true → set_unless_refused v r c ≡ sets v.control
-  same_received is_clone owed spelt refused exact v c r same gives memory legal e = elim legal [
-    | inl is ↦ same (sym (ap is_refused is) ∙ e)
-    | inr s ↦ elim s.1 [
-      | inl clone ↦ apart (sym (ap is_refused clone.4 ∙ gives clone.1) ∙ e)
-      | inr is ↦ ap (λ b. cond b (sets v.control) (sets c)) (ap is_out_of_memory is ∙ memory)
-    ]
-  ]
+  same_received is_clone owed spelt refused exact v c r same gives memory legal e =
+      received_is (λ r. is_refused r ≡ true → set_unless_refused v r c ≡ sets v.control) is_clone owed spelt refused exact r legal
+      same (λ _ msg given was copy e. apart (sym (gives given) ∙ e)) (λ _ e. ap (λ b. cond b (sets v.control) (sets c)) memory) e
 
   -- ---- each call
   same_effect : (is_clone : T → T → Type 0) (v : View T) (c : Call T) (r : Reply T) → IsValidView v → Legal is_clone v c r → is_refused r ≡ true → effect v c r ≡ sets v.control
@@ -90,7 +105,7 @@ module _ {T : Type 0} where
   same_effect is_clone v (call.TryRecv key) r valid legal e =
       let c : Control = receive v key (cursor_of v.control key) in
       same_received is_clone (IsOwed v key (cursor_of v.control key)) (λ answer. reply.TryRecv (Ok answer)) (reply.TryRecv (Err alloc_error)) (try_recv_reply v (cursor_of v.control key)) v c r
-      (λ refuses. same_unless v c r (same_receive v key (cursor_of v.control key) valid refuses)) (λ msg. refl) refl legal e
+      (λ refuses. same_unless v c (reply.TryRecv (Ok (try_recv_reply v (cursor_of v.control key)))) (same_receive v key (cursor_of v.control key) valid refuses)) (λ msg. refl) refl legal e
   same_effect is_clone v (call.PollFuture key) r valid legal e =
       same_received is_clone (IsOwed v key (cursor_of v.control key)) (λ answer. reply.PollFuture (Ok (future_reply answer))) (reply.PollFuture (Err alloc_error)) (try_recv_reply v (cursor_of v.control key)) v _ r (λ refuses. apart refuses) (λ msg. refl) refl legal e
   same_effect is_clone v (call.PollRecv key) r valid legal e =
@@ -105,17 +120,11 @@ module _ {T : Type 0} where
   same_effect is_clone v call.CloneInactive r valid legal e =
       ap sets (same_cloned T (v.control.inactive == 0) (has_next v.control.inactive) v.control (record v.control { inactive = v.control.inactive + 1 }) (sym (ap is_refused legal) ∙ e))
   same_effect is_clone v (call.Deactivate key) r valid legal e = ap sets (same_deactivated T v.control key (cursor_of v.control key) (sym (ap is_refused legal) ∙ e))
-  same_effect is_clone v call.NewReceiver r valid (inl (key, is, free)) e = apart (sym (ap is_refused is) ∙ e)
-  same_effect is_clone v call.NewReceiver r valid (inr is) e = rw is refl
-  same_effect is_clone v call.Activate r valid (inl (gone, is)) e = rw is refl
-  same_effect is_clone v call.Activate r valid (inr (there, inl (key, is, free))) e = apart (sym (ap is_refused is) ∙ e)
-  same_effect is_clone v call.Activate r valid (inr (there, inr is)) e = rw is refl
-  same_effect is_clone v call.ActivateCloned r valid (inl (gone, is)) e = rw is refl
-  same_effect is_clone v call.ActivateCloned r valid (inr (there, inl (key, is, free))) e = apart (sym (ap is_refused is) ∙ e)
-  same_effect is_clone v call.ActivateCloned r valid (inr (there, inr is)) e = rw is refl
-  same_effect is_clone v (call.CloneReceiver other) r valid (inl (gone, is)) e = rw is (ap sets (uncloned v.control (cursor_of v.control other)))
-  same_effect is_clone v (call.CloneReceiver other) r valid (inr (there, inl (key, is, free))) e = apart (sym (ap is_refused is) ∙ e)
-  same_effect is_clone v (call.CloneReceiver other) r valid (inr (there, inr is)) e = rw is (ap sets (uncloned v.control (cursor_of v.control other)))
+  same_effect is_clone v call.NewReceiver r valid legal e = made_is (λ r. is_refused r ≡ true → effect v call.NewReceiver r ≡ sets v.control) true v.control.cursors reply.NewReceiver r (inr (refl, legal)) (λ _ _ e. apart e) (λ _ _. refl) e
+  same_effect is_clone v call.Activate r valid legal e = made_is (λ r. is_refused r ≡ true → effect v call.Activate r ≡ sets v.control) _ v.control.cursors reply.Activate r legal (λ _ _ e. apart e) (λ _ _. refl) e
+  same_effect is_clone v call.ActivateCloned r valid legal e = made_is (λ r. is_refused r ≡ true → effect v call.ActivateCloned r ≡ sets v.control) _ v.control.cursors reply.ActivateCloned r legal (λ _ _ e. apart e) (λ _ _. refl) e
+  same_effect is_clone v (call.CloneReceiver other) r valid legal e =
+      made_is (λ r. is_refused r ≡ true → effect v (call.CloneReceiver other) r ≡ sets v.control) _ v.control.cursors reply.CloneReceiver r legal (λ _ _ e. apart e) (λ _ _. ap sets (uncloned v.control (cursor_of v.control other))) e
   same_effect is_clone v c r valid legal e = apart (sym (ap is_refused legal) ∙ e)
 
   -- ---- at the end of a call: if nothing changed, no sender is told

@@ -15,7 +15,7 @@ use Rattle.bcast_model.proofs.Answers.{next_valid, cursors-next}
 use Rattle.bcast_model.proofs.DeliveryLemmas.{deliveries_exact, given_at}
 use Rattle.bcast_model.proofs.DeliveryLists.{past_end}
 use Rattle.bcast_model.proofs.DeliveryMessages.{numbered_stays}
-use Rattle.bcast_model.proofs.SendAll.{cursors-offer_all}
+use Rattle.bcast_model.proofs.Stays.{stays-offer_all}
 use Rattle.bcast_laws.proofs.Sends.{messages_added}
 
 -- an entry of the second of two lists
@@ -25,16 +25,15 @@ second_part (x ∷ xs) ys index = let next : length (x ∷ xs) + index ≡ suc (
 
 module _ {T : Type 0} where
   at_first : (P : History T → List (Call T) → List (Reply T) → Type 0) (h : History T) (calls : List (Call T)) (replies : List (Reply T)) → AtEachPoint P h calls replies → P h calls replies
-  at_first P h [] replies p = p
-  at_first P h (c ∷ calls) [] p = p
   at_first P h (c ∷ calls) (r ∷ replies) p = p.0
+  at_first P h calls replies p = p
 
   module _ (is_clone : T → T → Type 0) (h : History T) (msgs : List T) (valid : IsValid h) (legal : Legal is_clone (view_of h) (call.TryBroadcastAll msgs) (reply.TryBroadcastAll (Ok tt))) where
     stands_last : (after_list h msgs).accepted ≡ h.accepted ++ msgs
     stands_last = messages_added is_clone h (call.TryBroadcastAll msgs) (reply.TryBroadcastAll (Ok tt)) legal refl
 
     same_cursors : (key : ℕ) → cursor_of (after_list h msgs).control key ≡ cursor_of h.control key
-    same_cursors key = ap (λ cursors. get cursors key) (cursors-next h (call.TryBroadcastAll msgs) (reply.TryBroadcastAll (Ok tt)) ∙ cursors-offer_all (view_of h) msgs)
+    same_cursors key = ap (λ cursors. get cursors key) (cursors-next h (call.TryBroadcastAll msgs) (reply.TryBroadcastAll (Ok tt)) ∙ (stays-offer_all (view_of h) msgs).0)
 
     numbered_now : (index : ℕ) (msg : T) → slice_get msgs index ≡ Some msg → numbered (after_list h msgs) (end_number h + index) ≡ Some msg
     numbered_now index msg at =

@@ -18,9 +18,6 @@ both true b e = (refl, e)
 both false b e = cc
 
 module _ {T : Type 0} where
-  same_answer : (x y : Bool) → ◌≡◌ {A = Reply T} (reply.IsTerminated x) (reply.IsTerminated y) → x ≡ y
-  same_answer x y e = cc
-
   closed_at : (v : View T) (cursor : ℕ) → IsValidView v → v.control.closed ≡ true → v.end ≤ cursor → try_recv_reply v (Some cursor) ≡ Err unread.Closed
   closed_at v cursor valid closed past =
       let here : nat_lt cursor v.front ≡ false = (let high = valid.high in grind (arith, common_steps, high, past)) in
@@ -28,30 +25,27 @@ module _ {T : Type 0} where
       ∙ ap (recv_reply v.control.closed) (slice_get_past v.queue (cursor - v.front) (omega (arith, past, valid.end)))
       ∙ ap (λ b. Err (cond b unread.Closed unread.Empty)) closed
 
-  record IsTerminated (v : View T) : Type 0 where
-    closed : v.control.closed ≡ true
-    none : length v.queue ≡ 0
-
-  terminated : (is_clone : T → T → Type 0) (v : View T) → Legal is_clone v call.IsTerminated (reply.IsTerminated true) → IsTerminated v
+  terminated : (is_clone : T → T → Type 0) (v : View T) → Legal is_clone v call.IsTerminated (reply.IsTerminated true) → (v.control.closed ≡ true) × (length v.queue ≡ 0)
   terminated is_clone v legal =
-      let is = both v.control.closed (length v.queue == 0) (sym (same_answer true (v.control.closed && (length v.queue == 0)) legal)) in
-      record { closed = is.0; none = (let e = is.1 in grind (arith, common_steps, e)) }
+      let same : true ≡ (v.control.closed && (length v.queue == 0)) = cc in
+      let is = both v.control.closed (length v.queue == 0) (sym same) in
+      (is.0, let e = is.1 in grind (arith, common_steps, e))
 
-  module _ (v : View T) (key : ℕ) (valid : IsValidView v) (is : IsTerminated v) where
+  module _ (v : View T) (key : ℕ) (valid : IsValidView v) (closed : v.control.closed ≡ true) (none : length v.queue ≡ 0) where
     read_all : (cursor : ℕ) → cursor_of v.control key ≡ Some cursor → v.end ≤ cursor
-    read_all cursor at = valid.caught_up key cursor (let none = is.none in empty v.queue (omega (arith, none))) at
+    read_all cursor at = valid.caught_up key cursor (empty v.queue (omega (arith, none))) at
 
     closed_own : (cursor : Option ℕ) → cursor_of v.control key ≡ cursor → try_recv_reply v cursor ≡ Err unread.Closed
     closed_own None at = refl
-    closed_own (Some cursor) at = closed_at v cursor valid is.closed (read_all cursor at)
+    closed_own (Some cursor) at = closed_at v cursor valid closed (read_all cursor at)
 
     closed_skipping : (cursor : Option ℕ) → cursor_of v.control key ≡ cursor → try_recv_reply v (skipped_to v.front cursor) ≡ Err unread.Closed
     closed_skipping None at = refl
-    closed_skipping (Some cursor) at = (let past = read_all cursor at in closed_at v (max cursor v.front) valid is.closed (omega (arith, past)))
+    closed_skipping (Some cursor) at = (let past = read_all cursor at in closed_at v (max cursor v.front) valid closed (omega (arith, past)))
 
     -- no message is owed if none is kept
     nothing_owed : (cursor : Option ℕ) → IsOwed v key cursor → ⊥
-    nothing_owed cursor owed = (let size = valid.end in let none = is.none in let from = owed.kept.0 in let under = owed.kept.1 in absurd (omega (arith, size, none, from, under)))
+    nothing_owed cursor owed = (let size = valid.end in let from = owed.kept.0 in let under = owed.kept.1 in absurd (omega (arith, size, none, from, under)))
 
     answers_closed : (is_clone : T → T → Type 0) (cursor : Option ℕ) (spelt : Result T TryRecvError → Reply T) (refused : Reply T) (r : Reply T) → try_recv_reply v cursor ≡ Err unread.Closed
         → IsReceived is_clone (IsOwed v key cursor) spelt refused (try_recv_reply v cursor) r → r ≡ spelt (Err unread.Closed)
@@ -61,12 +55,12 @@ module _ {T : Type 0} where
   pub nothing_given : (is_clone : T → T → Type 0) (v : View T) (key : ℕ) (r : Reply T) → IsValidView v → Legal is_clone v call.IsTerminated (reply.IsTerminated true) → AnswersClosed is_clone v key r
   nothing_given is_clone v key r valid legal =
       let is = terminated is_clone v legal in
-      let own = closed_own v key valid is (cursor_of v.control key) refl in
+      let own = closed_own v key valid is.0 is.1 (cursor_of v.control key) refl in
       let skip : Option ℕ = skipped_to v.front (cursor_of v.control key) in
       let skips : ℕ = skipped_count v.front (cursor_of v.control key) in
       record {
-        try_recv = λ received. answers_closed v key valid is is_clone (cursor_of v.control key) (λ answer. reply.TryRecv (Ok answer)) (reply.TryRecv (Err alloc_error)) r own received;
-        poll_future = λ received. answers_closed v key valid is is_clone (cursor_of v.control key) (λ answer. reply.PollFuture (Ok (future_reply answer))) (reply.PollFuture (Err alloc_error)) r own received;
-        poll_recv = λ received. answers_closed v key valid is is_clone (cursor_of v.control key) (λ answer. reply.PollRecv (Ok (stream_reply answer))) (reply.PollRecv (Err alloc_error)) r own received;
-        poll_next = λ received. answers_closed v key valid is is_clone skip (λ answer. reply.PollNext (Ok (next_reply skips answer))) (reply.PollNext (Err alloc_error)) r (closed_skipping v key valid is (cursor_of v.control key) refl) received;
+        try_recv = λ received. answers_closed v key valid is.0 is.1 is_clone (cursor_of v.control key) (λ answer. reply.TryRecv (Ok answer)) (reply.TryRecv (Err alloc_error)) r own received;
+        poll_future = λ received. answers_closed v key valid is.0 is.1 is_clone (cursor_of v.control key) (λ answer. reply.PollFuture (Ok (future_reply answer))) (reply.PollFuture (Err alloc_error)) r own received;
+        poll_recv = λ received. answers_closed v key valid is.0 is.1 is_clone (cursor_of v.control key) (λ answer. reply.PollRecv (Ok (stream_reply answer))) (reply.PollRecv (Err alloc_error)) r own received;
+        poll_next = λ received. answers_closed v key valid is.0 is.1 is_clone skip (λ answer. reply.PollNext (Ok (next_reply skips answer))) (reply.PollNext (Err alloc_error)) r (closed_skipping v key valid is.0 is.1 (cursor_of v.control key) refl) received;
       }

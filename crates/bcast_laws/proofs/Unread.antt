@@ -1,5 +1,5 @@
 -- How much a receiver has still to read, by what `try_recv` returns.
-use Rattle.std.proofs.Common.{◌≡◌, inl, ℕ, zero, suc, ◌+◌, ◌-◌, ◌<◌, ◌≤◌, Bool, true, false, cond, List, length, max, Option, Some, None, Ok, Err, nat_lt, refl, sym, ap, ◌∙◌, subst, arith, append-nil, IsOk, IsErr}
+use Rattle.std.proofs.Common.{◌≡◌, inl, ℕ, zero, suc, ◌+◌, ◌-◌, ◌<◌, ◌≤◌, Bool, true, false, cond, List, length, max, Option, Some, None, Ok, Err, nat_lt, refl, sym, ap, ◌∙◌, subst, arith, append-nil, IsOk, IsErr, slice_get}
 use Rattle.std.proofs.lemmas.Grind.{common_steps}
 use Rattle.std.proofs.lemmas.Option.{slice_get_past}
 use Rattle.std.specs.Option.{option_map_or}
@@ -15,23 +15,27 @@ use Rattle.bcast_model.proofs.Answers.{next_valid, cursors-next}
 use Rattle.bcast_model.proofs.Views.{valid_view, floor_under, front-le-cursor}
 use Rattle.bcast_model.proofs.DeliveryMaps.{inserted}
 use Rattle.bcast_laws.proofs.Answers.{lagging_answer}
-use Rattle.bcast_laws.proofs.Missed.{finds}
+use Rattle.bcast_model.proofs.DeliveryLists.{past_end}
 
 no_message : (T : Type 0) (closed : Bool) → IsErr (recv_reply {T = T} closed None)
 no_message T true = refl
 no_message T false = refl
 
+finds : {T : Type 0} (closed : Bool) (items : List T) (index : ℕ) (o : Option T) → index < length items → slice_get items index ≡ o → IsOk (recv_reply closed o)
+finds closed items index (Some msg) within is = refl
+finds closed items index None within is = let past = past_end items index is in absurd (omega (arith, past, within))
+
 module _ {T : Type 0} where
   -- it has missed none, and reads next the message of this number
-  abbrev ReadsNext : History T → ℕ → ℕ → Type 0
+  abbrev pub ReadsNext : History T → ℕ → ℕ → Type 0
   ReadsNext h key cursor = (cursor_of h.control key ≡ Some cursor) × (front_number h ≤ cursor)
 
   module _ (h : History T) (key : ℕ) (valid : IsValid h) where
     -- ---- after a `try_recv`
-    valid_after : IsValid (after_try h key)
+    pub valid_after : IsValid (after_try h key)
     valid_after = next_valid NoClone h (call.TryRecv key) (reply.TryRecv (Ok (try_recv_reply (view_of h) (cursor_of h.control key)))) tt valid (inl refl)
 
-    same_end : end_number (after_try h key) ≡ end_number h
+    pub same_end : end_number (after_try h key) ≡ end_number h
     same_end = ap (λ (msgs : List T). h.first + length msgs) (append-nil h.accepted)
 
     moved : (cursor to : ℕ) → cursor_of h.control key ≡ Some cursor → receive (view_of h) key (Some cursor) ≡ with_cursor h.control key to → front_number h ≤ to → ReadsNext (after_try h key) key to
@@ -44,7 +48,7 @@ module _ {T : Type 0} where
         (there, omega (arith, under, floor, passed))
 
     -- ---- a receiver that missed messages
-    left_at_front : (cursor : ℕ) → cursor_of h.control key ≡ Some cursor → cursor < front_number h → ReadsNext (after_try h key) key (front_number h)
+    pub left_at_front : (cursor : ℕ) → cursor_of h.control key ≡ Some cursor → cursor < front_number h → ReadsNext (after_try h key) key (front_number h)
     left_at_front cursor at lags =
         let test : nat_lt cursor (front_number h) ≡ true = grind (arith, common_steps, lags) in
         moved cursor (front_number h) at (ap (λ b. cond b (with_cursor h.control key (front_number h)) (cond (nat_lt cursor (end_number h)) (with_cursor h.control key (cursor + 1)) h.control)) test) (omega arith)
@@ -63,7 +67,7 @@ module _ {T : Type 0} where
         let here : nat_lt cursor (front_number h) ≡ false = grind (arith, common_steps, passed) in
         ap (λ b. cond b (Err (unread_error.Overflowed (front_number h - cursor))) (recv_reply h.control.closed (kept_at (view_of h) cursor))) here
 
-    gives : (cursor : ℕ) → cursor_of h.control key ≡ Some cursor → front_number h ≤ cursor → cursor < end_number h → IsOk (try_recv_reply (view_of h) (cursor_of h.control key))
+    pub gives : (cursor : ℕ) → cursor_of h.control key ≡ Some cursor → front_number h ≤ cursor → cursor < end_number h → IsOk (try_recv_reply (view_of h) (cursor_of h.control key))
     gives cursor at passed below =
         let size = (valid_view h valid).end in
         let within : cursor - front_number h < length (queue_of h) = omega (arith, size, passed, below) in

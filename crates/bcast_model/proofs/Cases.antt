@@ -1,4 +1,4 @@
--- The conditional parts of a call, each by its cases.
+-- The conditional parts of a call, and its replies, each by its cases.
 use Rattle.std.proofs.Common.{◌≡◌, ℕ, ◌+◌, ◌<◌, ◌≤◌, ◌==◌, ◌&&◌, Bool, true, false, cond, Option, Some, None, Result, Ok, Err, not, nat_lt, inl, inr, refl, sym, subst, arith}
 use Rattle.std.proofs.lemmas.Grind.{common_steps}
 use Rattle.std.specs.FinMap.{get}
@@ -32,19 +32,22 @@ uncloned c None = refl
 uncloned c (Some cursor) = refl
 
 -- ---- closing and accepting change neither the capacity nor the cursors, and open no channel
--- the capacity stays, and a closed channel stays closed
-abbrev pub Leaves : Control → Control → Type 0
-Leaves old new = (new.capacity ≡ old.capacity) × (old.closed ≡ true → new.closed ≡ true)
+-- if a call is allowed so, a positive capacity stays positive; a closed channel stays closed
+abbrev pub Lasts : Type 0 → Control → Control → Type 0
+Lasts Allowed old new = (Allowed → 1 ≤ old.capacity → 1 ≤ new.capacity) × (old.closed ≡ true → new.closed ≡ true)
 
--- the cursors stay too
+-- the cursors and the capacity stay too
 abbrev pub Stays : Control → Control → Type 0
-Stays old new = (new.cursors ≡ old.cursors) × Leaves old new
+Stays old new = (new.cursors ≡ old.cursors) × (new.capacity ≡ old.capacity) × Lasts (Unit {0}) old new
+
+pub left : (c : Control) → Lasts (Unit {0}) c c
+left c = (λ _ some. some, λ is. is)
 
 pub kept : (c : Control) → Stays c c
-kept c = (refl, (refl, λ is. is))
+kept c = (refl, refl, left c)
 
 pub stays-close : (c : Control) → Stays c (close c)
-stays-close c = close_is (Stays c) c (λ _. kept c) (λ _. (refl, (refl, λ _. refl)))
+stays-close c = close_is (Stays c) c (λ _. kept c) (λ _. (refl, refl, (λ _ some. some, λ _. refl)))
 
 pub stays-deserted : (c : Control) → Stays c (close_if_deserted c)
 stays-deserted c = deserted_is (Stays c) c (stays-close c) (λ _. kept c)

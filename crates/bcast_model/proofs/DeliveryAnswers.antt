@@ -1,7 +1,7 @@
 -- What a reply gives a receiver, and its cursor afterwards.
-use Rattle.std.proofs.Common.{◌≡◌, ◌⊎◌, inl, inr, ℕ, ◌+◌, ◌-◌, ◌<◌, ◌≤◌, Bool, true, false, cond, List, [], ◌∷◌, ◌++◌, length, replicate, Option, Some, None, Ok, Err, Result, nat_lt, slice_get, refl, sym, ap, ◌∙◌, subst, arith, length-append, IsSomeAnd}
+use Rattle.std.proofs.Common.{◌≡◌, ◌⊎◌, inl, inr, ℕ, ◌+◌, ◌-◌, ◌<◌, ◌≤◌, Bool, true, false, cond, List, [], ◌∷◌, ◌++◌, length, replicate, Option, Some, None, Ok, Err, Result, nat_lt, slice_get, refl, sym, ap, ◌∙◌, subst, arith, length-append, IsSomeAnd, is_some}
 use Rattle.std.proofs.lemmas.Grind.{common_steps}
-use Rattle.std.proofs.lemmas.Option.{none-some, same_Some, slice_get_within}
+use Rattle.std.proofs.lemmas.Option.{none-some, same_Some, slice_get_cases}
 use Rattle.std.proofs.lemmas.List.{length-replicate}
 use Rattle.std.specs.FinMap.{get, insert}
 use Rattle.bcast_model.specs.Words.{TryRecvError, Cursors, with_cursor, cursor_of, History, view_of}
@@ -10,7 +10,7 @@ use Rattle.bcast_model.specs.Words.{recv_reply, try_recv_reply, IsGiven}
 use Rattle.bcast_model.specs.declared.error.TryRecvError.TheVariants as unread
 use Rattle.bcast_model.proofs.Views.{numbered-queue, first_under}
 use Rattle.bcast_model.proofs.DeliveryMaps.{inserted}
-use Rattle.bcast_model.proofs.DeliveryLists.{within_missed, within_given, past_end}
+use Rattle.bcast_model.proofs.DeliveryLists.{within_missed, within_given}
 
 module _ {T : Type 0} where
   -- what a call gives the receiver `key` at this cursor: messages from the front on, None before it
@@ -85,32 +85,27 @@ module _ {T : Type 0} where
   nothing_found skips true = refl
   nothing_found skips false = refl
 
-  pub numbered_past : (h : History T) (n : ℕ) → h.first ≤ n → numbered h n ≡ None → nat_lt n (end_number h) ≡ false
-  numbered_past h n low e =
+  -- the messages are numbered up to the end
+  numbered_there : (h : History T) (n : ℕ) (o : Option T) → h.first ≤ n → numbered h n ≡ o → nat_lt n (end_number h) ≡ is_some o
+  numbered_there h n o low e =
       let under : nat_lt n h.first ≡ false = grind (arith, common_steps, low) in
-      let there : slice_get h.accepted (n - h.first) ≡ None = rw under at e in
-      let past = past_end h.accepted (n - h.first) there in
-      grind (arith, common_steps, past, low)
-
-  numbered_within : (h : History T) (n : ℕ) (msg : T) → h.first ≤ n → numbered h n ≡ Some msg → nat_lt n (end_number h) ≡ true
-  numbered_within h n msg low e =
-      let under : nat_lt n h.first ≡ false = grind (arith, common_steps, low) in
-      let there : slice_get h.accepted (n - h.first) ≡ Some msg = rw under at e in
-      let within = slice_get_within h.accepted (n - h.first) msg there in
-      grind (arith, common_steps, within, low)
+      elim (slice_get_cases h.accepted (n - h.first)).1 [
+        | inl (msg, within, there, same) ↦ (let is : is_some o ≡ true = ap is_some (sym e ∙ ap (λ b. cond b None (slice_get h.accepted (n - h.first))) under ∙ there) in rw is (grind (arith, common_steps, within, low)))
+        | inr past ↦ (let is : is_some o ≡ false = ap is_some (sym e ∙ ap (λ b. cond b None (slice_get h.accepted (n - h.first))) under ∙ past.1) in let after = past.0 in rw is (grind (arith, common_steps, after, low)))
+      ]
 
   gives_found : {is_clone : T → T → Type 0} (h : History T) (key cursor skips : ℕ) (answer : Result T TryRecvError) (o : Option T) → h.first ≤ h.floor → cursor_of h.control key ≡ Some cursor
       → front_number h ≤ cursor + skips → (skips ≡ 0) ⊎ (cursor + skips ≡ front_number h) → numbered h (cursor + skips) ≡ o → IsAnswer is_clone (recv_reply h.control.closed o) answer
       → Gives is_clone h key cursor (cond (nat_lt (cursor + skips) (end_number h)) (with_cursor h.control key (cursor + skips + 1)) h.control).cursors (entries_of skips answer)
   gives_found {is_clone = is_clone} h key cursor skips answer None low is from exact there (inl e) =
-      let past : nat_lt (cursor + skips) (end_number h) ≡ false = numbered_past h (cursor + skips) (omega arith) there in
+      let past : nat_lt (cursor + skips) (end_number h) ≡ false = numbered_there h (cursor + skips) None (omega arith) there in
       rw (e, past) (subst (Gives is_clone h key cursor h.control.cursors) (sym (nothing_found skips h.control.closed)) (gives_nothing h key cursor h.control.cursors (inl is)))
   gives_found h key cursor skips answer None low is from exact there (inr (msg, given, was, copy, e)) = ok_err msg _ was
   gives_found h key cursor skips answer (Some msg) low is from exact there (inl e) =
-      let within : nat_lt (cursor + skips) (end_number h) ≡ true = numbered_within h (cursor + skips) msg (omega arith) there in
+      let within : nat_lt (cursor + skips) (end_number h) ≡ true = numbered_there h (cursor + skips) (Some msg) (omega arith) there in
       rw (e, within) (gives_message h key cursor skips h.control.cursors msg msg from exact there (inl refl))
   gives_found {is_clone = is_clone} h key cursor skips answer (Some msg) low is from exact there (inr (original, given, same, copy, e)) =
-      let within : nat_lt (cursor + skips) (end_number h) ≡ true = numbered_within h (cursor + skips) msg (omega arith) there in
+      let within : nat_lt (cursor + skips) (end_number h) ≡ true = numbered_there h (cursor + skips) (Some msg) (omega arith) there in
       rw (e, within) (gives_message h key cursor skips h.control.cursors msg given from exact there (inr (subst (λ m. is_clone m given) (sym (same_Ok msg original same)) copy)))
 
   pub gives_answer : {is_clone : T → T → Type 0} (h : History T) (key cursor skips : ℕ) (answer : Result T TryRecvError) → h.first ≤ h.floor → cursor_of h.control key ≡ Some cursor

@@ -11,8 +11,7 @@ use Rattle.bcast_model.specs.Words.{deactivate, without_receiver, clone_receiver
 use Rattle.bcast_model.specs.declared.run.Reply.TheVariants as reply
 use Rattle.bcast_model.specs.declared.run.Call.TheVariants as call
 use Rattle.bcast_model.proofs.Cases.{test_is, uncloned, made_is, stays-close, stays-deserted}
-use Rattle.bcast_model.proofs.SendAll.{cursors-offer_all}
-use Rattle.bcast_model.proofs.Stays.{stays-offer, stays-poll_send, stays-new_sender, stays-clone_inactive, stays-drop_sender, stays-drop_inactive}
+use Rattle.bcast_model.proofs.Stays.{stays-offer, stays-offer_all, stays-poll_send, stays-new_sender, stays-clone_inactive, stays-drop_sender, stays-drop_inactive}
 use Rattle.bcast_model.proofs.DeliveryMaps.{CursorsChange, stay, rise, make_at_end, make_where, leave, cursors-listens, cursors-begin_send}
 
 module _ {T : Type 0} (v : View T) where
@@ -71,7 +70,7 @@ module _ {T : Type 0} where
 
   pub changes : (is_clone : T → T → Type 0) (v : View T) (c : Call T) (r : Reply T) → Legal is_clone v c r → Changes v c (effect v c r).control
   changes is_clone v (call.TryBroadcast msg) r legal = stay (stays-offer v msg).0
-  changes is_clone v (call.TryBroadcastAll msgs) r legal = stay (cursors-offer_all v msgs)
+  changes is_clone v (call.TryBroadcastAll msgs) r legal = stay (stays-offer_all v msgs).0
   changes is_clone v (call.AttemptSend msg) r legal = stay (stays-offer v msg).0
   changes is_clone v call.BeginSend r legal = stay (cursors-begin_send v.control (chosen_id r))
   changes is_clone v (call.PollSend place msg) r legal = stay (stays-poll_send v place msg).0

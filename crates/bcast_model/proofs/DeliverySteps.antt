@@ -67,14 +67,6 @@ module _ {T : Type 0} where
       each answer given = rw (moved answer, spells answer given) (subst (λ o. Gives is_clone h key cursor (receive (view_of h) key o).cursors (entries_of skips answer)) (sym at)
           (gives_answer h key cursor skips answer low is exact (subst (λ o. IsAnswer is_clone (try_recv_reply (view_of h) o) answer) at given)))
 
-  -- a receive at the receiver's cursor, and one from the front on
-  gives_at_cursor : (is_clone : T → T → Type 0) (h : History T) (key cursor : ℕ) (cursors_after : Reply T → Cursors) (spelt : Result T TryRecvError → Reply T) (refused r : Reply T) → h.first ≤ h.floor → cursor_of h.control key ≡ Some cursor
-      → ((answer : Result T TryRecvError) → cursors_after (spelt answer) ≡ (receive (view_of h) key (cursor_of h.control key)).cursors) → cursors_after refused ≡ h.control.cursors
-      → ((answer : Result T TryRecvError) → given_by (spelt answer) ≡ entries_of 0 answer) → given_by refused ≡ []
-      → IsReceived is_clone (IsOwed (view_of h) key (cursor_of h.control key)) spelt refused (try_recv_reply (view_of h) (cursor_of h.control key)) r → Gives is_clone h key cursor (cursors_after r) (given_by r)
-  gives_at_cursor is_clone h key cursor cursors_after spelt refused r low is moved kept spells none legal =
-      gives_reply is_clone h key cursor 0 (cursor_of h.control key) cursors_after spelt refused r low is (is ∙ ap Some (omega arith)) (inl refl) moved kept (λ answer _. spells answer) none legal
-
   gives_next : (is_clone : T → T → Type 0) (h : History T) (key cursor : ℕ) (r : Reply T) → h.first ≤ h.floor → cursor_of h.control key ≡ Some cursor → Legal is_clone (view_of h) (call.PollNext key) r
       → Gives is_clone h key cursor (effect (view_of h) (call.PollNext key) r).control.cursors (given_by r)
   gives_next is_clone h key cursor r low is legal =
@@ -92,14 +84,14 @@ module _ {T : Type 0} where
   gives_received : (is_clone : T → T → Type 0) (h : History T) (key cursor : ℕ) (c : Call T) (r : Reply T) → h.first ≤ h.floor → cursor_of h.control key ≡ Some cursor → receives_for key c ≡ true → Legal is_clone (view_of h) c r
       → Gives is_clone h key cursor (effect (view_of h) c r).control.cursors (given_by r)
   gives_received is_clone h key cursor (call.TryRecv reader) r low is reads legal = let same = same_reader reader key reads in
-      rw same (gives_at_cursor is_clone h key cursor (λ r. (effect (view_of h) (call.TryRecv key) r).control.cursors) (λ answer. reply.TryRecv (Ok answer)) (reply.TryRecv (Err alloc_error)) r low is
-      (λ answer. refl) refl given_by-try_recv refl (rw same at legal))
+      rw same (gives_reply is_clone h key cursor 0 (cursor_of h.control key) (λ r. (effect (view_of h) (call.TryRecv key) r).control.cursors) (λ answer. reply.TryRecv (Ok answer)) (reply.TryRecv (Err alloc_error)) r low is (is ∙ ap Some (omega arith)) (inl refl)
+      (λ answer. refl) refl (λ answer _. given_by-try_recv answer) refl (rw same at legal))
   gives_received is_clone h key cursor (call.PollFuture reader) r low is reads legal = let same = same_reader reader key reads in
-      rw same (gives_at_cursor is_clone h key cursor (λ r. (effect (view_of h) (call.PollFuture key) r).control.cursors) (λ answer. reply.PollFuture (Ok (future_reply answer))) (reply.PollFuture (Err alloc_error)) r low is
-      (λ answer. cursors-listens (receive (view_of h) key (cursor_of h.control key)) (future_of key) (is_empty_reply (try_recv_reply (view_of h) (cursor_of h.control key)))) refl given_by-future refl (rw same at legal))
+      rw same (gives_reply is_clone h key cursor 0 (cursor_of h.control key) (λ r. (effect (view_of h) (call.PollFuture key) r).control.cursors) (λ answer. reply.PollFuture (Ok (future_reply answer))) (reply.PollFuture (Err alloc_error)) r low is (is ∙ ap Some (omega arith)) (inl refl)
+      (λ answer. cursors-listens (receive (view_of h) key (cursor_of h.control key)) (future_of key) (is_empty_reply (try_recv_reply (view_of h) (cursor_of h.control key)))) refl (λ answer _. given_by-future answer) refl (rw same at legal))
   gives_received is_clone h key cursor (call.PollRecv reader) r low is reads legal = let same = same_reader reader key reads in
-      rw same (gives_at_cursor is_clone h key cursor (λ r. (effect (view_of h) (call.PollRecv key) r).control.cursors) (λ answer. reply.PollRecv (Ok (stream_reply answer))) (reply.PollRecv (Err alloc_error)) r low is
-      (λ answer. cursors-listens (receive (view_of h) key (cursor_of h.control key)) (stream_of key) (is_empty_reply (try_recv_reply (view_of h) (cursor_of h.control key)))) refl given_by-stream refl (rw same at legal))
+      rw same (gives_reply is_clone h key cursor 0 (cursor_of h.control key) (λ r. (effect (view_of h) (call.PollRecv key) r).control.cursors) (λ answer. reply.PollRecv (Ok (stream_reply answer))) (reply.PollRecv (Err alloc_error)) r low is (is ∙ ap Some (omega arith)) (inl refl)
+      (λ answer. cursors-listens (receive (view_of h) key (cursor_of h.control key)) (stream_of key) (is_empty_reply (try_recv_reply (view_of h) (cursor_of h.control key)))) refl (λ answer _. given_by-stream answer) refl (rw same at legal))
   gives_received is_clone h key cursor (call.PollNext reader) r low is reads legal = let same = same_reader reader key reads in rw same (gives_next is_clone h key cursor r low is (rw same at legal))
   gives_received is_clone h key cursor c r low is reads legal = absurd (false≢true reads)
 

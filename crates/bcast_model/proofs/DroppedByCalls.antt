@@ -13,7 +13,7 @@ use Rattle.bcast_model.specs.declared.run.Reply.TheVariants as reply
 use Rattle.bcast_model.specs.declared.run.Call.TheVariants as call
 use Rattle.bcast_model.proofs.Cases.{test_is, made_is, received_is}
 use Rattle.bcast_model.proofs.Views.{IsBounded, length-queue}
-use Rattle.bcast_model.proofs.SendAll.{floor-offer_all}
+use Rattle.bcast_model.proofs.SendAll.{offer_all_is}
 use Rattle.bcast_model.proofs.DroppedBySends.{FloorChange, stays, passes, hands_back-sent, hands_back-attempted, floor-send, floor-poll_send}
 
 module _ {T : Type 0} where
@@ -50,7 +50,7 @@ module _ {T : Type 0} where
   pub floor-effect : (is_clone : T → T → Type 0) (h : History T) (c : Call T) (r : Reply T) → IsBounded h → Legal is_clone (view_of h) c r → FloorChange h (effect (view_of h) c r) (dropped_by h c r)
   floor-effect is_clone h (call.TryBroadcast msg) r bounded legal =
       rw (legal, hands_back-sent (try_broadcast_reply (view_of h) msg)) (floor-send h msg bounded)
-  floor-effect is_clone h (call.TryBroadcastAll msgs) r bounded legal = stays (floor-offer_all (view_of h) msgs) (none_dropped h r (ap hands_back legal))
+  floor-effect is_clone h (call.TryBroadcastAll msgs) r bounded legal = stays (offer_all_is (λ e. e.floor ≡ 0) (view_of h) msgs refl (λ _ _ _ _. refl)) (none_dropped h r (ap hands_back legal))
   floor-effect is_clone h (call.AttemptSend msg) r bounded legal =
       rw (legal, hands_back-attempted h.control.await_active (try_broadcast_reply (view_of h) msg)) (floor-send h msg bounded)
   floor-effect is_clone h (call.PollSend place msg) r bounded legal = floor-poll_send h place msg r bounded legal

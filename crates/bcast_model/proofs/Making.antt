@@ -1,4 +1,4 @@
--- What calls that make handles keep, and calls that change settings.
+-- What calls keep by which handles are made or leave, or which change settings.
 use Rattle.std.proofs.Common.{◌≡◌, ◌⊎◌, inl, inr, ℕ, ◌+◌, ◌-◌, ◌^◌, ◌<◌, ◌≤◌, ◌==◌, ◌||◌, Bool, not, [], ◌++◌, length, max, drop, Option, Some, None, Result, Ok, Err, nat_lt, refl, sym, ◌∙◌, arith, length-append, length-drop}
 use Rattle.std.proofs.lemmas.Grind.{common_steps}
 use Rattle.std.proofs.lemmas.Option.{none-some}

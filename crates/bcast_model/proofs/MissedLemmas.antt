@@ -1,5 +1,5 @@
 -- What the receivers of a run miss was dropped, and what they are given was not.
-use Rattle.std.proofs.Common.{◌≡◌, ◌⊎◌, inl, inr, ℕ, ◌+◌, ◌-◌, ◌<◌, ◌≤◌, true, false, List, [], ◌∷◌, ◌++◌, length, Some, None, IsNone, ◌↔◌, slice_get, refl, ap, arith, is_some}
+use Rattle.std.proofs.Common.{◌≡◌, ◌⊎◌, inl, inr, ℕ, ◌+◌, ◌-◌, ◌<◌, ◌≤◌, true, false, List, [], ◌∷◌, ◌++◌, length, Some, None, IsNone, ◌↔◌, slice_get, refl, ap, arith, is_some, Option}
 use Rattle.std.proofs.lemmas.Option.{none-some}
 use Rattle.std.proofs.lemmas.List.Elements.{Contains-append_left, Contains-append_right, Contains-append_cases}
 use Rattle.std.specs.List.{AllByRecursion, Contains}
@@ -7,7 +7,7 @@ use Rattle.std.specs.List.Sorted.{IsStrictlyIncreasing}
 use Rattle.bcast_model.specs.Words.{Call, Reply, History, view_of, cursor_of, Legal}
 use Rattle.bcast_model.specs.Words.{HasPositiveCapacity, next, IsValid, IsRun, end_of_run, given_to}
 use Rattle.bcast_model.specs.Words.{deliveries_of, dropped_by, dropped_in, WasDropped, TellsDropped}
-use Rattle.bcast_model.specs.Words.{MissesOnlyDropped, MissesWhatWasDropped}
+use Rattle.bcast_model.specs.Words.{MissesOnlyDropped, MissesWhatWasDropped, missed}
 use Rattle.bcast_model.proofs.DeliveryLists.{in_parts}
 use Rattle.bcast_model.proofs.DeliverySteps.{gives_call}
 use Rattle.bcast_model.proofs.Views.{IsBounded, bounded_valid}
@@ -34,42 +34,37 @@ module _ {T : Type 0} (is_clone : T → T → Type 0) where
       }
 
   -- ---- all deliveries
-  told_gone : (Gone : ℕ → Type 0) (h : History T) (key cursor index : ℕ) (calls : List (Call T)) (replies : List (Reply T)) → IsBounded h → AllByRecursion HasPositiveCapacity calls → IsRun is_clone h calls replies → AreGone is_clone Gone h
-      → cursor_of h.control key ≡ Some cursor → slice_get (deliveries_of key h calls replies) index ≡ Some None → Gone (cursor + index) ⊎ Contains (dropped_in h calls replies) (cursor + index)
-  told_gone Gone h key cursor index [] replies bounded allowed run gone is e = absurd (none-some None e)
-  told_gone Gone h key cursor index (c ∷ calls) [] bounded allowed run gone is e = absurd (none-some None e)
-  told_gone Gone h key cursor index (c ∷ calls) (r ∷ replies) bounded allowed run gone is e =
+  -- what a run tells of the message of this number: it is gone before or dropped, or not under the floor
+  abbrev Told : (ℕ → Type 0) → History T → List ℕ → ℕ → Option T → Type 0
+  Told Gone h dropped n None = Gone n ⊎ Contains dropped n
+  Told Gone h dropped n (Some msg) = h.floor ≤ n
+
+  told_now : (Gone : ℕ → Type 0) (h : History T) (key cursor index : ℕ) (c : Call T) (r : Reply T) (dropped : List ℕ) (entry : Option T) → IsBounded h → AreGone is_clone Gone h → cursor_of h.control key ≡ Some cursor → Legal is_clone (view_of h) c r
+      → slice_get (given_to key c r) index ≡ Some entry → Told Gone h dropped (cursor + index) entry
+  told_now Gone h key cursor index c r dropped None bounded gone is legal e = inl (missed_gone is_clone Gone h key cursor index c r bounded gone is legal e)
+  told_now Gone h key cursor index c r dropped (Some msg) bounded gone is legal e = given_kept is_clone h key cursor index msg c r bounded is legal e
+
+  told_later : (Gone : ℕ → Type 0) (h : History T) (c : Call T) (r : Reply T) (dropped : List ℕ) (n : ℕ) (entry : Option T) → IsBounded h → Legal is_clone (view_of h) c r → Told (λ n. Gone n ⊎ Contains (dropped_by h c r) n) (next h c r) dropped n entry
+      → Told Gone h (dropped_by h c r ++ dropped) n entry
+  told_later Gone h c r dropped n None bounded legal told = joined Gone (dropped_by h c r) dropped n told
+  told_later Gone h c r dropped n (Some msg) bounded legal told = let rises = (drops_next is_clone h c r bounded legal).rises in omega (arith, rises, told)
+
+  told_run : (Gone : ℕ → Type 0) (h : History T) (key cursor index : ℕ) (calls : List (Call T)) (replies : List (Reply T)) (entry : Option T) → IsBounded h → AllByRecursion HasPositiveCapacity calls → IsRun is_clone h calls replies → AreGone is_clone Gone h
+      → cursor_of h.control key ≡ Some cursor → slice_get (deliveries_of key h calls replies) index ≡ Some entry → Told Gone h (dropped_in h calls replies) (cursor + index) entry
+  told_run Gone h key cursor index (c ∷ calls) (r ∷ replies) entry bounded allowed run gone is e =
       let gives = gives_call is_clone h key cursor c r bounded.floor_low is run.0 in
       elim gives.cursor_after [
         | inl after ↦ (let stands : is_some (cursor_of (next h c r).control key) ≡ true = ap is_some after in
-            let entry : slice_get (given_to key c r ++ deliveries_of key (next h c r) calls replies) index ≡ Some None = rw stands at e in
-            elim (in_parts (given_to key c r) (deliveries_of key (next h c r) calls replies) index None entry) [
-              | inl now ↦ inl (missed_gone is_clone Gone h key cursor index c r bounded gone is run.0 now)
+            let now : slice_get (given_to key c r ++ deliveries_of key (next h c r) calls replies) index ≡ Some entry = rw stands at e in
+            elim (in_parts (given_to key c r) (deliveries_of key (next h c r) calls replies) index entry now) [
+              | inl now ↦ told_now Gone h key cursor index c r _ entry bounded gone is run.0 now
               | inr later ↦ (let same : cursor + index ≡ cursor + length (given_to key c r) + (index - length (given_to key c r)) = omega (arith, later.0) in
-                  rw same (joined Gone (dropped_by h c r) (dropped_in (next h c r) calls replies) (cursor + length (given_to key c r) + (index - length (given_to key c r)))
-                  (told_gone (λ n. Gone n ⊎ Contains (dropped_by h c r) n) (next h c r) key (cursor + length (given_to key c r)) (index - length (given_to key c r)) calls replies
+                  rw same (told_later Gone h c r _ _ entry bounded run.0 (told_run (λ n. Gone n ⊎ Contains (dropped_by h c r) n) (next h c r) key (cursor + length (given_to key c r)) (index - length (given_to key c r)) calls replies entry
                   (bounded-next is_clone h c r allowed.0 bounded run.0) allowed.1 run.1 (gone_next is_clone Gone h c r bounded run.0 gone) after later.1)))
             ])
-        | inr after ↦ (let left : is_some (cursor_of (next h c r).control key) ≡ false = ap is_some after.0 in absurd (none-some None (rw (left, after.1) at e)))
+        | inr after ↦ (let left : is_some (cursor_of (next h c r).control key) ≡ false = ap is_some after.0 in absurd (none-some entry (rw (left, after.1) at e)))
       ]
-
-  given_above : (h : History T) (key cursor index : ℕ) (msg : T) (calls : List (Call T)) (replies : List (Reply T)) → IsBounded h → AllByRecursion HasPositiveCapacity calls → IsRun is_clone h calls replies
-      → cursor_of h.control key ≡ Some cursor → slice_get (deliveries_of key h calls replies) index ≡ Some (Some msg) → h.floor ≤ cursor + index
-  given_above h key cursor index msg [] replies bounded allowed run is e = absurd (none-some (Some msg) e)
-  given_above h key cursor index msg (c ∷ calls) [] bounded allowed run is e = absurd (none-some (Some msg) e)
-  given_above h key cursor index msg (c ∷ calls) (r ∷ replies) bounded allowed run is e =
-      let gives = gives_call is_clone h key cursor c r bounded.floor_low is run.0 in
-      elim gives.cursor_after [
-        | inl after ↦ (let stands : is_some (cursor_of (next h c r).control key) ≡ true = ap is_some after in
-            let entry : slice_get (given_to key c r ++ deliveries_of key (next h c r) calls replies) index ≡ Some (Some msg) = rw stands at e in
-            elim (in_parts (given_to key c r) (deliveries_of key (next h c r) calls replies) index (Some msg) entry) [
-              | inl now ↦ given_kept is_clone h key cursor index msg c r bounded is run.0 now
-              | inr later ↦ (let rest = given_above (next h c r) key (cursor + length (given_to key c r)) (index - length (given_to key c r)) msg calls replies (bounded-next is_clone h c r allowed.0 bounded run.0) allowed.1 run.1 after later.1 in
-                  let rises = (drops_next is_clone h c r bounded run.0).rises in
-                  omega (arith, rest, rises, later.0))
-            ])
-        | inr after ↦ (let left : is_some (cursor_of (next h c r).control key) ≡ false = ap is_some after.0 in absurd (none-some (Some msg) (rw (left, after.1) at e)))
-      ]
+  told_run Gone h key cursor index calls replies entry bounded allowed run gone is e = absurd (none-some entry e)
 
   pub deliveries_tile : (h : History T) (calls : List (Call T)) (replies : List (Reply T)) (key start : ℕ) (later : List (Call T)) (later_replies : List (Reply T)) → IsValid h
       → AllByRecursion HasPositiveCapacity calls → IsRun is_clone h calls replies → AllByRecursion HasPositiveCapacity later → IsRun is_clone (end_of_run h calls replies) later later_replies
@@ -78,27 +73,21 @@ module _ {T : Type 0} (is_clone : T → T → Type 0) where
       let bounded = bounded_valid h valid in
       let now = end_of_run h calls replies in
       let there = bounded_run is_clone h calls replies bounded allowed run in
+      let told = λ (index : ℕ) (entry : Option T). told_run (WasDropped h calls replies) now key start index later later_replies entry there allowed_later run_later (gone_from is_clone h calls replies bounded allowed run) is in
       record {
-        missed = λ index e. told_gone (WasDropped h calls replies) now key start index later later_replies there allowed_later run_later (gone_from is_clone h calls replies bounded allowed run) is e;
-        given = λ index msg e dropped.
-            let kept = given_above now key start index msg later later_replies there allowed_later run_later is e in
-            let under = under_floor is_clone h calls replies (start + index) bounded allowed run dropped in
-            omega (arith, kept, under);
+        missed = λ index e. told index None e;
+        given = λ index msg e dropped. let kept = told index (Some msg) e in let under = under_floor is_clone h calls replies (start + index) bounded allowed run dropped in omega (arith, kept, under);
       }
 
   -- ---- from the first call on
   in_all : (h : History T) (dropped more : List ℕ) → AreGone is_clone (λ n. Contains dropped n ⊎ Contains more n) h → AreGone is_clone (Contains (dropped ++ more)) h
-  in_all h dropped more gone = record {
-    each = λ n key cursor is low under. elim (gone.each n key cursor is low under) [
-      | inl before ↦ Contains-append_left dropped more n before
-      | inr now ↦ Contains-append_right dropped more n now
-    ];
-  }
+  in_all h dropped more gone n key cursor is low under = elim (gone n key cursor is low under) [
+    | inl before ↦ Contains-append_left dropped more n before
+    | inr now ↦ Contains-append_right dropped more n now
+  ]
 
   misses_from : (dropped : List ℕ) (h : History T) (calls : List (Call T)) (replies : List (Reply T)) → IsBounded h → AllByRecursion HasPositiveCapacity calls → IsRun is_clone h calls replies
       → AreGone is_clone (Contains dropped) h → ((n : ℕ) → Contains dropped n → n < h.floor) → MissesWhatWasDropped dropped h calls replies
-  misses_from dropped h [] replies bounded allowed run gone under = tt
-  misses_from dropped h (c ∷ calls) [] bounded allowed run gone under = tt
   misses_from dropped h (c ∷ calls) (r ∷ replies) bounded allowed run gone under =
       let drops = drops_next is_clone h c r bounded run.0 in
       let rises = drops.rises in (
@@ -113,10 +102,11 @@ module _ {T : Type 0} (is_clone : T → T → Type 0) where
               | inr now ↦ (within_rising h.floor (next h c r).floor n (dropped_by h c r) drops.rising now).1
             ]),
       )
+  misses_from dropped h calls replies bounded allowed run gone under = tt
 
   -- if no message was dropped before a run, all that its receivers miss is dropped in it
   pub misses_dropped : (h : History T) (calls : List (Call T)) (replies : List (Reply T)) → IsValid h → h.floor ≡ h.first → AllByRecursion HasPositiveCapacity calls → IsRun is_clone h calls replies → MissesWhatWasDropped [] h calls replies
   misses_dropped h calls replies valid fresh allowed run =
       misses_from [] h calls replies (bounded_valid h valid) allowed run
-      (record { each = λ n key cursor is low under. (let from = (valid.cursors key cursor is).0 in absurd (omega (arith, from, low, under, fresh))) })
+      (λ n key cursor is low under. let from = (valid.cursors key cursor is).0 in absurd (omega (arith, from, low, under, fresh)))
       (λ n there. absurd (let k = there.1 in omega (arith, k)))

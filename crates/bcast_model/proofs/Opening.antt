@@ -1,4 +1,4 @@
--- The state of a new channel.
+-- The state of a new channel, and a valid history for each valid view.
 use Rattle.std.proofs.Common.{◌≡◌, inl, ℕ, ◌+◌, ◌-◌, ◌<◌, ◌≤◌, ◌^◌, true, false, cond, [], Some, refl, sym, ◌∙◌, arith, length-drop, ◌↔◌, inr, List, ◌∷◌, ◌++◌, length, drop, replicate, subst, length-append, ap, ◌⊎◌}
 use Rattle.std.proofs.lemmas.Grind.{common_steps}
 use Rattle.std.proofs.lemmas.Option.{none-some, same_Some}

@@ -5,7 +5,7 @@ use Rattle.bcast_model.specs.declared.error.TrySendError.TheVariants as unsent
 use Rattle.bcast_model.specs.Words.{has_no_receiver, Effect, sets, IsValidView, free_room}
 use Rattle.bcast_model.specs.Words.{try_broadcast_all_reply, accept_all, offer_all, View}
 use Rattle.bcast_model.specs.Words.{sends_are_ready}
-use Rattle.bcast_model.proofs.Cases.{stays-accepting, cursors-accepting, test_is}
+use Rattle.bcast_model.proofs.Cases.{stays-accepting, test_is}
 use Rattle.bcast_model.proofs.Lift.{KeepsValid}
 use Rattle.bcast_model.proofs.Kept.{not_not, kept_idle, keeps_sets}
 use Rattle.bcast_model.proofs.Sends.{attended_accepting, sound_accepting, told_accepting}
@@ -20,13 +20,6 @@ module _ {T : Type 0} where
       by_list : (list : List T) → msgs ≡ list → is_ok (try_broadcast_all_reply v msgs) ≡ true → P (accept_all v list)
       by_list [] is e = idle
       by_list (msg ∷ rest) is e = accepted msg rest is e
-
-  -- ---- what it doesn't change
-  pub cursors-offer_all : (v : View T) (msgs : List T) → (offer_all v msgs).control.cursors ≡ v.control.cursors
-  cursors-offer_all v msgs = offer_all_is (λ e. e.control.cursors ≡ v.control.cursors) v msgs refl (λ msg rest is e. cursors-accepting v.control (v.end + length (msg ∷ rest)))
-
-  pub floor-offer_all : (v : View T) (msgs : List T) → (offer_all v msgs).floor ≡ 0
-  floor-offer_all v msgs = offer_all_is (λ e. e.floor ≡ 0) v msgs refl (λ msg rest is e. refl)
 
   -- ---- what is accepted
   -- a list that is not refused finds an open channel with a receiver, and room
@@ -56,7 +49,7 @@ module _ {T : Type 0} where
         let idle = kept_idle v valid in
         let end : ℕ = v.end + length (msg ∷ rest) in
         let below : end < 2 ^ 64 = omega (arith, roomy.numbers, valid.control.open_end roomy.opened) in
-        let same = (stays-accepting v.control end).1.0 in
+        let same = (stays-accepting v.control end).1 in
         record {
           floor = inl refl;
           fits = rw same (simp (length-drop, length-append) (omega (arith, roomy.room, valid.fits)));

@@ -64,7 +64,7 @@ module _ {T : Type 0} where
     keeps_accept msg open_now =
         let idle = kept_idle v valid in
         let below : v.end + 1 < 2 ^ 64 = valid.control.open_end open_now in
-        let same = (stays-accepting v.control (v.end + 1)).1.0 in
+        let same = (stays-accepting v.control (v.end + 1)).1 in
         record {
           floor = test_is (λ n. (n ≡ 0) ⊎ (n < v.end + 1)) (is_full v) (v.front + 1) 0
               (λ e. let full : length v.queue ≡ v.control.capacity = grind (arith, common_steps, e) in inr (omega (arith, full, valid.control.capacity, valid.end)))

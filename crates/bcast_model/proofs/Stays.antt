@@ -1,5 +1,5 @@
--- Which parts of a call leave the capacity, a closed channel closed, and the cursors, as they are.
-use Rattle.std.proofs.Common.{◌≡◌, ℕ, ◌+◌, ◌-◌, ◌==◌, ◌||◌, not, true, cond, List, ◌∷◌, length, Option, Some, None, refl, is_ok, ◌≤◌, Bool, false, arith}
+-- What every call leaves: a positive capacity, a closed channel closed; and which leave the cursors.
+use Rattle.std.proofs.Common.{◌≡◌, ℕ, ◌+◌, ◌-◌, ◌==◌, ◌||◌, not, true, cond, List, ◌∷◌, length, Option, Some, None, is_ok, ◌≤◌}
 use Rattle.std.specs.Option.{option_map_or}
 use Rattle.bcast_model.specs.Words.{Reply, Pair, Control, close_if_deserted, has_place, place_waits}
 use Rattle.bcast_model.specs.Words.{pair_waits, pair_answered, View, sends_are_ready, Effect, sets}
@@ -13,18 +13,15 @@ use Rattle.bcast_model.specs.Words.{skipped_to, resize, effect, History, view_of
 use Rattle.bcast_model.specs.Words.{chosen_id, may_tell, next, HasPositiveCapacity}
 use Rattle.bcast_model.specs.declared.run.Call.TheVariants as call
 use Rattle.bcast_model.proofs.SendAll.{offer_all_is}
-use Rattle.bcast_model.proofs.Cases.{test_is, receive_is, tell_is, Leaves, Stays, kept, stays-close, stays-deserted, stays-accepting}
-
-pub left : (c : Control) → Leaves c c
-left c = (kept c).1
+use Rattle.bcast_model.proofs.Cases.{test_is, receive_is, tell_is, Lasts, Stays, left, kept, stays-close, stays-deserted, stays-accepting}
 
 -- ---- the parts of a call
 module _ (c : Control) where
-  pub leaves-made : (made : ℕ → Control) (id : Option ℕ) → ((n : ℕ) → Leaves c (made n)) → Leaves c (option_map_or made id c)
+  pub leaves-made : (made : ℕ → Control) (id : Option ℕ) → ((n : ℕ) → Lasts (Unit {0}) c (made n)) → Lasts (Unit {0}) c (option_map_or made id c)
   leaves-made made None each = left c
   leaves-made made (Some n) each = each n
 
-  pub leaves-cloned : (cursor key : Option ℕ) → Leaves c (clone_receiver c cursor key)
+  pub leaves-cloned : (cursor key : Option ℕ) → Lasts (Unit {0}) c (clone_receiver c cursor key)
   leaves-cloned (Some cursor) (Some key) = left c
   leaves-cloned cursor key = left c
 
@@ -34,13 +31,13 @@ module _ (c : Control) where
   pub stays-clone_inactive : Stays c (clone_inactive c)
   stays-clone_inactive = test_is (Stays c) ((c.inactive == 0) || not (has_next c.inactive)) c (record c { inactive = c.inactive + 1 }) (λ _. kept c) (λ _. kept c)
 
-pub leaves-dropped : (c : Control) (key : ℕ) (cursor : Option ℕ) → Leaves c (drop_receiver c key cursor)
+pub leaves-dropped : (c : Control) (key : ℕ) (cursor : Option ℕ) → Lasts (Unit {0}) c (drop_receiver c key cursor)
 leaves-dropped c key None = left c
-leaves-dropped c key (Some cursor) = (stays-deserted (without_receiver c key)).1
+leaves-dropped c key (Some cursor) = (stays-deserted (without_receiver c key)).2
 
-pub leaves-deactivate : (c : Control) (key : ℕ) (cursor : Option ℕ) → Leaves c (deactivate c key cursor)
+pub leaves-deactivate : (c : Control) (key : ℕ) (cursor : Option ℕ) → Lasts (Unit {0}) c (deactivate c key cursor)
 leaves-deactivate c key None = left c
-leaves-deactivate c key (Some cursor) = test_is (Leaves c) (has_next c.inactive) (record (without_receiver c key) { inactive = c.inactive + 1 }) c (λ _. left c) (λ _. left c)
+leaves-deactivate c key (Some cursor) = test_is (Lasts (Unit {0}) c) (has_next c.inactive) (record (without_receiver c key) { inactive = c.inactive + 1 }) c (λ _. left c) (λ _. left c)
 
 pub stays-drop_sender : (c : Control) → Stays c (drop_sender c)
 stays-drop_sender c = let now : Control = record c { senders = c.senders - 1 } in test_is (Stays c) (c.senders == 0) c (close_if_deserted now) (λ _. kept c) (λ _. stays-deserted now)
@@ -52,9 +49,9 @@ module _ {T : Type 0} (v : View T) where
   abbrev pub StaysBy : Effect T → Type 0
   StaysBy e = Stays v.control e.control
 
-  pub leaves-receive : (key : ℕ) (cursor : Option ℕ) → Leaves v.control (receive v key cursor)
+  pub leaves-receive : (key : ℕ) (cursor : Option ℕ) → Lasts (Unit {0}) v.control (receive v key cursor)
   leaves-receive key None = left v.control
-  leaves-receive key (Some cursor) = receive_is v (Leaves v.control) key cursor (λ _. left v.control) (λ _ _. left v.control) (λ _ _. left v.control)
+  leaves-receive key (Some cursor) = receive_is v (Lasts (Unit {0}) v.control) key cursor (λ _. left v.control) (λ _ _. left v.control) (λ _ _. left v.control)
 
   pub stays-offer : (msg : T) → StaysBy (offer v msg)
   stays-offer msg = test_is StaysBy (is_ok (try_broadcast_reply v msg)) (accept v msg) (sets v.control) (λ _. stays-accepting v.control (v.end + 1)) (λ _. kept v.control)
@@ -68,61 +65,47 @@ module _ {T : Type 0} (v : View T) where
       test_is StaysBy (has_place v.control place) (cond (sends_are_ready v) (with_place_answered (offer v msg) place) waits) (sets v.control)
       (λ _. test_is StaysBy (sends_are_ready v) (with_place_answered (offer v msg) place) waits (λ _. stays-offer msg) (λ _. kept v.control)) (λ _. kept v.control)
 
-  pub leaves-unless : (c : Control) (r : Reply T) → Leaves v.control c → Leaves v.control (set_unless_refused v r c).control
-  leaves-unless c r then = test_is (λ (e : Effect T). Leaves v.control e.control) (is_out_of_memory r) (sets v.control) (sets c) (λ _. left v.control) (λ _. then)
+  pub leaves-unless : (c : Control) (r : Reply T) → Lasts (Unit {0}) v.control c → Lasts (Unit {0}) v.control (set_unless_refused v r c).control
+  leaves-unless c r then = test_is (λ (e : Effect T). Lasts (Unit {0}) v.control e.control) (is_out_of_memory r) (sets v.control) (sets c) (λ _. left v.control) (λ _. then)
 
-  pub leaves-poll : (r : Reply T) (pair : Pair) (cursor : Option ℕ) → Leaves v.control (set_unless_refused v r (receive_poll v pair cursor)).control
+  pub leaves-poll : (r : Reply T) (pair : Pair) (cursor : Option ℕ) → Lasts (Unit {0}) v.control (set_unless_refused v r (receive_poll v pair cursor)).control
   leaves-poll r pair cursor =
       let c : Control = receive v pair.0 cursor in
-      let moved : Leaves v.control c = leaves-receive pair.0 cursor in
+      let moved : Lasts (Unit {0}) v.control c = leaves-receive pair.0 cursor in
       leaves-unless (receive_poll v pair cursor) r
-      (test_is (Leaves v.control) (is_empty_reply (try_recv_reply v cursor)) (pair_waits c pair) (pair_answered c pair) (λ _. moved) (λ _. moved))
+      (test_is (Lasts (Unit {0}) v.control) (is_empty_reply (try_recv_reply v cursor)) (pair_waits c pair) (pair_answered c pair) (λ _. moved) (λ _. moved))
 
 module _ {T : Type 0} where
   -- ---- each call
-  abbrev is_resize : Call T → Bool
-  is_resize (call.SetCapacity n) = true
-  is_resize c = false
-
-  effect_leaves : (v : View T) (c : Call T) (r : Reply T) → is_resize c ≡ false → Leaves v.control (effect v c r).control
-  effect_leaves v (call.TryBroadcast msg) r other = (stays-offer v msg).1
-  effect_leaves v (call.TryBroadcastAll msgs) r other = (stays-offer_all v msgs).1
-  effect_leaves v (call.AttemptSend msg) r other = (stays-offer v msg).1
-  effect_leaves v call.BeginSend r other = leaves-made v.control (with_place v.control) (chosen_id r) (λ _. left v.control)
-  effect_leaves v (call.PollSend place msg) r other = (stays-poll_send v place msg).1
-  effect_leaves v (call.TryRecv key) r other = leaves-unless v (receive v key (cursor_of v.control key)) r (leaves-receive v key (cursor_of v.control key))
-  effect_leaves v (call.PollFuture key) r other = leaves-poll v r (future_of key) (cursor_of v.control key)
-  effect_leaves v (call.PollRecv key) r other = leaves-poll v r (stream_of key) (cursor_of v.control key)
-  effect_leaves v (call.PollNext key) r other = leaves-poll v r (stream_of key) (skipped_to v.front (cursor_of v.control key))
-  effect_leaves v call.Close r other = (stays-close v.control).1
-  effect_leaves v (call.SetCapacity n) r other = cc
-  effect_leaves v call.NewSender r other = (stays-new_sender v.control).1
-  effect_leaves v call.CloneInactive r other = (stays-clone_inactive v.control).1
-  effect_leaves v (call.Deactivate key) r other = leaves-deactivate v.control key (cursor_of v.control key)
-  effect_leaves v call.NewReceiver r other = leaves-made v.control (λ key. with_cursor v.control key v.end) (chosen_id r) (λ _. left v.control)
-  effect_leaves v call.Activate r other = leaves-made v.control (λ key. record (with_cursor v.control key v.end) { inactive = v.control.inactive - 1 }) (chosen_id r) (λ _. left v.control)
-  effect_leaves v call.ActivateCloned r other = leaves-made v.control (λ key. with_cursor v.control key v.end) (chosen_id r) (λ _. left v.control)
-  effect_leaves v (call.CloneReceiver key) r other = leaves-cloned v.control (cursor_of v.control key) (chosen_id r)
-  effect_leaves v call.DropSender r other = (stays-drop_sender v.control).1
-  effect_leaves v call.DropInactive r other = (stays-drop_inactive v.control).1
-  effect_leaves v (call.DropReceiver key) r other = leaves-dropped v.control key (cursor_of v.control key)
-  effect_leaves v c r other = left v.control
-
-  abbrev Lasts : Call T → Control → Control → Type 0
-  Lasts c old new = (HasPositiveCapacity c → 1 ≤ old.capacity → 1 ≤ new.capacity) × (old.closed ≡ true → new.closed ≡ true)
-
-  lasting : (c : Call T) (old new : Control) → Leaves old new → Lasts c old new
-  lasting c old new l = (λ _ positive. let capacity = l.0 in omega (arith, capacity, positive), l.1)
-
-  effect_lasts : (v : View T) (c : Call T) (r : Reply T) → Lasts c v.control (effect v c r).control
+  effect_lasts : (v : View T) (c : Call T) (r : Reply T) → Lasts (HasPositiveCapacity c) v.control (effect v c r).control
+  effect_lasts v (call.TryBroadcast msg) r = (stays-offer v msg).2
+  effect_lasts v (call.TryBroadcastAll msgs) r = (stays-offer_all v msgs).2
+  effect_lasts v (call.AttemptSend msg) r = (stays-offer v msg).2
+  effect_lasts v call.BeginSend r = leaves-made v.control (with_place v.control) (chosen_id r) (λ _. left v.control)
+  effect_lasts v (call.PollSend place msg) r = (stays-poll_send v place msg).2
+  effect_lasts v (call.TryRecv key) r = leaves-unless v (receive v key (cursor_of v.control key)) r (leaves-receive v key (cursor_of v.control key))
+  effect_lasts v (call.PollFuture key) r = leaves-poll v r (future_of key) (cursor_of v.control key)
+  effect_lasts v (call.PollRecv key) r = leaves-poll v r (stream_of key) (cursor_of v.control key)
+  effect_lasts v (call.PollNext key) r = leaves-poll v r (stream_of key) (skipped_to v.front (cursor_of v.control key))
+  effect_lasts v call.Close r = (stays-close v.control).2
   effect_lasts v (call.SetCapacity n) r =
-      test_is (λ (e : Effect T). Lasts (call.SetCapacity n) v.control e.control) (is_out_of_memory r) (sets v.control) (resize v n) (λ _. (λ _ positive. positive, λ is. is)) (λ _. (λ allowed _. allowed, λ is. is))
-  effect_lasts v c r = lasting c v.control (effect v c r).control (effect_leaves v c r refl)
+      test_is (λ (e : Effect T). Lasts (1 ≤ n) v.control e.control) (is_out_of_memory r) (sets v.control) (resize v n) (λ _. (λ _ some. some, λ is. is)) (λ _. (λ allowed _. allowed, λ is. is))
+  effect_lasts v call.NewSender r = (stays-new_sender v.control).2
+  effect_lasts v call.CloneInactive r = (stays-clone_inactive v.control).2
+  effect_lasts v (call.Deactivate key) r = leaves-deactivate v.control key (cursor_of v.control key)
+  effect_lasts v call.NewReceiver r = leaves-made v.control (λ key. with_cursor v.control key v.end) (chosen_id r) (λ _. left v.control)
+  effect_lasts v call.Activate r = leaves-made v.control (λ key. record (with_cursor v.control key v.end) { inactive = v.control.inactive - 1 }) (chosen_id r) (λ _. left v.control)
+  effect_lasts v call.ActivateCloned r = leaves-made v.control (λ key. with_cursor v.control key v.end) (chosen_id r) (λ _. left v.control)
+  effect_lasts v (call.CloneReceiver key) r = leaves-cloned v.control (cursor_of v.control key) (chosen_id r)
+  effect_lasts v call.DropSender r = (stays-drop_sender v.control).2
+  effect_lasts v call.DropInactive r = (stays-drop_inactive v.control).2
+  effect_lasts v (call.DropReceiver key) r = leaves-dropped v.control key (cursor_of v.control key)
+  effect_lasts v c r = left v.control
 
-  next_lasts : (h : History T) (c : Call T) (r : Reply T) → Lasts c h.control (next h c r).control
+  next_lasts : (h : History T) (c : Call T) (r : Reply T) → Lasts (HasPositiveCapacity c) h.control (next h c r).control
   next_lasts h c r =
       let now = effect_lasts (view_of h) c r in
-      tell_is (λ (after : History T). Lasts c h.control after.control) (may_tell h.control (sends_are_ready (view_of h)) c) (remember h (effect (view_of h) c r)) (λ _. now) (λ _. now)
+      tell_is (λ (after : History T). Lasts (HasPositiveCapacity c) h.control after.control) (may_tell h.control (sends_are_ready (view_of h)) c) (remember h (effect (view_of h) c r)) (λ _. now) (λ _. now)
 
   pub capacity-next : (h : History T) (c : Call T) (r : Reply T) → HasPositiveCapacity c → 1 ≤ h.control.capacity → 1 ≤ (next h c r).control.capacity
   capacity-next h c r = (next_lasts h c r).0

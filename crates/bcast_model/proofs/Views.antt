@@ -1,4 +1,4 @@
--- The view of a valid history.
+-- The view of a valid history, and the front by the floor, the end and the cursors.
 use Rattle.std.proofs.Common.{◌≡◌, inl, inr, ℕ, ◌+◌, ◌-◌, ◌<◌, ◌≤◌, false, cond, List, [], ◌∷◌, length, drop, Some, None, nat_lt, slice_get, zero, suc, refl, sym, ap, ◌∙◌, arith, length-drop, max}
 use Rattle.std.proofs.lemmas.Grind.{common_steps}
 use Rattle.std.proofs.lemmas.Bool.{cases_lt}

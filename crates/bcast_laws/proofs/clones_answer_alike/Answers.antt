@@ -1,5 +1,5 @@
 -- The clone has the cursor of its original.
-use Rattle.bcast_laws.proofs.Clones.{clone_alike}
+use Rattle.bcast_laws.proofs.Answers.{clone_alike}
 use Rattle.bcast_laws.proofs.clones_answer_alike.Goals as goal
 
 pub returns : goal.returns
