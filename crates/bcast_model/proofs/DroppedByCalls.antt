@@ -1,20 +1,101 @@
 -- Which messages each call drops: those from the front up to the floor after it.
-use Rattle.std.proofs.Common.{◌≡◌, inl, inr, ℕ, ◌-◌, ◌<◌, max, Bool, true, false, cond, List, [], ◌∷◌, length, nat_lt, Option, Result, refl, ap, arith, Err, Ok, alloc_error}
-use Rattle.std.specs.declared.alloc.AllocError.{AllocError}
+use Rattle.std.proofs.Common.{◌≡◌, ℕ, ◌+◌, ◌≤◌, not, Bool, true, false, cond, List, [], ◌∷◌, length, Option, Some, None, Result, Ok, Err, slice_get, refl, ap, arith, is_some, is_ok, ◌∙◌, inl, inr, ◌-◌, ◌<◌, max, nat_lt, alloc_error}
 use Rattle.std.proofs.lemmas.Grind.{common_steps}
 use Rattle.std.specs.List.{range_with_len}
-use Rattle.bcast_model.specs.Words.{TryRecvError, Call, Reply, Control, Effect, sets}
-use Rattle.bcast_model.specs.Words.{try_broadcast_reply, Legal, resize, effect, History, view_of}
-use Rattle.bcast_model.specs.Words.{front_number, end_number, queue_of, is_out_of_memory}
-use Rattle.bcast_model.specs.Words.{hands_back, dropped_by, IsReceivedBy, View, cursor_of}
+use Rattle.std.proofs.lemmas.Bool.{false≢true}
+use Rattle.std.specs.declared.alloc.AllocError.{AllocError}
+use Rattle.bcast_model.specs.Words.{TrySendError, Reply, accepting, has_place, place_waits, View}
+use Rattle.bcast_model.specs.Words.{is_full, sends_are_ready, Effect, sets, reply_to_attempt}
+use Rattle.bcast_model.specs.Words.{try_broadcast_reply, attempt_send_reply, accept, offer}
+use Rattle.bcast_model.specs.Words.{with_place_answered, poll_send, History, view_of, front_number}
+use Rattle.bcast_model.specs.Words.{end_number, queue_of, hands_back, SendPoll, must_wait}
+use Rattle.bcast_model.specs.Words.{TryRecvError, Call, Control, Legal, resize, effect}
+use Rattle.bcast_model.specs.Words.{is_out_of_memory, dropped_by, IsReceivedBy, cursor_of}
 use Rattle.bcast_model.specs.Words.{skipped_to, skipped_count, future_reply, stream_reply}
 use Rattle.bcast_model.specs.Words.{next_reply, IsOwed, try_recv_reply}
+use Rattle.bcast_model.specs.declared.error.TrySendError.TheVariants as unsent
+use Rattle.bcast_model.specs.declared.run.SendPoll.TheVariants as send
 use Rattle.bcast_model.specs.declared.run.Reply.TheVariants as reply
 use Rattle.bcast_model.specs.declared.run.Call.TheVariants as call
-use Rattle.bcast_model.proofs.Cases.{test_is, made_is, received_is}
-use Rattle.bcast_model.proofs.Views.{IsBounded, length-queue}
+use Rattle.bcast_model.proofs.Cases.{cursors-accepting, try_is, test_is, made_is, received_is}
+use Rattle.bcast_model.proofs.DeliveryLists.{past_end}
+use Rattle.bcast_model.proofs.Views.{IsBounded, front-le-end, length-queue}
+use Rattle.bcast_model.proofs.Polls.{attempt_waits}
 use Rattle.bcast_model.proofs.SendAll.{offer_all_is}
-use Rattle.bcast_model.proofs.DroppedBySends.{FloorChange, stays, passes, hands_back-sent, hands_back-attempted, floor-send, floor-poll_send}
+
+-- an effect drops no message, or some from the front on while the cursors stay
+pub data FloorChange {T : Type 0} (h : History T) (e : Effect T) (dropped : List ℕ) : Type 0 where
+  stays : e.floor ≡ 0 → dropped ≡ [] → FloorChange h e dropped
+  passes : (count : ℕ) → e.control.cursors ≡ h.control.cursors → e.floor ≡ front_number h + count → front_number h + count ≤ end_number h + length e.accepted → dropped ≡ range_with_len (front_number h) count → FloorChange h e dropped
+
+module _ {T : Type 0} where
+  -- ---- sends
+  -- whether a send hands back a message
+  abbrev pub hands : Result (Option T) (TrySendError T) → Bool
+  hands (Ok back) = is_some back
+  hands (Err error) = false
+
+  pub hands_back-sent : (answer : Result (Option T) (TrySendError T)) → hands_back (reply.TryBroadcast answer) ≡ hands answer
+  hands_back-sent (Ok None) = refl
+  hands_back-sent answer = refl
+
+  pub hands_back-attempted : (await : Bool) (answer : Result (Option T) (TrySendError T)) → hands_back (reply.AttemptSend (reply_to_attempt await answer)) ≡ hands answer
+  hands_back-attempted await (Ok None) = refl
+  hands_back-attempted await (Err (unsent.Full msg)) = refl
+  hands_back-attempted true (Err (unsent.Inactive msg)) = refl
+  hands_back-attempted await answer = refl
+
+  hands_back-poll_send : (answer : SendPoll T) → hands_back (reply.PollSend answer) ≡ hands_back (reply.AttemptSend answer)
+  hands_back-poll_send (send.Ready (Ok (Some oldest))) = refl
+  hands_back-poll_send answer = refl
+
+  -- the oldest message of a full channel is there
+  oldest_there : (h : History T) (o : Option T) → IsBounded h → is_full (view_of h) ≡ true → slice_get (queue_of h) 0 ≡ o → is_some o ≡ true
+  oldest_there h (Some msg) bounded full is = refl
+  oldest_there h None bounded full is =
+      let none = past_end (queue_of h) 0 is in
+      let positive = bounded.capacity in
+      absurd (grind (arith, common_steps, none, positive, full))
+
+  pub floor-send : (h : History T) (msg : T) → IsBounded h → FloorChange h (offer (view_of h) msg) (cond (hands (try_broadcast_reply (view_of h) msg)) (front_number h ∷ []) [])
+  floor-send h msg bounded = try_is (λ answer. FloorChange h (cond (is_ok answer) (accept (view_of h) msg) (sets h.control)) (cond (hands answer) (front_number h ∷ []) [])) (view_of h) msg (λ error e. stays refl refl) (λ e.
+      elim (is_full (view_of h)) as (λ b. is_full (view_of h) ≡ b → FloorChange h
+      (record { control = accepting h.control (end_number h + 1); accepted = msg ∷ []; floor = cond b (front_number h + 1) 0 })
+      (cond (is_some (cond b (slice_get (queue_of h) 0) None)) (front_number h ∷ []) [])) [
+        | true ↦ λ full.
+            let there : is_some (slice_get (queue_of h) 0) ≡ true = oldest_there h (slice_get (queue_of h) 0) bounded full refl in
+            let within = front-le-end h bounded in
+            rw there (passes 1 (cursors-accepting h.control (end_number h + 1)) refl (omega (arith, within)) refl)
+        | false ↦ λ full. stays refl refl
+      ] refl)
+
+  waits_unhanded : (await : Bool) (answer : Result (Option T) (TrySendError T)) → must_wait (reply.PollSend (reply_to_attempt await answer)) ≡ true → hands answer ≡ false
+  waits_unhanded await (Ok back) e = absurd (false≢true e)
+  waits_unhanded await (Err error) e = refl
+
+  not_handed : (v : View T) (msg : T) → sends_are_ready v ≡ false → hands (try_broadcast_reply v msg) ≡ false
+  not_handed v msg ready = waits_unhanded v.control.await_active (try_broadcast_reply v msg) (attempt_waits v msg ∙ ap not ready)
+
+  answered_same : (h : History T) (e : Effect T) (place : ℕ) (dropped : List ℕ) → FloorChange h e dropped → FloorChange h (with_place_answered e place) dropped
+  answered_same h e place dropped (stays floor none) = stays floor none
+  answered_same h e place dropped (passes count cursors floor within is) = passes count cursors floor within is
+
+  pub floor-poll_send : (h : History T) (place : ℕ) (msg : T) (r : Reply T) → IsBounded h → r ≡ reply.PollSend (cond (has_place h.control place) (attempt_send_reply (view_of h) msg) (send.Wait msg)) → FloorChange h (poll_send (view_of h) place msg) (cond (hands_back r) (front_number h ∷ []) [])
+  floor-poll_send h place msg r bounded legal =
+      let v : View T = view_of h in
+      rw legal
+      (elim (has_place h.control place) as (λ b. FloorChange h
+      (cond b (cond (sends_are_ready v) (with_place_answered (offer v msg) place) (sets (place_waits h.control place))) (sets h.control))
+      (cond (hands_back (reply.PollSend (cond b (attempt_send_reply v msg) (send.Wait msg)))) (front_number h ∷ []) [])) [
+        | true ↦
+            rw (hands_back-poll_send (attempt_send_reply v msg), hands_back-attempted h.control.await_active (try_broadcast_reply v msg))
+            (elim (sends_are_ready v) as (λ b. sends_are_ready v ≡ b → FloorChange h
+            (cond b (with_place_answered (offer v msg) place) (sets (place_waits h.control place))) (cond (hands (try_broadcast_reply v msg)) (front_number h ∷ []) [])) [
+              | true ↦ λ ready. answered_same h (offer v msg) place _ (floor-send h msg bounded)
+              | false ↦ λ ready. let none : hands (try_broadcast_reply v msg) ≡ false = not_handed v msg ready in rw none (stays refl refl)
+            ] refl)
+        | false ↦ stays refl refl
+      ])
 
 module _ {T : Type 0} where
   -- ---- a smaller capacity
@@ -39,12 +120,11 @@ module _ {T : Type 0} where
   none_dropped : (h : History T) (r : Reply T) → hands_back r ≡ false → cond (hands_back r) (front_number h ∷ []) [] ≡ []
   none_dropped h r none = ap (λ b. cond b (front_number h ∷ []) []) none
 
-  hands_nothing : {X : Type 0} (is_clone : T → T → Type 0) (v : View T) (key : ℕ) (cursor : Option ℕ) (variant : Result X AllocError → Reply T) (word : Result T TryRecvError → X) (r : Reply T) → ((out : Result X AllocError) → hands_back (variant out) ≡ false) → IsReceivedBy is_clone v key cursor variant word r → hands_back r ≡ false
-  hands_nothing is_clone v key cursor variant word r none legal =
-      received_is (λ r. hands_back r ≡ false) is_clone (IsOwed v key cursor) (λ answer. variant (Ok (word answer))) (variant (Err alloc_error)) (try_recv_reply v cursor) r legal (none _) (λ _ _ _ _ _. none _) (λ _. none _)
-
-  floor-receive : (h : History T) (r : Reply T) (control : Control) → hands_back r ≡ false → FloorChange h (cond (is_out_of_memory r) (sets h.control) (sets control)) (cond (hands_back r) (front_number h ∷ []) [])
-  floor-receive h r control none = test_is (λ e. FloorChange h e (cond (hands_back r) (front_number h ∷ []) [])) (is_out_of_memory r) (sets h.control) (sets control) (λ _. stays refl (none_dropped h r none)) (λ _. stays refl (none_dropped h r none))
+  floor-receive : {X : Type 0} (is_clone : T → T → Type 0) (h : History T) (key : ℕ) (cursor : Option ℕ) (variant : Result X AllocError → Reply T) (word : Result T TryRecvError → X) (r : Reply T) (control : Control) → ((out : Result X AllocError) → hands_back (variant out) ≡ false)
+      → IsReceivedBy is_clone (view_of h) key cursor variant word r → FloorChange h (cond (is_out_of_memory r) (sets h.control) (sets control)) (cond (hands_back r) (front_number h ∷ []) [])
+  floor-receive is_clone h key cursor variant word r control none legal =
+      let nothing = none_dropped h r (received_is (λ r. hands_back r ≡ false) is_clone (IsOwed (view_of h) key cursor) (λ answer. variant (Ok (word answer))) (variant (Err alloc_error)) (try_recv_reply (view_of h) cursor) r legal (none _) (λ _ _ _ _ _. none _) (λ _. none _)) in
+      test_is (λ e. FloorChange h e (cond (hands_back r) (front_number h ∷ []) [])) (is_out_of_memory r) (sets h.control) (sets control) (λ _. stays refl nothing) (λ _. stays refl nothing)
 
   -- ---- each call
   pub floor-effect : (is_clone : T → T → Type 0) (h : History T) (c : Call T) (r : Reply T) → IsBounded h → Legal is_clone (view_of h) c r → FloorChange h (effect (view_of h) c r) (dropped_by h c r)
@@ -55,12 +135,12 @@ module _ {T : Type 0} where
       rw (legal, hands_back-attempted h.control.await_active (try_broadcast_reply (view_of h) msg)) (floor-send h msg bounded)
   floor-effect is_clone h (call.PollSend place msg) r bounded legal = floor-poll_send h place msg r bounded legal
   floor-effect is_clone h (call.SetCapacity n) r bounded legal = floor-unless h (resize (view_of h) n) (is_out_of_memory r) (range_with_len (front_number h) (length (queue_of h) - n)) (floor-resize h n bounded)
-  floor-effect is_clone h (call.TryRecv key) r bounded legal = floor-receive h r _ (hands_nothing is_clone (view_of h) key (cursor_of h.control key) reply.TryRecv (λ answer. answer) r (λ out. refl) legal)
-  floor-effect is_clone h (call.PollFuture key) r bounded legal = floor-receive h r _ (hands_nothing is_clone (view_of h) key (cursor_of h.control key) reply.PollFuture future_reply r (λ out. refl) legal)
-  floor-effect is_clone h (call.PollRecv key) r bounded legal = floor-receive h r _ (hands_nothing is_clone (view_of h) key (cursor_of h.control key) reply.PollRecv stream_reply r (λ out. refl) legal)
+  floor-effect is_clone h (call.TryRecv key) r bounded legal = floor-receive is_clone h key (cursor_of h.control key) reply.TryRecv (λ answer. answer) r _ (λ out. refl) legal
+  floor-effect is_clone h (call.PollFuture key) r bounded legal = floor-receive is_clone h key (cursor_of h.control key) reply.PollFuture future_reply r _ (λ out. refl) legal
+  floor-effect is_clone h (call.PollRecv key) r bounded legal = floor-receive is_clone h key (cursor_of h.control key) reply.PollRecv stream_reply r _ (λ out. refl) legal
   floor-effect is_clone h (call.PollNext key) r bounded legal =
       let cursor = cursor_of h.control key in
-      floor-receive h r _ (hands_nothing is_clone (view_of h) key (skipped_to (front_number h) cursor) reply.PollNext (next_reply (skipped_count (front_number h) cursor)) r (λ out. refl) legal)
+      floor-receive is_clone h key (skipped_to (front_number h) cursor) reply.PollNext (next_reply (skipped_count (front_number h) cursor)) r _ (λ out. refl) legal
   floor-effect is_clone h call.BeginSend r bounded (inl (place, is, free)) = stays refl (none_dropped h r (ap hands_back is))
   floor-effect is_clone h call.BeginSend r bounded (inr is) = stays refl (none_dropped h r (ap hands_back is))
   floor-effect is_clone h call.NewReceiver r bounded legal = stays refl (none_dropped h r (made_is (λ r. hands_back r ≡ false) true h.control.cursors reply.NewReceiver r (inr (refl, legal)) (λ _ _. refl) (λ _. refl)))

@@ -38,7 +38,6 @@ pub mod DeliveryAnswers
 pub mod DeliverySteps
 pub mod DeliveryMessages
 pub mod DeliveryLemmas
-pub mod DroppedBySends
 pub mod DroppedByCalls
 pub mod RisingNumbers
 pub mod MissedSteps

@@ -9,8 +9,7 @@ use Rattle.bcast_model.proofs.Views.{floor_under, IsBounded, front-le-end}
 use Rattle.bcast_model.proofs.Answers.{cursors-next}
 use Rattle.bcast_model.proofs.DeliveryMaps.{came_from}
 use Rattle.bcast_model.proofs.DeliveryCursors.{changes}
-use Rattle.bcast_model.proofs.DroppedBySends.{FloorChange, stays, passes}
-use Rattle.bcast_model.proofs.DroppedByCalls.{floor-effect}
+use Rattle.bcast_model.proofs.DroppedByCalls.{FloorChange, stays, passes, floor-effect}
 use Rattle.bcast_model.proofs.Stays.{capacity-next}
 use Rattle.bcast_model.proofs.RisingNumbers.{contains_range, IsRising, rising_range, rising_wider}
 
