@@ -73,13 +73,9 @@ module _ {T : Type 0} (v : View T) where
       (λ e. test_is P (nat_lt cursor v.end) (with_cursor v.control key (cursor + 1)) v.control (λ f. takes (grind (arith, common_steps, e)) (grind (arith, common_steps, f))) (λ f. none (grind (arith, common_steps, e)) (grind (arith, common_steps, f))))
 
   -- ---- a receive changes neither list of listeners
-  pub waiting_sends-receive : (key : ℕ) (cursor : Option ℕ) → (receive v key cursor).waiting_sends ≡ v.control.waiting_sends
-  waiting_sends-receive key None = refl
-  waiting_sends-receive key (Some cursor) = receive_is (λ now. now.waiting_sends ≡ v.control.waiting_sends) key cursor (λ _. refl) (λ _ _. refl) (λ _ _. refl)
-
-  pub waiting_receives-receive : (key : ℕ) (cursor : Option ℕ) → (receive v key cursor).waiting_receives ≡ v.control.waiting_receives
-  waiting_receives-receive key None = refl
-  waiting_receives-receive key (Some cursor) = receive_is (λ now. now.waiting_receives ≡ v.control.waiting_receives) key cursor (λ _. refl) (λ _ _. refl) (λ _ _. refl)
+  pub lists-receive : (key : ℕ) (cursor : Option ℕ) → ((receive v key cursor).waiting_sends ≡ v.control.waiting_sends) × ((receive v key cursor).waiting_receives ≡ v.control.waiting_receives)
+  lists-receive key None = (refl, refl)
+  lists-receive key (Some cursor) = receive_is (λ now. (now.waiting_sends ≡ v.control.waiting_sends) × (now.waiting_receives ≡ v.control.waiting_receives)) key cursor (λ _. (refl, refl)) (λ _ _. (refl, refl)) (λ _ _. (refl, refl))
 
 module _ {T : Type 0} where
   pub tell_is : (P : History T → Type 0) (may : Bool) (h : History T) → ((may && sends_are_ready (view_of h)) ≡ true → P (with_control h (tell_a_sender h.control))) → ((may && sends_are_ready (view_of h)) ≡ false → P h) → P (end_call may h)

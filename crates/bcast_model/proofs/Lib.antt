@@ -25,7 +25,6 @@ pub mod Opening
 pub mod Clones
 pub mod Polls
 pub mod ListLaws
-pub mod Unrest
 pub mod Rest
 pub mod ToldPolls
 -- what every call leaves

@@ -1,38 +1,78 @@
--- What a poll of a told listener leaves: fewer listeners, or fewer that are told.
-use Rattle.std.proofs.Common.{◌≡◌, ℕ, ◌+◌, ◌≤◌, ◌==◌, Bool, true, false, cond, not, ◌&&◌, List, length, Option, Some, None, refl, sym, ap, ◌∙◌, subst, arith, is_ok}
-use Rattle.bcast_model.specs.Words.{Call, Reply, Listeners, told_ids, is_in, without, Pair}
-use Rattle.bcast_model.specs.Words.{stream_of, future_of, same_place, same_pair, Control, is_ready}
-use Rattle.bcast_model.specs.Words.{tell_a_sender, tell_receivers, has_place, place_waits}
-use Rattle.bcast_model.specs.Words.{pair_answered, pair_waits, cursor_of, View, sends_are_ready}
-use Rattle.bcast_model.specs.Words.{sets, try_broadcast_reply, accept, offer, with_place_answered}
+-- A measure that polls of told listeners lower: fewer listeners are left, or fewer that are told.
+use Rattle.std.proofs.Common.{◌≡◌, ℕ, zero, suc, ◌+◌, ◌*◌, ◌≤◌, Bool, true, false, [], ◌∷◌, length, refl, sym, subst, arith, length-append, ◌==◌, cond, not, ◌&&◌, List, Option, Some, None, ap, ◌∙◌, is_ok}
+use Rattle.std.proofs.lemmas.List.{take-append-drop}
+use Rattle.bcast_model.specs.Words.{Listeners, told_ids, untold_ids, is_in, without, consume}
+use Rattle.bcast_model.specs.Words.{wait_again, IsDistinct, AreInOrder, IsTest, Control, AreListed}
+use Rattle.bcast_model.specs.Words.{listener_count, told_count, Call, Reply, Pair, stream_of}
+use Rattle.bcast_model.specs.Words.{future_of, same_place, same_pair, is_ready, tell_a_sender}
+use Rattle.bcast_model.specs.Words.{tell_receivers, has_place, place_waits, pair_answered}
+use Rattle.bcast_model.specs.Words.{pair_waits, cursor_of, View, sends_are_ready, sets}
+use Rattle.bcast_model.specs.Words.{try_broadcast_reply, accept, offer, with_place_answered}
 use Rattle.bcast_model.specs.Words.{poll_send, receive, Effect, receive_poll, listens, skipped_to}
 use Rattle.bcast_model.specs.Words.{is_empty_reply, try_recv_reply, set_unless_refused}
-use Rattle.bcast_model.specs.Words.{is_out_of_memory, tell_if_ready, settle, next_view, AreListed}
-use Rattle.bcast_model.specs.Words.{IsValidView, listener_count, told_count, polls_told}
+use Rattle.bcast_model.specs.Words.{is_out_of_memory, tell_if_ready, settle, next_view, IsValidView}
+use Rattle.bcast_model.specs.Words.{polls_told}
 use Rattle.bcast_model.specs.declared.run.Call.TheVariants as call
-use Rattle.bcast_model.proofs.Lists.{all_in}
-use Rattle.bcast_model.proofs.Listeners.{told_listed, told_some}
+use Rattle.bcast_model.proofs.Lists.{distinct_apart, all_in}
+use Rattle.bcast_model.proofs.Listeners.{told_listed, told_some, consume_listed}
 use Rattle.bcast_model.proofs.Tests.{test_place, test_pair}
-use Rattle.bcast_model.proofs.Cases.{test_is, close_is, accepting_is, receive_is, waiting_sends-receive, waiting_receives-receive}
+use Rattle.bcast_model.proofs.Cases.{test_is, close_is, accepting_is, receive_is, lists-receive}
 use Rattle.bcast_model.proofs.Receives.{empty_at}
 use Rattle.bcast_model.proofs.Kept.{queue_same}
-use Rattle.bcast_model.proofs.Unrest.{unrest, unrest_gone, unrest_waits, one_gone, waits_last}
+
+-- ---- the measure
+-- 0 + 1 + .. + (n - 1)
+abbrev pub sum_below : ℕ → ℕ
+sum_below zero = 0
+sum_below (suc n) = n + sum_below n
+
+-- what each poll of a told listener lowers
+abbrev pub unrest : Control → ℕ
+unrest c = sum_below (listener_count c) + told_count c
+
+pub triangle : (n : ℕ) → 2 * (sum_below n + n) ≡ n * (n + 1)
+triangle zero = refl
+triangle (suc n) = let r = triangle n in grind (arith, r)
+
+-- one listener is gone, and no more are told than are left
+pub unrest_gone : (c after : Control) → AreListed after → listener_count after + 1 ≡ listener_count c → 1 ≤ told_count c → unrest after + 1 ≤ unrest c
+unrest_gone c after listed gone some =
+    let one_more : suc (listener_count after) ≡ listener_count c = omega arith in
+    let sends = listed.sends.told in
+    let receives = listed.receives.told in
+    subst (λ n. (sum_below (listener_count after) + told_count after) + 1 ≤ sum_below n + told_count c) one_more (omega (arith, sends, receives, some))
+
+-- ---- one list
+module _ {A : Type 0} (same : A → A → Bool) (test : IsTest same) (id : A) (l : Listeners A) (in_order : AreInOrder same l) (told : is_in same id (told_ids l) ≡ true) where
+  pub one_gone : length (consume same id l).ids + 1 ≡ length l.ids
+  one_gone = consume_listed same test id l in_order (told_listed same test id l told)
+
+  told_apart : is_in same id (untold_ids l) ≡ false
+  told_apart = distinct_apart same test id (told_ids l) (untold_ids l) (subst (IsDistinct same) (sym (take-append-drop l.told l.ids)) in_order.distinct) told
+
+  pub waits_last : (length (wait_again same id l).ids ≡ length l.ids) × ((wait_again same id l).told + 1 ≡ l.told)
+  waits_last =
+      let gone = one_gone in
+      let some = told_some same test id l told in
+      let apart = told_apart in
+      let size = length-append (without same id l.ids) (id ∷ []) in
+      rw (apart, told) (omega (arith, gone, size), omega (arith, some))
 
 module _ {T : Type 0} (v : View T) (valid : IsValidView v) where
-  -- ---- telling a sender
-  lowers_gone : (may : Bool) (w : View T) → listener_count w.control + 1 ≡ listener_count v.control → 1 ≤ told_count v.control → AreListed (tell_if_ready may w).control → unrest (tell_if_ready may w).control + 1 ≤ unrest v.control
-  lowers_gone may w gone some listed =
+  -- ---- after an effect, and after a sender was told: the measure is lower
+  abbrev Lowers : Bool → Effect T → Type 0
+  Lowers may e = AreListed (tell_if_ready may (settle v e)).control → unrest (tell_if_ready may (settle v e)).control + 1 ≤ unrest v.control
+
+  lowers_gone : (may : Bool) (e : Effect T) → listener_count e.control + 1 ≡ listener_count v.control → 1 ≤ told_count v.control → Lowers may e
+  lowers_gone may e gone some listed =
+      let w : View T = settle v e in
       let same = test_is (λ (x : View T). listener_count x.control ≡ listener_count w.control) (may && sends_are_ready w) (record w { control = tell_a_sender w.control }) w (λ _. refl) (λ _. refl) in
       unrest_gone v.control (tell_if_ready may w).control listed (ap (λ n. n + 1) same ∙ gone) some
 
   -- none is told if sends were ready before, or are not after it
-  lowers_waits : (may : Bool) (c : Control) → (may && sends_are_ready (settle v (sets c))) ≡ false → listener_count c ≡ listener_count v.control → told_count c + 1 ≡ told_count v.control → unrest (tell_if_ready may (settle v (sets c))).control + 1 ≤ unrest v.control
-  lowers_waits may c untold same fewer =
-      subst (λ b. unrest (cond {A = View T} b (record (settle v (sets c)) { control = tell_a_sender c }) (settle v (sets c))).control + 1 ≤ unrest v.control) (sym untold) (unrest_waits v.control c same fewer)
-
-  never : (b : Bool) → (not b && b) ≡ false
-  never true = refl
-  never false = refl
+  lowers_waits : (may : Bool) (c : Control) → (may && sends_are_ready (settle v (sets c))) ≡ false → listener_count c ≡ listener_count v.control → told_count c + 1 ≡ told_count v.control → Lowers may (sets c)
+  lowers_waits may c untold same fewer listed =
+      subst (λ b. unrest (cond {A = View T} b (record (settle v (sets c)) { control = tell_a_sender c }) (settle v (sets c))).control + 1 ≤ unrest v.control) (sym untold) (subst (λ n. unrest c + 1 ≤ sum_below n + told_count v.control) same (omega arith))
 
   -- ---- receives
   -- a receive that finds nothing moves no cursor
@@ -46,54 +86,47 @@ module _ {T : Type 0} (v : View T) (valid : IsValidView v) where
       (λ _ _. refl)
 
   module _ (pair : Pair) (cursor : Option ℕ) (told : is_in same_pair pair (told_ids v.control.waiting_receives) ≡ true) where
-    receive_answered : AreListed (tell_if_ready (not (sends_are_ready v)) (settle v (sets (pair_answered (receive v pair.0 cursor) pair)))).control
-        → unrest (tell_if_ready (not (sends_are_ready v)) (settle v (sets (pair_answered (receive v pair.0 cursor) pair)))).control + 1 ≤ unrest v.control
-    receive_answered listed =
+    receive_answered : Lowers (not (sends_are_ready v)) (sets (pair_answered (receive v pair.0 cursor) pair))
+    receive_answered =
         let gone = one_gone same_pair test_pair pair v.control.waiting_receives valid.control.lists.receives told in
         let some = told_some same_pair test_pair pair v.control.waiting_receives told in
-        let receives = ap (λ (l : Listeners Pair). length (without same_pair pair l.ids)) (waiting_receives-receive v pair.0 cursor) in
-        let sends = ap (λ (l : Listeners ℕ). length l.ids) (waiting_sends-receive v pair.0 cursor) in
-        lowers_gone (not (sends_are_ready v)) (settle v (sets (pair_answered (receive v pair.0 cursor) pair))) (omega (arith, gone, receives, sends)) (omega (arith, some)) listed
+        let lists = lists-receive v pair.0 cursor in
+        let receives = ap (λ (l : Listeners Pair). length (without same_pair pair l.ids)) lists.1 in
+        let sends = ap (λ (l : Listeners ℕ). length l.ids) lists.0 in
+        lowers_gone (not (sends_are_ready v)) (sets (pair_answered (receive v pair.0 cursor) pair)) (omega (arith, gone, receives, sends)) (omega (arith, some))
 
-    receive_waits : unrest (tell_if_ready (not (sends_are_ready v)) (settle v (sets (pair_waits v.control pair)))).control + 1 ≤ unrest v.control
+    receive_waits : Lowers (not (sends_are_ready v)) (sets (pair_waits v.control pair))
     receive_waits =
         let last = waits_last same_pair test_pair pair v.control.waiting_receives valid.control.lists.receives told in
         let ready : sends_are_ready (settle v (sets (pair_waits v.control pair))) ≡ sends_are_ready v = ap (λ (q : List T). is_ready v.control (length q == v.control.capacity)) (queue_same v valid (pair_waits v.control pair) refl) in
-        lowers_waits (not (sends_are_ready v)) (pair_waits v.control pair) (ap (λ b. not (sends_are_ready v) && b) ready ∙ never (sends_are_ready v))
-        (omega (arith, last.0)) (omega (arith, last.1))
+        lowers_waits (not (sends_are_ready v)) (pair_waits v.control pair) (ap (λ b. not (sends_are_ready v) && b) ready ∙ elim (sends_are_ready v) as (λ b. (not b && b) ≡ false) [ true ↦ refl | false ↦ refl ]) (omega (arith, last.0)) (omega (arith, last.1))
 
-    lowers_receive : AreListed (tell_if_ready (not (sends_are_ready v)) (settle v (sets (receive_poll v pair cursor)))).control
-        → unrest (tell_if_ready (not (sends_are_ready v)) (settle v (sets (receive_poll v pair cursor)))).control + 1 ≤ unrest v.control
-    lowers_receive = elim (is_empty_reply (try_recv_reply v cursor)) as (λ b. is_empty_reply (try_recv_reply v cursor) ≡ b
-        → AreListed (tell_if_ready (not (sends_are_ready v)) (settle v (sets (listens (receive v pair.0 cursor) pair b)))).control
-        → unrest (tell_if_ready (not (sends_are_ready v)) (settle v (sets (listens (receive v pair.0 cursor) pair b)))).control + 1 ≤ unrest v.control) [
-          | true ↦ λ none listed. subst (λ c. unrest (tell_if_ready (not (sends_are_ready v)) (settle v (sets (pair_waits c pair)))).control + 1 ≤ unrest v.control) (sym (nothing_moves pair.0 cursor none)) receive_waits
-          | false ↦ λ found listed. receive_answered listed
-        ] refl
-
-    lowers_unless : (r : Reply T) → is_out_of_memory r ≡ false
-        → AreListed (tell_if_ready (not (sends_are_ready v)) (settle v (set_unless_refused v r (receive_poll v pair cursor)))).control
-        → unrest (tell_if_ready (not (sends_are_ready v)) (settle v (set_unless_refused v r (receive_poll v pair cursor)))).control + 1 ≤ unrest v.control
-    lowers_unless r memory = subst (λ b. AreListed (tell_if_ready (not (sends_are_ready v)) (settle v (cond b (sets v.control) (sets (receive_poll v pair cursor))))).control
-        → unrest (tell_if_ready (not (sends_are_ready v)) (settle v (cond b (sets v.control) (sets (receive_poll v pair cursor))))).control + 1 ≤ unrest v.control) (sym memory) lowers_receive
+    lowers_receive : (r : Reply T) → is_out_of_memory r ≡ false → Lowers (not (sends_are_ready v)) (set_unless_refused v r (receive_poll v pair cursor))
+    lowers_receive r memory = subst (λ b. Lowers (not (sends_are_ready v)) (cond b (sets v.control) (sets (receive_poll v pair cursor)))) (sym memory)
+        (elim (is_empty_reply (try_recv_reply v cursor)) as (λ b. is_empty_reply (try_recv_reply v cursor) ≡ b → Lowers (not (sends_are_ready v)) (sets (listens (receive v pair.0 cursor) pair b))) [
+          | true ↦ λ none. subst (λ c. Lowers (not (sends_are_ready v)) (sets (pair_waits c pair))) (sym (nothing_moves pair.0 cursor none)) receive_waits
+          | false ↦ λ found. receive_answered
+        ] refl)
 
   -- ---- sends
-  offered_ids : (msg : T) → ((offer v msg).control.waiting_sends.ids ≡ v.control.waiting_sends.ids) × ((offer v msg).control.waiting_receives.ids ≡ v.control.waiting_receives.ids)
-  offered_ids msg = test_is (λ (e : Effect T). (e.control.waiting_sends.ids ≡ v.control.waiting_sends.ids) × (e.control.waiting_receives.ids ≡ v.control.waiting_receives.ids)) (is_ok (try_broadcast_reply v msg)) (accept v msg) (sets v.control) (λ _. accepting_is (λ c. (c.waiting_sends.ids ≡ v.control.waiting_sends.ids) × (c.waiting_receives.ids ≡ v.control.waiting_receives.ids)) v.control (v.end + 1)
-      (close_is (λ c. (c.waiting_sends.ids ≡ v.control.waiting_sends.ids) × (c.waiting_receives.ids ≡ v.control.waiting_receives.ids)) (tell_receivers v.control) (λ _. (refl, refl)) (λ _. (refl, refl)))
-      (λ _. (refl, refl))) (λ _. (refl, refl))
+  abbrev HasSameIds : Control → Type 0
+  HasSameIds c = (c.waiting_sends.ids ≡ v.control.waiting_sends.ids) × (c.waiting_receives.ids ≡ v.control.waiting_receives.ids)
+
+  offered_ids : (msg : T) → HasSameIds (offer v msg).control
+  offered_ids msg = test_is (λ (e : Effect T). HasSameIds e.control) (is_ok (try_broadcast_reply v msg)) (accept v msg) (sets v.control)
+      (λ _. accepting_is HasSameIds v.control (v.end + 1) (close_is HasSameIds (tell_receivers v.control) (λ _. (refl, refl)) (λ _. (refl, refl))) (λ _. (refl, refl))) (λ _. (refl, refl))
 
   module _ (place : ℕ) (msg : T) (told : is_in same_place place (told_ids v.control.waiting_sends) ≡ true) where
-    send_answered : (may : Bool) → AreListed (tell_if_ready may (settle v (with_place_answered (offer v msg) place))).control → unrest (tell_if_ready may (settle v (with_place_answered (offer v msg) place))).control + 1 ≤ unrest v.control
-    send_answered may listed =
+    send_answered : (may : Bool) → Lowers may (with_place_answered (offer v msg) place)
+    send_answered may =
         let ids = offered_ids msg in
         let gone = one_gone same_place test_place place v.control.waiting_sends valid.control.lists.sends told in
         let some = told_some same_place test_place place v.control.waiting_sends told in
         let sends = ap (λ ids. length (without same_place place ids)) ids.0 in
         let receives = ap length ids.1 in
-        lowers_gone may (settle v (with_place_answered (offer v msg) place)) (omega (arith, gone, sends, receives)) (omega (arith, some)) listed
+        lowers_gone may (with_place_answered (offer v msg) place) (omega (arith, gone, sends, receives)) (omega (arith, some))
 
-    send_waits : unrest (tell_if_ready false (settle v (sets (place_waits v.control place)))).control + 1 ≤ unrest v.control
+    send_waits : Lowers false (sets (place_waits v.control place))
     send_waits =
         let last = waits_last same_place test_place place v.control.waiting_sends valid.control.lists.sends told in
         lowers_waits false (place_waits v.control place) refl (omega (arith, last.0)) (omega (arith, last.1))
@@ -101,19 +134,14 @@ module _ {T : Type 0} (v : View T) (valid : IsValidView v) where
     placed : has_place v.control place ≡ true
     placed = all_in same_place test_place (λ other. has_place v.control other ≡ true) place v.control.waiting_sends.ids valid.control.lists.places (told_listed same_place test_place place v.control.waiting_sends told)
 
-    lowers_send : AreListed (tell_if_ready (has_place v.control place && sends_are_ready v) (settle v (poll_send v place msg))).control → unrest (tell_if_ready (has_place v.control place && sends_are_ready v) (settle v (poll_send v place msg))).control + 1 ≤ unrest v.control
-    lowers_send = subst (λ b. AreListed (tell_if_ready (b && sends_are_ready v) (settle v (cond b (cond (sends_are_ready v) (with_place_answered (offer v msg) place) (sets (place_waits v.control place))) (sets v.control)))).control
-        → unrest (tell_if_ready (b && sends_are_ready v) (settle v (cond b (cond (sends_are_ready v) (with_place_answered (offer v msg) place) (sets (place_waits v.control place))) (sets v.control)))).control + 1 ≤ unrest v.control) (sym placed)
-        (elim (sends_are_ready v) as (λ b. AreListed (tell_if_ready b (settle v (cond b (with_place_answered (offer v msg) place) (sets (place_waits v.control place))))).control
-        → unrest (tell_if_ready b (settle v (cond b (with_place_answered (offer v msg) place) (sets (place_waits v.control place))))).control + 1 ≤ unrest v.control) [
-          | true ↦ send_answered true
-          | false ↦ λ listed. send_waits
-        ])
+    lowers_send : Lowers (has_place v.control place && sends_are_ready v) (poll_send v place msg)
+    lowers_send = subst (λ b. Lowers (b && sends_are_ready v) (cond b (cond (sends_are_ready v) (with_place_answered (offer v msg) place) (sets (place_waits v.control place))) (sets v.control))) (sym placed)
+        (elim (sends_are_ready v) as (λ b. Lowers b (cond b (with_place_answered (offer v msg) place) (sets (place_waits v.control place)))) [ true ↦ send_answered true | false ↦ send_waits ])
 
   -- a poll of a told listener that isn't out of memory lowers the measure
   pub lowers : (c : Call T) (r : Reply T) → polls_told v.control c ≡ true → is_out_of_memory r ≡ false → AreListed (next_view v c r).control → unrest (next_view v c r).control + 1 ≤ unrest v.control
   lowers (call.PollSend place msg) r told memory = lowers_send place msg told
-  lowers (call.PollFuture key) r told memory = lowers_unless (future_of key) (cursor_of v.control key) told r memory
-  lowers (call.PollRecv key) r told memory = lowers_unless (stream_of key) (cursor_of v.control key) told r memory
-  lowers (call.PollNext key) r told memory = lowers_unless (stream_of key) (skipped_to v.front (cursor_of v.control key)) told r memory
+  lowers (call.PollFuture key) r told memory = lowers_receive (future_of key) (cursor_of v.control key) told r memory
+  lowers (call.PollRecv key) r told memory = lowers_receive (stream_of key) (cursor_of v.control key) told r memory
+  lowers (call.PollNext key) r told memory = lowers_receive (stream_of key) (skipped_to v.front (cursor_of v.control key)) told r memory
   lowers c r told memory = cc

@@ -20,8 +20,7 @@ use Rattle.bcast_model.proofs.Polls.{send_waits_unready}
 use Rattle.bcast_model.proofs.Receives.{empty_at_end}
 use Rattle.bcast_model.proofs.Views.{valid_view}
 use Rattle.bcast_model.proofs.Answers.{next_valid, view_of-next}
-use Rattle.bcast_model.proofs.Unrest.{unrest, triangle}
-use Rattle.bcast_model.proofs.Rest.{lowers}
+use Rattle.bcast_model.proofs.Rest.{unrest, triangle, lowers}
 use Rattle.bcast_model.proofs.Cases.{received_is}
 
 module _ {T : Type 0} (is_clone : T → T → Type 0) where
