@@ -1,5 +1,5 @@
 -- The conditional parts of a call, and its replies, each by its cases.
-use Rattle.std.proofs.Common.{◌≡◌, ℕ, ◌+◌, ◌<◌, ◌≤◌, ◌==◌, ◌&&◌, Bool, true, false, cond, Option, Some, None, Result, Ok, Err, not, nat_lt, inl, inr, refl, sym, subst, arith}
+use Rattle.std.proofs.Common.{◌≡◌, ℕ, ◌+◌, ◌<◌, ◌≤◌, ◌==◌, ◌&&◌, Bool, true, false, cond, Option, Some, None, Result, Ok, Err, not, nat_lt, inl, inr, refl, sym, subst, arith, ◌-◌}
 use Rattle.std.proofs.lemmas.Grind.{common_steps}
 use Rattle.std.specs.FinMap.{get}
 use Rattle.bcast_model.specs.Words.{IsMadeFrom, IsReceived, HandleError, TryRecvError, Cursors}
@@ -8,9 +8,10 @@ use Rattle.bcast_model.specs.Words.{closing, close, is_deserted, close_if_desert
 use Rattle.bcast_model.specs.Words.{with_cursor, History, with_control, view_of, View}
 use Rattle.bcast_model.specs.Words.{sends_are_ready, TrySendError, clone_receiver, end_call}
 use Rattle.bcast_model.specs.Words.{receive, has_no_receiver, is_full, try_broadcast_reply}
-use Rattle.bcast_model.specs.Words.{handed_back}
+use Rattle.bcast_model.specs.Words.{handed_back, kept_at, recv_reply, try_recv_reply, unread}
 use Rattle.bcast_model.specs.declared.error.HandleError.TheVariants as handle
 use Rattle.bcast_model.specs.declared.error.TrySendError.TheVariants as unsent
+use Rattle.bcast_model.specs.declared.error.TryRecvError.TheVariants as unread
 
 -- a value that is one of two, if the test was computed
 pub test_is : {A : Type 0} (P : A → Type 0) (b : Bool) (x y : A) → (b ≡ true → P x) → (b ≡ false → P y) → P (cond b x y)
@@ -71,6 +72,19 @@ module _ {T : Type 0} (v : View T) where
       test_is P (nat_lt cursor v.front) (with_cursor v.control key v.front) (cond (nat_lt cursor v.end) (with_cursor v.control key (cursor + 1)) v.control)
       (λ e. lags (grind (arith, common_steps, e)))
       (λ e. test_is P (nat_lt cursor v.end) (with_cursor v.control key (cursor + 1)) v.control (λ f. takes (grind (arith, common_steps, e)) (grind (arith, common_steps, f))) (λ f. none (grind (arith, common_steps, e)) (grind (arith, common_steps, f))))
+
+  -- ---- what a receive returns and does, by whether the receiver lags
+  pub lagging_reply : (cursor : ℕ) → cursor < v.front → try_recv_reply v (Some cursor) ≡ Err (unread.Overflowed (v.front - cursor))
+  lagging_reply cursor lags = let test : nat_lt cursor v.front ≡ true = grind (arith, common_steps, lags) in rw test refl
+
+  pub passed_reply : (cursor : ℕ) → v.front ≤ cursor → try_recv_reply v (Some cursor) ≡ recv_reply v.control.closed (kept_at v cursor)
+  passed_reply cursor passed = let test : nat_lt cursor v.front ≡ false = grind (arith, common_steps, passed) in rw test refl
+
+  pub lagging_receive : (key cursor : ℕ) → cursor < v.front → receive v key (Some cursor) ≡ with_cursor v.control key v.front
+  lagging_receive key cursor lags = let test : nat_lt cursor v.front ≡ true = grind (arith, common_steps, lags) in rw test refl
+
+  pub passed_receive : (key cursor : ℕ) → v.front ≤ cursor → receive v key (Some cursor) ≡ cond (nat_lt cursor v.end) (with_cursor v.control key (cursor + 1)) v.control
+  passed_receive key cursor passed = let test : nat_lt cursor v.front ≡ false = grind (arith, common_steps, passed) in rw test refl
 
   -- ---- a receive changes neither list of listeners
   pub lists-receive : (key : ℕ) (cursor : Option ℕ) → ((receive v key cursor).waiting_sends ≡ v.control.waiting_sends) × ((receive v key cursor).waiting_receives ≡ v.control.waiting_receives)

@@ -4,13 +4,15 @@ use Rattle.std.proofs.lemmas.Grind.{common_steps}
 use Rattle.std.proofs.lemmas.Option.{none-some, same_Some, slice_get_cases}
 use Rattle.std.proofs.lemmas.List.{length-replicate}
 use Rattle.std.specs.FinMap.{get, insert}
+use Rattle.std.proofs.lemmas.Bool.{cases_lt}
 use Rattle.bcast_model.specs.Words.{TryRecvError, Cursors, with_cursor, cursor_of, History, view_of}
 use Rattle.bcast_model.specs.Words.{front_number, end_number, numbered, kept_at, receive}
-use Rattle.bcast_model.specs.Words.{recv_reply, try_recv_reply, IsGiven}
+use Rattle.bcast_model.specs.Words.{recv_reply, try_recv_reply, IsGiven, unread}
 use Rattle.bcast_model.specs.declared.error.TryRecvError.TheVariants as unread
 use Rattle.bcast_model.proofs.Views.{numbered-queue, first_under}
 use Rattle.bcast_model.proofs.DeliveryMaps.{inserted}
 use Rattle.bcast_model.proofs.DeliveryLists.{within_missed, within_given}
+use Rattle.bcast_model.proofs.Cases.{lagging_reply, passed_reply, lagging_receive, passed_receive}
 
 module _ {T : Type 0} where
   -- what a call gives the receiver `key` at this cursor: messages from the front on, None before it
@@ -111,18 +113,14 @@ module _ {T : Type 0} where
   pub gives_answer : {is_clone : T → T → Type 0} (h : History T) (key cursor skips : ℕ) (answer : Result T TryRecvError) → h.first ≤ h.floor → cursor_of h.control key ≡ Some cursor
       → (skips ≡ 0) ⊎ (cursor + skips ≡ front_number h) → IsAnswer is_clone (try_recv_reply (view_of h) (Some (cursor + skips))) answer
       → Gives is_clone h key cursor (receive (view_of h) key (Some (cursor + skips))).cursors (entries_of skips answer)
-  gives_answer {is_clone = is_clone} h key cursor skips answer low is exact given =
-      elim (nat_lt (cursor + skips) (front_number h)) as (λ b. nat_lt (cursor + skips) (front_number h) ≡ b
-      → IsAnswer is_clone (cond b (Err (unread.Overflowed (front_number h - (cursor + skips)))) (recv_reply h.control.closed (kept_at (view_of h) (cursor + skips)))) answer
-      → Gives is_clone h key cursor (cond b (with_cursor h.control key (front_number h)) (cond (nat_lt (cursor + skips) (end_number h)) (with_cursor h.control key (cursor + skips + 1)) h.control)).cursors (entries_of skips answer)) [
-        | true ↦ λ t given.
-            let lags : cursor + skips < front_number h = grind (arith, common_steps, t) in
-            let none : skips ≡ 0 = elim exact [ inl e ↦ e | inr e ↦ absurd (omega (arith, e, lags)) ] in
-            elim given [
-              | inl e ↦ (let same : front_number h - (cursor + skips) ≡ front_number h - cursor = omega (arith, none) in rw (e, same) (gives_overflowed h key cursor h.control.cursors (omega (arith, lags))))
-              | inr (msg, x, was, copy, e) ↦ ok_err msg _ was
-            ]
-        | false ↦ λ t given.
-            let from : front_number h ≤ cursor + skips = grind (arith, common_steps, t) in
-            gives_found h key cursor skips answer (kept_at (view_of h) (cursor + skips)) low is from exact (numbered-queue h (cursor + skips) (first_under h low) from) given
-      ] refl given
+  gives_answer {is_clone = is_clone} h key cursor skips answer low is exact given = elim (cases_lt (cursor + skips) (front_number h)) [
+    | inl lags ↦
+        let none : skips ≡ 0 = elim exact [ inl e ↦ e | inr e ↦ absurd (omega (arith, e, lags)) ] in
+        let same : front_number h - (cursor + skips) ≡ front_number h - cursor = omega (arith, none) in
+        let is : answer ≡ Err (unread.Overflowed (front_number h - (cursor + skips))) = elim (subst (λ exact. IsAnswer is_clone exact answer) (lagging_reply (view_of h) (cursor + skips) lags) given) [ inl e ↦ e | inr (msg, x, was, copy, e) ↦ ok_err msg _ was ] in
+        rw (lagging_receive (view_of h) key (cursor + skips) lags, is, same) (gives_overflowed h key cursor h.control.cursors (omega (arith, lags)))
+    | inr from ↦
+        rw (passed_receive (view_of h) key (cursor + skips) from)
+        (gives_found h key cursor skips answer (kept_at (view_of h) (cursor + skips)) low is from exact (numbered-queue h (cursor + skips) (first_under h low) from)
+        (subst (λ exact. IsAnswer is_clone exact answer) (passed_reply (view_of h) (cursor + skips) from) given))
+  ]

@@ -1,29 +1,23 @@
 -- What each call does to the receivers' cursors.
-use Rattle.std.proofs.Common.{Ok, Result, ◌≡◌, inl, inr, ℕ, ◌+◌, ◌-◌, ◌≤◌, ◌==◌, max, Bool, true, false, cond, Option, Some, None, nat_lt, refl, sym, ap, subst, arith, Err}
+use Rattle.std.proofs.Common.{Ok, Result, ◌≡◌, inl, inr, ℕ, ◌+◌, ◌-◌, ◌≤◌, ◌==◌, max, Bool, true, false, cond, Option, Some, None, refl, sym, ap, subst, arith, Err}
 use Rattle.std.proofs.lemmas.Grind.{common_steps}
 use Rattle.std.specs.FinMap.{get}
 use Rattle.bcast_model.specs.Words.{IsMadeFrom, HandleError, Call, Reply, Pair, stream_of}
-use Rattle.bcast_model.specs.Words.{future_of, Control, with_cursor, cursor_of, View, Effect, sets}
-use Rattle.bcast_model.specs.Words.{receive, skipped_to, receive_poll, is_empty_reply}
-use Rattle.bcast_model.specs.Words.{try_recv_reply, Legal, resize, set_unless_refused, effect}
-use Rattle.bcast_model.specs.Words.{is_out_of_memory, chosen_id, has_next, drop_receiver}
-use Rattle.bcast_model.specs.Words.{deactivate, without_receiver, clone_receiver, receives_for}
+use Rattle.bcast_model.specs.Words.{future_of, Control, cursor_of, View, Effect, sets, receive}
+use Rattle.bcast_model.specs.Words.{skipped_to, receive_poll, is_empty_reply, try_recv_reply, Legal}
+use Rattle.bcast_model.specs.Words.{resize, set_unless_refused, effect, is_out_of_memory, chosen_id}
+use Rattle.bcast_model.specs.Words.{has_next, drop_receiver, deactivate, without_receiver}
+use Rattle.bcast_model.specs.Words.{clone_receiver, receives_for}
 use Rattle.bcast_model.specs.declared.run.Reply.TheVariants as reply
 use Rattle.bcast_model.specs.declared.run.Call.TheVariants as call
-use Rattle.bcast_model.proofs.Cases.{test_is, uncloned, made_is, stays-close, stays-deserted}
+use Rattle.bcast_model.proofs.Cases.{test_is, receive_is, uncloned, made_is, stays-close, stays-deserted}
 use Rattle.bcast_model.proofs.Stays.{stays-offer, stays-offer_all, stays-poll_send, stays-new_sender, stays-clone_inactive, stays-drop_sender, stays-drop_inactive}
 use Rattle.bcast_model.proofs.DeliveryMaps.{CursorsChange, stay, rise, make_at_end, make_where, leave, cursors-listens, cursors-begin_send}
 
 module _ {T : Type 0} (v : View T) where
   rise_from : (receives : ℕ → Bool) (key from at : ℕ) → receives key ≡ true → get v.control.cursors key ≡ Some from → from ≤ at → CursorsChange v.front v.end receives v.control.cursors (receive v key (Some at)).cursors
-  rise_from receives key from at reads is le =
-      elim (nat_lt at v.front) as (λ b. nat_lt at v.front ≡ b → CursorsChange v.front v.end receives v.control.cursors (cond b (with_cursor v.control key v.front) (cond (nat_lt at v.end) (with_cursor v.control key (at + 1)) v.control)).cursors) [
-        | true ↦ λ t. rise key from v.front reads is (grind (arith, common_steps, t, le)) (inl (omega arith)) refl
-        | false ↦ λ t. elim (nat_lt at v.end) as (λ b. nat_lt at v.end ≡ b → CursorsChange v.front v.end receives v.control.cursors (cond b (with_cursor v.control key (at + 1)) v.control).cursors) [
-          | true ↦ λ u. rise key from (at + 1) reads is (omega arith) (inr (grind (arith, common_steps, u))) refl
-          | false ↦ λ u. stay refl
-        ] refl
-      ] refl
+  rise_from receives key from at reads is le = receive_is v (λ c. CursorsChange v.front v.end receives v.control.cursors c.cursors) key at
+      (λ lags. rise key from v.front reads is (omega (arith, lags, le)) (inl (omega arith)) refl) (λ _ below. rise key from (at + 1) reads is (omega arith) (inr (omega (arith, below))) refl) (λ _ _. stay refl)
 
   -- a receive at the receiver's cursor, and one that continues at the front
   rise_at : (receives : ℕ → Bool) (key : ℕ) (cursor : Option ℕ) → receives key ≡ true → get v.control.cursors key ≡ cursor → CursorsChange v.front v.end receives v.control.cursors (receive v key cursor).cursors

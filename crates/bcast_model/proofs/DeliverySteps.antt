@@ -1,5 +1,5 @@
 -- What each call gives a receiver, and which messages it keeps.
-use Rattle.std.proofs.Common.{◌≡◌, ◌⊎◌, inl, inr, ℕ, ◌+◌, ◌-◌, ◌≤◌, Bool, true, false, cond, [], Option, Some, None, Ok, Err, Result, nat_lt, refl, sym, ap, ◌∙◌, subst, arith, alloc_error, ◌==◌}
+use Rattle.std.proofs.Common.{◌≡◌, ◌⊎◌, inl, inr, ℕ, ◌+◌, ◌-◌, ◌≤◌, Bool, true, false, cond, [], Option, Some, None, Ok, Err, Result, refl, sym, ap, ◌∙◌, subst, arith, alloc_error, ◌==◌}
 use Rattle.std.proofs.lemmas.Bool.{cases_lt, false≢true}
 use Rattle.std.proofs.lemmas.Grind.{common_steps}
 use Rattle.bcast_model.specs.Words.{TryRecvError, Call, Reply, stream_of, future_of, Cursors}
@@ -15,7 +15,7 @@ use Rattle.bcast_model.proofs.Answers.{cursors-next}
 use Rattle.bcast_model.proofs.DeliveryMaps.{cursors-listens, stands_or_left}
 use Rattle.bcast_model.proofs.DeliveryCursors.{changes}
 use Rattle.bcast_model.proofs.DeliveryAnswers.{Gives, entries_of, IsAnswer, gives_nothing, gives_answer, ok_err}
-use Rattle.bcast_model.proofs.Cases.{received_is}
+use Rattle.bcast_model.proofs.Cases.{received_is, passed_reply}
 
 same_reader : (reader key : ℕ) → (reader == key) ≡ true → reader ≡ key
 same_reader reader key reads = grind (arith, common_steps, reads)
@@ -45,9 +45,7 @@ module _ {T : Type 0} where
   found_reached false None n e = cc
 
   received_reached : (v : View T) (cursor n : ℕ) → v.front ≤ cursor → try_recv_reply v (Some cursor) ≡ Err (unread.Overflowed n) → ⊥
-  received_reached v cursor n low e =
-      let past : nat_lt cursor v.front ≡ false = grind (arith, common_steps, low) in
-      found_reached v.control.closed (kept_at v cursor) n (rw past at e)
+  received_reached v cursor n low e = found_reached v.control.closed (kept_at v cursor) n (sym (passed_reply v cursor low) ∙ e)
 
   answer_reached : (is_clone : T → T → Type 0) (exact answer : Result T TryRecvError) → ((n : ℕ) → exact ≡ Err (unread.Overflowed n) → ⊥) → IsAnswer is_clone exact answer → (n : ℕ) → answer ≡ Err (unread.Overflowed n) → ⊥
   answer_reached is_clone exact answer reached (inl same) n e = reached n (sym same ∙ e)

@@ -6,6 +6,7 @@ use Rattle.bcast_model.specs.Words.{Listeners, told_ids, untold_ids, is_in, with
 use Rattle.bcast_model.specs.Words.{join, consume, abandon, wait_again, IsDistinct, AreInOrder}
 use Rattle.bcast_model.specs.Words.{IsTest}
 use Rattle.bcast_model.proofs.Lists.{all_more, all_fewer, all_append, all_later, all_without, all_absent, absent, some, without-append, in-append, distinct_left, distinct_without, length-without}
+use Rattle.bcast_model.proofs.Cases.{test_is}
 
 module _ {A : Type 0} (same : A → A → Bool) (test : IsTest same) where
   -- taking an id out of the told and the untold part
@@ -66,6 +67,13 @@ module _ {A : Type 0} (same : A → A → Bool) (test : IsTest same) where
   pub told_some : (id : A) (l : Listeners A) → is_in same id (told_ids l) ≡ true → 1 ≤ l.told
   told_some id l h = let s = some same id (take l.told l.ids) h in omega (arith, length-take l.told l.ids)
 
+  -- ---- a listener that was dropped, and one that must wait, each by its cases
+  abandon_is : (P : Listeners A → Type 0) (id : A) (l : Listeners A) → P (tell 1 (consume same id l)) → P (consume same id l) → P (abandon same id l)
+  abandon_is P id l passed gone = test_is P (is_in same id (told_ids l)) (tell 1 (consume same id l)) (consume same id l) (λ _. passed) (λ _. gone)
+
+  waits_is : (P : Listeners A → Type 0) (id : A) (l : Listeners A) → P l → P (join id (consume same id l)) → P (wait_again same id l)
+  waits_is P id l stays joins = test_is P (is_in same id (untold_ids l)) l (join id (consume same id l)) (λ _. stays) (λ _. joins)
+
   -- ---- which ones are not told
   pub untold_tell : (P : A → Type 0) (n : ℕ) (l : Listeners A) → AllByRecursion P (untold_ids l) → AllByRecursion P (untold_ids (tell n l))
   untold_tell P n l a = all_later P l.told (max l.told (min n (length l.ids))) l.ids (omega arith) a
@@ -79,20 +87,13 @@ module _ {A : Type 0} (same : A → A → Bool) (test : IsTest same) where
   pub untold_abandon : (P : A → Type 0) (id : A) (l : Listeners A) → AreInOrder same l → AllByRecursion P (untold_ids l) → AllByRecursion (λ other. P other × (same id other ≡ false)) (untold_ids (abandon same id l))
   untold_abandon P id l o a =
       let u = untold_consume P id l o a in
-      elim (is_in same id (told_ids l)) as (λ b. AllByRecursion (λ other. P other × (same id other ≡ false)) (untold_ids (cond b (tell 1 (consume same id l)) (consume same id l)))) [
-        | true ↦ untold_tell (λ other. P other × (same id other ≡ false)) 1 (consume same id l) u
-        | false ↦ u
-      ]
+      abandon_is (λ now. AllByRecursion (λ other. P other × (same id other ≡ false)) (untold_ids now)) id l (untold_tell (λ other. P other × (same id other ≡ false)) 1 (consume same id l) u) u
 
   pub untold_waits : (P : A → Type 0) (id : A) (l : Listeners A) → AreInOrder same l → P id → AllByRecursion P (untold_ids l) → AllByRecursion P (untold_ids (wait_again same id l))
   untold_waits P id l o p a =
-      let u = untold_consume P id l o a in
-      let s = in_order_consume id l o in
-      elim (is_in same id (untold_ids l)) as (λ b. AllByRecursion P (untold_ids (cond b l (join id (consume same id l))))) [
-        | true ↦ a
-        | false ↦ subst (AllByRecursion P) (sym (drop-append-le (consume same id l).told (consume same id l).ids (id ∷ []) s.told))
-            (all_append P (untold_ids (consume same id l)) (id ∷ []) (all_more (λ other. P other × (same id other ≡ false)) P (untold_ids (consume same id l)) (λ other q. q.0) u) (p, tt))
-      ]
+      let u = all_more (λ other. P other × (same id other ≡ false)) P (untold_ids (consume same id l)) (λ other q. q.0) (untold_consume P id l o a) in
+      waits_is (λ now. AllByRecursion P (untold_ids now)) id l a
+      (subst (AllByRecursion P) (sym (drop-append-le (consume same id l).told (consume same id l).ids (id ∷ []) (in_order_consume id l o).told)) (all_append P (untold_ids (consume same id l)) (id ∷ []) u (p, tt)))
 
   -- ---- the lists stay in order
   pub in_order_tell : (n : ℕ) (l : Listeners A) → AreInOrder same l → AreInOrder same (tell n l)
@@ -105,23 +106,14 @@ module _ {A : Type 0} (same : A → A → Bool) (test : IsTest same) where
   in_order_join id l h o = record { distinct = distinct_join id l.ids o.distinct h; told = omega (arith, o.told, length-append l.ids (id ∷ [])) }
 
   pub in_order_abandon : (id : A) (l : Listeners A) → AreInOrder same l → AreInOrder same (abandon same id l)
-  in_order_abandon id l o = elim (is_in same id (told_ids l)) as (λ b. AreInOrder same (cond b (tell 1 (consume same id l)) (consume same id l))) [
-    | true ↦ in_order_tell 1 (consume same id l) (in_order_consume id l o)
-    | false ↦ in_order_consume id l o
-  ]
+  in_order_abandon id l o = abandon_is (AreInOrder same) id l (in_order_tell 1 (consume same id l) (in_order_consume id l o)) (in_order_consume id l o)
 
   pub in_order_waits : (id : A) (l : Listeners A) → AreInOrder same l → AreInOrder same (wait_again same id l)
-  in_order_waits id l o = elim (is_in same id (untold_ids l)) as (λ b. AreInOrder same (cond b l (join id (consume same id l)))) [
-    | true ↦ o
-    | false ↦ in_order_join id (consume same id l) (absent_without id l.ids) (in_order_consume id l o)
-  ]
+  in_order_waits id l o = waits_is (AreInOrder same) id l o (in_order_join id (consume same id l) (absent_without id l.ids) (in_order_consume id l o))
 
   -- ---- one is told
   pub fewer : (id : A) (l : Listeners A) → AreInOrder same l → length (consume same id l).ids ≤ length l.ids
-  fewer id l o = elim (is_in same id l.ids) as (λ b. length (without same id l.ids) ≡ cond b (length l.ids - 1) (length l.ids) → length (without same id l.ids) ≤ length l.ids) [
-    | true ↦ λ e. omega arith
-    | false ↦ λ e. omega arith
-  ] (length-without same test id l.ids o.distinct)
+  fewer id l o = rw (length-without same test id l.ids o.distinct) (test_is (λ n. n ≤ length l.ids) (is_in same id l.ids) (length l.ids - 1) (length l.ids) (λ _. omega arith) (λ _. omega arith))
 
   pub one_abandon : (id : A) (l : Listeners A) → AreInOrder same l → (0 < length l.ids → 1 ≤ l.told) → 0 < length (abandon same id l).ids → 1 ≤ (abandon same id l).told
   one_abandon id l o one = elim (is_in same id (told_ids l)) as (λ b. is_in same id (told_ids l) ≡ b → 0 < length (cond b (tell 1 (consume same id l)) (consume same id l)).ids → 1 ≤ (cond b (tell 1 (consume same id l)) (consume same id l)).told) [
@@ -131,13 +123,10 @@ module _ {A : Type 0} (same : A → A → Bool) (test : IsTest same) where
 
   -- ---- which ones are left
   pub abandon_ids : (id : A) (l : Listeners A) → (abandon same id l).ids ≡ without same id l.ids
-  abandon_ids id l = elim (is_in same id (told_ids l)) as (λ b. (cond b (tell 1 (consume same id l)) (consume same id l)).ids ≡ without same id l.ids) [ true ↦ refl | false ↦ refl ]
+  abandon_ids id l = abandon_is (λ now. now.ids ≡ without same id l.ids) id l refl refl
 
   pub all_abandon : (P : A → Type 0) (id : A) (l : Listeners A) → AllByRecursion P l.ids → AllByRecursion (λ other. P other × (same id other ≡ false)) (abandon same id l).ids
   all_abandon P id l a = subst (AllByRecursion (λ other. P other × (same id other ≡ false))) (sym (abandon_ids id l)) (all_without same P id l.ids a)
 
   pub all_waits : (P : A → Type 0) (id : A) (l : Listeners A) → P id → AllByRecursion P l.ids → AllByRecursion P (wait_again same id l).ids
-  all_waits P id l p a = elim (is_in same id (untold_ids l)) as (λ b. AllByRecursion P (cond b l (join id (consume same id l))).ids) [
-    | true ↦ a
-    | false ↦ all_append P (without same id l.ids) (id ∷ []) (all_fewer same P id l.ids a) (p, tt)
-  ]
+  all_waits P id l p a = waits_is (λ now. AllByRecursion P now.ids) id l a (all_append P (without same id l.ids) (id ∷ []) (all_fewer same P id l.ids a) (p, tt))

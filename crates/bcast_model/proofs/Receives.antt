@@ -1,5 +1,5 @@
 -- What receives keep, and the polls of receivers.
-use Rattle.std.proofs.Common.{◌≡◌, inl, inr, ℕ, ◌+◌, ◌-◌, ◌<◌, ◌≤◌, Bool, true, false, cond, not, length, max, Option, Some, None, Err, nat_lt, slice_get, refl, sym, ap, ◌∙◌, arith}
+use Rattle.std.proofs.Common.{◌≡◌, inl, inr, ℕ, ◌+◌, ◌-◌, ◌<◌, ◌≤◌, Bool, true, false, not, length, max, Option, Some, None, Err, slice_get, refl, sym, ap, ◌∙◌, arith}
 use Rattle.std.proofs.lemmas.Grind.{common_steps}
 use Rattle.std.proofs.lemmas.Bool.{cases_lt}
 use Rattle.std.proofs.lemmas.Option.{same_Some, slice_get_past}
@@ -10,7 +10,7 @@ use Rattle.bcast_model.specs.Words.{Reply, consume, wait_again, Pair, same_pair,
 use Rattle.bcast_model.specs.Words.{with_cursor, receive, listens, skipped_to, recv_reply}
 use Rattle.bcast_model.specs.Words.{is_empty_reply, receive_poll, try_recv_reply, is_out_of_memory}
 use Rattle.bcast_model.specs.Words.{View, sends_are_ready, sets, set_unless_refused, IsValidView}
-use Rattle.bcast_model.proofs.Cases.{test_is, receive_is}
+use Rattle.bcast_model.proofs.Cases.{test_is, receive_is, lagging_reply, passed_reply}
 use Rattle.bcast_model.proofs.WaitingReceives.{receives_consumed, receives_waiting}
 use Rattle.bcast_model.proofs.Sound.{IsNoLower, IsKept}
 use Rattle.bcast_model.proofs.Views.{lagging}
@@ -35,17 +35,16 @@ module _ {T : Type 0} where
   found_none false None e = (refl, refl)
 
   pub empty_at : (v : View T) (cursor : ℕ) → is_empty_reply (try_recv_reply v (Some cursor)) ≡ true → IsEmptyAt v cursor
-  empty_at v cursor e = elim (nat_lt cursor v.front) as (λ b. nat_lt cursor v.front ≡ b → is_empty_reply (cond b (Err (unread.Overflowed (v.front - cursor))) (recv_reply v.control.closed (slice_get v.queue (cursor - v.front)))) ≡ true → IsEmptyAt v cursor) [
-    | true ↦ λ t e. cc
-    | false ↦ λ t e. (let f = found_none v.control.closed (slice_get v.queue (cursor - v.front)) e in record { kept = grind (arith, common_steps, t); read = past_end v.queue (cursor - v.front) f.0; is_open = f.1 })
-  ] refl e
+  empty_at v cursor e = elim (cases_lt cursor v.front) [
+    | inl lags ↦ (let some = sym (ap is_empty_reply (lagging_reply v cursor lags)) ∙ e in cc)
+    | inr passed ↦ (let f = found_none v.control.closed (slice_get v.queue (cursor - v.front)) (sym (ap is_empty_reply (passed_reply v cursor passed)) ∙ e) in record { kept = passed; read = past_end v.queue (cursor - v.front) f.0; is_open = f.1 })
+  ]
 
   -- a receiver that has read all messages of an open channel finds nothing
   pub empty_at_end : (v : View T) → IsValidView v → v.control.closed ≡ false → try_recv_reply v (Some v.end) ≡ Err unread.Empty
   empty_at_end v valid is_open =
-      let reached : nat_lt v.end v.front ≡ false = let high = valid.high in grind (arith, common_steps, high) in
       let none : slice_get v.queue (v.end - v.front) ≡ None = slice_get_past v.queue (v.end - v.front) (omega (arith, valid.end)) in
-      rw (reached, none, is_open) refl
+      passed_reply v v.end valid.high ∙ rw (none, is_open) refl
 
   module _ (v : View T) (valid : IsValidView v) where
     kept_moved : (key cursor to : ℕ) → get v.control.cursors key ≡ Some cursor → cursor < v.end → to ≤ v.end → IsNoLower v to → IsKept v (with_cursor v.control key to)
