@@ -1,5 +1,5 @@
 -- What a receive returns, by the shared messages and the receiver's own cursor; clones receive alike.
-use Rattle.std.proofs.Common.{◌≡◌, inl, inr, ◌≢◌, ℕ, ◌+◌, ◌-◌, ◌<◌, ◌≤◌, ◌==◌, true, false, cond, [], ◌++◌, Option, Some, None, Err, nat_lt, slice_get, refl, sym, ap, ◌∙◌, arith, append-nil, Ok, is_some}
+use Rattle.std.proofs.Common.{◌≡◌, inl, inr, ◌≢◌, ℕ, ◌+◌, ◌-◌, ◌<◌, ◌≤◌, ◌==◌, true, cond, [], ◌++◌, Option, Some, None, Err, nat_lt, slice_get, refl, sym, ap, ◌∙◌, arith, append-nil, Ok, is_some}
 use Rattle.std.proofs.lemmas.Grind.{common_steps}
 use Rattle.std.proofs.lemmas.Bool.{cases_lt}
 use Rattle.std.specs.FinMap.{get}
@@ -8,14 +8,14 @@ use Rattle.bcast_model.specs.declared.run.Call.{Call}
 use Rattle.bcast_model.specs.declared.run.Call.TheVariants as call
 use Rattle.bcast_model.specs.declared.run.Reply.{Reply}
 use Rattle.bcast_model.specs.Words.{Pair, stream_of, future_of, Control, pair_waits, pair_answered}
-use Rattle.bcast_model.specs.Words.{cursor_of, View, kept_at, sends_are_ready, Effect, sets}
-use Rattle.bcast_model.specs.Words.{receive, listens, skipped_to, receive_poll, is_empty_reply}
-use Rattle.bcast_model.specs.Words.{recv_reply, try_recv_reply, set_unless_refused, effect, History}
-use Rattle.bcast_model.specs.Words.{view_of, remember, front_number, numbered, is_out_of_memory}
-use Rattle.bcast_model.specs.Words.{may_tell, next, receives_for, clone_receiver, Legal, IsValid}
+use Rattle.bcast_model.specs.Words.{cursor_of, View, sends_are_ready, Effect, sets, receive}
+use Rattle.bcast_model.specs.Words.{listens, skipped_to, receive_poll, is_empty_reply, recv_reply}
+use Rattle.bcast_model.specs.Words.{try_recv_reply, set_unless_refused, effect, History, view_of}
+use Rattle.bcast_model.specs.Words.{remember, front_number, numbered, is_out_of_memory, may_tell}
+use Rattle.bcast_model.specs.Words.{next, receives_for, clone_receiver, Legal, IsValid}
 use Rattle.bcast_model.specs.declared.run.Reply.TheVariants as reply
 use Rattle.bcast_laws.specs.Receives.{ShareMessages}
-use Rattle.bcast_model.proofs.Cases.{test_is, receive_is, tell_is}
+use Rattle.bcast_model.proofs.Cases.{test_is, receive_is, tell_is, lagging_reply, passed_reply}
 use Rattle.bcast_model.proofs.Views.{numbered-queue, first_under, front-le-cursor}
 use Rattle.bcast_model.proofs.DeliveryMaps.{inserted_other, inserted}
 use Rattle.bcast_model.proofs.Answers.{cursors-next}
@@ -37,15 +37,10 @@ differs_too one reader key same differs e = let is : one ≡ reader = grind (ari
 module _ {T : Type 0} where
   -- a receiver that lags missed messages; one past the front finds the message there, if any
   pub lagging_answer : (v : View T) (cursor : ℕ) → cursor < v.front → try_recv_reply v (Some cursor) ≡ Err (unread.Overflowed (v.front - cursor))
-  lagging_answer v cursor lags =
-      let test : nat_lt cursor v.front ≡ true = grind (arith, common_steps, lags) in
-      ap (λ b. cond b (Err (unread.Overflowed (v.front - cursor))) (recv_reply v.control.closed (kept_at v cursor))) test
+  lagging_answer v cursor lags = lagging_reply v cursor lags
 
   passed_answer : (h : History T) (cursor : ℕ) → h.first ≤ h.floor → front_number h ≤ cursor → try_recv_reply (view_of h) (Some cursor) ≡ recv_reply h.control.closed (numbered h cursor)
-  passed_answer h cursor low passed =
-      let test : nat_lt cursor (front_number h) ≡ false = grind (arith, common_steps, passed) in
-      ap (λ b. cond b (Err (unread.Overflowed (front_number h - cursor))) (recv_reply h.control.closed (kept_at (view_of h) cursor))) test
-      ∙ ap (recv_reply h.control.closed) (sym (numbered-queue h cursor (first_under h low) passed))
+  passed_answer h cursor low passed = passed_reply (view_of h) cursor passed ∙ ap (recv_reply h.control.closed) (sym (numbered-queue h cursor (first_under h low) passed))
 
   module _ (h other : History T) (key : ℕ) (low : h.first ≤ h.floor) (shared : ShareMessages h other) where
     same_number : (n : ℕ) → numbered other n ≡ numbered h n

@@ -1,16 +1,17 @@
 -- A receiver that missed messages finds a message at its next try.
-use Rattle.std.proofs.Common.{◌≡◌, ℕ, ◌-◌, ◌<◌, ◌≤◌, true, false, cond, Option, Some, None, Result, Ok, Err, nat_lt, refl, subst, arith, IsOk}
-use Rattle.std.proofs.lemmas.Grind.{common_steps}
+use Rattle.std.proofs.Common.{◌≡◌, ℕ, ◌-◌, ◌<◌, ◌≤◌, true, Option, Some, None, Result, Ok, Err, refl, subst, arith, IsOk, inl, inr, sym, ◌∙◌}
+use Rattle.std.proofs.lemmas.Bool.{cases_lt}
 use Rattle.bcast_model.specs.declared.error.TryRecvError.{TryRecvError}
 use Rattle.bcast_model.specs.declared.error.TryRecvError.TheVariants as unread
 use Rattle.bcast_model.specs.declared.run.Call.TheVariants as call
 use Rattle.bcast_model.specs.declared.run.Reply.TheVariants as reply
-use Rattle.bcast_model.specs.Words.{cursor_of, View, kept_at, recv_reply, try_recv_reply, History}
-use Rattle.bcast_model.specs.Words.{view_of, front_number, next, IsValid, unread}
+use Rattle.bcast_model.specs.Words.{cursor_of, View, kept_at, try_recv_reply, History, view_of}
+use Rattle.bcast_model.specs.Words.{front_number, next, IsValid, unread}
 use Rattle.bcast_laws.specs.Unread.{after_try}
 use Rattle.bcast_model.proofs.Views.{valid_view, lagging}
 use Rattle.bcast_model.proofs.DeliverySteps.{found_reached}
 use Rattle.bcast_laws.proofs.Unread.{valid_after, same_end, left_at_front, gives}
+use Rattle.bcast_model.proofs.Cases.{lagging_reply, passed_reply}
 
 module _ {T : Type 0} where
   same_count : (m n : ℕ) → ◌≡◌ {A = Result T TryRecvError} (Err (unread.Overflowed m)) (Err (unread.Overflowed n)) → m ≡ n
@@ -25,11 +26,10 @@ module _ {T : Type 0} where
 
   lags_at : (v : View T) (key n : ℕ) (cursor : Option ℕ) → cursor_of v.control key ≡ cursor → try_recv_reply v cursor ≡ Err (unread.Overflowed n) → Lags v key n
   lags_at v key n None at e = absurd (found_reached true None n e)
-  lags_at v key n (Some cursor) at e =
-      elim (nat_lt cursor v.front) as (λ b. nat_lt cursor v.front ≡ b → cond b (Err (unread.Overflowed (v.front - cursor))) (recv_reply v.control.closed (kept_at v cursor)) ≡ Err (unread.Overflowed n) → Lags v key n) [
-        | true ↦ λ t e. record { cursor = cursor; at = at; low = grind (arith, common_steps, t); count = same_count (v.front - cursor) n e }
-        | false ↦ λ t e. absurd (found_reached v.control.closed (kept_at v cursor) n e)
-      ] refl e
+  lags_at v key n (Some cursor) at e = elim (cases_lt cursor v.front) [
+    | inl lags ↦ record { cursor = cursor; at = at; low = lags; count = same_count (v.front - cursor) n (sym (lagging_reply v cursor lags) ∙ e) }
+    | inr passed ↦ absurd (found_reached v.control.closed (kept_at v cursor) n (sym (passed_reply v cursor passed) ∙ e))
+  ]
 
   -- it was left at the front, and finds the message there
   pub missed_finds : (h : History T) (key n : ℕ) → IsValid h → try_recv_reply (view_of h) (cursor_of h.control key) ≡ Err (unread.Overflowed n)

@@ -1,15 +1,14 @@
 -- A refused call changes nothing.
-use Rattle.std.proofs.Common.{◌≡◌, inl, inr, ℕ, ◌+◌, ◌-◌, ◌≤◌, ◌==◌, ◌&&◌, not, Bool, true, false, cond, List, length, max, Option, Some, None, Result, Ok, Err, nat_lt, refl, sym, ap, ◌∙◌, arith, append-nil, alloc_error, is_ok, ◌||◌, is_some}
-use Rattle.std.proofs.lemmas.Grind.{common_steps}
+use Rattle.std.proofs.Common.{◌≡◌, inl, inr, ℕ, ◌+◌, ◌-◌, ◌==◌, ◌&&◌, not, Bool, true, false, cond, List, max, Option, Some, None, Result, Ok, Err, refl, sym, ap, ◌∙◌, arith, append-nil, alloc_error, is_ok, ◌||◌, is_some}
+use Rattle.std.proofs.lemmas.Option.{slice_get_cases}
 use Rattle.bcast_model.specs.declared.error.TrySendError.{TrySendError}
 use Rattle.bcast_model.specs.declared.error.TryRecvError.{TryRecvError}
-use Rattle.bcast_model.specs.declared.error.TryRecvError.TheVariants as unread
 use Rattle.bcast_model.specs.declared.run.Call.{Call}
 use Rattle.bcast_model.specs.declared.run.Call.TheVariants as call
 use Rattle.bcast_model.specs.declared.run.Reply.{Reply}
 use Rattle.bcast_model.specs.declared.run.Reply.TheVariants as reply
-use Rattle.bcast_model.specs.Words.{Control, tell_a_sender, closing, with_cursor, cursor_of, View}
-use Rattle.bcast_model.specs.Words.{kept_at, sends_are_ready, Effect, sets, try_broadcast_reply}
+use Rattle.bcast_model.specs.Words.{Control, tell_a_sender, closing, cursor_of, View}
+use Rattle.bcast_model.specs.Words.{sends_are_ready, Effect, sets, try_broadcast_reply}
 use Rattle.bcast_model.specs.Words.{reply_to_attempt, accept, try_broadcast_all_reply, accept_all}
 use Rattle.bcast_model.specs.Words.{receive, recv_reply, skipped_count, skipped_to, future_reply}
 use Rattle.bcast_model.specs.Words.{stream_reply, next_reply, try_recv_reply, IsOwed, Legal}
@@ -20,8 +19,7 @@ use Rattle.bcast_model.specs.Words.{count_reply, deactivate, without_receiver}
 use Rattle.bcast_model.specs.declared.error.HandleError.TheVariants as handle
 use Rattle.bcast_laws.specs.Sends.{is_refused}
 use Rattle.bcast_model.proofs.Views.{valid_view}
-use Rattle.bcast_model.proofs.DeliveryLists.{past_end}
-use Rattle.bcast_model.proofs.Cases.{test_is, uncloned, made_is, received_is}
+use Rattle.bcast_model.proofs.Cases.{test_is, uncloned, made_is, received_is, receive_is, lagging_reply, passed_reply}
 use Rattle.bcast_laws.proofs.Sends.{apart}
 
 not_not : (b : Bool) → not (not b) ≡ true → b ≡ true
@@ -66,23 +64,15 @@ module _ {T : Type 0} where
   same_attempt v msg await (Err error) e = refl
 
   -- ---- receives
-  same_found : (v : View T) (key cursor : ℕ) (o : Option T) → v.end ≡ v.front + length v.queue → v.front ≤ cursor → kept_at v cursor ≡ o → is_refused {T = T} (reply.TryRecv (Ok (recv_reply v.control.closed o))) ≡ true
-      → cond (nat_lt cursor v.end) (with_cursor v.control key (cursor + 1)) v.control ≡ v.control
-  same_found v key cursor (Some msg) size low is e = apart e
-  same_found v key cursor None size low is e =
-      let past = past_end v.queue (cursor - v.front) is in
-      let over : nat_lt cursor v.end ≡ false = grind (arith, common_steps, past, size, low) in
-      ap (λ b. cond b (with_cursor v.control key (cursor + 1)) v.control) over
-
   same_receive : (v : View T) (key : ℕ) (cursor : Option ℕ) → IsValidView v → is_refused (reply.TryRecv (Ok (try_recv_reply v cursor))) ≡ true → receive v key cursor ≡ v.control
   same_receive v key None valid e = refl
-  same_receive v key (Some cursor) valid e =
-      elim (nat_lt cursor v.front) as (λ b. nat_lt cursor v.front ≡ b
-      → is_refused (reply.TryRecv (Ok (cond b (Err (unread.Overflowed (v.front - cursor))) (recv_reply v.control.closed (kept_at v cursor))))) ≡ true
-      → cond b (with_cursor v.control key v.front) (cond (nat_lt cursor v.end) (with_cursor v.control key (cursor + 1)) v.control) ≡ v.control) [
-        | true ↦ λ t e. apart e
-        | false ↦ λ t e. same_found v key cursor (kept_at v cursor) valid.end (grind (arith, common_steps, t)) refl e
-      ] refl e
+  same_receive v key (Some cursor) valid e = receive_is v (λ c. c ≡ v.control) key cursor
+      (λ lags. apart (sym (ap (λ answer. is_refused (reply.TryRecv (Ok answer))) (lagging_reply v cursor lags)) ∙ e))
+      (λ passed below. elim (slice_get_cases v.queue (cursor - v.front)).1 [
+        | inl some ↦ apart (sym (ap (λ answer. is_refused (reply.TryRecv (Ok answer))) (passed_reply v cursor passed ∙ ap (recv_reply v.control.closed) some.2)) ∙ e)
+        | inr none ↦ (let past = none.0 in absurd (omega (arith, past, valid.end, below, passed)))
+      ])
+      (λ _ _. refl)
 
   same_unless : (v : View T) (c : Control) (r : Reply T) → c ≡ v.control → set_unless_refused v r c ≡ sets v.control
   same_unless v c r same = test_is (λ (e : Effect T). e ≡ sets v.control) (is_out_of_memory r) (sets v.control) (sets c) (λ _. refl) (λ _. ap sets same)

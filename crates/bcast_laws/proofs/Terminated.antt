@@ -1,5 +1,5 @@
 -- A closed channel that keeps no message gives its receivers nothing.
-use Rattle.std.proofs.Common.{◌≡◌, inl, inr, ℕ, ◌-◌, ◌≤◌, ◌==◌, ◌&&◌, Bool, true, false, cond, length, max, Option, Some, None, Result, Ok, Err, nat_lt, refl, sym, ap, ◌∙◌, arith, alloc_error}
+use Rattle.std.proofs.Common.{◌≡◌, inl, inr, ℕ, ◌-◌, ◌≤◌, ◌==◌, ◌&&◌, Bool, true, false, cond, length, max, Option, Some, None, Result, Ok, Err, refl, sym, ap, ◌∙◌, arith, alloc_error}
 use Rattle.std.proofs.lemmas.Grind.{common_steps}
 use Rattle.std.proofs.lemmas.Option.{slice_get_past}
 use Rattle.bcast_model.specs.declared.error.TryRecvError.{TryRecvError}
@@ -7,11 +7,12 @@ use Rattle.bcast_model.specs.declared.error.TryRecvError.TheVariants as unread
 use Rattle.bcast_model.specs.declared.run.Call.TheVariants as call
 use Rattle.bcast_model.specs.declared.run.Reply.{Reply}
 use Rattle.bcast_model.specs.declared.run.Reply.TheVariants as reply
-use Rattle.bcast_model.specs.Words.{cursor_of, View, kept_at, IsValidView, IsOwed, recv_reply}
-use Rattle.bcast_model.specs.Words.{skipped_count, skipped_to, future_reply, stream_reply}
-use Rattle.bcast_model.specs.Words.{next_reply, try_recv_reply, Legal, IsReceived}
+use Rattle.bcast_model.specs.Words.{cursor_of, View, IsValidView, IsOwed, recv_reply, skipped_count}
+use Rattle.bcast_model.specs.Words.{skipped_to, future_reply, stream_reply, next_reply}
+use Rattle.bcast_model.specs.Words.{try_recv_reply, Legal, IsReceived, unread}
 use Rattle.bcast_laws.specs.Closing.{AnswersClosed}
 use Rattle.bcast_laws.proofs.Kept.{empty}
+use Rattle.bcast_model.proofs.Cases.{passed_reply}
 
 both : (a b : Bool) → (a && b) ≡ true → (a ≡ true) × (b ≡ true)
 both true b e = (refl, e)
@@ -20,8 +21,7 @@ both false b e = cc
 module _ {T : Type 0} where
   closed_at : (v : View T) (cursor : ℕ) → IsValidView v → v.control.closed ≡ true → v.end ≤ cursor → try_recv_reply v (Some cursor) ≡ Err unread.Closed
   closed_at v cursor valid closed past =
-      let here : nat_lt cursor v.front ≡ false = (let high = valid.high in grind (arith, common_steps, high, past)) in
-      ap (λ b. cond b (Err (unread.Overflowed (v.front - cursor))) (recv_reply v.control.closed (kept_at v cursor))) here
+      passed_reply v cursor (omega (arith, valid.high, past))
       ∙ ap (recv_reply v.control.closed) (slice_get_past v.queue (cursor - v.front) (omega (arith, past, valid.end)))
       ∙ ap (λ b. Err (cond b unread.Closed unread.Empty)) closed
 

@@ -16,6 +16,7 @@ use Rattle.bcast_model.proofs.Views.{valid_view, floor_under, front-le-cursor}
 use Rattle.bcast_model.proofs.DeliveryMaps.{inserted}
 use Rattle.bcast_laws.proofs.Answers.{lagging_answer}
 use Rattle.bcast_model.proofs.DeliveryLists.{past_end}
+use Rattle.bcast_model.proofs.Cases.{passed_reply, lagging_receive, passed_receive}
 
 no_message : (T : Type 0) (closed : Bool) → IsErr (recv_reply {T = T} closed None)
 no_message T true = refl
@@ -49,35 +50,25 @@ module _ {T : Type 0} where
 
     -- ---- a receiver that missed messages
     pub left_at_front : (cursor : ℕ) → cursor_of h.control key ≡ Some cursor → cursor < front_number h → ReadsNext (after_try h key) key (front_number h)
-    left_at_front cursor at lags =
-        let test : nat_lt cursor (front_number h) ≡ true = grind (arith, common_steps, lags) in
-        moved cursor (front_number h) at (ap (λ b. cond b (with_cursor h.control key (front_number h)) (cond (nat_lt cursor (end_number h)) (with_cursor h.control key (cursor + 1)) h.control)) test) (omega arith)
+    left_at_front cursor at lags = moved cursor (front_number h) at (lagging_receive (view_of h) key cursor lags) (omega arith)
 
     -- ---- one that missed none
     takes : (cursor : ℕ) → cursor_of h.control key ≡ Some cursor → front_number h ≤ cursor → cursor < end_number h → ReadsNext (after_try h key) key (cursor + 1)
     takes cursor at passed below =
-        let here : nat_lt cursor (front_number h) ≡ false = grind (arith, common_steps, passed) in
         let there : nat_lt cursor (end_number h) ≡ true = grind (arith, common_steps, below) in
-        moved cursor (cursor + 1) at
-        (ap (λ b. cond b (with_cursor h.control key (front_number h)) (cond (nat_lt cursor (end_number h)) (with_cursor h.control key (cursor + 1)) h.control)) here ∙ ap (λ b. cond b (with_cursor h.control key (cursor + 1)) h.control) there)
-        (omega (arith, passed))
-
-    reply_at : (cursor : ℕ) → front_number h ≤ cursor → try_recv_reply (view_of h) (Some cursor) ≡ recv_reply h.control.closed (kept_at (view_of h) cursor)
-    reply_at cursor passed =
-        let here : nat_lt cursor (front_number h) ≡ false = grind (arith, common_steps, passed) in
-        ap (λ b. cond b (Err (unread_error.Overflowed (front_number h - cursor))) (recv_reply h.control.closed (kept_at (view_of h) cursor))) here
+        moved cursor (cursor + 1) at (passed_receive (view_of h) key cursor passed ∙ ap (λ b. cond b (with_cursor h.control key (cursor + 1)) h.control) there) (omega (arith, passed))
 
     pub gives : (cursor : ℕ) → cursor_of h.control key ≡ Some cursor → front_number h ≤ cursor → cursor < end_number h → IsOk (try_recv_reply (view_of h) (cursor_of h.control key))
     gives cursor at passed below =
         let size = (valid_view h valid).end in
         let within : cursor - front_number h < length (queue_of h) = omega (arith, size, passed, below) in
-        subst IsOk (sym (ap (try_recv_reply (view_of h)) at ∙ reply_at cursor passed)) (finds h.control.closed (queue_of h) (cursor - front_number h) (kept_at (view_of h) cursor) within refl)
+        subst IsOk (sym (ap (try_recv_reply (view_of h)) at ∙ passed_reply (view_of h) cursor passed)) (finds h.control.closed (queue_of h) (cursor - front_number h) (kept_at (view_of h) cursor) within refl)
 
     gives_none : (cursor : ℕ) → cursor_of h.control key ≡ Some cursor → front_number h ≤ cursor → end_number h ≤ cursor → IsErr (try_recv_reply (view_of h) (cursor_of h.control key))
     gives_none cursor at passed past =
         let size = (valid_view h valid).end in
         let none : kept_at (view_of h) cursor ≡ None = slice_get_past (queue_of h) (cursor - front_number h) (omega (arith, size, passed, past)) in
-        subst IsErr (sym (ap (try_recv_reply (view_of h)) at ∙ reply_at cursor passed ∙ ap (recv_reply h.control.closed) none)) (no_message T h.control.closed)
+        subst IsErr (sym (ap (try_recv_reply (view_of h)) at ∙ passed_reply (view_of h) cursor passed ∙ ap (recv_reply h.control.closed) none)) (no_message T h.control.closed)
 
   in_a_row : (count : ℕ) (h : History T) (key cursor : ℕ) → IsValid h → ReadsNext h key cursor → end_number h - cursor ≡ count → GivesInARow h key count
   in_a_row zero h key cursor valid reads left = gives_none h key valid cursor reads.0 reads.1 (omega (arith, left))
