@@ -6,7 +6,7 @@ use Rattle.bcast_model.specs.declared.error.TryRecvError.TheVariants as unread
 use Rattle.bcast_model.specs.declared.run.Call.TheVariants as call
 use Rattle.bcast_model.specs.declared.run.Reply.TheVariants as reply
 use Rattle.bcast_model.specs.Words.{cursor_of, View, kept_at, try_recv_reply, History, view_of}
-use Rattle.bcast_model.specs.Words.{front_number, next, IsValid, unread}
+use Rattle.bcast_model.specs.Words.{front_number, next, IsValid}
 use Rattle.bcast_laws.specs.Unread.{after_try}
 use Rattle.bcast_model.proofs.Views.{valid_view, lagging}
 use Rattle.bcast_model.proofs.DeliverySteps.{found_reached}

@@ -21,6 +21,7 @@ use Rattle.bcast_laws.specs.Sends.{is_refused}
 use Rattle.bcast_model.proofs.Views.{valid_view}
 use Rattle.bcast_model.proofs.Cases.{test_is, uncloned, made_is, received_is, receive_is, lagging_reply, passed_reply}
 use Rattle.bcast_laws.proofs.Sends.{apart}
+use Rattle.bcast_model.proofs.Lift.{view_of-end_call}
 
 not_not : (b : Bool) → not (not b) ≡ true → b ≡ true
 not_not true e = refl
@@ -132,8 +133,4 @@ module _ {T : Type 0} where
   refused_same is_clone h c r valid legal e =
       let may : Bool = may_tell h.control (sends_are_ready (view_of h)) c in
       ap (λ now. end_call may (remember h now)) (same_effect is_clone (view_of h) c r (valid_view h valid) legal e) ∙ ap (end_call may) (remember-idle h)
-      ∙ ap (with_control h) (control_told (may && sends_are_ready (view_of h))) ∙ ap (λ (v : View T). with_control h v.control) (untold is_clone (view_of h) c r legal e)
-    where
-      control_told : (b : Bool) → cond b (tell_a_sender h.control) h.control ≡ (cond b (record (view_of h) { control = tell_a_sender h.control }) (view_of h)).control
-      control_told true = refl
-      control_told false = refl
+      ∙ ap (λ (v : View T). with_control h v.control) (view_of-end_call may h ∙ untold is_clone (view_of h) c r legal e)

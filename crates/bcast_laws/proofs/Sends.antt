@@ -15,7 +15,7 @@ use Rattle.bcast_model.specs.Words.{offer, with_place_answered, poll_send, free_
 use Rattle.bcast_model.specs.Words.{try_broadcast_all_reply, accept_all, effect, is_out_of_memory}
 use Rattle.bcast_model.specs.Words.{History, view_of, next, Legal, must_wait}
 use Rattle.bcast_laws.specs.Sends.{sent_by, messages_of, returned_by, returned_all_by, is_accepted}
-use Rattle.bcast_model.proofs.Cases.{test_is}
+use Rattle.bcast_model.proofs.Cases.{test_is, sent_is}
 use Rattle.bcast_model.proofs.Polls.{send_waits_unready}
 
 pub apart : {A : Type 0} → false ≡ true → A
@@ -100,42 +100,32 @@ module _ {T : Type 0} where
   pub nothing_added : (is_clone : T → T → Type 0) (h : History T) (c : Call T) (r : Reply T) → Legal is_clone (view_of h) c r → is_accepted r ≡ false → (next h c r).accepted ≡ h.accepted
   nothing_added is_clone h c r legal refused = ap (◌++◌ h.accepted) (adds is_clone (view_of h) c r legal ∙ ap (λ b. added b (messages_of c)) refused) ∙ append-nil h.accepted
 
-  -- ---- what is handed back, by: closed, no receiver, full, no overflow, sends await a receiver
-  returns_try : (closed none full : Bool) (back : Option T) (msg : T) → is_accepted (reply.TryBroadcast (cond closed (Err (unsent.Closed msg)) (cond none (Err (unsent.Inactive msg)) (cond full (Err (unsent.Full msg)) (Ok back))))) ≡ false
-      → returned_by (reply.TryBroadcast (cond closed (Err (unsent.Closed msg)) (cond none (Err (unsent.Inactive msg)) (cond full (Err (unsent.Full msg)) (Ok back))))) ≡ Some msg
-  returns_try false false false back msg e = apart (sym e)
-  returns_try closed none full back msg e = refl
+  -- ---- what is handed back
+  returned_try : (v : View T) (msg : T) → is_accepted (reply.TryBroadcast (try_broadcast_reply v msg)) ≡ false → returned_by (reply.TryBroadcast (try_broadcast_reply v msg)) ≡ Some msg
+  returned_try v msg = sent_is (λ answer. is_accepted (reply.TryBroadcast answer) ≡ false → returned_by (reply.TryBroadcast answer) ≡ Some msg) v.control.closed (has_no_receiver v.control) (is_full v && not v.control.overflow)
+      (unsent.Closed msg) (unsent.Inactive msg) (unsent.Full msg) (handed_back v) (λ _. refl) (λ _. refl) (λ _. refl) (λ e. apart (sym e))
 
-  returns_attempt : (closed none full await : Bool) (back : Option T) (msg : T) → is_accepted (reply.AttemptSend (reply_to_attempt await (cond closed (Err (unsent.Closed msg)) (cond none (Err (unsent.Inactive msg)) (cond full (Err (unsent.Full msg)) (Ok back)))))) ≡ false
-      → returned_by (reply.AttemptSend (reply_to_attempt await (cond closed (Err (unsent.Closed msg)) (cond none (Err (unsent.Inactive msg)) (cond full (Err (unsent.Full msg)) (Ok back)))))) ≡ Some msg
-  returns_attempt false false false await back msg e = apart (sym e)
-  returns_attempt false true full true back msg e = refl
-  returns_attempt closed none full await back msg e = refl
+  returned_attempt : (v : View T) (msg : T) → is_accepted (reply.AttemptSend (attempt_send_reply v msg)) ≡ false → returned_by (reply.AttemptSend (attempt_send_reply v msg)) ≡ Some msg
+  returned_attempt v msg = sent_is (λ answer. is_accepted (reply.AttemptSend (reply_to_attempt v.control.await_active answer)) ≡ false → returned_by (reply.AttemptSend (reply_to_attempt v.control.await_active answer)) ≡ Some msg)
+      v.control.closed (has_no_receiver v.control) (is_full v && not v.control.overflow) (unsent.Closed msg) (unsent.Inactive msg) (unsent.Full msg) (handed_back v) (λ _. refl)
+      (elim v.control.await_active as (λ await. is_accepted (reply.AttemptSend (reply_to_attempt await (Err (unsent.Inactive msg)))) ≡ false → returned_by (reply.AttemptSend (reply_to_attempt await (Err (unsent.Inactive msg)))) ≡ Some msg) [ true ↦ λ _. refl | false ↦ λ _. refl ])
+      (λ _. refl) (λ e. apart (sym e))
 
   returns_as_attempt : (answer : SendPoll T) → returned_by (reply.PollSend answer) ≡ returned_by (reply.AttemptSend answer)
   returns_as_attempt (send.Ready (Ok back)) = refl
   returns_as_attempt answer = refl
 
-  returns_poll : (v : View T) (known : Bool) (msg : T) → is_accepted (reply.PollSend (cond known (attempt_send_reply v msg) (send.Wait msg))) ≡ false → returned_by (reply.PollSend (cond known (attempt_send_reply v msg) (send.Wait msg))) ≡ Some msg
-  returns_poll v true msg e =
-      let answer : SendPoll T = attempt_send_reply v msg in
-      returns_as_attempt answer ∙ returns_attempt v.control.closed (has_no_receiver v.control) (is_full v && not v.control.overflow) v.control.await_active (handed_back v) msg (sym (as_attempt answer) ∙ e)
-  returns_poll v false msg e = refl
+  returned_poll : (v : View T) (known : Bool) (msg : T) → is_accepted (reply.PollSend (cond known (attempt_send_reply v msg) (send.Wait msg))) ≡ false → returned_by (reply.PollSend (cond known (attempt_send_reply v msg) (send.Wait msg))) ≡ Some msg
+  returned_poll v true msg e = returns_as_attempt (attempt_send_reply v msg) ∙ returned_attempt v msg (sym (as_attempt (attempt_send_reply v msg)) ∙ e)
+  returned_poll v false msg e = refl
 
   pub returned_back : (is_clone : T → T → Type 0) (v : View T) (c : Call T) (r : Reply T) (msg : T) → Legal is_clone v c r → sent_by c ≡ Some msg → is_accepted r ≡ false → returned_by r ≡ Some msg
-  returned_back is_clone v (call.TryBroadcast m) r msg legal is refused =
-      ap returned_by legal ∙ returns_try v.control.closed (has_no_receiver v.control) (is_full v && not v.control.overflow) (handed_back v) m (sym (ap is_accepted legal) ∙ refused) ∙ is
-  returned_back is_clone v (call.AttemptSend m) r msg legal is refused =
-      ap returned_by legal ∙ returns_attempt v.control.closed (has_no_receiver v.control) (is_full v && not v.control.overflow) v.control.await_active (handed_back v) m (sym (ap is_accepted legal) ∙ refused) ∙ is
-  returned_back is_clone v (call.PollSend place m) r msg legal is refused =
-      ap returned_by legal ∙ returns_poll v (has_place v.control place) m (sym (ap is_accepted legal) ∙ refused) ∙ is
+  returned_back is_clone v (call.TryBroadcast m) r msg legal is refused = ap returned_by legal ∙ returned_try v m (sym (ap is_accepted legal) ∙ refused) ∙ is
+  returned_back is_clone v (call.AttemptSend m) r msg legal is refused = ap returned_by legal ∙ returned_attempt v m (sym (ap is_accepted legal) ∙ refused) ∙ is
+  returned_back is_clone v (call.PollSend place m) r msg legal is refused = ap returned_by legal ∙ returned_poll v (has_place v.control place) m (sym (ap is_accepted legal) ∙ refused) ∙ is
   returned_back is_clone v c r msg legal is refused = none_some msg is
 
-  returns_all : (closed none full : Bool) (msgs : List T) → is_accepted {T = T} (reply.TryBroadcastAll (cond closed (Err (unsent.Closed msgs)) (cond none (Err (unsent.Inactive msgs)) (cond full (Err (unsent.Full msgs)) (Ok tt))))) ≡ false
-      → returned_all_by {T = T} (reply.TryBroadcastAll (cond closed (Err (unsent.Closed msgs)) (cond none (Err (unsent.Inactive msgs)) (cond full (Err (unsent.Full msgs)) (Ok tt))))) ≡ Some msgs
-  returns_all false false false msgs e = apart (sym e)
-  returns_all closed none full msgs e = refl
-
   pub all_returned : (is_clone : T → T → Type 0) (v : View T) (msgs : List T) (r : Reply T) → Legal is_clone v (call.TryBroadcastAll msgs) r → is_accepted r ≡ false → returned_all_by r ≡ Some msgs
-  all_returned is_clone v msgs r legal refused =
-      ap returned_all_by legal ∙ returns_all v.control.closed (has_no_receiver v.control) (nat_lt (free_room v) (length msgs)) msgs (sym (ap is_accepted legal) ∙ refused)
+  all_returned is_clone v msgs r legal refused = ap returned_all_by legal
+      ∙ sent_is (λ answer. is_accepted {T = T} (reply.TryBroadcastAll answer) ≡ false → returned_all_by {T = T} (reply.TryBroadcastAll answer) ≡ Some msgs) v.control.closed (has_no_receiver v.control) (nat_lt (free_room v) (length msgs))
+      (unsent.Closed msgs) (unsent.Inactive msgs) (unsent.Full msgs) tt (λ _. refl) (λ _. refl) (λ _. refl) (λ e. apart (sym e)) (sym (ap is_accepted legal) ∙ refused)

@@ -9,7 +9,7 @@ use Rattle.bcast_model.specs.declared.run.Reply.{Reply}
 use Rattle.bcast_model.specs.declared.run.Reply.TheVariants as reply
 use Rattle.bcast_model.specs.Words.{cursor_of, View, IsValidView, IsOwed, recv_reply, skipped_count}
 use Rattle.bcast_model.specs.Words.{skipped_to, future_reply, stream_reply, next_reply}
-use Rattle.bcast_model.specs.Words.{try_recv_reply, Legal, IsReceived, unread}
+use Rattle.bcast_model.specs.Words.{try_recv_reply, Legal, IsReceived}
 use Rattle.bcast_laws.specs.Closing.{AnswersClosed}
 use Rattle.bcast_laws.proofs.Kept.{empty}
 use Rattle.bcast_model.proofs.Cases.{passed_reply}

@@ -8,7 +8,7 @@ use Rattle.bcast_model.specs.Words.{closing, close, is_deserted, close_if_desert
 use Rattle.bcast_model.specs.Words.{with_cursor, History, with_control, view_of, View}
 use Rattle.bcast_model.specs.Words.{sends_are_ready, TrySendError, clone_receiver, end_call}
 use Rattle.bcast_model.specs.Words.{receive, has_no_receiver, is_full, try_broadcast_reply}
-use Rattle.bcast_model.specs.Words.{handed_back, kept_at, recv_reply, try_recv_reply, unread}
+use Rattle.bcast_model.specs.Words.{handed_back, kept_at, recv_reply, try_recv_reply}
 use Rattle.bcast_model.specs.declared.error.HandleError.TheVariants as handle
 use Rattle.bcast_model.specs.declared.error.TrySendError.TheVariants as unsent
 use Rattle.bcast_model.specs.declared.error.TryRecvError.TheVariants as unread
@@ -96,17 +96,17 @@ module _ {T : Type 0} where
   tell_is P may h tells keeps = test_is (λ c. P (with_control h c)) (may && sends_are_ready (view_of h)) (tell_a_sender h.control) h.control tells keeps
 
 -- ---- a send is refused for one of three reasons, or accepted
-sent_is : {A E : Type 0} (P : Result A E → Type 0) (closed none full : Bool) (x y z : E) (back : A) → ((error : E) → P (Err error)) → P (Ok back) → P (cond closed (Err x) (cond none (Err y) (cond full (Err z) (Ok back))))
-sent_is P true none full x y z back refused accepted = refused x
-sent_is P false true full x y z back refused accepted = refused y
-sent_is P false false true x y z back refused accepted = refused z
-sent_is P false false false x y z back refused accepted = accepted
+pub sent_is : {A E : Type 0} (P : Result A E → Type 0) (closed none full : Bool) (x y z : E) (back : A) → P (Err x) → P (Err y) → P (Err z) → P (Ok back) → P (cond closed (Err x) (cond none (Err y) (cond full (Err z) (Ok back))))
+sent_is P true none full x y z back is_closed is_inactive is_full accepted = is_closed
+sent_is P false true full x y z back is_closed is_inactive is_full accepted = is_inactive
+sent_is P false false true x y z back is_closed is_inactive is_full accepted = is_full
+sent_is P false false false x y z back is_closed is_inactive is_full accepted = accepted
 
 module _ {T : Type 0} where
   pub try_is : (P : Result (Option T) (TrySendError T) → Type 0) (v : View T) (msg : T) → ((error : TrySendError T) → try_broadcast_reply v msg ≡ Err error → P (Err error)) → (try_broadcast_reply v msg ≡ Ok (handed_back v) → P (Ok (handed_back v)))
       → P (try_broadcast_reply v msg)
   try_is P v msg refused accepted =
-      sent_is (λ answer. try_broadcast_reply v msg ≡ answer → P answer) v.control.closed (has_no_receiver v.control) (is_full v && not v.control.overflow) (unsent.Closed msg) (unsent.Inactive msg) (unsent.Full msg) (handed_back v) refused accepted refl
+      sent_is (λ answer. try_broadcast_reply v msg ≡ answer → P answer) v.control.closed (has_no_receiver v.control) (is_full v && not v.control.overflow) (unsent.Closed msg) (unsent.Inactive msg) (unsent.Full msg) (handed_back v) (refused _) (refused _) (refused _) accepted refl
 
 -- ---- replies
 module _ {T : Type 0} where

@@ -1,5 +1,5 @@
 -- Fewer clones, and what a receive hands out.
-use Rattle.std.proofs.Common.{inl, inr, ℕ, Option, List, [], ◌∷◌, Result, Ok, sym, ap, ◌∙◌, ◌≡◌, ◌-◌, Bool, true, false, cond, Some, None, Err, nat_lt, slice_get, refl, subst, IsSomeAnd, alloc_error}
+use Rattle.std.proofs.Common.{inl, inr, ℕ, Option, List, ◌∷◌, Result, Ok, sym, ap, ◌∙◌, ◌≡◌, ◌-◌, Bool, true, false, cond, Some, None, Err, nat_lt, slice_get, refl, subst, IsSomeAnd, alloc_error}
 use Rattle.std.specs.declared.alloc.AllocError.{AllocError}
 use Rattle.futures.specs.declared.task.Poll.TheVariants as poll
 use Rattle.bcast_model.specs.Words.{TryRecvError, Call, Reply, History, view_of, Legal, IsGiven}
@@ -51,10 +51,8 @@ module _ {T : Type 0} where
   legal_exact p v c r equal legal = legal_wider p NoClone (λ msg given cloned. inl (equal msg given cloned)) v c r legal
 
   pub run_exact : (p : T → T → Type 0) (h : History T) (calls : List (Call T)) (replies : List (Reply T)) → ClonesEqual p → IsRun p h calls replies → IsRun NoClone h calls replies
-  run_exact p h [] [] equal run = tt
   run_exact p h (c ∷ calls) (r ∷ replies) equal run = (legal_exact p (view_of h) c r equal run.0, run_exact p (next h c r) calls replies equal run.1)
-  run_exact p h [] (r ∷ replies) equal run = absurd run
-  run_exact p h (c ∷ calls) [] equal run = absurd run
+  run_exact p h calls replies equal run = run
 
 module _ {T : Type 0} where
   found_message : (closed : Bool) (o : Option T) (msg : T) → recv_reply closed o ≡ Ok msg → o ≡ Some msg

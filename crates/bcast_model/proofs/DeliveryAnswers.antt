@@ -7,7 +7,7 @@ use Rattle.std.specs.FinMap.{get, insert}
 use Rattle.std.proofs.lemmas.Bool.{cases_lt}
 use Rattle.bcast_model.specs.Words.{TryRecvError, Cursors, with_cursor, cursor_of, History, view_of}
 use Rattle.bcast_model.specs.Words.{front_number, end_number, numbered, kept_at, receive}
-use Rattle.bcast_model.specs.Words.{recv_reply, try_recv_reply, IsGiven, unread}
+use Rattle.bcast_model.specs.Words.{recv_reply, try_recv_reply, IsGiven}
 use Rattle.bcast_model.specs.declared.error.TryRecvError.TheVariants as unread
 use Rattle.bcast_model.proofs.Views.{numbered-queue, first_under}
 use Rattle.bcast_model.proofs.DeliveryMaps.{inserted}

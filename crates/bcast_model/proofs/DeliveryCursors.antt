@@ -1,5 +1,5 @@
 -- What each call does to the receivers' cursors.
-use Rattle.std.proofs.Common.{Ok, Result, ◌≡◌, inl, inr, ℕ, ◌+◌, ◌-◌, ◌≤◌, ◌==◌, max, Bool, true, false, cond, Option, Some, None, refl, sym, ap, subst, arith, Err}
+use Rattle.std.proofs.Common.{Ok, Result, ◌≡◌, inl, inr, ℕ, ◌+◌, ◌≤◌, ◌==◌, max, Bool, true, false, cond, Option, Some, None, refl, sym, ap, subst, arith, Err}
 use Rattle.std.proofs.lemmas.Grind.{common_steps}
 use Rattle.std.specs.FinMap.{get}
 use Rattle.bcast_model.specs.Words.{IsMadeFrom, HandleError, Call, Reply, Pair, stream_of}
@@ -12,7 +12,7 @@ use Rattle.bcast_model.specs.declared.run.Reply.TheVariants as reply
 use Rattle.bcast_model.specs.declared.run.Call.TheVariants as call
 use Rattle.bcast_model.proofs.Cases.{test_is, receive_is, uncloned, made_is, stays-close, stays-deserted}
 use Rattle.bcast_model.proofs.Stays.{stays-offer, stays-offer_all, stays-poll_send, stays-new_sender, stays-clone_inactive, stays-drop_sender, stays-drop_inactive}
-use Rattle.bcast_model.proofs.DeliveryMaps.{CursorsChange, stay, rise, make_at_end, make_where, leave, cursors-listens, cursors-begin_send}
+use Rattle.bcast_model.proofs.DeliveryMaps.{CursorsChange, stay, rise, make, leave, cursors-listens, cursors-begin_send}
 
 module _ {T : Type 0} (v : View T) where
   rise_from : (receives : ℕ → Bool) (key from at : ℕ) → receives key ≡ true → get v.control.cursors key ≡ Some from → from ≤ at → CursorsChange v.front v.end receives v.control.cursors (receive v key (Some at)).cursors
@@ -42,7 +42,7 @@ deactivated c front end key receives (Some cursor) =
 
 cloned : (c : Control) (front end key : ℕ) (receives : ℕ → Bool) (other : ℕ) (cursor : Option ℕ) → get c.cursors other ≡ cursor → get c.cursors key ≡ None → CursorsChange front end receives c.cursors (clone_receiver c cursor (Some key)).cursors
 cloned c front end key receives other None is free = stay refl
-cloned c front end key receives other (Some cursor) is free = make_where key other cursor free is refl
+cloned c front end key receives other (Some cursor) is free = make key cursor free (inr (other, is)) refl
 
 module _ {T : Type 0} where
   -- the change that a call makes
@@ -82,9 +82,9 @@ module _ {T : Type 0} where
   changes is_clone v call.NewSender r legal = stay (stays-new_sender v.control).0
   changes is_clone v call.CloneInactive r legal = stay (stays-clone_inactive v.control).0
   changes is_clone v (call.Deactivate key) r legal = deactivated v.control _ _ key _ (cursor_of v.control key)
-  changes is_clone v call.NewReceiver r legal = new v call.NewReceiver true reply.NewReceiver r (inr (refl, legal)) (λ key free. make_at_end key free refl) (λ _. stay refl)
-  changes is_clone v call.Activate r legal = new v call.Activate _ reply.Activate r legal (λ key free. make_at_end key free refl) (λ _. stay refl)
-  changes is_clone v call.ActivateCloned r legal = new v call.ActivateCloned _ reply.ActivateCloned r legal (λ key free. make_at_end key free refl) (λ _. stay refl)
+  changes is_clone v call.NewReceiver r legal = new v call.NewReceiver true reply.NewReceiver r (inr (refl, legal)) (λ key free. make key _ free (inl refl) refl) (λ _. stay refl)
+  changes is_clone v call.Activate r legal = new v call.Activate _ reply.Activate r legal (λ key free. make key _ free (inl refl) refl) (λ _. stay refl)
+  changes is_clone v call.ActivateCloned r legal = new v call.ActivateCloned _ reply.ActivateCloned r legal (λ key free. make key _ free (inl refl) refl) (λ _. stay refl)
   changes is_clone v (call.CloneReceiver other) r legal = new v (call.CloneReceiver other) _ reply.CloneReceiver r legal
       (λ key free. cloned v.control _ _ key _ other (cursor_of v.control other) refl free) (λ _. stay (ap (λ (c : Control). c.cursors) (uncloned v.control (cursor_of v.control other))))
   changes is_clone v call.DropSender r legal = stay (stays-drop_sender v.control).0

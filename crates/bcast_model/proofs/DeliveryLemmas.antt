@@ -62,10 +62,9 @@ module _ {T : Type 0} where
       at_index (IsDelivery is_clone (end_of_run h calls replies)) start (deliveries_of key h calls replies) exact.1 index (Some msg) e
 
   all_exact : (is_clone : T → T → Type 0) (h : History T) (calls : List (Call T)) (replies : List (Reply T)) → h.first ≤ h.floor → IsRun is_clone h calls replies → AtEachPoint (AreAllExact is_clone) h calls replies
-  all_exact is_clone h [] replies low run = exact is_clone h [] replies low run
-  all_exact is_clone h (c ∷ calls) [] low run = absurd run
   all_exact is_clone h (c ∷ calls) (r ∷ replies) low run =
       (exact is_clone h (c ∷ calls) (r ∷ replies) low run, all_exact is_clone (next h c r) calls replies (omega (arith, low)) run.1)
+  all_exact is_clone h calls replies low run = exact is_clone h calls replies low run
 
   pub deliveries_exact : (is_clone : T → T → Type 0) (h : History T) (calls : List (Call T)) (replies : List (Reply T)) → IsValid h → IsRun is_clone h calls replies → AtEachPoint (AreAllExact is_clone) h calls replies
   deliveries_exact is_clone h calls replies valid run = all_exact is_clone h calls replies valid.floor_low run

@@ -46,8 +46,7 @@ cursors-begin_send c (Some place) = refl
 pub data CursorsChange (front end : ℕ) (receives : ℕ → Bool) (old new : Cursors) : Type 0 where
   stay : new ≡ old → CursorsChange front end receives old new
   rise : (key from to : ℕ) → receives key ≡ true → get old key ≡ Some from → from ≤ to → (to ≤ front) ⊎ (to ≤ end) → new ≡ insert old key to → CursorsChange front end receives old new
-  make_at_end : (key : ℕ) → get old key ≡ None → new ≡ insert old key end → CursorsChange front end receives old new
-  make_where : (key other at : ℕ) → get old key ≡ None → get old other ≡ Some at → new ≡ insert old key at → CursorsChange front end receives old new
+  make : (key at : ℕ) → get old key ≡ None → (at ≡ end) ⊎ ((other : ℕ) × (get old other ≡ Some at)) → new ≡ insert old key at → CursorsChange front end receives old new
   leave : (key : ℕ) → new ≡ remove old key → CursorsChange front end receives old new
 
 -- ---- what follows at one receiver
@@ -59,9 +58,7 @@ pub stands_or_left : (front end : ℕ) (receives : ℕ → Bool) (old new : Curs
 stands_or_left front end receives old new key cursor (stay same) reads is = inl (ap (λ m. get m key) same ∙ is)
 stands_or_left front end receives old new key cursor (rise other from to read found le high same) reads is =
     inl (ap (λ m. get m key) same ∙ inserted_other old other to key (λ e. true_or_false (receives key) (ap receives e ∙ read) reads) ∙ is)
-stands_or_left front end receives old new key cursor (make_at_end other free same) reads is =
-    inl (ap (λ m. get m key) same ∙ inserted_other old other end key (λ e. none-some cursor (sym free ∙ ap (get old) (sym e) ∙ is)) ∙ is)
-stands_or_left front end receives old new key cursor (make_where made other at free found same) reads is =
+stands_or_left front end receives old new key cursor (make made at free source same) reads is =
     inl (ap (λ m. get m key) same ∙ inserted_other old made at key (λ e. none-some cursor (sym free ∙ ap (get old) (sym e) ∙ is)) ∙ is)
 stands_or_left front end receives old new key cursor (leave other same) reads is =
     elim (got_remove old other key) [ inl e ↦ inl (ap (λ m. get m key) same ∙ e ∙ is) | inr e ↦ inr (ap (λ m. get m key) same ∙ e) ]
@@ -88,10 +85,11 @@ pub came_from : (front end : ℕ) (receives : ℕ → Bool) (old new : Cursors) 
 came_from front end receives old new key cursor (stay same) is = inr (stood front end old key cursor (ap (λ m. get m key) (sym same) ∙ is))
 came_from front end receives old new key cursor (rise other from to reads found le high same) is =
     inr (inserted_from front end old other to key cursor (ap (λ m. get m key) (sym same) ∙ is) (record { key = other; before = from; found = found; low = le; high = inr high }))
-came_from front end receives old new key cursor (make_at_end other free same) is =
-    elim (got_insert old other end key cursor (ap (λ m. get m key) (sym same) ∙ is)) [ inl e ↦ inl e.1 | inr e ↦ inr (stood front end old key cursor e) ]
-came_from front end receives old new key cursor (make_where made other at free found same) is =
-    inr (inserted_from front end old made at key cursor (ap (λ m. get m key) (sym same) ∙ is) (stood front end old other at found))
+came_from front end receives old new key cursor (make made at free source same) is =
+    elim (got_insert old made at key cursor (ap (λ m. get m key) (sym same) ∙ is)) [
+      | inl e ↦ elim source [ inl last ↦ inl (e.1 ∙ last) | inr other ↦ inr (stood front end old other.0 cursor (other.1 ∙ ap Some (sym e.1))) ]
+      | inr e ↦ inr (stood front end old key cursor e)
+    ]
 came_from front end receives old new key cursor (leave other same) is =
     elim (got_remove old other key) [
       | inl e ↦ inr (stood front end old key cursor (sym e ∙ ap (λ m. get m key) (sym same) ∙ is))

@@ -12,8 +12,7 @@ use Rattle.bcast_model.specs.Words.{IsValidView}
 use Rattle.bcast_model.proofs.Least.{least-le-limit, least-le-cursor, least-greatest}
 use Rattle.bcast_model.proofs.Cases.{tell_is}
 use Rattle.bcast_model.proofs.WaitingSends.{OneIsTold, AreSends, sends_told}
-use Rattle.bcast_model.proofs.WaitingReceives.{AreReceives}
-use Rattle.bcast_model.proofs.Sound.{AreSizes, IsAttended, IsNoLower, IsSound}
+use Rattle.bcast_model.proofs.Sound.{IsAttended, IsNoLower, IsSound}
 use Rattle.bcast_model.proofs.Views.{first_under, valid_view}
 
 -- an effect that keeps a history valid, if a sender is told at the end of the call as defined
@@ -23,23 +22,6 @@ pub record KeepsValid {T : Type 0} (v : View T) (e : Effect T) (may : Bool) : Ty
   pub sound : IsSound v (v.end + length e.accepted) e.control
   pub attended : IsAttended e.control.closed e.control.senders (len e.control.cursors) e.control.inactive (v.end + length e.accepted)
   pub told : may ≡ false → sends_are_ready (settle v e) ≡ true → OneIsTold e.control.waiting_sends
-
--- the parts together are what makes a history valid
-pub valid_control : (c : Control) (end : ℕ) → AreSizes c.capacity c.room (len c.cursors) c.senders c.inactive end → IsAttended c.closed c.senders (len c.cursors) c.inactive end
-    → AreSends c.places c.waiting_sends → AreReceives c.cursors c.closed end c.waiting_receives → IsValidControl c end
-valid_control c end sizes attended sends receives = record {
-  capacity = sizes.positive;
-  room = sizes.within;
-  room_fits = sizes.room_fits;
-  receivers_fit = sizes.receivers_fit;
-  senders_fit = sizes.senders_fit;
-  inactive_fit = sizes.inactive_fit;
-  sender = attended.sender;
-  receiver = attended.receiver;
-  end_fits = sizes.end_fits;
-  open_end = attended.open_end;
-  lists = record { sends = sends.in_order; receives = receives.in_order; places = sends.placed; keys = receives.keyed };
-}
 
 not_may : (may ready : Bool) → (may && ready) ≡ false → ready ≡ true → may ≡ false
 not_may true ready untold e = cc
@@ -59,26 +41,12 @@ module _ {T : Type 0} where
         | inr a ↦ (let m = least-le-cursor v.end v.control.cursors a.0 a.1 a.2 in omega (arith, m, a.3))
       ])
 
-  -- a history that is valid, wake-ups aside
-  floor_raised : (h : History T) (e : Effect T) → IsValid h → (e.floor ≡ 0) ⊎ (e.floor < end_number h + length e.accepted) → (max h.floor e.floor ≡ h.first) ⊎ (max h.floor e.floor < end_number h + length e.accepted)
-  floor_raised h e valid s = elim s [
-    | inl p ↦ elim valid.floor_below [ inl m ↦ inl (omega arith) | inr m ↦ inr (omega arith) ]
-    | inr p ↦ elim valid.floor_below [ inl m ↦ elim (cases_lt h.first e.floor) [ inl a ↦ inr (omega arith) | inr a ↦ inl (omega arith) ] | inr m ↦ inr (omega arith) ]
-  ]
-
-  view_of-end_call : (may : Bool) (h : History T) → view_of (end_call may h) ≡ tell_if_ready may (view_of h)
-  view_of-end_call may h = by (may && sends_are_ready (view_of h))
-    where
-      by : (ready : Bool) → view_of (with_control h (cond ready (tell_a_sender h.control) h.control)) ≡ cond ready (record (view_of h) { control = tell_a_sender h.control }) (view_of h)
-      by true = refl
-      by false = refl
+  pub view_of-end_call : (may : Bool) (h : History T) → view_of (end_call may h) ≡ tell_if_ready may (view_of h)
+  view_of-end_call may h = elim (may && sends_are_ready (view_of h)) as (λ ready. view_of (with_control h (cond ready (tell_a_sender h.control) h.control)) ≡ cond ready (record (view_of h) { control = tell_a_sender h.control }) (view_of h)) [ true ↦ refl | false ↦ refl ]
 
   module _ (h : History T) (e : Effect T) (may : Bool) (valid : IsValid h) (keeps : KeepsValid (view_of h) e may) where
     end-remember : end_number (remember h e) ≡ end_number h + length e.accepted
     end-remember = omega (arith, length-append h.accepted e.accepted)
-
-    floor_high : max h.floor e.floor ≤ end_number h + length e.accepted
-    floor_high = elim keeps.floor [ inl a ↦ omega (arith, valid.floor_high) | inr a ↦ omega (arith, valid.floor_high) ]
 
     front-remember : front_number (remember h e) ≡ (settle (view_of h) e).front
     front-remember =
@@ -108,14 +76,30 @@ module _ {T : Type 0} where
     valid_with : (l : Listeners ℕ) → AreSends e.control.places l → (sends_are_ready (view_of (remember h e)) ≡ true → OneIsTold l) → IsValid (with_control (remember h e) (record e.control { waiting_sends = l }))
     valid_with l sends one =
         let c : Control = record e.control { waiting_sends = l } in
-        let below : (max h.floor e.floor ≡ h.first) ⊎ (max h.floor e.floor < end_number h + length e.accepted) = floor_raised h e valid keeps.floor in
+        let below : (max h.floor e.floor ≡ h.first) ⊎ (max h.floor e.floor < end_number h + length e.accepted) = elim keeps.floor [
+          | inl p ↦ elim valid.floor_below [ inl m ↦ inl (omega arith) | inr m ↦ inr (omega arith) ]
+          | inr p ↦ elim valid.floor_below [ inl m ↦ elim (cases_lt h.first e.floor) [ inl a ↦ inr (omega arith) | inr a ↦ inl (omega arith) ] | inr m ↦ inr (omega arith) ]
+        ] in
+        let sizes = keeps.sound.sizes in
         record {
           floor_low = omega (arith, valid.floor_low);
-          floor_high = rw end-remember floor_high;
+          floor_high = rw end-remember (elim keeps.floor [ inl a ↦ omega (arith, valid.floor_high) | inr a ↦ omega (arith, valid.floor_high) ]);
           floor_below = rw end-remember below;
           cursors = λ key cursor f. (let s = keeps.sound.cursors key cursor f in (above_first cursor s.1, rw end-remember (s.0)));
           fits = subst (λ n. n ≤ e.control.capacity) (sym (ap (λ (v : View T). length v.queue) view_of-remember)) keeps.fits;
-          control = subst (IsValidControl c) (sym end-remember) (valid_control c (end_number h + length e.accepted) keeps.sound.sizes keeps.attended sends keeps.sound.receives);
+          control = subst (IsValidControl c) (sym end-remember) (record {
+            capacity = sizes.positive;
+            room = sizes.within;
+            room_fits = sizes.room_fits;
+            receivers_fit = sizes.receivers_fit;
+            senders_fit = sizes.senders_fit;
+            inactive_fit = sizes.inactive_fit;
+            sender = keeps.attended.sender;
+            receiver = keeps.attended.receiver;
+            end_fits = sizes.end_fits;
+            open_end = keeps.attended.open_end;
+            lists = record { sends = sends.in_order; receives = keeps.sound.receives.in_order; places = sends.placed; keys = keeps.sound.receives.keyed };
+          });
           wake_ups = record {
             receives = subst (λ n. AllByRecursion (WouldWait c n) (untold_ids c.waiting_receives)) (sym end-remember) keeps.sound.receives.asleep;
             sends = one;

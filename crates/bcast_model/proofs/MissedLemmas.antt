@@ -7,7 +7,7 @@ use Rattle.std.specs.List.Sorted.{IsStrictlyIncreasing}
 use Rattle.bcast_model.specs.Words.{Call, Reply, History, view_of, cursor_of, Legal}
 use Rattle.bcast_model.specs.Words.{HasPositiveCapacity, next, IsValid, IsRun, end_of_run, given_to}
 use Rattle.bcast_model.specs.Words.{deliveries_of, dropped_by, dropped_in, WasDropped, TellsDropped}
-use Rattle.bcast_model.specs.Words.{MissesOnlyDropped, MissesWhatWasDropped, missed}
+use Rattle.bcast_model.specs.Words.{MissesOnlyDropped, MissesWhatWasDropped}
 use Rattle.bcast_model.proofs.DeliveryLists.{in_parts}
 use Rattle.bcast_model.proofs.DeliverySteps.{gives_call}
 use Rattle.bcast_model.proofs.Views.{IsBounded, bounded_valid}

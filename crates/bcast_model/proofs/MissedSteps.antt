@@ -7,7 +7,7 @@ use Rattle.bcast_model.specs.Words.{cursor_of, Legal, effect, HasPositiveCapacit
 use Rattle.bcast_model.specs.Words.{receives_for, dropped_by}
 use Rattle.bcast_model.proofs.Views.{floor_under, IsBounded, front-le-end}
 use Rattle.bcast_model.proofs.Answers.{cursors-next}
-use Rattle.bcast_model.proofs.DeliveryMaps.{came_from}
+use Rattle.bcast_model.proofs.DeliveryMaps.{StoodBefore, came_from}
 use Rattle.bcast_model.proofs.DeliveryCursors.{changes}
 use Rattle.bcast_model.proofs.DroppedByCalls.{FloorChange, stays, passes, floor-effect}
 use Rattle.bcast_model.proofs.Stays.{capacity-next}
@@ -48,22 +48,16 @@ module _ {T : Type 0} where
   pub drops_next : (is_clone : T → T → Type 0) (h : History T) (c : Call T) (r : Reply T) → IsBounded h → Legal is_clone (view_of h) c r → Drops h (next h c r) (dropped_by h c r)
   drops_next is_clone h c r bounded legal = drops_change h c r (dropped_by h c r) bounded (floor-effect is_clone h c r bounded legal)
 
-  -- the cursors that the receivers of the next state had before
-  pub record Stood (h : History T) (cursor : ℕ) : Type 0 where
-    pub key : ℕ
-    pub before : ℕ
-    pub found : cursor_of h.control key ≡ Some before
-    pub low : before ≤ cursor
-
+  -- where the receivers of the next state stood before
   pub stood_before : (is_clone : T → T → Type 0) (h : History T) (c : Call T) (r : Reply T) (key cursor : ℕ) → IsBounded h → Legal is_clone (view_of h) c r → cursor_of (next h c r).control key ≡ Some cursor
-      → (cursor ≤ end_number h) × ((cursor ≡ end_number h) ⊎ Stood h cursor)
+      → (cursor ≤ end_number h) × ((cursor ≡ end_number h) ⊎ StoodBefore (front_number h) (end_number h) h.control.cursors cursor)
   stood_before is_clone h c r key cursor bounded legal is =
       elim (came_from (front_number h) (end_number h) (λ key. receives_for key c) h.control.cursors (effect (view_of h) c r).control.cursors key cursor (changes is_clone (view_of h) c r legal) (ap (λ m. get m key) (sym (cursors-next h c r)) ∙ is)) [
         | inl e ↦ (omega (arith, e), inl e)
         | inr stood ↦ (let before = (bounded.cursors stood.key stood.before stood.found).1 in
             let front = front-le-end h bounded in
             let high : cursor ≤ end_number h = elim stood.high [ inl e ↦ omega (arith, e, before) | inr e ↦ elim e [ inl f ↦ omega (arith, f, front) | inr f ↦ f ] ] in
-            (high, inr (record { key = stood.key; before = stood.before; found = stood.found; low = stood.low })))
+            (high, inr stood))
       ]
 
   pub bounded-next : (is_clone : T → T → Type 0) (h : History T) (c : Call T) (r : Reply T) → HasPositiveCapacity c → IsBounded h → Legal is_clone (view_of h) c r → IsBounded (next h c r)

@@ -8,18 +8,12 @@ use Rattle.std.specs.List.{AllByRecursion, Contains, range_with_len}
 use Rattle.std.specs.List.Sorted.{IsStrictlyIncreasing, IsStrictlySortedBy}
 use Rattle.std.specs.declared.cmp.Ordering.TheVariants.{Less}
 
-contains_head : (x : ℕ) (xs : List ℕ) (n : ℕ) → n ≡ x → Contains (x ∷ xs) n
-contains_head x xs n e = (0, omega arith, sym e)
-
-contains_tail : (x : ℕ) (xs : List ℕ) (n : ℕ) → Contains xs n → Contains (x ∷ xs) n
-contains_tail x xs n there = Contains-append_right (x ∷ []) xs n there
-
 pub contains_range : (from count n : ℕ) → from ≤ n → n < from + count → Contains (range_with_len from count) n
 contains_range from zero n low high = absurd (omega arith)
 contains_range from (suc count) n low high =
     elim (cases_lt from n) [
-      | inl above ↦ contains_tail from (range_with_len (from + 1) count) n (contains_range (from + 1) count n (omega (arith, above)) (omega (arith, high)))
-      | inr at ↦ contains_head from (range_with_len (from + 1) count) n (omega (arith, at, low))
+      | inl above ↦ Contains-append_right (from ∷ []) (range_with_len (from + 1) count) n (contains_range (from + 1) count n (omega (arith, above)) (omega (arith, high)))
+      | inr at ↦ (0, omega arith, let same : from ≡ n = omega (arith, at, low) in same)
     ]
 
 -- numbers that rise from one on, and stay below another
@@ -53,12 +47,9 @@ within_rising low high n (m ∷ ns) rising there =
       | inr later ↦ (let rest = within_rising (m + 1) high n ns rising.2 later in (omega (arith, rest.0, rising.0), rest.1))
     ]
 
-less : (m n : ℕ) → m < n → nat_cmp m n ≡ Less
-less m n below = let test : nat_lt m n ≡ true = grind (arith, common_steps, below) in rw test refl
-
 all_above : (m low high : ℕ) (ns : List ℕ) → m < low → IsRising low high ns → AllByRecursion (λ n. nat_cmp m n ≡ Less) ns
 all_above m low high [] below rising = tt
-all_above m low high (n ∷ ns) below rising = (less m n (omega (arith, rising.0)), all_above m (n + 1) high ns (omega (arith, rising.0)) rising.2)
+all_above m low high (n ∷ ns) below rising = (let test : nat_lt m n ≡ true = (let low = rising.0 in grind (arith, common_steps, low, below)) in rw test refl, all_above m (n + 1) high ns (omega (arith, rising.0)) rising.2)
 
 sorted : (low high : ℕ) (ns : List ℕ) → IsRising low high ns → IsStrictlySortedBy nat_cmp ns
 unfolding IsStrictlySortedBy

@@ -1,10 +1,10 @@
 -- What a send of a whole list keeps.
-use Rattle.std.proofs.Common.{◌≡◌, inl, ℕ, ◌+◌, ◌-◌, ◌^◌, ◌<◌, ◌≤◌, not, true, false, cond, List, [], ◌∷◌, length, nat_lt, Ok, Err, refl, subst, arith, length-append, length-drop, is_ok}
+use Rattle.std.proofs.Common.{◌≡◌, inl, ℕ, ◌+◌, ◌-◌, ◌^◌, ◌<◌, ◌≤◌, not, true, false, cond, List, [], ◌∷◌, length, nat_lt, Ok, Err, refl, subst, arith, length-append, length-drop, is_ok, Result}
 use Rattle.std.proofs.lemmas.Grind.{common_steps}
 use Rattle.bcast_model.specs.declared.error.TrySendError.TheVariants as unsent
 use Rattle.bcast_model.specs.Words.{has_no_receiver, Effect, sets, IsValidView, free_room}
 use Rattle.bcast_model.specs.Words.{try_broadcast_all_reply, accept_all, offer_all, View}
-use Rattle.bcast_model.specs.Words.{sends_are_ready}
+use Rattle.bcast_model.specs.Words.{sends_are_ready, TrySendError}
 use Rattle.bcast_model.proofs.Cases.{stays-accepting, test_is}
 use Rattle.bcast_model.proofs.Lift.{KeepsValid}
 use Rattle.bcast_model.proofs.Kept.{not_not, kept_idle, keeps_sets}
@@ -29,19 +29,14 @@ module _ {T : Type 0} where
     pub room : count ≤ v.control.capacity - length v.queue
     pub numbers : count ≤ 18446744073709551615 - v.end
 
+  abbrev TellsRoom : View T → List T → Result (Unit {0}) (TrySendError (List T)) → Type 0
+  TellsRoom v msgs answer = is_ok answer ≡ true → IsRoomy v (length msgs)
+
   pub roomy : (v : View T) (msgs : List T) → is_ok (try_broadcast_all_reply v msgs) ≡ true → IsRoomy v (length msgs)
-  roomy v msgs e = elim v.control.closed as (λ b. v.control.closed ≡ b → is_ok {T = Unit {0}} (cond b (Err (unsent.Closed msgs)) (cond (has_no_receiver v.control) (Err (unsent.Inactive msgs)) (cond (nat_lt (free_room v) (length msgs)) (Err (unsent.Full msgs)) (Ok tt)))) ≡ true → IsRoomy v (length msgs)) [
-    | true ↦ λ _ e. cc
-    | false ↦ λ opened e. elim (has_no_receiver v.control) as (λ b. has_no_receiver v.control ≡ b → is_ok {T = Unit {0}} (cond b (Err (unsent.Inactive msgs)) (cond (nat_lt (free_room v) (length msgs)) (Err (unsent.Full msgs)) (Ok tt))) ≡ true → IsRoomy v (length msgs)) [
-      | true ↦ λ _ e. cc
-      | false ↦ λ someone e. elim (nat_lt (free_room v) (length msgs)) as (λ b. nat_lt (free_room v) (length msgs) ≡ b → is_ok {T = Unit {0}} (cond b (Err (unsent.Full msgs)) (Ok tt)) ≡ true → IsRoomy v (length msgs)) [
-        | true ↦ λ _ e. cc
-        | false ↦ λ t e.
-            let fits : length msgs ≤ free_room v = grind (arith, common_steps, t) in
-            record { opened = opened; someone = someone; room = omega (arith, fits); numbers = omega (arith, fits) }
-      ] refl e
-    ] refl e
-  ] refl e
+  roomy v msgs = test_is (TellsRoom v msgs) v.control.closed (Err (unsent.Closed msgs)) (cond (has_no_receiver v.control) (Err (unsent.Inactive msgs)) (cond (nat_lt (free_room v) (length msgs)) (Err (unsent.Full msgs)) (Ok tt))) (λ _ e. cc)
+      (λ opened. test_is (TellsRoom v msgs) (has_no_receiver v.control) (Err (unsent.Inactive msgs)) (cond (nat_lt (free_room v) (length msgs)) (Err (unsent.Full msgs)) (Ok tt)) (λ _ e. cc)
+      (λ someone. test_is (TellsRoom v msgs) (nat_lt (free_room v) (length msgs)) (Err (unsent.Full msgs)) (Ok tt) (λ _ e. cc)
+      (λ t _. let fits : length msgs ≤ free_room v = grind (arith, common_steps, t) in record { opened = opened; someone = someone; room = omega (arith, fits); numbers = omega (arith, fits) })))
 
   module _ (v : View T) (valid : IsValidView v) where
     keeps_accept_all : (msg : T) (rest : List T) → IsRoomy v (length (msg ∷ rest)) → KeepsValid v (accept_all v (msg ∷ rest)) (not (sends_are_ready v))

@@ -54,10 +54,8 @@ module _ {T : Type 0} where
 
   -- a send that is not refused finds an open channel
   open_offer : (v : View T) (msg : T) → is_ok (try_broadcast_reply v msg) ≡ true → v.control.closed ≡ false
-  open_offer v msg e = elim v.control.closed as (λ b. is_ok (cond b (Err (unsent.Closed msg)) (cond (has_no_receiver v.control) (Err (unsent.Inactive msg)) (cond (is_full v && not v.control.overflow) (Err (unsent.Full msg)) (Ok (handed_back v))))) ≡ true → b ≡ false) [
-    | true ↦ λ e. cc
-    | false ↦ λ e. refl
-  ] e
+  open_offer v msg = test_is (λ answer. is_ok answer ≡ true → v.control.closed ≡ false) v.control.closed (Err (unsent.Closed msg))
+      (cond (has_no_receiver v.control) (Err (unsent.Inactive msg)) (cond (is_full v && not v.control.overflow) (Err (unsent.Full msg)) (Ok (handed_back v)))) (λ _ e. cc) (λ opened _. opened)
 
   module _ (v : View T) (valid : IsValidView v) where
     keeps_accept : (msg : T) → v.control.closed ≡ false → KeepsValid v (accept v msg) (not (sends_are_ready v))

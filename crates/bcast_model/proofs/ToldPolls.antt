@@ -1,5 +1,5 @@
 -- Polls of told listeners come to rest.
-use Rattle.std.proofs.Common.{◌≡◌, ℕ, ◌+◌, ◌*◌, ◌≤◌, true, false, cond, not, ◌&&◌, List, [], ◌∷◌, drop, max, Option, Some, Result, Ok, Err, refl, sym, ap, ◌∙◌, subst, arith, alloc_error}
+use Rattle.std.proofs.Common.{◌≡◌, ℕ, ◌+◌, ◌*◌, ◌≤◌, true, false, cond, not, ◌&&◌, List, ◌∷◌, drop, max, Option, Some, Result, Ok, Err, refl, sym, ap, ◌∙◌, subst, arith, alloc_error}
 use Rattle.std.proofs.lemmas.Option.{same_Some}
 use Rattle.std.specs.List.{AllByRecursion}
 use Rattle.std.specs.FinMap.{len}
@@ -44,8 +44,6 @@ module _ {T : Type 0} (is_clone : T → T → Type 0) where
 
   -- the measure bounds them
   told_polls_within : (h : History T) (calls : List (Call T)) (replies : List (Reply T)) → IsValid h → IsRun is_clone h calls replies → told_polls h calls replies ≤ unrest h.control
-  told_polls_within h [] replies valid run = omega arith
-  told_polls_within h (c ∷ calls) [] valid run = omega arith
   told_polls_within h (c ∷ calls) (r ∷ replies) valid run =
       elim (polls_told h.control c) as (λ b. polls_told h.control c ≡ b → cond (b && not (is_out_of_memory r)) (1 + told_polls (next h c r) calls replies) 0 ≤ unrest h.control) [
         | true ↦ λ told. elim (is_out_of_memory r) as (λ b. is_out_of_memory r ≡ b → cond (true && not b) (1 + told_polls (next h c r) calls replies) 0 ≤ unrest h.control) [
@@ -57,6 +55,7 @@ module _ {T : Type 0} (is_clone : T → T → Type 0) where
         ] refl
         | false ↦ λ _. omega arith
       ] refl
+  told_polls_within h calls replies valid run = omega arith
 
   few_polls : (h : History T) (calls : List (Call T)) (replies : List (Reply T)) → IsValid h → IsRun is_clone h calls replies → 2 * told_polls h calls replies ≤ listener_count h.control * (listener_count h.control + 1)
   few_polls h calls replies valid run =
