@@ -113,12 +113,9 @@ alike_at c key fresh None is at = is.free ∙ sym at
 alike_at c key fresh (Some cursor) is at = inserted c.cursors fresh cursor ∙ sym (inserted_other c.cursors fresh cursor key (key_differs c key fresh is) ∙ at)
 
 module _ {T : Type 0} where
-  same_key : (x y : ℕ) → ◌≡◌ {A = Reply T} (reply.CloneReceiver (Ok x)) (reply.CloneReceiver (Ok y)) → x ≡ y
-  same_key x y e = cc
-
   fresh_key : (is_clone : T → T → Type 0) (v : View T) (key fresh : ℕ) → Legal is_clone v (call.CloneReceiver key) (reply.CloneReceiver (Ok fresh)) → IsFresh v.control key fresh
   fresh_key is_clone v key fresh (inl (gone, is)) = cc
-  fresh_key is_clone v key fresh (inr (there, inl (made, is, free))) = record { there = there; free = ap (cursor_of v.control) (same_key fresh made is) ∙ free }
+  fresh_key is_clone v key fresh (inr (there, inl (made, is, free))) = record { there = there; free = ap (cursor_of v.control) (let same : fresh ≡ made = cc in same) ∙ free }
   fresh_key is_clone v key fresh (inr (there, inr is)) = cc
 
   stand_alike : (h : History T) (key fresh : ℕ) → IsFresh h.control key fresh → let made = next h (call.CloneReceiver key) (reply.CloneReceiver (Ok fresh)) in cursor_of made.control fresh ≡ cursor_of made.control key

@@ -1,24 +1,17 @@
 -- How many messages are kept.
-use Rattle.std.proofs.Common.{◌≡◌, ℕ, ◌≤◌, List, [], ◌∷◌, length, map, refl, arith}
+use Rattle.std.proofs.Common.{◌≡◌, ℕ, ◌≤◌, [], length, map, arith, ap}
 use Rattle.std.specs.FinMap.{len, values, entries, len-entries}
+use Rattle.std.proofs.lemmas.List.{nil_from_length}
 use Rattle.bcast_model.specs.declared.run.Call.TheVariants as call
 use Rattle.bcast_model.specs.declared.run.Reply.TheVariants as reply
 use Rattle.bcast_model.specs.Words.{least, Legal, IsValidView, View}
-
-pub empty : {A : Type 0} (items : List A) → length items ≤ 0 → items ≡ []
-empty [] short = refl
-empty (item ∷ items) short = absurd (omega arith)
-
-least_deserted : (end : ℕ) (es : List (ℕ × ℕ)) → length es ≡ 0 → least end (map (λ e. e.1) es) ≡ end
-least_deserted end [] none = refl
-least_deserted end (e ∷ es) none = absurd (omega (arith, none))
 
 module _ {T : Type 0} where
   pub none_kept : (v : View T) → IsValidView v → len v.control.cursors ≡ 0 → v.queue ≡ []
   none_kept v valid none =
       let count = len-entries v.control.cursors in
-      let all : least v.end (values v.control.cursors) ≡ v.end = least_deserted v.end (entries v.control.cursors) (omega (arith, count, none)) in
-      empty v.queue (omega (arith, all, valid.low, valid.end))
+      let all : least v.end (values v.control.cursors) ≡ v.end = ap (λ es. least v.end (map (λ e. e.1) es)) (nil_from_length (entries v.control.cursors) (omega (arith, count, none))) in
+      nil_from_length v.queue (omega (arith, all, valid.low, valid.end))
 
   pub len_within : (is_clone : T → T → Type 0) (v : View T) (n capacity : ℕ) → IsValidView v → Legal is_clone v call.Len (reply.Len n) → Legal is_clone v call.Capacity (reply.Capacity capacity) → n ≤ capacity
   len_within is_clone v n capacity valid is at =

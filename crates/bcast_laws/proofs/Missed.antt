@@ -1,7 +1,6 @@
 -- A receiver that missed messages finds a message at its next try.
-use Rattle.std.proofs.Common.{◌≡◌, ℕ, ◌-◌, ◌<◌, ◌≤◌, true, Option, Some, None, Result, Ok, Err, refl, subst, arith, IsOk, inl, inr, sym, ◌∙◌}
+use Rattle.std.proofs.Common.{◌≡◌, ℕ, ◌-◌, ◌<◌, ◌≤◌, true, Option, Some, None, Ok, Err, refl, subst, arith, IsOk, inl, inr, sym, ◌∙◌}
 use Rattle.std.proofs.lemmas.Bool.{cases_lt}
-use Rattle.bcast_model.specs.declared.error.TryRecvError.{TryRecvError}
 use Rattle.bcast_model.specs.declared.error.TryRecvError.TheVariants as unread
 use Rattle.bcast_model.specs.declared.run.Call.TheVariants as call
 use Rattle.bcast_model.specs.declared.run.Reply.TheVariants as reply
@@ -14,9 +13,6 @@ use Rattle.bcast_laws.proofs.Unread.{valid_after, same_end, left_at_front, gives
 use Rattle.bcast_model.proofs.Cases.{lagging_reply, passed_reply}
 
 module _ {T : Type 0} where
-  same_count : (m n : ℕ) → ◌≡◌ {A = Result T TryRecvError} (Err (unread.Overflowed m)) (Err (unread.Overflowed n)) → m ≡ n
-  same_count m n e = cc
-
   -- the receiver lags by this many
   record Lags (v : View T) (key n : ℕ) : Type 0 where
     cursor : ℕ
@@ -27,7 +23,7 @@ module _ {T : Type 0} where
   lags_at : (v : View T) (key n : ℕ) (cursor : Option ℕ) → cursor_of v.control key ≡ cursor → try_recv_reply v cursor ≡ Err (unread.Overflowed n) → Lags v key n
   lags_at v key n None at e = absurd (found_reached true None n e)
   lags_at v key n (Some cursor) at e = elim (cases_lt cursor v.front) [
-    | inl lags ↦ record { cursor = cursor; at = at; low = lags; count = same_count (v.front - cursor) n (sym (lagging_reply v cursor lags) ∙ e) }
+    | inl lags ↦ record { cursor = cursor; at = at; low = lags; count = (let same = sym (lagging_reply v cursor lags) ∙ e in cc) }
     | inr passed ↦ absurd (found_reached v.control.closed (kept_at v cursor) n (sym (passed_reply v cursor passed) ∙ e))
   ]
 

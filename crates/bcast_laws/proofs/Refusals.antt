@@ -1,7 +1,6 @@
 -- A refused call changes nothing.
-use Rattle.std.proofs.Common.{◌≡◌, inl, inr, ℕ, ◌+◌, ◌-◌, ◌==◌, ◌&&◌, not, Bool, true, false, cond, List, max, Option, Some, None, Result, Ok, Err, refl, sym, ap, ◌∙◌, arith, append-nil, alloc_error, is_ok, ◌||◌, is_some}
+use Rattle.std.proofs.Common.{◌≡◌, inl, inr, ℕ, ◌+◌, ◌-◌, ◌==◌, ◌&&◌, not, Bool, true, false, cond, max, Option, Some, None, Result, Ok, Err, refl, sym, ap, ◌∙◌, arith, append-nil, alloc_error, is_ok, ◌||◌, is_some}
 use Rattle.std.proofs.lemmas.Option.{slice_get_cases}
-use Rattle.bcast_model.specs.declared.error.TrySendError.{TrySendError}
 use Rattle.bcast_model.specs.declared.error.TryRecvError.{TryRecvError}
 use Rattle.bcast_model.specs.declared.run.Call.{Call}
 use Rattle.bcast_model.specs.declared.run.Call.TheVariants as call
@@ -52,17 +51,9 @@ same_sender T c more false e = refl
 
 module _ {T : Type 0} where
   -- ---- sends
-  same_try : (v : View T) (msg : T) (answer : Result (Option T) (TrySendError T)) → is_refused (reply.TryBroadcast answer) ≡ true → cond (is_ok answer) (accept v msg) (sets v.control) ≡ sets v.control
-  same_try v msg (Ok back) e = apart e
-  same_try v msg (Err error) e = refl
-
-  same_all : (v : View T) (msgs : List T) (answer : Result (Unit {0}) (TrySendError (List T))) → is_refused {T = T} (reply.TryBroadcastAll answer) ≡ true → cond (is_ok answer) (accept_all v msgs) (sets v.control) ≡ sets v.control
-  same_all v msgs (Ok done) e = apart e
-  same_all v msgs (Err error) e = refl
-
-  same_attempt : (v : View T) (msg : T) (await : Bool) (answer : Result (Option T) (TrySendError T)) → is_refused (reply.AttemptSend (reply_to_attempt await answer)) ≡ true → cond (is_ok answer) (accept v msg) (sets v.control) ≡ sets v.control
-  same_attempt v msg await (Ok back) e = apart e
-  same_attempt v msg await (Err error) e = refl
+  same_sent : {A E : Type 0} (spelt : Result A E → Reply T) (accepted idle : Effect T) (answer : Result A E) → ((back : A) → is_refused (spelt (Ok back)) ≡ false) → is_refused (spelt answer) ≡ true → cond (is_ok answer) accepted idle ≡ idle
+  same_sent spelt accepted idle (Ok back) gives e = apart (sym (gives back) ∙ e)
+  same_sent spelt accepted idle (Err error) gives e = refl
 
   -- ---- receives
   same_receive : (v : View T) (key : ℕ) (cursor : Option ℕ) → IsValidView v → is_refused (reply.TryRecv (Ok (try_recv_reply v cursor))) ≡ true → receive v key cursor ≡ v.control
@@ -88,9 +79,9 @@ module _ {T : Type 0} where
 
   -- ---- each call
   same_effect : (is_clone : T → T → Type 0) (v : View T) (c : Call T) (r : Reply T) → IsValidView v → Legal is_clone v c r → is_refused r ≡ true → effect v c r ≡ sets v.control
-  same_effect is_clone v (call.TryBroadcast msg) r valid legal e = same_try v msg (try_broadcast_reply v msg) (sym (ap is_refused legal) ∙ e)
-  same_effect is_clone v (call.TryBroadcastAll msgs) r valid legal e = same_all v msgs (try_broadcast_all_reply v msgs) (sym (ap is_refused legal) ∙ e)
-  same_effect is_clone v (call.AttemptSend msg) r valid legal e = same_attempt v msg v.control.await_active (try_broadcast_reply v msg) (sym (ap is_refused legal) ∙ e)
+  same_effect is_clone v (call.TryBroadcast msg) r valid legal e = same_sent reply.TryBroadcast (accept v msg) (sets v.control) (try_broadcast_reply v msg) (λ _. refl) (sym (ap is_refused legal) ∙ e)
+  same_effect is_clone v (call.TryBroadcastAll msgs) r valid legal e = same_sent reply.TryBroadcastAll (accept_all v msgs) (sets v.control) (try_broadcast_all_reply v msgs) (λ _. refl) (sym (ap is_refused legal) ∙ e)
+  same_effect is_clone v (call.AttemptSend msg) r valid legal e = same_sent (λ answer. reply.AttemptSend (reply_to_attempt v.control.await_active answer)) (accept v msg) (sets v.control) (try_broadcast_reply v msg) (λ _. refl) (sym (ap is_refused legal) ∙ e)
   same_effect is_clone v call.BeginSend r valid (inl (place, is, free)) e = apart (sym (ap is_refused is) ∙ e)
   same_effect is_clone v call.BeginSend r valid (inr is) e = rw is refl
   same_effect is_clone v (call.TryRecv key) r valid legal e =

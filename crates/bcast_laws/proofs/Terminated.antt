@@ -2,6 +2,7 @@
 use Rattle.std.proofs.Common.{◌≡◌, inl, inr, ℕ, ◌-◌, ◌≤◌, ◌==◌, ◌&&◌, Bool, true, false, cond, length, max, Option, Some, None, Result, Ok, Err, refl, sym, ap, ◌∙◌, arith, alloc_error}
 use Rattle.std.proofs.lemmas.Grind.{common_steps}
 use Rattle.std.proofs.lemmas.Option.{slice_get_past}
+use Rattle.std.proofs.lemmas.List.{nil_from_length}
 use Rattle.bcast_model.specs.declared.error.TryRecvError.{TryRecvError}
 use Rattle.bcast_model.specs.declared.error.TryRecvError.TheVariants as unread
 use Rattle.bcast_model.specs.declared.run.Call.TheVariants as call
@@ -11,7 +12,6 @@ use Rattle.bcast_model.specs.Words.{cursor_of, View, IsValidView, IsOwed, recv_r
 use Rattle.bcast_model.specs.Words.{skipped_to, future_reply, stream_reply, next_reply}
 use Rattle.bcast_model.specs.Words.{try_recv_reply, Legal, IsReceived}
 use Rattle.bcast_laws.specs.Closing.{AnswersClosed}
-use Rattle.bcast_laws.proofs.Kept.{empty}
 use Rattle.bcast_model.proofs.Cases.{passed_reply}
 
 both : (a b : Bool) → (a && b) ≡ true → (a ≡ true) × (b ≡ true)
@@ -33,7 +33,7 @@ module _ {T : Type 0} where
 
   module _ (v : View T) (key : ℕ) (valid : IsValidView v) (closed : v.control.closed ≡ true) (none : length v.queue ≡ 0) where
     read_all : (cursor : ℕ) → cursor_of v.control key ≡ Some cursor → v.end ≤ cursor
-    read_all cursor at = valid.caught_up key cursor (empty v.queue (omega (arith, none))) at
+    read_all cursor at = valid.caught_up key cursor (nil_from_length v.queue none) at
 
     closed_own : (cursor : Option ℕ) → cursor_of v.control key ≡ cursor → try_recv_reply v cursor ≡ Err unread.Closed
     closed_own None at = refl

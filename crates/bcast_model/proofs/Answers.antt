@@ -1,20 +1,16 @@
 -- A step from view to view keeps each valid history with this view valid.
-use Rattle.std.proofs.Common.{◌≡◌, Bool, ◌&&◌, refl, sym, ap, ◌∙◌, subst}
+use Rattle.std.proofs.Common.{◌≡◌, ◌&&◌, refl, sym, ap, ◌∙◌, subst}
 use Rattle.std.specs.FinMap.{len}
 use Rattle.bcast_model.specs.Words.{Call, Reply, Cursors, tell_a_sender, View, sends_are_ready}
-use Rattle.bcast_model.specs.Words.{Legal, effect, History, view_of, remember, tell_if_ready}
-use Rattle.bcast_model.specs.Words.{may_tell, next, IsValid, Represents, IsShown, IsPossible}
-use Rattle.bcast_model.specs.Words.{Answers, settle, next_view, Steps, HasRange}
+use Rattle.bcast_model.specs.Words.{Legal, effect, History, view_of, remember, may_tell, next}
+use Rattle.bcast_model.specs.Words.{IsValid, Represents, IsShown, IsPossible, Answers, settle}
+use Rattle.bcast_model.specs.Words.{next_view, Steps, HasRange}
 use Rattle.bcast_model.proofs.Cases.{test_is, tell_is}
 use Rattle.bcast_model.proofs.Views.{valid_view}
 use Rattle.bcast_model.proofs.Lift.{KeepsValid, valid_told, view_of-told}
 use Rattle.bcast_model.proofs.Calls.{keeps_valid}
 
 module _ {T : Type 0} where
-  -- telling a sender moves no cursor
-  cursors-tell_if_ready : (may : Bool) (v : View T) → (tell_if_ready may v).control.cursors ≡ v.control.cursors
-  cursors-tell_if_ready may v = test_is (λ (w : View T). w.control.cursors ≡ v.control.cursors) (may && sends_are_ready v) (record v { control = tell_a_sender v.control }) v (λ _. refl) (λ _. refl)
-
   pub cursors-next : (h : History T) (c : Call T) (r : Reply T) → (next h c r).control.cursors ≡ (effect (view_of h) c r).control.cursors
   cursors-next h c r = tell_is (λ (now : History T). now.control.cursors ≡ (effect (view_of h) c r).control.cursors) (may_tell h.control (sends_are_ready (view_of h)) c) (remember h (effect (view_of h) c r)) (λ _. refl) (λ _. refl)
 
@@ -34,7 +30,8 @@ module _ {T : Type 0} where
 
   pub answers : {is_clone : T → T → Type 0} {old new : View T} {c : Call T} {r : Reply T} → HasRange c (len new.control.cursors) → IsShown old → Steps is_clone old c r new → Answers is_clone old c r new
   answers {is_clone = is_clone} {old = old} {new = new} {c = c} {r = r} range shown s =
-      let told = cursors-tell_if_ready (may_tell old.control (sends_are_ready old) c) (settle old (effect old c r)) in
+      let now : View T = settle old (effect old c r) in
+      let told = test_is (λ (w : View T). w.control.cursors ≡ now.control.cursors) (may_tell old.control (sends_are_ready old) c && sends_are_ready now) (record now { control = tell_a_sender now.control }) now (λ _. refl) (λ _. refl) in
       let few = subst (λ (cursors : Cursors). HasRange c (len cursors)) (ap (λ (v : View T). v.control.cursors) s.next ∙ told) range in
       let within : (h : History T) → Represents old h → HasRange c (len (effect (view_of h) c r).control.cursors) = λ h is. subst (λ (v : View T). HasRange c (len (effect v c r).control.cursors)) is few in
       let legal : (h : History T) → Represents old h → Legal is_clone (view_of h) c r = λ h is. subst (λ v. Legal is_clone v c r) is s.legal in

@@ -80,9 +80,6 @@ module _ {T : Type 0} where
   pub ok_err : {A : Type 0} (msg : T) (error : TryRecvError) → ◌≡◌ {A = Result T TryRecvError} (Err error) (Ok msg) → A
   ok_err msg error e = cc
 
-  same_Ok : (x y : T) → ◌≡◌ {A = Result T TryRecvError} (Ok x) (Ok y) → x ≡ y
-  same_Ok x y e = cc
-
   nothing_found : (skips : ℕ) (closed : Bool) → entries_of skips (recv_reply closed None) ≡ []
   nothing_found skips true = refl
   nothing_found skips false = refl
@@ -108,7 +105,7 @@ module _ {T : Type 0} where
       rw (e, within) (gives_message h key cursor skips h.control.cursors msg msg from exact there (inl refl))
   gives_found {is_clone = is_clone} h key cursor skips answer (Some msg) low is from exact there (inr (original, given, same, copy, e)) =
       let within : nat_lt (cursor + skips) (end_number h) ≡ true = numbered_there h (cursor + skips) (Some msg) (omega arith) there in
-      rw (e, within) (gives_message h key cursor skips h.control.cursors msg given from exact there (inr (subst (λ m. is_clone m given) (sym (same_Ok msg original same)) copy)))
+      rw (e, within) (gives_message h key cursor skips h.control.cursors msg given from exact there (inr (subst (λ m. is_clone m given) (let is : original ≡ msg = cc in is) copy)))
 
   pub gives_answer : {is_clone : T → T → Type 0} (h : History T) (key cursor skips : ℕ) (answer : Result T TryRecvError) → h.first ≤ h.floor → cursor_of h.control key ≡ Some cursor
       → (skips ≡ 0) ⊎ (cursor + skips ≡ front_number h) → IsAnswer is_clone (try_recv_reply (view_of h) (Some (cursor + skips))) answer

@@ -74,17 +74,13 @@ pub record StoodBefore (front end : ℕ) (old : Cursors) (cursor : ℕ) : Type 0
 stood : (front end : ℕ) (old : Cursors) (key cursor : ℕ) → get old key ≡ Some cursor → StoodBefore front end old cursor
 stood front end old key cursor is = record { key = key; before = cursor; found = is; low = omega arith; high = inl (omega arith) }
 
-inserted_from : (front end : ℕ) (old : Cursors) (key cursor other c : ℕ) → get (insert old key cursor) other ≡ Some c → StoodBefore front end old cursor → StoodBefore front end old c
-inserted_from front end old key cursor other c is before =
-    elim (got_insert old key cursor other c is) [
-      | inl e ↦ subst (StoodBefore front end old) (sym e.1) before
-      | inr e ↦ stood front end old other c e
-    ]
-
 pub came_from : (front end : ℕ) (receives : ℕ → Bool) (old new : Cursors) (key cursor : ℕ) → CursorsChange front end receives old new → get new key ≡ Some cursor → (cursor ≡ end) ⊎ StoodBefore front end old cursor
 came_from front end receives old new key cursor (stay same) is = inr (stood front end old key cursor (ap (λ m. get m key) (sym same) ∙ is))
 came_from front end receives old new key cursor (rise other from to reads found le high same) is =
-    inr (inserted_from front end old other to key cursor (ap (λ m. get m key) (sym same) ∙ is) (record { key = other; before = from; found = found; low = le; high = inr high }))
+    inr (elim (got_insert old other to key cursor (ap (λ m. get m key) (sym same) ∙ is)) [
+      | inl e ↦ subst (StoodBefore front end old) (sym e.1) (record { key = other; before = from; found = found; low = le; high = inr high })
+      | inr e ↦ stood front end old key cursor e
+    ])
 came_from front end receives old new key cursor (make made at free source same) is =
     elim (got_insert old made at key cursor (ap (λ m. get m key) (sym same) ∙ is)) [
       | inl e ↦ elim source [ inl last ↦ inl (e.1 ∙ last) | inr other ↦ inr (stood front end old other.0 cursor (other.1 ∙ ap Some (sym e.1))) ]

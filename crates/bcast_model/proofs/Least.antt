@@ -1,13 +1,14 @@
 -- The least cursor.
-use Rattle.std.proofs.Common.{◌≡◌, ℕ, ◌<◌, ◌≤◌, Bool, true, false, cond, List, [], ◌∷◌, length, map, min, Some, None, refl, sym, ap, ◌∙◌, arith, nat_cmp, T, ◌&&◌, nat_lt, ◌==◌, is_lt}
+use Rattle.std.proofs.Common.{◌≡◌, ℕ, ◌<◌, ◌≤◌, Bool, true, false, cond, List, [], ◌∷◌, length, map, min, Some, None, refl, sym, ◌∙◌, arith, nat_cmp, T, ◌&&◌, nat_lt, ◌==◌, is_lt}
 use Rattle.std.proofs.lemmas.Grind.{common_steps}
-use Rattle.std.specs.Cmp.{nat_cmp_total, unsigned_tied}
-use Rattle.std.specs.FinMap.{get, insert, len, values, entries, entries_sorted, find, is_sorted, get-insert, get-entries, len-entries}
+use Rattle.std.specs.Cmp.{unsigned_tied}
+use Rattle.std.specs.FinMap.{get, insert, len, values, entries, entries_sorted, find, is_sorted, get-entries, len-entries}
 use Rattle.std.specs.FinMap.Entries.{below_all}
 use Rattle.std.specs.Ordering.{eq_by_cmp}
 use Rattle.std.specs.declared.cmp.Ordering.TheVariants.{Less, Equal, Greater}
 use Rattle.std.proofs.lemmas.Option.{none-some, same_Some}
 use Rattle.bcast_model.specs.Words.{Cursors, least}
+use Rattle.bcast_model.proofs.DeliveryMaps.{inserted}
 
 -- it is no greater than a cursor
 least_found : (limit q c : ℕ) (es : List (ℕ × ℕ)) → find nat_cmp q es ≡ Some c → least limit (map (λ e. e.1) es) ≤ c
@@ -75,7 +76,4 @@ pub len_some : (m : Cursors) (q c : ℕ) → get m q ≡ Some c → 1 ≤ len m
 len_some m q c h = let n = len-entries m in let f = found_some q c (entries m) (sym (get-entries m q) ∙ h) in omega (arith, n, f)
 
 pub len_insert : (m : Cursors) (key cursor : ℕ) → 1 ≤ len (insert m key cursor)
-len_insert m key cursor =
-    let t = unsigned_tied key key in
-    let e : eq_by_cmp nat_cmp key key ≡ true = grind (arith, common_steps, t) in
-    len_some (insert m key cursor) key cursor (get-insert nat_cmp_total m key cursor key ∙ ap (λ b. cond b (Some cursor) (get m key)) e)
+len_insert m key cursor = len_some (insert m key cursor) key cursor (inserted m key cursor)

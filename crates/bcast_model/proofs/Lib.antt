@@ -40,5 +40,4 @@ pub mod DeliveryLemmas
 pub mod DroppedByCalls
 pub mod RisingNumbers
 pub mod MissedSteps
-pub mod MissedRuns
 pub mod MissedLemmas

@@ -10,12 +10,27 @@ use Rattle.bcast_model.specs.Words.{deliveries_of, dropped_by, dropped_in, WasDr
 use Rattle.bcast_model.specs.Words.{MissesOnlyDropped, MissesWhatWasDropped}
 use Rattle.bcast_model.proofs.DeliveryLists.{in_parts}
 use Rattle.bcast_model.proofs.DeliverySteps.{gives_call}
-use Rattle.bcast_model.proofs.Views.{IsBounded, bounded_valid}
+use Rattle.bcast_model.proofs.Views.{IsBounded, bounded_valid, floor_under, front-le-cursor}
 use Rattle.bcast_model.proofs.RisingNumbers.{within_rising, increasing}
-use Rattle.bcast_model.proofs.MissedSteps.{drops_next, bounded-next}
-use Rattle.bcast_model.proofs.MissedRuns.{joined, bounded_run, rising_run, AreGone, gone_next, gone_from, under_floor, missed_gone, given_kept}
+use Rattle.bcast_model.proofs.MissedSteps.{drops_next, bounded-next, joined, bounded_run, rising_run, AreGone, gone_next, gone_from, under_floor}
 
 module _ {T : Type 0} (is_clone : T → T → Type 0) where
+  -- ---- what one call tells
+  missed_gone : (Gone : ℕ → Type 0) (h : History T) (key cursor index : ℕ) (c : Call T) (r : Reply T) → IsBounded h → AreGone is_clone Gone h → cursor_of h.control key ≡ Some cursor → Legal is_clone (view_of h) c r → slice_get (given_to key c r) index ≡ Some None → Gone (cursor + index)
+  missed_gone Gone h key cursor index c r bounded gone is legal e =
+      let gives = gives_call is_clone h key cursor c r bounded.floor_low is legal in
+      let missed = gives.missed index e in
+      let front = front-le-cursor h key cursor is in
+      gone (cursor + index) key cursor is (omega arith) (omega (arith, missed, front))
+
+  given_kept : (h : History T) (key cursor index : ℕ) (msg : T) (c : Call T) (r : Reply T) → IsBounded h → cursor_of h.control key ≡ Some cursor → Legal is_clone (view_of h) c r → slice_get (given_to key c r) index ≡ Some (Some msg) → h.floor ≤ cursor + index
+  given_kept h key cursor index msg c r bounded is legal e =
+      let gives = gives_call is_clone h key cursor c r bounded.floor_low is legal in
+      let kept = gives.kept index msg e in
+      let low = floor_under h in
+      omega (arith, kept, low)
+
+  -- ---- what a run drops
   pub dropped_rise : (h : History T) (calls : List (Call T)) (replies : List (Reply T)) → IsValid h → AllByRecursion HasPositiveCapacity calls → IsRun is_clone h calls replies → IsStrictlyIncreasing (dropped_in h calls replies)
   dropped_rise h calls replies valid allowed run = increasing h.floor (end_of_run h calls replies).floor (dropped_in h calls replies) (rising_run is_clone h calls replies (bounded_valid h valid) allowed run).1
 
@@ -26,9 +41,9 @@ module _ {T : Type 0} (is_clone : T → T → Type 0) where
       let now = end_of_run h calls replies in
       let there = bounded_run is_clone h calls replies bounded allowed run in
       record {
-        missed = λ index e. missed_gone is_clone (WasDropped h calls replies) now key cursor index c r there (gone_from is_clone h calls replies bounded allowed run) is legal e;
+        missed = λ index e. missed_gone (WasDropped h calls replies) now key cursor index c r there (gone_from is_clone h calls replies bounded allowed run) is legal e;
         given = λ index msg e dropped.
-            let kept = given_kept is_clone now key cursor index msg c r there is legal e in
+            let kept = given_kept now key cursor index msg c r there is legal e in
             let under = under_floor is_clone h calls replies (cursor + index) bounded allowed run dropped in
             omega (arith, kept, under);
       }
@@ -41,8 +56,8 @@ module _ {T : Type 0} (is_clone : T → T → Type 0) where
 
   told_now : (Gone : ℕ → Type 0) (h : History T) (key cursor index : ℕ) (c : Call T) (r : Reply T) (dropped : List ℕ) (entry : Option T) → IsBounded h → AreGone is_clone Gone h → cursor_of h.control key ≡ Some cursor → Legal is_clone (view_of h) c r
       → slice_get (given_to key c r) index ≡ Some entry → Told Gone h dropped (cursor + index) entry
-  told_now Gone h key cursor index c r dropped None bounded gone is legal e = inl (missed_gone is_clone Gone h key cursor index c r bounded gone is legal e)
-  told_now Gone h key cursor index c r dropped (Some msg) bounded gone is legal e = given_kept is_clone h key cursor index msg c r bounded is legal e
+  told_now Gone h key cursor index c r dropped None bounded gone is legal e = inl (missed_gone Gone h key cursor index c r bounded gone is legal e)
+  told_now Gone h key cursor index c r dropped (Some msg) bounded gone is legal e = given_kept h key cursor index msg c r bounded is legal e
 
   told_later : (Gone : ℕ → Type 0) (h : History T) (c : Call T) (r : Reply T) (dropped : List ℕ) (n : ℕ) (entry : Option T) → IsBounded h → Legal is_clone (view_of h) c r → Told (λ n. Gone n ⊎ Contains (dropped_by h c r) n) (next h c r) dropped n entry
       → Told Gone h (dropped_by h c r ++ dropped) n entry
@@ -92,8 +107,8 @@ module _ {T : Type 0} (is_clone : T → T → Type 0) where
       let drops = drops_next is_clone h c r bounded run.0 in
       let rises = drops.rises in (
         λ key cursor index entry is at. elim entry as (λ o. slice_get (given_to key c r) index ≡ Some o → IsNone o ↔ Contains dropped (cursor + index)) [
-          | None ↦ λ e. (λ _. missed_gone is_clone (Contains dropped) h key cursor index c r bounded gone is run.0 e, λ _. refl)
-          | Some msg ↦ λ e. (λ some. cc, λ there. absurd (let kept = given_kept is_clone h key cursor index msg c r bounded is run.0 e in let below = under (cursor + index) there in omega (arith, kept, below)))
+          | None ↦ λ e. (λ _. missed_gone (Contains dropped) h key cursor index c r bounded gone is run.0 e, λ _. refl)
+          | Some msg ↦ λ e. (λ some. cc, λ there. absurd (let kept = given_kept h key cursor index msg c r bounded is run.0 e in let below = under (cursor + index) there in omega (arith, kept, below)))
         ] at,
         misses_from (dropped ++ dropped_by h c r) (next h c r) calls replies (bounded-next is_clone h c r allowed.0 bounded run.0) allowed.1 run.1
             (in_all (next h c r) dropped (dropped_by h c r) (gone_next is_clone (Contains dropped) h c r bounded run.0 gone))

@@ -1,24 +1,21 @@
 -- The state of a new channel, and a valid history for each valid view.
-use Rattle.std.proofs.Common.{◌≡◌, inl, ℕ, ◌+◌, ◌-◌, ◌<◌, ◌≤◌, ◌^◌, true, false, cond, [], Some, refl, sym, ◌∙◌, arith, length-drop, ◌↔◌, inr, List, ◌∷◌, ◌++◌, length, drop, replicate, subst, length-append, ap, ◌⊎◌}
+use Rattle.std.proofs.Common.{◌≡◌, inl, ℕ, ◌+◌, ◌-◌, ◌<◌, ◌≤◌, ◌^◌, [], Some, refl, sym, ◌∙◌, arith, length-drop, ◌↔◌, inr, List, ◌∷◌, ◌++◌, length, drop, replicate, subst, length-append, ap, ◌⊎◌, nat_cmp}
 use Rattle.std.proofs.lemmas.Grind.{common_steps}
-use Rattle.std.proofs.lemmas.Option.{none-some, same_Some}
+use Rattle.std.proofs.lemmas.Option.{none-some}
 use Rattle.std.proofs.lemmas.List.{drop_all, length-replicate, drop_at}
-use Rattle.std.specs.Ordering.{nat_cmp, eq_by_cmp}
 use Rattle.std.specs.Cmp.{nat_cmp_total}
-use Rattle.std.specs.FinMap.{get, insert, empty, values, get-insert, get-empty, len-insert, len-empty}
+use Rattle.std.specs.FinMap.{get, insert, empty, values, get-empty, len-insert, len-empty}
 use Rattle.bcast_model.specs.Words.{History, opening, front_number, view_of, IsValid}
 use Rattle.bcast_model.specs.Words.{IsValidControl, NoLostWakeUp, View, IsShown, Represents}
 use Rattle.bcast_model.specs.Words.{IsValidView, end_number, is_full, queue_of}
 use Rattle.bcast_model.proofs.Least.{least-le-limit}
 use Rattle.bcast_model.proofs.Lift.{same_view}
 use Rattle.bcast_model.proofs.Views.{valid_view}
+use Rattle.bcast_model.proofs.DeliveryMaps.{got_insert}
 
 -- its only receiver is at the first number
 pub cursor_is_first : (key first other cursor : ℕ) → get (insert (empty {R = nat_cmp}) key first) other ≡ Some cursor → cursor ≡ first
-cursor_is_first key first other cursor e = elim (eq_by_cmp nat_cmp other key) as (λ b. cond b (Some first) (get (empty {R = nat_cmp}) other) ≡ Some cursor → cursor ≡ first) [
-  | true ↦ λ f. sym (same_Some first cursor f)
-  | false ↦ λ f. absurd (none-some cursor (sym (get-empty nat_cmp other) ∙ f))
-] (sym (get-insert nat_cmp_total empty key first other) ∙ e)
+cursor_is_first key first other cursor e = elim (got_insert empty key first other cursor e) [ inl f ↦ f.1 | inr f ↦ absurd (none-some cursor (sym (get-empty nat_cmp other) ∙ f)) ]
 
 module _ {T : Type 0} where
   pub opening_valid : (capacity first key : ℕ) → 1 ≤ capacity → capacity < 2 ^ 64 → first + 1 < 2 ^ 64 → IsValid {T = T} (opening capacity first key)

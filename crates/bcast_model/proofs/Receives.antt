@@ -6,7 +6,7 @@ use Rattle.std.proofs.lemmas.Option.{same_Some, slice_get_past}
 use Rattle.std.specs.Cmp.{nat_cmp_total}
 use Rattle.std.specs.FinMap.{get, insert, len, len-insert}
 use Rattle.bcast_model.specs.declared.error.TryRecvError.TheVariants as unread
-use Rattle.bcast_model.specs.Words.{Reply, consume, wait_again, Pair, same_pair, Control, Cursors}
+use Rattle.bcast_model.specs.Words.{Reply, consume, wait_again, Pair, same_pair, Control}
 use Rattle.bcast_model.specs.Words.{with_cursor, receive, listens, skipped_to, recv_reply}
 use Rattle.bcast_model.specs.Words.{is_empty_reply, receive_poll, try_recv_reply, is_out_of_memory}
 use Rattle.bcast_model.specs.Words.{View, sends_are_ready, sets, set_unless_refused, IsValidView}
@@ -17,10 +17,6 @@ use Rattle.bcast_model.proofs.Views.{lagging}
 use Rattle.bcast_model.proofs.DeliveryLists.{past_end}
 use Rattle.bcast_model.proofs.Lift.{KeepsValid}
 use Rattle.bcast_model.proofs.Kept.{kept_idle, kept_receives, kept_cursor, keeps_sets}
-
--- a receiver that moves is counted already
-same_count : (cursors : Cursors) (key cursor to : ℕ) → get cursors key ≡ Some cursor → len (insert cursors key to) ≡ len cursors
-same_count cursors key cursor to e = let n = len-insert nat_cmp_total cursors key to in grind (arith, common_steps, n, e)
 
 -- a receive that finds nothing, in an open channel whose messages were all read
 pub record IsEmptyAt {T : Type 0} (v : View T) (cursor : ℕ) : Type 0 where
@@ -49,7 +45,8 @@ module _ {T : Type 0} where
   module _ (v : View T) (valid : IsValidView v) where
     kept_moved : (key cursor to : ℕ) → get v.control.cursors key ≡ Some cursor → cursor < v.end → to ≤ v.end → IsNoLower v to → IsKept v (with_cursor v.control key to)
     kept_moved key cursor to e below high low =
-        let n = same_count v.control.cursors key cursor to e in
+        let size = len-insert nat_cmp_total v.control.cursors key to in
+        let n : len (insert v.control.cursors key to) ≡ len v.control.cursors = grind (arith, common_steps, size, e) in
         kept_cursor v v.control key to high low (λ f. let same = same_Some cursor v.end (sym e ∙ f) in omega arith) (omega (arith, valid.control.receivers_fit)) (kept_idle v valid)
 
     -- the receiver is at this cursor, and starts there or after it

@@ -5,7 +5,7 @@ use Rattle.std.specs.FinMap.{len, values}
 use Rattle.std.specs.FinSet as set
 use Rattle.bcast_model.specs.declared.error.TrySendError.TheVariants as unsent
 use Rattle.bcast_model.specs.Words.{consume, abandon, wait_again, same_place, Control}
-use Rattle.bcast_model.specs.Words.{has_no_receiver, tell_receivers, close, accepting, has_place}
+use Rattle.bcast_model.specs.Words.{has_no_receiver, tell_receivers, accepting, has_place}
 use Rattle.bcast_model.specs.Words.{place_ended, place_waits, begin_send, accept}
 use Rattle.bcast_model.specs.Words.{try_broadcast_reply, handed_back, offer, with_place_answered}
 use Rattle.bcast_model.specs.Words.{poll_send, least, View, is_full, sends_are_ready, sets}
@@ -21,23 +21,14 @@ use Rattle.bcast_model.proofs.Kept.{not_not, kept_idle, kept_sends, keeps_sets, 
 
 -- ---- accepting
 -- a channel that was closed by the last number needs no handles
-attended_last : (c : Control) (end : ℕ) → IsAttended (close c).closed (close c).senders (len (close c).cursors) (close c).inactive end
-attended_last c end = close_is (λ now. IsAttended now.closed now.senders (len now.cursors) now.inactive end) c
-    (λ e. attended_closed c.closed c.senders (len c.cursors) c.inactive end e)
-    (λ _. attended_closed true c.senders (len c.cursors) c.inactive end refl)
-
--- if this is the end after it
 pub attended_accepting : (c : Control) (old end : ℕ) → end < 2 ^ 64 → IsAttended c.closed c.senders (len c.cursors) c.inactive old
     → IsAttended (accepting c end).closed (accepting c end).senders (len (accepting c end).cursors) (accepting c end).inactive end
 attended_accepting c old end below a = accepting_is (λ now. IsAttended now.closed now.senders (len now.cursors) now.inactive end) c end
-    (attended_last (tell_receivers c) end)
+    (close_is (λ now. IsAttended now.closed now.senders (len now.cursors) now.inactive end) (tell_receivers c) (λ e. attended_closed c.closed c.senders (len c.cursors) c.inactive end e) (λ _. attended_closed true c.senders (len c.cursors) c.inactive end refl))
     (λ e. record { sender = a.sender; receiver = a.receiver; open_end = λ _. grind (arith, common_steps, e, below) })
 
-told_close : (c : Control) → OneIsTold c.waiting_sends → OneIsTold (close c).waiting_sends
-told_close c one = close_is (λ now. OneIsTold now.waiting_sends) c (λ _. one) (λ _ some. some)
-
 pub told_accepting : (c : Control) (end : ℕ) → OneIsTold c.waiting_sends → OneIsTold (accepting c end).waiting_sends
-told_accepting c end one = accepting_is (λ now. OneIsTold now.waiting_sends) c end (told_close (tell_receivers c) one) (λ _. one)
+told_accepting c end one = accepting_is (λ now. OneIsTold now.waiting_sends) c end (close_is (λ now. OneIsTold now.waiting_sends) (tell_receivers c) (λ _. one) (λ _ some. some)) (λ _. one)
 
 module _ {T : Type 0} where
   -- all waiting receivers are told, and may be under the new end

@@ -57,13 +57,6 @@ module _ {T : Type 0} (is_clone : T → T → Type 0) where
       ] refl
   told_polls_within h calls replies valid run = omega arith
 
-  few_polls : (h : History T) (calls : List (Call T)) (replies : List (Reply T)) → IsValid h → IsRun is_clone h calls replies → 2 * told_polls h calls replies ≤ listener_count h.control * (listener_count h.control + 1)
-  few_polls h calls replies valid run =
-      let within = told_polls_within h calls replies valid run in
-      let sends = valid.control.lists.sends.told in
-      let receives = valid.control.lists.receives.told in
-      subst (λ n. 2 * told_polls h calls replies ≤ n) (triangle (listener_count h.control)) (omega (arith, within, sends, receives))
-
   -- ---- if no listener is told
   module _ (v : View T) (valid : IsValidView v) (nobody : told_count v.control ≡ 0) where
     asleep : (pair : Pair) → is_in same_pair pair v.control.waiting_receives.ids ≡ true → WouldWait v.control v.end pair
@@ -108,6 +101,10 @@ module _ {T : Type 0} (is_clone : T → T → Type 0) where
   -- both
   pub comes_to_rest : (h : History T) (calls : List (Call T)) (replies : List (Reply T)) → IsValid h → IsRun is_clone h calls replies → ComesToRest is_clone h calls replies
   comes_to_rest h calls replies valid run = record {
-    few = few_polls h calls replies valid run;
+    few =
+        let within = told_polls_within h calls replies valid run in
+        let sends = valid.control.lists.sends.told in
+        let receives = valid.control.lists.receives.told in
+        subst (λ n. 2 * told_polls h calls replies ≤ n) (triangle (listener_count h.control)) (omega (arith, within, sends, receives));
     quiet = λ c r nobody listed legal. quiet_view (view_of h) (valid_view h valid) nobody c r listed legal;
   }

@@ -3,6 +3,7 @@ use Rattle.std.proofs.Common.{◌≡◌, inl, inr, ℕ, ◌+◌, ◌-◌, ◌<�
 use Rattle.std.proofs.lemmas.Grind.{common_steps}
 use Rattle.std.proofs.lemmas.Bool.{cases_lt}
 use Rattle.std.specs.FinMap.{get, values}
+use Rattle.std.proofs.lemmas.List.{nil_from_length}
 use Rattle.bcast_model.specs.Words.{History, front_number, end_number, queue_of, numbered, view_of}
 use Rattle.bcast_model.specs.Words.{IsValid, View, IsValidView, cursor_of}
 use Rattle.bcast_model.proofs.Least.{least-le-limit, least-le-cursor}
@@ -52,12 +53,8 @@ module _ {T : Type 0} where
   pub lagging : (v : View T) → IsValidView v → (key cursor : ℕ) → get v.control.cursors key ≡ Some cursor → cursor < v.front → v.front < v.end
   lagging v valid key cursor e lags = elim (cases_lt v.front v.end) [
     | inl some ↦ some
-    | inr none ↦ (let caught = valid.caught_up key cursor (empty v.queue (omega (arith, valid.end))) e in absurd (omega arith))
+    | inr none ↦ (let caught = valid.caught_up key cursor (nil_from_length v.queue (omega (arith, valid.end))) e in absurd (omega arith))
   ]
-    where
-      empty : (items : List T) → length items ≤ 0 → items ≡ []
-      empty [] short = refl
-      empty (item ∷ items) short = absurd (omega arith)
 
 -- the bounds that each call keeps
 pub record IsBounded {T : Type 0} (h : History T) : Type 0 where

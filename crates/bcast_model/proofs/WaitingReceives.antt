@@ -1,5 +1,5 @@
 -- The list of receivers that wait, apart from the rest of a channel.
-use Rattle.std.proofs.Common.{◌≡◌, ◌≢◌, ℕ, ◌==◌, Bool, true, false, cond, ◌&&◌, Some, None, is_some, refl, sym, ap, ◌∙◌, arith}
+use Rattle.std.proofs.Common.{◌≡◌, ℕ, ◌==◌, Bool, true, false, cond, ◌&&◌, Some, None, is_some, refl, sym, ap, ◌∙◌, arith}
 use Rattle.std.proofs.lemmas.Grind.{common_steps}
 use Rattle.std.specs.Ordering.{nat_cmp, eq_by_cmp}
 use Rattle.std.specs.Cmp.{nat_cmp_total, unsigned_tied}
@@ -10,6 +10,7 @@ use Rattle.bcast_model.specs.Words.{AreInOrder, Pair, same_pair, stream_of, futu
 use Rattle.bcast_model.proofs.Lists.{all_more, both_left, all_fewer}
 use Rattle.bcast_model.proofs.Listeners.{in_order_tell_all, in_order_consume, in_order_abandon, in_order_waits, untold_tell_all, untold_consume, untold_abandon, untold_waits, all_abandon, all_waits}
 use Rattle.bcast_model.proofs.Tests.{same_kind, test_pair, stream_or_future}
+use Rattle.bcast_model.proofs.DeliveryMaps.{inserted_other}
 
 abbrev pub HasKey : Cursors → Pair → Type 0
 HasKey cursors pair = is_some (get cursors pair.0) ≡ true
@@ -59,12 +60,8 @@ module _ (cursors : Cursors) (closed : Bool) (end : ℕ) (l : Listeners Pair) wh
     in_order = r.in_order;
     keyed = all_more (HasKey cursors) (HasKey (insert cursors key cursor)) l.ids (λ pair h.
         ap is_some (get-insert nat_cmp_total cursors key cursor pair.0) ∙ elim (eq_by_cmp nat_cmp pair.0 key) as (λ b. is_some (cond b (Some cursor) (get cursors pair.0)) ≡ true) [ true ↦ refl | false ↦ h ]) r.keyed;
-    asleep = all_more (Sleeps cursors closed end) (Sleeps (insert cursors key cursor) closed end) (untold_ids l) (λ pair s. (
-      let other : pair.0 ≢ key = λ same. apart (ap (get cursors) (sym same) ∙ s.0) in
-          let e : eq_by_cmp nat_cmp pair.0 key ≡ false = grind (arith, common_steps, other, unsigned_tied pair.0 key) in
-          get-insert nat_cmp_total cursors key cursor pair.0 ∙ ap (λ b. cond b (Some cursor) (get cursors pair.0)) e ∙ s.0,
-      s.1,
-    )) r.asleep;
+    asleep = all_more (Sleeps cursors closed end) (Sleeps (insert cursors key cursor) closed end) (untold_ids l)
+        (λ pair s. (inserted_other cursors key cursor pair.0 (λ same. apart (ap (get cursors) (sym same) ∙ s.0)) ∙ s.0, s.1)) r.asleep;
   }
 
   -- a pair that is neither of a receiver's is another receiver's
