@@ -52,7 +52,8 @@ module _ {T : Type 0} (is_clone : T → T → Type 0) where
   keeps_valid call.ActivateCloned r v valid range legal = keeps_sets v valid (new_receiver v.control v.end (chosen_id r))
       (kept_made v valid (new_receiver v.control v.end) (not (v.control.inactive == 0)) reply.ActivateCloned r legal (kept_new_receiver v valid) (λ _. kept_idle v valid) range)
   keeps_valid (call.CloneReceiver key) r v valid range legal = keeps_sets v valid (clone_receiver v.control (cursor_of v.control key) (chosen_id r))
-      (kept_made v valid (clone_receiver v.control (cursor_of v.control key)) (is_some (cursor_of v.control key)) reply.CloneReceiver r legal (λ made. kept_clone_receiver v valid key (cursor_of v.control key) made refl) (λ _. subst (IsKept v) (sym (uncloned v.control (cursor_of v.control key))) (kept_idle v valid)) range)
+      (kept_made v valid (clone_receiver v.control (cursor_of v.control key)) (is_some (cursor_of v.control key)) reply.CloneReceiver r legal
+      (λ made. kept_clone_receiver v valid key (cursor_of v.control key) made refl) (λ _. subst (IsKept v) (sym (uncloned v.control (cursor_of v.control key))) (kept_idle v valid)) range)
   keeps_valid call.DropSender r v valid range legal = keeps_sets v valid (drop_sender v.control) (kept_drop_sender v valid)
   keeps_valid call.DropInactive r v valid range legal = keeps_sets v valid (drop_inactive v.control) (kept_drop_inactive v valid)
   keeps_valid (call.DropReceiver key) r v valid range legal = keeps_sets v valid (drop_receiver v.control key (cursor_of v.control key)) (kept_drop_receiver v valid key (cursor_of v.control key))

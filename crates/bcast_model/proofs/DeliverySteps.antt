@@ -85,10 +85,12 @@ module _ {T : Type 0} where
       rw same (gives_reply is_clone h key cursor 0 (cursor_of h.control key) (λ r. (effect (view_of h) (call.TryRecv key) r).control.cursors) (λ answer. reply.TryRecv (Ok answer)) (reply.TryRecv (Err alloc_error)) r low is (is ∙ ap Some (omega arith)) (inl refl)
       (λ answer. refl) refl (λ answer _. given_by-try_recv answer) refl (rw same at legal))
   gives_received is_clone h key cursor (call.PollFuture reader) r low is reads legal = let same = same_reader reader key reads in
-      rw same (gives_reply is_clone h key cursor 0 (cursor_of h.control key) (λ r. (effect (view_of h) (call.PollFuture key) r).control.cursors) (λ answer. reply.PollFuture (Ok (future_reply answer))) (reply.PollFuture (Err alloc_error)) r low is (is ∙ ap Some (omega arith)) (inl refl)
+      rw same (gives_reply is_clone h key cursor 0 (cursor_of h.control key) (λ r. (effect (view_of h) (call.PollFuture key) r).control.cursors)
+      (λ answer. reply.PollFuture (Ok (future_reply answer))) (reply.PollFuture (Err alloc_error)) r low is (is ∙ ap Some (omega arith)) (inl refl)
       (λ answer. cursors-listens (receive (view_of h) key (cursor_of h.control key)) (future_of key) (is_empty_reply (try_recv_reply (view_of h) (cursor_of h.control key)))) refl (λ answer _. given_by-future answer) refl (rw same at legal))
   gives_received is_clone h key cursor (call.PollRecv reader) r low is reads legal = let same = same_reader reader key reads in
-      rw same (gives_reply is_clone h key cursor 0 (cursor_of h.control key) (λ r. (effect (view_of h) (call.PollRecv key) r).control.cursors) (λ answer. reply.PollRecv (Ok (stream_reply answer))) (reply.PollRecv (Err alloc_error)) r low is (is ∙ ap Some (omega arith)) (inl refl)
+      rw same (gives_reply is_clone h key cursor 0 (cursor_of h.control key) (λ r. (effect (view_of h) (call.PollRecv key) r).control.cursors)
+      (λ answer. reply.PollRecv (Ok (stream_reply answer))) (reply.PollRecv (Err alloc_error)) r low is (is ∙ ap Some (omega arith)) (inl refl)
       (λ answer. cursors-listens (receive (view_of h) key (cursor_of h.control key)) (stream_of key) (is_empty_reply (try_recv_reply (view_of h) (cursor_of h.control key)))) refl (λ answer _. given_by-stream answer) refl (rw same at legal))
   gives_received is_clone h key cursor (call.PollNext reader) r low is reads legal = let same = same_reader reader key reads in rw same (gives_next is_clone h key cursor r low is (rw same at legal))
   gives_received is_clone h key cursor c r low is reads legal = absurd (false≢true reads)

@@ -112,10 +112,6 @@ module _ {T : Type 0} where
             stays refl (ap (range_with_len (front_number h)) none)
       ] refl
 
-  floor-unless : (h : History T) (e : Effect T) (b : Bool) (dropped : List ℕ) → FloorChange h e dropped → FloorChange h (cond b (sets h.control) e) (cond b [] dropped)
-  floor-unless h e true dropped change = stays refl refl
-  floor-unless h e false dropped change = change
-
   -- ---- a call that drops nothing
   none_dropped : (h : History T) (r : Reply T) → hands_back r ≡ false → cond (hands_back r) (front_number h ∷ []) [] ≡ []
   none_dropped h r none = ap (λ b. cond b (front_number h ∷ []) []) none
@@ -123,7 +119,8 @@ module _ {T : Type 0} where
   floor-receive : {X : Type 0} (is_clone : T → T → Type 0) (h : History T) (key : ℕ) (cursor : Option ℕ) (variant : Result X AllocError → Reply T) (word : Result T TryRecvError → X) (r : Reply T) (control : Control) → ((out : Result X AllocError) → hands_back (variant out) ≡ false)
       → IsReceivedBy is_clone (view_of h) key cursor variant word r → FloorChange h (cond (is_out_of_memory r) (sets h.control) (sets control)) (cond (hands_back r) (front_number h ∷ []) [])
   floor-receive is_clone h key cursor variant word r control none legal =
-      let nothing = none_dropped h r (received_is (λ r. hands_back r ≡ false) is_clone (IsOwed (view_of h) key cursor) (λ answer. variant (Ok (word answer))) (variant (Err alloc_error)) (try_recv_reply (view_of h) cursor) r legal (none _) (λ _ _ _ _ _. none _) (λ _. none _)) in
+      let nothing = none_dropped h r (received_is (λ r. hands_back r ≡ false) is_clone (IsOwed (view_of h) key cursor) (λ answer. variant (Ok (word answer))) (variant (Err alloc_error)) (try_recv_reply (view_of h) cursor) r legal
+      (none _) (λ _ _ _ _ _. none _) (λ _. none _)) in
       test_is (λ e. FloorChange h e (cond (hands_back r) (front_number h ∷ []) [])) (is_out_of_memory r) (sets h.control) (sets control) (λ _. stays refl nothing) (λ _. stays refl nothing)
 
   -- ---- each call
@@ -134,7 +131,8 @@ module _ {T : Type 0} where
   floor-effect is_clone h (call.AttemptSend msg) r bounded legal =
       rw (legal, hands_back-attempted h.control.await_active (try_broadcast_reply (view_of h) msg)) (floor-send h msg bounded)
   floor-effect is_clone h (call.PollSend place msg) r bounded legal = floor-poll_send h place msg r bounded legal
-  floor-effect is_clone h (call.SetCapacity n) r bounded legal = floor-unless h (resize (view_of h) n) (is_out_of_memory r) (range_with_len (front_number h) (length (queue_of h) - n)) (floor-resize h n bounded)
+  floor-effect is_clone h (call.SetCapacity n) r bounded legal =
+      elim (is_out_of_memory r) as (λ b. FloorChange h (cond b (sets h.control) (resize (view_of h) n)) (cond b [] (range_with_len (front_number h) (length (queue_of h) - n)))) [ true ↦ stays refl refl | false ↦ floor-resize h n bounded ]
   floor-effect is_clone h (call.TryRecv key) r bounded legal = floor-receive is_clone h key (cursor_of h.control key) reply.TryRecv (λ answer. answer) r _ (λ out. refl) legal
   floor-effect is_clone h (call.PollFuture key) r bounded legal = floor-receive is_clone h key (cursor_of h.control key) reply.PollFuture future_reply r _ (λ out. refl) legal
   floor-effect is_clone h (call.PollRecv key) r bounded legal = floor-receive is_clone h key (cursor_of h.control key) reply.PollRecv stream_reply r _ (λ out. refl) legal

@@ -42,7 +42,8 @@ module _ {T : Type 0} where
       ])
 
   pub view_of-end_call : (may : Bool) (h : History T) → view_of (end_call may h) ≡ tell_if_ready may (view_of h)
-  view_of-end_call may h = elim (may && sends_are_ready (view_of h)) as (λ ready. view_of (with_control h (cond ready (tell_a_sender h.control) h.control)) ≡ cond ready (record (view_of h) { control = tell_a_sender h.control }) (view_of h)) [ true ↦ refl | false ↦ refl ]
+  view_of-end_call may h =
+      elim (may && sends_are_ready (view_of h)) as (λ ready. view_of (with_control h (cond ready (tell_a_sender h.control) h.control)) ≡ cond ready (record (view_of h) { control = tell_a_sender h.control }) (view_of h)) [ true ↦ refl | false ↦ refl ]
 
   module _ (h : History T) (e : Effect T) (may : Bool) (valid : IsValid h) (keeps : KeepsValid (view_of h) e may) where
     end-remember : end_number (remember h e) ≡ end_number h + length e.accepted

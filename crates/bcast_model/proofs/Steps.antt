@@ -35,7 +35,8 @@ module _ {T : Type 0} where
   range_of c r v memory s = tt
 
   made_in : {A : Type 0} (r : Reply T) (there : Bool) (cursors : Cursors) (spelt : Result ℕ HandleError → Reply T) → ((made : Result ℕ HandleError) → is_out_of_memory (spelt made) ≡ false) → is_out_of_memory r ≡ true → IsMadeFrom there cursors spelt r → A
-  made_in {A = A} r there cursors spelt in_memory none legal = made_is (λ r. is_out_of_memory r ≡ true → A) there cursors spelt r legal (λ key _ e. absurd (false≢true (sym (in_memory (Ok key)) ∙ e))) (λ error e. absurd (false≢true (sym (in_memory (Err error)) ∙ e))) none
+  made_in {A = A} r there cursors spelt in_memory none legal = made_is (λ r. is_out_of_memory r ≡ true → A) there cursors spelt r legal
+      (λ key _ e. absurd (false≢true (sym (in_memory (Ok key)) ∙ e))) (λ error e. absurd (false≢true (sym (in_memory (Err error)) ∙ e))) none
 
   -- a call that is out of memory does nothing
   keeps_refused : (is_clone : T → T → Type 0) (c : Call T) (r : Reply T) (v : View T) → IsValidView v → is_out_of_memory r ≡ true → Legal is_clone v c r → KeepsValid v (effect v c r) (may_tell v.control (sends_are_ready v) c)
