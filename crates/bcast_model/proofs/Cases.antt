@@ -37,11 +37,15 @@ uncloned c (Some cursor) = refl
 abbrev pub Lasts : Type 0 → Control → Control → Type 0
 Lasts Allowed old new = (Allowed → 1 ≤ old.capacity → 1 ≤ new.capacity) × (old.closed ≡ true → new.closed ≡ true)
 
+-- the same of what is always allowed
+abbrev pub Leaves : Control → Control → Type 0
+Leaves old new = Lasts (Unit {0}) old new
+
 -- the cursors and the capacity stay too
 abbrev pub Stays : Control → Control → Type 0
-Stays old new = (new.cursors ≡ old.cursors) × (new.capacity ≡ old.capacity) × Lasts (Unit {0}) old new
+Stays old new = (new.cursors ≡ old.cursors) × (new.capacity ≡ old.capacity) × Leaves old new
 
-pub left : (c : Control) → Lasts (Unit {0}) c c
+pub left : (c : Control) → Leaves c c
 left c = (λ _ some. some, λ is. is)
 
 pub kept : (c : Control) → Stays c c

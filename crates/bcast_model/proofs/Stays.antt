@@ -13,15 +13,15 @@ use Rattle.bcast_model.specs.Words.{skipped_to, resize, effect, History, view_of
 use Rattle.bcast_model.specs.Words.{chosen_id, may_tell, next, HasPositiveCapacity}
 use Rattle.bcast_model.specs.declared.run.Call.TheVariants as call
 use Rattle.bcast_model.proofs.SendAll.{offer_all_is}
-use Rattle.bcast_model.proofs.Cases.{test_is, receive_is, tell_is, Lasts, Stays, left, kept, stays-close, stays-deserted, stays-accepting}
+use Rattle.bcast_model.proofs.Cases.{test_is, receive_is, tell_is, Lasts, Leaves, Stays, left, kept, stays-close, stays-deserted, stays-accepting}
 
 -- ---- the parts of a call
 module _ (c : Control) where
-  pub leaves-made : (made : ℕ → Control) (id : Option ℕ) → ((n : ℕ) → Lasts (Unit {0}) c (made n)) → Lasts (Unit {0}) c (option_map_or made id c)
+  pub leaves-made : (made : ℕ → Control) (id : Option ℕ) → ((n : ℕ) → Leaves c (made n)) → Leaves c (option_map_or made id c)
   leaves-made made None each = left c
   leaves-made made (Some n) each = each n
 
-  pub leaves-cloned : (cursor key : Option ℕ) → Lasts (Unit {0}) c (clone_receiver c cursor key)
+  pub leaves-cloned : (cursor key : Option ℕ) → Leaves c (clone_receiver c cursor key)
   leaves-cloned (Some cursor) (Some key) = left c
   leaves-cloned cursor key = left c
 
@@ -31,13 +31,13 @@ module _ (c : Control) where
   pub stays-clone_inactive : Stays c (clone_inactive c)
   stays-clone_inactive = test_is (Stays c) ((c.inactive == 0) || not (has_next c.inactive)) c (record c { inactive = c.inactive + 1 }) (λ _. kept c) (λ _. kept c)
 
-pub leaves-dropped : (c : Control) (key : ℕ) (cursor : Option ℕ) → Lasts (Unit {0}) c (drop_receiver c key cursor)
+pub leaves-dropped : (c : Control) (key : ℕ) (cursor : Option ℕ) → Leaves c (drop_receiver c key cursor)
 leaves-dropped c key None = left c
 leaves-dropped c key (Some cursor) = (stays-deserted (without_receiver c key)).2
 
-pub leaves-deactivate : (c : Control) (key : ℕ) (cursor : Option ℕ) → Lasts (Unit {0}) c (deactivate c key cursor)
+pub leaves-deactivate : (c : Control) (key : ℕ) (cursor : Option ℕ) → Leaves c (deactivate c key cursor)
 leaves-deactivate c key None = left c
-leaves-deactivate c key (Some cursor) = test_is (Lasts (Unit {0}) c) (has_next c.inactive) (record (without_receiver c key) { inactive = c.inactive + 1 }) c (λ _. left c) (λ _. left c)
+leaves-deactivate c key (Some cursor) = test_is (Leaves c) (has_next c.inactive) (record (without_receiver c key) { inactive = c.inactive + 1 }) c (λ _. left c) (λ _. left c)
 
 pub stays-drop_sender : (c : Control) → Stays c (drop_sender c)
 stays-drop_sender c = let now : Control = record c { senders = c.senders - 1 } in test_is (Stays c) (c.senders == 0) c (close_if_deserted now) (λ _. kept c) (λ _. stays-deserted now)
@@ -49,9 +49,9 @@ module _ {T : Type 0} (v : View T) where
   abbrev pub StaysBy : Effect T → Type 0
   StaysBy e = Stays v.control e.control
 
-  pub leaves-receive : (key : ℕ) (cursor : Option ℕ) → Lasts (Unit {0}) v.control (receive v key cursor)
+  pub leaves-receive : (key : ℕ) (cursor : Option ℕ) → Leaves v.control (receive v key cursor)
   leaves-receive key None = left v.control
-  leaves-receive key (Some cursor) = receive_is v (Lasts (Unit {0}) v.control) key cursor (λ _. left v.control) (λ _ _. left v.control) (λ _ _. left v.control)
+  leaves-receive key (Some cursor) = receive_is v (Leaves v.control) key cursor (λ _. left v.control) (λ _ _. left v.control) (λ _ _. left v.control)
 
   pub stays-offer : (msg : T) → StaysBy (offer v msg)
   stays-offer msg = test_is StaysBy (is_ok (try_broadcast_reply v msg)) (accept v msg) (sets v.control) (λ _. stays-accepting v.control (v.end + 1)) (λ _. kept v.control)
@@ -65,15 +65,15 @@ module _ {T : Type 0} (v : View T) where
       test_is StaysBy (has_place v.control place) (cond (sends_are_ready v) (with_place_answered (offer v msg) place) waits) (sets v.control)
       (λ _. test_is StaysBy (sends_are_ready v) (with_place_answered (offer v msg) place) waits (λ _. stays-offer msg) (λ _. kept v.control)) (λ _. kept v.control)
 
-  pub leaves-unless : (c : Control) (r : Reply T) → Lasts (Unit {0}) v.control c → Lasts (Unit {0}) v.control (set_unless_refused v r c).control
-  leaves-unless c r then = test_is (λ (e : Effect T). Lasts (Unit {0}) v.control e.control) (is_out_of_memory r) (sets v.control) (sets c) (λ _. left v.control) (λ _. then)
+  pub leaves-unless : (c : Control) (r : Reply T) → Leaves v.control c → Leaves v.control (set_unless_refused v r c).control
+  leaves-unless c r then = test_is (λ (e : Effect T). Leaves v.control e.control) (is_out_of_memory r) (sets v.control) (sets c) (λ _. left v.control) (λ _. then)
 
-  pub leaves-poll : (r : Reply T) (pair : Pair) (cursor : Option ℕ) → Lasts (Unit {0}) v.control (set_unless_refused v r (receive_poll v pair cursor)).control
+  pub leaves-poll : (r : Reply T) (pair : Pair) (cursor : Option ℕ) → Leaves v.control (set_unless_refused v r (receive_poll v pair cursor)).control
   leaves-poll r pair cursor =
       let c : Control = receive v pair.0 cursor in
-      let moved : Lasts (Unit {0}) v.control c = leaves-receive pair.0 cursor in
+      let moved : Leaves v.control c = leaves-receive pair.0 cursor in
       leaves-unless (receive_poll v pair cursor) r
-      (test_is (Lasts (Unit {0}) v.control) (is_empty_reply (try_recv_reply v cursor)) (pair_waits c pair) (pair_answered c pair) (λ _. moved) (λ _. moved))
+      (test_is (Leaves v.control) (is_empty_reply (try_recv_reply v cursor)) (pair_waits c pair) (pair_answered c pair) (λ _. moved) (λ _. moved))
 
 module _ {T : Type 0} where
   -- ---- each call
