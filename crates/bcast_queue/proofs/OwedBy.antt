@@ -1,5 +1,6 @@
 -- How many readers owe each message, when the count of one message changes.
 use Rattle.std.proofs.Common.{◌≡◌, ℕ, zero, suc, ◌+◌, ◌-◌, ◌<◌, ◌≤◌, List, [], ◌∷◌, ◌++◌, length, map, drop, get_or, set, Some, sum, refl, ap, sym, subst, ◌∙◌, arith}
+use Rattle.std.proofs.lemmas.Grind.{common_steps}
 use Rattle.std.specs.Prelude.{slice_get}
 use Rattle.std.specs.Option.{ForSome}
 use Rattle.std.proofs.lemmas.List.Sums.{sum_by-cons}
@@ -40,26 +41,17 @@ one_fewer b c (n ∷ ns) e =
 -- readers more or one fewer at an index are more or one fewer from there on
 pub owed_by-more : (b r i m : ℕ) (ns : List ℕ) → i < length ns → m ≡ get_or ns i 0 + r → owed_by b (set ns i m) ≡ more_from r i (owed_by b ns)
 owed_by-more b r i m [] h e = absurd (omega arith)
-owed_by-more b r zero m (n ∷ ns) h e =
-    let head : b + m ≡ b + n + r = omega arith in
-    let rest = more_before (b + n) (b + m) r ns head in
-    cc
+owed_by-more b r zero m (n ∷ ns) h e = grind (arith, common_steps, more_before)
 owed_by-more b r (suc i) m (n ∷ ns) h e = ap (λ xs. (b + n) ∷ xs) (owed_by-more (b + n) r i m ns (omega arith) e)
 
 pub owed_by-fewer : (b i m : ℕ) (ns : List ℕ) → i < length ns → m + 1 ≡ get_or ns i 0 → owed_by b (set ns i m) ≡ one_fewer_from i (owed_by b ns)
 owed_by-fewer b i m [] h e = absurd (omega arith)
-owed_by-fewer b zero m (n ∷ ns) h e =
-    let more : b + m + 1 ≡ b + n = omega arith in
-    let head : b + m ≡ b + n - 1 = omega arith in
-    let rest = one_fewer (b + n) (b + m) ns more in
-    cc
+owed_by-fewer b zero m (n ∷ ns) h e = grind (arith, common_steps, one_fewer)
 owed_by-fewer b (suc i) m (n ∷ ns) h e = ap (λ xs. (b + n) ∷ xs) (owed_by-fewer (b + n) i m ns (omega arith) e)
 
 pub owed_by-push : (b n : ℕ) (ns : List ℕ) → owed_by b (ns ++ n ∷ []) ≡ owed_by b ns ++ (b + sum ns + n) ∷ []
 owed_by-push b n [] = let e : b + n ≡ b + 0 + n = omega arith in ap (λ x. x ∷ []) e
-owed_by-push b n (m ∷ ns) =
-    let e : b + m + sum ns + n ≡ b + sum (m ∷ ns) + n = omega (arith, sum_by-cons (λ x. x) m ns) in
-    ap (λ xs. (b + m) ∷ xs) (owed_by-push (b + m) n ns ∙ ap (λ x. owed_by (b + m) ns ++ x ∷ []) e)
+owed_by-push b n (m ∷ ns) = grind (arith, common_steps, sum_by-cons, owed_by-push (b + m) n ns)
 
 -- a message that goes leaves its count to the next
 pub owed_by-rest : (r : ℕ) (ns : List ℕ) → get_or ns 0 0 ≡ r → more_from r 0 (owed_by 0 (drop 1 ns)) ≡ drop 1 (owed_by 0 ns)
@@ -75,9 +67,7 @@ more_from-end r (suc i) (n ∷ ns) h = ap (λ xs. n ∷ xs) (more_from-end r i n
 
 last_at : (b n : ℕ) (ns : List ℕ) → slice_get (owed_by b (n ∷ ns)) (length (owed_by (b + n) ns)) ≡ Some (b + sum (n ∷ ns))
 last_at b n [] = let e : b + n ≡ b + sum (n ∷ []) = omega (arith, sum_by-cons (λ x. x) n []) in ap Some e
-last_at b n (m ∷ ns) =
-    let e : b + n + sum (m ∷ ns) ≡ b + sum (n ∷ m ∷ ns) = omega (arith, sum_by-cons (λ x. x) n (m ∷ ns)) in
-    last_at (b + n) m ns ∙ ap Some e
+last_at b n (m ∷ ns) = grind (arith, common_steps, sum_by-cons, last_at (b + n) m ns)
 
 -- all owing readers owe the last message
 last-owed_by : (b n : ℕ) (ns : List ℕ) → last_item (owed_by b (n ∷ ns)) ≡ Some (b + sum (n ∷ ns))
@@ -116,9 +106,9 @@ get_or-owed_by [] = refl
 get_or-owed_by (n ∷ ns) = omega arith
 
 -- some reader owes the first message if no message is owed by none
-pub first_of : (ns ms : List ℕ) → owed_by 0 ns ≡ ms → RisesFrom 1 ms → 0 < length ns → 0 < get_or ns 0 0
-first_of [] ms e r some = absurd (omega (arith, some))
-first_of (n ∷ ns) ms e r some = omega (arith, (subst (RisesFrom 1) (sym e) r).0)
+pub first_is_owed : (ns ms : List ℕ) → owed_by 0 ns ≡ ms → RisesFrom 1 ms → 0 < length ns → 0 < get_or ns 0 0
+first_is_owed [] ms e r some = absurd (omega (arith, some))
+first_is_owed (n ∷ ns) ms e r some = omega (arith, (subst (RisesFrom 1) (sym e) r).0)
 
 -- a reader is counted at a message that more owe than the one before it
 pub reader_of : (t i : ℕ) (ns : List ℕ) → AreCounted t ns → i < length ns → (0 < i → get_or (owed_by 0 ns) (i - 1) 0 < get_or (owed_by 0 ns) i 0) → 0 < get_or ns i 0
@@ -127,10 +117,7 @@ reader_of t (suc i) ns counted within before = somebody_next 0 (suc i) ns within
 
 all_back : (low : ℕ) (ns : List ℕ) → 0 < low → RisesFrom low ns → map (λ n. n + 1) (map (λ n. n - 1) ns) ≡ ns
 all_back low [] h r = refl
-all_back low (n ∷ ns) h r =
-    let head : n - 1 + 1 ≡ n = omega (arith, r.0, h) in
-    let rest = all_back n ns (omega (arith, r.0, h)) r.1 in
-    cc
+all_back low (n ∷ ns) h r = grind (arith, common_steps, all_back n ns (omega (arith, r.0, h)) r.1)
 
 -- a reader that moves from an index to the next no longer owes the message there
 pub one_moves : (low i : ℕ) (ns : List ℕ) → 0 < low → RisesFrom low ns → one_more_from (suc i) (one_fewer_from i ns) ≡ set ns i (get_or ns i 0 - 1)

@@ -12,20 +12,13 @@ length-one_fewer_from (suc i) [] = refl
 length-one_fewer_from (suc i) (n ∷ ns) = ap suc (length-one_fewer_from i ns)
 
 pub get_or-one_more_from : (i : ℕ) (ns : List ℕ) (j : ℕ) → j < length ns → get_or (one_more_from i ns) j 0 ≡ get_or ns j 0 + cond (nat_le i j) 1 0
-get_or-one_more_from zero ns j h =
-    let e = get_or-map (λ n. n + 1) ns j 0 0 h in
-    grind (arith, common_steps, e)
+get_or-one_more_from zero ns j h = grind (arith, common_steps, get_or-map)
 get_or-one_more_from (suc i) [] j h = absurd (omega arith)
 get_or-one_more_from (suc i) (n ∷ ns) zero h = grind (arith, common_steps)
-get_or-one_more_from (suc i) (n ∷ ns) (suc j) h =
-    let e = get_or-one_more_from i ns j (omega arith) in
-    grind (arith, common_steps, e)
+get_or-one_more_from (suc i) (n ∷ ns) (suc j) h = grind (arith, common_steps, get_or-one_more_from i ns j (omega arith))
 
 pub get_or-one_fewer_from : (i : ℕ) (ns : List ℕ) (j : ℕ) → j < length ns → (i ≤ j → 1 ≤ get_or ns j 0) → get_or (one_fewer_from i ns) j 0 + cond (nat_le i j) 1 0 ≡ get_or ns j 0
-get_or-one_fewer_from zero ns j h some =
-    let e = get_or-map (λ n. n - 1) ns j 0 0 h in
-    let s = some (omega arith) in
-    grind (arith, common_steps, e, s)
+get_or-one_fewer_from zero ns j h some = grind (arith, common_steps, get_or-map)
 get_or-one_fewer_from (suc i) [] j h some = absurd (omega arith)
 get_or-one_fewer_from (suc i) (n ∷ ns) zero h some = grind (arith, common_steps)
 get_or-one_fewer_from (suc i) (n ∷ ns) (suc j) h some =

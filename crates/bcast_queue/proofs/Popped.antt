@@ -1,13 +1,14 @@
 -- The first message goes, and leaves its count to the next.
 use Rattle.std.proofs.Common.{◌≡◌, ℕ, ◌+◌, Some, length, drop, slice_get, sum, ap, sym, ◌∙◌, arith, length-drop}
+use Rattle.std.proofs.lemmas.Grind.{common_steps}
 use Rattle.std.proofs.lemmas.List.{length-map, drop-map}
 use Rattle.std.proofs.lemmas.Option.{slice_get_within}
 use Rattle.circular_buffer.specs.Buffer.{Buffer, buffer}
 use Rattle.bcast_queue.specs.declared.Entry.{Entry}
 use Rattle.bcast_queue.specs.Queue.{Queued, without}
-use Rattle.bcast_queue.specs.Entries.{counts, messages, next_of, message_of, owed_by, more_from, queue_of, IsSound}
+use Rattle.bcast_queue.specs.Entries.{counts, messages, message_of, owed_by, more_from, queue_of, IsSound}
 use Rattle.bcast_queue.proofs.Owed.{RisesFrom-drop}
-use Rattle.bcast_queue.proofs.OwedBy.{owed_by-rest, first_of}
+use Rattle.bcast_queue.proofs.OwedBy.{owed_by-rest, first_is_owed}
 use Rattle.bcast_queue.proofs.Entries.{next_at}
 use Rattle.bcast_queue.proofs.Queues.{IsQueue-seen, sound-kept, same_queue}
 
@@ -26,11 +27,7 @@ module _ {X : Type 0} where
     messages-popped rest after t e is = is.kept ∙ ap messages is.rest_is ∙ sym (drop-map message_of 1 ring.items) ∙ ap (λ p. drop 1 p.messages) seen
 
     owed-popped : (rest after : Buffer (Entry X)) (t : ℕ) (e : Entry X) → IsPopped ring rest after t e → owed_by 0 (counts after) ≡ drop 1 q.owed
-    owed-popped rest after t e is =
-        is.owed
-        ∙ ap (λ ns. more_from e.next 0 (owed_by 0 ns)) (ap counts is.rest_is ∙ sym (drop-map next_of 1 ring.items))
-        ∙ owed_by-rest e.next (counts ring) (next_at ring.items 0 e (sym is.at))
-        ∙ ap (λ p. drop 1 p.owed) seen
+    owed-popped rest after t e is = grind (arith, common_steps, drop-map, owed_by-rest, next_at)
 
     pub sound-popped : (rest after : Buffer (Entry X)) (t : ℕ) (e : Entry X) → IsPopped ring rest after t e → IsSound (front + 1) t room after
     sound-popped rest after t e is =
@@ -38,13 +35,8 @@ module _ {X : Type 0} where
         let long : length (messages after) + 1 ≡ length ring.items =
         omega (arith, ap length (messages-popped rest after t e is), length-drop 1 q.messages, ap (λ p. length p.messages) seen, length-map ring.items message_of, slice_get_within ring.items 0 e (sym is.at)) in
         sound-kept _ _ _ _ _ ring after sound
-        (record { summed = is.summed; owed = first_of (counts after) _ (owed-popped rest after t e is) (RisesFrom-drop 1 q.owed queue.rises) })
+        (record { summed = is.summed; owed = first_is_owed (counts after) _ (owed-popped rest after t e is) (RisesFrom-drop 1 q.owed queue.rises) })
         (omega (arith, long, length-map after.items message_of, sound.numbered)) (omega (arith, long, length-map ring.items message_of)) (is.capacity ∙ ap (λ b. b.capacity) is.rest_is)
 
     pub seen-popped : (rest after : Buffer (Entry X)) (t : ℕ) (e : Entry X) → IsPopped ring rest after t e → queue_of (front + 1) after room ≡ without 1 q
-    seen-popped rest after t e is =
-        same_queue _ _ _ _ _ _ _ _
-        (ap (λ p. p.front + 1) seen)
-        (messages-popped rest after t e is)
-        (owed-popped rest after t e is)
-        (ap (λ p. p.room) seen)
+    seen-popped rest after t e is = grind (arith, common_steps, same_queue, messages-popped, owed-popped)

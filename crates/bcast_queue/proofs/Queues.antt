@@ -1,14 +1,14 @@
 -- What the calls of a queue do to what a contract sees of it.
-use Rattle.std.proofs.Common.{◌≡◌, ◌≢◌, ℕ, zero, suc, ◌+◌, ◌-◌, ◌<◌, ◌≤◌, ◌^◌, get_or, set, count_by, false, cond, eqb, [], ◌∷◌, drop, length, List, slice_get, Some, refl, sym, ap, subst, ◌∙◌, arith, add-zero}
+use Rattle.std.proofs.Common.{◌≡◌, ◌≢◌, ℕ, zero, suc, ◌+◌, ◌-◌, ◌<◌, ◌≤◌, ◌^◌, get_or, set, [], ◌∷◌, drop, length, List, slice_get, Some, refl, ap, arith, add-zero}
+use Rattle.std.proofs.lemmas.Grind.{common_steps}
 use Rattle.std.proofs.lemmas.List.{length-map}
 use Rattle.std.proofs.lemmas.Option.{slice_get-map}
-use Rattle.std.specs.Option.{option_map}
 use Rattle.circular_buffer.specs.Buffer.{Buffer}
 use Rattle.bcast_queue.specs.declared.Entry.{Entry}
 use Rattle.bcast_queue.specs.Queue.{one_fewer_from, Queued, queue_with, without, without_reader, read_at}
-use Rattle.bcast_queue.specs.Entries.{counts, messages, next_of, message_of, owed_by, queue_of, AreCounted, IsSound}
+use Rattle.bcast_queue.specs.Entries.{counts, messages, next_of, owed_by, queue_of, AreCounted, IsSound}
 use Rattle.bcast_queue.proofs.Owed.{RisesFrom, at_least}
-use Rattle.bcast_queue.proofs.Front.{nobody, none_gone}
+use Rattle.bcast_queue.proofs.Front.{none_gone}
 use Rattle.bcast_queue.proofs.Entries.{next_at}
 use Rattle.bcast_queue.proofs.OwedBy.{RisesFrom-owed_by, length-owed_by, get_or-owed_by, reader_of}
 use Rattle.bcast_queue.proofs.Unowed.{AreUnowed}
@@ -23,10 +23,7 @@ fewer_at_end (suc i) (n ∷ ns) h = ap (λ ms. n ∷ ms) (fewer_at_end i ns (ome
 -- a message that one reader owes is the first
 once_is_first : (ns : List ℕ) (i : ℕ) → RisesFrom 1 ns → i < length ns → (0 < i → get_or ns (i - 1) 0 < get_or ns i 0) → get_or ns i 0 ≡ 1 → i ≡ 0
 once_is_first ns zero rises within before once = refl
-once_is_first ns (suc i) rises within before once =
-    let at : suc i - 1 ≡ i = omega arith in
-    let owed = at_least 1 ns rises i 0 (omega arith) in
-    absurd (omega (arith, rw at at (before (omega arith)), owed, once))
+once_is_first ns (suc i) rises within before once = grind (arith, common_steps, at_least)
 
 module _ {X : Type 0} where
   pub same_queue : (a b : ℕ) (xs ys : List X) (ms ns : List ℕ) (r s : ℕ) → a ≡ b → xs ≡ ys → ms ≡ ns → r ≡ s → queue_with a xs ms r ≡ queue_with b ys ns s
@@ -38,11 +35,7 @@ module _ {X : Type 0} where
     pub lengths : length q.owed ≡ length q.messages
 
   pub IsQueue-seen : (front total room : ℕ) (ring : Buffer (Entry X)) (q : Queued X) → IsSound front total room ring → queue_of front ring room ≡ q → IsQueue q
-  IsQueue-seen front total room ring q sound seen =
-      subst IsQueue seen (record {
-        rises = RisesFrom-owed_by (counts ring) sound.counted.owed;
-        lengths = length-owed_by 0 (counts ring) ∙ length-map ring.items next_of ∙ sym (length-map ring.items message_of);
-      })
+  IsQueue-seen front total room ring q sound seen = grind (arith, common_steps, RisesFrom-owed_by, length-owed_by, length-map)
 
   -- a reader is counted at a message that more owe than the one before it
   pub reader_at : (front total room : ℕ) (ring : Buffer (Entry X)) (q : Queued X) (i : ℕ) → IsSound front total room ring → queue_of front ring room ≡ q → i < length ring.items → (0 < i → get_or q.owed (i - 1) 0 < get_or q.owed i 0) → 0 < get_or (counts ring) i 0
@@ -50,56 +43,33 @@ module _ {X : Type 0} where
 
   -- a ring of which messages may have gone
   pub sound-kept : (front f total t room : ℕ) (ring after : Buffer (Entry X)) → IsSound front total room ring → AreCounted t (counts after) → f + length after.items < 2 ^ 64 → length (messages after) ≤ length (messages ring) → after.capacity ≡ ring.capacity → IsSound f t room after
-  sound-kept front f total t room ring after sound counted numbered fewer capacity =
-      record {
-        counted = counted;
-        numbered = numbered;
-        fits = omega (arith, fewer, length-map after.items message_of, length-map ring.items message_of, sound.fits);
-        has_room = omega (arith, capacity, sound.has_room);
-      }
+  sound-kept front f total t room ring after sound counted numbered fewer capacity = grind (arith, common_steps, length-map)
 
   -- the message of an entry
   pub message_at : (front room : ℕ) (ring : Buffer (Entry X)) (q : Queued X) (i : ℕ) (e : Entry X) → queue_of front ring room ≡ q → slice_get ring.items i ≡ Some e → slice_get q.messages i ≡ Some e.message
-  message_at front room ring q i e seen is =
-      ap (λ (p : Queued X). slice_get p.messages i) (sym seen) ∙ slice_get-map message_of ring.items i ∙ ap (option_map message_of) is
+  message_at front room ring q i e seen is = grind (arith, common_steps, slice_get-map)
 
   -- how many owe the first message, by its entry
   pub owed_first : (front room : ℕ) (ring : Buffer (Entry X)) (q : Queued X) (i : ℕ) (e : Entry X) → queue_of front ring room ≡ q → slice_get ring.items i ≡ Some e → i ≡ 0 → get_or q.owed i 0 ≡ e.next
-  owed_first front room ring q i e seen is first =
-      ap (λ (p : Queued X). get_or p.owed i 0) (sym seen) ∙ ap (λ j. get_or (owed_by 0 (counts ring)) j 0) first
-      ∙ get_or-owed_by (counts ring) ∙ next_at ring.items 0 e (ap (slice_get ring.items) (sym first) ∙ is)
+  owed_first front room ring q i e seen is first = grind (arith, common_steps, get_or-owed_by, next_at)
 
   -- a message that isn't the first is owed by several readers
   pub owed_more : (q : Queued X) (i : ℕ) → IsQueue q → i < length q.messages → (0 < i → get_or q.owed (i - 1) 0 < get_or q.owed i 0) → (i ≡ 0 → get_or q.owed i 0 ≢ 1) → 1 < get_or q.owed i 0
-  owed_more q i is within before other =
-      let owed = at_least 1 q.owed is.rises i 0 (omega (arith, within, is.lengths)) in
-      let several : get_or q.owed i 0 ≢ 1 = λ once. other (once_is_first q.owed i is.rises (omega (arith, within, is.lengths)) before once) once in
-      grind (arith, owed, several)
+  owed_more q i is within before other = grind (arith, common_steps, at_least, once_is_first)
 
   without_none : (q : Queued X) (n : ℕ) → n ≡ 0 → without n q ≡ q
   without_none q n is = rw (is, add-zero) refl
 
   -- a reader leaves, and each message is still owed
   pub left_behind : (q : Queued X) (i : ℕ) (ns : List ℕ) → ns ≡ one_fewer_from i q.owed → RisesFrom 1 ns → queue_with q.front q.messages ns q.room ≡ without_reader i q
-  left_behind q i ns is rises =
-      ap (λ ms. queue_with q.front q.messages ms q.room) is
-      ∙ sym (without_none (record q { owed = one_fewer_from i q.owed }) _ (ap (count_by nobody) (sym is) ∙ none_gone 1 ns (omega arith) rises))
+  left_behind q i ns is rises = grind (arith, common_steps, without_none, none_gone)
 
   -- a reader leaves, and the first k messages are dropped
   pub left_front : (q : Queued X) (i k : ℕ) (ns : List ℕ) → owed_by 0 ns ≡ one_fewer_from i q.owed → AreUnowed ns k → queue_with (q.front + k) (drop k q.messages) (owed_by 0 (drop k ns)) q.room ≡ without_reader i q
-  left_front q i k ns is unowed =
-      let gone : k ≡ count_by nobody (one_fewer_from i q.owed) = sym unowed.gone ∙ ap (count_by nobody) is in
-      same_queue _ _ _ _ _ _ q.room q.room
-      (ap (λ n. q.front + n) gone)
-      (ap (λ n. drop n q.messages) gone)
-      (sym unowed.owed ∙ ap (drop k) is ∙ ap (λ n. drop n (one_fewer_from i q.owed)) gone)
-      refl
+  left_front q i k ns is unowed = grind (arith, common_steps, same_queue)
 
   pub left_at_end : (q : Queued X) (i : ℕ) → IsQueue q → length q.messages ≤ i → q ≡ without_reader i q
   left_at_end q i is end = left_behind q i q.owed (fewer_at_end i q.owed (omega (arith, end, is.lengths))) is.rises
 
   pub read_clone : (q : Queued X) (i : ℕ) (ns : List ℕ) → get_or q.owed i 0 ≢ 1 → ns ≡ set q.owed i (get_or q.owed i 0 - 1) → queue_with q.front q.messages ns q.room ≡ read_at i q
-  read_clone q i ns several is =
-      let apart : eqb (get_or q.owed i 0) 1 ≡ false = grind arith in
-      ap (λ ms. queue_with q.front q.messages ms q.room) is
-      ∙ ap (λ b. cond b (without 1 q) (record q { owed = set q.owed i (get_or q.owed i 0 - 1) })) (sym apart)
+  read_clone q i ns several is = grind (arith, common_steps)

@@ -1,5 +1,5 @@
 -- A message that several readers owe is read by one of them, who reads the next message then.
-use Rattle.std.proofs.Common.{◌≡◌, ℕ, suc, ◌+◌, ◌-◌, ◌<◌, Some, length, map, set, get_or, slice_get, sum, refl, ap, ◌∙◌, arith}
+use Rattle.std.proofs.Common.{◌≡◌, ℕ, suc, ◌+◌, ◌-◌, ◌<◌, Some, length, map, set, get_or, slice_get, sum, refl, ap, ◌∙◌, arith, rules}
 use Rattle.std.proofs.lemmas.List.{length-map}
 use Rattle.circular_buffer.specs.Buffer.{Buffer}
 use Rattle.bcast_queue.specs.declared.Entry.{Entry}
@@ -43,10 +43,4 @@ module _ {X : Type 0} where
         (omega (arith, long, length-map after.items message_of, length-map ring.items message_of, sound.numbered)) (omega (arith, long)) moves.capacity
 
     pub read-moved : (after : Buffer (Entry X)) (t : ℕ) (e : Entry X) → MovesOn ring after i t e → queue_of front after room ≡ read_at i q
-    read-moved after t e moves =
-        same_queue _ _ _ _ _ _ _ _
-        (ap (λ p. p.front) seen)
-        (messages-moved after t e moves ∙ ap (λ p. p.messages) seen)
-        (owed-moved after t e moves)
-        (ap (λ p. p.room) seen)
-        ∙ read_clone q i _ (λ once. omega (arith, once, several)) refl
+    read-moved after t e moves = search (rules, same_queue, messages-moved, owed-moved, read_clone)

@@ -1,5 +1,6 @@
 -- What a reader that leaves owes no more, and the messages at the front that no reader owes then.
-use Rattle.std.proofs.Common.{◌≡◌, ℕ, suc, ◌+◌, ◌<◌, List, [], ◌∷◌, length, drop, get_or, set, sum, Bool, true, false, cond, count_by, refl, ap, subst, ◌∙◌, arith}
+use Rattle.std.proofs.Common.{◌≡◌, ℕ, suc, ◌+◌, ◌<◌, List, [], ◌∷◌, length, drop, get_or, set, sum, Bool, true, false, cond, count_by, refl, ap, arith}
+use Rattle.std.proofs.lemmas.Grind.{common_steps}
 use Rattle.std.specs.List.{prefix_len}
 use Rattle.std.proofs.lemmas.List.{get_or-set_other}
 use Rattle.std.proofs.lemmas.List.Sums.{sum_by-cons, sum_by-set}
@@ -15,12 +16,7 @@ pub record AreLeft (t i : ℕ) (ns ms : List ℕ) : Type 0 where
   pub first : 0 < i → 0 < get_or ms 0 0
 
 pub AreLeft-set : (t i m : ℕ) (ns ms : List ℕ) → AreCounted t ns → i < length ns → m + 1 ≡ get_or ns i 0 → ms ≡ set ns i m → AreLeft t i ns ms
-AreLeft-set t i m ns ms counted within fewer is =
-    record {
-      owed = ap (owed_by 0) is ∙ owed_by-fewer 0 i m ns within fewer;
-      summed = omega (arith, ap sum is, sum_by-set (λ n. n) ns i m 0 within, fewer, counted.summed);
-      first = λ later. omega (arith, ap (λ ls. get_or ls 0 0) is, get_or-set_other ns i 0 m 0 (λ same. omega (arith, same, later)), counted.owed (omega (arith, within)));
-    }
+AreLeft-set t i m ns ms counted within fewer is = grind (arith, common_steps, owed_by-fewer, sum_by-set, get_or-set_other)
 
 -- the first k messages are those that no reader owes
 pub record AreUnowed (ns : List ℕ) (k : ℕ) : Type 0 where
@@ -33,16 +29,7 @@ drop_head : (k a b : ℕ) (ns : List ℕ) → a ≡ b → drop (suc k) (a ∷ ow
 drop_head k a b ns same = ap (λ m. drop k (owed_by m ns)) same
 
 AreUnowed-if : (n k : ℕ) (ns : List ℕ) → AreUnowed ns k → (b : Bool) → nobody n ≡ b → AreUnowed (n ∷ ns) (cond b (1 + k) 0)
-AreUnowed-if n k ns rest true is =
-    let none : n ≡ 0 = grind (arith, is) in
-    let zeroed : 0 + n ≡ 0 = omega (arith, none) in
-    let next : suc k ≡ 1 + k = omega arith in
-    subst (AreUnowed (n ∷ ns)) next (record {
-      gone = omega (arith, count_head (0 + n) (owed_by (0 + n) ns) true (rw none refl), ap (λ m. count_by nobody (owed_by m ns)) zeroed, rest.gone);
-      owed = drop_head k (0 + n) 0 ns zeroed ∙ rest.owed;
-      summed = omega (arith, none, rest.summed, sum_by-cons (λ x. x) n ns);
-      first = rest.first;
-    })
+AreUnowed-if n k ns rest true is = grind (arith, common_steps, count_head, nobody, drop_head, sum_by-cons)
 AreUnowed-if n k ns rest false is =
     let some : 0 < n = grind (arith, is) in
     record {

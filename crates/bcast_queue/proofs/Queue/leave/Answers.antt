@@ -1,9 +1,9 @@
 -- A reader leaves, and the messages that only it owed are dropped.
-use Rattle.std.proofs.Common.{◌+◌, ◌<◌, get_or, length, drop, ap, sym, ◌∙◌, refl, arith, sum, length-drop}
+use Rattle.std.proofs.Common.{◌<◌, get_or, length, ap, sym, ◌∙◌, arith, sum, length-drop, rules}
+use Rattle.std.proofs.lemmas.Grind.{common_steps}
 use Rattle.std.specs.List.{prefix_len}
 use Rattle.std.proofs.lemmas.List.{length-map}
-use Rattle.bcast_queue.specs.Queue.{one_fewer_from}
-use Rattle.bcast_queue.specs.Entries.{counts, messages, next_of, message_of, owed_by}
+use Rattle.bcast_queue.specs.Entries.{counts, messages, next_of, message_of}
 use Rattle.bcast_queue.proofs.Front.{nobody}
 use Rattle.bcast_queue.proofs.OwedBy.{RisesFrom-owed_by}
 use Rattle.bcast_queue.proofs.Unowed.{AreUnowed-front, AreLeft, AreLeft-set}
@@ -54,38 +54,10 @@ invariant_of-self g c =
     (c.drop_unowed.ensures.capacity ∙ c.change_at-next.ensures.capacity)
 
 pub invariant_of-self-else-index-eq0 : goal.invariant_of-self-else-index-eq0
-invariant_of-self-else-index-eq0 g c =
-    let at = goal.at.invariant_of-self-else-index-eq0 g c in
-    let is = fewer g at.After-change_at-next (reader g at.Else-index-len) in
-    let ring = c.self.inside.ring in
-    let left = c.change_at-next.new.ring in
-    let long = ap length c.change_at-next.ensures.messages in
-    sound-kept _ _ _ _ _ ring left c.self.invariant
-    (record { summed = omega (arith, is.summed); owed = λ _. is.first (grind (arith, c.if-index-eq0.false)) })
-    (omega (arith, long, length-map left.items message_of, length-map ring.items message_of, c.self.invariant.numbered)) (omega (arith, long)) c.change_at-next.ensures.capacity
+invariant_of-self-else-index-eq0 g c = grind (arith, common_steps, fewer, reader, sound-kept, length-map)
 
 pub returns-then-index-eq0-clause-left : goal.returns-then-index-eq0-clause-left
-returns-then-index-eq0-clause-left g c =
-    let at = goal.at.returns-then-index-eq0-clause-left g c in
-    let ns = counts c.change_at-next.new.ring in
-    let k = prefix_len nobody ns in
-    same_queue _ _ _ _ _ _ _ _
-    (c.drop_unowed.ensures.front ∙ ap (λ p. p.front + k) c.self.view_is)
-    (c.drop_unowed.ensures.messages ∙ ap (drop k) (c.change_at-next.ensures.messages ∙ ap (λ p. p.messages) c.self.view_is))
-    (ap (owed_by 0) c.drop_unowed.ensures.counts)
-    (ap (λ p. p.room) c.self.view_is)
-    ∙ left_front c.args.self.now c.args.index k ns ((fewer g at.After-change_at-next (reader g at.Else-index-len)).owed ∙ ap (λ q. one_fewer_from c.args.index q.owed) c.self.view_is) (AreUnowed-front ns)
+returns-then-index-eq0-clause-left g c = search (rules, same_queue, left_front, fewer, reader, AreUnowed-front)
 
 pub returns-else-index-eq0-clause-left : goal.returns-else-index-eq0-clause-left
-returns-else-index-eq0-clause-left g c =
-    let at = goal.at.returns-else-index-eq0-clause-left g c in
-    let ns = counts c.change_at-next.new.ring in
-    let is = fewer g at.After-change_at-next (reader g at.Else-index-len) in
-    same_queue _ _ _ _ _ _ _ _
-    (ap (λ p. p.front) c.self.view_is)
-    (c.change_at-next.ensures.messages ∙ ap (λ p. p.messages) c.self.view_is)
-    refl
-    (ap (λ p. p.room) c.self.view_is)
-    ∙ left_behind c.args.self.now c.args.index (owed_by 0 ns)
-    (is.owed ∙ ap (λ q. one_fewer_from c.args.index q.owed) c.self.view_is)
-    (RisesFrom-owed_by ns (λ _. is.first (grind (arith, c.if-index-eq0.false))))
+returns-else-index-eq0-clause-left g c = grind (arith, common_steps, fewer, reader, same_queue, left_behind, RisesFrom-owed_by)

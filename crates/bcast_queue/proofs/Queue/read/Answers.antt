@@ -1,10 +1,11 @@
 -- A message that one reader owes is the first, and leaves; of one that several owe a clone is given.
-use Rattle.std.proofs.Common.{Result, Ok, Err, OnErr, ◌≡◌, ◌<◌, Some, ap, ◌∙◌, sym, get_or, slice_get, arith}
+use Rattle.std.proofs.Common.{Result, Ok, Err, OnErr, ◌≡◌, ◌<◌, Some, ap, ◌∙◌, sym, get_or, slice_get, arith, rules}
+use Rattle.std.proofs.lemmas.Grind.{common_steps}
 use Rattle.std.specs.Option.{option_copied_mut}
 use Rattle.std.proofs.lemmas.Option.{slice_get_within}
 use Rattle.std.proofs.lemmas.Result.{IfOk-from_err}
 use Rattle.bcast_queue.specs.Queue.{without}
-use Rattle.bcast_queue.specs.Entries.{messages, queue_of}
+use Rattle.bcast_queue.specs.Entries.{queue_of}
 use Rattle.bcast_queue.proofs.Entries.{next_at, same_ring, sound-same, taken}
 use Rattle.bcast_queue.proofs.Queues.{IsQueue-seen, reader_at, message_at, owed_first, owed_more}
 use Rattle.bcast_queue.proofs.Reading.{MovesOn, sound-moved, read-moved}
@@ -42,12 +43,7 @@ pub invariant_of-self-in_err-message : goal.invariant_of-self-in_err-message
 invariant_of-self-in_err-message g c = sound-same _ _ _ _ c.args.index c.in-Some.entry.now c.self.invariant (sym c.get_mut.ensures.value ∙ ap option_copied_mut c.in-Some.is)
 
 pub returns-then-entry-eq1-clause-moved : goal.returns-then-entry-eq1-clause-moved
-returns-then-entry-eq1-clause-moved g c = λ one.
-    let s = c.self.inside in
-    ap (slice_get c.args.self.now.messages) c.if-index-eq0.true
-    ∙ ap (λ q. slice_get q.messages 0) (sym c.self.view_is)
-    ∙ ap (λ ring. slice_get (messages ring) 0) (sym (same_ring s.ring c.args.index c.in-Some.entry.now (sym c.get_mut.ensures.value ∙ ap option_copied_mut c.in-Some.is)))
-    ∙ sym c.in-Some-pop.ensures.value
+returns-then-entry-eq1-clause-moved g c = grind (arith, common_steps, same_ring)
 
 pub returns-then-entry-eq1-clause-cloned : goal.returns-then-entry-eq1-clause-cloned
 returns-then-entry-eq1-clause-cloned g c =
@@ -66,24 +62,17 @@ returns-in_err-message-clause-moved g c =
     λ one. absurd (omega (arith, one, several g (goal.at.returns-in_err-message-clause-moved g c).After-clone))
 
 pub returns-in_err-message-clause-cloned : goal.returns-in_err-message-clause-cloned
-returns-in_err-message-clause-cloned g c =
-    let at = (goal.at.returns-in_err-message-clause-cloned g c).After-clone in
-    λ _. rw (message g at) (IfOk-from_err c.from_residual.result _ c.from_residual.ensures.0)
+returns-in_err-message-clause-cloned g c = grind (arith, common_steps, message, IfOk-from_err)
 
 on_err : {A B P : Type 0} (r : Result A B) → P → OnErr r P
 on_err (Ok a) p = tt
 on_err (Err e) p = p
 
 pub returns-in_err-message-clause-err : goal.returns-in_err-message-clause-err
-returns-in_err-message-clause-err g c =
-    let s = c.self.inside in
-    on_err c.from_residual.result
-    (ap (λ ring. queue_of s.front ring s.room) (same_ring s.ring c.args.index c.in-Some.entry.now (sym c.get_mut.ensures.value ∙ ap option_copied_mut c.in-Some.is)) ∙ c.self.view_is)
+returns-in_err-message-clause-err g c = grind (arith, common_steps, on_err, same_ring)
 
 pub returns-in_err-message-clause-refused : goal.returns-in_err-message-clause-refused
-returns-in_err-message-clause-refused g c =
-    let at = (goal.at.returns-in_err-message-clause-refused g c).After-clone in
-    on_err c.from_residual.result (several g at)
+returns-in_err-message-clause-refused g c = search (rules, on_err, several)
 
 -- a reader of the message moves to the next
 reader : (g : _) (c : After-clone g) → 0 < c.in-Some.entry.now.next
@@ -102,24 +91,14 @@ add_readers-requires-clause-summed g c =
     (taken _ _ _ _ c.self.invariant.counted (sym c.get_mut.ensures.value ∙ ap option_copied_mut c.in-Some.is) some).summed
 
 moves : (g : _) (c : After-add_readers g) → 0 < c.in-Some.entry.now.next → MovesOn c.self.inside.ring c.add_readers.new.ring c.args.index c.add_readers.new.total c.in-Some.entry.now
-moves g c some =
-    record {
-      at = sym c.get_mut.ensures.value ∙ ap option_copied_mut c.in-Some.is;
-      some = some;
-      owed = c.add_readers.ensures.owed;
-      messages = c.add_readers.ensures.messages;
-      summed = c.add_readers.ensures.summed;
-      capacity = c.add_readers.ensures.capacity;
-    }
+moves g c some = grind (arith, common_steps)
 
 pub returns-clause-moved : goal.returns-clause-moved
 returns-clause-moved g c =
     λ one. absurd (omega (arith, one, several g (goal.at.returns-clause-moved g c).After-clone))
 
 pub returns-clause-cloned : goal.returns-clause-cloned
-returns-clause-cloned g c =
-    let at = (goal.at.returns-clause-cloned g c).After-clone in
-    λ _. rw (message g at) c.in_ok-message.ensures.cases
+returns-clause-cloned g c = grind (arith, common_steps, message)
 
 pub invariant_of-self-2 : goal.invariant_of-self-2
 invariant_of-self-2 g c =
