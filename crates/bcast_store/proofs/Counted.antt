@@ -1,5 +1,6 @@
 -- What holds of a store, by its counts.
-use Rattle.std.proofs.Common.{◌≡◌, inl, inr, ℕ, ◌+◌, ◌^◌, ◌<◌, ◌≤◌, All, length, get_or, arith}
+use Rattle.std.proofs.Common.{◌≡◌, ℕ, ◌+◌, ◌^◌, ◌<◌, ◌≤◌, All, length, get_or, arith}
+use Rattle.std.proofs.lemmas.Grind.{common_steps}
 use Rattle.std.proofs.lemmas.Bool.{cases_lt}
 use Rattle.std.specs.FinMap.{len, values}
 use Rattle.bcast_model.specs.Words.{Cursors, least}
@@ -20,21 +21,7 @@ module _ {T : Type 0} where
 
   -- the front is no less than the least cursor
   pub front_met : (q : Queued T) (cursors : Cursors) → IsSound q cursors → IsCounted q → least (q.front + length q.messages) (values cursors) ≤ q.front
-  front_met q cursors s n =
-      elim (cases_lt 0 (length q.messages)) [
-        | inl some ↦
-            (let o = some_owes cursors (q.front + 0) (let a = s.owed_by 0 some in let b = owed_at q 0 n some in omega arith) in
-            let l = least-le-cursor (q.front + length q.messages) cursors o.0 o.1 o.2 in
-            omega (arith, l, o.3))
-        | inr none ↦ (let l = least-le-limit (q.front + length q.messages) (values cursors) in omega (arith, l, none))
-      ]
+  front_met q cursors s n = grind (arith, common_steps, cases_lt, some_owes, owed_at, least-le-cursor, least-le-limit)
 
   pub settled : (q : Queued T) (cursors : Cursors) → IsSound q cursors → IsCounted q → length q.messages ≤ q.room → q.front + length q.messages < 2 ^ 64 → len cursors < 2 ^ 64 → IsSettled (store_of q cursors)
-  settled q cursors s n fits end_fits receivers_fit =
-      record {
-        front = front_met q cursors s n;
-        reach = s.reach;
-        fits = fits;
-        end_fits = end_fits;
-        receivers_fit = receivers_fit;
-      }
+  settled q cursors s n fits end_fits receivers_fit = grind (arith, common_steps, front_met)

@@ -1,9 +1,9 @@
 -- What the calls on the map of a slab's entries return.
-use Rattle.std.proofs.Common.{◌≡◌, ◌≢◌, ℕ, zero, suc, ◌+◌, ◌<◌, Bool, true, false, cond, eqb, List, [], ◌∷◌, length, get_or, Option, Some, None, refl, sym, ap, subst, ◌∙◌, zero-add, arith, T, eqb-true, eq-eqb, true≢false}
+use Rattle.std.proofs.Common.{◌≡◌, ◌≢◌, ℕ, zero, suc, ◌+◌, ◌<◌, Bool, true, false, cond, eqb, List, [], ◌∷◌, get_or, Option, Some, None, refl, sym, ap, ◌∙◌, zero-add, arith, T, eqb-true, eq-eqb, true≢false}
+use Rattle.std.proofs.lemmas.Grind.{common_steps}
 use Rattle.std.specs.Prelude.{◌&&◌}
-use Rattle.std.specs.declared.cmp.Ordering.TheVariants.{Less}
-use Rattle.std.specs.Ordering.{nat_cmp, is_lt, eq_by_cmp}
-use Rattle.std.specs.Cmp.{nat_cmp_is, nat_cmp_total, unsigned_tied}
+use Rattle.std.specs.Ordering.{nat_cmp, eq_by_cmp}
+use Rattle.std.specs.Cmp.{nat_cmp_total}
 use Rattle.std.specs.FinMap as map
 use Rattle.std.specs.FinMap.{FinMap, find, is_sorted, same_map, nat_cmp-IsAntisymmetric, get-from_sorted, entries-from_sorted, len-entries, get-insert, get-remove, empty_of_len}
 use Rattle.std.specs.FinMap.Entries.{below_all}
@@ -21,8 +21,7 @@ module _ {V : Type 0} where
   below : (j key : ℕ) (slots : List (Option V)) → j < key → T (below_all nat_cmp j (entries_from key slots))
   below j key [] h = tt
   below j key (None ∷ rest) h = below j (key + 1) rest (omega arith)
-  below j key (Some v ∷ rest) h =
-      both _ _ (subst (λ r. T (is_lt r)) (nat_cmp_is j key Less h) tt) (below j (key + 1) rest (omega arith))
+  below j key (Some v ∷ rest) h = grind (arith, common_steps, both, below j (key + 1) rest (omega arith))
 
   sorted : (key : ℕ) (slots : List (Option V)) → T (is_sorted nat_cmp (entries_from key slots))
   sorted key [] = tt
@@ -32,24 +31,14 @@ module _ {V : Type 0} where
   find_below : (q key : ℕ) (slots : List (Option V)) → q < key → find nat_cmp q (entries_from key slots) ≡ None
   find_below q key [] h = refl
   find_below q key (None ∷ rest) h = find_below q (key + 1) rest (omega arith)
-  find_below q key (Some v ∷ rest) h =
-      let apart : eq_by_cmp nat_cmp q key ≡ false = unsigned_tied q key ∙ found_not q key (omega arith) in
-      ap (λ b. cond b (Some v) (find nat_cmp q (entries_from (key + 1) rest))) apart ∙ find_below q (key + 1) rest (omega arith)
+  find_below q key (Some v ∷ rest) h = grind (arith, common_steps, found_not, find_below q (key + 1) rest (omega arith))
 
   find_at : (key at : ℕ) (slots : List (Option V)) → find nat_cmp (key + at) (entries_from key slots) ≡ get_or slots at None
   find_at key at [] = refl
   find_at key zero (None ∷ rest) = find_below (key + 0) (key + 1) rest (omega arith)
-  find_at key (suc at) (None ∷ rest) =
-      let shift : key + suc at ≡ key + 1 + at = omega arith in
-      rw shift (find_at (key + 1) at rest)
-  find_at key zero (Some v ∷ rest) =
-      let same : eq_by_cmp nat_cmp (key + 0) key ≡ true = unsigned_tied (key + 0) key ∙ grind arith in
-      ap (λ b. cond b (Some v) (find nat_cmp (key + 0) (entries_from (key + 1) rest))) same
-  find_at key (suc at) (Some v ∷ rest) =
-      let shift : key + suc at ≡ key + 1 + at = omega arith in
-      let apart : eq_by_cmp nat_cmp (key + suc at) key ≡ false = unsigned_tied (key + suc at) key ∙ found_not _ _ (omega arith) in
-      ap (λ b. cond b (Some v) (find nat_cmp (key + suc at) (entries_from (key + 1) rest))) apart
-      ∙ ap (λ k. find nat_cmp k (entries_from (key + 1) rest)) shift ∙ find_at (key + 1) at rest
+  find_at key (suc at) (None ∷ rest) = grind (arith, common_steps, find_at (key + 1) at rest)
+  find_at key zero (Some v ∷ rest) = grind (arith, common_steps)
+  find_at key (suc at) (Some v ∷ rest) = grind (arith, common_steps, found_not, find_at (key + 1) at rest)
 
   abbrev pub map_of : Slab V → FinMap nat_cmp V
   map_of s = map.from_sorted (entries s)
@@ -64,21 +53,14 @@ module _ {V : Type 0} where
   entries-map_of s = entries-from_sorted nat_cmp (entries s) (sorted 0 s.slots)
 
   pub len-map_of : (s : Slab V) → map.len (map_of s) ≡ slab_len s
-  len-map_of s =
-      len-entries (map_of s)
-      ∙ ap length (entries-from_sorted nat_cmp (entries s) (sorted 0 s.slots))
-      ∙ length-entries s
+  len-map_of s = grind (arith, common_steps, len-entries, entries-from_sorted, sorted, length-entries)
 
   slot_at : (old new : Slab V) (key : ℕ) (slot : Option V) → Updates old new key slot → (q : ℕ) (b : Bool) → eqb q key ≡ b → get new q ≡ cond b slot (get old q)
   slot_at old new key slot updates q true is = ap (get new) (eqb-true q key is) ∙ updates.changed
   slot_at old new key slot updates q false is = updates.others q (λ same. true≢false (sym (eq-eqb q key same) ∙ is))
 
   seen_at : (old new : Slab V) (key : ℕ) (slot : Option V) → Updates old new key slot → (q : ℕ) → map.get (map_of new) q ≡ cond (eq_by_cmp nat_cmp q key) slot (map.get (map_of old) q)
-  seen_at old new key slot updates q =
-      get-map_of new q
-      ∙ slot_at old new key slot updates q (eqb q key) refl
-      ∙ ap (λ b. cond b slot (get old q)) (sym (unsigned_tied q key))
-      ∙ ap (cond (eq_by_cmp nat_cmp q key) slot) (sym (get-map_of old q))
+  seen_at old new key slot updates q = grind (arith, common_steps, get-map_of, slot_at)
 
   pub map_of-updated : (old new : Slab V) (key : ℕ) (v : V) → Updates old new key (Some v) → map_of new ≡ map.insert (map_of old) key v
   map_of-updated old new key v updates =

@@ -1,5 +1,6 @@
 -- The first messages are dropped, one by one.
-use Rattle.std.proofs.Common.{◌≡◌, ℕ, ◌+◌, ◌<◌, [], ◌∷◌, length, drop, Option, Some, None, refl, sym, ap, ◌∙◌, arith, length-drop}
+use Rattle.std.proofs.Common.{◌≡◌, ℕ, ◌+◌, ◌<◌, [], ◌∷◌, length, drop, Option, Some, None, refl, ap, ◌∙◌, arith, length-drop}
+use Rattle.std.proofs.lemmas.Grind.{common_steps}
 use Rattle.std.specs.Prelude.{IfSome, OnSome, IfNone}
 use Rattle.std.proofs.lemmas.List.{drop-drop}
 use Rattle.bcast_store.specs.Stored.{Stored}
@@ -14,8 +15,7 @@ module _ {T : Type 0} where
   -- what `pop` does, if there is a message
   popped : (r : Option T) (old new : Stored T) → IfSome r (λ msg. old.queue ≡ msg ∷ new.queue) → OnSome r (new ≡ record old { front = old.front + 1; queue = new.queue }) → IfNone r (old.queue ≡ []) → 0 < length old.queue → new ≡ dropped 1 old
   popped None old new oldest rest empty some = let e = ap length empty in absurd (omega arith)
-  popped (Some msg) old new oldest rest empty some =
-      rest ∙ ap (λ q. record old { front = old.front + 1; queue = q }) (sym (ap (drop 1) oldest))
+  popped (Some msg) old new oldest rest empty some = grind (arith, common_steps)
 
   -- one more
   pub dropped_more : (n : ℕ) (s now new : Stored T) (r : Option T) → now ≡ dropped n s → n < length s.queue → IfSome r (λ msg. now.queue ≡ msg ∷ new.queue) → OnSome r (new ≡ record now { front = now.front + 1; queue = new.queue }) → IfNone r (now.queue ≡ []) → new ≡ dropped (n + 1) s

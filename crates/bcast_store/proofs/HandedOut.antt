@@ -1,5 +1,6 @@
 -- What a read gives, by the count of its message.
-use Rattle.std.proofs.Common.{◌≡◌, inl, inr, ℕ, ◌-◌, ◌<◌, Some, get_or, slice_get, refl, subst, arith}
+use Rattle.std.proofs.Common.{◌≡◌, ℕ, ◌<◌, Some, get_or, slice_get, arith, rules}
+use Rattle.std.proofs.lemmas.Grind.{common_steps}
 use Rattle.std.specs.Prelude.{IsSomeAnd}
 use Rattle.std.proofs.lemmas.Bool.{cases_lt}
 use Rattle.bcast_model.specs.Control.{Cursors}
@@ -13,26 +14,8 @@ use Rattle.bcast_store.proofs.Reading.{IsReading}
 module _ {T : Type 0} (q : Queued T) (cursors : Cursors) (key number i : ℕ) (s : IsSound q cursors) (r : IsReading q cursors key number i) where
   -- a message that is owed more than once is owed by another receiver
   pub owed_by_another : 1 < get_or q.owed i 0 → IsOwed (store_of q cursors) key number
-  owed_by_another more =
-      let is = r.is in
-      let below = r.below in
-      let o = s.owed_by i r.below in
-      let a = another cursors number key r.cursor r.at (rw is (omega (arith, o, more))) in
-      record {
-        number = number;
-        at = refl;
-        kept = (omega arith, omega arith);
-        other = a.0;
-        differs = a.2;
-        behind = a.1;
-        owes = (a.3, a.4);
-      }
+  owed_by_another more = search (rules, another)
 
   pub handed_out : (is_clone : T → T → Type 0) (given : T) → IsCounted q → (get_or q.owed i 0 ≡ 1 → slice_get q.messages i ≡ Some given) → (1 < get_or q.owed i 0 → IsSomeAnd (slice_get q.messages i) (λ msg. is_clone msg given))
       → IsHandedOut is_clone (store_of q cursors) key number given
-  handed_out is_clone given n moved cloned =
-      let e : i ≡ number - q.front = omega (arith, r.is) in
-      elim (cases_lt 1 (get_or q.owed i 0)) [
-        | inl more ↦ inr (owed_by_another more, subst (λ j. IsSomeAnd (slice_get q.messages j) (λ msg. is_clone msg given)) e (cloned more))
-        | inr once ↦ (let some = owed_at q i n r.below in inl (subst (λ j. slice_get q.messages j ≡ Some given) e (moved (omega (arith, some, once)))))
-      ]
+  handed_out is_clone given n moved cloned = grind (arith, common_steps, cases_lt, owed_by_another, owed_at)

@@ -1,9 +1,8 @@
 -- The counts of a new store, and after a message was appended.
-use Rattle.std.proofs.Common.{◌≡◌, ℕ, ◌+◌, ◌-◌, ◌<◌, ◌≤◌, [], ◌∷◌, ◌++◌, length, sym, ◌∙◌, subst, arith, length-append}
+use Rattle.std.proofs.Common.{◌≡◌, ℕ, ◌+◌, ◌-◌, ◌<◌, ◌≤◌, [], ◌∷◌, ◌++◌, length, sym, subst, arith, length-append, rules}
 use Rattle.std.proofs.lemmas.Grind.{common_steps}
 use Rattle.std.proofs.lemmas.Option.{none-some, slice_get_within, get_or_from_slice_get}
 use Rattle.std.specs.Option.{ForSome}
-use Rattle.std.specs.Ordering.{nat_cmp}
 use Rattle.std.specs.FinMap.{len, empty, get-empty}
 use Rattle.bcast_model.specs.Control.{Cursors}
 use Rattle.bcast_queue.specs.Queue.{last_item, Queued, queue_with}
@@ -19,12 +18,7 @@ module _ {T : Type 0} where
 
   -- the last message is owed by no more receivers than there are
   pub last_owed : (q : Queued T) (cursors : Cursors) → IsSound q cursors → length q.owed ≡ length q.messages → ForSome (last_item q.owed) (λ n. n ≤ len cursors)
-  last_owed q cursors s lengths n is =
-      let below = slice_get_within q.owed (length q.owed - 1) n is in
-      let at = get_or_from_slice_get q.owed (length q.owed - 1) n 0 is in
-      let a = s.owed_by (length q.owed - 1) (omega arith) in
-      let b = few_owe cursors (q.front + (length q.owed - 1)) in
-      omega (arith, at, a, b)
+  last_owed q cursors s lengths n is = search (rules, slice_get_within, get_or_from_slice_get, few_owe)
 
   pub last_below : (q : Queued T) (cursors : Cursors) (top : ℕ) → IsSound q cursors → length q.owed ≡ length q.messages → len cursors < top → ForSome (last_item q.owed) (λ n. n < top)
   last_below q cursors top s lengths few n is = let a = last_owed q cursors s lengths n is in omega arith
@@ -41,8 +35,4 @@ module _ {T : Type 0} where
 
   -- no receiver, and no message
   pub sound_new : (first room : ℕ) → IsSound {T = T} (queue_with first [] [] room) empty
-  sound_new first room =
-      record {
-        owed_by = λ i h. absurd (omega arith);
-        reach = λ key cursor at. absurd (none-some cursor (sym (get-empty nat_cmp key) ∙ at));
-      }
+  sound_new first room = grind (arith, common_steps, none-some, get-empty)

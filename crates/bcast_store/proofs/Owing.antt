@@ -1,5 +1,5 @@
 -- How many receivers have still to read a message.
-use Rattle.std.proofs.Common.{◌≡◌, ◌≢◌, inl, inr, ℕ, ◌+◌, ◌≤◌, true, false, cond, List, [], ◌∷◌, length, Some, None, is_some, count_by, nat_le, refl, sym, ap, ◌∙◌, arith}
+use Rattle.std.proofs.Common.{◌≡◌, ◌≢◌, ℕ, ◌+◌, ◌≤◌, true, false, cond, List, [], ◌∷◌, length, Some, None, is_some, count_by, nat_le, refl, sym, ap, ◌∙◌, arith}
 use Rattle.std.proofs.lemmas.Grind.{common_steps}
 use Rattle.std.proofs.lemmas.Bool.{cases_eq}
 use Rattle.std.proofs.lemmas.Option.{none-some}
@@ -110,10 +110,7 @@ len_joined m k c none = len-insert nat_cmp_total m k c ∙ ap (λ o. cond (is_so
 
 -- removing a key that a map doesn't have changes nothing
 pub remove-absent : (m : Cursors) (k : ℕ) → get m k ≡ None → remove m k ≡ m
-remove-absent m k none = cursors_ext (remove m k) m (λ q. elim (cases_eq q k) [
-  | inl same ↦ removed_same m k q same ∙ sym (ap (get m) same ∙ none)
-  | inr other ↦ removed_other m k q other
-])
+remove-absent m k none = grind (arith, common_steps, cursors_ext, cases_eq, removed_same, removed_other)
 
 -- the cursor that a fact is of
 pub found : (o : Option ℕ) (P : ℕ → Type 0) → IsSomeAnd o P → (c : ℕ) × (o ≡ Some c) × P c

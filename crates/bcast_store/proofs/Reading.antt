@@ -1,5 +1,5 @@
 -- The counts stay right when a receiver skips or reads.
-use Rattle.std.proofs.Common.{◌≡◌, inl, inr, ℕ, ◌+◌, ◌-◌, ◌<◌, ◌≤◌, true, false, cond, eqb, length, max, Some, get_or, set, nat_le, refl, sym, ap, ◌∙◌, arith, length-drop, get_or-set_same, get_or-set_other, eqb-true}
+use Rattle.std.proofs.Common.{◌≡◌, inl, inr, ℕ, ◌+◌, ◌-◌, ◌<◌, ◌≤◌, true, false, cond, eqb, length, max, Some, get_or, set, nat_le, refl, sym, ap, ◌∙◌, arith, length-drop, eqb-true}
 use Rattle.std.specs.Prelude.{IsSomeAnd}
 use Rattle.std.proofs.lemmas.Grind.{common_steps}
 use Rattle.std.proofs.lemmas.Bool.{cases_lt, cases_eq}
@@ -24,18 +24,7 @@ pub record IsReading {T : Type 0} (q : Queued T) (cursors : Cursors) (key number
 
 module _ {T : Type 0} where
   pub is_reading : (q : Queued T) (cursors : Cursors) (s : Stored T) (key number front : ℕ) → store_of q cursors ≡ s → front ≡ q.front → IsSomeAnd (get s.cursors key) (λ cursor. number ≡ max cursor s.front) → number < end_of s → IsReading q cursors key number (number - front)
-  is_reading q cursors s key number front view front_is at below =
-      let start : q.front ≡ s.front = ap (λ x. x.front) view in
-      let end : q.front + length q.messages ≡ end_of s = ap end_of view in
-      let c = found (get s.cursors key) (λ cursor. number ≡ max cursor s.front) at in
-      record {
-        cursor = c.0;
-        at = ap (λ x. get x.cursors key) view ∙ c.1;
-        is = omega (arith, c.2);
-        below = omega (arith, c.2);
-        under = omega (arith, c.2);
-        meets = λ some. omega (arith, c.2);
-      }
+  is_reading q cursors s key number front view front_is at below = grind (arith, common_steps, found)
 
   -- a skip to the front
   pub sound_skip : (q : Queued T) (cursors : Cursors) (key cursor : ℕ) → IsSound q cursors → get cursors key ≡ Some cursor → cursor < q.front → IsSound q (insert cursors key q.front)
@@ -65,11 +54,7 @@ module _ {T : Type 0} where
 
     -- a message that is owed once is the oldest
     owed_once : IsCounted q → get_or q.owed i 0 ≡ 1 → i ≡ 0
-    owed_once n once =
-        elim (cases_lt 0 i) [
-          | inl some ↦ (let a = reading_up some in let b = owed_at q (i - 1) n (omega (arith, r.below)) in absurd (omega (arith, a, b, once)))
-          | inr none ↦ omega (arith, none)
-        ]
+    owed_once n once = grind (arith, common_steps, cases_lt, reading_up, owed_at)
 
     -- the counts of the message that is read
     here : owing_at (insert cursors key (number + 1)) (q.front + i) + 1 ≡ get_or q.owed i 0
@@ -111,24 +96,10 @@ module _ {T : Type 0} where
 
     -- the message stays for the other readers
     sound_more : IsCounted q → IsSound (record q { owed = set q.owed i (get_or q.owed i 0 - 1) }) (insert cursors key (number + 1))
-    sound_more n =
-        record {
-          owed_by = λ j h. elim (cases_eq j i) [
-            | inl same ↦
-                (let f : get_or (set q.owed i (get_or q.owed i 0 - 1)) j 0 ≡ get_or q.owed i 0 - 1 = ap (λ y. get_or (set q.owed i (get_or q.owed i 0 - 1)) y 0) same ∙ get_or-set_same q.owed i (get_or q.owed i 0 - 1) 0 (omega (arith, n.lengths, r.below)) in
-                let w : owing_at (insert cursors key (number + 1)) (q.front + j) ≡ owing_at (insert cursors key (number + 1)) (q.front + i) = ap (λ y. owing_at (insert cursors key (number + 1)) (q.front + y)) same in
-                omega (arith, f, w, here))
-            | inr other ↦ get_or-set_other q.owed i j (get_or q.owed i 0 - 1) 0 other ∙ sym (elsewhere j h other)
-          ];
-          reach = read_reach;
-        }
+    sound_more n = grind (arith, common_steps, cases_eq, here, elsewhere, read_reach)
 
     pub sound_read : IsCounted q → IsSound (read_at i q) (insert cursors key (number + 1))
-    sound_read n =
-        elim (eqb (get_or q.owed i 0) 1) as (λ b. eqb (get_or q.owed i 0) 1 ≡ b → IsSound (cond b (without 1 q) (record q { owed = set q.owed i (get_or q.owed i 0 - 1) })) (insert cursors key (number + 1))) [
-          | true ↦ λ t. sound_last (owed_once n (eqb-true _ 1 t))
-          | false ↦ λ t. sound_more n
-        ] refl
+    sound_read n = grind (arith, common_steps, sound_last, owed_once, eqb-true, sound_more)
 
     -- the store after a read
     pub store_read : IsCounted q → IsCounted (read_at i q) → store_of (read_at i q) (insert cursors key (number + 1)) ≡ with_cursors (store_of q cursors) (insert cursors key (number + 1))

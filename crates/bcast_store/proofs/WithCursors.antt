@@ -1,5 +1,6 @@
 -- The store with other cursors, by its counts.
 use Rattle.std.proofs.Common.{◌≡◌, inl, inr, ℕ, ◌+◌, ◌-◌, ◌<◌, ◌≤◌, length, drop, max, sym, ap, ◌∙◌, subst, arith, length-drop}
+use Rattle.std.proofs.lemmas.Grind.{common_steps}
 use Rattle.std.proofs.lemmas.Bool.{cases_lt}
 use Rattle.std.specs.FinMap.{values}
 use Rattle.bcast_model.specs.Words.{Cursors, least}
@@ -22,9 +23,7 @@ module _ {T : Type 0} where
   -- the front moves to this number, and the messages before it are dropped
   pub with_cursors-front : (s : Stored T) (cursors : Cursors) (front n : ℕ) → max s.front (least (end_of s) (values cursors)) ≡ front → front - s.front ≡ n
       → with_cursors s cursors ≡ record { front = front; queue = drop n s.queue; cursors = cursors; room = s.room }
-  with_cursors-front s cursors front n is goes =
-      let gone : max s.front (least (end_of s) (values cursors)) - s.front ≡ n = ap (λ x. x - s.front) is ∙ goes in
-      λ i. record { front = is i; queue = drop (gone i) s.queue; cursors = cursors; room = s.room }
+  with_cursors-front s cursors front n is goes = grind (arith, common_steps)
 
   -- a queue that lost its first n messages, the last of which no receiver has still to read
   pub with_cursors-queue : (q new : Queued T) (old cursors : Cursors) (n : ℕ) → new.front ≡ q.front + n → new.messages ≡ drop n q.messages → new.room ≡ q.room → n ≤ length q.messages

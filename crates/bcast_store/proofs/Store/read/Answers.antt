@@ -1,5 +1,6 @@
 -- A receiver reads, and its cursor moves; if its read is refused, the cursor is put back.
-use Rattle.std.proofs.Common.{◌≡◌, ℕ, Bool, true, false, cond, Some, ◌+◌, ◌-◌, refl, ap, sym, ◌∙◌, subst, eqb-true}
+use Rattle.std.proofs.Common.{◌≡◌, ℕ, Bool, true, false, cond, Some, ◌+◌, ◌-◌, refl, ap, sym, ◌∙◌, subst, eqb-true, arith, rules}
+use Rattle.std.proofs.lemmas.Grind.{common_steps}
 use Rattle.std.specs.Ordering.{nat_cmp, eq_by_cmp}
 use Rattle.std.specs.Cmp.{nat_cmp_total, unsigned_tied}
 use Rattle.std.specs.FinMap.{nat_cmp-IsAntisymmetric, get, insert, get-insert, same_map}
@@ -27,15 +28,7 @@ put_back m key cursor other at =
     by_key q false e = refl
 
 back : (g : _) (c : After-replace-in-Err g) → c.replace-in-Err.new.self ≡ c.self.inside.cursors
-back g c =
-    let r = is_reading c.self.inside.queue c.self.inside.cursors c.args.self.now c.args.key c.args.number c.front.result c.self.view_is c.front.ensures c.requires.at c.requires.below in
-    let set = rw (c.replace.ensures.value ∙ r.at) at c.replace.ensures.some in
-    let there = ap (λ m. get m c.args.key) set ∙ inserted c.self.inside.cursors c.args.key (c.args.number + 1) in
-    let value : c.unwrap_or-cursor.result ≡ r.cursor = rw (c.replace.ensures.value ∙ r.at) at c.unwrap_or-cursor.ensures in
-    (rw (c.replace-in-Err.ensures.value ∙ there) at c.replace-in-Err.ensures.some)
-    ∙ ap (λ m. insert m c.args.key c.unwrap_or-cursor.result) set
-    ∙ ap (insert (insert c.self.inside.cursors c.args.key (c.args.number + 1)) c.args.key) value
-    ∙ put_back c.self.inside.cursors c.args.key r.cursor (c.args.number + 1) r.at
+back g c = grind (arith, common_steps, is_reading, inserted, put_back)
 
 pub read-requires-clause-owed : goal.read-requires-clause-owed
 read-requires-clause-owed g c = λ some.
@@ -43,12 +36,7 @@ read-requires-clause-owed g c = λ some.
     reading_up c.self.inside.queue c.self.inside.cursors c.args.key c.args.number (c.args.number - c.front.result) c.self.invariant r some
 
 pub invariant_of-self : goal.invariant_of-self
-invariant_of-self g c =
-    let r = is_reading c.self.inside.queue c.self.inside.cursors c.args.self.now c.args.key c.args.number c.front.result c.self.view_is c.front.ensures c.requires.at c.requires.below in
-    let n = c.invariant_holds.ensures in
-    let set = rw (c.replace.ensures.value ∙ r.at) at c.replace.ensures.some in
-    same_sound _ _ _ _ c.in-Ok.ensures.ok set
-    (sound_read c.self.inside.queue c.self.inside.cursors c.args.key c.args.number (c.args.number - c.front.result) c.self.invariant r (record { lengths = n.lengths; owed = n.owed }))
+invariant_of-self g c = search (rules, is_reading, same_sound, sound_read)
 
 pub invariant_of-self-in-Err : goal.invariant_of-self-in-Err
 invariant_of-self-in-Err g c =

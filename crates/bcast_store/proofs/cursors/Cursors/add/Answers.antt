@@ -1,6 +1,6 @@
 -- The slot under the new key is filled.
-use Rattle.std.proofs.Common.{◌≡◌, ◌<◌, ◌^◌, sym, ap, subst, ◌∙◌}
-use Rattle.std.specs.FinMap as map
+use Rattle.std.proofs.Common.{◌≡◌, ◌<◌, ◌^◌, sym, ap, subst, ◌∙◌, arith}
+use Rattle.std.proofs.lemmas.Grind.{common_steps}
 use Rattle.bcast_store.specs.Cursors.{cursors_of}
 use Rattle.bcast_store.proofs.CursorEntries.{get-map_of, len-map_of, map_of-updated}
 use Rattle.bcast_store.proofs.cursors.Cursors.add.Goals as goal
@@ -11,15 +11,10 @@ reserved : (g : _) (c : After-insert_reserved-key g) → cursors_of c.reserve.ne
 reserved g c = ap cursors_of c.reserve.ensures.rest_kept ∙ c.self.view_is
 
 pub returns-clause-fresh : goal.returns-clause-fresh
-returns-clause-fresh g c =
-    ap (λ m. map.get m c.insert_reserved-key.result) (sym (reserved g (goal.at.returns-clause-fresh g c).After-insert_reserved-key))
-    ∙ get-map_of c.reserve.new.self c.insert_reserved-key.result
-    ∙ c.insert_reserved-key.ensures.was_vacant
+returns-clause-fresh g c = grind (arith, common_steps, reserved, get-map_of)
 
 pub returns-clause-ok : goal.returns-clause-ok
-returns-clause-ok g c =
-    map_of-updated c.reserve.new.self c.insert_reserved-key.new.self c.insert_reserved-key.result c.args.number c.insert_reserved-key.ensures.updates
-    ∙ ap (λ m. map.insert m c.insert_reserved-key.result c.args.number) (reserved g (goal.at.returns-clause-ok g c).After-insert_reserved-key)
+returns-clause-ok g c = grind (arith, common_steps, map_of-updated, reserved)
 
 pub returns-clause-fits : goal.returns-clause-fits
 returns-clause-fits g c = subst (λ n. n < 2 ^ 64) (c.len-len.ensures ∙ sym (len-map_of c.insert_reserved-key.new.self)) c.len-len.type_inv

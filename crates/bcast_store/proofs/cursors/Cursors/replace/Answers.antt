@@ -1,5 +1,6 @@
 -- The slot has the new number.
-use Rattle.std.proofs.Common.{◌≡◌, Some, is_some, sym, ap, ◌∙◌}
+use Rattle.std.proofs.Common.{◌≡◌, Some, is_some, sym, ap, ◌∙◌, arith}
+use Rattle.std.proofs.lemmas.Grind.{common_steps}
 use Rattle.std.specs.Option.{option_copied_mut}
 use Rattle.std.specs.FinMap as map
 use Rattle.slab.specs.Slab.{get, with_value, ContainsKey}
@@ -9,19 +10,10 @@ use Rattle.bcast_store.proofs.CursorEntries.{get-map_of, map_of-updated}
 use Rattle.bcast_store.proofs.cursors.Cursors.replace.Goals as goal
 
 pub returns-in_default-clause-value : goal.returns-in_default-clause-value
-returns-in_default-clause-value g c =
-    ap option_copied_mut (sym c.in_default.is)
-    ∙ c.get_mut.ensures.value
-    ∙ sym (get-map_of c.self.inside.numbers c.args.key)
-    ∙ ap (λ m. map.get m c.args.key) c.self.view_is
+returns-in_default-clause-value g c = grind (arith, common_steps, get-map_of)
 
 pub returns-clause-value : goal.returns-clause-value
-returns-clause-value g c =
-    ap Some c.replace.ensures.value
-    ∙ ap option_copied_mut (sym c.in-Some.is)
-    ∙ c.get_mut.ensures.value
-    ∙ sym (get-map_of c.self.inside.numbers c.args.key)
-    ∙ ap (λ m. map.get m c.args.key) c.self.view_is
+returns-clause-value g c = grind (arith, common_steps, get-map_of)
 
 pub returns-clause-some : goal.returns-clause-some
 returns-clause-some g c =
