@@ -1,5 +1,6 @@
 -- The counts of an event, once a listener joins or is taken out.
 use Rattle.std.proofs.Common.{◌≡◌, ℕ, ◌+◌, ◌-◌, ◌<◌, ◌≤◌, ◌==◌, Bool, true, false, cond, ltb, [], ◌∷◌, ◌++◌, length, get_or, set, Some, None, refl, sym, ap, ◌∙◌, subst, arith, ltb-true, ltb-false, length-set, length-append}
+use Rattle.std.proofs.lemmas.Grind.{common_steps}
 use Rattle.std.specs.Prelude.{remove}
 use Rattle.std.specs.Cmp.{IsEquivalence}
 use Rattle.std.specs.List.{AllByRecursion}
@@ -16,13 +17,7 @@ use Rattle.bcast_waiting.proofs.InSlots.{front_less, front_mono, front_push, lis
 module _ {I : Type 0} {same : I → I → Bool} {number : I → ℕ} {s : Slots I} {count told told_end : ℕ} (kept : IsKept same number s count told told_end) where
   -- other slots with the same listeners
   pub IsKept-tidied : (t : Slots I) (end : ℕ) → listed t.ids ≡ listed s.ids → told ≡ front t.ids end → end ≤ length t.ids → s.room ≤ t.room → IsKept same number t count told end
-  IsKept-tidied t end ids told_front within room = record {
-    in_order = subst (λ xs. AreInOrder same (record { ids = xs; told = told })) (sym ids) kept.in_order;
-    counted = kept.counted ∙ ap length (sym ids);
-    told_front = told_front;
-    within = within;
-    in_room = subst (AllByRecursion (λ id. number id < t.room)) (sym ids) (all_more (λ id. number id < s.room) (λ id. number id < t.room) (listed s.ids) (λ id h. omega (arith, h, room)) kept.in_room);
-  }
+  IsKept-tidied t end ids told_front within room = grind (arith, common_steps, all_more)
 
   module _ (laws : IsEquivalence same) (id : I) where
     -- ---- a listener joins
@@ -48,23 +43,14 @@ module _ {I : Type 0} {same : I → I → Bool} {number : I → ℕ} {s : Slots 
       told_before h = omega (arith, kept.told_front, front_less s.ids i told_end (is_some-has same id (get_or s.ids i None) there) h (has_within same id s.ids i there))
 
       pub told_test : ltb (front s.ids i) told ≡ ltb i told_end
-      told_test = by_end (ltb i told_end) refl
-        where
-          by_end : (b : Bool) → ltb i told_end ≡ b → ltb (front s.ids i) told ≡ b
-          by_end true e = (let h = told_before (ltb-true i told_end e) in grind (arith, h))
-          by_end false e =
-              let back = front_mono s.ids told_end i (ltb-false i told_end e) in
-              let h : told ≤ front s.ids i = omega (arith, back, kept.told_front) in
-              grind (arith, h)
+      told_test = grind (arith, common_steps, told_before, ltb-true, front_mono, ltb-false)
 
       pub is_told_at : Some (ltb i told_end) ≡ is_told same id (listeners_of s.ids told)
       is_told_at = ap Some (sym told_test) ∙ is_told_first same id (listeners_of s.ids told) (front s.ids i) first_at
 
       -- a listed one is not told if its slot is after that part
       pub untold_after : told_end ≤ i → true ≡ is_in same id (untold_ids (listeners_of s.ids told))
-      untold_after h =
-          let no : ltb i told_end ≡ false = grind (arith, h) in
-          untold_is same laws id (listeners_of s.ids told) kept.in_order (Some false) (ap Some (sym no) ∙ is_told_at)
+      untold_after h = grind (arith, common_steps, untold_is, is_told_at)
 
       pub untold_before : i < told_end → false ≡ is_in same id (untold_ids (listeners_of s.ids told))
       untold_before h =
@@ -84,9 +70,7 @@ module _ {I : Type 0} {same : I → I → Bool} {number : I → ℕ} {s : Slots 
             ∙ consume_first same laws id (listeners_of s.ids told) (front s.ids i) kept.in_order first_at rest less
 
         told_rest : (b : Bool) → ltb i told_end ≡ b → rest ≡ cond b (told - 1) told → rest ≡ front (set s.ids i None) told_end
-        told_rest true e r =
-            let one = front_left s.ids i told_end (is_some-has same id (get_or s.ids i None) there) (ltb-true i told_end e) in
-            omega (arith, r, one, kept.told_front)
+        told_rest true e r = grind (arith, common_steps, front_left, ids, is_some-has, ltb-true)
         told_rest false e r = r ∙ kept.told_front ∙ sym (front_kept s.ids i told_end (ltb-false i told_end e))
 
         pub IsKept-left : IsKept same number (record s { ids = set s.ids i None }) (count - 1) rest told_end

@@ -1,5 +1,6 @@
 -- The ids that are listed in slots, by the position of a slot.
-use Rattle.std.proofs.Common.{◌≡◌, ℕ, zero, suc, ◌+◌, ◌<◌, ◌≤◌, Bool, true, false, cond, ◌||◌, List, [], ◌∷◌, ◌++◌, length, map, take, get_or, set, Option, Some, None, is_some, refl, sym, ap, ◌∙◌, arith, length-append}
+use Rattle.std.proofs.Common.{◌≡◌, ℕ, zero, suc, ◌+◌, ◌<◌, ◌≤◌, Bool, true, false, cond, ◌||◌, List, [], ◌∷◌, ◌++◌, length, map, get_or, set, Option, Some, None, is_some, refl, sym, ap, ◌∙◌, arith, length-append}
+use Rattle.std.proofs.lemmas.Grind.{common_steps}
 use Rattle.std.specs.Prelude.{remove}
 use Rattle.std.specs.List.{AllByRecursion, filter, filter_map}
 use Rattle.std.specs.Cmp.{IsEquivalence}
@@ -14,15 +15,7 @@ use Rattle.bcast_waiting.proofs.Position.{IsFirstAt}
 module _ {I : Type 0} where
   -- ---- how many are listed before a position
   pub front-more : (ids : List (Option I)) (position : ℕ) → position < length ids → front ids (position + 1) ≡ front ids position + cond (is_some (get_or ids position None)) 1 0
-  front-more ids position within =
-      ap (λ xs. length (listed xs)) (take_more ids position None within)
-      ∙ ap length (filter_map-append (λ id. id) (take position ids) (get_or ids position None ∷ []))
-      ∙ length-append (listed (take position ids)) (listed (get_or ids position None ∷ []))
-      ∙ ap (λ n. front ids position + n) (one (get_or ids position None))
-    where
-      one : (slot : Option I) → length (listed (slot ∷ [])) ≡ cond (is_some slot) 1 0
-      one None = refl
-      one (Some id) = refl
+  front-more ids position within = grind (arith, common_steps, take_more, filter_map-append, length-append)
 
   pub front_all : (ids : List (Option I)) (position : ℕ) → length ids ≤ position → front ids position ≡ length (listed ids)
   front_all ids position past = ap (λ xs. length (listed xs)) (take_all position ids past)
@@ -52,10 +45,7 @@ module _ {I : Type 0} where
   listed_full (id ∷ ids) = ap (λ rest. id ∷ rest) (listed_full ids)
 
   pub front_full : (ids : List I) (position : ℕ) → position ≤ length ids → front (map Some ids) position ≡ position
-  front_full ids position h =
-      ap (λ xs. length (listed xs)) (take-map Some position ids)
-      ∙ ap length (listed_full (take position ids))
-      ∙ length-take-le position ids h
+  front_full ids position h = grind (arith, common_steps, take-map, listed_full, length-take-le)
 
   -- ---- a slot that was emptied
   pub listed_left : (ids : List (Option I)) (i : ℕ) → is_some (get_or ids i None) ≡ true → listed (set ids i None) ≡ remove (listed ids) (front ids i)
@@ -124,15 +114,7 @@ module _ {I : Type 0} where
       differs_at x (y ∷ ids) (suc i) a h = differs_at x ids i a.1 (omega (arith, h))
 
       first_later : (x : I) (ids : List I) (i : ℕ) → AllByRecursion (Differs x) ids → IsFirstAt same id ids i → IsFirstAt same id (x ∷ ids) (suc i)
-      first_later x ids i a at = record {
-        within = omega (arith, at.within);
-        found = at.found;
-        before = before;
-      }
-        where
-          before : (k : ℕ) → k < suc i → same id (get_or (x ∷ ids) k id) ≡ false
-          before zero h = laws.congr id (get_or ids i id) x at.found ∙ laws.symm (get_or ids i id) x ∙ differs_at x ids i a at.within
-          before (suc k) h = at.before k (omega (arith, h))
+      first_later x ids i a at = grind (arith, common_steps, differs_at)
 
       pub first_listed : (ids : List (Option I)) (i : ℕ) → IsDistinct same (listed ids) → has same id (get_or ids i None) ≡ true → IsFirstAt same id (listed ids) (front ids i)
       first_listed [] i d h = absurd (true≢false (sym h))

@@ -1,9 +1,9 @@
 -- The entries of the numbers of ids, as slots are filled and emptied.
-use Rattle.std.proofs.Common.{◌≡◌, ◌≢◌, ℕ, zero, suc, ◌+◌, ◌<◌, ◌≤◌, ◌==◌, Bool, true, false, ◌||◌, List, [], ◌∷◌, ◌++◌, length, get_or, set, Option, Some, None, refl, sym, ap, ◌∙◌, subst, arith, ltb, length-set}
+use Rattle.std.proofs.Common.{◌≡◌, ◌≢◌, ℕ, zero, suc, ◌+◌, ◌<◌, ◌≤◌, ◌==◌, Bool, true, false, ◌||◌, List, [], ◌∷◌, ◌++◌, length, get_or, set, Option, Some, None, refl, sym, ap, ◌∙◌, subst, arith, ltb, length-set, rules}
 use Rattle.std.proofs.lemmas.Bool.{true≢false}
 use Rattle.std.proofs.lemmas.Option.{none-some, same_Some}
 use Rattle.std.proofs.lemmas.List.{get_or_append_left, get_or-set_other}
-use Rattle.std.proofs.lemmas.Grind.{get_or-set_at}
+use Rattle.std.proofs.lemmas.Grind.{get_or-set_at, common_steps}
 use Rattle.std.specs.List.{AllByRecursion}
 use Rattle.bcast_model.specs.Listeners.{is_in, IsDistinct}
 use Rattle.bcast_model.proofs.Tests.{test_place}
@@ -61,23 +61,13 @@ module _ {I : Type 0} where
       -- ---- an id is found
       module _ (ids : List (Option I)) (positions : List ℕ) (indexed : IsIndexed number ids positions) (id : I) where
         at_slot : (p : ℕ) → has same id (get_or ids p None) ≡ true → IsAt positions (number id) p
-        at_slot p h = by_slot (get_or ids p None) refl h
-          where
-            by_slot : (slot : Option I) → get_or ids p None ≡ slot → has same id slot ≡ true → IsAt positions (number id) p
-            by_slot None e h = absurd (true≢false (sym h))
-            by_slot (Some x) e h = subst (λ n. IsAt positions n p) (sym (one_number id x h)) (indexed p x e)
+        at_slot p h = search (rules, true≢false, one_number)
 
         pub absent_beyond : length positions ≤ number id → is_in same id (listed ids) ≡ false
-        absent_beyond past = absent_slots same id ids (λ p l. elim (has same id (get_or ids p None)) as (λ b. has same id (get_or ids p None) ≡ b → b ≡ false) [
-          | true ↦ λ h. absurd (let at = at_slot p h in omega (arith, at.within, past))
-          | false ↦ λ h. refl
-        ] refl)
+        absent_beyond past = grind (arith, common_steps, absent_slots, at_slot)
 
         pub absent_there : has same id (get_or ids (get_or positions (number id) 0) None) ≡ false → is_in same id (listed ids) ≡ false
-        absent_there none = absent_slots same id ids (λ p l. elim (has same id (get_or ids p None)) as (λ b. has same id (get_or ids p None) ≡ b → b ≡ false) [
-          | true ↦ λ h. sym h ∙ ap (λ p. has same id (get_or ids p None)) (sym (at_slot p h).at) ∙ none
-          | false ↦ λ h. refl
-        ] refl)
+        absent_there none = grind (arith, common_steps, absent_slots, at_slot)
 
         -- ---- an id is put last
         pub IsIndexed-push : is_in same id (listed ids) ≡ false → number id < length positions → IsIndexed number (ids ++ Some id ∷ []) (set positions (number id) (length ids))
@@ -125,12 +115,7 @@ module _ {I : Type 0} where
   pub entries_same : (number : I → ℕ) (ids : List (Option I)) (positions : List ℕ) (k : ℕ) → get_or ids k None ≡ None
       → ((p : ℕ) (x : I) → p < k → get_or ids p None ≡ Some x → IsAt positions (number x) p)
       → (p : ℕ) (x : I) → p < k + 1 → get_or ids p None ≡ Some x → IsAt positions (number x) p
-  entries_same number ids positions k e before p x h f = elim (ltb p k) as (λ b. ltb p k ≡ b → IsAt positions (number x) p) [
-    | true ↦ λ t. before p x (grind (arith, t)) f
-    | false ↦ λ t.
-        let here : p ≡ k = grind (arith, t, h) in
-        absurd (none-some x (sym e ∙ ap (λ p. get_or ids p None) (sym here) ∙ f))
-  ] refl
+  entries_same number ids positions k e before p x h f = grind (arith, common_steps, none-some)
 
   -- ---- a slot is emptied
   pub IsIndexed-left : (number : I → ℕ) (ids : List (Option I)) (positions : List ℕ) (i : ℕ) → IsIndexed number ids positions → IsIndexed number (set ids i None) positions

@@ -1,9 +1,10 @@
 -- The set of the keys of a slab, after a change of one slot.
 use Rattle.std.proofs.Common.{◌≡◌, ℕ, zero, suc, ◌+◌, ◌<◌, Bool, true, false, cond, not, eqb, nat_eq, List, [], ◌∷◌, length, map, get_or, Option, Some, None, is_some, refl, sym, ap, ◌∙◌, zero-add, arith, eqb-true}
+use Rattle.std.proofs.lemmas.Grind.{common_steps}
 use Rattle.std.specs.Prelude.{◌||◌, ◌&&◌}
 use Rattle.std.specs.List.{list_any}
 use Rattle.std.specs.Ordering.{nat_cmp, eq_by_cmp}
-use Rattle.std.specs.Cmp.{nat_cmp_total, unsigned_tied}
+use Rattle.std.specs.Cmp.{nat_cmp_total}
 use Rattle.std.specs.FinMap.{nat_cmp-IsAntisymmetric}
 use Rattle.std.specs.FinSet as set
 use Rattle.std.specs.FinSet.{contains-from_list_nat, contains-insert, contains-remove, same_set, len-insert, len-empty}
@@ -25,24 +26,14 @@ module _ {V : Type 0} where
   among_below : (q key : ℕ) (slots : List (Option V)) → q < key → is_among q (keys_from key slots) ≡ false
   among_below q key [] h = refl
   among_below q key (None ∷ rest) h = among_below q (key + 1) rest (omega arith)
-  among_below q key (Some v ∷ rest) h =
-      let apart : nat_eq key q ≡ false = grind (arith, h) in
-      ap (λ b. b || is_among q (keys_from (key + 1) rest)) apart ∙ among_below q (key + 1) rest (omega arith)
+  among_below q key (Some v ∷ rest) h = grind (arith, common_steps, among_below q (key + 1) rest (omega arith))
 
   among_at : (key at : ℕ) (slots : List (Option V)) → is_among (key + at) (keys_from key slots) ≡ is_some (get_or slots at None)
   among_at key at [] = refl
   among_at key zero (None ∷ rest) = among_below (key + 0) (key + 1) rest (omega arith)
-  among_at key (suc at) (None ∷ rest) =
-      let shift : key + suc at ≡ key + 1 + at = omega arith in
-      ap (λ q. is_among q (keys_from (key + 1) rest)) shift ∙ among_at (key + 1) at rest
-  among_at key zero (Some v ∷ rest) =
-      let same : nat_eq key (key + 0) ≡ true = grind arith in
-      ap (λ b. b || is_among (key + 0) (keys_from (key + 1) rest)) same
-  among_at key (suc at) (Some v ∷ rest) =
-      let shift : key + suc at ≡ key + 1 + at = omega arith in
-      let apart : nat_eq key (key + suc at) ≡ false = grind arith in
-      ap (λ b. b || is_among (key + suc at) (keys_from (key + 1) rest)) apart
-      ∙ ap (λ q. is_among q (keys_from (key + 1) rest)) shift ∙ among_at (key + 1) at rest
+  among_at key (suc at) (None ∷ rest) = grind (arith, common_steps, among_at (key + 1) at rest)
+  among_at key zero (Some v ∷ rest) = grind (arith, common_steps)
+  among_at key (suc at) (Some v ∷ rest) = grind (arith, common_steps, among_at (key + 1) at rest)
 
   pub contains-keys_in : (s : Slab V) (q : ℕ) → set.contains (keys_in s) q ≡ is_some (get s q)
   contains-keys_in s q =
@@ -52,15 +43,7 @@ module _ {V : Type 0} where
 
   -- after a change of one slot
   seen_at : (old new : Slab V) (key : ℕ) (slot : Option V) → Updates old new key slot → (q : ℕ) → set.contains (keys_in new) q ≡ cond (eq_by_cmp nat_cmp q key) (is_some slot) (set.contains (keys_in old) q)
-  seen_at old new key slot updates q =
-      contains-keys_in new q
-      ∙ at (eqb q key) refl
-      ∙ ap (λ b. cond b (is_some slot) (is_some (get old q))) (sym (unsigned_tied q key))
-      ∙ ap (cond (eq_by_cmp nat_cmp q key) (is_some slot)) (sym (contains-keys_in old q))
-    where
-      at : (b : Bool) → eqb q key ≡ b → is_some (get new q) ≡ cond b (is_some slot) (is_some (get old q))
-      at true is = ap (λ k. is_some (get new k)) (eqb-true q key is) ∙ ap is_some updates.changed
-      at false is = ap is_some (updates.others q (λ e. eqb_apart q key e is))
+  seen_at old new key slot updates q = grind (arith, common_steps, contains-keys_in, eqb-true, eqb_apart)
 
   -- a filled slot puts its key into the set
   pub keys_in-filled : (old new : Slab V) (key : ℕ) (v : V) → Updates old new key (Some v) → keys_in new ≡ set.insert (keys_in old) key
@@ -89,13 +72,7 @@ module _ {V : Type 0} where
   len-from_list : (key : ℕ) (slots : List (Option V)) → set.len (set.from_list {R = nat_cmp} (keys_from key slots)) ≡ length (keys_from key slots)
   len-from_list key [] = len-empty nat_cmp
   len-from_list key (None ∷ rest) = len-from_list (key + 1) rest
-  len-from_list key (Some v ∷ rest) =
-      let later = len-from_list (key + 1) rest in
-      let fresh : set.contains (set.from_list {R = nat_cmp} (keys_from (key + 1) rest)) key ≡ false =
-      contains-from_list_nat (keys_from (key + 1) rest) key ∙ among_below key (key + 1) rest (omega arith) in
-      len-insert nat_cmp_total (set.from_list (keys_from (key + 1) rest)) key
-      ∙ ap (λ b. cond b (set.len (set.from_list {R = nat_cmp} (keys_from (key + 1) rest))) (set.len (set.from_list {R = nat_cmp} (keys_from (key + 1) rest)) + 1)) fresh
-      ∙ omega (arith, later)
+  len-from_list key (Some v ∷ rest) = grind (arith, common_steps, contains-from_list_nat, among_below, len-insert, len-from_list (key + 1) rest)
 
   -- as many keys as filled slots
   pub len-keys_in : (s : Slab V) → set.len (keys_in s) ≡ slab_len s

@@ -1,5 +1,6 @@
 -- A list of ids after an id was taken out, or was put last.
-use Rattle.std.proofs.Common.{◌≡◌, ℕ, zero, suc, ◌≤◌, Bool, true, false, cond, ◌||◌, ltb, List, [], ◌∷◌, ◌++◌, take, drop, refl, sym, ap, subst, ◌∙◌, arith}
+use Rattle.std.proofs.Common.{◌≡◌, ℕ, zero, suc, ◌≤◌, Bool, true, false, ◌||◌, ltb, List, [], ◌∷◌, ◌++◌, take, drop, refl, sym, ap, ◌∙◌, arith}
+use Rattle.std.proofs.lemmas.Grind.{common_steps}
 use Rattle.std.specs.Prelude.{remove}
 use Rattle.std.specs.List.{AllByRecursion}
 use Rattle.std.specs.Cmp.{IsEquivalence}
@@ -15,9 +16,7 @@ module _ {I : Type 0} (same : I → I → Bool) where
 
   -- ---- an id that is not in the list
   pub absent_take : (id : I) (n : ℕ) (ids : List I) → is_in same id ids ≡ false → is_in same id (take n ids) ≡ false
-  absent_take id n ids h =
-      absent same id (take n ids) (all_left (Differs id) (take n ids) (drop n ids)
-      (subst (AllByRecursion (Differs id)) (sym (take-append-drop n ids)) (all_absent same id ids h)))
+  absent_take id n ids h = grind (arith, common_steps, absent, all_left, take-append-drop, all_absent)
 
   pub absent_drop : (id : I) (n : ℕ) (ids : List I) → is_in same id ids ≡ false → is_in same id (drop n ids) ≡ false
   absent_drop id n ids h = absent same id (drop n ids) (all_dropped (Differs id) n ids (all_absent same id ids h))
@@ -34,9 +33,7 @@ module _ {I : Type 0} (same : I → I → Bool) where
   pub is_in-take : (id : I) (ids : List I) (i n : ℕ) → IsFirstAt same id ids i → is_in same id (take n ids) ≡ ltb i n
   is_in-take id [] i n at = absurd (omega (arith, at.within))
   is_in-take id (x ∷ ids) i zero at = let out : ltb i 0 ≡ false = grind arith in sym out
-  is_in-take id (x ∷ ids) zero (suc n) at =
-      let within : ltb 0 (suc n) ≡ true = grind arith in
-      ap (λ b. b || is_in same id (take n ids)) at.found ∙ sym within
+  is_in-take id (x ∷ ids) zero (suc n) at = grind (arith, common_steps)
   is_in-take id (x ∷ ids) (suc i) (suc n) at =
       let one_less : ltb (suc i) (suc n) ≡ ltb i n = grind arith in
       ap (λ b. b || is_in same id (take n ids)) (at.before 0 (omega arith))
@@ -46,9 +43,7 @@ module _ {I : Type 0} (same : I → I → Bool) where
   pub is_in-drop : (id : I) (ids : List I) (i n : ℕ) → IsFirstAt same id ids i → n ≤ i → is_in same id (drop n ids) ≡ true
   is_in-drop id [] i n at h = absurd (omega (arith, at.within))
   is_in-drop id (x ∷ ids) zero zero at h = ap (λ b. b || is_in same id ids) at.found
-  is_in-drop id (x ∷ ids) (suc i) zero at h =
-      ap (λ b. b || is_in same id ids) (at.before 0 (omega arith))
-      ∙ is_in-drop id ids i zero (later id x ids i at) (omega arith)
+  is_in-drop id (x ∷ ids) (suc i) zero at h = grind (arith, common_steps, later, is_in-drop id ids i zero (later id x ids i at) (omega arith))
   is_in-drop id (x ∷ ids) zero (suc n) at h = absurd (omega (arith, h))
   is_in-drop id (x ∷ ids) (suc i) (suc n) at h = is_in-drop id ids i n (later id x ids i at) (omega (arith, h))
 
@@ -69,12 +64,8 @@ module _ {I : Type 0} (same : I → I → Bool) where
     -- a distinct list without an id is the list without its position
     pub without-first : (id : I) (ids : List I) (i : ℕ) → IsDistinct same ids → IsFirstAt same id ids i → without same id ids ≡ remove ids i
     without-first id [] i d at = absurd (omega (arith, at.within))
-    without-first id (x ∷ ids) zero d at =
-        ap (λ b. cond b (without same id ids) (x ∷ without same id ids)) at.found
-        ∙ without_absent same id ids (apart id x ids at.found d.0)
-    without-first id (x ∷ ids) (suc i) d at =
-        ap (λ b. cond b (without same id ids) (x ∷ without same id ids)) (at.before 0 (omega arith))
-        ∙ ap (λ rest. x ∷ rest) (without-first id ids i d.1 (later id x ids i at))
+    without-first id (x ∷ ids) zero d at = grind (arith, common_steps, without_absent, apart)
+    without-first id (x ∷ ids) (suc i) d at = grind (arith, common_steps, later, without-first id ids i d.1 (later id x ids i at))
 
     pub all_remove : (P : I → Type 0) (i : ℕ) (ids : List I) → AllByRecursion P ids → AllByRecursion P (remove ids i)
     all_remove P zero [] a = a

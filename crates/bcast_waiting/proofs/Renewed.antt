@@ -1,8 +1,9 @@
 -- The slots after a listener got another notice.
-use Rattle.std.proofs.Common.{◌≡◌, ℕ, ◌<◌, Option, length, set, get_or, sym, ap, ◌∙◌, subst, arith}
+use Rattle.std.proofs.Common.{◌≡◌, ℕ, ◌<◌, Option, length, set, get_or, arith}
+use Rattle.std.proofs.lemmas.Grind.{common_steps}
 use Rattle.std.specs.Vec.{vec_capacity}
 use Rattle.std.specs.declared.vec.Vec.{Vec}
-use Rattle.bcast_waiting.specs.Words.{slot_id, ids_in, slots_of, IsIndexed, AreKept}
+use Rattle.bcast_waiting.specs.Words.{slot_id, ids_in, slots_of, AreKept}
 use Rattle.bcast_waiting.specs.declared.slots.Listener.{Listener}
 use Rattle.bcast_waiting.specs.declared.slots.Slots.TheInside.{Inside}
 use Rattle.bcast_waiting.proofs.InSlots.{ids-renewed}
@@ -16,14 +17,7 @@ module _ {I N A : Type 0} where
 
   -- one slot has a listener with the same id
   pub renewed : (before after : Inside I N A) (position : ℕ) (old new : Option (Listener I N)) → position < length before.listeners.items → old ≡ get_or before.listeners.items position old → slot_id new ≡ slot_id old → (listeners : Vec (Option (Listener I N)) A) → after ≡ record before { listeners = listeners } → listeners.items ≡ set before.listeners.items position new → vec_capacity listeners ≡ vec_capacity before.listeners → IsRenewed before after
-  renewed before after position old new within is id listeners changed items capacity = record {
-    ids =
-        ap (λ (e : Inside I N A). ids_in e.listeners.items) changed
-        ∙ ap ids_in items
-        ∙ ids-renewed before.listeners.items position old new within is id;
-    positions = ap (λ (e : Inside I N A). e.positions) changed;
-    capacity = ap (λ (e : Inside I N A). vec_capacity e.listeners) changed ∙ capacity;
-  }
+  renewed before after position old new within is id listeners changed items capacity = grind (arith, common_steps, ids-renewed)
 
   module _ {before after : Inside I N A} (r : IsRenewed before after) where
     -- what a contract sees
@@ -32,8 +26,4 @@ module _ {I N A : Type 0} where
 
     -- what always holds
     pub kept_renewed : (number : I → ℕ) → AreKept number (ids_in before.listeners.items) before.positions.items (vec_capacity before.listeners) → AreKept number (ids_in after.listeners.items) after.positions.items (vec_capacity after.listeners)
-    kept_renewed number kept = record {
-      indexed = subst (λ ids. IsIndexed number ids after.positions.items) (sym r.ids)
-          (subst (λ v. IsIndexed number (ids_in before.listeners.items) v.items) (sym r.positions) kept.indexed);
-      has_memory = omega (arith, kept.has_memory, r.capacity, ap (λ v. length v.items) r.positions);
-    }
+    kept_renewed number kept = grind (arith, common_steps)

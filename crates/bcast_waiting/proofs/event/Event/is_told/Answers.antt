@@ -1,15 +1,13 @@
 -- Whether the slot is in the told part.
-use Rattle.std.proofs.Common.{◌≡◌, false, ap, ◌∙◌, subst}
-use Rattle.bcast_model.specs.Listeners.{is_in}
+use Rattle.std.proofs.Common.{ap, ◌∙◌, arith}
+use Rattle.std.proofs.lemmas.Grind.{common_steps}
 use Rattle.bcast_waiting.specs.Event.{is_told}
 use Rattle.bcast_waiting.proofs.Listeners.{is_told_absent}
 use Rattle.bcast_waiting.proofs.EventInvariant.{is_told_at}
 use Rattle.bcast_waiting.proofs.event.Event.is_told.Goals as goal
 
 pub returns-in_default : goal.returns-in_default
-returns-in_default g c =
-    let absent = subst (λ e. is_in g.I.PartialEq.eq c.args.id e.listeners.ids ≡ false) c.self.view_is c.in_default.ensures in
-    is_told_absent g.I.PartialEq.eq c.args.id c.args.self.now.listeners absent
+returns-in_default g c = grind (arith, common_steps, is_told_absent)
 
 pub returns : goal.returns
 returns g c =

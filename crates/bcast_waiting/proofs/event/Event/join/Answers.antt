@@ -1,7 +1,8 @@
 -- A listener that joins was not listed.
-use Rattle.std.proofs.Common.{◌≡◌, ◌<◌, ◌+◌, false, [], ◌∷◌, ◌++◌, ap, sym, ◌∙◌, subst, arith}
-use Rattle.bcast_model.specs.Listeners.{is_in, join}
-use Rattle.bcast_waiting.specs.Words.{Event, listed, IsKept}
+use Rattle.std.proofs.Common.{◌≡◌, ◌<◌, ◌+◌, false, ap, sym, ◌∙◌, subst, arith}
+use Rattle.std.proofs.lemmas.Grind.{common_steps}
+use Rattle.bcast_model.specs.Listeners.{is_in}
+use Rattle.bcast_waiting.specs.Words.{listed, IsKept}
 use Rattle.bcast_waiting.proofs.InSlots.{listed_push}
 use Rattle.bcast_waiting.proofs.EventInvariant.{IsKept-tidied, IsKept-join, finds_room}
 use Rattle.bcast_waiting.proofs.event.Event.join.Goals as goal
@@ -34,13 +35,4 @@ invariant_of-self g c =
     (IsKept-join tidied g.met.I.Eq.laws c.args.id absent room)
 
 pub returns : goal.returns
-returns g c =
-    let e = c.self.inside in
-    let t = c.compact_if_sparse-self-inside in
-    let ids =
-    ap (λ s. listed s.ids) c.push.ensures
-    ∙ listed_push t.new.self.ids c.args.id
-    ∙ ap (λ ids. ids ++ c.args.id ∷ []) t.ensures.listed in
-    let room = ap (λ s. s.room) c.push.ensures ∙ t.ensures.room in
-    (λ i. record { listeners = record { ids = ids i; told = e.told }; room = room i })
-    ∙ ap (λ (e : Event g.row.I.Denot). record e { listeners = join c.args.id e.listeners }) c.self.view_is
+returns g c = grind (arith, common_steps, listed_push)

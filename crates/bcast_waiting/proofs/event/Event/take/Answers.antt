@@ -1,6 +1,7 @@
 -- The slot of the listener is emptied.
-use Rattle.std.proofs.Common.{◌≡◌, ◌<◌, ◌≤◌, ◌-◌, true, false, cond, Some, ltb, sym, ap, ◌∙◌, subst, arith}
-use Rattle.bcast_model.specs.Listeners.{is_in, consume}
+use Rattle.std.proofs.Common.{◌≡◌, ◌<◌, ◌≤◌, ◌-◌, true, cond, Some, ltb, sym, ap, ◌∙◌, subst, arith, rules}
+use Rattle.std.proofs.lemmas.Grind.{common_steps}
+use Rattle.bcast_model.specs.Listeners.{consume}
 use Rattle.bcast_waiting.specs.Words.{Event, is_told, listeners_of, IsKept}
 use Rattle.bcast_waiting.proofs.Listeners.{is_told_absent, consume_absent}
 use Rattle.bcast_waiting.proofs.EventInvariant.{told_before, is_told_at, taken, IsKept-left}
@@ -8,14 +9,10 @@ use Rattle.bcast_waiting.proofs.event.Event.take.Goals as goal
 use Rattle.bcast_waiting.proofs.event.Event.take.Goals.{After-take_at-notice}
 
 pub returns-in_default-clause-told : goal.returns-in_default-clause-told
-returns-in_default-clause-told g c =
-    let absent = subst (λ e. is_in g.I.PartialEq.eq c.args.id e.listeners.ids ≡ false) c.self.view_is c.in_default.ensures in
-    is_told_absent g.I.PartialEq.eq c.args.id c.args.self.now.listeners absent
+returns-in_default-clause-told g c = grind (arith, common_steps, is_told_absent)
 
 pub returns-in_default-clause-rest : goal.returns-in_default-clause-rest
-returns-in_default-clause-rest g c =
-    let absent = subst (λ e. is_in g.I.PartialEq.eq c.args.id e.listeners.ids ≡ false) c.self.view_is c.in_default.ensures in
-    λ i. record { listeners = sym (consume_absent g.I.PartialEq.eq c.args.id c.args.self.now.listeners absent) i; room = c.args.self.now.room }
+returns-in_default-clause-rest g c = grind (arith, common_steps, consume_absent)
 
 pub overflow_sub-self-then-position-self : goal.overflow_sub-self-then-position-self
 overflow_sub-self-then-position-self g c =
@@ -52,29 +49,19 @@ told_then g c =
     ∙ ap (λ e. is_told g.I.PartialEq.eq c.args.id e.listeners) c.self.view_is
 
 pub invariant_of-self : goal.invariant_of-self
-invariant_of-self g c =
-    kept g (goal.at.invariant_of-self g c).After-take_at-notice _ (told_less c.in-Some.position c.self.inside.told_end c.self.inside.told c.if-position-self.true)
+invariant_of-self g c = search (rules, kept, told_less)
 
 pub invariant_of-self-else-position-self : goal.invariant_of-self-else-position-self
-invariant_of-self-else-position-self g c =
-    kept g (goal.at.invariant_of-self-else-position-self g c).After-take_at-notice _ (told_same c.in-Some.position c.self.inside.told_end c.self.inside.told c.if-position-self.false)
+invariant_of-self-else-position-self g c = grind (arith, common_steps, kept, told_same)
 
 pub returns-then-position-self-clause-told : goal.returns-then-position-self-clause-told
-returns-then-position-self-clause-told g c =
-    let less = c.if-position-self.true in
-    let yes : ltb c.in-Some.position c.self.inside.told_end ≡ true = grind (arith, less) in
-    ap Some (sym yes) ∙ told_then g (goal.at.returns-then-position-self-clause-told g c).After-take_at-notice
+returns-then-position-self-clause-told g c = grind (arith, common_steps, told_then)
 
 pub returns-else-position-self-clause-told : goal.returns-else-position-self-clause-told
-returns-else-position-self-clause-told g c =
-    let more = c.if-position-self.false in
-    let no : ltb c.in-Some.position c.self.inside.told_end ≡ false = grind (arith, more) in
-    ap Some (sym no) ∙ told_then g (goal.at.returns-else-position-self-clause-told g c).After-take_at-notice
+returns-else-position-self-clause-told g c = grind (arith, common_steps, told_then)
 
 pub returns-then-position-self-clause-rest : goal.returns-then-position-self-clause-rest
-returns-then-position-self-clause-rest g c =
-    left g (goal.at.returns-then-position-self-clause-rest g c).After-take_at-notice _ (told_less c.in-Some.position c.self.inside.told_end c.self.inside.told c.if-position-self.true)
+returns-then-position-self-clause-rest g c = grind (arith, common_steps, left, told_less)
 
 pub returns-else-position-self-clause-rest : goal.returns-else-position-self-clause-rest
-returns-else-position-self-clause-rest g c =
-    left g (goal.at.returns-else-position-self-clause-rest g c).After-take_at-notice _ (told_same c.in-Some.position c.self.inside.told_end c.self.inside.told c.if-position-self.false)
+returns-else-position-self-clause-rest g c = grind (arith, common_steps, left, told_same)

@@ -1,6 +1,6 @@
 -- The slot of the new place is filled.
-use Rattle.std.proofs.Common.{◌≡◌, ◌<◌, ◌^◌, is_some, sym, ap, subst, ◌∙◌}
-use Rattle.std.specs.FinSet as set
+use Rattle.std.proofs.Common.{◌≡◌, ◌<◌, ◌^◌, sym, ap, subst, ◌∙◌, arith}
+use Rattle.std.proofs.lemmas.Grind.{common_steps}
 use Rattle.bcast_waiting.specs.Keys.{keys_in}
 use Rattle.bcast_waiting.proofs.Keys.{contains-keys_in, len-keys_in, keys_in-filled}
 use Rattle.bcast_waiting.proofs.places.Places.add.Goals as goal
@@ -11,15 +11,10 @@ reserved : (g : _) (c : After-insert_reserved-place g) → keys_in c.reserve.new
 reserved g c = ap keys_in c.reserve.ensures.rest_kept ∙ c.self.view_is
 
 pub returns-clause-fresh : goal.returns-clause-fresh
-returns-clause-fresh g c =
-    ap (λ m. set.contains m c.insert_reserved-place.result) (sym (reserved g (goal.at.returns-clause-fresh g c).After-insert_reserved-place))
-    ∙ contains-keys_in c.reserve.new.self c.insert_reserved-place.result
-    ∙ ap is_some c.insert_reserved-place.ensures.was_vacant
+returns-clause-fresh g c = grind (arith, common_steps, reserved, contains-keys_in)
 
 pub returns-clause-ok : goal.returns-clause-ok
-returns-clause-ok g c =
-    keys_in-filled c.reserve.new.self c.insert_reserved-place.new.self c.insert_reserved-place.result _ c.insert_reserved-place.ensures.updates
-    ∙ ap (λ s. set.insert s c.insert_reserved-place.result) (reserved g (goal.at.returns-clause-ok g c).After-insert_reserved-place)
+returns-clause-ok g c = grind (arith, common_steps, keys_in-filled, reserved)
 
 pub returns-clause-fits : goal.returns-clause-fits
 returns-clause-fits g c = subst (λ n. n < 2 ^ 64) (c.len-len.ensures ∙ sym (len-keys_in c.insert_reserved-place.new.self)) c.len-len.type_inv

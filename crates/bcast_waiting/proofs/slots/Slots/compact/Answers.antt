@@ -1,11 +1,10 @@
 -- The slots that are not empty stay.
-use Rattle.std.proofs.Common.{◌≡◌, ◌<◌, map, is_some, Some, length, sym, ap, ◌∙◌, subst, rules}
-use Rattle.std.specs.Vec.{with_items}
+use Rattle.std.proofs.Common.{◌≡◌, ◌<◌, map, is_some, Some, length, sym, ap, ◌∙◌, subst, rules, arith}
+use Rattle.std.proofs.lemmas.Grind.{common_steps}
 use Rattle.std.proofs.lemmas.List.{with_items_is}
 use Rattle.std.specs.List.{AllByRecursion}
 use Rattle.std.proofs.lemmas.Fn.{filter_same}
-use Rattle.bcast_model.specs.Listeners.{IsDistinct}
-use Rattle.bcast_waiting.specs.Words.{Slots, listed, ids_in}
+use Rattle.bcast_waiting.specs.Words.{listed, ids_in}
 use Rattle.bcast_waiting.proofs.InSlots.{ids-compacted, listed_full}
 use Rattle.bcast_waiting.proofs.slots.Slots.compact.Goals as goal
 use Rattle.bcast_waiting.proofs.slots.Slots.compact.Goals.{After-retain}
@@ -16,14 +15,10 @@ kept g c =
     ap ids_in (filter_same _ is_some _ (λ x b f k. search rules) items c.retain.new.self.items c.retain.ensures.filtered) ∙ ids-compacted items
 
 listed_then : (g : _) (c : After-retain g) → listed c.args.self.now.ids ≡ listed (ids_in c.retain.new.self.items)
-listed_then g c =
-    ap (λ s. listed s.ids) (sym c.self.view_is)
-    ∙ sym (ap listed (kept g c) ∙ listed_full (listed (ids_in c.self.inside.listeners.items)))
+listed_then g c = grind (arith, common_steps, kept, listed_full)
 
 pub set_positions-requires-clause-distinct : goal.set_positions-requires-clause-distinct
-set_positions-requires-clause-distinct g c =
-    let same = listed_then g (goal.at.set_positions-requires-clause-distinct g c).After-retain ∙ ap (λ xs. listed (ids_in xs)) (sym c.deref.ensures.value) in
-    subst (IsDistinct g.I.PartialEq.eq) same c.requires.distinct
+set_positions-requires-clause-distinct g c = grind (arith, common_steps, listed_then)
 
 pub set_positions-requires-clause-room : goal.set_positions-requires-clause-room
 set_positions-requires-clause-room g c =
@@ -33,9 +28,4 @@ set_positions-requires-clause-room g c =
     (subst (AllByRecursion (λ id. g.I.Indexed.number id < c.args.self.now.room)) same c.requires.room)
 
 pub returns : goal.returns
-returns g c =
-    let same = c.set_positions.ensures.len ∙ c.deref_mut.ensures.len in
-    let room : length (with_items c.self.inside.positions c.set_positions.new.positions).items ≡ length c.self.inside.positions.items =
-    ap length (with_items_is c.self.inside.positions c.set_positions.new.positions same) ∙ c.set_positions.ensures.len ∙ ap length c.deref_mut.ensures.value in
-    (λ i. record { ids = kept g (goal.at.returns g c).After-retain i; room = room i })
-    ∙ ap (λ (s : Slots g.row.I.Denot). record s { ids = map Some (listed s.ids) }) c.self.view_is
+returns g c = grind (arith, common_steps, with_items_is, kept)

@@ -1,7 +1,8 @@
 -- No slot is empty.
-use Rattle.std.proofs.Common.{◌≤◌, Some, length, ap, sym, ◌∙◌, arith}
+use Rattle.std.proofs.Common.{◌≤◌, length, ap, ◌∙◌, arith}
+use Rattle.std.proofs.lemmas.Grind.{common_steps}
 use Rattle.std.proofs.lemmas.List.{length-map}
-use Rattle.bcast_waiting.specs.Slots.{listed, front}
+use Rattle.bcast_waiting.specs.Slots.{listed}
 use Rattle.bcast_waiting.proofs.InSlots.{listed_full, front_full, front_mono, front_all}
 use Rattle.bcast_waiting.proofs.slots.Slots.compact_if_sparse.Goals as goal
 use Rattle.bcast_waiting.proofs.slots.Slots.compact_if_sparse.Goals.{After-compact}
@@ -16,10 +17,7 @@ pub returns-clause-listed : goal.returns-clause-listed
 returns-clause-listed g c = ap (λ s. listed s.ids) c.compact.ensures ∙ listed_full (listed c.args.self.now.ids)
 
 pub returns-clause-told : goal.returns-clause-told
-returns-clause-told g c =
-    sym (ap (λ s. front s.ids c.args.told) c.compact.ensures ∙ front_full (listed c.args.self.now.ids) c.args.told (within g (goal.at.returns-clause-told g c).After-compact))
+returns-clause-told g c = grind (arith, common_steps, front_full, within)
 
 pub returns-clause-within : goal.returns-clause-within
-returns-clause-within g c =
-    let ids = listed c.args.self.now.ids in
-    omega (arith, within g (goal.at.returns-clause-within g c).After-compact, ap (λ s. length s.ids) c.compact.ensures, length-map ids Some)
+returns-clause-within g c = grind (arith, common_steps, within, length-map)
