@@ -2,10 +2,10 @@
 use Rattle.std.proofs.Common.{◌≡◌, ℕ, ◌+◌, ◌-◌, ◌<◌, ◌≤◌, ◌==◌, true, false, cond, List, [], ◌∷◌, length, max, nat_lt, refl, sym, ap, ◌∙◌, arith}
 use Rattle.std.proofs.lemmas.Grind.{common_steps}
 use Rattle.std.specs.Prelude.{is_ok}
-use Rattle.std.specs.FinMap.{len, values}
+use Rattle.std.specs.FinMap.{values}
 use Rattle.bcast_model.specs.Words.{has_no_receiver, accepting, least, View, is_full, IsValidView}
 use Rattle.bcast_model.specs.Words.{settle, with_message, with_messages, accept, try_broadcast_reply, sets}
-use Rattle.bcast_model.specs.Words.{offer, free_room, try_broadcast_all_reply, accept_all}
+use Rattle.bcast_model.specs.Words.{offer, try_broadcast_all_reply, accept_all}
 use Rattle.bcast_model.specs.Words.{offer_all}
 use Rattle.bcast_core.proofs.Settle.{settle_to, settle_same, least_raised, cursors-accepting}
 
@@ -32,10 +32,7 @@ is_zero n e = grind (arith, common_steps, e)
 module _ {T : Type 0} where
   -- if there is a receiver, the end may rise and the front stays
   low_next : (v : View T) (more : ℕ) → IsValidView v → has_no_receiver v.control ≡ false → least (v.end + more) (values v.control.cursors) ≤ v.front
-  low_next v more valid some =
-      let n : 1 ≤ len v.control.cursors = grind (arith, common_steps, some) in
-      let r = least_raised v.end more v.control.cursors n valid.reach in
-      omega (arith, r, valid.low)
+  low_next v more valid some = grind (arith, common_steps, least_raised)
 
   -- a message is accepted if there is room
   pub offer_accepted : (v : View T) (msg : T) → IsValidView v → is_ok (try_broadcast_reply v msg) ≡ true → has_no_receiver v.control ≡ false → is_full v ≡ false → settle v (offer v msg) ≡ with_message v msg
@@ -56,10 +53,7 @@ module _ {T : Type 0} where
 
   -- without a message nothing changes
   pub offer_all_nothing : (v : View T) (msgs : List T) → IsValidView v → v.control.closed ≡ false → has_no_receiver v.control ≡ false → (length msgs == 0) ≡ true → settle v (offer_all v msgs) ≡ v
-  offer_all_nothing v [] valid opened some n =
-      let fits : nat_lt (free_room v) 0 ≡ false = grind (arith, common_steps) in
-      let is : is_ok (try_broadcast_all_reply v []) ≡ true = rw (opened, some, fits) refl in
-      ap (λ b. settle v (cond b (accept_all v []) (sets v.control))) is ∙ settle_same v valid
+  offer_all_nothing v [] valid opened some n = grind (arith, common_steps, settle_same)
   offer_all_nothing v (msg ∷ rest) valid opened some n = let none = is_zero (length (msg ∷ rest)) n in absurd (omega (arith, none))
 
   -- nor does it if the list is refused

@@ -1,5 +1,6 @@
 -- A receive poll, which is answered or waits.
-use Rattle.std.proofs.Common.{◌≡◌, ℕ, true, false, Option, Result, Ok, Err, OnOk, OnErr, refl, sym, ap, subst, ◌∙◌}
+use Rattle.std.proofs.Common.{◌≡◌, ℕ, true, false, Option, Result, Ok, Err, OnOk, OnErr, refl, sym, ap, subst, ◌∙◌, arith}
+use Rattle.std.proofs.lemmas.Grind.{common_steps}
 use Rattle.std.specs.Prelude.{alloc_error}
 use Rattle.std.specs.Result.{result_map_both}
 use Rattle.std.specs.declared.alloc.AllocError.{AllocError}
@@ -11,10 +12,10 @@ use Rattle.bcast_model.specs.declared.run.Call.{Call}
 use Rattle.bcast_model.specs.declared.run.Call.TheVariants as call
 use Rattle.bcast_model.specs.declared.run.Reply.{Reply}
 use Rattle.bcast_model.specs.declared.run.Reply.TheVariants as reply
-use Rattle.bcast_model.specs.Words.{Pair, same_pair, consume, no_listeners, pair_waits}
+use Rattle.bcast_model.specs.Words.{Pair, no_listeners, pair_waits}
 use Rattle.bcast_model.specs.Words.{pair_answered, sets, effect, HasRange, IsValidView, IsReceived}
 use Rattle.bcast_model.specs.Words.{Legal, tell_if_ready, must_wait, IsOwed, cursor_of}
-use Rattle.bcast_model.specs.Words.{is_empty_reply, listens, receive, receive_poll}
+use Rattle.bcast_model.specs.Words.{is_empty_reply, receive, receive_poll}
 use Rattle.bcast_model.specs.Words.{try_recv_reply, Steps, settle, View, skipped_to, skipped_count}
 use Rattle.bcast_model.specs.Words.{future_reply, stream_reply, next_reply}
 use Rattle.bcast_model.proofs.Polls.{future_waits, stream_waits, next_waits}
@@ -32,10 +33,7 @@ module _ {T : Type 0} where
   -- while no receiver waits, a poll that finds something does what a receive does
   poll_is_receive : (v : View T) (pair : Pair) (at : Option ℕ) → (receive v pair.0 at).waiting_receives ≡ no_listeners → is_empty_reply (try_recv_reply v at) ≡ false
       → settle v (sets (receive v pair.0 at)) ≡ settle v (sets (receive_poll v pair at))
-  poll_is_receive v pair at none found =
-      let c = receive v pair.0 at in
-      ap (λ listeners. settle v (sets (record c { waiting_receives = listeners }))) (none ∙ sym (ap (consume same_pair pair) none))
-      ∙ ap (λ b. settle v (sets (listens c pair b))) (sym found)
+  poll_is_receive v pair at none found = grind (arith, common_steps)
 
   -- one that finds nothing waits
   pub poll_listens : (v mid new : View T) (pair : Pair) (at : Option ℕ) → IsValidView v → is_empty_reply (try_recv_reply v at) ≡ true
@@ -50,17 +48,13 @@ module _ {T : Type 0} where
   pub poll_nobody : (v new : View T) (pair : Pair) (at : Option ℕ) → NobodyWaits new.control → is_empty_reply (try_recv_reply v at) ≡ false
       → new ≡ settle v (sets (receive v pair.0 at))
       → new ≡ tell_if_ready true (settle v (sets (receive_poll v pair at)))
-  poll_nobody v new pair at alone found is =
-      let none = ap (λ (x : View T). x.control.waiting_receives) (sym is) ∙ alone.receives in
-      sym (told_none new true alone.sends) ∙ ap (tell_if_ready true) (is ∙ poll_is_receive v pair at none found)
+  poll_nobody v new pair at alone found is = grind (arith, common_steps, told_none, poll_is_receive)
 
   -- and otherwise the listener is taken out too
   pub poll_found : (v mid new : View T) (pair : Pair) (at : Option ℕ) → is_empty_reply (try_recv_reply v at) ≡ false
       → mid ≡ settle v (sets (receive v pair.0 at)) → new ≡ tell_if_ready true (record mid { control = pair_answered mid.control pair })
       → new ≡ tell_if_ready true (settle v (sets (receive_poll v pair at)))
-  poll_found v mid new pair at found mid_is new_is =
-      new_is ∙ ap (tell_if_ready true) (ap (λ (x : View T). record x { control = pair_answered x.control pair }) mid_is
-      ∙ ap (λ b. settle v (sets (listens (receive v pair.0 at) pair b))) (sym found))
+  poll_found v mid new pair at found mid_is new_is = grind (arith, common_steps)
 
   -- what `Parts::poll` promises of what was found, and of what is seen then
   abbrev IsPolled : (T → T → Type 0) → View T → Pair → Option ℕ → Result (Result T TryRecvError) AllocError → View T → Type 0

@@ -16,17 +16,11 @@ use Rattle.bcast_core.proofs.Settle.{settle_stays, settle_same}
 module _ {T : Type 0} (v : View T) (key : ℕ) (at : Option ℕ) (cursor : ℕ) (is : at ≡ Some cursor) (from : v.front ≤ cursor) where
   -- it changes nothing
   receive_at_end : v.end ≤ cursor → receive v key at ≡ v.control
-  receive_at_end beyond =
-      let a : nat_lt cursor v.front ≡ false = grind (arith, common_steps, from) in
-      let b : nat_lt cursor v.end ≡ false = grind (arith, common_steps, beyond) in
-      ap (receive v key) is ∙ rw (a, b) refl
+  receive_at_end beyond = grind (arith, common_steps)
 
   -- one that finds a message moves the cursor past it
   pub receive_one : cursor < v.end → receive v key at ≡ with_cursor v.control key (cursor + 1)
-  receive_one below =
-      let a : nat_lt cursor v.front ≡ false = grind (arith, common_steps, from) in
-      let b : nat_lt cursor v.end ≡ true = grind (arith, common_steps, below) in
-      ap (receive v key) is ∙ rw (a, b) refl
+  receive_one below = grind (arith, common_steps)
 
 module _ {T : Type 0} where
   -- whether a receive returns `Empty` doesn't depend on clones
@@ -38,16 +32,11 @@ module _ {T : Type 0} where
 
   -- if the receiver lags, it returns how many messages were missed
   pub lagging : (v : View T) (at : Option ℕ) (cursor front : ℕ) → at ≡ Some cursor → front ≡ v.front → cursor < front → try_recv_reply v at ≡ Err (unread.Overflowed (front - cursor))
-  lagging v at cursor front is same lags =
-      let below : nat_lt cursor v.front ≡ true = grind (arith, common_steps, lags, same) in
-      ap (try_recv_reply v) is ∙ rw below (ap (λ n. Err (unread.Overflowed (n - cursor))) (sym same))
+  lagging v at cursor front is same lags = grind (arith, common_steps)
 
   -- at the end there is no message
   pub at_end : (v : View T) (at : Option ℕ) (cursor : ℕ) → IsValidView v → at ≡ Some cursor → v.front ≤ cursor → v.end ≤ cursor → try_recv_reply v at ≡ recv_reply v.control.closed None
-  at_end v at cursor valid is from beyond =
-      let past_front : nat_lt cursor v.front ≡ false = grind (arith, common_steps, from) in
-      let none : kept_at v cursor ≡ None = slice_get_past v.queue (cursor - v.front) (omega (arith, valid.end, beyond)) in
-      ap (try_recv_reply v) is ∙ rw past_front (ap (recv_reply v.control.closed) none)
+  at_end v at cursor valid is from beyond = grind (arith, common_steps, slice_get_past)
 
   found_none : (closed : Bool) (o : Option T) → is_empty_reply (recv_reply closed o) ≡ true → o ≡ None
   found_none closed None e = refl

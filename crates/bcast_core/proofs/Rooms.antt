@@ -1,5 +1,6 @@
 -- There is room for each receiver's listeners, while receivers are added, read and leave.
-use Rattle.std.proofs.Common.{◌≡◌, ℕ, ◌+◌, ◌-◌, ◌*◌, ◌<◌, ◌≤◌, Bool, true, false, cond, max, drop, Option, Some, None, is_some, Result, Ok, Err, IsSomeAnd, OnOk, OnErr, refl, sym, ap, ◌∙◌, subst, arith}
+use Rattle.std.proofs.Common.{◌≡◌, ℕ, ◌+◌, ◌-◌, ◌*◌, ◌<◌, ◌≤◌, Bool, true, false, cond, Option, Some, None, is_some, Result, Ok, Err, IsSomeAnd, OnOk, OnErr, refl, sym, ap, ◌∙◌, subst, arith}
+use Rattle.std.proofs.lemmas.Grind.{common_steps}
 use Rattle.std.proofs.lemmas.Bool.{true≢false}
 use Rattle.std.specs.Ordering.{nat_cmp, eq_by_cmp}
 use Rattle.std.specs.Cmp.{nat_cmp_total, unsigned_tied}
@@ -33,19 +34,11 @@ room_raised cursors room more rises all key h = let own = all key h in omega (ar
 
 -- a receiver for which there is room is added, or has another cursor
 pub room_inserted : (cursors : Cursors) (key cursor room : ℕ) → 2 * key + 1 < room → HaveRoom cursors room → HaveRoom (insert cursors key cursor) room
-room_inserted cursors key cursor room own all other h = by_key (eq_by_cmp nat_cmp other key) refl (sym (ap is_some (get-insert nat_cmp_total cursors key cursor other)) ∙ h)
-  where
-    by_key : (b : Bool) → eq_by_cmp nat_cmp other key ≡ b → is_some (cond b (Some cursor) (get cursors other)) ≡ true → 2 * other + 1 < room
-    by_key true e some = let same = same_key other key e in omega (arith, same, own)
-    by_key false e some = all other some
+room_inserted cursors key cursor room own all other h = grind (arith, common_steps, get-insert, same_key)
 
 -- a receiver leaves
 pub room_removed : (cursors : Cursors) (key room : ℕ) → HaveRoom cursors room → HaveRoom (remove cursors key) room
-room_removed cursors key room all other h = by_key (eq_by_cmp nat_cmp other key) (sym (ap is_some (get-remove nat_cmp_total cursors key other)) ∙ h)
-  where
-    by_key : (b : Bool) → is_some (cond b None (get cursors other)) ≡ true → 2 * other + 1 < room
-    by_key true some = cc
-    by_key false some = all other some
+room_removed cursors key room all other h = grind (arith, common_steps, get-remove)
 
 -- a read keeps all receivers, whether it was refused or not
 pub room_read : {T E : Type 0} (r : Result T E) (old new : Stored T) (key cursor room : ℕ) → is_some (get old.cursors key) ≡ true
@@ -68,11 +61,7 @@ remove-insert cursors key cursor fresh =
 module _ {T : Type 0} where
   -- the cursors that it has already don't change a store
   with_own_cursors : (s : Stored T) → least (end_of s) (values s.cursors) ≤ s.front → with_cursors s s.cursors ≡ s
-  with_own_cursors s low =
-      let front : max s.front (least (end_of s) (values s.cursors)) ≡ s.front = omega (arith, low) in
-      let none : s.front - s.front ≡ 0 = omega arith in
-      ap (λ m. record s { front = m; queue = drop (m - s.front) s.queue }) front
-      ∙ ap (λ n. record s { queue = drop n s.queue }) none
+  with_own_cursors s low = grind (arith, common_steps)
 
   -- nor does a receiver that was added and removed at once
   pub taken_back : (s : Stored T) (key cursor : ℕ) → get s.cursors key ≡ None → least (end_of s) (values s.cursors) ≤ s.front

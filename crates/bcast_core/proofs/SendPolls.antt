@@ -1,13 +1,13 @@
 -- What a poll of a pending send does to the view.
-use Rattle.std.proofs.Common.{◌≡◌, ℕ, Bool, true, false, cond, not, Result, Ok, Err, IfOk, OnOk, OnErr, refl, sym, ap, ◌∙◌, subst}
-use Rattle.std.specs.Prelude.{is_ok}
+use Rattle.std.proofs.Common.{◌≡◌, ℕ, Bool, true, false, cond, not, Result, Ok, Err, IfOk, OnOk, OnErr, refl, sym, ap, ◌∙◌, subst, arith}
+use Rattle.std.proofs.lemmas.Grind.{common_steps}
 use Rattle.bcast_model.specs.declared.run.SendPoll.{SendPoll}
 use Rattle.bcast_model.specs.declared.run.SendPoll.TheVariants as send
 use Rattle.bcast_model.specs.declared.run.Call.TheVariants as call
 use Rattle.bcast_model.specs.declared.run.Reply.TheVariants as reply
 use Rattle.bcast_model.specs.Words.{consume, same_place, has_place, place_answered}
-use Rattle.bcast_model.specs.Words.{place_waits, tell_a_sender, reply_to_attempt, accept}
-use Rattle.bcast_model.specs.Words.{with_place_answered, offer, try_broadcast_reply, attempt_send_reply}
+use Rattle.bcast_model.specs.Words.{place_waits, tell_a_sender}
+use Rattle.bcast_model.specs.Words.{with_place_answered, offer, attempt_send_reply}
 use Rattle.bcast_model.specs.Words.{poll_send, View, sends_are_ready, Answers}
 use Rattle.bcast_model.specs.Words.{IsShown, IsValidView, NoClone, sets, tell_if_ready, settle}
 use Rattle.bcast_model.specs.Words.{must_wait}
@@ -33,10 +33,7 @@ module _ {T : Type 0} where
   waits sent = must_wait (reply.PollSend sent)
 
   pub is_refused : (v : View T) (msg again : T) → attempt_send_reply v msg ≡ send.Wait again → settle v (offer v msg) ≡ settle v (sets v.control)
-  is_refused v msg again is = elim (try_broadcast_reply v msg) as (λ answer. reply_to_attempt v.control.await_active answer ≡ send.Wait again → settle v (cond (is_ok answer) (accept v msg) (sets v.control)) ≡ settle v (sets v.control)) [
-    | Err error ↦ λ _. refl
-    | Ok back ↦ λ e. (let w = ap waits e in cc)
-  ] is
+  is_refused v msg again is = grind (arith, common_steps)
 
   -- an attempt that must wait changes nothing
   pub attempt_stays : (v mid : View T) (msg again : T) → IsValidView v → attempt_send_reply v msg ≡ send.Wait again → mid ≡ settle v (offer v msg) → mid ≡ v
@@ -44,10 +41,7 @@ module _ {T : Type 0} where
 
   -- a poll of a place that is not in use changes nothing
   pub poll_unplaced : (v : View T) (place : ℕ) (msg : T) → IsValidView v → has_place v.control place ≡ false → v ≡ tell_if_ready true (settle v (poll_send v place msg))
-  poll_unplaced v place msg valid none =
-      sym (told_valid v valid)
-      ∙ ap (tell_if_ready true) (sym (settle_same v valid)
-      ∙ ap (λ b. settle v (cond b (cond (sends_are_ready v) (with_place_answered (offer v msg) place) (sets (place_waits v.control place))) (sets v.control))) (sym none))
+  poll_unplaced v place msg valid none = grind (arith, common_steps, told_valid, settle_same)
 
   -- a poll that is answered frees its place last
   pub poll_answered : (v mid new : View T) (place : ℕ) (msg : T) (answer : _) → has_place v.control place ≡ true → attempt_send_reply v msg ≡ send.Ready answer

@@ -1,5 +1,6 @@
 -- The view after an effect.
 use Rattle.std.proofs.Common.{◌≡◌, ℕ, ◌+◌, ◌-◌, ◌≤◌, List, [], ◌∷◌, ◌++◌, length, max, drop, Some, true, false, cond, not, ◌&&◌, refl, ◌∙◌, arith, append-nil}
+use Rattle.std.proofs.lemmas.Grind.{common_steps}
 use Rattle.std.specs.Ordering.{nat_cmp}
 use Rattle.std.specs.FinMap.{get, insert, len, values, entries, find, len-entries, get-entries}
 use Rattle.bcast_model.specs.Words.{Control, Cursors, close, close_if_deserted, tell_a_sender}
@@ -28,11 +29,7 @@ somebody cursors some =
 
 -- the least cursor is the same under a greater limit
 pub least_raised : (end more : ℕ) (cursors : Cursors) → 1 ≤ len cursors → ((key cursor : ℕ) → get cursors key ≡ Some cursor → cursor ≤ end) → least (end + more) (values cursors) ≤ least end (values cursors)
-least_raised end more cursors some reach =
-    let s = somebody cursors some in
-    let r = reach s.0 s.1 s.2 in
-    let own = least-le-cursor (end + more) cursors s.0 s.1 s.2 in
-    least-greatest (least (end + more) (values cursors)) end cursors (omega (arith, r, own)) (λ key cursor e. least-le-cursor (end + more) cursors key cursor e)
+least_raised end more cursors some reach = grind (arith, common_steps, somebody, least-le-cursor, least-greatest)
 
 module _ {T : Type 0} where
   pub same_view : (a b : View T) → a.front ≡ b.front → a.queue ≡ b.queue → a.end ≡ b.end → a.control ≡ b.control → a ≡ b

@@ -1,11 +1,11 @@
 -- The last step of a call, which tells listeners. The proofs of state calls take their lemmas
 -- from here.
-use Rattle.std.proofs.Common.{◌≡◌, ℕ, ◌+◌, ◌≤◌, ◌==◌, Bool, true, false, not, cond, ◌&&◌, length, min, max, refl, sym, ap, ◌∙◌, subst, arith}
+use Rattle.std.proofs.Common.{◌≡◌, ℕ, ◌+◌, ◌≤◌, ◌==◌, Bool, true, false, not, cond, refl, sym, ap, ◌∙◌, subst, arith}
 use Rattle.std.proofs.lemmas.Grind.{common_steps}
 use Rattle.std.specs.FinMap.{len}
 use Rattle.bcast_model.specs.declared.run.Call.{Call}
 use Rattle.bcast_model.specs.declared.run.Reply.{Reply}
-use Rattle.bcast_model.specs.Words.{Listeners, no_listeners, tell, tell_all, Pair, Cursors}
+use Rattle.bcast_model.specs.Words.{Listeners, no_listeners, tell, Pair, Cursors}
 use Rattle.bcast_model.specs.Words.{tell_a_sender, pair_waits, effect, HasRange, IsValidView}
 use Rattle.bcast_model.specs.Words.{may_tell, tell_if_ready, Steps}
 use Rattle.bcast_model.specs.Words.{settle, View, sends_are_ready, Answers, IsShown}
@@ -19,26 +19,17 @@ pub use Rattle.bcast_core.proofs.Does.{valid_shown, does_begin, does_resize, doe
 
 -- if one is told already, telling one changes nothing
 told_one : (l : Listeners ℕ) → OneIsTold l → tell 1 l ≡ l
-told_one l told =
-    let same : max l.told (min 1 (length l.ids)) ≡ l.told = grind (arith, common_steps, told) in
-    λ i. record l { told = same i }
+told_one l told = grind (arith, common_steps)
 
 module _ {T : Type 0} where
   -- no send is told if none waits
   pub told_none : (v : View T) (may : Bool) → v.control.waiting_sends ≡ no_listeners → tell_if_ready may v ≡ v
-  told_none v may nobody =
-      elim (may && sends_are_ready v) as (λ b. cond b (record v { control = tell_a_sender v.control }) v ≡ v) [
-        | true ↦ (λ i. record v { control = record v.control { waiting_sends = (ap (tell 1) nobody ∙ sym nobody) i } })
-        | false ↦ refl
-      ]
+  told_none v may nobody = grind (arith, common_steps)
 
   -- so every call may tell one last: if it needn't, one is told already, or sends are not ready
   tell_once : (may : Bool) (w : View T) → (may ≡ false → sends_are_ready w ≡ true → OneIsTold w.control.waiting_sends) → tell_if_ready true w ≡ tell_if_ready may w
   tell_once true w told = refl
-  tell_once false w told = elim (sends_are_ready w) as (λ b. sends_are_ready w ≡ b → cond b (record w { control = tell_a_sender w.control }) w ≡ w) [
-    | true ↦ λ ready. (λ i. record w { control = record w.control { waiting_sends = told_one w.control.waiting_sends (told refl ready) i } })
-    | false ↦ λ blocked. refl
-  ] refl
+  tell_once false w told = grind (arith, common_steps, told_one)
 
   -- in a valid state no further send is told
   pub told_valid : (v : View T) → IsValidView v → tell_if_ready true v ≡ v
@@ -68,13 +59,7 @@ module _ {T : Type 0} where
   -- if no one waits, no one is told of a message
   pub news_nobody : (news : Bool) (v : View T) → NobodyWaits v.control → tell_news news v ≡ v
   news_nobody false v alone = refl
-  news_nobody true v alone =
-      let receives = ap tell_all alone.receives ∙ sym alone.receives in
-      let sends = ap tell_all alone.sends ∙ sym alone.sends in
-      elim v.control.closed as (λ b. record v { control = cond b (record v.control { waiting_receives = tell_all v.control.waiting_receives; waiting_sends = tell_all v.control.waiting_sends }) (record v.control { waiting_receives = tell_all v.control.waiting_receives }) } ≡ v) [
-        | true ↦ (λ i. record v { control = record v.control { waiting_receives = receives i; waiting_sends = sends i } })
-        | false ↦ (λ i. record v { control = record v.control { waiting_receives = receives i } })
-      ]
+  news_nobody true v alone = grind (arith, common_steps)
 
   pub tail_nobody : (news : Bool) (v : View T) → NobodyWaits v.control → tell_if_ready true (tell_news news v) ≡ v
   tail_nobody news v alone = ap (tell_if_ready true) (news_nobody news v alone) ∙ told_none v true alone.sends

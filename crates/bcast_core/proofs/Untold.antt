@@ -3,8 +3,8 @@ use Rattle.std.proofs.Common.{◌≡◌, ◌⊎◌, inl, inr, ℕ, ◌≤◌, tr
 use Rattle.std.specs.FinMap.{get}
 use Rattle.std.proofs.lemmas.Grind.{common_steps}
 use Rattle.bcast_model.specs.declared.error.TryRecvError.TheVariants as unread
-use Rattle.bcast_model.specs.Words.{untold_ids, Pair, same_pair, cursor_of, skipped_to}
-use Rattle.bcast_model.specs.Words.{try_recv_reply, View, WouldWait, IsValidView}
+use Rattle.bcast_model.specs.Words.{Pair, cursor_of, skipped_to}
+use Rattle.bcast_model.specs.Words.{try_recv_reply, View, IsValidView}
 use Rattle.bcast_model.proofs.Lists.{all_in}
 use Rattle.bcast_model.proofs.Receives.{empty_at_end}
 use Rattle.bcast_model.proofs.Tests.{test_pair}
@@ -17,6 +17,4 @@ module _ {T : Type 0} where
 
   pub untold_empty : (v : View T) (pair : Pair) (at : Option ℕ) → IsValidView v → is_untold v.control pair ≡ true
       → (at ≡ cursor_of v.control pair.0) ⊎ (at ≡ skipped_to v.front (cursor_of v.control pair.0)) → try_recv_reply v at ≡ Err unread.Empty
-  untold_empty v pair at valid untold is =
-      let asleep = all_in same_pair test_pair (WouldWait v.control v.end) pair (untold_ids v.control.waiting_receives) valid.wake_ups.receives untold in
-      ap (try_recv_reply v) (at_end v pair.0 at valid.high asleep.0 is) ∙ empty_at_end v valid asleep.1
+  untold_empty v pair at valid untold is = grind (arith, common_steps, all_in, test_pair, at_end, empty_at_end)

@@ -1,28 +1,22 @@
 -- What a poll returns is possible, and a receive makes a notice where it found nothing.
-use Rattle.std.proofs.Common.{◌∙◌, sym, ap, subst, refl, rules}
-use Rattle.bcast_model.specs.Words.{Answers, must_wait}
+use Rattle.std.proofs.Common.{sym, refl, rules, arith}
+use Rattle.std.proofs.lemmas.Grind.{common_steps}
 use Rattle.bcast_model.proofs.Answers.{possible}
-use Rattle.bcast_core.specs.Polls.{call_of}
 use Rattle.bcast_core.proofs.Accessors.{named, possible_if_made}
 use Rattle.bcast_core.proofs.ReceivePolls.{reply_waits}
 use Rattle.bcast_core.proofs.calls.poll.Goals as goal
 
 pub returns-in-Ok-poll_receive-clause-answers : goal.returns-in-Ok-poll_receive-clause-answers
-returns-in-Ok-poll_receive-clause-answers g c =
-    named c.in-Ok.ensures.of
-    (subst (λ r. Answers g.T.Clone.is_clone c.args.inner.now (call_of c.in-Ok.poll c.in-Ok.key) r c.poll_receive.new.self) (sym c.reply.ensures)
-    c.in-Ok-poll_receive.ensures.answers)
+returns-in-Ok-poll_receive-clause-answers g c = grind (arith, common_steps, named)
 
 pub returns-in-Ok-poll_receive-clause-possible : goal.returns-in-Ok-poll_receive-clause-possible
 returns-in-Ok-poll_receive-clause-possible g c = possible refl (returns-in-Ok-poll_receive-clause-answers g c)
 
 pub returns-in-Ok-poll_receive-clause-made : goal.returns-in-Ok-poll_receive-clause-made
-returns-in-Ok-poll_receive-clause-made g c waits =
-    c.in-Ok-poll_receive.ensures.made (sym (reply_waits c.in-Ok.poll c.in-Ok-poll_receive.received) ∙ ap must_wait (sym c.reply.ensures) ∙ waits)
+returns-in-Ok-poll_receive-clause-made g c waits = grind (arith, common_steps, reply_waits)
 
 pub returns-in-Ok-poll_receive-clause-idle : goal.returns-in-Ok-poll_receive-clause-idle
-returns-in-Ok-poll_receive-clause-idle g c ready =
-    c.in-Ok-poll_receive.ensures.idle (sym (reply_waits c.in-Ok.poll c.in-Ok-poll_receive.received) ∙ ap must_wait (sym c.reply.ensures) ∙ ready)
+returns-in-Ok-poll_receive-clause-idle g c ready = grind (arith, common_steps, reply_waits)
 
 pub returns-in-PollSend-clause-answers : goal.returns-in-PollSend-clause-answers
 returns-in-PollSend-clause-answers g c = search rules

@@ -1,10 +1,10 @@
 use Rattle.std.proofs.Common.{◌≡◌, false, [], ◌∷◌, ◌++◌, length, append_assoc, refl, sym, ap, subst, ◌∙◌, arith}
+use Rattle.std.proofs.lemmas.Grind.{common_steps}
 use Rattle.std.specs.Vec.Iter.{into_iter_items}
 use Rattle.std.specs.List.{All, AllByRecursion}
 use Rattle.std.proofs.lemmas.List.Elements.{All-append, All-cons, All-nil}
 use Rattle.bcast_model.specs.Words.{Legal, NoClone, HasPositiveCapacity, opening, IsValid}
-use Rattle.bcast_model.specs.Words.{Represents, IsRun, end_of_run, AtEachPoint, AreAllExact}
-use Rattle.bcast_model.specs.Words.{WaitsAsItsTry, ComesToRest}
+use Rattle.bcast_model.specs.Words.{Represents, IsRun, end_of_run}
 use Rattle.bcast_model.proofs.Lists.{all_right}
 use Rattle.bcast_model.proofs.Clones.{run_exact}
 use Rattle.bcast_model.proofs.DeliveryLemmas.{deliveries_exact}
@@ -44,11 +44,7 @@ loop-call-preserved g c =
     }
 
 pub returns-clause-deliveries : goal.returns-clause-deliveries
-returns-clause-deliveries g c =
-    let i = c.loop-call.invariant in
-    subst (λ calls. AtEachPoint (AreAllExact g.T.Clone.is_clone) (opening c.args.cap c.args.first c.in-Ok-starting_at.first_key) calls c.loop-call.replies.items)
-    (all_made c.loop-call.yielded (into_iter_items c.loop-call.call-iterator) c.args.calls.items (omega (arith, c.in-None.ensures.steps.0, c.loop-call.call-iterator.rest.ok)) i.rest)
-    (deliveries_exact g.T.Clone.is_clone (opening c.args.cap c.args.first c.in-Ok-starting_at.first_key) c.loop-call.yielded c.loop-call.replies.items c.in-Ok-starting_at.ensures.valid i.run)
+returns-clause-deliveries g c = grind (arith, common_steps, all_made, deliveries_exact)
 
 pub returns-clause-dropped : goal.returns-clause-dropped
 returns-clause-dropped g c =
@@ -93,15 +89,7 @@ returns-clause-missed g c =
     (subst (λ calls. IsRun g.T.Clone.is_clone (opening c.args.cap c.args.first c.in-Ok-starting_at.first_key) calls c.loop-call.replies.items) all i.run)
 
 pub returns-clause-polls : goal.returns-clause-polls
-returns-clause-polls g c =
-    let i = c.loop-call.invariant in
-    subst (λ calls. AtEachPoint WaitsAsItsTry (opening c.args.cap c.args.first c.in-Ok-starting_at.first_key) calls c.loop-call.replies.items)
-    (all_made c.loop-call.yielded (into_iter_items c.loop-call.call-iterator) c.args.calls.items (omega (arith, c.in-None.ensures.steps.0, c.loop-call.call-iterator.rest.ok)) i.rest)
-    (polls_wait g.T.Clone.is_clone (opening c.args.cap c.args.first c.in-Ok-starting_at.first_key) c.loop-call.yielded c.loop-call.replies.items i.run i.valid)
+returns-clause-polls g c = grind (arith, common_steps, all_made, polls_wait)
 
 pub returns-clause-rest : goal.returns-clause-rest
-returns-clause-rest g c =
-    let i = c.loop-call.invariant in
-    subst (λ calls. AtEachPoint (ComesToRest g.T.Clone.is_clone) (opening c.args.cap c.args.first c.in-Ok-starting_at.first_key) calls c.loop-call.replies.items)
-    (all_made c.loop-call.yielded (into_iter_items c.loop-call.call-iterator) c.args.calls.items (omega (arith, c.in-None.ensures.steps.0, c.loop-call.call-iterator.rest.ok)) i.rest)
-    (polls_rest g.T.Clone.is_clone (opening c.args.cap c.args.first c.in-Ok-starting_at.first_key) c.loop-call.yielded c.loop-call.replies.items i.run i.valid)
+returns-clause-rest g c = grind (arith, common_steps, all_made, polls_rest)

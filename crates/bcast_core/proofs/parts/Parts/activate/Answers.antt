@@ -1,6 +1,6 @@
-use Rattle.std.proofs.Common.{◌-◌, inl, inr, not, Some, Err, refl, sym, ap, ◌∙◌}
+use Rattle.std.proofs.Common.{◌-◌, inl, inr, not, Err, refl, sym, ap, ◌∙◌, arith}
+use Rattle.std.proofs.lemmas.Grind.{common_steps}
 use Rattle.bcast_model.specs.declared.run.Reply.TheVariants as reply
-use Rattle.bcast_model.specs.Words.{with_cursor, activate, View, sets, settle}
 use Rattle.bcast_core.proofs.Does.{does_nothing}
 use Rattle.bcast_core.proofs.Making.{none_left, some_left}
 use Rattle.bcast_core.proofs.parts.Parts.activate.Goals as goal
@@ -11,15 +11,7 @@ returns-then-inactive-eq0-clause-does g c =
     does_nothing c.requires (inl (ap not none, refl)) refl refl
 
 pub returns-in-Ok-clause-does : goal.returns-in-Ok-clause-does
-returns-in-Ok-clause-does g c =
-    let some = some_left c.args.self.now.control.inactive (λ e. c.if-inactive-eq0.false (c.inactive.ensures ∙ e)) in
-    record {
-      legal = inr (ap not some, inl (c.in-Ok.key, refl, c.in-Ok.ensures.free));
-      effect = c.set_inactive.ensures
-          ∙ ap (λ (v : View g.row.T.Denot). record v { control = record v.control { inactive = c.inactive-inactive.result - 1 } }) c.in-Ok.ensures.ok
-          ∙ ap (λ n. settle c.args.self.now (sets (record (with_cursor c.args.self.now.control c.in-Ok.key c.end.result) { inactive = n - 1 }))) c.inactive-inactive.ensures
-          ∙ ap (λ n. settle c.args.self.now (sets (activate c.args.self.now.control n (Some c.in-Ok.key)))) c.end.ensures;
-    }
+returns-in-Ok-clause-does g c = grind (arith, common_steps, some_left)
 
 pub returns-in-Err-clause-does : goal.returns-in-Err-clause-does
 returns-in-Err-clause-does g c =

@@ -1,8 +1,8 @@
 -- A receiver stays if there is room for its listeners, and else is removed at once.
-use Rattle.std.proofs.Common.{◌≡◌, cond, is_some, sym, ap, ◌∙◌, subst}
-use Rattle.std.specs.FinMap.{get, remove}
-use Rattle.bcast_model.specs.Laws.{IsValidView}
-use Rattle.bcast_store.specs.Stored.{Stored, with_cursors}
+use Rattle.std.proofs.Common.{◌≡◌, sym, ◌∙◌, subst, arith}
+use Rattle.std.proofs.lemmas.Grind.{common_steps}
+use Rattle.std.specs.FinMap.{remove}
+use Rattle.bcast_store.specs.Stored.{Stored}
 use Rattle.bcast_core.specs.Parts.{HaveRoom, control_of, seen_of}
 use Rattle.bcast_core.proofs.Settle.{inserted}
 use Rattle.bcast_core.proofs.Rooms.{room_inserted, room_raised, taken_back}
@@ -17,12 +17,7 @@ invariant_of-self-2 g c =
 
 -- the store is as it was
 store_is : (g : _) (c : After-remove g) → c.remove.new.self ≡ c.self.inside.store
-store_is g c =
-    let some = c.remove.ensures.found ∙ ap (λ (s : Stored g.row.T.Denot). is_some (get s.cursors c.in-Ok.key)) c.in-Ok.ensures.ok ∙ ap is_some (inserted c.self.inside.store.cursors c.in-Ok.key c.args.cursor) in
-    c.remove.ensures.rest
-    ∙ ap (λ b. cond b (with_cursors c.add.new.self (remove c.add.new.self.cursors c.in-Ok.key)) c.add.new.self) some
-    ∙ ap (λ (s : Stored g.row.T.Denot). with_cursors s (remove s.cursors c.in-Ok.key)) c.in-Ok.ensures.ok
-    ∙ taken_back c.self.inside.store c.in-Ok.key c.args.cursor c.in-Ok.ensures.free (subst IsValidView (sym c.self.view_is) c.requires.valid).low
+store_is g c = grind (arith, common_steps, inserted, taken_back)
 
 pub invariant_of-self-in_default-reserve_for : goal.invariant_of-self-in_default-reserve_for
 invariant_of-self-in_default-reserve_for g c =

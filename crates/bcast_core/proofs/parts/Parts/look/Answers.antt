@@ -1,14 +1,12 @@
-use Rattle.std.proofs.Common.{inl, Ok, refl, sym, ap, ◌∙◌}
-use Rattle.bcast_model.specs.declared.run.Reply.TheVariants as reply
+use Rattle.std.proofs.Common.{refl, sym, ap, ◌∙◌, arith}
+use Rattle.std.proofs.lemmas.Grind.{common_steps}
 use Rattle.bcast_model.specs.Receiving.{is_empty_reply}
 use Rattle.bcast_core.proofs.Receives.{settle_empty}
 use Rattle.bcast_core.proofs.Untold.{untold_empty}
 use Rattle.bcast_core.proofs.parts.Parts.look.Goals as goal
 
 pub returns-then-is_untold-clause-reply : goal.returns-then-is_untold-clause-reply
-returns-then-is_untold-clause-reply g c =
-    let untold = sym c.is_untold.ensures ∙ c.if-is_untold.true in
-    inl (ap (λ a. reply.TryRecv (Ok a)) (sym (untold_empty c.args.self.now (c.args.key, c.args.kind) c.args.at c.requires.valid untold c.requires.at)))
+returns-then-is_untold-clause-reply g c = grind (arith, common_steps, untold_empty)
 
 pub returns-then-is_untold-clause-ok : goal.returns-then-is_untold-clause-ok
 returns-then-is_untold-clause-ok g c =

@@ -1,9 +1,7 @@
 -- Nobody waits where no send waits, and no receiver.
-use Rattle.std.proofs.Common.{sym, ap, ◌∙◌}
+use Rattle.std.proofs.Common.{arith}
+use Rattle.std.proofs.lemmas.Grind.{common_steps}
 use Rattle.bcast_core.proofs.parts.Parts.nobody_waits.Goals as goal
 
 pub returns-then-no_send_waits : goal.returns-then-no_send_waits
-returns-then-no_send_waits g c empty = record {
-  sends = c.no_send_waits.ensures c.if-no_send_waits.true;
-  receives = sym (ap (λ v. v.control.waiting_receives) c.self.view_is) ∙ c.is_empty.ensures.0 empty;
-}
+returns-then-no_send_waits g c empty = grind (arith, common_steps)

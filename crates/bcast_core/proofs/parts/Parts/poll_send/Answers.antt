@@ -1,11 +1,11 @@
-use Rattle.std.proofs.Common.{sym, ap, ◌∙◌}
+use Rattle.std.proofs.Common.{sym, ap, ◌∙◌, arith}
+use Rattle.std.proofs.lemmas.Grind.{common_steps}
 use Rattle.bcast_core.specs.Telling.{is_accepted, tell_news}
 use Rattle.bcast_core.proofs.SendPolls.{attempt_stays, poll_nobody, poll_answered, poll_unplaced, poll_waits}
 use Rattle.bcast_core.proofs.parts.Parts.poll_send.Goals as goal
 
 pub returns-then-not-has_place-clause-effect : goal.returns-then-not-has_place-clause-effect
-returns-then-not-has_place-clause-effect g c =
-    poll_unplaced c.args.self.now c.args.place c.args.msg c.requires (sym c.has_place.ensures ∙ c.if-not-has_place.true)
+returns-then-not-has_place-clause-effect g c = grind (arith, common_steps, poll_unplaced)
 
 pub returns-then-nobody_waits-clause-effect : goal.returns-then-nobody_waits-clause-effect
 returns-then-nobody_waits-clause-effect g c =

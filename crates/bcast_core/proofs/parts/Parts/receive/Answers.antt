@@ -1,4 +1,5 @@
 use Rattle.std.proofs.Common.{◌+◌, ◌<◌, ◌≤◌, None, Ok, inl, sym, ap, ◌∙◌, is_some, arith}
+use Rattle.std.proofs.lemmas.Grind.{common_steps}
 use Rattle.std.specs.FinMap.{get, insert}
 use Rattle.std.proofs.lemmas.Result.{on_ok_weaker}
 use Rattle.bcast_model.specs.Words.{View, sets, settle, cursor_of, recv_reply}
@@ -10,9 +11,7 @@ use Rattle.bcast_core.proofs.parts.Parts.receive.Goals as goal
 use Rattle.bcast_core.proofs.parts.Parts.receive.Goals.{in-Ok, in-Err, then-self, else-self}
 
 pub returns-then-cursor-front-clause-reply : goal.returns-then-cursor-front-clause-reply
-returns-then-cursor-front-clause-reply g c =
-    let front = c.front-front.ensures ∙ ap (λ (v : View g.row.T.Denot). v.front) c.self.view_is in
-    inl (ap (λ a. reply.TryRecv (Ok a)) (sym (lagging c.args.self.now c.args.at c.in-Some.cursor c.front-front.result c.in-Some.is front c.if-cursor-front.true)))
+returns-then-cursor-front-clause-reply g c = grind (arith, common_steps, lagging)
 
 pub invariant_of-self : goal.invariant_of-self
 invariant_of-self g c =

@@ -1,5 +1,6 @@
 -- A sort and a `dedup` keep the set, and its numbers rise.
-use Rattle.std.proofs.Common.{◌≡◌, ℕ, Bool, true, false, ◌||◌, cond, eqb, List, [], ◌∷◌, refl, sym, ap, subst, ◌∙◌, eqb-true}
+use Rattle.std.proofs.Common.{◌≡◌, ℕ, Bool, true, false, ◌||◌, eqb, List, [], ◌∷◌, refl, sym, ap, subst, ◌∙◌, eqb-true, arith}
+use Rattle.std.proofs.lemmas.Grind.{common_steps}
 use Rattle.std.specs.Ordering.{nat_cmp, eq_by_cmp}
 use Rattle.std.specs.Cmp.{nat_cmp_total}
 use Rattle.std.specs.List.{list_any, dedup, dedup_from}
@@ -17,12 +18,7 @@ twice false b = refl
 
 list_any-dedup_from : (p : ℕ → Bool) (k : ℕ) (xs : List ℕ) → list_any p (dedup_from eqb k xs) ≡ (p k || list_any p xs)
 list_any-dedup_from p k [] = refl
-list_any-dedup_from p k (x ∷ xs) = go (list_any-dedup_from p k xs) (list_any-dedup_from p x xs) (eqb x k) refl
-  where
-    go : list_any p (dedup_from eqb k xs) ≡ (p k || list_any p xs) → list_any p (dedup_from eqb x xs) ≡ (p x || list_any p xs)
-        → (b : Bool) → eqb x k ≡ b → list_any p (cond b (dedup_from eqb k xs) (k ∷ dedup_from eqb x xs)) ≡ (p k || (p x || list_any p xs))
-    go left out true same = left ∙ twice (p k) (list_any p xs) ∙ ap (λ y. p k || (p y || list_any p xs)) (sym (eqb-true x k same))
-    go left out false differ = ap (λ b. p k || b) out
+list_any-dedup_from p k (x ∷ xs) = grind (arith, common_steps, twice, eqb-true, list_any-dedup_from p k xs, list_any-dedup_from p x xs)
 
 list_any-dedup : (p : ℕ → Bool) (xs : List ℕ) → list_any p (dedup eqb xs) ≡ list_any p xs
 list_any-dedup p [] = refl
