@@ -1,5 +1,5 @@
 -- What the calls on the map of a slab's entries return.
-use Rattle.std.proofs.Common.{◌≡◌, ◌≢◌, ℕ, zero, suc, ◌+◌, ◌<◌, Bool, true, false, cond, eqb, List, [], ◌∷◌, get_or, Option, Some, None, refl, sym, ap, ◌∙◌, zero-add, arith, T, eqb-true, eq-eqb, true≢false}
+use Rattle.std.proofs.Common.{◌≡◌, ◌≢◌, ℕ, zero, suc, ◌+◌, ◌<◌, Bool, true, false, cond, eqb, List, [], ◌∷◌, get_or, Option, Some, None, refl, sym, ap, ◌∙◌, zero-add, arith, T}
 use Rattle.std.proofs.lemmas.Grind.{common_steps}
 use Rattle.std.specs.Prelude.{◌&&◌}
 use Rattle.std.specs.Ordering.{nat_cmp, eq_by_cmp}
@@ -55,12 +55,8 @@ module _ {V : Type 0} where
   pub len-map_of : (s : Slab V) → map.len (map_of s) ≡ slab_len s
   len-map_of s = grind (arith, common_steps, len-entries, entries-from_sorted, sorted, length-entries)
 
-  slot_at : (old new : Slab V) (key : ℕ) (slot : Option V) → Updates old new key slot → (q : ℕ) (b : Bool) → eqb q key ≡ b → get new q ≡ cond b slot (get old q)
-  slot_at old new key slot updates q true is = ap (get new) (eqb-true q key is) ∙ updates.changed
-  slot_at old new key slot updates q false is = updates.others q (λ same. true≢false (sym (eq-eqb q key same) ∙ is))
-
   seen_at : (old new : Slab V) (key : ℕ) (slot : Option V) → Updates old new key slot → (q : ℕ) → map.get (map_of new) q ≡ cond (eq_by_cmp nat_cmp q key) slot (map.get (map_of old) q)
-  seen_at old new key slot updates q = grind (arith, common_steps, get-map_of, slot_at)
+  seen_at old new key slot updates q = grind (arith, common_steps, get-map_of)
 
   pub map_of-updated : (old new : Slab V) (key : ℕ) (v : V) → Updates old new key (Some v) → map_of new ≡ map.insert (map_of old) key v
   map_of-updated old new key v updates =

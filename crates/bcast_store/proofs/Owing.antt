@@ -110,7 +110,7 @@ len_joined m k c none = len-insert nat_cmp_total m k c ∙ ap (λ o. cond (is_so
 
 -- removing a key that a map doesn't have changes nothing
 pub remove-absent : (m : Cursors) (k : ℕ) → get m k ≡ None → remove m k ≡ m
-remove-absent m k none = grind (arith, common_steps, cursors_ext, cases_eq, removed_same, removed_other)
+remove-absent m k none = grind (arith, common_steps, cases_eq, removed_same, removed_other, cursors_ext)
 
 -- the cursor that a fact is of
 pub found : (o : Option ℕ) (P : ℕ → Type 0) → IsSomeAnd o P → (c : ℕ) × (o ≡ Some c) × P c

@@ -70,7 +70,7 @@ module _ {I : Type 0} {same : I → I → Bool} {number : I → ℕ} {s : Slots 
             ∙ consume_first same laws id (listeners_of s.ids told) (front s.ids i) kept.in_order first_at rest less
 
         told_rest : (b : Bool) → ltb i told_end ≡ b → rest ≡ cond b (told - 1) told → rest ≡ front (set s.ids i None) told_end
-        told_rest true e r = grind (arith, common_steps, front_left, ids, is_some-has, ltb-true)
+        told_rest true e r = grind (arith, common_steps, front_left, ids, ltb-true)
         told_rest false e r = r ∙ kept.told_front ∙ sym (front_kept s.ids i told_end (ltb-false i told_end e))
 
         pub IsKept-left : IsKept same number (record s { ids = set s.ids i None }) (count - 1) rest told_end

@@ -19,14 +19,6 @@ module _ {I : Type 0} where
   in_slot P (None ∷ ids) (suc p) x a e = in_slot P ids p x a e
   in_slot P (Some y ∷ ids) (suc p) x a e = in_slot P ids p x a.1 e
 
-  -- an id in a slot was there before another slot was emptied
-  was_there : (ids : List (Option I)) (i p : ℕ) (x : I) → get_or (set ids i None) p None ≡ Some x → get_or ids p None ≡ Some x
-  was_there [] i p x e = absurd (none-some x e)
-  was_there (slot ∷ ids) zero zero x e = absurd (none-some x e)
-  was_there (slot ∷ ids) zero (suc p) x e = e
-  was_there (slot ∷ ids) (suc i) zero x e = e
-  was_there (slot ∷ ids) (suc i) (suc p) x e = was_there ids i p x e
-
   -- a slot that is filled last
   pushed_at : (ids : List (Option I)) (id : I) (p : ℕ) (x : I) → get_or (ids ++ Some id ∷ []) p None ≡ Some x → length ids ≤ p → (p ≡ length ids) × (id ≡ x)
   pushed_at [] id zero x e h = (refl, same_Some id x e)
@@ -52,16 +44,13 @@ module _ {I : Type 0} where
     apart_at (Some z ∷ ids) (suc p) (suc q) x y d h e f = apart_at ids p q x y d.1 (omega (arith, h)) e f
 
     module _ (number : I → ℕ) (own : (x y : I) → same x y ≡ (number x == number y)) where
-      one_number : (x y : I) → same x y ≡ true → number x ≡ number y
-      one_number x y e = test_place.no (number x) (number y) (sym (own x y) ∙ e)
-
       two_numbers : (x y : I) → same x y ≡ false → number y ≢ number x
       two_numbers x y e n = true≢false (sym (test_place.yes (number x)) ∙ ap (λ m. number x == m) (sym n) ∙ sym (own x y) ∙ e)
 
       -- ---- an id is found
       module _ (ids : List (Option I)) (positions : List ℕ) (indexed : IsIndexed number ids positions) (id : I) where
         at_slot : (p : ℕ) → has same id (get_or ids p None) ≡ true → IsAt positions (number id) p
-        at_slot p h = search (rules, true≢false, one_number)
+        at_slot p h = search (rules, true≢false)
 
         pub absent_beyond : length positions ≤ number id → is_in same id (listed ids) ≡ false
         absent_beyond past = grind (arith, common_steps, absent_slots, at_slot)
@@ -116,7 +105,3 @@ module _ {I : Type 0} where
       → ((p : ℕ) (x : I) → p < k → get_or ids p None ≡ Some x → IsAt positions (number x) p)
       → (p : ℕ) (x : I) → p < k + 1 → get_or ids p None ≡ Some x → IsAt positions (number x) p
   entries_same number ids positions k e before p x h f = grind (arith, common_steps, none-some)
-
-  -- ---- a slot is emptied
-  pub IsIndexed-left : (number : I → ℕ) (ids : List (Option I)) (positions : List ℕ) (i : ℕ) → IsIndexed number ids positions → IsIndexed number (set ids i None) positions
-  IsIndexed-left number ids positions i indexed p x e = indexed p x (was_there ids i p x e)

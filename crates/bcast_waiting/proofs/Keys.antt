@@ -1,5 +1,5 @@
 -- The set of the keys of a slab, after a change of one slot.
-use Rattle.std.proofs.Common.{◌≡◌, ℕ, zero, suc, ◌+◌, ◌<◌, Bool, true, false, cond, not, eqb, nat_eq, List, [], ◌∷◌, length, map, get_or, Option, Some, None, is_some, refl, sym, ap, ◌∙◌, zero-add, arith, eqb-true}
+use Rattle.std.proofs.Common.{◌≡◌, ℕ, zero, suc, ◌+◌, ◌<◌, Bool, true, false, cond, not, nat_eq, List, [], ◌∷◌, length, map, get_or, Option, Some, None, is_some, refl, sym, ap, ◌∙◌, zero-add, arith, eqb-true}
 use Rattle.std.proofs.lemmas.Grind.{common_steps}
 use Rattle.std.specs.Prelude.{◌||◌, ◌&&◌}
 use Rattle.std.specs.List.{list_any}
@@ -12,9 +12,6 @@ use Rattle.std.proofs.lemmas.List.{length-map}
 use Rattle.slab.specs.Slab.{Slab, get, slab_len, entries, entries_from, Updates}
 use Rattle.slab.proofs.SlabLemmas.{length-entries}
 use Rattle.bcast_waiting.specs.Keys.{key_of, keys_in}
-
-eqb_apart : (a b : ℕ) → a ≡ b → eqb a b ≡ false → ⊥
-eqb_apart a b e differ = grind (arith, e, differ)
 
 abbrev is_among : ℕ → List ℕ → Bool
 is_among q keys = list_any (λ y. nat_eq y q) keys
@@ -43,7 +40,7 @@ module _ {V : Type 0} where
 
   -- after a change of one slot
   seen_at : (old new : Slab V) (key : ℕ) (slot : Option V) → Updates old new key slot → (q : ℕ) → set.contains (keys_in new) q ≡ cond (eq_by_cmp nat_cmp q key) (is_some slot) (set.contains (keys_in old) q)
-  seen_at old new key slot updates q = grind (arith, common_steps, contains-keys_in, eqb-true, eqb_apart)
+  seen_at old new key slot updates q = grind (arith, common_steps, contains-keys_in, eqb-true)
 
   -- a filled slot puts its key into the set
   pub keys_in-filled : (old new : Slab V) (key : ℕ) (v : V) → Updates old new key (Some v) → keys_in new ≡ set.insert (keys_in old) key

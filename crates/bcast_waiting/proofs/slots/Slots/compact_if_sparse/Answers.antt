@@ -17,7 +17,7 @@ pub returns-clause-listed : goal.returns-clause-listed
 returns-clause-listed g c = ap (λ s. listed s.ids) c.compact.ensures ∙ listed_full (listed c.args.self.now.ids)
 
 pub returns-clause-told : goal.returns-clause-told
-returns-clause-told g c = grind (arith, common_steps, front_full, within)
+returns-clause-told g c = grind (arith, common_steps, within, front_full)
 
 pub returns-clause-within : goal.returns-clause-within
 returns-clause-within g c = grind (arith, common_steps, within, length-map)
