@@ -83,11 +83,6 @@ pub sum_lt : (top : ℕ) (ns : List ℕ) → 0 < top → ForSome (last_item (owe
 sum_lt top [] some last = omega (arith, some)
 sum_lt top (n ∷ ns) some last = omega (arith, last (0 + sum (n ∷ ns)) (last-owed_by 0 n ns))
 
--- the first message of a queue that is appended to is owed
-pub first_owed : (t n : ℕ) (ns : List ℕ) → AreCounted t ns → 0 < t + n → 0 < get_or (ns ++ n ∷ []) 0 0
-first_owed t n [] counted some = omega (arith, counted.summed, some)
-first_owed t n (m ∷ ns) counted some = counted.owed (omega arith)
-
 -- a message is owed by more readers than the one before it if some reader reads it next
 pub next_owed : (b i : ℕ) (ns : List ℕ) → suc i < length ns → get_or (owed_by b ns) (suc i) 0 ≡ get_or (owed_by b ns) i 0 + get_or ns (suc i) 0
 next_owed b i [] h = absurd (omega arith)

@@ -27,7 +27,7 @@ module _ {X : Type 0} where
     messages-popped rest after t e is = is.kept ∙ ap messages is.rest_is ∙ sym (drop-map message_of 1 ring.items) ∙ ap (λ p. drop 1 p.messages) seen
 
     owed-popped : (rest after : Buffer (Entry X)) (t : ℕ) (e : Entry X) → IsPopped ring rest after t e → owed_by 0 (counts after) ≡ drop 1 q.owed
-    owed-popped rest after t e is = grind (arith, common_steps, drop-map, owed_by-rest, next_at)
+    owed-popped rest after t e is = grind (arith, common_steps, drop-map, next_at, owed_by-rest)
 
     pub sound-popped : (rest after : Buffer (Entry X)) (t : ℕ) (e : Entry X) → IsPopped ring rest after t e → IsSound (front + 1) t room after
     sound-popped rest after t e is =

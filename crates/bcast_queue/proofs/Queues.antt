@@ -1,11 +1,11 @@
 -- What the calls of a queue do to what a contract sees of it.
-use Rattle.std.proofs.Common.{◌≡◌, ◌≢◌, ℕ, zero, suc, ◌+◌, ◌-◌, ◌<◌, ◌≤◌, ◌^◌, get_or, set, [], ◌∷◌, drop, length, List, slice_get, Some, refl, ap, arith, add-zero}
+use Rattle.std.proofs.Common.{◌≡◌, ◌≢◌, ℕ, zero, suc, ◌+◌, ◌-◌, ◌<◌, ◌≤◌, ◌^◌, get_or, [], ◌∷◌, drop, length, List, slice_get, Some, refl, ap, arith}
 use Rattle.std.proofs.lemmas.Grind.{common_steps}
 use Rattle.std.proofs.lemmas.List.{length-map}
 use Rattle.std.proofs.lemmas.Option.{slice_get-map}
 use Rattle.circular_buffer.specs.Buffer.{Buffer}
 use Rattle.bcast_queue.specs.declared.Entry.{Entry}
-use Rattle.bcast_queue.specs.Queue.{one_fewer_from, Queued, queue_with, without, without_reader, read_at}
+use Rattle.bcast_queue.specs.Queue.{one_fewer_from, Queued, queue_with, without_reader}
 use Rattle.bcast_queue.specs.Entries.{counts, messages, next_of, owed_by, queue_of, AreCounted, IsSound}
 use Rattle.bcast_queue.proofs.Owed.{RisesFrom, at_least}
 use Rattle.bcast_queue.proofs.Front.{none_gone}
@@ -19,11 +19,6 @@ fewer_at_end zero [] h = refl
 fewer_at_end zero (n ∷ ns) h = absurd (omega arith)
 fewer_at_end (suc i) [] h = refl
 fewer_at_end (suc i) (n ∷ ns) h = ap (λ ms. n ∷ ms) (fewer_at_end i ns (omega arith))
-
--- a message that one reader owes is the first
-once_is_first : (ns : List ℕ) (i : ℕ) → RisesFrom 1 ns → i < length ns → (0 < i → get_or ns (i - 1) 0 < get_or ns i 0) → get_or ns i 0 ≡ 1 → i ≡ 0
-once_is_first ns zero rises within before once = refl
-once_is_first ns (suc i) rises within before once = grind (arith, common_steps, at_least)
 
 module _ {X : Type 0} where
   pub same_queue : (a b : ℕ) (xs ys : List X) (ms ns : List ℕ) (r s : ℕ) → a ≡ b → xs ≡ ys → ms ≡ ns → r ≡ s → queue_with a xs ms r ≡ queue_with b ys ns s
@@ -55,14 +50,11 @@ module _ {X : Type 0} where
 
   -- a message that isn't the first is owed by several readers
   pub owed_more : (q : Queued X) (i : ℕ) → IsQueue q → i < length q.messages → (0 < i → get_or q.owed (i - 1) 0 < get_or q.owed i 0) → (i ≡ 0 → get_or q.owed i 0 ≢ 1) → 1 < get_or q.owed i 0
-  owed_more q i is within before other = grind (arith, common_steps, at_least, once_is_first)
-
-  without_none : (q : Queued X) (n : ℕ) → n ≡ 0 → without n q ≡ q
-  without_none q n is = rw (is, add-zero) refl
+  owed_more q i is within before other = grind (arith, common_steps, at_least)
 
   -- a reader leaves, and each message is still owed
   pub left_behind : (q : Queued X) (i : ℕ) (ns : List ℕ) → ns ≡ one_fewer_from i q.owed → RisesFrom 1 ns → queue_with q.front q.messages ns q.room ≡ without_reader i q
-  left_behind q i ns is rises = grind (arith, common_steps, without_none, none_gone)
+  left_behind q i ns is rises = grind (arith, common_steps, none_gone)
 
   -- a reader leaves, and the first k messages are dropped
   pub left_front : (q : Queued X) (i k : ℕ) (ns : List ℕ) → owed_by 0 ns ≡ one_fewer_from i q.owed → AreUnowed ns k → queue_with (q.front + k) (drop k q.messages) (owed_by 0 (drop k ns)) q.room ≡ without_reader i q
@@ -70,6 +62,3 @@ module _ {X : Type 0} where
 
   pub left_at_end : (q : Queued X) (i : ℕ) → IsQueue q → length q.messages ≤ i → q ≡ without_reader i q
   left_at_end q i is end = left_behind q i q.owed (fewer_at_end i q.owed (omega (arith, end, is.lengths))) is.rises
-
-  pub read_clone : (q : Queued X) (i : ℕ) (ns : List ℕ) → get_or q.owed i 0 ≢ 1 → ns ≡ set q.owed i (get_or q.owed i 0 - 1) → queue_with q.front q.messages ns q.room ≡ read_at i q
-  read_clone q i ns several is = grind (arith, common_steps)

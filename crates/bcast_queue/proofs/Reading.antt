@@ -7,7 +7,7 @@ use Rattle.bcast_queue.specs.Queue.{Queued, one_more_from, one_fewer_from, read_
 use Rattle.bcast_queue.specs.Entries.{counts, messages, next_of, message_of, owed_by, queue_of, IsSound}
 use Rattle.bcast_queue.proofs.Entries.{fewer, messages-set, taken}
 use Rattle.bcast_queue.proofs.OwedBy.{one_moves, first_left, get_or-owed_by}
-use Rattle.bcast_queue.proofs.Queues.{IsQueue-seen, sound-kept, read_clone, same_queue}
+use Rattle.bcast_queue.proofs.Queues.{IsQueue-seen, sound-kept, same_queue}
 
 module _ {X : Type 0} where
   -- a reader is taken away from the entry at this index, and added at the next one
@@ -43,4 +43,4 @@ module _ {X : Type 0} where
         (omega (arith, long, length-map after.items message_of, length-map ring.items message_of, sound.numbered)) (omega (arith, long)) moves.capacity
 
     pub read-moved : (after : Buffer (Entry X)) (t : ℕ) (e : Entry X) → MovesOn ring after i t e → queue_of front after room ≡ read_at i q
-    read-moved after t e moves = search (rules, same_queue, messages-moved, owed-moved, read_clone)
+    read-moved after t e moves = search (rules, same_queue, messages-moved, owed-moved)

@@ -1,5 +1,5 @@
 -- What a reader that leaves owes no more, and the messages at the front that no reader owes then.
-use Rattle.std.proofs.Common.{◌≡◌, ℕ, suc, ◌+◌, ◌<◌, List, [], ◌∷◌, length, drop, get_or, set, sum, Bool, true, false, cond, count_by, refl, ap, arith}
+use Rattle.std.proofs.Common.{◌≡◌, ℕ, ◌+◌, ◌<◌, List, [], ◌∷◌, length, drop, get_or, set, sum, Bool, true, false, cond, count_by, refl, arith}
 use Rattle.std.proofs.lemmas.Grind.{common_steps}
 use Rattle.std.specs.List.{prefix_len}
 use Rattle.std.proofs.lemmas.List.{get_or-set_other}
@@ -25,11 +25,8 @@ pub record AreUnowed (ns : List ℕ) (k : ℕ) : Type 0 where
   pub summed : sum (drop k ns) ≡ sum ns
   pub first : 0 < length (drop k ns) → 0 < get_or (drop k ns) 0 0
 
-drop_head : (k a b : ℕ) (ns : List ℕ) → a ≡ b → drop (suc k) (a ∷ owed_by a ns) ≡ drop k (owed_by b ns)
-drop_head k a b ns same = ap (λ m. drop k (owed_by m ns)) same
-
 AreUnowed-if : (n k : ℕ) (ns : List ℕ) → AreUnowed ns k → (b : Bool) → nobody n ≡ b → AreUnowed (n ∷ ns) (cond b (1 + k) 0)
-AreUnowed-if n k ns rest true is = grind (arith, common_steps, count_head, nobody, drop_head, sum_by-cons)
+AreUnowed-if n k ns rest true is = grind (arith, common_steps, count_head, nobody, sum_by-cons)
 AreUnowed-if n k ns rest false is =
     let some : 0 < n = grind (arith, is) in
     record {

@@ -57,7 +57,7 @@ pub invariant_of-self-else-index-eq0 : goal.invariant_of-self-else-index-eq0
 invariant_of-self-else-index-eq0 g c = grind (arith, common_steps, fewer, reader, sound-kept, length-map)
 
 pub returns-then-index-eq0-clause-left : goal.returns-then-index-eq0-clause-left
-returns-then-index-eq0-clause-left g c = search (rules, same_queue, left_front, fewer, reader, AreUnowed-front)
+returns-then-index-eq0-clause-left g c = search (rules, same_queue, fewer, reader, AreUnowed-front, left_front)
 
 pub returns-else-index-eq0-clause-left : goal.returns-else-index-eq0-clause-left
 returns-else-index-eq0-clause-left g c = grind (arith, common_steps, fewer, reader, same_queue, left_behind, RisesFrom-owed_by)

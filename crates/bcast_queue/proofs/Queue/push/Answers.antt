@@ -4,7 +4,7 @@ use Rattle.std.proofs.lemmas.Grind.{common_steps}
 use Rattle.std.proofs.lemmas.List.{map_push, length-map, length_push}
 use Rattle.std.proofs.lemmas.List.Sums.{sum_by_push}
 use Rattle.bcast_queue.specs.Entries.{counts}
-use Rattle.bcast_queue.proofs.OwedBy.{sum_le, owed_by-push, first_owed}
+use Rattle.bcast_queue.proofs.OwedBy.{sum_le, owed_by-push}
 use Rattle.bcast_queue.proofs.Queues.{same_queue}
 use Rattle.bcast_queue.proofs.Queue.push.Goals as goal
 
@@ -17,7 +17,7 @@ sum_is g c =
     omega (arith, enough, c.self.invariant.counted.summed)
 
 pub invariant_of-self : goal.invariant_of-self
-invariant_of-self g c = grind (arith, common_steps, length_push, map_push, sum_is, sum_by_push, first_owed, length-map)
+invariant_of-self g c = grind (arith, common_steps, length_push, map_push, sum_is, sum_by_push, length-map)
 
 pub returns-clause-pushed : goal.returns-clause-pushed
 returns-clause-pushed g c = grind (arith, common_steps, sum_is, same_queue, map_push, owed_by-push)
