@@ -1,5 +1,5 @@
 -- What an offered message does to the view.
-use Rattle.std.proofs.Common.{◌≡◌, ℕ, ◌+◌, ◌-◌, ◌<◌, ◌≤◌, ◌==◌, true, false, cond, List, [], ◌∷◌, length, max, nat_lt, refl, sym, ap, ◌∙◌, arith}
+use Rattle.std.proofs.Common.{◌≡◌, ℕ, ◌+◌, ◌-◌, ◌<◌, ◌≤◌, ◌==◌, true, false, cond, List, [], ◌∷◌, length, max, refl, sym, ap, ◌∙◌, arith}
 use Rattle.std.proofs.lemmas.Grind.{common_steps}
 use Rattle.std.specs.Prelude.{is_ok}
 use Rattle.std.specs.FinMap.{values}
@@ -8,13 +8,6 @@ use Rattle.bcast_model.specs.Words.{settle, with_message, with_messages, accept,
 use Rattle.bcast_model.specs.Words.{offer, try_broadcast_all_reply, accept_all}
 use Rattle.bcast_model.specs.Words.{offer_all}
 use Rattle.bcast_core.proofs.Settle.{settle_to, settle_same, least_raised, cursors-accepting}
-
--- whether a list has more messages than there is room for
-pub fits_room : (room count r n : ℕ) → r ≡ room → n ≡ count → n ≤ r → nat_lt room count ≡ false
-fits_room room count r n is same few = grind (arith, common_steps, is, same, few)
-
-pub exceeds_room : (room count r n : ℕ) → r ≡ room → n ≡ count → r < n → nat_lt room count ≡ true
-exceeds_room room count r n is same many = grind (arith, common_steps, is, same, many)
 
 -- the test whether two numbers are equal
 pub are_equal : (a b : ℕ) → a ≡ b → (a == b) ≡ true

@@ -12,7 +12,7 @@ use Rattle.bcast_model.specs.declared.run.Call.{Call}
 use Rattle.bcast_model.specs.declared.run.Call.TheVariants as call
 use Rattle.bcast_model.specs.declared.run.Reply.{Reply}
 use Rattle.bcast_model.specs.declared.run.Reply.TheVariants as reply
-use Rattle.bcast_model.specs.Words.{Pair, no_listeners, pair_waits}
+use Rattle.bcast_model.specs.Words.{Pair, pair_waits}
 use Rattle.bcast_model.specs.Words.{pair_answered, sets, effect, HasRange, IsValidView, IsReceived}
 use Rattle.bcast_model.specs.Words.{Legal, tell_if_ready, must_wait, IsOwed, cursor_of}
 use Rattle.bcast_model.specs.Words.{is_empty_reply, receive, receive_poll}
@@ -30,11 +30,6 @@ use Rattle.bcast_core.proofs.Receives.{poll_waits, settle_empty}
 use Rattle.bcast_core.proofs.Respelt.{IsTryRecv, does_poll}
 
 module _ {T : Type 0} where
-  -- while no receiver waits, a poll that finds something does what a receive does
-  poll_is_receive : (v : View T) (pair : Pair) (at : Option ℕ) → (receive v pair.0 at).waiting_receives ≡ no_listeners → is_empty_reply (try_recv_reply v at) ≡ false
-      → settle v (sets (receive v pair.0 at)) ≡ settle v (sets (receive_poll v pair at))
-  poll_is_receive v pair at none found = grind (arith, common_steps)
-
   -- one that finds nothing waits
   pub poll_listens : (v mid new : View T) (pair : Pair) (at : Option ℕ) → IsValidView v → is_empty_reply (try_recv_reply v at) ≡ true
       → mid ≡ settle v (sets (receive v pair.0 at)) → new ≡ record mid { control = pair_waits mid.control pair }
@@ -48,7 +43,7 @@ module _ {T : Type 0} where
   pub poll_nobody : (v new : View T) (pair : Pair) (at : Option ℕ) → NobodyWaits new.control → is_empty_reply (try_recv_reply v at) ≡ false
       → new ≡ settle v (sets (receive v pair.0 at))
       → new ≡ tell_if_ready true (settle v (sets (receive_poll v pair at)))
-  poll_nobody v new pair at alone found is = grind (arith, common_steps, told_none, poll_is_receive)
+  poll_nobody v new pair at alone found is = grind (arith, common_steps, told_none)
 
   -- and otherwise the listener is taken out too
   pub poll_found : (v mid new : View T) (pair : Pair) (at : Option ℕ) → is_empty_reply (try_recv_reply v at) ≡ false

@@ -6,11 +6,8 @@ use Rattle.std.specs.Ordering.{nat_cmp, eq_by_cmp}
 use Rattle.std.specs.Cmp.{nat_cmp_total, unsigned_tied}
 use Rattle.std.specs.FinMap.{nat_cmp-IsAntisymmetric, get, insert, remove, empty, values, get-empty, get-insert, get-remove, same_map}
 use Rattle.bcast_model.specs.Words.{Cursors, least}
-use Rattle.bcast_model.specs.declared.listener.Kind.{Kind}
-use Rattle.bcast_model.specs.declared.listener.Kind.TheVariants as kind
 use Rattle.bcast_model.proofs.Tests.{test_place}
 use Rattle.bcast_store.specs.Stored.{Stored, end_of, with_cursors}
-use Rattle.bcast_waiting.specs.Number.{pair_number}
 use Rattle.bcast_core.specs.Parts.{HaveRoom}
 
 pub some_and : (P : ℕ → Type 0) (o : Option ℕ) → IsSomeAnd o P → is_some o ≡ true
@@ -19,11 +16,6 @@ some_and P (Some cursor) p = refl
 
 same_key : (q key : ℕ) → eq_by_cmp nat_cmp q key ≡ true → q ≡ key
 same_key q key e = test_place.no q key (sym (unsigned_tied q key) ∙ e)
-
--- there is room for either listener
-pub pair_fits : (key : ℕ) (k : Kind) (room : ℕ) → 2 * key + 1 < room → pair_number (key, k) < room
-pair_fits key kind.Stream room own = omega (arith, own)
-pair_fits key kind.Future room own = own
 
 -- without receivers no room is needed
 pub room_empty : (room : ℕ) → HaveRoom empty room

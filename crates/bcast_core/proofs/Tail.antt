@@ -5,7 +5,7 @@ use Rattle.std.proofs.lemmas.Grind.{common_steps}
 use Rattle.std.specs.FinMap.{len}
 use Rattle.bcast_model.specs.declared.run.Call.{Call}
 use Rattle.bcast_model.specs.declared.run.Reply.{Reply}
-use Rattle.bcast_model.specs.Words.{Listeners, no_listeners, tell, Pair, Cursors}
+use Rattle.bcast_model.specs.Words.{no_listeners, Pair, Cursors}
 use Rattle.bcast_model.specs.Words.{tell_a_sender, pair_waits, effect, HasRange, IsValidView}
 use Rattle.bcast_model.specs.Words.{may_tell, tell_if_ready, Steps}
 use Rattle.bcast_model.specs.Words.{settle, View, sends_are_ready, Answers, IsShown}
@@ -17,10 +17,6 @@ use Rattle.bcast_core.specs.Parts.{Does}
 use Rattle.bcast_core.specs.Telling.{tell_news}
 pub use Rattle.bcast_core.proofs.Does.{valid_shown, does_begin, does_resize, does_sets}
 
--- if one is told already, telling one changes nothing
-told_one : (l : Listeners ℕ) → OneIsTold l → tell 1 l ≡ l
-told_one l told = grind (arith, common_steps)
-
 module _ {T : Type 0} where
   -- no send is told if none waits
   pub told_none : (v : View T) (may : Bool) → v.control.waiting_sends ≡ no_listeners → tell_if_ready may v ≡ v
@@ -29,7 +25,7 @@ module _ {T : Type 0} where
   -- so every call may tell one last: if it needn't, one is told already, or sends are not ready
   tell_once : (may : Bool) (w : View T) → (may ≡ false → sends_are_ready w ≡ true → OneIsTold w.control.waiting_sends) → tell_if_ready true w ≡ tell_if_ready may w
   tell_once true w told = refl
-  tell_once false w told = grind (arith, common_steps, told_one)
+  tell_once false w told = grind (arith, common_steps)
 
   -- in a valid state no further send is told
   pub told_valid : (v : View T) → IsValidView v → tell_if_ready true v ≡ v

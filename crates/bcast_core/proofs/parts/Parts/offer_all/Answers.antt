@@ -1,6 +1,6 @@
 use Rattle.std.proofs.Common.{arith}
 use Rattle.std.proofs.lemmas.Grind.{common_steps}
-use Rattle.bcast_core.proofs.Offers.{fits_room, exceeds_room, not_zero, offer_all_accepted, offer_all_nothing, offer_all_refused}
+use Rattle.bcast_core.proofs.Offers.{not_zero, offer_all_accepted, offer_all_nothing, offer_all_refused}
 use Rattle.bcast_core.proofs.Tail.{no_news, some_news}
 use Rattle.bcast_core.proofs.parts.Parts.offer_all.Goals as goal
 
@@ -14,7 +14,7 @@ pub returns-then-is_empty-clause-effect : goal.returns-then-is_empty-clause-effe
 returns-then-is_empty-clause-effect g c = grind (arith, common_steps, no_news, offer_all_nothing)
 
 pub returns-then-free_room-len-clause-effect : goal.returns-then-free_room-len-clause-effect
-returns-then-free_room-len-clause-effect g c = grind (arith, common_steps, exceeds_room, no_news, offer_all_refused)
+returns-then-free_room-len-clause-effect g c = grind (arith, common_steps, no_news, offer_all_refused)
 
 pub returns-clause-effect : goal.returns-clause-effect
-returns-clause-effect g c = grind (arith, common_steps, fits_room, not_zero, some_news, offer_all_accepted)
+returns-clause-effect g c = grind (arith, common_steps, not_zero, some_news, offer_all_accepted)
