@@ -1,5 +1,5 @@
 -- A receiver is added.
-use Rattle.std.proofs.Common.{◌-◌, ap, ◌∙◌, arith}
+use Rattle.std.proofs.Common.{ap, ◌∙◌, arith}
 use Rattle.std.proofs.lemmas.Grind.{common_steps}
 use Rattle.std.specs.FinMap.{len}
 use Rattle.bcast_store.proofs.Owing.{len_joined}

@@ -1,5 +1,5 @@
 -- A receiver leaves, and owes no message any more.
-use Rattle.std.proofs.Common.{◌-◌, arith, rules}
+use Rattle.std.proofs.Common.{arith, rules}
 use Rattle.std.proofs.lemmas.Grind.{common_steps}
 use Rattle.bcast_store.proofs.Owing.{remove-absent}
 use Rattle.bcast_store.proofs.Messages.{same_sound, same_store}

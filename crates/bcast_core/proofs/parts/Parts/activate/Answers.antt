@@ -1,4 +1,4 @@
-use Rattle.std.proofs.Common.{◌-◌, inl, inr, not, Err, refl, sym, ap, ◌∙◌, arith}
+use Rattle.std.proofs.Common.{inl, inr, not, Err, refl, sym, ap, ◌∙◌, arith}
 use Rattle.std.proofs.lemmas.Grind.{common_steps}
 use Rattle.bcast_model.specs.declared.run.Reply.TheVariants as reply
 use Rattle.bcast_core.proofs.Does.{does_nothing}

@@ -1,7 +1,6 @@
 -- A receiver stays if there is room for its listeners, and else is removed at once.
 use Rattle.std.proofs.Common.{◌≡◌, sym, ◌∙◌, subst, arith}
 use Rattle.std.proofs.lemmas.Grind.{common_steps}
-use Rattle.std.specs.FinMap.{remove}
 use Rattle.bcast_store.specs.Stored.{Stored}
 use Rattle.bcast_core.specs.Parts.{HaveRoom, control_of, seen_of}
 use Rattle.bcast_core.proofs.Settle.{inserted}

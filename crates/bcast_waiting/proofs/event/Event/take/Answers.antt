@@ -1,5 +1,5 @@
 -- The slot of the listener is emptied.
-use Rattle.std.proofs.Common.{◌≡◌, ◌<◌, ◌≤◌, ◌-◌, true, cond, Some, ltb, sym, ap, ◌∙◌, subst, arith, rules}
+use Rattle.std.proofs.Common.{◌≡◌, ◌<◌, ◌≤◌, ◌-◌, cond, Some, ltb, sym, ap, ◌∙◌, subst, arith, rules}
 use Rattle.std.proofs.lemmas.Grind.{common_steps}
 use Rattle.bcast_model.specs.Listeners.{consume}
 use Rattle.bcast_waiting.specs.Words.{Event, is_told, listeners_of, IsKept}
