@@ -1,4 +1,3 @@
 mod Answered
 mod Lists
-mod Refused
 mod TopicsLemmas

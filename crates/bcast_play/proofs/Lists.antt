@@ -86,10 +86,6 @@ pub read_on : (o : Option Opening) → is_some o ≡ true → (old new : Collect
 read_on None some old new line is = absurd (false≢true some)
 read_on (Some x) some old new line is = is
 
-pub ok_part : {X F : Type 0} (r : Result X F) (x : X) (Q : Type 0) → r ≡ Ok x → OnOk r Q → Q
-ok_part (Ok y) x Q is h = h
-ok_part (Err e) x Q is h = absurd (cc)
-
 pub refused_on : (o : Option Opening) → is_some o ≡ true → (line : List ℕ) → AsksForNone line → MatchOption (option_map named_by o) (OpensNone line) (λ _. AsksForNone line)
 refused_on None some line is = absurd (false≢true some)
 refused_on (Some x) some line is = is
@@ -99,19 +95,14 @@ stays_open None old line new named is = ap (λ c. is_some c.opening) named.same
 stays_open (Some x) old line new (inl added) is = ap is_some added.opening ∙ ap is_some (sym is)
 stays_open (Some x) old line new (inr skipped) is = ap (λ c. is_some c.opening) skipped.same ∙ ap is_some (sym is)
 
-opened_after : (s : Collected) (lines : List (List ℕ)) (text : List ℕ) (t : Collected) → AreAnswered IsCollected s lines text t → is_some s.opening ≡ true → is_some t.opening ≡ true
-opened_after s [] text t (none, same) some = ap (λ c. is_some c.opening) same ∙ some
+opened_after : (s : Collected) (lines : List (List ℕ)) (text : List ℕ) (t : Collected) → AreAnswered IsCollected s lines text t → (length lines ≡ 0 → is_some s.opening ≡ true) → is_some t.opening ≡ true
+opened_after s [] text t (none, same) some = ap (λ c. is_some c.opening) same ∙ some refl
 opened_after s (line ∷ lines) text t (next, answer, rest, one, more, is) some =
-    opened_after next lines rest t more (stays_open s.opening s line next one.1 refl)
-
-opened_by : (s : Collected) (lines : List (List ℕ)) (text : List ℕ) (t : Collected) → AreAnswered IsCollected s lines text t → (length lines ≡ 0 → false ≡ true) → is_some t.opening ≡ true
-opened_by s [] text t run some = absurd (false≢true (some refl))
-opened_by s (line ∷ lines) text t (next, answer, rest, one, more, is) some =
-    opened_after next lines rest t more (stays_open s.opening s line next one.1 refl)
+    opened_after next lines rest t more (λ _. stays_open s.opening s line next one.1 refl)
 
 -- a trace that was read to its end has a line 1
 pub run_opened : {longest : ℕ} {input before mid : Option (List ℕ)} {s t : Collected} → IsRun IsNoListLine false longest IsCollected input before mid s t Done → is_some t.opening ≡ true
 run_opened run =
     let end = run.done refl in
     ap (λ c. is_some c.opening) end.1
-    ∙ opened_by _ run.answered.lines run.answered.text run.last run.answered.answered (λ none. end.2 (sym run.answered.count ∙ none))
+    ∙ opened_after _ run.answered.lines run.answered.text run.last run.answered.answered (λ none. absurd (false≢true (end.2 (sym run.answered.count ∙ none))))

@@ -2,21 +2,17 @@
 use Rattle.std.proofs.Common.{◌≡◌, ◌≢◌, inl, inr, ⊎_elim, arith, List, ℕ, Bool, true, false, Option, Some, None, cond, refl, sym, is_some}
 use Rattle.std.specs.Option.{option_map}
 use Rattle.std.proofs.lemmas.Bool.{true≢false}
-use Rattle.std.proofs.lemmas.List.Elements.{All-get_or}
-use Rattle.bcast_text.proofs.Spaced.{Lacks, is_plain, plain_space}
+use Rattle.std.proofs.lemmas.List.Elements.{All-weaker}
+use Rattle.bcast_text.proofs.Spaced.{Lacks}
 use Rattle.topics.specs.Name.{IsName, IsNameByte}
 use Rattle.topics.specs.Request.{IsAnswerTo}
 use Rattle.topics.specs.declared.request.Answer.TheVariants as answer
 use Rattle.bcast_model.specs.declared.run.Call.{Call}
-use Rattle.bcast_play.specs.TopicsLine.{word_of}
-use Rattle.bcast_play.specs.declared.hub.line.Line.{Line}
-use Rattle.bcast_play.specs.declared.hub.line.Line.TheVariants.{Open}
 
 -- a topic's name has no space
 pub topic_space : (word : List ℕ) → IsName word → Lacks 32 word
-topic_space word is i below e =
-    ⊎_elim (λ h. omega (arith, h, e)) (λ more. ⊎_elim (λ h. omega (arith, h, e)) (λ h. omega (arith, h, e)) more)
-    (All-get_or IsNameByte word i 0 below is.2)
+topic_space word is =
+    All-weaker IsNameByte (λ c. c ≢ 32) (λ c named e. ⊎_elim (λ h. omega (arith, h, e)) (λ more. ⊎_elim (λ h. omega (arith, h, e)) (λ h. omega (arith, h, e)) more) named) word is.2
 
 pub map_cond : {X Y : Type 0} (f : X → Y) (b : Bool) (o p : Option X) → option_map f (cond b o p) ≡ cond b (option_map f o) (option_map f p)
 map_cond f true o p = refl

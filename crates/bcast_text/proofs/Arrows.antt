@@ -1,22 +1,19 @@
 -- The text before the first arrow of a line.
-use Rattle.std.proofs.Common.{◌≡◌, ◌≢◌, ◌<◌, ◌≤◌, inl, inr, ℕ, suc, zero, List, [], ◌∷◌, ◌++◌, codes, length, length-append, get_or, drop, refl, sym, ap, ◌∙◌, append-nil, arith}
+use Rattle.std.proofs.Common.{◌≡◌, ◌≢◌, ◌<◌, ◌≤◌, inl, inr, ⊎_elim, ℕ, List, [], ◌∷◌, ◌++◌, codes, length, length-append, get_or, drop, refl, sym, ap, ◌∙◌, append-nil, arith}
+use Rattle.std.proofs.lemmas.Bool.{cases_lt}
 use Rattle.std.proofs.lemmas.List.{drop_at}
+use Rattle.std.proofs.lemmas.List.Elements.{All-tail}
 use Rattle.bcast_text.specs.TraceLine.{IsBeforeArrow}
 use Rattle.bcast_text.proofs.Spaced.{Lacks}
-
-le_unless : (i n : ℕ) → (n < i → ⊥) → i ≤ n
-le_unless zero n not = omega arith
-le_unless (suc i) zero not = absurd (not (omega arith))
-le_unless (suc i) (suc n) not = omega (arith, le_unless i n (λ below. not (omega (arith, below))))
 
 same_front : (r t s u : List ℕ) → Lacks 45 t → length r ≤ length t → r ++ 32 ∷ 45 ∷ s ≡ t ++ u → get_or u 0 32 ≡ 32 → r ≡ t
 same_front [] [] s u none short same starts = refl
 same_front [] (x ∷ []) s [] none short same starts = absurd (omega (arith, ap length same))
 same_front [] (x ∷ []) s (y ∷ u) none short same starts = absurd (omega (arith, ap (λ l. get_or l 1 0) same, starts))
-same_front [] (x ∷ y ∷ t) s u none short same starts = absurd (none 1 (omega arith) (sym (ap (λ l. get_or l 1 0) same)))
+same_front [] (x ∷ y ∷ t) s u none short same starts = absurd (none 1 0 (omega arith) (sym (ap (λ l. get_or l 1 0) same)))
 same_front (a ∷ r) [] s u none short same starts = absurd (omega (arith, short))
 same_front (a ∷ r) (b ∷ t) s u none short same starts =
-    let rest = same_front r t s u (λ i below. none (suc i) (omega (arith, below))) (omega (arith, short)) (ap (drop 1) same) starts in
+    let rest = same_front r t s u (All-tail (λ x. x ≢ 45) b t none) (omega (arith, short)) (ap (drop 1) same) starts in
     ap (λ l. a ∷ l) rest ∙ ap (λ x. x ∷ t) (ap (λ l. get_or l 0 0) same)
 
 -- a text without a hyphen that is before an arrow is the text before the first arrow
@@ -31,4 +28,5 @@ pub not_before : (text line : List ℕ) (i : ℕ) → IsBeforeArrow text line �
     → ((k : ℕ) → k < i → (rest : List ℕ) → drop k line ≢ codes " -> " ++ rest) → i ≤ length text
 not_before text line i (inl is) within none = omega (arith, ap length is, within)
 not_before text line i (inr (rest, is)) within none =
-    le_unless i (length text) (λ below. none (length text) below rest (ap (drop (length text)) is ∙ drop_at text (codes " -> " ++ rest) (length text) refl))
+    ⊎_elim (λ below. absurd (none (length text) below rest (ap (drop (length text)) is ∙ drop_at text (codes " -> " ++ rest) (length text) refl)))
+    (λ past. past) (cases_lt (length text) i)

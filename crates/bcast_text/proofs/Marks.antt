@@ -12,40 +12,31 @@ use Rattle.bcast_text.specs.Order.{IsMarked, HoldsEachOnce, IsOneOrder}
 abbrev pub with_mark : List Bool → ℕ → List Bool
 with_mark marks n = slice_set marks n true
 
-stays : (marks : List Bool) (x n : ℕ) → n < length marks → IsMarked marks n → IsMarked (with_mark marks x) n
-stays marks x n within m =
-    ⊎_elim (λ same. get_or-set_at marks x n true false same.1 (rw (← same.1) within))
-    (λ other. get_or-set_other marks x n true false other.1 ∙ m) (eqb_tells n x)
+-- a place is marked after one more number if it was before, or if it has that number
+one_more : (marks : List Bool) (x n : ℕ) → n < length marks → IsMarked (with_mark marks x) n ↔ (IsMarked marks n ⊎ (n ≡ x))
+one_more marks x n within =
+    ⊎_elim (λ same. (λ _. inr same.1, λ _. get_or-set_at marks x n true false same.1 (rw (← same.1) within)))
+    (λ other. let kept = get_or-set_other marks x n true false other.1 in
+    (λ m. inl (sym kept ∙ m), λ o. ⊎_elim (λ m. kept ∙ m) (λ same. absurd (other.1 same)) o)) (eqb_tells n x)
 
-was : (marks : List Bool) (x n : ℕ) → IsMarked (with_mark marks x) n → IsMarked marks n ⊎ (n ≡ x)
-was marks x n m =
-    ⊎_elim (λ same. inr same.1) (λ other. inl (sym (get_or-set_other marks x n true false other.1) ∙ m)) (eqb_tells n x)
-
-marked_if : (list : List ℕ) (marks : List Bool) (n : ℕ) → n < length marks → IsMarked marks n ⊎ Contains list n → IsMarked (fold with_mark marks list) n
-marked_if [] marks n within (inl m) = m
-marked_if [] marks n within (inr (k, below, is)) = absurd (omega (arith, below))
-marked_if (x ∷ xs) marks n within (inl m) =
-    marked_if xs (with_mark marks x) n (rw (length-set marks x true) within) (inl (stays marks x n within m))
-marked_if (x ∷ xs) marks n within (inr (zero, below, is)) =
-    marked_if xs (with_mark marks x) n (rw (length-set marks x true) within) (inl (get_or-set_at marks x n true false (sym is) (rw is within)))
-marked_if (x ∷ xs) marks n within (inr (suc k, below, is)) =
-    marked_if xs (with_mark marks x) n (rw (length-set marks x true) within) (inr (k, omega (arith, below), is))
-
-if_marked : (list : List ℕ) (marks : List Bool) (n : ℕ) → IsMarked (fold with_mark marks list) n → IsMarked marks n ⊎ Contains list n
-if_marked [] marks n m = inl m
-if_marked (x ∷ xs) marks n m = go (if_marked xs (with_mark marks x) n m)
+-- one more number at the front of the list
+one_before : {before after all : Type 0} (x : ℕ) (xs : List ℕ) (n : ℕ) → after ↔ (before ⊎ (n ≡ x)) → all ↔ (after ⊎ Contains xs n) → all ↔ (before ⊎ Contains (x ∷ xs) n)
+one_before {before} {after} {all} x xs n one rest = (λ a. to (rest.0 a), from)
   where
-    one : IsMarked marks n ⊎ (n ≡ x) → IsMarked marks n ⊎ Contains (x ∷ xs) n
-    one (inl before) = inl before
-    one (inr same) = inr (zero, omega arith, sym same)
+    to : after ⊎ Contains xs n → before ⊎ Contains (x ∷ xs) n
+    to (inl now) = ⊎_elim (λ m. inl m) (λ same. inr (zero, omega arith, sym same)) (one.0 now)
+    to (inr (k, below, is)) = inr (suc k, omega (arith, below), is)
 
-    go : IsMarked (with_mark marks x) n ⊎ Contains xs n → IsMarked marks n ⊎ Contains (x ∷ xs) n
-    go (inl now) = one (was marks x n now)
-    go (inr (k, below, is)) = inr (suc k, omega (arith, below), is)
+    from : before ⊎ Contains (x ∷ xs) n → all
+    from (inl m) = rest.1 (inl (one.1 (inl m)))
+    from (inr (zero, below, is)) = rest.1 (inl (one.1 (inr (sym is))))
+    from (inr (suc k, below, is)) = rest.1 (inr (k, omega (arith, below), is))
 
 -- a place is marked if it was before, or if its number is in the list
 pub marked : (list : List ℕ) (marks : List Bool) (n : ℕ) → n < length marks → IsMarked (fold with_mark marks list) n ↔ (IsMarked marks n ⊎ Contains list n)
-marked list marks n within = (if_marked list marks n, marked_if list marks n within)
+marked [] marks n within = (λ m. inl m, λ o. ⊎_elim (λ m. m) (λ h. absurd (omega (arith, h.1))) o)
+marked (x ∷ xs) marks n within =
+    one_before x xs n (one_more marks x n within) (marked xs (with_mark marks x) n (rw (length-set marks x true) within))
 
 pub marked_whole : (list : List ℕ) (marks now : List Bool) (i : ℕ) → length list ≤ i → now ≡ fold with_mark marks (take i list)
     → (n : ℕ) → n < length marks → IsMarked now n ↔ (IsMarked marks n ⊎ Contains list n)

@@ -1,5 +1,5 @@
 -- Texts of several numbers.
-use Rattle.std.proofs.Common.{◌≡◌, ◌≢◌, ◌<◌, ◌^◌, ℕ, List, [], ◌∷◌, ◌++◌, Some, None, Bor, sym, ap, ◌∙◌, arith, append_assoc}
+use Rattle.std.proofs.Common.{◌≡◌, ◌≢◌, ◌<◌, ◌^◌, ℕ, List, [], ◌∷◌, ◌++◌, Option, Some, Bor, sym, ap, ◌∙◌, arith, append_assoc}
 use Rattle.std.specs.Fmt.{decimal}
 use Rattle.std.specs.List.{AllByRecursion}
 use Rattle.std.proofs.lemmas.Fmt.{decimal_injective}
@@ -7,7 +7,7 @@ use Rattle.std.proofs.lemmas.Option.{none-some, same_Some}
 use Rattle.std.proofs.lemmas.Str.Pattern.{IsSplitOnceResult, split_parts}
 use Rattle.bcast_model.proofs.Lists.{all_append}
 use Rattle.bcast_text.specs.Words.{spaced, numbers_text, IsU64}
-use Rattle.bcast_text.proofs.Spaced.{at_none, at_some, Lacks-decimal}
+use Rattle.bcast_text.proofs.Spaced.{Lacks, at_some, Lacks-decimal}
 
 -- the numbers that were read of a text, and what is left of it
 pub record AreRead (text : List ℕ) (msgs : List ℕ) (rest : List ℕ) : Type 0 where
@@ -38,20 +38,12 @@ one_read text msgs rest x n small split is read =
         let number : m ≡ n = decimal_injective m n fits.0 small (sym at.0 ∙ is) in
         (more, same ∙ ap (λ k. msgs ++ k ∷ more) number ∙ sym (append_assoc msgs (n ∷ []) more), fits.1, at.1)
 
--- a word that is not a number
-pub none_before : (text msgs rest : List ℕ) (x : Bor (List ℕ) × Bor (List ℕ)) → IsSplitOnceResult 32 rest (Some x) → ((n : ℕ) → n < 2 ^ 64 → x.0.now ≢ decimal n)
+-- no numbers spell the text if the next word, whatever follows it, is not a number
+pub none_if : (text msgs rest word : List ℕ) → ((n : ℕ) → n < 2 ^ 64 → word ≢ decimal n)
+    → ((n : ℕ) (more : Option (List ℕ)) → Lacks 32 (decimal n) → rest ≡ spaced (decimal n) more → word ≡ decimal n)
     → AreRead text msgs rest → (all : List ℕ) → AllByRecursion IsU64 all → numbers_text all ≢ Some text
-none_before text msgs rest x split refused read all fits spelt = stop (read.only all fits spelt)
+none_if text msgs rest word refused first read all fits spelt = stop (read.only all fits spelt)
   where
     stop : (more : List ℕ) × (all ≡ msgs ++ more) × AllByRecursion IsU64 more × (numbers_text more ≡ Some rest) → ⊥
     stop ([], same, fits, spelt) = absurd (none-some rest spelt)
-    stop (m ∷ more, same, fits, spelt) = refused m fits.0 (at_some rest x split (decimal m) (numbers_text more) (Lacks-decimal 32 m (omega arith) fits.0) (sym (same_Some _ _ spelt))).0
-
--- a last word that is not a number
-pub none_last : (text msgs rest : List ℕ) → IsSplitOnceResult 32 rest None → ((n : ℕ) → n < 2 ^ 64 → rest ≢ decimal n)
-    → AreRead text msgs rest → (all : List ℕ) → AllByRecursion IsU64 all → numbers_text all ≢ Some text
-none_last text msgs rest split refused read all fits spelt = stop (read.only all fits spelt)
-  where
-    stop : (more : List ℕ) × (all ≡ msgs ++ more) × AllByRecursion IsU64 more × (numbers_text more ≡ Some rest) → ⊥
-    stop ([], same, fits, spelt) = absurd (none-some rest spelt)
-    stop (m ∷ more, same, fits, spelt) = refused m fits.0 (at_none rest split (decimal m) (numbers_text more) (Lacks-decimal 32 m (omega arith) fits.0) (sym (same_Some _ _ spelt))).1
+    stop (m ∷ more, same, fits, spelt) = refused m fits.0 (first m (numbers_text more) (Lacks-decimal 32 m (omega arith) fits.0) (sym (same_Some _ _ spelt)))

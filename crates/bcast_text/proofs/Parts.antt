@@ -2,16 +2,13 @@
 use Rattle.std.proofs.Common.{◌≡◌, ◌≢◌, ◌<◌, ◌-◌, inl, inr, ℕ, List, [], ◌∷◌, ◌++◌, All, OnSome, Option, Some, None, length, length-append, drop, refl, sym, ap, subst, ◌∙◌, arith, get_or}
 use Rattle.std.proofs.Math.Seq.{get_or-append_right}
 use Rattle.std.proofs.lemmas.List.Elements.{All-append}
-use Rattle.std.proofs.KnownBytes.{starts_with_rest, Consumes-trans}
+use Rattle.std.proofs.KnownBytes.{starts_with_rest}
 use Rattle.std.proofs.Transfers.{StopsAt-append}
 use Rattle.std.specs.Io.{StartsWith, StopsAt, IsEmptyOrEndsWith}
 use Rattle.std.specs.Io.KnownBytes.{Consumes, IsAtEnd}
 use Rattle.bcast_text.specs.Lines.{EndsOrIsLast}
 
 module _ (old new : List ℕ) (front : StartsWith new old) where
-  pub Consumes_both : (a b c : Option (List ℕ)) → Consumes a b old → Consumes b c (drop (length old) new) → Consumes a c new
-  Consumes_both a b c p q = subst (Consumes a c) (sym (starts_with_rest new old front)) (Consumes-trans a b c _ _ p q)
-
   pub StopsAt_both : All (λ x. x ≢ 10) old → StopsAt (drop (length old) new) 10 → StopsAt new 10
   StopsAt_both none stops = subst (λ l. StopsAt l 10) (sym (starts_with_rest new old front)) (StopsAt-append old _ 10 none stops)
 

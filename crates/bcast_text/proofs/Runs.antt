@@ -27,10 +27,6 @@ kept_before (Some a) None z text same wrote = absurd same
 kept_before (Some a) (Some b) None text same wrote = absurd wrote
 kept_before (Some a) (Some b) (Some c) text same wrote = wrote ∙ ap (λ l. l ++ text) same
 
-pub Keeps-same : (x : Option (List ℕ)) → Keeps x x
-Keeps-same None = tt
-Keeps-same (Some a) = refl
-
 module _ {S : Type 0} (answers : S → List ℕ → List ℕ → S → Type 0) where
   answered_both : (s t u : S) (xs ys : List (List ℕ)) (x y : List ℕ) → AreAnswered answers s xs x t → AreAnswered answers t ys y u
       → AreAnswered answers s (xs ++ ys) (x ++ y) u

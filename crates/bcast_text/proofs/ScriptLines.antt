@@ -4,10 +4,10 @@ use Rattle.std.proofs.lemmas.Option.{none-some}
 use Rattle.bcast_text.specs.declared.script.line.Line.{Line}
 use Rattle.bcast_text.specs.declared.script.line.Line.TheVariants.{Cap, SendAll}
 use Rattle.bcast_text.specs.ScriptLine.{word_of, arguments_of, IsInForm}
-use Rattle.bcast_text.proofs.Spaced.{is_plain}
+use Rattle.bcast_text.proofs.Spaced.{lacks}
 
 -- no word has a space
-pub plain_word : (line : Line) → is_plain (word_of line) ≡ true
+pub plain_word : (line : Line) → lacks 32 (word_of line) ≡ true
 plain_word (Cap n) = refl
 plain_word line = refl
 

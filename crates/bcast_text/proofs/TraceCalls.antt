@@ -1,23 +1,23 @@
 -- The names and arguments of calls.
-use Rattle.std.proofs.Common.{◌≡◌, ◌≢◌, ◌<◌, ◌^◌, ◌∷◌, [], ℕ, List, Bool, true, false, Option, Some, None, IfSome, codes, refl, arith}
+use Rattle.std.proofs.Common.{◌≡◌, ◌≢◌, ◌<◌, ◌^◌, ◌∷◌, ◌++◌, [], ℕ, List, Bool, true, false, Option, Some, None, IfSome, codes, refl, arith}
 use Rattle.std.specs.Prelude.{option_map}
 use Rattle.std.specs.Fmt.{decimal}
 use Rattle.std.specs.List.{AllByRecursion}
 use Rattle.std.proofs.lemmas.Option.{none-some}
+use Rattle.std.proofs.lemmas.List.Elements.{All-append}
 use Rattle.bcast_model.specs.declared.run.Call.{Call}
 use Rattle.bcast_model.specs.declared.run.Call.TheVariants.{TryBroadcast, TryBroadcastAll, PollSend, SetCapacity, SetOverflow, SetAwaitActive}
 use Rattle.bcast_text.specs.Words.{numbers_text, bool_text, IsU64}
 use Rattle.bcast_text.specs.TraceCall.{name_of, number_of, arguments_of, text_of, IsInRange}
-use Rattle.bcast_text.proofs.Spaced.{Lacks, Lacks-nil, Lacks-cons, Lacks-append, Lacks-decimal, Lacks-spaced, is_plain, plain_hyphen}
+use Rattle.bcast_text.proofs.Spaced.{Lacks, Lacks-test, Lacks-decimal, Lacks-spaced, lacks}
 
--- no name has a space or a hyphen
-pub plain_name : (call : Call ℕ) → is_plain (name_of call) ≡ true
-plain_name (TryBroadcast msg) = refl
-plain_name call = refl
+name_hyphen : (call : Call ℕ) → lacks 45 (name_of call) ≡ true
+name_hyphen (TryBroadcast msg) = refl
+name_hyphen call = refl
 
 flag_hyphen : (on : Bool) → Lacks 45 (bool_text on)
-flag_hyphen true = plain_hyphen (bool_text true) refl
-flag_hyphen false = plain_hyphen (bool_text false) refl
+flag_hyphen true = Lacks-test 45 (bool_text true) refl
+flag_hyphen false = Lacks-test 45 (bool_text false) refl
 
 numbers_hyphen : (msgs : List ℕ) → AllByRecursion IsU64 msgs → IfSome (numbers_text msgs) (Lacks 45)
 numbers_hyphen [] range = tt
@@ -29,7 +29,9 @@ number_hyphen (Some n) range = Lacks-decimal 45 n (omega arith) range
 
 arguments_hyphen : (call : Call ℕ) → IsInRange call → IfSome (arguments_of call) (Lacks 45)
 arguments_hyphen (TryBroadcastAll msgs) range = numbers_hyphen msgs range
-arguments_hyphen (PollSend place msg) range = Lacks-append 45 _ (decimal msg) (Lacks-append 45 (decimal place) (32 ∷ []) (Lacks-decimal 45 place (omega arith) range.0) (Lacks-cons 45 32 [] (λ e. omega (arith, e)) (Lacks-nil 45))) (Lacks-decimal 45 msg (omega arith) range.1)
+arguments_hyphen (PollSend place msg) range =
+    All-append (λ x. x ≢ 45) (decimal place ++ codes " ") (decimal msg)
+    (All-append (λ x. x ≢ 45) (decimal place) (codes " ") (Lacks-decimal 45 place (omega arith) range.0) (Lacks-test 45 (codes " ") refl)) (Lacks-decimal 45 msg (omega arith) range.1)
 arguments_hyphen (SetCapacity n) range = Lacks-decimal 45 n (omega arith) range.1
 arguments_hyphen (SetOverflow on) range = flag_hyphen on
 arguments_hyphen (SetAwaitActive on) range = flag_hyphen on
@@ -38,7 +40,7 @@ arguments_hyphen call range = number_hyphen (number_of call) range
 -- no call has a hyphen
 pub text_hyphen : (call : Call ℕ) → IsInRange call → Lacks 45 (text_of call)
 text_hyphen call range =
-    Lacks-spaced 45 (name_of call) (arguments_of call) (λ e. omega (arith, e)) (plain_hyphen _ (plain_name call)) (arguments_hyphen call range)
+    Lacks-spaced 45 (name_of call) (arguments_of call) (λ e. omega (arith, e)) (Lacks-test 45 _ (name_hyphen call)) (arguments_hyphen call range)
 
 value_of : {xs ys : List ℕ} → Some xs ≡ Some ys → ys ≡ xs
 value_of same = cc

@@ -3,13 +3,10 @@ use Rattle.std.proofs.Common.{rules, false, None, ◌≡◌, ◌∙◌, Ok, inl,
 use Rattle.std.specs.Io.KnownBytes.{Keeps}
 use Rattle.std.proofs.KnownBytes.{Keeps-trans}
 use Rattle.bcast_text.specs.declared.ending.Ending.TheVariants.{Done}
-use Rattle.bcast_text.specs.declared.trace.line.TheConstants.{LONGEST}
-use Rattle.bcast_text.specs.Run.{IsRun}
 use Rattle.std.specs.Option.{is_some, option_map}
 use Rattle.std.proofs.lemmas.Bool.{false≢true}
 use Rattle.bcast_play.specs.Channels.{collected_of, named_by}
-use Rattle.bcast_play.specs.ListRun.{IsCollected, IsNoListLine, nothing_yet}
-use Rattle.bcast_play.proofs.Lists.{run_opened, run_keeps, run_read, written_after, ok_part}
+use Rattle.bcast_play.proofs.Lists.{run_opened, run_keeps, run_read, written_after}
 use Rattle.bcast_play.proofs.collector.list.Goals as goal
 
 pub returns-then-ne-clause-unwritten : goal.returns-then-ne-clause-unwritten
@@ -36,10 +33,9 @@ returns-in-Ok-Ok-clause-done g c _ =
     let done : c.run_lines-ending.result ≡ Done = search rules in
     let ran = c.run_lines-ending.ensures (λ failed. let clash = sym done ∙ failed in absurd (cc)) in
     let start = c.new-collector.ensures in
-    let whole = subst (λ e. IsRun IsNoListLine false LONGEST IsCollected (g.R.Read.remaining c.args.input) (g.W.Write.contents c.args.output.now) (g.W.Write.contents c.run_lines-ending.new.output) nothing_yet (collected_of c.run_lines-ending.new.program) e) done
-    (subst (λ s. IsRun IsNoListLine false LONGEST IsCollected (g.R.Read.remaining c.args.input) (g.W.Write.contents c.args.output.now) (g.W.Write.contents c.run_lines-ending.new.output) s (collected_of c.run_lines-ending.new.program) c.run_lines-ending.result) start ran) in
+    let whole = rw (start, done) at ran in
     let is : c.play-played.result ≡ Ok c.in-Ok-Ok.field-0-1 = search rules in
-    let played = ok_part c.play-played.result c.in-Ok-Ok.field-0-1 _ is c.play-played.ensures.ok in
+    let played = rw is at c.play-played.ensures.ok in
     record {
       collected = collected_of c.run_lines-ending.new.program;
       read = run_read whole;
@@ -52,6 +48,6 @@ pub returns-in_default-Err-NotACall-clause-refused : goal.returns-in_default-Err
 returns-in_default-Err-NotACall-clause-refused g c line is =
     let done : c.run_lines-ending.result ≡ Done = search rules in
     let ran = c.run_lines-ending.ensures (λ failed. let clash = sym done ∙ failed in absurd (cc)) in
-    let opened = run_opened (subst (λ e. IsRun IsNoListLine false LONGEST IsCollected (g.R.Read.remaining c.args.input) (g.W.Write.contents c.args.output.now) (g.W.Write.contents c.run_lines-ending.new.output) (collected_of c.new-collector.result) (collected_of c.run_lines-ending.new.program) e) done ran) in
+    let opened = run_opened (rw done at ran) in
     let none : c.run_lines-ending.new.program.opening ≡ None = c.play-played.ensures.refused (search rules) in
     absurd (false≢true (ap (λ o. is_some (option_map named_by o)) (sym none) ∙ opened))

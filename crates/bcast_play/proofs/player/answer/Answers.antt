@@ -1,14 +1,13 @@
 -- What the line asks for is done.
 use Rattle.std.proofs.Common.{rules, ◌≡◌, Some, IfSome, inr, refl, subst, Ok, IfOk}
 use Rattle.bcast_text.specs.declared.trace.line.Line.TheVariants as lines
-use Rattle.bcast_text.specs.TraceLine.{ReadsAs}
-use Rattle.bcast_play.proofs.Refused.{asks_for_none}
+use Rattle.bcast_play.proofs.Answered.{asks_for_none}
 use Rattle.bcast_play.proofs.player.answer.Goals as goal
 
 pub returns-in_ok-write_seen-in-View-clause-ok : goal.returns-in_ok-write_seen-in-View-clause-ok
 returns-in_ok-write_seen-in-View-clause-ok g c =
     let is : c.read_line.result ≡ Ok (Some lines.View) = search rules in
-    let read = subst (λ r. IfOk r (λ read. IfSome read (ReadsAs c.args.line.now))) is c.read_line.ensures.text in
+    let read = rw is at c.read_line.ensures.text in
     let shown = c.in_ok-write_seen-in-View.ensures.ok in
     (_, inr (record { rest = read.0; asked = read.1; seen = shown.0; shows = shown.1; written = refl; same = refl }), shown.2)
 

@@ -1,7 +1,7 @@
 -- Each line that is run adds its answer.
-use Rattle.std.proofs.Common.{arith, ◌≡◌, ◌-◌, Err, ap, subst, sym, ◌∙◌}
-use Rattle.bcast_text.specs.Lines.{unread, longest_of}
-use Rattle.bcast_text.specs.Run.{IsNumbered, IsRefused}
+use Rattle.std.proofs.Common.{arith, ◌≡◌, ◌-◌, Err, ap, subst, ◌∙◌}
+use Rattle.bcast_text.specs.Lines.{unread}
+use Rattle.bcast_text.specs.Run.{IsNumbered}
 use Rattle.bcast_text.proofs.Runs.{one_more, nothing_more}
 use Rattle.bcast_text.proofs.input.each_line.Goals as goal
 
@@ -26,7 +26,6 @@ returns-in-Err g c written = record {
       let same : number ≡ c.loop-number.number = subst (IsNumbered c.loop-number.number) is c.in-Err.ensures.not_a_call in
       let why = c.in-Err.ensures.refused number (ap Err is) in (
         omega (arith, same, c.loop-number.invariant.some),
-        subst (λ n. IsRefused g.P.RunLine.refuses g.P.RunLine.MAY_BE_EMPTY n (unread g.R.Read.remaining c.loop-number.lines) (g.P.RunLine.state c.loop-number.program) number) c.loop-number.invariant.longest
-            (subst (λ n. IsRefused g.P.RunLine.refuses g.P.RunLine.MAY_BE_EMPTY (longest_of c.loop-number.lines) (unread g.R.Read.remaining c.loop-number.lines) (g.P.RunLine.state c.loop-number.program) n) (sym same) why),
+        rw (same, ← c.loop-number.invariant.longest) why,
       );
 }

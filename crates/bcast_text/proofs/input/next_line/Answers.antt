@@ -4,7 +4,8 @@ use Rattle.std.specs.Str.{IsUtf8}
 use Rattle.std.specs.Io.KnownBytes.{Keeps}
 use Rattle.bcast_text.specs.Lines.{ReadsLines, unread, text_of}
 use Rattle.bcast_text.specs.Run.{no_text, no_call}
-use Rattle.bcast_text.proofs.Runs.{one_line, Keeps-same}
+use Rattle.std.proofs.KnownBytes.{Keeps-refl}
+use Rattle.bcast_text.proofs.Runs.{one_line}
 use Rattle.bcast_text.proofs.input.next_line.Goals.{else-not-is_ahead-via-then-not-is_ahead+else-is_err, else-not-is_ahead-via-else-not-is_ahead}
 use Rattle.bcast_text.proofs.input.next_line.Goals as goal
 
@@ -22,6 +23,6 @@ returns-clause-ok g c =
     let same : Keeps (g.W.Write.contents c.args.output.now) (g.W.Write.contents c.else-not-is_ahead.output) =
     elim c.else-not-is_ahead.branch [
       | else-not-is_ahead-via-then-not-is_ahead+else-is_err w ↦ subst (λ o. Keeps (g.W.Write.contents c.args.output.now) (g.W.Write.contents o)) (sym w.output-is) w.flush.ensures.bytes
-      | else-not-is_ahead-via-else-not-is_ahead w ↦ subst (λ o. Keeps (g.W.Write.contents c.args.output.now) (g.W.Write.contents o)) (sym w.output-is) (Keeps-same _)
+      | else-not-is_ahead-via-else-not-is_ahead w ↦ subst (λ o. Keeps (g.W.Write.contents c.args.output.now) (g.W.Write.contents o)) (sym w.output-is) (Keeps-refl _)
     ] in
     one_line g.P.RunLine.answers c.run_text.result _ _ _ _ _ _ _ c.text.result.now (subst (λ t. ReadsLines (unread g.R.Read.remaining c.args.lines.now) (t ∷ []) (unread g.R.Read.remaining c.next.new.self)) (sym c.text.ensures) read) same c.run_text.ensures.ok

@@ -1,11 +1,13 @@
 use Rattle.std.proofs.Common.{rules, refl, sym, subst, arith}
-use Rattle.bcast_text.proofs.NumberLists.{AreRead, one_read, none_before, none_last}
+use Rattle.std.specs.Fmt.{decimal}
+use Rattle.bcast_text.proofs.NumberLists.{AreRead, one_read, none_if}
+use Rattle.bcast_text.proofs.Spaced.{at_none, at_some}
 use Rattle.bcast_text.proofs.number.numbers.Goals as goal
 
 pub returns-in_default-number-clause-none : goal.returns-in_default-number-clause-none
 returns-in_default-number-clause-none c = λ _.
-    none_before c.args.text.now c.loop-first.msgs.items c.loop-first.rest.now (c.in-Some.first, c.in-Some.others) c.in-Some.ensures.cases
-    (c.in_default-number.ensures.none refl) c.loop-first.invariant.0
+    none_if c.args.text.now c.loop-first.msgs.items c.loop-first.rest.now c.in-Some.first.now (c.in_default-number.ensures.none refl)
+    (λ n more none same. (at_some _ (c.in-Some.first, c.in-Some.others) c.in-Some.ensures.cases (decimal n) more none same).0) c.loop-first.invariant.0
 
 pub loop-first-preserved : goal.loop-first-preserved
 loop-first-preserved c = (
@@ -16,5 +18,5 @@ loop-first-preserved c = (
 
 pub returns-in_default-number-2-clause-none : goal.returns-in_default-number-2-clause-none
 returns-in_default-number-2-clause-none c = λ _.
-    none_last c.args.text.now c.loop-first.msgs.items c.loop-first.rest.now c.in_default.ensures.cases
-    (c.in_default-number-2.ensures.none refl) c.loop-first.invariant.0
+    none_if c.args.text.now c.loop-first.msgs.items c.loop-first.rest.now c.loop-first.rest.now (c.in_default-number-2.ensures.none refl)
+    (λ n more none same. (at_none _ c.in_default.ensures.cases (decimal n) more none same).1) c.loop-first.invariant.0

@@ -3,15 +3,14 @@ use Rattle.std.proofs.Common.{rules, ◌≡◌, [], Some, IfSome, inl, refl, sub
 use Rattle.std.proofs.KnownBytes.{Appends-nil}
 use Rattle.std.specs.Option.{is_some}
 use Rattle.bcast_text.specs.declared.trace.line.Line.TheVariants as lines
-use Rattle.bcast_text.specs.TraceLine.{ReadsAs}
-use Rattle.bcast_play.proofs.Refused.{asks_for_none}
+use Rattle.bcast_play.proofs.Answered.{asks_for_none}
 use Rattle.bcast_play.proofs.Lists.{read_on, refused_on}
 use Rattle.bcast_play.proofs.collector.CollectorRunLine.run_line.Goals as goal
 
 pub returns-in_ok-push-in-Call-clause-ok : goal.returns-in_ok-push-in-Call-clause-ok
 returns-in_ok-push-in-Call-clause-ok g c =
     let is : c.read_line.result ≡ Ok (Some (lines.Call c.in-Call.text c.in-Call.call)) = search rules in
-    let read = subst (λ r. IfOk r (λ read. IfSome read (ReadsAs c.args.line.now))) is c.read_line.ensures.text in
+    let read = rw is at c.read_line.ensures.text in
     let opened : is_some c.args.self.now.opening ≡ true = search rules in (
       [],
       (

@@ -3,7 +3,7 @@ use Rattle.std.proofs.Common.{rules, arith, ◌≡◌, ◌≢◌, ℕ, length, L
 use Rattle.std.specs.Fmt.{decimal}
 use Rattle.bcast_text.specs.ScriptCommand.{words_of, IsInRange}
 use Rattle.bcast_text.specs.declared.script.command.Command.{Command}
-use Rattle.bcast_text.specs.declared.script.command.Command.TheVariants.{Script, Topics, Threads}
+use Rattle.bcast_text.specs.declared.script.command.Command.TheVariants.{Threads}
 use Rattle.bcast_text.proofs.script.command.Command.from_words.Goals as goal
 
 four : {X : Type 0} (xs : List X) (x y z w : X) → length xs ≡ 4 → x ≡ get_or xs 0 x → y ≡ get_or xs 1 y → z ≡ get_or xs 2 z → w ≡ get_or xs 3 w
@@ -21,10 +21,9 @@ spelt (Some asked) words others same is = same ∙ sym is
 no_command : (s r m : List ℕ) → ((senders receivers messages : ℕ) → IsInRange (Threads senders receivers messages)
     → s ≡ decimal senders → r ≡ decimal receivers → m ≢ decimal messages)
     → (asked : Command) → IsInRange asked → codes "threads" ∷ s ∷ r ∷ m ∷ [] ≡ words_of asked → ⊥
-no_command s r m none Script range is = absurd (omega (arith, ap length is))
-no_command s r m none Topics range is = absurd (omega (arith, ap length is))
 no_command s r m none (Threads a b c) range is =
     none a b c range (ap (λ ws. get_or ws 1 []) is) (ap (λ ws. get_or ws 2 []) is) (ap (λ ws. get_or ws 3 []) is)
+no_command s r m none asked range is = absurd (omega (arith, ap length is))
 
 pub returns-in-len4 : goal.returns-in-len4
 returns-in-len4 c =
