@@ -1,9 +1,13 @@
--- What is seen after a call, apart from who was told.
-use Rattle.std.proofs.Common.{◌≡◌, ℕ, not, ◌&&◌, Option, Some, None, refl, sym, ap, ◌∙◌, subst}
+-- What is seen after a call, apart from who was told, and the cursors after one of them moved.
+use Rattle.std.proofs.Common.{◌≡◌, ℕ, ◌≤◌, not, ◌&&◌, true, false, cond, Option, Some, None, refl, sym, ap, ◌∙◌, subst}
+use Rattle.std.proofs.lemmas.Option.{same_Some}
 use Rattle.std.specs.Prelude.{IsSome}
+use Rattle.std.specs.Ordering.{nat_cmp, eq_by_cmp}
+use Rattle.std.specs.Cmp.{nat_cmp_total}
+use Rattle.std.specs.FinMap.{get, insert, get-insert}
 use Rattle.bcast_model.specs.declared.run.Call.{Call}
 use Rattle.bcast_model.specs.declared.run.Reply.{Reply}
-use Rattle.bcast_model.specs.Words.{tell_a_sender, sets, effect, settle, may_tell, tell_if_ready}
+use Rattle.bcast_model.specs.Words.{Cursors, tell_a_sender, sets, effect, settle, may_tell, tell_if_ready}
 use Rattle.bcast_model.specs.Words.{View, sends_are_ready, Answers, IsValidView}
 use Rattle.bcast_model.proofs.Answers.{shown_after}
 use Rattle.bcast_model.proofs.Cases.{test_is}
@@ -38,3 +42,16 @@ module _ {T : Type 0} where
 pub some_of : (o : Option ℕ) → IsSome o → (n : ℕ) × (o ≡ Some n)
 some_of (Some n) is = (n, refl)
 some_of None is = cc
+
+-- the cursors after one of them moved
+module _ (m : Cursors) (key cursor other : ℕ) where
+  pub some_insert : IsSome (get m other) → IsSome (get (insert m key cursor) other)
+  some_insert is = subst IsSome (sym (get-insert nat_cmp_total m key cursor other)) (elim (eq_by_cmp nat_cmp other key) as (λ b. IsSome (cond b (Some cursor) (get m other))) [ true ↦ refl | false ↦ is ])
+
+  -- a cursor is at least `low`, if it was before and the new one is
+  pub high_insert : (low at : ℕ) → low ≤ cursor → ((c : ℕ) → get m other ≡ Some c → low ≤ c) → get (insert m key cursor) other ≡ Some at → low ≤ at
+  high_insert low at here there e =
+      elim (eq_by_cmp nat_cmp other key) as (λ b. cond b (Some cursor) (get m other) ≡ Some at → low ≤ at) [
+        | true ↦ λ f. subst (λ c. low ≤ c) (same_Some cursor at f) here
+        | false ↦ λ f. there at f
+      ] (sym (get-insert nat_cmp_total m key cursor other) ∙ e)

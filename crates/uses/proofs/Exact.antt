@@ -1,21 +1,30 @@
--- What a receive gives, if a clone equals its original.
-use Rattle.std.proofs.Common.{◌≡◌, inl, inr, Result, Ok, Err, sym, ap, ◌∙◌}
-use Rattle.std.specs.Prelude.{alloc_error}
+-- What a receive gives: what it found, or a clone of it.
+use Rattle.std.proofs.Common.{◌≡◌, ◌≢◌, ◌⊎◌, ◌≤◌, ◌-◌, inl, inr, ℕ, false, cond, Some, Result, Ok, Err, nat_lt, refl, sym, ap, ◌∙◌, arith}
+use Rattle.std.proofs.lemmas.Grind.{common_steps}
 use Rattle.bcast_model.specs.declared.error.TryRecvError.{TryRecvError}
+use Rattle.bcast_model.specs.declared.error.TryRecvError.TheVariants as unread
 use Rattle.bcast_model.specs.declared.run.Reply.{Reply}
-use Rattle.bcast_model.specs.declared.run.Reply.TheVariants as reply
 use Rattle.bcast_model.specs.Legal.{ClonesEqual}
-use Rattle.bcast_model.specs.Steps.{IsReceived}
+use Rattle.bcast_model.specs.Words.{IsReceived, View, kept_at, recv_reply, try_recv_reply}
 
-module _ {T : Type 0} where
-  received_is : (received answer : Result T TryRecvError) → ◌≡◌ {A = Reply T} (reply.TryRecv (Ok received)) (reply.TryRecv (Ok answer)) → received ≡ answer
-  received_is received answer e = cc
+-- a receive of a message that was not dropped
+pub reply_at : {T : Type 0} (v : View T) (cursor : ℕ) → v.front ≤ cursor → try_recv_reply v (Some cursor) ≡ recv_reply v.control.closed (kept_at v cursor)
+reply_at v cursor low =
+    let ahead : nat_lt cursor v.front ≡ false = grind (arith, common_steps, low) in
+    ap (λ b. cond b (Err (unread.Overflowed (v.front - cursor))) (recv_reply v.control.closed (kept_at v cursor))) ahead
 
-  not_refused : (received : Result T TryRecvError) → ◌≡◌ {A = Reply T} (reply.TryRecv (Ok received)) (reply.TryRecv (Err alloc_error)) → ⊥
-  not_refused received e = cc
+module _ {T : Type 0} (is_clone : T → T → Type 0) where
+  -- the exact answer, or a clone in its place
+  abbrev pub IsAnswer : Result T TryRecvError → Result T TryRecvError → Type 0
+  IsAnswer exact answer = (answer ≡ exact) ⊎ ((msg : T) × (given : T) × (exact ≡ Ok msg) × is_clone msg given × (answer ≡ Ok given))
 
-  pub exact_of : (is_clone : T → T → Type 0) → ClonesEqual is_clone → (owed : Type 0) (exact received : Result T TryRecvError)
-      → IsReceived is_clone owed (λ answer. reply.TryRecv (Ok answer)) (reply.TryRecv (Err alloc_error)) exact (reply.TryRecv (Ok received)) → received ≡ exact
-  exact_of is_clone equal owed exact received (inl e) = received_is received exact e
-  exact_of is_clone equal owed exact received (inr (o, inl clone)) = received_is received (Ok clone.1) clone.4 ∙ ap Ok (equal clone.0 clone.1 clone.3) ∙ sym clone.2
-  exact_of is_clone equal owed exact received (inr (o, inr e)) = absurd (not_refused received e)
+  -- a reply that is not for want of memory
+  pub answered : (owed : Type 0) (spelt : Result T TryRecvError → Reply T) (refused : Reply T) (exact : Result T TryRecvError) (r : Reply T)
+      → r ≢ refused → IsReceived is_clone owed spelt refused exact r → (answer : Result T TryRecvError) × (r ≡ spelt answer) × IsAnswer exact answer
+  answered owed spelt refused exact r sure (inl e) = (exact, e, inl refl)
+  answered owed spelt refused exact r sure (inr (o, inl clone)) = (Ok clone.1, clone.4, inr (clone.0, clone.1, clone.2, clone.3, refl))
+  answered owed spelt refused exact r sure (inr (o, inr e)) = absurd (sure e)
+
+  pub exact_of : ClonesEqual is_clone → (exact answer : Result T TryRecvError) → IsAnswer exact answer → answer ≡ exact
+  exact_of equal exact answer (inl e) = e
+  exact_of equal exact answer (inr c) = c.4 ∙ ap Ok (equal c.0 c.1 c.3) ∙ sym c.2

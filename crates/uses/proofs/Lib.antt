@@ -1,6 +1,5 @@
 -- what every call leaves
 pub mod Called
-pub mod Cursors
 pub mod Sends
 pub mod Exact
 -- a text for two receivers

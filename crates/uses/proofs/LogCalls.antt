@@ -1,17 +1,13 @@
 -- A read of a log, and one more reader.
-use Rattle.std.proofs.Common.{◌≡◌, inl, inr, ℕ, ◌+◌, ◌-◌, ◌<◌, ◌≤◌, Bool, true, false, cond, [], ◌∷◌, drop, length, Option, Some, None, Result, Ok, Err, IfOk, nat_lt, refl, sym, ap, ◌∙◌, subst, arith}
-use Rattle.std.proofs.lemmas.Grind.{common_steps}
+use Rattle.std.proofs.Common.{◌≡◌, inl, inr, ℕ, ◌+◌, ◌-◌, ◌<◌, ◌≤◌, Bool, true, false, [], ◌∷◌, drop, length, Option, Some, None, Result, Ok, Err, IfOk, refl, sym, ap, ◌∙◌, subst, arith}
 use Rattle.std.proofs.lemmas.List.{drop_more, drop_all}
 use Rattle.std.proofs.lemmas.Option.{slice_get_cases, slice_get_past}
-use Rattle.std.specs.Prelude.{IsOk}
+use Rattle.std.specs.Prelude.{IsOk, alloc_error}
 use Rattle.std.specs.declared.alloc.AllocError.{AllocError}
 use Rattle.std.specs.FinMap.{get}
 use Rattle.bcast_model.specs.declared.error.HandleError.{HandleError}
-use Rattle.bcast_model.specs.declared.error.HandleError.TheVariants as handle
 use Rattle.bcast_model.specs.declared.error.TryRecvError.{TryRecvError}
-use Rattle.bcast_model.specs.declared.error.TryRecvError.TheVariants as unread_error
 use Rattle.bcast_model.specs.declared.run.Call.TheVariants as call
-use Rattle.bcast_model.specs.declared.run.Reply.{Reply}
 use Rattle.bcast_model.specs.declared.run.Reply.TheVariants as reply
 use Rattle.bcast_model.specs.Words.{Control, cursor_of, with_cursor, sets, clone_receiver, IsOwed}
 use Rattle.bcast_model.specs.Words.{recv_reply, receive, try_recv_reply, ClonesEqual, settle, View}
@@ -22,7 +18,7 @@ use Rattle.bcast_core.proofs.Settle.{settle_same}
 use Rattle.uses.specs.Log.{kept_from, unread, record_of, IsReader, IsLog, IsRead, KeepsReaders, KeepsUnread}
 use Rattle.uses.specs.Reading.{IsTaken}
 use Rattle.uses.proofs.Called.{told, some_of, valid, after, unchanged}
-use Rattle.uses.proofs.Exact.{exact_of}
+use Rattle.uses.proofs.Exact.{answered, exact_of, reply_at}
 use Rattle.uses.proofs.Logs.{told_log, ReadsFrom, told_reads, reads_from}
 
 module _ {T : Type 0} where
@@ -48,9 +44,7 @@ module _ {T : Type 0} where
     item_found closed None = refl
 
     item_at : (cursor : ℕ) → v.front ≤ cursor → item_of (try_recv_reply v (Some cursor)) ≡ kept_at v cursor
-    item_at cursor low =
-        let ahead : nat_lt cursor v.front ≡ false = grind (arith, common_steps, low) in
-        ap (λ b. item_of (cond b (Err (unread_error.Overflowed (v.front - cursor))) (recv_reply v.control.closed (kept_at v cursor)))) ahead ∙ item_found v.control.closed (kept_at v cursor)
+    item_at cursor low = ap item_of (reply_at v cursor low) ∙ item_found v.control.closed (kept_at v cursor)
 
     -- the first of what is unread is read
     reads_first : (cursor : ℕ) → get v.control.cursors key ≡ Some cursor → v.front ≤ cursor → cursor < v.end → Leaves (Some cursor) (with_cursor v.control key (cursor + 1))
@@ -84,7 +78,8 @@ module _ {T : Type 0} where
       → Answers is_clone v (call.TryRecv key) (reply.TryRecv result) w → IsLog v → IsTaken v w key (record_of result)
   reads {is_clone = is_clone} {v = v} {w = w} {key = key} equal (Ok received) sure a log =
       let o : Option ℕ = cursor_of v.control key in
-      let exact : received ≡ try_recv_reply v o = exact_of is_clone equal (IsOwed v key o) (try_recv_reply v o) received a.legal in
+      let given = answered is_clone (IsOwed v key o) (λ answer. reply.TryRecv (Ok answer)) (reply.TryRecv (Err alloc_error)) (try_recv_reply v o) (reply.TryRecv (Ok received)) (λ e. absurd (cc)) a.legal in
+      let exact : received ≡ try_recv_reply v o = let same = given.1 in let is = exact_of is_clone equal (try_recv_reply v o) given.0 given.2 in cc in
       after a (λ u. IsTaken v u key (item_of received)) (λ u s. told_read v u key (item_of received) s)
       (subst (λ r. IsTaken v (settle v (sets (receive v key o))) key (item_of r)) (sym exact) (reads_at v key log (valid a) o refl))
   reads equal (Err error) sure a log = absurd (let e : false ≡ true = sure in cc)
@@ -103,12 +98,9 @@ module _ {T : Type 0} where
     pub reader : IfOk result (IsReader w)
     pub readers : KeepsReaders v w
 
-  not_gone : (made : ℕ) → ◌≡◌ {A = Reply T} (reply.CloneReceiver (Ok made)) (reply.CloneReceiver (Err handle.Gone)) → ⊥
-  not_gone made e = cc
-
   pub adds : {is_clone : T → T → Type 0} {v w : View T} {key : ℕ} (result : Result ℕ HandleError) → Answers is_clone v (call.CloneReceiver key) (reply.CloneReceiver result) w → IsLog v → Adds v w key result
   adds {v = v} {w = w} {key = key} (Ok made) a log = elim a.legal [
-    | inl gone ↦ absurd (not_gone made gone.1)
+    | inl gone ↦ absurd (let e = gone.1 in cc)
     | inr there ↦
         let at = some_of (cursor_of v.control key) there.0 in
         let s : ReadsFrom v w made at.0 = after a (λ u. ReadsFrom v u made at.0) (λ u s. told_reads v u made at.0 s)

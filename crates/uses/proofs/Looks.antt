@@ -1,13 +1,11 @@
 -- What a watcher of settings finds.
-use Rattle.std.proofs.Common.{◌≡◌, inl, inr, ℕ, zero, suc, ◌-◌, ◌≤◌, ◌⊎◌, Bool, true, false, cond, List, [], ◌∷◌, length, max, Option, Some, None, Result, Ok, Err, nat_lt, slice_get, refl, sym, ap, ◌∙◌, subst, arith}
-use Rattle.std.proofs.lemmas.Grind.{common_steps}
+use Rattle.std.proofs.Common.{◌≡◌, inl, inr, ℕ, zero, suc, ◌-◌, ◌≤◌, Bool, true, false, cond, List, [], ◌∷◌, length, max, Option, Some, None, Result, Ok, Err, slice_get, refl, sym, ap, ◌∙◌, subst, arith}
 use Rattle.std.proofs.lemmas.Option.{none-some, same_Some, slice_get_cases}
 use Rattle.std.specs.Prelude.{IfSome, IfNone, alloc_error}
 use Rattle.futures.specs.declared.task.Poll.{Poll}
 use Rattle.bcast_model.specs.declared.error.TryRecvError.{TryRecvError}
 use Rattle.bcast_model.specs.declared.error.TryRecvError.TheVariants as unread
 use Rattle.bcast_model.specs.declared.run.Call.TheVariants as call
-use Rattle.bcast_model.specs.declared.run.Reply.{Reply}
 use Rattle.bcast_model.specs.declared.run.Reply.TheVariants as reply
 use Rattle.bcast_model.specs.Words.{cursor_of, recv_reply, skipped_count, skipped_to, next_reply}
 use Rattle.bcast_model.specs.Words.{IsOwed, try_recv_reply, IsGiven, IsReceived, View, kept_at}
@@ -15,6 +13,7 @@ use Rattle.bcast_model.specs.Words.{Answers, IsValidView}
 use Rattle.uses.specs.declared.config_watcher.Change.{Change}
 use Rattle.uses.specs.Config.{IsConfig, IsLatest, IsUpToDate, change_of}
 use Rattle.uses.proofs.Called.{valid}
+use Rattle.uses.proofs.Exact.{IsAnswer, answered, reply_at}
 use Rattle.uses.proofs.Configs.{at_end}
 
 module _ {S : Type 0} where
@@ -27,29 +26,9 @@ module _ {S : Type 0} where
   none_kept : (items : List S) (index : ℕ) → slice_get items index ≡ None → length items ≤ index
   none_kept items index none = elim (slice_get_cases items index).1 [ inl some ↦ absurd (none-some some.0 (sym none ∙ some.2)) | inr past ↦ past.0 ]
 
-  -- ---- a receive by `poll_next`, if there is memory: the exact reply, or a clone in its place
-  abbrev IsAnswer : (S → S → Type 0) → Result S TryRecvError → Result S TryRecvError → Type 0
-  IsAnswer is_clone exact answer = (answer ≡ exact) ⊎ ((msg : S) × (given : S) × (exact ≡ Ok msg) × is_clone msg given × (answer ≡ Ok given))
-
-  polled_is : (k : ℕ) (polled : Poll (Option (S × ℕ))) (answer : Result S TryRecvError) → reply.PollNext (Ok polled) ≡ reply.PollNext (Ok (next_reply k answer)) → polled ≡ next_reply k answer
-  polled_is k polled answer e = cc
-
-  not_refused : (polled : Poll (Option (S × ℕ))) → ◌≡◌ {A = Reply S} (reply.PollNext (Ok polled)) (reply.PollNext (Err alloc_error)) → ⊥
-  not_refused polled e = cc
-
-  answered : (is_clone : S → S → Type 0) (owed : Type 0) (k : ℕ) (exact : Result S TryRecvError) (polled : Poll (Option (S × ℕ)))
-      → IsReceived is_clone owed (λ answer. reply.PollNext (Ok (next_reply k answer))) (reply.PollNext (Err alloc_error)) exact (reply.PollNext (Ok polled))
-      → (answer : Result S TryRecvError) × (polled ≡ next_reply k answer) × IsAnswer is_clone exact answer
-  answered is_clone owed k exact polled (inl e) = (exact, polled_is k polled exact e, inl refl)
-  answered is_clone owed k exact polled (inr (o, inl clone)) = (Ok clone.1, polled_is k polled (Ok clone.1) clone.4, inr (clone.0, clone.1, clone.2, clone.3, refl))
-  answered is_clone owed k exact polled (inr (o, inr e)) = absurd (not_refused polled e)
-
-  ok_is : (msg given : S) → ◌≡◌ {A = Result S TryRecvError} (Ok msg) (Ok given) → msg ≡ given
-  ok_is msg given e = cc
-
   given_of : (is_clone : S → S → Type 0) (msg : S) (answer : Result S TryRecvError) → IsAnswer is_clone (Ok msg) answer → (given : S) × (answer ≡ Ok given) × IsGiven is_clone msg given
   given_of is_clone msg answer (inl e) = (msg, e, inl refl)
-  given_of is_clone msg answer (inr c) = (c.1, c.4, inr (subst (λ m. is_clone m c.1) (sym (ok_is msg c.0 c.2)) c.3))
+  given_of is_clone msg answer (inr c) = (c.1, c.4, inr (subst (λ m. is_clone m c.1) (let e = c.2 in cc) c.3))
 
   error_of : (is_clone : S → S → Type 0) (error : TryRecvError) (answer : Result S TryRecvError) → IsAnswer is_clone (Err error) answer → answer ≡ Err error
   error_of is_clone error answer (inl e) = e
@@ -66,11 +45,6 @@ module _ {S : Type 0} where
     no_change : (closed : Bool) (k : ℕ) → change_of (next_reply {T = S} k (Err (cond closed unread.Closed unread.Empty))) ≡ None
     no_change true k = refl
     no_change false k = refl
-
-    exactly : (cursor : ℕ) → try_recv_reply v (Some (max cursor v.front)) ≡ recv_reply v.control.closed (kept_at v (max cursor v.front))
-    exactly cursor =
-        let ahead : nat_lt (max cursor v.front) v.front ≡ false = grind (arith, common_steps) in
-        ap (λ b. cond b (Err (unread.Overflowed (v.front - max cursor v.front))) (recv_reply v.control.closed (kept_at v (max cursor v.front)))) ahead
 
     found_by : (cursor : ℕ) (polled : Poll (Option (S × ℕ))) (answer : Result S TryRecvError) (message : Option S) → cursor_of v.control key ≡ Some cursor → kept_at v (max cursor v.front) ≡ message
         → polled ≡ next_reply (v.front - cursor) answer → IsAnswer is_clone (recv_reply v.control.closed message) answer → Finds polled
@@ -102,11 +76,12 @@ module _ {S : Type 0} where
     found_at : (o : Option ℕ) (polled : Poll (Option (S × ℕ))) → cursor_of v.control key ≡ o
         → IsReceived is_clone (IsOwed v key (skipped_to v.front o)) (λ answer. reply.PollNext (Ok (next_reply (skipped_count v.front o) answer))) (reply.PollNext (Err alloc_error)) (try_recv_reply v (skipped_to v.front o)) (reply.PollNext (Ok polled)) → Finds polled
     found_at (Some cursor) polled at legal =
-        let a = answered is_clone (IsOwed v key (Some (max cursor v.front))) (v.front - cursor) (try_recv_reply v (Some (max cursor v.front))) polled legal in
-        found_by cursor polled a.0 (kept_at v (max cursor v.front)) at refl a.1 (subst (λ exact. IsAnswer is_clone exact a.0) (exactly cursor) a.2)
+        let a = answered is_clone (IsOwed v key (Some (max cursor v.front))) (λ answer. reply.PollNext (Ok (next_reply (v.front - cursor) answer))) (reply.PollNext (Err alloc_error)) (try_recv_reply v (Some (max cursor v.front))) (reply.PollNext (Ok polled)) (λ e. absurd (cc)) legal in
+        found_by cursor polled a.0 (kept_at v (max cursor v.front)) at refl (let same = a.1 in cc) (subst (λ exact. IsAnswer is_clone exact a.0) (reply_at v (max cursor v.front) (omega arith)) a.2)
     found_at None polled at legal =
-        let a = answered is_clone (IsOwed v key None) 0 (Err unread.Closed) polled legal in
-        finds None polled (ap change_of a.1 ∙ ap (λ r. change_of (next_reply 0 r)) (error_of is_clone unread.Closed a.0 a.2)) (tt, λ seen f. absurd (none-some seen (sym at ∙ f)))
+        let a = answered is_clone (IsOwed v key None) (λ answer. reply.PollNext (Ok (next_reply 0 answer))) (reply.PollNext (Err alloc_error)) (Err unread.Closed) (reply.PollNext (Ok polled)) (λ e. absurd (cc)) legal in
+        let is : polled ≡ next_reply 0 a.0 = let same = a.1 in cc in
+        finds None polled (ap change_of is ∙ ap (λ r. change_of (next_reply 0 r)) (error_of is_clone unread.Closed a.0 a.2)) (tt, λ seen f. absurd (none-some seen (sym at ∙ f)))
 
   pub looks : {is_clone : S → S → Type 0} {v w : View S} {key : ℕ} (polled : Poll (Option (S × ℕ))) → (a : Answers is_clone v (call.PollNext key) (reply.PollNext (Ok polled)) w) → (config : IsConfig v) → Finds is_clone v key config (valid a) polled
   looks {is_clone = is_clone} {v = v} {key = key} polled a config = found_at is_clone v key config (valid a) (cursor_of v.control key) polled refl a.legal

@@ -1,6 +1,5 @@
 -- A channel on which nothing was sent.
-use Rattle.std.proofs.Common.{◌≡◌, inl, inr, ℕ, ◌-◌, Bool, true, false, Some, None, Result, Ok, Err, nat_lt, refl, sym, ap, ◌∙◌, subst, arith}
-use Rattle.std.proofs.lemmas.Grind.{common_steps}
+use Rattle.std.proofs.Common.{◌≡◌, inl, inr, ℕ, ◌-◌, Bool, true, false, Some, None, Result, Ok, Err, refl, sym, ap, ◌∙◌, subst, arith}
 use Rattle.std.proofs.lemmas.Option.{slice_get_past}
 use Rattle.std.specs.Prelude.{IsSome, IfOk}
 use Rattle.std.specs.declared.alloc.AllocError.{AllocError}
@@ -15,8 +14,8 @@ use Rattle.bcast_model.proofs.Cases.{receive_is}
 use Rattle.bcast_model.proofs.DeliveryMaps.{inserted_other}
 use Rattle.bcast_core.proofs.Settle.{inserted}
 use Rattle.uses.specs.Signal.{signal_of, IsSignal, AddsWorker, is_closed_reply}
-use Rattle.uses.proofs.Called.{valid, after, unchanged, some_of}
-use Rattle.uses.proofs.Cursors.{some_insert}
+use Rattle.uses.proofs.Called.{valid, after, unchanged, some_of, some_insert}
+use Rattle.uses.proofs.Exact.{reply_at}
 
 abbrev Nothing : Type 0
 Nothing = Unit {0}
@@ -31,8 +30,9 @@ module _ (v : View Nothing) (valid : IsValidView v) (unused : v.end ≡ 0) (curs
   none_found =
       let high = valid.high in
       let end = valid.end in
-      let ahead : nat_lt cursor v.front ≡ false = grind (arith, common_steps, high, unused) in
-      rw (ahead, slice_get_past v.queue (cursor - v.front) (omega (arith, unused, end))) (closed_found v.control.closed)
+      ap (λ r. is_closed_reply (Ok r)) (reply_at v cursor (omega (arith, high, unused)))
+      ∙ ap (λ o. is_closed_reply (Ok (recv_reply v.control.closed o))) (slice_get_past v.queue (cursor - v.front) (omega (arith, unused, end)))
+      ∙ closed_found v.control.closed
 
   -- and moves no cursor
   none_moved : (key : ℕ) → receive v key (Some cursor) ≡ v.control
