@@ -1,6 +1,6 @@
 -- A reply that hands a list back hands back the list of its call.
 use Rattle.std.proofs.Common.{◌≡◌, inl, inr, ◌<◌, ◌+◌, ◌∷◌, [], ◌++◌, map, take, get_or, Bool, true, false, cond, List, Option, Some, Result, Ok, Err, nat_lt, length, refl, sym, ap, ◌∙◌, subst}
-use Rattle.std.proofs.lemmas.List.{map-append, take_more}
+use Rattle.std.proofs.lemmas.List.{map_push, take_more}
 use Rattle.std.specs.declared.alloc.AllocError.{AllocError}
 use Rattle.bcast_model.specs.declared.error.TryRecvError.{TryRecvError}
 use Rattle.bcast_model.specs.declared.error.HandleError.{HandleError}
@@ -42,39 +42,11 @@ module _ {T : Type 0} where
 
   refused : (closed nobody over : Bool) (msgs : List T)
       → IsListOf (Some msgs) (reply.TryBroadcastAll (cond closed (Err (unsent.Closed msgs)) (cond nobody (Err (unsent.Inactive msgs)) (cond over (Err (unsent.Full msgs)) (Ok tt)))))
-  refused true nobody over msgs = refl
-  refused false true over msgs = refl
-  refused false false true msgs = refl
   refused false false false msgs = tt
+  refused closed nobody over msgs = refl
 
   pub legal_list : (is_clone : T → T → Type 0) (v : View T) (c : Call T) (r : Reply T) → Legal is_clone v c r → IsListOf (list_of c) r
   legal_list is_clone v (call.TryBroadcastAll msgs) r legal = subst (IsListOf (Some msgs)) (sym legal) (refused v.control.closed (has_no_receiver v.control) (nat_lt (free_room v) (length msgs)) msgs)
-  legal_list is_clone v (call.TryBroadcast msg) r legal = hands_none _ r (ap hands_list legal)
-  legal_list is_clone v (call.AttemptSend msg) r legal = hands_none _ r (ap hands_list legal)
-  legal_list is_clone v (call.PollSend place msg) r legal = hands_none _ r (ap hands_list legal)
-  legal_list is_clone v (call.EndSend place) r legal = hands_none _ r (ap hands_list legal)
-  legal_list is_clone v (call.EndFuture key) r legal = hands_none _ r (ap hands_list legal)
-  legal_list is_clone v call.Close r legal = hands_none _ r (ap hands_list legal)
-  legal_list is_clone v (call.SetOverflow on) r legal = hands_none _ r (ap hands_list legal)
-  legal_list is_clone v (call.SetAwaitActive on) r legal = hands_none _ r (ap hands_list legal)
-  legal_list is_clone v call.NewSender r legal = hands_none _ r (ap hands_list legal)
-  legal_list is_clone v call.CloneInactive r legal = hands_none _ r (ap hands_list legal)
-  legal_list is_clone v (call.Deactivate key) r legal = hands_none _ r (ap hands_list legal)
-  legal_list is_clone v call.DropSender r legal = hands_none _ r (ap hands_list legal)
-  legal_list is_clone v call.DropInactive r legal = hands_none _ r (ap hands_list legal)
-  legal_list is_clone v (call.DropReceiver key) r legal = hands_none _ r (ap hands_list legal)
-  legal_list is_clone v call.Overflow r legal = hands_none _ r (ap hands_list legal)
-  legal_list is_clone v call.AwaitActive r legal = hands_none _ r (ap hands_list legal)
-  legal_list is_clone v call.IsEmpty r legal = hands_none _ r (ap hands_list legal)
-  legal_list is_clone v call.IsFull r legal = hands_none _ r (ap hands_list legal)
-  legal_list is_clone v call.IsClosed r legal = hands_none _ r (ap hands_list legal)
-  legal_list is_clone v call.IsTerminated r legal = hands_none _ r (ap hands_list legal)
-  legal_list is_clone v call.Capacity r legal = hands_none _ r (ap hands_list legal)
-  legal_list is_clone v call.Len r legal = hands_none _ r (ap hands_list legal)
-  legal_list is_clone v call.ReceiverCount r legal = hands_none _ r (ap hands_list legal)
-  legal_list is_clone v call.InactiveReceiverCount r legal = hands_none _ r (ap hands_list legal)
-  legal_list is_clone v call.SenderCount r legal = hands_none _ r (ap hands_list legal)
-  legal_list is_clone v call.EndNumber r legal = hands_none _ r (ap hands_list legal)
   legal_list is_clone v call.BeginSend r (inl (place, is, free)) = hands_none _ r (ap hands_list is)
   legal_list is_clone v call.BeginSend r (inr is) = hands_none _ r (ap hands_list is)
   legal_list is_clone v (call.SetCapacity n) r (inl is) = hands_none _ r (ap hands_list is)
@@ -89,6 +61,7 @@ module _ {T : Type 0} where
   legal_list is_clone v call.Activate r legal = hands_none _ r (made_from _ _ reply.Activate r (λ _. refl) legal)
   legal_list is_clone v call.ActivateCloned r legal = hands_none _ r (made_from _ _ reply.ActivateCloned r (λ _. refl) legal)
   legal_list is_clone v (call.CloneReceiver key) r legal = hands_none _ r (made_from _ _ reply.CloneReceiver r (λ _. refl) legal)
+  legal_list is_clone v c r legal = hands_none _ r (ap hands_list legal)
 
   -- an entry that was made with a copy of the call
   pub same_entry : (made : Entry T) (seat : ℕ) (copy call : Call T) (r : Reply T) → made ≡ record { seat = seat; call = copy; reply = r } → copy ≡ call → made ≡ record { seat = seat; call = call; reply = r }
@@ -99,5 +72,5 @@ module _ {T : Type 0} where
       → map (λ e. e.call) (take index entries) ++ copy ∷ [] ≡ map (λ e. e.call) (take (index + 1) entries)
   calls_more entries index entry copy within at same =
       let calls : List (Call T) = map (λ (e : Entry T). e.call) (take index entries) in
-      (λ i. calls ++ same i ∷ []) ∙ (λ i. calls ++ (at i).call ∷ []) ∙ sym (map-append (λ (e : Entry T). e.call) (take index entries) (get_or entries index entry ∷ []))
+      (λ i. calls ++ same i ∷ []) ∙ (λ i. calls ++ (at i).call ∷ []) ∙ sym (map_push (λ (e : Entry T). e.call) (take index entries) (get_or entries index entry))
       ∙ sym (ap (map (λ (e : Entry T). e.call)) (take_more entries index entry within))

@@ -2,5 +2,4 @@ pub mod Appends
 pub mod Copies
 pub mod Notes
 pub mod Pages
-pub mod Prefixes
 pub mod Steps

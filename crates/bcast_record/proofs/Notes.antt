@@ -1,6 +1,6 @@
 -- What the notes of a journal say of the entries.
-use Rattle.std.proofs.Common.{◌≡◌, ℕ, zero, suc, Some, List, [], ◌∷◌, ◌++◌, map, slice_get, length, refl, ap}
-use Rattle.std.proofs.lemmas.List.{length-map}
+use Rattle.std.proofs.Common.{◌≡◌, ℕ, zero, suc, Some, List, [], ◌∷◌, ◌++◌, slice_get, length, refl, ap}
+use Rattle.std.proofs.lemmas.List.{length-map, map_push}
 use Rattle.bcast_record.specs.declared.entry.Entry.{Entry}
 use Rattle.bcast_history.specs.declared.step.Opening.{Opening}
 use Rattle.bcast_record.specs.declared.entry.Note.TheVariants as note
@@ -17,11 +17,7 @@ module _ {T : Type 0} where
   pub notes_of-push : (opening : Opening) (entries : List (Entry T)) (entry : Entry T)
       → notes_of opening (entries ++ entry ∷ []) ≡ notes_of opening entries ++ note.Answered entry ∷ []
   notes_of-push opening [] entry = refl
-  notes_of-push opening (e ∷ entries) entry = ap (λ notes. note.Opened opening ∷ note.Answered e ∷ notes) (answers-push entries)
-    where
-      answers-push : (es : List (Entry T)) → map note.Answered (es ++ entry ∷ []) ≡ map note.Answered es ++ note.Answered entry ∷ []
-      answers-push [] = refl
-      answers-push (x ∷ es) = ap (λ ns. note.Answered x ∷ ns) (answers-push es)
+  notes_of-push opening (e ∷ entries) entry = ap (λ notes. note.Opened opening ∷ note.Answered e ∷ notes) (map_push note.Answered entries entry)
 
   -- the last note is that of the last entry
   pub last_note : (opening : Opening) (entries : List (Entry T)) (entry : Entry T)

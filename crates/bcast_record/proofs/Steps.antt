@@ -7,8 +7,7 @@ use prog.Atomic.{either}
 use Rattle.logbook.specs.Pages.{Cell, cell, keeps, gives, adds, no_nib, nib, may_make, step, Moves, Goes, Away}
 use Rattle.bcast_record.specs.Content.{has_end, ends_well}
 use Rattle.bcast_record.specs.Book.{IsKept, Reserves, Writes, slots, pen_at}
-use Rattle.bcast_record.proofs.Pages.{ends_well-push}
-use Rattle.bcast_record.proofs.Prefixes.{prefix_whole, prefix_length}
+use Rattle.bcast_record.proofs.Pages.{ends_well-push, prefix_whole, prefix_length}
 
 pub length-slots : (reserved written : ℕ) → length (slots reserved written) ≡ reserved
 length-slots zero written = refl

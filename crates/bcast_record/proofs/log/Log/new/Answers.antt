@@ -1,8 +1,6 @@
-use Rattle.std.proofs.Common.{ap, sym, subst, ◌∙◌}
+use Rattle.std.proofs.Common.{ap, sym, ◌∙◌}
 use Rattle.bcast_history.specs.declared.step.Opening.{Opening}
-use Rattle.bcast_record.specs.Recording.{recording}
 use Rattle.bcast_record.specs.Content.{notes_of}
-use Rattle.bcast_record.specs.Replay.{MayRunAgain}
 use Rattle.bcast_record.proofs.Appends.{replays_opened}
 use Rattle.bcast_record.proofs.log.Log.new.Goals as goal
 
@@ -14,5 +12,5 @@ invariant_of-log g c =
       c.in-Some.ensures ∙ ap (notes_of opening) (sym none),
       c.open-calls.ensures.total ∙ sym c.new-2.ensures.len,
       (c.in_ok-made.ensures.left, c.in_ok-made.ensures.rest),
-      subst (λ entries. MayRunAgain {T = g.row.T.Denot} (recording opening entries)) (sym none) (record { capacity = c.requires.capacity; calls = tt }),
+      rw none (record { capacity = c.requires.capacity; calls = tt }),
     )

@@ -1,10 +1,7 @@
 use Rattle.std.proofs.Common.{◌≡◌, [], ◌∷◌, ◌++◌, Some, suc, length, slice_get, refl, sym, ap, subst, ◌∙◌, arith}
 use Rattle.bcast_record.specs.declared.entry.Entry.{Entry}
 use Rattle.bcast_record.specs.declared.entry.Note.TheVariants as note
-use Rattle.bcast_record.specs.Copies.{IsListOf}
-use Rattle.bcast_record.specs.Recording.{recording}
 use Rattle.bcast_record.specs.Content.{notes_of}
-use Rattle.bcast_record.specs.Replay.{Replays, MayRunAgain}
 use Rattle.bcast_record.proofs.Copies.{legal_list, same_entry}
 use Rattle.bcast_record.proofs.Appends.{replays_push, may_run_again_push}
 use Rattle.bcast_record.proofs.Notes.{notes_of-push, last_note, length-notes_of}
@@ -17,17 +14,17 @@ room-requires g c =
 pub invariant_of-self : goal.invariant_of-self
 invariant_of-self g c =
     let before = c.self.invariant in
-    let items = sym c.room.ensures.items in (
-      subst (λ es. Replays g.T.Clone.is_clone (recording c.self.inside.opening es) c.self.inside.inner) items before.0,
-      before.1 ∙ ap (notes_of c.self.inside.opening) items,
+    let items = c.room.ensures.items in (
+      rw items before.0,
+      before.1 ∙ ap (notes_of c.self.inside.opening) (sym items),
       before.2 ∙ sym c.room.ensures.len,
       before.3,
-      subst (λ es. MayRunAgain (recording c.self.inside.opening es)) items before.4,
+      rw items before.4,
     )
 
 pub into_entries-stored-requires : goal.into_entries-stored-requires
 into_entries-stored-requires g c =
-    subst (λ list. IsListOf list c.step-reply.result) (sym c.in-Some.ensures.list) (legal_list g.T.Clone.is_clone c.self.inside.inner c.args.call c.step-reply.result c.step-reply.ensures.answers.legal)
+    rw c.in-Some.ensures.list (legal_list g.T.Clone.is_clone c.self.inside.inner c.args.call c.step-reply.result c.step-reply.ensures.answers.legal)
 
 pub invariant_of-result : goal.invariant_of-result
 invariant_of-result g c =
