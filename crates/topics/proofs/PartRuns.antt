@@ -1,10 +1,10 @@
 -- A topic's part of the calls as a run: how it begins, and what one more call does.
 use Rattle.std.proofs.Common.{◌≡◌, ℕ, List, [], ◌∷◌, ◌++◌, map, Option, Some, None, refl, sym, ap, ◌∙◌, subst, arith}
-use Rattle.std.proofs.lemmas.List.{map-append}
+use Rattle.std.proofs.lemmas.List.{map_push}
 use Rattle.std.proofs.lemmas.Option.{same_Some}
 use Rattle.bcast_model.specs.declared.run.Call.{Call}
 use Rattle.bcast_model.specs.declared.run.Reply.{Reply}
-use Rattle.bcast_model.specs.Words.{View, History, opening, view_of, Legal, next, IsRun, end_of_run}
+use Rattle.bcast_model.specs.Words.{View, History, opening, view_of, Legal, next, end_of_run}
 use Rattle.bcast_model.specs.Words.{IsValid, Answers}
 use Rattle.bcast_model.proofs.Opening.{opening_valid}
 use Rattle.bcast_core.proofs.Does.{valid_shown}
@@ -19,15 +19,13 @@ module _ {T : Type 0} (is_clone : T → T → Type 0) where
       let replies : List (Reply T) = map (λ p. p.1) part in
       let at : before ≡ view_of (end_of_run h calls replies) = same_Some before (view_of (end_of_run h calls replies)) is.end in
       let ends : end_of_run h (calls ++ c ∷ []) (replies ++ r ∷ []) ≡ next (end_of_run h calls replies) c r = end_more is_clone h calls replies c r is.run in
-      let more : IsRun is_clone h (calls ++ c ∷ []) (replies ++ r ∷ []) × (Some after ≡ Some (view_of (end_of_run h (calls ++ c ∷ []) (replies ++ r ∷ [])))) × IsValid (end_of_run h (calls ++ c ∷ []) (replies ++ r ∷ [])) = (
-        run_more is_clone h calls replies c r is.run (subst (λ v. Legal is_clone v c r) at a.legal),
-        ap Some (a.represents (end_of_run h calls replies) is.valid at ∙ ap view_of (sym ends)),
-        subst IsValid (sym ends) (a.valid (end_of_run h calls replies) is.valid at),
-      ) in
-      let all : IsRun is_clone h (map (λ p. p.0) (part ++ (c, r) ∷ [])) (map (λ p. p.1) (part ++ (c, r) ∷ [])) × (Some after ≡ Some (view_of (end_of_run h (map (λ p. p.0) (part ++ (c, r) ∷ [])) (map (λ p. p.1) (part ++ (c, r) ∷ []))))) × IsValid (end_of_run h (map (λ p. p.0) (part ++ (c, r) ∷ [])) (map (λ p. p.1) (part ++ (c, r) ∷ []))) =
-      subst (λ cs. IsRun is_clone h cs (map (λ p. p.1) (part ++ (c, r) ∷ [])) × (Some after ≡ Some (view_of (end_of_run h cs (map (λ p. p.1) (part ++ (c, r) ∷ []))))) × IsValid (end_of_run h cs (map (λ p. p.1) (part ++ (c, r) ∷ [])))) (sym (map-append (λ p. p.0) part ((c, r) ∷ [])))
-      (subst (λ rs. IsRun is_clone h (calls ++ c ∷ []) rs × (Some after ≡ Some (view_of (end_of_run h (calls ++ c ∷ []) rs))) × IsValid (end_of_run h (calls ++ c ∷ []) rs)) (sym (map-append (λ p. p.1) part ((c, r) ∷ []))) more) in
-      record { run = all.0; end = all.1; valid = all.2 }
+      let calls' : map (λ p. p.0) (part ++ (c, r) ∷ []) ≡ calls ++ c ∷ [] = map_push (λ p. p.0) part (c, r) in
+      let replies' : map (λ p. p.1) (part ++ (c, r) ∷ []) ≡ replies ++ r ∷ [] = map_push (λ p. p.1) part (c, r) in
+      record {
+        run = rw (calls', replies') (run_more is_clone h calls replies c r is.run (subst (λ v. Legal is_clone v c r) at a.legal));
+        end = rw (calls', replies') (ap Some (a.represents (end_of_run h calls replies) is.valid at ∙ ap view_of (sym ends)));
+        valid = rw (calls', replies') (subst IsValid (sym ends) (a.valid (end_of_run h calls replies) is.valid at));
+      }
 
   pub new_run : {capacity : ℕ} {new : Option (View T)} → IsNew is_clone capacity new → IsTopic is_clone (Some capacity) [] new
   new_run {new = None} is = absurd is

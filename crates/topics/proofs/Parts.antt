@@ -7,7 +7,6 @@ use Rattle.std.specs.Cmp.Lexicographic.{bytes_decides}
 use Rattle.std.proofs.lemmas.Bool.{true≢false}
 use Rattle.std.specs.List.{zip}
 use Rattle.bcast_model.specs.declared.run.Call.{Call}
-use Rattle.bcast_model.specs.declared.run.Call.TheVariants as call
 use Rattle.bcast_model.specs.declared.run.Reply.{Reply}
 use Rattle.bcast_model.specs.Words.{View}
 use Rattle.topics.specs.declared.request.Request.{Request}
@@ -38,19 +37,15 @@ module _ {T : Type 0} (is_clone : T → T → Type 0) where
   done_more (Some capacity) done (Some before) None c r topic is = absurd is
   done_more (Some capacity) done None new c r topic is = absurd is
 
-  called : (capacity : Option ℕ) (done : List (Called T)) (old new : Option (View T)) (c : Call T) (a : Answer T) → IsTopic is_clone capacity done old → IsCall is_clone (Some c) a old new → IsTopic is_clone (option_or capacity None) (done ++ done_by true (Some c) a) new
-  called capacity done old new c (answer.Done r) topic is = done_more capacity done old new c r topic is
-  called capacity done old new c a topic is = kept capacity done old new topic is
+  called : (capacity : Option ℕ) (done : List (Called T)) (old new : Option (View T)) (asked : Option (Call T)) (a : Answer T) → IsTopic is_clone capacity done old → IsCall is_clone asked a old new → IsTopic is_clone (option_or capacity None) (done ++ done_by true asked a) new
+  called capacity done old new (Some c) (answer.Done r) topic is = done_more capacity done old new c r topic is
+  called capacity done old new None (answer.Done r) topic is = absurd is
+  called capacity done old new asked a topic is = kept capacity done old new topic is
 
 -- a name is opened once
-not_exists : {T : Type 0} → ◌≡◌ {A = Answer T} answer.Opened answer.Exists → ⊥
-not_exists e = cc
-
-not_bad_name : {T : Type 0} → ◌≡◌ {A = Answer T} answer.Opened answer.BadName → ⊥
-not_bad_name e = cc
-
 opened_once : {T A : Type 0} (r : Request T A) → call_of r ≡ None → IsAnswer true r answer.Opened → ⊥
-opened_once r opens_it is = not_bad_name (is.bad_name (λ named. not_exists (subst (λ c. IsAnswerTo true c answer.Opened) opens_it (is.named named))))
+opened_once r opens_it is =
+    let bad = is.bad_name (λ named. let exists = subst (λ c. IsAnswerTo true c answer.Opened) opens_it (is.named named) in absurd (cc)) in cc
 
 module _ {T A : Type 0} (is_clone : T → T → Type 0) where
   -- the request opens the topic
@@ -62,11 +57,7 @@ module _ {T A : Type 0} (is_clone : T → T → Type 0) where
   here : (capacity : Option ℕ) (done : List (Called T)) (old new : Option (View T)) (r : Request T A) (a : Answer T) → IsTopic is_clone capacity done old → IsAnswer (is_some old) r a → Changes is_clone r a old new → IsTopic is_clone (option_or capacity (opens true r a)) (done ++ done_by true (call_of r) a) new
   here capacity done old new (request.Open name asked) answer.Opened topic fit is = opened capacity done old new (request.Open name asked) asked refl topic fit is
   here capacity done old new (request.Open name asked) a topic fit is = kept is_clone capacity done old new topic is
-  here capacity done old new (request.Follow name) a topic fit is = called is_clone capacity done old new call.NewReceiver a topic is
-  here capacity done old new (request.Publish name msg) a topic fit is = called is_clone capacity done old new (call.TryBroadcast msg) a topic is
-  here capacity done old new (request.Receive name key) a topic fit is = called is_clone capacity done old new (call.TryRecv key) a topic is
-  here capacity done old new (request.Leave name key) a topic fit is = called is_clone capacity done old new (call.DropReceiver key) a topic is
-  here capacity done old new (request.Close name) a topic fit is = called is_clone capacity done old new call.Close a topic is
+  here capacity done old new r a topic fit is = called is_clone capacity done old new (call_of r) a topic is
 
 module _ {T A S Hasher : Type 0} (is_clone : T → T → Type 0) where
   -- the topic of any name
