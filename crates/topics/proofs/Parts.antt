@@ -34,8 +34,7 @@ module _ {T : Type 0} (is_clone : T → T → Type 0) where
   done_more : (capacity : Option ℕ) (done : List (Called T)) (old new : Option (View T)) (c : Call T) (r : Reply T) → IsTopic is_clone capacity done old → IsCall is_clone (Some c) (answer.Done r) old new → IsTopic is_clone (option_or capacity None) (done ++ (c, r) ∷ []) new
   done_more None done old new c r topic is = absurd (subst (λ o. IsCall is_clone (Some c) (answer.Done r) o new) topic.0 is)
   done_more (Some capacity) done (Some before) (Some after) c r topic is = (topic.0, run_of_more is_clone topic.1 is)
-  done_more (Some capacity) done (Some before) None c r topic is = absurd is
-  done_more (Some capacity) done None new c r topic is = absurd is
+  done_more (Some capacity) done old new c r topic is = absurd is
 
   called : (capacity : Option ℕ) (done : List (Called T)) (old new : Option (View T)) (asked : Option (Call T)) (a : Answer T) → IsTopic is_clone capacity done old → IsCall is_clone asked a old new → IsTopic is_clone (option_or capacity None) (done ++ done_by true asked a) new
   called capacity done old new (Some c) (answer.Done r) topic is = done_more capacity done old new c r topic is
