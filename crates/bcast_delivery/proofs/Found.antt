@@ -116,3 +116,11 @@ module _ {T : Type 0} (is_clone : T → T → Type 0) where
       ∙ ap (λ n. option_map_or (λ c. c) (get (receive (view_of h) key (cursor_of h.control key)).cursors key) n) end
       ∙ stays_at_end h key e (cursor_of h.control key) valid other refl (told_so (view_of h) key (cursor_of h.control key) e legal)
       ∙ sym end
+
+-- a receiver reads on at the end at most
+pub reads_at_most : {T : Type 0} (h : History T) (key : ℕ) → IsValid h → reads_at (view_of h) key ≤ end_number h
+reads_at_most h key valid = most (cursor_of h.control key) refl
+  where
+    most : (cursor : Option ℕ) → cursor_of h.control key ≡ cursor → option_map_or (λ c. c) cursor (end_number h) ≤ end_number h
+    most None at = omega arith
+    most (Some c) at = (valid_view h valid).reach key c at

@@ -1,3 +1,4 @@
+pub mod Closed
 pub mod Found
 pub mod Given
 pub mod Keeping

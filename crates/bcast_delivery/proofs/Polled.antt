@@ -1,5 +1,5 @@
 -- A poll finds what a try would have found.
-use Rattle.std.proofs.Common.{◌≡◌, inl, inr, ℕ, ◌+◌, ◌-◌, Bool, true, false, if◌then◌else◌, List, length, Option, Some, None, Result, Ok, Err, nat_lt, refl, sym, ap, ◌∙◌, subst}
+use Rattle.std.proofs.Common.{◌≡◌, inl, inr, ℕ, ◌+◌, ◌-◌, ◌≤◌, Bool, true, false, if◌then◌else◌, List, length, Option, Some, None, Result, Ok, Err, nat_lt, refl, sym, ap, ◌∙◌, subst}
 use Rattle.std.specs.Prelude.{IsSomeAnd, alloc_error}
 use Rattle.std.specs.FinMap.{get}
 use Rattle.std.specs.List.{slice_get}
@@ -82,6 +82,9 @@ module _ {T : Type 0} (is_clone : T → T → Type 0) where
       inr (owed, inl (msg, given, found, clone, ap (λ r. reply.TryRecv (as_found (polled_in r))) is))
   legal_found v key p (inr (owed, inr is)) = inr (owed, inr (ap (λ r. reply.TryRecv (as_found (polled_in r))) is))
 
+  ends : (h other : History T) → other.first ≡ h.first → other.accepted ≡ h.accepted → end_number other ≡ end_number h
+  ends h other first msgs = ap (λ first. first + length other.accepted) first ∙ ap (λ msgs. h.first + length msgs) msgs
+
   -- what is found depends on the messages alone
   moved : (h other : History T) (was now : ℕ) (r : Result (Result T TryRecvError) AllocError) → other.first ≡ h.first → other.accepted ≡ h.accepted
       → Finds is_clone h was now r → Finds is_clone other was now r
@@ -90,13 +93,10 @@ module _ {T : Type 0} (is_clone : T → T → Type 0) where
       ap (λ first. if nat_lt was first then None else slice_get other.accepted (was - first)) first
       ∙ ap (λ msgs. if nat_lt was h.first then None else slice_get msgs (was - h.first)) msgs in
       (subst (λ found. IsSomeAnd found (λ accepted. IsGiven is_clone accepted msg)) (sym at) is, on)
-  moved h other was now (Ok (Err (unread.Overflowed n))) first msgs found = found
+  moved h other was now (Ok (Err (unread.Overflowed n))) first msgs (some, on, most) =
+      (some, on, subst (λ end. now ≤ end) (sym (ends h other first msgs)) most)
   moved h other was now (Ok (Err unread.Empty)) first msgs (same, all) = (same, all ∙ sym (ends h other first msgs))
-    where
-      ends : (h other : History T) → other.first ≡ h.first → other.accepted ≡ h.accepted → end_number other ≡ end_number h
-      ends h other first msgs = ap (λ first. first + length other.accepted) first ∙ ap (λ msgs. h.first + length msgs) msgs
-  moved h other was now (Ok (Err unread.Closed)) first msgs (same, all) =
-      (same, all ∙ sym (ap (λ first. first + length other.accepted) first ∙ ap (λ msgs. h.first + length msgs) msgs))
+  moved h other was now (Ok (Err unread.Closed)) first msgs (same, all) = (same, all ∙ sym (ends h other first msgs))
   moved h other was now (Err error) first msgs found = found
 
   pub polled_finds : (h : History T) (key was now : ℕ) (p : Polled T) → IsValid h → Legal is_clone (view_of h) (call.PollRecv key) (reply.PollRecv p)

@@ -2,71 +2,79 @@
 use Rattle.std.proofs.Common.{◌≡◌, ◌⊎◌, inl, inr, ℕ, ◌+◌, Bool, length, Option, Some, None, Result, Ok, Err, refl, sym, ap, ◌∙◌, subst, arith}
 use Rattle.std.specs.Prelude.{IfOk, IfErr, IfSome}
 use Rattle.std.specs.declared.alloc.AllocError.{AllocError}
-use Rattle.futures.specs.declared.task.Poll.{Poll}
-use Rattle.bcast_model.specs.declared.error.RecvError.{RecvError}
+use mathlib.Core.List.{IsPrefix}
 use Rattle.bcast_model.specs.declared.error.TryRecvError.{TryRecvError}
+use Rattle.bcast_model.specs.declared.run.Call.{Call}
 use Rattle.bcast_model.specs.declared.run.Call.TheVariants as call
+use Rattle.bcast_model.specs.declared.run.Reply.{Reply}
 use Rattle.bcast_model.specs.declared.run.Reply.TheVariants as reply
-use Rattle.bcast_model.specs.Words.{view_of, given_by}
+use Rattle.bcast_model.specs.Words.{History, view_of, IsValid, Legal, next, given_by}
 use Rattle.bcast_history.specs.declared.step.Opening.{Opening}
 use Rattle.bcast_history.specs.History.{end_of}
 use Rattle.bcast_delivery.specs.Seen.{Known, Learns, reads_at}
-use Rattle.bcast_delivery.specs.Reading.{Reading, Finds, Takes, as_found, said_closed}
-use Rattle.bcast_delivery.proofs.Taken.{Goes, no_call, one_call, finds}
+use Rattle.bcast_delivery.specs.Reading.{Reading, Finds, Takes, IsSo, as_found, said_closed}
+use Rattle.bcast_delivery.proofs.Taken.{Goes, no_call, one_call, goes_on, ReadsAt, reads_there, finds}
 use Rattle.bcast_delivery.proofs.Polled.{Polled, polled_finds}
 
-module _ {T : Type 0} where
-  -- what a receive says of the channel is so
-  pub is_so : (o : Opening) (after : Known T) {said found : Option Bool} → after.closed ≡ (end_of o after.steps).control.closed
-      → found ≡ said → IfSome found (λ closed. closed ≡ after.closed) → IfSome said (λ closed. (end_of o after.steps).control.closed ≡ closed)
-  is_so o after {said = said} shown same told = shown_so said (subst (λ f. IfSome f (λ closed. closed ≡ after.closed)) same told)
-    where
-      shown_so : (s : Option Bool) → IfSome s (λ closed. closed ≡ after.closed) → IfSome s (λ closed. (end_of o after.steps).control.closed ≡ closed)
-      shown_so None t = tt
-      shown_so (Some b) t = sym (t ∙ shown)
+-- what a receive says of the channel is so
+is_so : {T : Type 0} (o : Opening) (after : Known T) (said : Option Bool) → after.closed ≡ (end_of o after.steps).control.closed
+    → IfSome said (λ closed. closed ≡ after.closed) → IfSome said (λ closed. (end_of o after.steps).control.closed ≡ closed)
+is_so o after None shown told = tt
+is_so o after (Some closed) shown told = sym (told ∙ shown)
 
 module _ {T : Type 0} (is_clone : T → T → Type 0) where
-  pub tried_takes : {o : Opening} {known after : Known T} {old : Reading T} {key was now given reader : ℕ} {r : Result (Result T TryRecvError) AllocError}
-      → record { key = key; next = was; steps = known.steps } ≡ old → reader ≡ old.key
-      → Learns is_clone o known (call.TryRecv reader) (reply.TryRecv r) after
-      → now ≡ reads_at (view_of (end_of o after.steps)) key → given ≡ length (given_by (reply.TryRecv r)) → now ≡ was + given
-      → Takes is_clone o old (record { key = key; next = now; steps = after.steps }) r
-  tried_takes {o = o} {known = known} {after = after} {key = key} {was = was} {now = now} {r = r} is_old its told at counted behind =
-      let reads = its ∙ sym (ap (λ (old : Reading T). old.key) is_old) in
-      let f = (subst (λ reader. Learns is_clone o known (call.TryRecv reader) (reply.TryRecv r) after) reads told).follows in
-      let found = finds is_clone (end_of o f.before) key was now r f.valid f.legal
-      (at ∙ ap (λ h. reads_at (view_of h) key) f.end) (behind ∙ ap (λ n. was + n) counted) in
-      subst (λ (old : Reading T). Takes is_clone o old (record { key = key; next = now; steps = after.steps }) r) is_old
-      (subst (λ h. Finds is_clone h was now r) (sym f.end) found)
+  -- what a receive found, and where its receiver reads on
+  pub record Received
+      (o : Opening) (old : Reading T) (after : Known T) (key now : ℕ) (found : Result (Result T TryRecvError) AllocError) : Type 0 where
+    pub reads : ReadsAt is_clone o after key now
+    pub seen : IsPrefix old.steps after.steps
+    pub takes : Takes is_clone o old (record { key = key; next = now; steps = after.steps }) found
+    pub closed : IsSo o (record { key = key; next = now; steps = after.steps }) (said_closed found)
 
-  pub polled_is_so : (o : Opening) (known after : Known T) (reader : ℕ) (p : Polled T) {found : Option Bool}
-      → IfOk p (λ poll. Learns is_clone o known (call.PollRecv reader) (reply.PollRecv (Ok poll)) after)
-      → found ≡ said_closed (as_found p) → IfSome found (λ closed. closed ≡ after.closed)
-      → IfSome (said_closed (as_found p)) (λ closed. (end_of o after.steps).control.closed ≡ closed)
-  polled_is_so o known after reader (Ok poll) learned same told = is_so o after learned.closed same told
-  polled_is_so o known after reader (Err error) learned same told = tt
+  module _
+      {o : Opening} (known : Known T) {after : Known T} {old : Reading T} {key was now given reader : ℕ} {said : Option Bool}
+      (is_old : record { key = key; next = was; steps = known.steps } ≡ old) (its : reader ≡ old.key) (before : ReadsAt is_clone o known key was)
+      (there : IfSome after.reader (λ at. at.1 ≡ now)) (behind : now ≡ was + given) (told : IfSome said (λ closed. closed ≡ after.closed)) where
+    module _
+        (call_of : ℕ → Call T) (r : Reply T) (found : Result (Result T TryRecvError) AllocError)
+        (finds_so : (h : History T) (key was now : ℕ) → IsValid h → Legal is_clone (view_of h) (call_of key) r
+        → now ≡ reads_at (view_of (next h (call_of key) r)) key → now ≡ was + length (given_by (reply.TryRecv found))
+        → Finds is_clone (next h (call_of key) r) was now found) where
+      -- a receive that was made
+      made : Learns is_clone o known (call_of reader) r after → given ≡ length (given_by (reply.TryRecv found)) → said ≡ said_closed found
+          → Received o old after key now found
+      made learned counted says =
+          let goes = one_call (call_of reader) r learned in
+          let reads = its ∙ sym (ap (λ (old : Reading T). old.key) is_old) in
+          let f = (subst (λ reader. Learns is_clone o known (call_of reader) r after) reads learned).follows in
+          let now_there = reads_there is_clone goes before there in
+          let found_so = finds_so (end_of o f.before) key was now f.valid f.legal
+          (now_there.1 ∙ ap (λ h. reads_at (view_of h) key) f.end) (behind ∙ ap (λ n. was + n) counted) in record {
+            reads = now_there;
+            seen = subst (λ (old : Reading T). IsPrefix old.steps after.steps) is_old (goes_on is_clone goes);
+            takes = subst (λ (old : Reading T). Takes is_clone o old (record { key = key; next = now; steps = after.steps }) found) is_old
+                (subst (λ h. Finds is_clone h was now found) (sym f.end) found_so);
+            closed = is_so o after (said_closed found) learned.closed (subst (λ said. IfSome said (λ closed. closed ≡ after.closed)) says told);
+          }
 
-  -- a poll for which memory was refused made no call
-  pub polled_goes : (X : Type 0) (o : Opening) (known after : Known T) (reader : ℕ) (p : Polled T)
-      → IfOk p (λ poll. Learns is_clone o known (call.PollRecv reader) (reply.PollRecv (Ok poll)) after)
-      → IfErr p (λ error. ((after ≡ known) × X) ⊎ Learns is_clone o known (call.PollRecv reader) (reply.PollRecv (Err error)) after)
-      → Goes is_clone o known after
-  polled_goes X o known after reader (Ok poll) learned refused = one_call _ _ learned
-  polled_goes X o known after reader (Err error) learned (inl same) = no_call same.0
-  polled_goes X o known after reader (Err error) learned (inr made) = one_call _ _ made
+    pub tried : {r : Result (Result T TryRecvError) AllocError} → Learns is_clone o known (call.TryRecv reader) (reply.TryRecv r) after
+        → given ≡ length (given_by (reply.TryRecv r)) → said ≡ said_closed r → Received o old after key now r
+    tried {r = r} = made call.TryRecv (reply.TryRecv r) r (λ h key was now. finds is_clone h key was now r)
 
-  pub polled_takes : (o : Opening) (known after : Known T) {old : Reading T} {key was now given reader : ℕ} (p : Polled T)
-      → record { key = key; next = was; steps = known.steps } ≡ old → reader ≡ old.key
-      → IfOk p (λ poll. Learns is_clone o known (call.PollRecv reader) (reply.PollRecv (Ok poll)) after)
-      → now ≡ reads_at (view_of (end_of o after.steps)) key → given ≡ length (given_by (reply.TryRecv (as_found p))) → now ≡ was + given
-      → Takes is_clone o old (record { key = key; next = now; steps = after.steps }) (as_found p)
-  polled_takes o known after {key = key} {was = was} {now = now} (Ok poll) is_old its told at counted behind =
-      let reads = its ∙ sym (ap (λ (old : Reading T). old.key) is_old) in
-      let f = (subst (λ reader. Learns is_clone o known (call.PollRecv reader) (reply.PollRecv (Ok poll)) after) reads told).follows in
-      let found = polled_finds is_clone (end_of o f.before) key was now (Ok poll) f.valid f.legal
-      (at ∙ ap (λ h. reads_at (view_of h) key) f.end) (behind ∙ ap (λ n. was + n) counted) in
-      subst (λ (old : Reading T). Takes is_clone o old (record { key = key; next = now; steps = after.steps }) (as_found (Ok poll))) is_old
-      (subst (λ h. Finds is_clone h was now (as_found (Ok poll))) (sym f.end) found)
-  polled_takes o known after {was = was} {now = now} (Err error) is_old its told at counted behind =
-      let same : now ≡ was = omega (arith, counted, behind) in
-      same ∙ ap (λ (old : Reading T). old.next) is_old
+    -- a poll for which memory was refused may have made no call
+    pub polled : (X : Type 0) (p : Polled T)
+        → IfOk p (λ poll. Learns is_clone o known (call.PollRecv reader) (reply.PollRecv (Ok poll)) after)
+        → IfErr p (λ error. ((after ≡ known) × X) ⊎ Learns is_clone o known (call.PollRecv reader) (reply.PollRecv (Err error)) after)
+        → given ≡ length (given_by (reply.TryRecv (as_found p))) → said ≡ said_closed (as_found p) → Received o old after key now (as_found p)
+    polled X (Ok poll) learned none counted says =
+        made call.PollRecv (reply.PollRecv (Ok poll)) (as_found (Ok poll)) (λ h key was now. polled_finds is_clone h key was now (Ok poll)) learned counted says
+    polled X (Err error) learned (inr learned') counted says =
+        made call.PollRecv (reply.PollRecv (Err error)) (Err error) (λ h key was now. polled_finds is_clone h key was now (Err error)) learned' counted says
+    polled X (Err error) learned (inl same) counted says =
+        let goes = no_call same.0 in
+        let kept : now ≡ was = omega (arith, counted, behind) in record {
+          reads = reads_there is_clone goes before there;
+          seen = subst (λ (old : Reading T). IsPrefix old.steps after.steps) is_old (goes_on is_clone goes);
+          takes = kept ∙ ap (λ (old : Reading T). old.next) is_old;
+          closed = tt;
+        }

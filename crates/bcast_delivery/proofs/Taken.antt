@@ -1,5 +1,5 @@
 -- What a receiver is given, and where it reads on.
-use Rattle.std.proofs.Common.{◌≡◌, inl, inr, ℕ, ◌+◌, ◌==◌, true, cond, List, [], ◌∷◌, length, Option, Some, None, Result, Ok, Err, refl, sym, ap, ◌∙◌, subst, arith}
+use Rattle.std.proofs.Common.{◌≡◌, inl, inr, ℕ, ◌+◌, ◌≤◌, ◌==◌, true, cond, List, [], ◌∷◌, length, Option, Some, None, Result, Ok, Err, refl, sym, ap, ◌∙◌, subst, arith}
 use Rattle.std.proofs.lemmas.Grind.{common_steps}
 use Rattle.std.proofs.lemmas.List.{length-replicate}
 use Rattle.std.specs.Prelude.{IfSome}
@@ -14,15 +14,16 @@ use Rattle.bcast_model.specs.declared.run.Call.{Call}
 use Rattle.bcast_model.specs.declared.run.Reply.{Reply}
 use Rattle.bcast_model.specs.Words.{History, view_of, next, IsValid, Legal, cursor_of, end_number}
 use Rattle.bcast_model.specs.Words.{IsDelivery, given_by}
+use Rattle.bcast_model.proofs.Answers.{next_valid}
 use Rattle.bcast_model.proofs.DeliverySteps.{gives_call}
 use Rattle.bcast_model.proofs.DeliveryAnswers.{Gives}
 use Rattle.bcast_history.specs.declared.step.Opening.{Opening}
-use Rattle.bcast_history.specs.History.{end_of}
+use Rattle.bcast_history.specs.History.{IsHistory, end_of}
 use Rattle.bcast_delivery.specs.Seen.{Known, Learns, reader_in, reads_at}
 use Rattle.bcast_delivery.specs.Reading.{Finds}
 use Rattle.bcast_history.proofs.Prefixes.{prefix_self}
 use Rattle.bcast_delivery.specs.Knowing.{learns_reaches}
-use Rattle.bcast_delivery.proofs.Found.{present, delivered_stays, missed_some, read_all}
+use Rattle.bcast_delivery.proofs.Found.{present, delivered_stays, missed_some, read_all, reads_at_most}
 
 module _ {T : Type 0} (is_clone : T → T → Type 0) where
   -- what a `try_recv` finds, and where its receiver reads on
@@ -32,7 +33,9 @@ module _ {T : Type 0} (is_clone : T → T → Type 0) where
       → Finds is_clone (next h (call.TryRecv key) (reply.TryRecv r)) was now r
   finds h key was now (Err error) valid legal at counted = omega (arith, counted)
   finds h key was now (Ok (Err (unread.Overflowed n))) valid legal at counted =
-      (missed_some is_clone (view_of h) key (cursor_of h.control key) n legal, counted ∙ ap (λ m. was + m) (length-replicate n None))
+      let made = next h (call.TryRecv key) (reply.TryRecv (Ok (Err (unread.Overflowed n)))) in
+      let most : now ≤ end_number made = rw at (reads_at_most made key (next_valid is_clone h (call.TryRecv key) _ tt valid legal)) in
+      (missed_some is_clone (view_of h) key (cursor_of h.control key) n legal, counted ∙ ap (λ m. was + m) (length-replicate n None), most)
   finds h key was now (Ok (Err unread.Empty)) valid legal at counted =
       let same : now ≡ was = omega (arith, counted) in
       (same, sym same ∙ at ∙ read_all is_clone h key unread.Empty valid (λ n e. cc e) legal)
@@ -67,17 +70,23 @@ module _ {T : Type 0} (is_clone : T → T → Type 0) where
   goes_on {known = known} (no_call same) = subst (λ (k : Known T). IsPrefix known.steps k.steps) (sym same) (prefix_self known.steps)
   goes_on (one_call c r learned) = (learns_reaches learned).steps
 
-  -- and the receiver reads on at the number that was found
-  pub reads_there : {o : Opening} {known after : Known T} {key was now : ℕ} {reader : Option (ℕ × ℕ)}
-      → Goes o known after → known.reader ≡ Some (key, was) → was ≡ reads_at (view_of (end_of o known.steps)) key
-      → reader ≡ after.reader → IfSome reader (λ at. at.1 ≡ now)
-      → (after.reader ≡ Some (key, now)) × (now ≡ reads_at (view_of (end_of o after.steps)) key)
-  reads_there {o = o} {known = known} {after = after} {key = key} {was = was} {now = now} (no_call same) at its is found =
+  -- the receiver reads on at this number, on a channel of which a run is known
+  abbrev pub ReadsAt : Opening → Known T → ℕ → ℕ → Type 0
+  ReadsAt o known key next =
+      (known.reader ≡ Some (key, next)) × (next ≡ reads_at (view_of (end_of o known.steps)) key) × IsHistory is_clone o known.steps
+
+  -- it reads on at the number that was found
+  pub reads_there : {o : Opening} {known after : Known T} {key was now : ℕ}
+      → Goes o known after → ReadsAt o known key was → IfSome after.reader (λ at. at.1 ≡ now) → ReadsAt o after key now
+  reads_there {o = o} {known = known} {after = after} {key = key} {was = was} {now = now} (no_call same) (at, its, history) found =
       let there : after.reader ≡ Some (key, was) = ap (λ (k : Known T). k.reader) same ∙ at in
-      let kept : was ≡ now = subst (λ p. IfSome p (λ (at : ℕ × ℕ). at.1 ≡ now)) (is ∙ there) found in
-      (there ∙ ap (λ n. Some (key, n)) kept, sym kept ∙ its ∙ sym (ap (λ (k : Known T). reads_at (view_of (end_of o k.steps)) key) same))
-  reads_there {o = o} {known = known} {after = after} {key = key} {now = now} (one_call c r learned) at its is found =
+      let kept : was ≡ now = subst (λ p. IfSome p (λ (at : ℕ × ℕ). at.1 ≡ now)) there found in (
+        there ∙ ap (λ n. Some (key, n)) kept,
+        sym kept ∙ its ∙ sym (ap (λ (k : Known T). reads_at (view_of (end_of o k.steps)) key) same),
+        subst (λ (k : Known T). IsHistory is_clone o k.steps) (sym same) history,
+      )
+  reads_there {o = o} {after = after} {key = key} {now = now} (one_call c r learned) (at, its, history) found =
       let there : after.reader ≡ Some (key, reads_at (view_of (end_of o after.steps)) key) =
       learned.reader ∙ ap (reader_in (view_of (end_of o after.steps))) at in
-      let reads : reads_at (view_of (end_of o after.steps)) key ≡ now = subst (λ p. IfSome p (λ (at : ℕ × ℕ). at.1 ≡ now)) (is ∙ there) found in
-      (there ∙ ap (λ n. Some (key, n)) reads, sym reads)
+      let reads : reads_at (view_of (end_of o after.steps)) key ≡ now = subst (λ p. IfSome p (λ (at : ℕ × ℕ). at.1 ≡ now)) there found in
+      (there ∙ ap (λ n. Some (key, n)) reads, sym reads, learned.follows.history)

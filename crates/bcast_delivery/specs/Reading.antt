@@ -59,10 +59,11 @@ module _ {T : Type 0} where
 module _ {T : Type 0} (is_clone : T → T → Type 0) where
   -- what a receiver finds that read on at `was`, and where it reads on now, on a channel that is
   -- `h` then: a message is the accepted one of the number `was`, or a clone, and the one behind it is
-  -- next; one that missed some goes on behind them; else it has read all
+  -- next; one that missed some goes on behind them, at the end at most; else it has read all
   abbrev pub Finds : History T → ℕ → ℕ → Result (Result T TryRecvError) AllocError → Type 0
   Finds h was now (Ok (Ok msg)) = IsDelivery is_clone h was (Some msg) × (now ≡ was + 1)
-  Finds h was now (Ok (Err (unread.Overflowed n))) = (0 < n) × (now ≡ was + n)
+  Finds h was now (Ok (Err (unread.Overflowed n))) =
+      (0 < n) × (now ≡ was + n) × (now ≤ end_number h)
   Finds h was now (Ok (Err unread.Empty)) = (now ≡ was) × (was ≡ end_number h)
   Finds h was now (Ok (Err unread.Closed)) = (now ≡ was) × (was ≡ end_number h)
   Finds h was now (Err error) = now ≡ was

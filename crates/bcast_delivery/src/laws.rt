@@ -1,6 +1,7 @@
 //! What follows from what calls tell.
 ghost use Rattle.bcast_delivery.specs.Laws.{MessagesStay, SendsStandLast, ReceiversReadOn};
 ghost use Rattle.bcast_delivery.specs.Log.{LogsAreAccepted};
+ghost use Rattle.bcast_delivery.specs.Closed.{ClosedIsLast, EndIsLast};
 
 /// Law: a message keeps its number, whatever calls follow. So what two receivers are given of the
 /// same number is the same message, or a clone of it.
@@ -24,4 +25,15 @@ pub fn receivers_read_on<T: Clone>()
 /// ends where the channel ended. So two such logs are the same list.
 pub fn logs_are_accepted<T>()
     ensures { LogsAreAccepted T }
+{}
+
+/// Law: once a receive has returned `Closed`, each later one of the same receiver does, if memory
+/// isn't refused. So after `Closed` there is never a message.
+pub fn closed_is_last<T: Clone>()
+    ensures { ClosedIsLast T.is_clone }
+{}
+
+/// Law: once a stream has ended, it stays so.
+pub fn end_is_last<T: Clone>()
+    ensures { EndIsLast T.is_clone }
 {}

@@ -35,7 +35,10 @@ mod seen;
 mod steps;
 
 pub use bcast_history::{Opening, Step};
-pub use laws::{logs_are_accepted, messages_stay, receivers_read_on, sends_stand_last};
+pub use laws::{
+    closed_is_last, end_is_last, logs_are_accepted, messages_stay, receivers_read_on,
+    sends_stand_last,
+};
 pub use opened::{History, HistoryInactive, HistoryReceiver, HistorySender, Opened, broadcast};
 pub use reading::Reading;
 pub use seen::Seen;

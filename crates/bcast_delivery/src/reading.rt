@@ -3,7 +3,7 @@ ghost use Rattle.std.specs.Prelude.{◌≡◌, ◌+◌, Some, None, IfSome, leng
 ghost use mathlib.Core.List.{IsPrefix};
 ghost use Rattle.bcast_model.specs.declared.run.Reply.TheVariants as reply;
 ghost use Rattle.bcast_model.specs.Words.{given_by, view_of};
-ghost use Rattle.bcast_history.specs.History.{end_of};
+ghost use Rattle.bcast_history.specs.History.{IsHistory, end_of};
 ghost use Rattle.async_broadcast.specs.Ports.{as_try_recv};
 ghost use Rattle.async_broadcast.specs.Timed.{as_timed_try};
 ghost use Rattle.bcast_delivery.specs.Seen.{reads_at};
@@ -28,14 +28,15 @@ mod polling;
 /// With each call that number is compared with the channel's, under the lock. If they differ, since
 /// the receiver received without it, the call waits for ever.
 #[derive(Drop)]
-pub struct Reading<T, J: Channel> {
+pub struct Reading<T: Clone, J: Channel> {
     key: usize,
     next: u64,
     seen: Seen<T, J>,
 }
 
-impl<T, J: Channel> Model for Reading<T, J> {
+impl<T: Clone, J: Channel> Model for Reading<T, J> {
     ghost use Rattle.std.specs.Prelude.{◌≡◌, Some};
+    ghost use Rattle.bcast_history.specs.History.{IsHistory};
     ghost use Rattle.bcast_delivery.specs.Reading.{Reading, ReadsOnThere};
 
     ghost Value = { Reading T };
@@ -44,13 +45,15 @@ impl<T, J: Channel> Model for Reading<T, J> {
 
     ghost invariant = { λ r. (r.seen.reader ≡ Some (r.key, r.next))
         × ReadsOnThere J.opening
-        (record { key = r.key; next = r.next; steps = r.seen.steps }) };
+        (record { key = r.key; next = r.next; steps = r.seen.steps })
+        × IsHistory T.is_clone J.opening r.seen.steps };
 }
 
-impl<T, J: Channel> Reading<T, J> {
+impl<T: Clone, J: Channel> Reading<T, J> {
     // Of the receiver of this key, which reads next the message of this number.
     pub(crate) fn new(key: usize, next: u64, seen: &Seen<T, J>) -> Self
-        requires { next ≡ reads_at (view_of (end_of J.opening seen.now.steps)) key }
+        requires next { next ≡ reads_at (view_of (end_of J.opening seen.now.steps)) key }
+        requires history { IsHistory T.is_clone J.opening seen.now.steps }
         ensures { result ≡ record { key = key; next = next; steps = seen.now.steps } }
     {
         Reading {
@@ -66,9 +69,15 @@ impl<T, J: Channel> Reading<T, J> {
     {
         self.seen.elsewhere()
     }
-}
 
-impl<T: Clone, J: Channel> Reading<T, J> {
+    /// Proves that what the receiver has seen is a run of the channel, of which the laws speak.
+    /// Does nothing.
+    pub fn invariant_holds(&self)
+        ensures { IsHistory T.is_clone J.opening self.now.steps }
+    {
+        let _ = &self.seen;
+    }
+
     /// Receives the next message by the receiver of this key, if there is one, as its `try_recv`
     /// does.
     ///

@@ -1,5 +1,5 @@
 -- What was learned, and where the receiver starts.
-use Rattle.std.proofs.Common.{subst, refl}
+use Rattle.std.proofs.Common.{subst}
 use mathlib.Core.List.{IsPrefix}
 use Rattle.bcast_delivery.proofs.Making.{made_goes, cloned_reads_at}
 use Rattle.bcast_delivery.proofs.Taken.{goes_on, reads_there}
@@ -8,8 +8,11 @@ use Rattle.bcast_delivery.proofs.reading.Reading.clone.Goals as goal
 pub new-reading-requires : goal.new-reading-requires
 new-reading-requires g c =
     let goes = made_goes _ _ _ _ c.clone_seen-made.ensures.learned c.clone_seen-made.ensures.refused in
-    let there = reads_there _ goes c.self.invariant.0 c.self.invariant.1 refl c.agreed.ensures.reader in
-    rw c.key.ensures (cloned_reads_at c.self.view_is c.requires c.in_ok-made.ensures.learned there.1 c.agreed.ensures.next)
+    let there = reads_there _ goes c.self.invariant c.agreed.ensures.reader in
+    record {
+      next = rw c.key.ensures (cloned_reads_at c.self.view_is c.requires c.in_ok-made.ensures.learned there.1 c.agreed.ensures.next);
+      history = there.2;
+    }
 
 pub returns-clause-seen : goal.returns-clause-seen
 returns-clause-seen g c =

@@ -4,7 +4,9 @@ use Rattle.bcast_delivery.proofs.Taken.{goes_on}
 use Rattle.bcast_delivery.proofs.reading.Reading.new_receiver.Goals as goal
 
 pub new-reading-requires : goal.new-reading-requires
-new-reading-requires g c = rw (c.key.ensures, c.end.ensures) (new_reads_at c.in_ok-made.ensures.learned)
+new-reading-requires g c =
+    let learned = c.in_ok-made.ensures.learned in
+    record { next = rw (c.key.ensures, c.end.ensures) (new_reads_at learned); history = learned.follows.history }
 
 pub returns-in_err-made-clause-seen : goal.returns-in_err-made-clause-seen
 returns-in_err-made-clause-seen g c =
