@@ -1,14 +1,16 @@
 //! The lists of a run: what each receiver received.
-ghost use Rattle.std.specs.Prelude.{◌≡◌, IfOk, All, length};
+ghost use Rattle.std.specs.Prelude.{◌≡◌, ◌*◌, IfOk, IfSome, All, length};
+ghost use Rattle.std.specs.Bool.{OnTrue};
 ghost use Rattle.bcast_model.specs.Words.{end_number};
 ghost use Rattle.bcast_history.specs.History.{end_of};
 ghost use Rattle.bcast_delivery.specs.Follows.{accepted_by};
-ghost use Rattle.bcast_threads.specs.Lists.{IsOneList};
+ghost use Rattle.bcast_threads.specs.Lists.{IsOneList, HasAll};
+ghost use Rattle.bcast_text.specs.Order.{HoldsEachOnce};
 
 use crate::fault::Fault;
 use crate::plan::Plan;
 use crate::started::{Started, clones_of};
-use crate::work::Log;
+use crate::work::{Log, Sent};
 use bcast_delivery::{Channel, Opened, Seen, broadcast};
 use std::alloc::Global;
 use std::marker::Brand;
@@ -19,7 +21,7 @@ use std::thread::Threads;
 const CAPACITY: usize = 16;
 
 /// Runs the plan's threads to their end, and returns what each receiver received: all that the
-/// channel accepted, so all lists are the same.
+/// channel accepted, so all lists are the same. Each number that was to be sent is there once.
 ///
 /// # Errors
 ///
@@ -27,7 +29,8 @@ const CAPACITY: usize = 16;
 ///
 /// - `NoMemory`: there was no memory, in this thread or another. The channel, if any, was closed.
 /// - `NoThread`: a thread could not be started. The channel was closed.
-/// - `Missed`: a receiver did not receive all that the channel accepted.
+/// - `Missed`: a receiver did not receive all that the channel accepted, or the numbers that it
+///   accepted are not those that were to be sent.
 pub fn lists_of<R: Threads + Wait + Clone + Send + 'static>(
     rt: &R,
     alloc: Global,
@@ -35,6 +38,8 @@ pub fn lists_of<R: Threads + Wait + Clone + Send + 'static>(
 ) -> Result<Vec<Vec<u64>>, Fault>
     ensures count { IfOk result (λ lists. length lists.items ≡ plan.receivers) }
     ensures same { IfOk result (λ lists. IsOneList (λ list. list.items) lists.items) }
+    ensures each { IfOk result (λ lists. All (λ list.
+        HoldsEachOnce list.items (plan.senders * plan.messages)) lists.items) }
 {
     let opened = Opened::new(alloc, CAPACITY)?;
     lists_over::<Brand, R>(rt, alloc, plan, opened)
@@ -50,18 +55,60 @@ fn lists_over<J: Channel + Send + Sync + 'static, R: Threads + Wait + Clone + Se
     requires first { opened.opening.first_number ≡ 0 }
     ensures count { IfOk result (λ lists. length lists.items ≡ plan.receivers) }
     ensures same { IfOk result (λ lists. IsOneList (λ list. list.items) lists.items) }
+    ensures each { IfOk result (λ lists. All (λ list.
+        HoldsEachOnce list.items (plan.senders * plan.messages)) lists.items) }
 {
     let (sender, receiver, reading) = broadcast(rt.clone()?, alloc, opened)?;
     let mut seen = reading.seen();
     let readers = clones_of(rt, alloc, receiver, reading, plan.receivers)?;
     let mut threads = Started::<J>::with_room(alloc, plan)?;
-    let started = threads.start(rt, alloc, plan, &sender, readers);
+    let started = threads.start(rt, alloc, plan, &sender, &seen, readers);
     let Started { senders, receivers } = threads;
-    senders.join(rt);
+    let sent = numbers_sent(senders.join(rt), &mut seen);
     sender.close_seen(&mut seen);
     let logs = receivers.join(rt);
     started?;
-    all_of(alloc, logs, &seen)
+    let lists = all_of(alloc, logs, &seen)?;
+    if !is_each_once(plan, sent, &seen) {
+        return Err(Fault::Missed);
+    }
+    Ok(lists)
+}
+
+/// The numbers from 0 on that were sent, up to the one that is returned, by the senders as they
+/// were started, the last one first.
+fn numbers_sent<J: Channel>(mut senders: Vec<Sent<J>>, seen: &mut Seen<u64, J>) -> u64
+    ensures { HasAll 0 result (accepted_by J.opening seen.new.steps) }
+{
+    let mut end = 0;
+    while let Some(sent) = senders.pop() {
+        seen.learn(&sent.seen);
+        if sent.first == end {
+            end = sent.end;
+        }
+    }
+    end
+}
+
+/// Whether the channel accepted each number that was to be sent, and nothing else.
+fn is_each_once<J: Channel>(plan: Plan, sent: u64, closed: &Seen<u64, J>) -> bool
+    requires first { J.opening.first_number ≡ 0 }
+    requires end { closed.now.end ≡ end_number (end_of J.opening closed.now.steps) }
+    requires sent { HasAll 0 sent (accepted_by J.opening closed.now.steps) }
+    ensures { OnTrue result (HoldsEachOnce (accepted_by J.opening closed.now.steps)
+        (plan.senders * plan.messages)) }
+{
+    let Some(total) = total_of(plan) else {
+        return false;
+    };
+    total == sent && sent == closed.end()
+}
+
+/// How many numbers are to be sent.
+fn total_of(plan: Plan) -> Option<u64>
+    ensures { IfSome result (λ total. total ≡ plan.senders * plan.messages) }
+{
+    plan.senders.checked_mul(plan.messages)
 }
 
 /// The lists, if each receiver received all that the channel had accepted when it was closed.

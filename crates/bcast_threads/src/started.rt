@@ -6,16 +6,15 @@ ghost use Rattle.bcast_threads.specs.Given.{WasClosed};
 use crate::fault::Fault;
 use crate::group::Group;
 use crate::plan::Plan;
-use crate::work::{Log, Reader, receive_all, send_all};
-use async_broadcast::{Port, Sender, WakerSlot};
-use bcast_delivery::{Channel, History, HistoryReceiver, HistorySender, Reading};
+use crate::work::{Log, Reader, Sent, receive_all, send_all};
+use bcast_delivery::{Channel, History, HistoryReceiver, HistorySender, Reading, Seen};
 use std::alloc::{AllocError, Global};
 use std::sync::Wait;
 use std::thread::Threads;
 
 /// The threads that were started. It can't be dropped: they must be joined.
 pub(crate) struct Started<J: Channel> {
-    pub(crate) senders: Group<()>,
+    pub(crate) senders: Group<Sent<J>>,
     pub(crate) receivers: Group<Result<Log<J>, Fault>>,
 }
 
@@ -52,6 +51,7 @@ impl<J: Channel + Send + Sync + 'static> Started<J> {
         alloc: Global,
         plan: Plan,
         sender: &HistorySender<u64, R, J>,
+        seen: &Seen<u64, J>,
         readers: Vec<Reader<J, History<u64, R, J>>>,
     ) -> Result<(), Fault>
         requires senders { vec_len self.old.senders.running + plan.senders
@@ -67,7 +67,7 @@ impl<J: Channel + Send + Sync + 'static> Started<J> {
     {
         let mut started = self.start_receivers(rt, alloc, plan, readers);
         if started.is_ok() {
-            started = self.start_senders(rt, plan, sender);
+            started = self.start_senders(rt, plan, sender, seen);
         }
         if started.is_err() {
             sender.close();
@@ -98,11 +98,12 @@ impl<J: Channel + Send + Sync + 'static> Started<J> {
         Ok(())
     }
 
-    fn start_senders<R: Threads, P: Port<u64, WakerSlot> + Send + 'static>(
+    fn start_senders<R: Threads + Wait + Clone + Send + 'static>(
         &mut self,
         rt: &R,
         plan: Plan,
-        sender: &Sender<u64, P>,
+        sender: &HistorySender<u64, R, J>,
+        seen: &Seen<u64, J>,
     ) -> Result<(), Fault>
         requires { vec_len self.old.senders.running + plan.senders
             ≤ vec_capacity self.old.senders.running }
@@ -113,12 +114,11 @@ impl<J: Channel + Send + Sync + 'static> Started<J> {
         let count = plan.messages;
         for number in 0..plan.senders {
             let sender = sender.clone()?;
+            let seen = seen.same();
             let first = number.saturating_mul(count);
-            self.senders.start(
-                rt,
-                plan.sender_stack,
-                move || send_all(sender, first, count),
-            )?;
+            self.senders.start(rt, plan.sender_stack, move || {
+                send_all(sender, seen, first, count)
+            })?;
         }
         Ok(())
     }

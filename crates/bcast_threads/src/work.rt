@@ -2,13 +2,16 @@
 ghost use Rattle.std.specs.Prelude.{◌≡◌, IfOk, IfErr};
 ghost use Rattle.bcast_delivery.specs.Follows.{accepted_by};
 ghost use Rattle.bcast_delivery.specs.Log.{IsWholeLog};
+ghost use Rattle.bcast_delivery.specs.Closed.{HasReadAll};
 ghost use Rattle.bcast_delivery.specs.Seen.{GivesInHistory};
 ghost use Rattle.bcast_threads.specs.Given.{WasClosed};
+ghost use Rattle.bcast_threads.specs.Lists.{HasAll};
 
 use crate::fault::Fault;
-use async_broadcast::{Port, Receiver, RecvError, Sender, WakerSlot};
+use async_broadcast::{Port, Receiver, RecvError, WakerSlot};
 use bcast_delivery::{
-    Channel, History, HistoryReceiver, Reading, logs_are_accepted, messages_stay,
+    Channel, History, HistoryReceiver, HistorySender, Reading, Seen, closed_is_last,
+    logs_are_accepted, messages_stay, sends_stand_last,
 };
 use std::alloc::{Allocator, Global};
 use std::sync::Wait;
@@ -22,6 +25,15 @@ pub struct Reader<J: Channel, P: Port<u64, WakerSlot>> {
     ghost start: { reading.next ≡ J.opening.first_number },
 }
 
+/// The numbers that a sender sent: from `first` on, up to the one before `end`.
+#[derive(Drop)]
+pub struct Sent<J: Channel> {
+    pub first: u64,
+    pub end: u64,
+    pub seen: Seen<u64, J>,
+    ghost sent: { HasAll first end (accepted_by J.opening seen.steps) },
+}
+
 /// What a receiver received till it found the channel closed: all messages that the channel had
 /// accepted, in order.
 #[derive(Drop)]
@@ -29,15 +41,26 @@ pub struct Log<J: Channel, A: Allocator = Global> {
     pub list: Vec<u64, A>,
     pub reading: Reading<u64, J>,
     ghost whole: { list.items ≡ accepted_by J.opening reading.steps },
+    ghost ended: { HasReadAll J.opening reading },
 }
 
 /// Sends `count` numbers from `first` on, in rising order, unless the channel is closed before.
-pub fn send_all<P: Port<u64, WakerSlot>>(sender: Sender<u64, P>, first: u64, count: u64) {
+/// Returns those that it sent.
+pub fn send_all<J: Channel, R: Wait + Clone>(
+    sender: HistorySender<u64, R, J>,
+    mut seen: Seen<u64, J>,
+    first: u64,
+    count: u64,
+) -> Sent<J> {
+    sends_stand_last::<u64>();
+    let mut end = first;
     for msg in first..first.saturating_add(count) {
-        if sender.broadcast_blocking(msg).is_err() {
+        if sender.broadcast_blocking_seen(&mut seen, msg).is_err() {
             break;
         }
+        end = msg + 1;
     }
+    Sent { first, end, seen }
 }
 
 /// Returns what the receiver receives until the channel is closed.
@@ -84,9 +107,11 @@ fn received<J: Channel, R: Wait + Clone, A: Allocator>(
     requires start { reading.old.next ≡ J.opening.first_number }
     ensures whole { IfOk result (λ list.
         IsWholeLog J.opening J.opening.first_number list.items reading.new) }
+    ensures ended { IfOk result (λ _. HasReadAll J.opening reading.new) }
     ensures same { receiver.new ≡ receiver.old }
 {
     messages_stay::<u64>();
+    closed_is_last::<u64>();
     let mut list = Vec::with_capacity(alloc, count)?;
     for _ in rt.forever() {
         match reading.recv_blocking(rt, receiver)? {

@@ -2,8 +2,8 @@
 ghost use Rattle.std.specs.Prelude.{◌≡◌, ◌<◌, ◌≤◌};
 
 use crate::streams::Taker;
-use async_broadcast::{Port, Receiver, Sender, WakerSlot, broadcast as plain};
-use bcast_delivery::{Channel, Opened, Reading, broadcast};
+use async_broadcast::{Port, Receiver, Sender, WakerSlot};
+use bcast_delivery::{Channel, History, HistorySender, Opened, Reading, broadcast};
 use bcast_text::threads::outcome::print_seen;
 use bcast_threads::plan::{Plan, run as run_plan, threads};
 use bcast_threads::work::{Reader, receive_all, send_all};
@@ -28,10 +28,15 @@ pub fn run<R: Threads + Wait + Clone + Send + 'static, W: Write>(
     no_thread(rt, alloc, output)?;
     write_fails(rt, alloc, output)?;
     compared(alloc, output)?;
-    order_is_kept(rt, alloc, output)?;
-    no_memory_closes(rt, alloc, 100, output)?;
-    no_memory_closes(rt, alloc, 0, output)?;
-    closed_ends_sender(rt, alloc, output)
+    for its in [
+        Row::Order,
+        Row::NoMemory(100),
+        Row::NoMemory(0),
+        Row::Closed,
+    ] {
+        run_row(rt, alloc, its, output)?;
+    }
+    Ok(())
 }
 
 /// Runs this many senders, receivers and messages of each sender.
@@ -120,20 +125,34 @@ fn list_of(alloc: Global, numbers: [u64; 3]) -> Result<Vec<u64>, AllocError> {
     Ok(list)
 }
 
-/// What a receiver received is in the order of receiving.
-fn order_is_kept<R: Wait + Clone, W: Write>(
-    rt: &R,
-    alloc: Global,
-    output: &mut W,
-) -> io::Result<()> {
-    let opened = Opened::new(alloc, 3)?;
-    order_over::<Brand, R, W>(rt, alloc, opened, output)
+/// What is done on a channel of its own.
+#[derive(Clone, Copy)]
+enum Row {
+    /// What a receiver received is in the order of receiving.
+    Order,
+    /// A receiver that is refused memory closes the channel, whether it takes memory for so many
+    /// messages at first or for one after another, and another receiver can still read what it had
+    /// to read.
+    NoMemory(usize),
+    /// A sender ends if the channel is closed.
+    Closed,
 }
 
-fn order_over<J: Channel, R: Wait + Clone, W: Write>(
+fn run_row<R: Wait + Clone, W: Write>(
+    rt: &R,
+    alloc: Global,
+    row: Row,
+    output: &mut W,
+) -> io::Result<()> {
+    let opened = Opened::new(alloc, 100)?;
+    run_row_over::<Brand, R, W>(rt, alloc, opened, row, output)
+}
+
+fn run_row_over<J: Channel, R: Wait + Clone, W: Write>(
     rt: &R,
     alloc: Global,
     opened: Opened<u64>,
+    row: Row,
     output: &mut W,
 ) -> io::Result<()>
     requires { (opened.book ≡ J.book) × (opened.opening ≡ J.opening) }
@@ -143,8 +162,22 @@ fn order_over<J: Channel, R: Wait + Clone, W: Write>(
         alloc,
         opened,
     )?;
-    send_three(&sender, output)?;
     let reader = Reader { receiver, reading };
+    match row {
+        Row::Order => order(rt, alloc, sender, reader, output),
+        Row::NoMemory(awaited) => no_memory(rt, alloc, sender, reader, awaited, output),
+        Row::Closed => closed(sender, reader, output),
+    }
+}
+
+fn order<J: Channel, R: Wait + Clone, W: Write>(
+    rt: &R,
+    alloc: Global,
+    sender: HistorySender<u64, R, J>,
+    reader: Reader<J, History<u64, R, J>>,
+    output: &mut W,
+) -> io::Result<()> {
+    send_three(&sender, output)?;
     match receive_all(rt, alloc, reader, 3) {
         Ok(log) => writeln!(output, "received {:?}", log.list.as_slice()),
         Err(fault) => writeln!(output, "{fault:?}"),
@@ -165,38 +198,19 @@ fn send_three<P: Port<u64, WakerSlot>, W: Write>(
     Ok(())
 }
 
-/// A receiver that is refused memory closes the channel, whether it takes memory for all messages
-/// at first or for one after another, and another receiver can still read what it had to read.
-fn no_memory_closes<R: Wait + Clone, W: Write>(
+fn no_memory<J: Channel, R: Wait + Clone, W: Write>(
     rt: &R,
     alloc: Global,
+    sender: HistorySender<u64, R, J>,
+    reader: Reader<J, History<u64, R, J>>,
     awaited: usize,
     output: &mut W,
 ) -> io::Result<()> {
-    let opened = Opened::new(alloc, 100)?;
-    closes_over::<Brand, R, W>(rt, alloc, opened, awaited, output)
-}
-
-fn closes_over<J: Channel, R: Wait + Clone, W: Write>(
-    rt: &R,
-    alloc: Global,
-    opened: Opened<u64>,
-    awaited: usize,
-    output: &mut W,
-) -> io::Result<()>
-    requires { (opened.book ≡ J.book) × (opened.opening ≡ J.opening) }
-{
-    let (sender, receiver, reading): (_, _, Reading<u64, J>) = broadcast(
-        rt.clone()?,
-        alloc,
-        opened,
-    )?;
     send_hundred(&sender, output)?;
-    let Ok(other) = receiver.clone() else {
+    let Ok(other) = reader.receiver.clone() else {
         return output.write_all(b"no clone\n");
     };
     let heap = LocalHeap::new(alloc, 64)?;
-    let reader = Reader { receiver, reading };
     let is_err = receive_all(rt, &heap, reader, awaited).is_err();
     write_closed(is_err, &sender, &other, output)
 }
@@ -228,14 +242,13 @@ fn write_closed<P: Port<u64, WakerSlot>, W: Write>(
     )
 }
 
-/// A sender ends if the channel is closed.
-fn closed_ends_sender<R: Wait + Clone, W: Write>(
-    rt: &R,
-    alloc: Global,
+fn closed<J: Channel, R: Wait + Clone, W: Write>(
+    sender: HistorySender<u64, R, J>,
+    reader: Reader<J, History<u64, R, J>>,
     output: &mut W,
 ) -> io::Result<()> {
-    let (sender, receiver) = plain(rt.clone()?, alloc, 1)?;
-    receiver.close();
-    send_all(sender, 0, 100);
-    writeln!(output, "closed, and {} sent", receiver.len())
+    reader.receiver.close();
+    let sent = send_all(sender, reader.reading.seen(), 0, 100);
+    let kept = reader.receiver.len();
+    writeln!(output, "closed, and {} sent, {kept} kept", sent.end)
 }

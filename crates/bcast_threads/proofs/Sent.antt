@@ -1,0 +1,88 @@
+-- What was sent is accepted, and stays so.
+use Rattle.std.proofs.Common.{◌≡◌, inl, inr, ℕ, ◌+◌, ◌<◌, ◌≤◌, ◌||◌, Bool, true, false, nat_eq, List, [], ◌∷◌, ◌++◌, length, slice_index_or, Option, Result, Ok, Err, refl, sym, ap, ◌∙◌, subst, arith}
+use Rattle.std.proofs.lemmas.Grind.{common_steps}
+use Rattle.std.proofs.lemmas.Bool.{cases_eq, cases_lt}
+use Rattle.std.proofs.lemmas.List.Folds.{Any-from_list_any, list_any-append}
+use Rattle.std.specs.Prelude.{Contains}
+use Rattle.std.specs.List.{list_any}
+use Rattle.std.specs.Result.{is_err}
+use mathlib.Core.List.{IsPrefix}
+use Rattle.bcast_model.specs.declared.error.SendError.{SendError}
+use Rattle.bcast_model.specs.declared.run.Call.TheVariants as call
+use Rattle.bcast_model.specs.declared.run.Reply.TheVariants as reply
+use Rattle.bcast_model.specs.declared.run.SendPoll.TheVariants as send
+use Rattle.bcast_model.specs.declared.run.Reply.{Reply}
+use Rattle.bcast_model.specs.Words.{end_number}
+use Rattle.bcast_laws.specs.Sends.{is_accepted}
+use Rattle.bcast_text.specs.Order.{HoldsEachOnce}
+use Rattle.bcast_history.specs.declared.step.Opening.{Opening}
+use Rattle.bcast_history.specs.declared.step.Step.{Step}
+use Rattle.bcast_history.specs.History.{start_of, end_of}
+use Rattle.bcast_delivery.specs.Follows.{Follows, accepted_by}
+use Rattle.bcast_delivery.specs.Laws.{SendsStandLast}
+use Rattle.bcast_delivery.proofs.Logged.{first_kept}
+use Rattle.bcast_delivery.proofs.Sent.{accepted_grows}
+use Rattle.bcast_threads.specs.Lists.{HasAll}
+
+abbrev Has : List ℕ → ℕ → Type 0
+Has list number = list_any (nat_eq number) list ≡ true
+
+still_there : (msgs later : List ℕ) (number : ℕ) → IsPrefix msgs later → Has msgs number → Has later number
+still_there msgs later number (rest, whole) there =
+    subst (λ all. Has all number) whole
+    (list_any-append (nat_eq number) msgs rest ∙ ap (λ b. b || list_any (nat_eq number) rest) there)
+
+pushed : (msgs : List ℕ) (number : ℕ) → Has (msgs ++ number ∷ []) number
+pushed msgs number =
+    let itself : nat_eq number number ≡ true = grind (arith, common_steps) in
+    list_any-append (nat_eq number) msgs (number ∷ [])
+    ∙ ap (λ b. list_any (nat_eq number) msgs || (b || false)) itself ∙ or_true (list_any (nat_eq number) msgs)
+  where
+    or_true : (b : Bool) → (b || true) ≡ true
+    or_true true = refl
+    or_true false = refl
+
+contained : (list : List ℕ) (number : ℕ) → Has list number → Contains list number
+contained list number there =
+    let (place, found, within, at, is) = Any-from_list_any (nat_eq number) list there in
+    let same : found ≡ number = grind (arith, common_steps, is) in
+    (place, within, subst (λ n. slice_index_or list place n ≡ n) same at)
+
+pub all_stay : (o : Opening) (first end : ℕ) (known later : List (Step ℕ)) → IsPrefix known later
+    → HasAll first end (accepted_by o known) → HasAll first end (accepted_by o later)
+all_stay o first end known later begins all number from before =
+    still_there (accepted_by o known) (accepted_by o later) number (accepted_grows o known later begins) (all number from before)
+
+-- one more number
+pub one_more : {is_clone : ℕ → ℕ → Type 0} {o : Opening} (first : ℕ) {end : ℕ} {known after : List (Step ℕ)} {r : Reply ℕ}
+    → SendsStandLast is_clone → HasAll first end (accepted_by o known)
+    → Follows is_clone o known (call.AttemptSend end) r after → is_accepted r ≡ true → HasAll first (end + 1) (accepted_by o after)
+one_more {o = o} first {end = end} {known = known} {after = after} {r = r} law all follows accepted number from before =
+    let last = law o known after (call.AttemptSend end) r follows accepted in
+    subst (λ msgs. Has msgs number) (sym last.2) (elim (cases_eq number end) [
+      | inl same ↦ subst (λ n. Has (last.0 ++ end ∷ []) n) (sym same) (pushed last.0 end)
+      | inr differs ↦ still_there last.0 (last.0 ++ end ∷ []) number (end ∷ [], refl)
+          (still_there (accepted_by o known) last.0 number last.1 (all number from (omega (arith, before, differs))))
+    ])
+
+-- two ranges that meet
+pub joined : (first middle next end : ℕ) (msgs : List ℕ) → next ≡ middle → HasAll first middle msgs → HasAll next end msgs → HasAll first end msgs
+joined first middle next end msgs meet low high number from before = elim (cases_lt number middle) [
+  | inl below ↦ low number from below
+  | inr above ↦ high number (omega (arith, above, meet)) before
+]
+
+-- what isn't refused is accepted
+pub not_refused : (sent : Result (Option ℕ) (SendError ℕ)) → is_err sent ≡ false → is_accepted (reply.AttemptSend (send.Ready sent)) ≡ true
+not_refused (Ok back) is = refl
+not_refused (Err error) is = absurd cc
+
+-- as many as were to be sent, and each of them
+pub each_once : (o : Opening) (closed : List (Step ℕ)) (total sent end : ℕ)
+    → o.first_number ≡ 0 → end ≡ end_number (end_of o closed) → HasAll 0 sent (accepted_by o closed) → total ≡ sent → sent ≡ end
+    → HoldsEachOnce (accepted_by o closed) total
+each_once o closed total sent end first ended all is same =
+    let start = first_kept (start_of o) closed in (
+      omega (arith, first, ended, is, same, start),
+      λ number below. contained (accepted_by o closed) number (all number (omega arith) (omega (arith, below, is))),
+    )

@@ -1,0 +1,27 @@
+-- One more number was sent, or none since the channel was closed.
+use Rattle.std.proofs.Common.{refl, sym, ◌∙◌}
+use Rattle.bcast_delivery.specs.Knowing.{learns_reaches}
+use Rattle.bcast_threads.proofs.Sent.{all_stay, one_more, not_refused}
+use Rattle.bcast_threads.proofs.work.send_all.Goals as goal
+use Rattle.bcast_threads.proofs.work.send_all.Goals.{else-loop-msg-test, then-loop-msg-test+then-is_err}
+
+pub loop-msg-preserved : goal.loop-msg-preserved
+loop-msg-preserved g c =
+    let accepted = not_refused c.broadcast_blocking_seen.result (sym c.is_err.ensures.value ∙ c.if-is_err.false) in
+    record {
+      end = refl;
+      sent = one_more c.args.first c.sends_stand_last.ensures (rw c.loop-msg.invariant.end at c.loop-msg.invariant.sent)
+          c.broadcast_blocking_seen.ensures.learned.follows accepted;
+    }
+
+pub invariant_of-result : goal.invariant_of-result
+invariant_of-result g c = elim c.loop-msg-test.branch [
+  | else-loop-msg-test w ↦ record { sent = rw w.seen-is c.loop-msg.invariant.sent }
+  | then-loop-msg-test+then-is_err w ↦
+      let learned = w.broadcast_blocking_seen.ensures.learned in
+      record {
+        sent = rw w.seen-is
+            (all_stay g.J.Channel.opening c.args.first c.loop-msg.end c.loop-msg.seen.steps w.broadcast_blocking_seen.new.known.steps
+            (learns_reaches learned).steps c.loop-msg.invariant.sent);
+      }
+]
