@@ -15,8 +15,7 @@ use Rattle.bcast_model.specs.declared.run.SendPoll.TheVariants as send
 use Rattle.bcast_model.specs.Words.{History, view_of, Legal, next, IsRun, end_of_run, end_number, numbered, IsDelivery, IsGiven, has_place, attempt_send_reply}
 use Rattle.std.proofs.lemmas.Option.{slice_get_past}
 use Rattle.bcast_laws.specs.Sends.{is_accepted, messages_of}
-use Rattle.bcast_laws.proofs.Closing.{IsClosed, run_stays}
-use Rattle.bcast_laws.proofs.ClosedSends.{try_refused, all_refused, attempt_refused, poll_refused}
+use Rattle.bcast_laws.proofs.Closing.{IsClosed, run_stays, try_refused, all_refused, attempt_refused, poll_refused}
 use Rattle.bcast_laws.proofs.Sends.{messages_added, nothing_added}
 use Rattle.bcast_history.specs.declared.step.Opening.{Opening}
 use Rattle.bcast_history.specs.declared.step.Step.{Step}
