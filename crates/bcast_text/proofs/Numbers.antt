@@ -1,6 +1,7 @@
 -- What `parse` reads, compared with what `decimal` spells.
-use Rattle.std.proofs.Common.{rules, arith, ◌≡◌, ◌≢◌, ◌<◌, ◌^◌, ℕ, length, List, get_or, suc, zero}
+use Rattle.std.proofs.Common.{rules, arith, refl, IfSome, ◌≡◌, ◌≢◌, ◌<◌, ◌^◌, ℕ, length, List, get_or, suc, zero}
 use Rattle.std.specs.Prelude.{Result, Ok, Err}
+use Rattle.std.specs.Result.{result_ok}
 use Rattle.std.specs.Fmt.{decimal}
 use Rattle.std.specs.Str.Parse.{ParsesUnsigned, AllDigits, digits_value}
 use Rattle.std.proofs.lemmas.Fmt.{decimal-digits_value, first_decimal, decimal_digit, decimal_is_IsNumeral}
@@ -16,6 +17,11 @@ parsed_is_spelt {E} bs (Ok m) h plain lone n e =
     let read = parse_plain digits {E = E} 64 bs (Ok m) h plain in
     search (rules, decimal-digits_value digits bs read.0.0 read.0.1 lone read.0.2, read.1, e)
 parsed_is_spelt {E} bs (Err x) h plain lone n e = search rules
+
+-- the same of the number that `parse` finds, if it finds one
+pub spelt_if_parsed : {E : Type 0} (bs : List ℕ) (r : Result ℕ E) → ParsesUnsigned 64 10 bs r → get_or bs 0 0 ≢ 43 → (get_or bs 0 0 ≡ 48 → length bs ≡ 1) → IfSome (result_ok r) (λ n. bs ≡ decimal n)
+spelt_if_parsed {E} bs (Ok n) h plain lone = parsed_is_spelt {E = E} bs (Ok n) h plain lone n refl
+spelt_if_parsed {E} bs (Err x) h plain lone = search rules
 
 -- no number is written with a plus
 pub no_plus : (bs : List ℕ) (n : ℕ) → n < 2 ^ 64 → bs ≡ decimal n → get_or bs 0 0 ≢ 43
