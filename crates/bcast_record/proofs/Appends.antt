@@ -1,6 +1,5 @@
 -- One more entry keeps the replay.
-use Rattle.std.proofs.Common.{◌≡◌, List, [], ◌∷◌, ◌++◌, map, refl, sym, ap, ◌∙◌, subst}
-use Rattle.std.specs.List.{AllByRecursion}
+use Rattle.std.proofs.Common.{◌≡◌, List, [], ◌∷◌, ◌++◌, map, refl, sym, ap, ◌∙◌, subst, rules}
 use Rattle.std.proofs.lemmas.List.{map-append}
 use Rattle.std.proofs.lemmas.Simd.{map-map}
 use Rattle.bcast_model.specs.declared.run.Call.{Call}
@@ -44,7 +43,4 @@ module _ {T : Type 0} where
   may_run_again_push o entries longer entry pushed may positive =
       let steps = steps_of (recording o entries) in
       let calls = ap (map (λ s. s.call)) (steps_of-push o entries longer entry pushed) ∙ appends.calls_of-more steps (step_of entry) in
-      record {
-        capacity = may.capacity;
-        calls = subst (AllByRecursion HasPositiveCapacity) (sym calls) (all_append HasPositiveCapacity (calls_of (recording o entries)) (entry.call ∷ []) may.calls (positive, tt));
-      }
+      search (rules, may, calls, positive, all_append HasPositiveCapacity (calls_of (recording o entries)) (entry.call ∷ []))

@@ -1,6 +1,6 @@
 -- What is seen after a call, apart from who was told, and the cursors after one of them moved.
-use Rattle.std.proofs.Common.{◌≡◌, ℕ, ◌≤◌, not, ◌&&◌, true, false, cond, Option, Some, None, refl, sym, ap, ◌∙◌, subst}
-use Rattle.std.proofs.lemmas.Option.{same_Some}
+use Rattle.std.proofs.Common.{◌≡◌, ℕ, ◌≤◌, not, ◌&&◌, true, false, cond, Option, Some, None, refl, sym, ap, ◌∙◌, subst, arith}
+use Rattle.std.proofs.lemmas.Grind.{common_steps}
 use Rattle.std.specs.Prelude.{IsSome}
 use Rattle.std.specs.Ordering.{nat_cmp, eq_by_cmp}
 use Rattle.std.specs.Cmp.{nat_cmp_total}
@@ -50,8 +50,4 @@ module _ (m : Cursors) (key cursor other : ℕ) where
 
   -- a cursor is at least `low`, if it was before and the new one is
   pub high_insert : (low at : ℕ) → low ≤ cursor → ((c : ℕ) → get m other ≡ Some c → low ≤ c) → get (insert m key cursor) other ≡ Some at → low ≤ at
-  high_insert low at here there e =
-      elim (eq_by_cmp nat_cmp other key) as (λ b. cond b (Some cursor) (get m other) ≡ Some at → low ≤ at) [
-        | true ↦ λ f. subst (λ c. low ≤ c) (same_Some cursor at f) here
-        | false ↦ λ f. there at f
-      ] (sym (get-insert nat_cmp_total m key cursor other) ∙ e)
+  high_insert low at here there e = grind (arith, common_steps, get-insert nat_cmp_total m key cursor other, here, there, e)

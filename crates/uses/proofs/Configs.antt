@@ -1,10 +1,9 @@
 -- A channel of capacity 1 in overflow mode: what its calls leave.
-use Rattle.std.proofs.Common.{◌≡◌, inl, inr, ℕ, ◌+◌, ◌-◌, ◌≤◌, true, false, [], ◌∷◌, length, max, Option, Some, None, Result, Ok, Err, IfOk, OnOk, refl, sym, ap, ◌∙◌, subst, arith}
-use Rattle.std.proofs.lemmas.Bool.{cases_lt}
+use Rattle.std.proofs.Common.{◌≡◌, ℕ, ◌+◌, ◌-◌, ◌≤◌, true, false, [], ◌∷◌, length, max, Option, Some, None, Result, Ok, Err, IfOk, OnOk, refl, sym, ap, ◌∙◌, subst, arith}
 use Rattle.std.proofs.lemmas.List.{drop_at, nil_from_length}
 use Rattle.std.proofs.lemmas.Grind.{common_steps}
 use Rattle.std.proofs.lemmas.Option.{none-some, same_Some}
-use Rattle.std.specs.FinMap.{get, len, values}
+use Rattle.std.specs.FinMap.{get, values}
 use Rattle.futures.specs.declared.task.Poll.{Poll}
 use Rattle.bcast_model.specs.declared.error.HandleError.{HandleError}
 use Rattle.bcast_model.specs.declared.error.TrySendError.{TrySendError}
@@ -31,11 +30,7 @@ module _ {S : Type 0} where
 
   -- who waits and who is told makes no difference
   heard : (v u : View S) (key : ℕ) (c : Control) → c.cursors ≡ u.control.cursors → c.closed ≡ u.control.closed → c.capacity ≡ u.control.capacity → c.overflow ≡ u.control.overflow → Looked v u key → Looked v (record u { control = c }) key
-  heard v u key c cursors closed capacity overflow s = record {
-    config = record { capacity = capacity ∙ s.config.capacity; overflow = overflow ∙ s.config.overflow; watchers = subst (λ m. 1 ≤ len m) (sym cursors) s.config.watchers };
-    others = record { end = s.others.end; closed = closed ∙ s.others.closed; others = λ other differs. ap (λ m. get m other) cursors ∙ s.others.others other differs };
-    seen = λ n e. s.seen n (ap (λ m. get m key) (sym cursors) ∙ e);
-  }
+  heard v u key c cursors closed capacity overflow s = grind (arith, common_steps, cursors, closed, capacity, overflow, s)
 
   module _ (v : View S) (key : ℕ) (config : IsConfig v) where
     abbrev Leaves : Control → Type 0
@@ -46,28 +41,15 @@ module _ {S : Type 0} where
 
     -- a watcher whose cursor is moved to the end
     seen_at : (number : ℕ) → number ≡ v.end → Leaves (with_cursor v.control key number)
-    seen_at number at = record {
-      config = record { capacity = config.capacity; overflow = config.overflow; watchers = len_insert v.control.cursors key number };
-      others = record { end = same_end; closed = refl; others = λ other differs. inserted_other v.control.cursors key number other differs };
-      seen = λ n e. sym (same_Some number n (sym (inserted v.control.cursors key number) ∙ e)) ∙ at ∙ sym same_end;
-    }
+    seen_at number at =
+        grind (arith, common_steps, config, at, len_insert v.control.cursors key number, inserted_other v.control.cursors key number, inserted v.control.cursors key number)
 
     seen_same : IsUpToDate v key → Leaves v.control
-    seen_same seen = record {
-      config = record { capacity = config.capacity; overflow = config.overflow; watchers = config.watchers };
-      others = record { end = same_end; closed = refl; others = λ other differs. refl };
-      seen = λ n e. seen n e ∙ sym same_end;
-    }
+    seen_same seen = grind (arith, common_steps, config, seen)
 
     -- a cursor that skips to the end is at the end
     pub at_end : IsValidView v → (cursor : ℕ) → cursor_of v.control key ≡ Some cursor → v.end ≤ max cursor v.front → cursor ≡ v.end
-    at_end valid cursor e late =
-        let reach = valid.reach key cursor e in
-        let end = valid.end in
-        elim (cases_lt v.front v.end) [
-          | inl some ↦ omega (arith, some, late, reach)
-          | inr none ↦ (let caught = valid.caught_up key cursor (nil_from_length v.queue (omega (arith, none, end))) e in omega (arith, caught, reach))
-        ]
+    at_end valid cursor e late = grind (arith, common_steps, valid.reach key cursor e, valid.end, late, valid.caught_up key cursor, nil_from_length v.queue, e)
 
     moved : IsValidView v → (o : Option ℕ) → cursor_of v.control key ≡ o → Leaves (receive v key (skipped_to v.front o))
     moved valid None at = seen_same (λ n e. absurd (none-some n (sym at ∙ e)))

@@ -1,17 +1,14 @@
 -- What a receive gives: what it found, or a clone of it.
-use Rattle.std.proofs.Common.{◌≡◌, ◌≢◌, ◌⊎◌, ◌≤◌, ◌-◌, inl, inr, ℕ, false, cond, Some, Result, Ok, Err, nat_lt, refl, sym, ap, ◌∙◌, arith}
+use Rattle.std.proofs.Common.{◌≡◌, ◌≢◌, ◌⊎◌, ◌≤◌, inl, inr, ℕ, Some, Result, Ok, refl, sym, ap, ◌∙◌, arith}
 use Rattle.std.proofs.lemmas.Grind.{common_steps}
 use Rattle.bcast_model.specs.declared.error.TryRecvError.{TryRecvError}
-use Rattle.bcast_model.specs.declared.error.TryRecvError.TheVariants as unread
 use Rattle.bcast_model.specs.declared.run.Reply.{Reply}
 use Rattle.bcast_model.specs.Legal.{ClonesEqual}
 use Rattle.bcast_model.specs.Words.{IsReceived, View, kept_at, recv_reply, try_recv_reply}
 
 -- a receive of a message that was not dropped
 pub reply_at : {T : Type 0} (v : View T) (cursor : ℕ) → v.front ≤ cursor → try_recv_reply v (Some cursor) ≡ recv_reply v.control.closed (kept_at v cursor)
-reply_at v cursor low =
-    let ahead : nat_lt cursor v.front ≡ false = grind (arith, common_steps, low) in
-    ap (λ b. cond b (Err (unread.Overflowed (v.front - cursor))) (recv_reply v.control.closed (kept_at v cursor))) ahead
+reply_at v cursor low = grind (arith, common_steps, low)
 
 module _ {T : Type 0} (is_clone : T → T → Type 0) where
   -- the exact answer, or a clone in its place

@@ -1,10 +1,10 @@
 -- A hub that refuses when it is full.
-use Rattle.std.proofs.Common.{◌≡◌, ◌+◌, ◌-◌, ◌≤◌, ℕ, true, false, cond, Option, Some, None, Result, Ok, refl, sym, ap, ◌∙◌, subst, arith}
+use Rattle.std.proofs.Common.{◌≡◌, ◌+◌, ◌≤◌, ℕ, false, Option, Some, None, Result, Ok, refl, sym, ◌∙◌, subst, arith}
+use Rattle.std.proofs.lemmas.Grind.{common_steps}
 use Rattle.std.proofs.lemmas.List.{nil_from_length}
-use Rattle.std.specs.Prelude.{is_some}
 use Rattle.std.specs.Ordering.{nat_cmp}
 use Rattle.std.specs.Cmp.{nat_cmp_total}
-use Rattle.std.specs.FinMap.{FinMap, contains_key, insert, remove, len, empty, len-empty, len-insert, len-remove}
+use Rattle.std.specs.FinMap.{FinMap, insert, remove, len, empty, len-empty, len-insert, len-remove}
 use Rattle.bcast_model.specs.declared.error.TryRecvError.{TryRecvError}
 use Rattle.bcast_model.specs.declared.run.Call.TheVariants as call
 use Rattle.bcast_model.specs.declared.run.Reply.TheVariants as reply
@@ -21,10 +21,7 @@ none = empty
 
 nobody : (key : ℕ) → len (remove (insert none key 0) key) ≡ 0
 nobody key =
-    let size : len none ≡ 0 = len-empty nat_cmp ℕ in
-    let one : len (insert none key 0) - 1 ≡ 0 = ap (λ n. n - 1) (len-insert nat_cmp_total none key 0) ∙ elim (contains_key none key) as (λ b. cond b (len none) (len none + 1) - 1 ≡ 0) [ true ↦ omega (arith, size) | false ↦ omega (arith, size) ] in
-    len-remove nat_cmp_total (insert none key 0) key
-    ∙ ap (λ o. cond (is_some o) (len (insert none key 0) - 1) (len (insert none key 0))) (inserted none key 0) ∙ one
+    grind (arith, common_steps, len-empty nat_cmp ℕ, len-insert nat_cmp_total none key 0, len-remove nat_cmp_total (insert none key 0) key, inserted none key 0)
 
 module _ {T : Type 0} where
   told_hub : (u : View T) → IsHub u → IsHub (told u)

@@ -1,5 +1,6 @@
 -- What the readers of a log are still to read.
 use Rattle.std.proofs.Common.{◌≡◌, ℕ, ◌+◌, ◌-◌, ◌≤◌, [], ◌∷◌, ◌++◌, drop, Option, Some, None, Ok, refl, sym, ap, ◌∙◌, subst, arith, append-nil}
+use Rattle.std.proofs.lemmas.Grind.{common_steps}
 use Rattle.std.proofs.lemmas.List.{drop-drop, drop-append-le, drop_all, nil_from_length}
 use Rattle.std.proofs.lemmas.Option.{same_Some}
 use Rattle.std.specs.Prelude.{IsSome}
@@ -24,12 +25,8 @@ module _ {T : Type 0} where
   -- ---- `broadcast`
   pub new_log : (v : View T) (capacity key : ℕ) → Represents v (opening capacity 0 key) → IsValid (opening {T = T} capacity 0 key) → IsReader v key × (unread v key ≡ [])
   new_log v capacity key new is_valid =
-      let u : View T = view_of (opening capacity 0 key) in
-      let view = valid_view (opening {T = T} capacity 0 key) is_valid in
-      let own : get u.control.cursors key ≡ Some 0 = inserted empty key 0 in
-      let none : u.queue ≡ [] = nil_from_length u.queue (omega (arith, view.end)) in
-      subst (λ x. IsReader x key × (unread x key ≡ [])) (sym new)
-      (subst IsSome (sym own) refl, ap (kept_from u) own ∙ ap (drop (0 - u.front)) none ∙ drop_all (0 - u.front) [] (omega arith))
+      let none = (valid_view (opening {T = T} capacity 0 key) is_valid).end in
+      grind (arith, common_steps, new, inserted empty key 0, none, nil_from_length {X = T} (view_of (opening {T = T} capacity 0 key)).queue, drop_all)
 
   -- ---- `try_broadcast`
   pub writes : {is_clone : T → T → Type 0} {v w : View T} {msg : T} {back : Option T} → Answers is_clone v (call.TryBroadcast msg) (reply.TryBroadcast (Ok back)) w → IsLog v → IsLog w × AddsUnread v w msg

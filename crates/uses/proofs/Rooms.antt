@@ -1,14 +1,15 @@
 -- Sends for which there is room.
-use Rattle.std.proofs.Common.{◌≡◌, ℕ, ◌+◌, ◌==◌, ◌≤◌, ◌<◌, ◌^◌, true, false, cond, [], ◌∷◌, length, Option, Result, Ok, Err, refl, sym, ap, ◌∙◌, subst, arith, length-append}
+use Rattle.std.proofs.Common.{◌≡◌, ℕ, ◌+◌, ◌==◌, ◌≤◌, ◌<◌, ◌^◌, true, false, [], ◌∷◌, length, Option, Result, Ok, Err, refl, sym, ap, ◌∙◌, subst, arith, length-append}
+use Rattle.std.proofs.lemmas.Grind.{common_steps}
 use Rattle.std.proofs.lemmas.Bool.{true≢false}
-use Rattle.std.specs.Prelude.{IsSome, IsOk, is_ok}
-use Rattle.std.specs.FinMap.{get, empty}
+use Rattle.std.specs.Prelude.{IsOk, is_ok}
+use Rattle.std.specs.FinMap.{empty}
 use Rattle.bcast_model.specs.declared.error.TrySendError.{TrySendError}
 use Rattle.bcast_model.specs.declared.run.Call.TheVariants as call
 use Rattle.bcast_model.specs.declared.run.Reply.TheVariants as reply
-use Rattle.bcast_model.specs.Words.{has_no_receiver, accepting, close, tell_receivers, last_end}
+use Rattle.bcast_model.specs.Words.{has_no_receiver, last_end}
 use Rattle.bcast_model.specs.Words.{opening, view_of, try_broadcast_reply, with_message, IsValid}
-use Rattle.bcast_model.specs.Words.{View, is_full, Answers, Represents}
+use Rattle.bcast_model.specs.Words.{View, Answers, Represents}
 use Rattle.bcast_model.proofs.Least.{len_some}
 use Rattle.bcast_model.proofs.Views.{valid_view}
 use Rattle.bcast_core.proofs.Offers.{are_unequal}
@@ -40,10 +41,7 @@ module _ {T : Type 0} where
 
   -- ---- `try_broadcast`
   none_refused : (v : View T) (msg : T) (count : ℕ) → HasRoom v (count + 1) → is_ok (try_broadcast_reply v msg) ≡ true
-  none_refused v msg count has =
-      let room = has.room in
-      let full : is_full v ≡ false = are_unequal _ _ (λ e. omega (arith, room, e)) in
-      rw (has.is_open, has.receivers, full) refl
+  none_refused v msg count has = grind (arith, common_steps, has)
 
   accepted : {is_clone : T → T → Type 0} {v w : View T} {msg : T} (count : ℕ) (r : Result (Option T) (TrySendError T)) → Answers is_clone v (call.TryBroadcast msg) (reply.TryBroadcast r) w → HasRoom v (count + 1) → IsOk r
   accepted count (Ok back) a has = refl
@@ -62,18 +60,8 @@ module _ {T : Type 0} where
 
   left : (v : View T) (msg : T) (count : ℕ) → HasRoom v (count + 1) → Left v (with_message v msg) count
   left v msg count has =
-      let room = has.room in
-      let numbers = has.numbers in
-      let more = length-append v.queue (msg ∷ []) in
-      let before : ((v.end + 1) == last_end) ≡ false = are_unequal _ _ (λ e. omega (arith, numbers, e)) in
-      let is : accepting v.control (v.end + 1) ≡ tell_receivers v.control = ap (λ b. cond b (close (tell_receivers v.control)) (tell_receivers v.control)) before in
-      record {
-        is_open = ap (λ c. c.closed) is ∙ has.is_open;
-        receivers = ap has_no_receiver is ∙ has.receivers;
-        room = (let capacity = ap (λ c. c.capacity) is in omega (arith, room, more, capacity));
-        numbers = omega (arith, numbers);
-        readers = λ reader there. subst IsSome (sym (ap (λ c. get c.cursors reader) is)) there;
-      }
+      let before : ((v.end + 1) == last_end) ≡ false = grind (arith, common_steps, has) in
+      grind (arith, common_steps, has, before, length-append v.queue (msg ∷ []))
 
   pub sent : {is_clone : T → T → Type 0} {v w : View T} {msg : T} (count : ℕ) (r : Result (Option T) (TrySendError T)) → Answers is_clone v (call.TryBroadcast msg) (reply.TryBroadcast r) w → HasRoom v (count + 1) → IsSent v w msg count r
   sent {v = v} {msg = msg} count (Ok back) a has =

@@ -1,5 +1,5 @@
 -- A message that a channel accepts, and one that it refuses.
-use Rattle.std.proofs.Common.{◌≡◌, ◌∷◌, ◌++◌, [], ◌+◌, ◌&&◌, not, Bool, true, false, cond, Option, None, Result, Ok, Err, slice_get, refl, sym, ap, ◌∙◌, subst}
+use Rattle.std.proofs.Common.{◌≡◌, ◌∷◌, ◌++◌, [], ◌+◌, ◌&&◌, not, Bool, true, false, cond, Option, None, Result, Ok, Err, refl, sym, ap, subst, rules}
 use Rattle.std.proofs.lemmas.Bool.{true≢false}
 use Rattle.std.specs.Prelude.{is_ok}
 use Rattle.bcast_model.specs.declared.error.TrySendError.{TrySendError}
@@ -47,5 +47,4 @@ module _ {T : Type 0} where
     pub sent_answers : {back : Option T} → Answers is_clone v (call.TryBroadcast msg) (reply.TryBroadcast (Ok back)) w → v.control.overflow ≡ false → Answers is_clone v (call.TryBroadcast msg) (reply.TryBroadcast (Ok None)) w
     sent_answers {back = back} a plain =
         let room = room_of v.control.closed (has_no_receiver v.control) (is_full v) v.control.overflow _ _ _ _ plain (none_refused a) in
-        let none : back ≡ None = kept_is v msg back (replied a) ∙ ap (λ b. cond b (slice_get v.queue 0) None) room.1 in
-        subst (λ o. Answers is_clone v (call.TryBroadcast msg) (reply.TryBroadcast (Ok o)) w) none a
+        search (rules, kept_is v msg back (replied a), room.1, a)

@@ -1,5 +1,6 @@
 -- A channel on which nothing was sent.
-use Rattle.std.proofs.Common.{◌≡◌, inl, inr, ℕ, ◌-◌, Bool, true, false, Some, None, Result, Ok, Err, refl, sym, ap, ◌∙◌, subst, arith}
+use Rattle.std.proofs.Common.{◌≡◌, inl, inr, ℕ, ◌-◌, Bool, true, false, Some, None, Result, Ok, Err, refl, ap, ◌∙◌, arith, rules}
+use Rattle.std.proofs.lemmas.Grind.{common_steps}
 use Rattle.std.proofs.lemmas.Option.{slice_get_past}
 use Rattle.std.specs.Prelude.{IsSome, IfOk}
 use Rattle.std.specs.declared.alloc.AllocError.{AllocError}
@@ -10,7 +11,6 @@ use Rattle.bcast_model.specs.declared.run.Call.TheVariants as call
 use Rattle.bcast_model.specs.declared.run.Reply.TheVariants as reply
 use Rattle.bcast_model.specs.Words.{cursor_of, sets, effect, recv_reply, receive, try_recv_reply}
 use Rattle.bcast_model.specs.Words.{View, Answers, IsValidView}
-use Rattle.bcast_model.proofs.Cases.{receive_is}
 use Rattle.bcast_model.proofs.DeliveryMaps.{inserted_other}
 use Rattle.bcast_core.proofs.Settle.{inserted}
 use Rattle.uses.specs.Signal.{signal_of, IsSignal, AddsWorker, is_closed_reply}
@@ -27,19 +27,11 @@ closed_found false = refl
 module _ (v : View Nothing) (valid : IsValidView v) (unused : v.end ≡ 0) (cursor : ℕ) where
   -- a receive finds nothing
   none_found : is_closed_reply (Ok (try_recv_reply v (Some cursor))) ≡ v.control.closed
-  none_found =
-      let high = valid.high in
-      let end = valid.end in
-      ap (λ r. is_closed_reply (Ok r)) (reply_at v cursor (omega (arith, high, unused)))
-      ∙ ap (λ o. is_closed_reply (Ok (recv_reply v.control.closed o))) (slice_get_past v.queue (cursor - v.front) (omega (arith, unused, end)))
-      ∙ closed_found v.control.closed
+  none_found = grind (arith, common_steps, valid.high, valid.end, unused, reply_at v cursor, slice_get_past v.queue (cursor - v.front), closed_found)
 
   -- and moves no cursor
   none_moved : (key : ℕ) → receive v key (Some cursor) ≡ v.control
-  none_moved key =
-      let high = valid.high in
-      receive_is v (λ c. c ≡ v.control) key cursor
-      (λ lags. absurd (omega (arith, high, unused, lags))) (λ _ takes. absurd (omega (arith, unused, takes))) (λ _ _. refl)
+  none_moved key = grind (arith, common_steps, valid.high, unused)
 
 module _ {is_clone : Nothing → Nothing → Type 0} {v w : View Nothing} {key : ℕ} where
   -- a worker's look changes nothing
@@ -62,10 +54,7 @@ module _ {is_clone : Nothing → Nothing → Type 0} {v w : View Nothing} {key :
 
 -- one more worker
 pub added : {is_clone : Nothing → Nothing → Type 0} {v w : View Nothing} (result : Result ℕ HandleError) → Answers is_clone v call.NewReceiver (reply.NewReceiver result) w → IfOk result (AddsWorker (signal_of v) (signal_of w))
-added {v = v} (Ok key) a = after a (λ u. AddsWorker (signal_of v) (signal_of u) key) (λ u s. record { holders = s.holders; worker = s.worker; others = s.others; only = s.only }) (record {
-  holders = refl;
-  worker = subst IsSome (sym (inserted v.control.cursors key v.end)) refl;
-  others = λ other is. some_insert v.control.cursors key v.end other is;
-  only = λ other differs is. subst IsSome (inserted_other v.control.cursors key v.end other differs) is;
-})
+added {v = v} (Ok key) a =
+    after a (λ u. AddsWorker (signal_of v) (signal_of u) key) (λ u s. record { holders = s.holders; worker = s.worker; others = s.others; only = s.only })
+    (search (rules, inserted v.control.cursors key v.end, some_insert v.control.cursors key v.end, inserted_other v.control.cursors key v.end))
 added (Err error) a = tt
