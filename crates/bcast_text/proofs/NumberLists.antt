@@ -1,5 +1,6 @@
 -- Texts of several numbers.
-use Rattle.std.proofs.Common.{◌≡◌, ◌≢◌, ◌<◌, ◌^◌, ℕ, List, [], ◌∷◌, ◌++◌, Option, Some, Bor, sym, ap, ◌∙◌, arith, append_assoc}
+use Rattle.std.proofs.Common.{◌≡◌, ◌≢◌, ◌<◌, ◌^◌, ℕ, List, [], ◌∷◌, ◌++◌, Option, Some, Bor, sym, arith}
+use Rattle.std.proofs.lemmas.Grind.{common_steps}
 use Rattle.std.specs.Fmt.{decimal}
 use Rattle.std.specs.List.{AllByRecursion}
 use Rattle.std.proofs.lemmas.Fmt.{decimal_injective}
@@ -24,9 +25,7 @@ one_read text msgs rest x n small split is read =
     let parts : rest ≡ x.0.now ++ 32 ∷ x.1.now = (split_parts 32 rest (Some x) split (omega arith)).0 in
     record {
       small = all_append IsU64 msgs (n ∷ []) read.small (small, tt);
-      whole = λ more spelt.
-          let longer : numbers_text (n ∷ more) ≡ Some rest = ap (λ o. Some (spaced (decimal n) o)) spelt ∙ ap (λ word. Some (word ++ 32 ∷ x.1.now)) (sym is) ∙ ap Some (sym parts) in
-          ap numbers_text (append_assoc msgs (n ∷ []) more) ∙ read.whole (n ∷ more) longer;
+      whole = λ more spelt. grind (arith, common_steps, parts, read.whole (n ∷ more));
       only = λ all fits spelt. next (read.only all fits spelt);
     }
   where
@@ -35,8 +34,7 @@ one_read text msgs rest x n small split is read =
     next ([], same, fits, spelt) = absurd (none-some rest spelt)
     next (m ∷ more, same, fits, spelt) =
         let at = at_some rest x split (decimal m) (numbers_text more) (Lacks-decimal 32 m (omega arith) fits.0) (sym (same_Some _ _ spelt)) in
-        let number : m ≡ n = decimal_injective m n fits.0 small (sym at.0 ∙ is) in
-        (more, same ∙ ap (λ k. msgs ++ k ∷ more) number ∙ sym (append_assoc msgs (n ∷ []) more), fits.1, at.1)
+        (more, grind (arith, common_steps, decimal_injective m n fits.0 small), fits.1, at.1)
 
 -- no numbers spell the text if the next word, whatever follows it, is not a number
 pub none_if : (text msgs rest word : List ℕ) → ((n : ℕ) → n < 2 ^ 64 → word ≢ decimal n)

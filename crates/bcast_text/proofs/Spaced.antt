@@ -1,15 +1,16 @@
 -- Texts that are split at a space.
-use Rattle.std.proofs.Common.{◌≡◌, ◌≢◌, ◌<◌, ◌^◌, ⊎_elim, ℕ, List, All, [], ◌∷◌, ◌++◌, Option, Some, None, Bool, true, false, IfSome, cond, eqb, Bor, length, length-append, get_or, codes, append_assoc, refl, sym, ap, ◌∙◌, arith}
-use Rattle.std.specs.Prelude.{MatchOption}
+use Rattle.std.proofs.Common.{◌-◌, ◌≡◌, ◌≢◌, ◌<◌, ◌^◌, ℕ, List, All, ◌∷◌, ◌++◌, Option, Some, None, Bool, true, IfSome, eqb, Bor, length, length-append, codes, append_assoc, sym, ◌∙◌, arith}
+use Rattle.std.proofs.lemmas.Grind.{common_steps}
+use Rattle.std.specs.Prelude.{MatchOption, not}
+use Rattle.std.proofs.lemmas.List.Sums.{AllPass-from_list_all}
+use Rattle.std.specs.List.{list_all}
 use Rattle.std.specs.Fmt.{decimal}
 use Rattle.std.proofs.Math.Seq.{get_or-append_seam}
-use Rattle.std.proofs.lemmas.Bool.{false≢true}
-use Rattle.std.proofs.lemmas.Bool.Decides.{eqb_tells}
-use Rattle.std.proofs.lemmas.List.Elements.{All-nil, All-cons, All-append, All-weaker, All-from_get_or}
+use Rattle.std.proofs.lemmas.List.Elements.{All-cons, All-append, All-from_get_or}
 use Rattle.std.proofs.lemmas.Fmt.{decimal_is_IsNumeral}
 use Rattle.std.proofs.lemmas.Str.Parse.{not_in_digits}
 use Rattle.std.proofs.lemmas.Str.Pattern.{IsSplitOnceResult, split_after, split_parts}
-use Rattle.bcast_text.specs.Name.{IsName, IsNameByte}
+use Rattle.bcast_text.specs.Name.{IsName}
 use Rattle.bcast_text.specs.Words.{spaced}
 use Rattle.bcast_text.proofs.Numbers.{digits}
 
@@ -19,14 +20,11 @@ Lacks c bytes = All (λ x. x ≢ c) bytes
 
 -- the same as a test
 abbrev pub lacks : ℕ → List ℕ → Bool
-lacks c [] = true
-lacks c (x ∷ xs) = cond (eqb x c) false (lacks c xs)
+lacks c bytes = list_all (λ x. not (eqb x c)) bytes
 
 pub Lacks-test : (c : ℕ) (xs : List ℕ) → lacks c xs ≡ true → Lacks c xs
-Lacks-test c [] none = All-nil (λ x. x ≢ c)
-Lacks-test c (x ∷ xs) none =
-    ⊎_elim (λ same. absurd (false≢true (rw same.0 at none)))
-    (λ other. All-cons (λ x. x ≢ c) x xs other.1 (Lacks-test c xs (rw other.0 at none))) (eqb_tells x c)
+Lacks-test c xs none k d below =
+    grind (arith, common_steps, AllPass-from_list_all (λ x. not (eqb x c)) xs none k d)
 
 pub Lacks-decimal : (c n : ℕ) → c < 48 → n < 2 ^ 64 → Lacks c (decimal n)
 Lacks-decimal c n low small =
@@ -34,10 +32,7 @@ Lacks-decimal c n low small =
 
 -- a name has no space
 pub name_space : (word : List ℕ) → IsName word → Lacks 32 word
-name_space [] is = All-nil (λ x. x ≢ 32)
-name_space (x ∷ xs) is =
-    All-cons (λ x. x ≢ 32) x xs (λ e. omega (arith, is.2, e))
-    (All-weaker IsNameByte (λ x. x ≢ 32) (λ x named e. ⊎_elim (λ h. omega (arith, h, e)) (λ h. omega (arith, h, e)) named) xs is.4)
+name_space word is k d below = grind (arith, common_steps, is.4 (k - 1) d)
 
 pub Lacks-spaced : (c : ℕ) (word : List ℕ) (arguments : Option (List ℕ)) → c ≢ 32 → Lacks c word → IfSome arguments (Lacks c) → Lacks c (spaced word arguments)
 Lacks-spaced c word None not none more = none
@@ -56,16 +51,13 @@ at_numbers bytes m n r split small same =
 -- a text without a space has no arguments
 pub at_none : (bytes : List ℕ) → IsSplitOnceResult 32 bytes None → (word : List ℕ) (arguments : Option (List ℕ)) → Lacks 32 word
     → bytes ≡ spaced word arguments → (arguments ≡ None) × (bytes ≡ word)
-at_none bytes split word None none same = (refl, same)
-at_none bytes split word (Some a) none same = absurd (at_space bytes word a None split none same)
+at_none bytes split word arguments none same =
+    grind (arith, λ (ys : List ℕ). at_space bytes word ys None split none)
 
 -- the first space of a text is the one before the arguments
 pub at_some : (bytes : List ℕ) (x : Bor (List ℕ) × Bor (List ℕ)) → IsSplitOnceResult 32 bytes (Some x) → (word : List ℕ) (arguments : Option (List ℕ)) → Lacks 32 word
     → bytes ≡ spaced word arguments → (x.0.now ≡ word) × (arguments ≡ Some x.1.now)
-at_some bytes x split word None none same =
+at_some bytes x split word arguments none same =
     let parts = split_parts 32 bytes (Some x) split (omega arith) in
-    let is : word ≡ x.0.now ++ 32 ∷ x.1.now = sym same ∙ parts.0 in
-    absurd (none (length x.0.now) 0 (omega (arith, ap length is, length-append x.0.now (32 ∷ x.1.now))) (ap (λ l. get_or l (length x.0.now) 0) is ∙ get_or-append_seam x.0.now 32 x.1.now 0))
-at_some bytes x split word (Some a) none same =
-    let h = at_space bytes word a (Some x) split none same in
-    (h.0, ap Some (sym h.1))
+    let at = λ (ys : List ℕ). at_space bytes word ys (Some x) split none in
+    grind (arith, parts, at, none (length x.0.now) 0, get_or-append_seam, length-append {A = ℕ})

@@ -1,5 +1,7 @@
 -- Nothing is written after the last line.
-use Rattle.bcast_text.proofs.Runs.{no_line, run_kept}
+use Rattle.std.proofs.Common.{arith}
+use Rattle.std.proofs.lemmas.Grind.{common_steps}
+use Rattle.bcast_text.proofs.Runs.{no_line, nothing_more}
 use Rattle.bcast_text.proofs.input.run_lines.Goals as goal
 
 pub returns-in_default : goal.returns-in_default
@@ -7,4 +9,6 @@ returns-in_default g c _ = no_line g.P.RunLine.answers _ _ _ _ tt (λ is. absurd
 
 pub returns : goal.returns
 returns g c written =
-    run_kept g.P.RunLine.answers (rw (c.in-Ok.ensures.unread, c.in-Ok.ensures.longest) at (c.each_line-ending.ensures written)) c.flush.ensures.bytes
+    let lines = c.in-Ok.ensures in
+    let run = rw (lines.unread, lines.longest) at (c.each_line-ending.ensures written) in
+    grind (arith, common_steps, nothing_more _ run.answered c.flush.ensures.bytes)

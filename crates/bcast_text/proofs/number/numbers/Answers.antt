@@ -1,6 +1,6 @@
-use Rattle.std.proofs.Common.{rules, refl, sym, subst, arith}
+use Rattle.std.proofs.Common.{rules, refl, arith}
 use Rattle.std.specs.Fmt.{decimal}
-use Rattle.bcast_text.proofs.NumberLists.{AreRead, one_read, none_if}
+use Rattle.bcast_text.proofs.NumberLists.{one_read, none_if}
 use Rattle.bcast_text.proofs.Spaced.{at_none, at_some}
 use Rattle.bcast_text.proofs.number.numbers.Goals as goal
 
@@ -11,8 +11,8 @@ returns-in_default-number-clause-none c = λ _.
 
 pub loop-first-preserved : goal.loop-first-preserved
 loop-first-preserved c = (
-  subst (λ items. AreRead c.args.text.now items c.in-Some.others.now) (sym c.in_ok-push.ensures.items)
-      (one_read c.args.text.now c.loop-first.msgs.items c.loop-first.rest.now (c.in-Some.first, c.in-Some.others) c.in-Some-number.n (omega arith) c.in-Some.ensures.cases c.in-Some-number.ensures.spelt c.loop-first.invariant.0),
+  rw c.in_ok-push.ensures.items
+      (one_read _ _ _ (c.in-Some.first, c.in-Some.others) _ (omega arith) c.in-Some.ensures.cases c.in-Some-number.ensures.spelt c.loop-first.invariant.0),
   search rules,
 )
 

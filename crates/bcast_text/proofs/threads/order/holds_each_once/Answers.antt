@@ -1,9 +1,11 @@
 -- The marks show which numbers the list holds.
-use Rattle.std.proofs.Common.{◌∙◌}
-use Rattle.bcast_text.proofs.Marks.{each_once}
+use Rattle.std.proofs.Common.{◌∙◌, arith}
+use Rattle.std.proofs.lemmas.Grind.{common_steps}
 use Rattle.bcast_text.proofs.threads.order.holds_each_once.Goals as goal
 
 pub returns : goal.returns
 returns c =
-    let start = c.as_mut_slice.ensures.value ∙ c.in_ok-held.ensures in
-    each_once c.args.list.now c.args.count c.marks_all.result c.if-list-count.false (rw start at c.marks_all.ensures)
+    let tells = rw (c.as_mut_slice.ensures.value ∙ c.in_ok-held.ensures) at c.marks_all.ensures in (
+      λ each. (c.if-list-count.false, λ n below. grind (arith, common_steps, tells.0 each n)),
+      λ holds. tells.1 (λ n below. grind (arith, common_steps, holds.1 n)),
+    )

@@ -1,5 +1,5 @@
 -- The first space ends the capacity.
-use Rattle.std.proofs.Common.{None, Some, arith, refl, ◌∙◌, sym}
+use Rattle.std.proofs.Common.{None, Some, arith, refl}
 use Rattle.std.proofs.lemmas.Fmt.{decimal_injective}
 use Rattle.bcast_text.proofs.Spaced.{at_numbers}
 use Rattle.bcast_text.proofs.trace.opening.channel.Goals as goal
@@ -21,5 +21,4 @@ returns-in_err-first-clause-none c _ capacity first is same =
 pub returns-then-first-clause-none : goal.returns-then-first-clause-none
 returns-then-first-clause-none c _ capacity first is same =
     let split = at_numbers _ capacity first (Some (c.in_ok-capacity.capacity, c.in_ok-capacity.first)) c.in_ok-capacity.ensures.cases is.0.1 same in
-    let same_first = decimal_injective c.in_ok-first.first first (omega (arith, c.if-first.true)) (omega (arith, is.1)) (sym c.in_ok-first.ensures.spelt ∙ split.1) in
-    omega (arith, c.if-first.true, same_first, is.1)
+    grind (arith, decimal_injective c.in_ok-first.first first, split)
