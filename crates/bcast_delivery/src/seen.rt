@@ -25,7 +25,12 @@ impl<T, J: Named> Model for Seen<T, J> {
 
     ghost Value = { Known T };
 
-    ghost view = { λ s. record { steps = s.steps; end = s.end; closed = s.closed; reader = s.reader } };
+    ghost view = { λ s. record {
+      steps = s.steps;
+      end = s.end;
+      closed = s.closed;
+      reader = s.reader;
+    } };
 }
 
 impl<T, J: Named> Seen<T, J> {

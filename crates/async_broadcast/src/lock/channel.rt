@@ -92,7 +92,13 @@ macro_rules! look {
 /// Makes a call on the channel of a locked state, names its reply, and keeps the call, as `made`
 /// shows it. It is added to what is known.
 macro_rules! kept {
-    ($rt:expr, $known:expr, $locked:ident, |$inner:ident| $call:expr, |$reply:ident| $made:expr) => {
+    (
+        $rt:expr,
+        $known:expr,
+        $locked:ident,
+        |$inner:ident| $call:expr,
+        |$reply:ident| $made:expr
+    ) => {
         let before = std::snapshot::Snapshot::of(&$locked.inner);
         let $inner = &mut $locked.inner;
         let $reply = $call;
