@@ -46,7 +46,7 @@ pub use inactive::{Inactive, InactiveReceiver};
 pub use iter::Iter;
 pub use keep::{Keep, KeepsNothing, Made};
 pub use lock::{Lock, LockInactiveReceiver, LockReceiver, LockSender, broadcast};
-pub use port::{Ask, Port, TimedPort};
+pub use port::{Ask, Port, SeenPort, TimedPort, TimedSeenPort};
 pub use receiver::{Receiver, Receiving};
 pub use sender::{Sender, Sending};
 pub use timed::{RecvTimeoutError, SendTimeoutError};

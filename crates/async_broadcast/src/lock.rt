@@ -6,7 +6,7 @@ ghost use Rattle.async_broadcast.specs.Snapshots.{ShowsSomeState};
 
 use crate::inactive::InactiveReceiver;
 use crate::keep::{Keep, KeepsNothing};
-use crate::port::{Port, TimedPort};
+use crate::port::{Port, TimedPort, TimedSeenPort};
 use crate::receiver::Receiver;
 use crate::sender::Sender;
 use crate::wake::{Wake, WakerSlot};
@@ -186,16 +186,12 @@ impl<T: Clone, R: Wait + Clone, A: Allocator + Copy, K: Keep<T>> Port<T, WakerSl
     ghost lacks_memory = { λ _. ⊤ };
 
     #[inline(always)]
-    fn try_broadcast(&self, msg: T) -> Result<Option<T>, TrySendError<T>>
-        ensures { K.gave self.now.known (Call.TryBroadcast msg) (Reply.TryBroadcast result) }
-    {
+    fn try_broadcast(&self, msg: T) -> Result<Option<T>, TrySendError<T>> {
         try_broadcast_locked!(self, &mut K::same(&self.known), msg)
     }
 
     #[inline(always)]
-    fn try_recv(&self, key: usize) -> Result<Result<T, TryRecvError>, AllocError>
-        ensures { K.gave self.now.known (Call.TryRecv key) (Reply.TryRecv result) }
-    {
+    fn try_recv(&self, key: usize) -> Result<Result<T, TryRecvError>, AllocError> {
         try_recv_locked!(self, &mut K::same(&self.known), key)
     }
 
@@ -218,9 +214,11 @@ impl<T: Clone, R: Wait + Clone, A: Allocator + Copy, K: Keep<T>> Port<T, WakerSl
     }
 }
 
-impl<T: Clone, R: Wait + Clone + Clock, A: Allocator + Copy, K: Keep<T>> Lock<T, R, A, K> {
-    /// Makes an `AttemptSend` or a `TryRecv` as `ask_within` does, and waits this long at most.
-    pub(crate) fn ask_for(&self, known: &mut K::Known, call: Call<T>, limit: Duration) -> Reply<T>
+impl<T: Clone, R: Wait + Clone + Clock, A: Allocator + Copy, K: Keep<T>> TimedSeenPort<
+    T,
+    WakerSlot<A>,
+> for Lock<T, R, A, K> {
+    fn ask_timeout_seen(&self, known: &mut K::Known, call: Call<T>, limit: Duration) -> Reply<T>
         requires { may_wait call ≡ true }
         ensures learned { K.learns known.old call result known.new }
         ensures reply { IsPossible T.is_clone call result }
@@ -236,7 +234,7 @@ impl<T: Clone, R: Wait + Clone + Clock, A: Allocator + Copy, K: Keep<T>> TimedPo
         requires { may_wait call ≡ true }
         ensures { K.gave self.now.known call result }
     {
-        self.ask_for(&mut K::same(&self.known), call, limit)
+        self.ask_timeout_seen(&mut K::same(&self.known), call, limit)
     }
 }
 

@@ -1,7 +1,7 @@
 //! Ports: how a handle calls its channel.
 ghost use Rattle.std.specs.Prelude.{◌≡◌, true, false, IfSome, IfNone, IfOk, IfErr, OnErr};
 ghost use Rattle.futures.specs.Task.{IsArmed, Keeps};
-ghost use Rattle.bcast_model.specs.Words.{must_wait, HasPositiveCapacity};
+ghost use Rattle.bcast_model.specs.Words.{must_wait, HasPositiveCapacity, IsPossible};
 ghost use Rattle.async_broadcast.specs.Kinds.{IsOfKind, may_wait, is_answer};
 ghost use Rattle.async_broadcast.specs.Ports.{IsSame};
 
@@ -129,4 +129,87 @@ pub trait TimedPort<T: Clone, S>: Port<T, S> {
     fn ask_timeout(&self, call: Call<T>, limit: Duration) -> Reply<T>
         requires { may_wait call ≡ true }
         ensures { Self.gave self.now call result };
+}
+
+/// A port whose calls can be added to what their caller knows of the channel. `Lock` is one: its
+/// `Keep` says what is known.
+pub trait SeenPort<T: Clone, S>: Port<T, S> {
+    ghost use Rattle.bcast_model.specs.declared.run.Call.{Call};
+    ghost use Rattle.bcast_model.specs.declared.run.Reply.{Reply};
+
+    /// What is known of the calls so far.
+    type Known: Drop;
+
+    // What the port knows.
+    ghost knows: { Self → Self.Known };
+
+    // Holds of what was known before a call, the call and its reply, and what is known then.
+    ghost learns: { Self.Known → Call T → Reply T → Self.Known → Type 0 };
+
+    /// Lets the port know this.
+    fn set_known(&mut self, known: &Self::Known)
+        ensures { knows self.new ≡ known.now };
+
+    /// Makes a call that never waits, and adds it to what is known.
+    fn ask_seen(&self, known: &mut Self::Known, call: Call<T>) -> Reply<T>
+        requires { HasPositiveCapacity call }
+        ensures learned { learns known.old call result known.new }
+        ensures possible { IsPossible T.is_clone call result };
+
+    /// Asks `TryBroadcast`, and adds it to what is known.
+    fn try_broadcast_seen(
+        &self,
+        known: &mut Self::Known,
+        msg: T,
+    ) -> Result<Option<T>, TrySendError<T>>
+        ensures learned { learns known.old (Call.TryBroadcast msg) (Reply.TryBroadcast result)
+            known.new }
+        ensures asked { IsPossible T.is_clone (Call.TryBroadcast msg)
+            (Reply.TryBroadcast result) };
+
+    /// Asks `TryRecv`, and adds it to what is known.
+    fn try_recv_seen(
+        &self,
+        known: &mut Self::Known,
+        key: usize,
+    ) -> Result<Result<T, TryRecvError>, AllocError>
+        ensures learned { learns known.old (Call.TryRecv key) (Reply.TryRecv result) known.new }
+        ensures asked { IsPossible T.is_clone (Call.TryRecv key) (Reply.TryRecv result) };
+
+    /// Makes one of the four polls as `poll` does, and adds it to what is known.
+    fn poll_seen<W: Registers<S>>(
+        &self,
+        known: &mut Self::Known,
+        call: Call<T>,
+        task: &mut W,
+        cx: &mut Context<'_>,
+    ) -> Result<Reply<T>, Call<T>>
+        requires { HasPositiveCapacity call }
+        ensures learned { IfOk result (λ reply. learns known.old call reply known.new) }
+        ensures asked { IfOk result (IsPossible T.is_clone call) }
+        ensures back { IfErr result (λ back. (back ≡ call) × (known.new ≡ known.old)) }
+
+        ensures notice { IfOk result (λ reply. must_wait reply ≡ true
+            → W.is_refused task.new ≡ false) }
+        ensures refused { OnErr result (W.is_refused task.new ≡ true) }
+        ensures registered { IfOk result (λ reply. must_wait reply ≡ true → IsArmed cx.new) }
+        ensures again { OnErr result (IsArmed cx.new) }
+        ensures kept { Keeps cx.old cx.new };
+
+    /// Makes a call as `ask_waiting` does, and adds the last try to what is known.
+    fn ask_waiting_seen(&self, known: &mut Self::Known, call: Call<T>) -> Reply<T>
+        requires { may_wait call ≡ true }
+        ensures learned { learns known.old call result known.new }
+        ensures reply { IsPossible T.is_clone call result }
+        ensures answered { is_answer result ≡ true };
+}
+
+/// A port of which both holds: it can wait with a limit of time, and its calls can be added to what
+/// their caller knows.
+pub trait TimedSeenPort<T: Clone, S>: SeenPort<T, S> {
+    /// Makes a call as `ask_timeout` does, and adds the last try to what is known.
+    fn ask_timeout_seen(&self, known: &mut Self::Known, call: Call<T>, limit: Duration) -> Reply<T>
+        requires { may_wait call ≡ true }
+        ensures learned { Self.learns known.old call result known.new }
+        ensures reply { IsPossible T.is_clone call result };
 }

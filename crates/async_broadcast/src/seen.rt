@@ -8,59 +8,50 @@ ghost use Rattle.async_broadcast.specs.Ports.{as_try_recv};
 
 use crate::handle::{Handle, Role};
 use crate::inactive::{Inactive, InactiveReceiver};
-use crate::keep::Keep;
-use crate::lock::Lock;
-use crate::lock::limit::NoLimit;
-use crate::port::Port;
+use crate::port::SeenPort;
 use crate::receiver::{Receiver, Receiving, answered};
 use crate::sender::Sender;
-use crate::wake::{TaskWaker, Wake};
+use crate::wake::{TaskWaker, WakerSlot};
 use bcast_core::{
     Call, HandleError, Messages, RecvError, Reply, SendError, SendPoll, TryRecvError, TrySendError,
     in_vec,
 };
 use futures::task::{Context, Poll};
 use std::alloc::{AllocError, Allocator};
-use std::sync::Wait;
 
 /// Makes a call that never waits, adds it to `known`, and returns what the reply holds.
 macro_rules! ask_seen {
     ($handle:expr, $known:expr, $call:ident $(($argument:expr))?) => {
-        match $handle.port.ask_seen($known, Call::$call $(($argument))?, Wake::none()) {
+        match $handle.port.ask_seen($known, Call::$call $(($argument))?) {
             Reply::$call(answer) => answer,
             _ => unreachable!(),
         }
     };
 }
 
-impl<T: Clone, R: Wait + Clone, A: Allocator + Copy, K: Keep<T>, H: Role<T>> Handle<
-    T,
-    Lock<T, R, A, K>,
-    H,
-    A,
-> {
+impl<T: Clone, P: SeenPort<T, WakerSlot<A>>, H: Role<T>, A: Allocator + Copy> Handle<T, P, H, A> {
     /// Lets the handle know this. Each call that is made by it, or by a future of it, comes after
     /// all that is known.
     ///
     /// Source: this crate's own.
-    pub fn set_known(&mut self, known: &K::Known)
-        ensures known { self.new.port.known ≡ known.now }
+    pub fn set_known(&mut self, known: &P::Known)
+        ensures known { P.knows self.new.port ≡ known.now }
         ensures same { self.new.role ≡ self.old.role }
     {
-        self.port.known = K::same(known);
+        self.port.set_known(known);
     }
 }
 
-impl<T: Clone, R: Wait + Clone, A: Allocator + Copy, K: Keep<T>> Sender<T, Lock<T, R, A, K>, A> {
+impl<T: Clone, P: SeenPort<T, WakerSlot<A>>, A: Allocator + Copy> Sender<T, P, A> {
     /// Sends a message as `try_broadcast` does, and adds the call to `known`.
     ///
     /// Source: this crate's own.
     pub fn try_broadcast_seen(
         &self,
-        known: &mut K::Known,
+        known: &mut P::Known,
         msg: T,
     ) -> Result<Option<T>, TrySendError<T>>
-        ensures learned { K.learns known.old (Call.TryBroadcast msg) (Reply.TryBroadcast result)
+        ensures learned { P.learns known.old (Call.TryBroadcast msg) (Reply.TryBroadcast result)
             known.new }
         ensures asked { IsPossible T.is_clone (Call.TryBroadcast msg)
             (Reply.TryBroadcast result) }
@@ -73,10 +64,10 @@ impl<T: Clone, R: Wait + Clone, A: Allocator + Copy, K: Keep<T>> Sender<T, Lock<
     /// Source: this crate's own.
     pub fn try_broadcast_all_seen(
         &self,
-        known: &mut K::Known,
+        known: &mut P::Known,
         msgs: Vec<T>,
     ) -> Result<(), TrySendError<Vec<T>>>
-        ensures learned { K.learns known.old (Call.TryBroadcastAll msgs.items)
+        ensures learned { P.learns known.old (Call.TryBroadcastAll msgs.items)
             (Reply.TryBroadcastAll (in_lists result)) known.new }
     {
         in_vec(ask_seen!(self, known, TryBroadcastAll(Messages::new(msgs))))
@@ -85,8 +76,8 @@ impl<T: Clone, R: Wait + Clone, A: Allocator + Copy, K: Keep<T>> Sender<T, Lock<
     /// Closes the channel as `close` does, and adds the call to `known`.
     ///
     /// Source: this crate's own.
-    pub fn close_seen(&self, known: &mut K::Known) -> bool
-        ensures learned { K.learns known.old Call.Close (Reply.Close result) known.new }
+    pub fn close_seen(&self, known: &mut P::Known) -> bool
+        ensures learned { P.learns known.old Call.Close (Reply.Close result) known.new }
         ensures asked { IsPossible T.is_clone Call.Close (Reply.Close result) }
     {
         ask_seen!(self, known, Close)
@@ -98,16 +89,16 @@ impl<T: Clone, R: Wait + Clone, A: Allocator + Copy, K: Keep<T>> Sender<T, Lock<
     /// Source: this crate's own.
     pub fn broadcast_blocking_seen(
         &self,
-        known: &mut K::Known,
+        known: &mut P::Known,
         msg: T,
     ) -> Result<Option<T>, SendError<T>>
-        ensures learned { K.learns known.old (Call.AttemptSend msg)
+        ensures learned { P.learns known.old (Call.AttemptSend msg)
             (Reply.AttemptSend (SendPoll.Ready result)) known.new }
         ensures asked { IsPossible T.is_clone (Call.AttemptSend msg)
             (Reply.AttemptSend (SendPoll.Ready result)) }
     {
         let call = Call::AttemptSend(msg);
-        match self.port.ask_within(known, call, &NoLimit) {
+        match self.port.ask_waiting_seen(known, call) {
             Reply::AttemptSend(sent) => match sent {
                 SendPoll::Ready(sent) => sent,
                 SendPoll::Wait(_) => unreachable!(),
@@ -119,14 +110,11 @@ impl<T: Clone, R: Wait + Clone, A: Allocator + Copy, K: Keep<T>> Sender<T, Lock<
     /// Makes an active receiver as `new_receiver` does, and adds the call to `known`.
     ///
     /// Source: this crate's own.
-    pub fn new_receiver_seen(
-        &self,
-        known: &mut K::Known,
-    ) -> Result<Receiver<T, Lock<T, R, A, K>, A>, HandleError>
-        ensures learned { IfOk result (λ made. K.learns known.old Call.NewReceiver
+    pub fn new_receiver_seen(&self, known: &mut P::Known) -> Result<Receiver<T, P, A>, HandleError>
+        ensures learned { IfOk result (λ made. P.learns known.old Call.NewReceiver
             (Reply.NewReceiver (Ok made.role.key)) known.new) }
         ensures refused { IfErr result (λ error. (known.new ≡ known.old)
-            ⊎ K.learns known.old Call.NewReceiver (Reply.NewReceiver (Err error)) known.new) }
+            ⊎ P.learns known.old Call.NewReceiver (Reply.NewReceiver (Err error)) known.new) }
     {
         let port = self.port.same().ok_or(HandleError::Memory)?;
         let key = ask_seen!(self, known, NewReceiver)?;
@@ -134,7 +122,7 @@ impl<T: Clone, R: Wait + Clone, A: Allocator + Copy, K: Keep<T>> Sender<T, Lock<
     }
 }
 
-impl<T: Clone, R: Wait + Clone, A: Allocator + Copy, K: Keep<T>> Receiver<T, Lock<T, R, A, K>, A> {
+impl<T: Clone, P: SeenPort<T, WakerSlot<A>>, A: Allocator + Copy> Receiver<T, P, A> {
     /// The key under which the channel has the receiver's cursor.
     ///
     /// Source: this crate's own.
@@ -150,9 +138,9 @@ impl<T: Clone, R: Wait + Clone, A: Allocator + Copy, K: Keep<T>> Receiver<T, Loc
     /// Source: this crate's own.
     pub fn try_recv_seen(
         &mut self,
-        known: &mut K::Known,
+        known: &mut P::Known,
     ) -> Result<Result<T, TryRecvError>, AllocError>
-        ensures learned { K.learns known.old (Call.TryRecv self.old.role.key) (Reply.TryRecv result)
+        ensures learned { P.learns known.old (Call.TryRecv self.old.role.key) (Reply.TryRecv result)
             known.new }
         ensures asked { IsPossible T.is_clone (Call.TryRecv self.old.role.key)
             (Reply.TryRecv result) }
@@ -167,16 +155,16 @@ impl<T: Clone, R: Wait + Clone, A: Allocator + Copy, K: Keep<T>> Receiver<T, Loc
     /// Source: this crate's own.
     pub fn recv_blocking_seen(
         &mut self,
-        known: &mut K::Known,
+        known: &mut P::Known,
     ) -> Result<Result<T, RecvError>, AllocError>
-        ensures learned { K.learns known.old (Call.TryRecv self.old.role.key)
+        ensures learned { P.learns known.old (Call.TryRecv self.old.role.key)
             (Reply.TryRecv (as_try_recv result)) known.new }
         ensures asked { IsPossible T.is_clone (Call.TryRecv self.old.role.key)
             (Reply.TryRecv (as_try_recv result)) }
         ensures same { self.new ≡ self.old }
     {
         let call = Call::TryRecv(self.role.key);
-        match self.port.ask_within(known, call, &NoLimit) {
+        match self.port.ask_waiting_seen(known, call) {
             Reply::TryRecv(received) => answered(received),
             _ => unreachable!(),
         }
@@ -188,14 +176,14 @@ impl<T: Clone, R: Wait + Clone, A: Allocator + Copy, K: Keep<T>> Receiver<T, Loc
     /// Source: this crate's own.
     pub fn poll_recv_seen(
         &mut self,
-        known: &mut K::Known,
+        known: &mut P::Known,
         cx: &mut Context<'_>,
     ) -> Result<Poll<Option<Result<T, RecvError>>>, AllocError>
-        ensures learned { IfOk result (λ poll. K.learns known.old
+        ensures learned { IfOk result (λ poll. P.learns known.old
             (Call.PollRecv self.old.role.key) (Reply.PollRecv (Ok poll)) known.new) }
         ensures refused { IfErr result (λ error.
             ((known.new ≡ known.old) × (self.new.role.waker.is_refused ≡ true))
-            ⊎ K.learns known.old (Call.PollRecv self.old.role.key) (Reply.PollRecv (Err error))
+            ⊎ P.learns known.old (Call.PollRecv self.old.role.key) (Reply.PollRecv (Err error))
             known.new) }
         ensures same { (self.new.port ≡ self.old.port)
             × (self.new.role.key ≡ self.old.role.key) }
@@ -217,12 +205,12 @@ impl<T: Clone, R: Wait + Clone, A: Allocator + Copy, K: Keep<T>> Receiver<T, Loc
     /// Makes another active receiver as `clone` does, and adds the call to `known`.
     ///
     /// Source: this crate's own.
-    pub fn clone_seen(&self, known: &mut K::Known) -> Result<Self, HandleError>
-        ensures learned { IfOk result (λ made. K.learns known.old
+    pub fn clone_seen(&self, known: &mut P::Known) -> Result<Self, HandleError>
+        ensures learned { IfOk result (λ made. P.learns known.old
             (Call.CloneReceiver self.now.role.key) (Reply.CloneReceiver (Ok made.role.key))
             known.new) }
         ensures refused { IfErr result (λ error. (known.new ≡ known.old)
-            ⊎ K.learns known.old (Call.CloneReceiver self.now.role.key)
+            ⊎ P.learns known.old (Call.CloneReceiver self.now.role.key)
             (Reply.CloneReceiver (Err error)) known.new) }
     {
         let port = self.port.same().ok_or(HandleError::Memory)?;
@@ -235,12 +223,12 @@ impl<T: Clone, R: Wait + Clone, A: Allocator + Copy, K: Keep<T>> Receiver<T, Loc
     /// Source: this crate's own.
     pub fn deactivate_seen(
         self,
-        known: &mut K::Known,
-    ) -> Result<InactiveReceiver<T, Lock<T, R, A, K>, A>, (Self, HandleError)>
-        ensures learned { IfOk result (λ _. K.learns known.old (Call.Deactivate self.role.key)
+        known: &mut P::Known,
+    ) -> Result<InactiveReceiver<T, P, A>, (Self, HandleError)>
+        ensures learned { IfOk result (λ _. P.learns known.old (Call.Deactivate self.role.key)
             (Reply.Deactivate (Ok tt)) known.new) }
         ensures refused { IfErr result (λ back. (back.0 ≡ self)
-            × K.learns known.old (Call.Deactivate self.role.key) (Reply.Deactivate (Err back.1))
+            × P.learns known.old (Call.Deactivate self.role.key) (Reply.Deactivate (Err back.1))
             known.new) }
     {
         match ask_seen!(self, known, Deactivate(self.role.key)) {
@@ -250,23 +238,19 @@ impl<T: Clone, R: Wait + Clone, A: Allocator + Copy, K: Keep<T>> Receiver<T, Loc
     }
 }
 
-impl<T: Clone, R: Wait + Clone, A: Allocator + Copy, K: Keep<T>> InactiveReceiver<
-    T,
-    Lock<T, R, A, K>,
-    A,
-> {
+impl<T: Clone, P: SeenPort<T, WakerSlot<A>>, A: Allocator + Copy> InactiveReceiver<T, P, A> {
     /// Turns the inactive receiver into an active one as `activate` does, and adds the call to
     /// `known`.
     ///
     /// Source: this crate's own.
     pub fn activate_seen(
         self,
-        known: &mut K::Known,
-    ) -> Result<Receiver<T, Lock<T, R, A, K>, A>, (Self, HandleError)>
-        ensures learned { IfOk result (λ made. K.learns known.old Call.Activate
+        known: &mut P::Known,
+    ) -> Result<Receiver<T, P, A>, (Self, HandleError)>
+        ensures learned { IfOk result (λ made. P.learns known.old Call.Activate
             (Reply.Activate (Ok made.role.key)) known.new) }
         ensures refused { IfErr result (λ back. (back.0 ≡ self)
-            × K.learns known.old Call.Activate (Reply.Activate (Err back.1)) known.new) }
+            × P.learns known.old Call.Activate (Reply.Activate (Err back.1)) known.new) }
     {
         match ask_seen!(self, known, Activate) {
             Ok(key) => {

@@ -2,16 +2,13 @@
 ghost use Rattle.std.specs.Prelude.{◌≡◌};
 ghost use Rattle.async_broadcast.specs.Timed.{as_attempt, as_timed_try};
 
-use crate::keep::Keep;
-use crate::lock::Lock;
-use crate::port::TimedPort;
+use crate::port::{TimedPort, TimedSeenPort};
 use crate::receiver::Receiver;
 use crate::sender::Sender;
 use crate::wake::WakerSlot;
 use bcast_core::{Call, Reply, SendError, SendPoll, TryRecvError};
 use std::alloc::{AllocError, Allocator};
-use std::sync::Wait;
-use std::time::{Clock, Duration};
+use std::time::Duration;
 
 mod error;
 
@@ -103,50 +100,45 @@ impl<T: Clone, P: TimedPort<T, WakerSlot<A>>, A: Allocator + Copy> Receiver<T, P
     }
 }
 
-impl<T: Clone, R: Wait + Clone + Clock, A: Allocator + Copy, K: Keep<T>> Sender<
-    T,
-    Lock<T, R, A, K>,
-    A,
-> {
+impl<T: Clone, P: TimedSeenPort<T, WakerSlot<A>>, A: Allocator + Copy> Sender<T, P, A> {
     /// Sends a message as `broadcast_timeout` does, and adds the last try to `known`.
     ///
     /// Source: this crate's own.
     pub fn broadcast_timeout_seen(
         &self,
-        known: &mut K::Known,
+        known: &mut P::Known,
         msg: T,
         limit: Duration,
     ) -> Result<Option<T>, SendTimeoutError<T>>
-        ensures { K.learns known.old (Call.AttemptSend msg)
+        ensures { P.learns known.old (Call.AttemptSend msg)
             (Reply.AttemptSend (as_attempt result)) known.new }
     {
-        match self.port.ask_for(known, Call::AttemptSend(msg), limit) {
+        match self
+            .port
+            .ask_timeout_seen(known, Call::AttemptSend(msg), limit)
+        {
             Reply::AttemptSend(sent) => sent_in_time(sent),
             _ => unreachable!(),
         }
     }
 }
 
-impl<T: Clone, R: Wait + Clone + Clock, A: Allocator + Copy, K: Keep<T>> Receiver<
-    T,
-    Lock<T, R, A, K>,
-    A,
-> {
+impl<T: Clone, P: TimedSeenPort<T, WakerSlot<A>>, A: Allocator + Copy> Receiver<T, P, A> {
     /// Receives the next message as `recv_timeout` does, and adds the last try to `known`.
     ///
     /// Source: this crate's own.
     pub fn recv_timeout_seen(
         &mut self,
-        known: &mut K::Known,
+        known: &mut P::Known,
         limit: Duration,
     ) -> Result<Result<T, RecvTimeoutError>, AllocError>
-        ensures learned { K.learns known.old (Call.TryRecv self.old.role.key)
+        ensures learned { P.learns known.old (Call.TryRecv self.old.role.key)
             (Reply.TryRecv (as_timed_try result)) known.new }
         ensures same { self.new ≡ self.old }
     {
         match self
             .port
-            .ask_for(known, Call::TryRecv(self.role.key), limit)
+            .ask_timeout_seen(known, Call::TryRecv(self.role.key), limit)
         {
             Reply::TryRecv(received) => received_in_time(received),
             _ => unreachable!(),

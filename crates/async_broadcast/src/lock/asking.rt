@@ -2,12 +2,14 @@
 ghost use Rattle.std.specs.Prelude.{◌≡◌, true, false, IfOk, IfErr, OnErr};
 ghost use Rattle.futures.specs.Task.{IsArmed, Keeps};
 ghost use Rattle.bcast_model.specs.Words.{Answers, HasPositiveCapacity, IsPossible, must_wait};
+ghost use Rattle.async_broadcast.specs.Kinds.{may_wait, is_answer};
 
 use super::Lock;
 use super::channel::{kept, lock, locked, try_broadcast_locked, try_recv_locked};
+use super::limit::NoLimit;
 use super::made::{Asked, BegunToSend, EndedFuture};
 use crate::keep::Keep;
-use crate::port::Ask;
+use crate::port::{Ask, SeenPort};
 use crate::wake::making::{ForTask, RegistersIn};
 use crate::wake::{Registers, Wake, WakerSlot};
 use bcast_core::{Call, Inner, Reply, TryRecvError, TrySendError, poll, step};
@@ -82,76 +84,6 @@ macro_rules! poll_locked {
     }};
 }
 
-impl<T: Clone, R: Wait + Clone, A: Allocator + Copy, K: Keep<T>> Lock<T, R, A, K> {
-    /// Makes one call on the channel, and adds it to what is known.
-    #[inline(always)]
-    pub fn ask_seen(
-        &self,
-        known: &mut K::Known,
-        call: Call<T>,
-        wake: Wake<WakerSlot<A>>,
-    ) -> Reply<T>
-        requires { HasPositiveCapacity call }
-        ensures learned { K.learns known.old call result known.new }
-        ensures possible { IsPossible T.is_clone call result }
-    {
-        ask_locked!(self, known, call, wake)
-    }
-
-    #[inline(always)]
-    pub(crate) fn try_broadcast_seen(
-        &self,
-        known: &mut K::Known,
-        msg: T,
-    ) -> Result<Option<T>, TrySendError<T>>
-        ensures learned { K.learns known.old (Call.TryBroadcast msg) (Reply.TryBroadcast result)
-            known.new }
-        ensures asked { IsPossible T.is_clone (Call.TryBroadcast msg)
-            (Reply.TryBroadcast result) }
-    {
-        try_broadcast_locked!(self, known, msg)
-    }
-
-    #[inline(always)]
-    pub(crate) fn try_recv_seen(
-        &self,
-        known: &mut K::Known,
-        key: usize,
-    ) -> Result<Result<T, TryRecvError>, AllocError>
-        ensures learned { K.learns known.old (Call.TryRecv key) (Reply.TryRecv result) known.new }
-        ensures asked { IsPossible T.is_clone (Call.TryRecv key) (Reply.TryRecv result) }
-    {
-        try_recv_locked!(self, known, key)
-    }
-
-    /// Makes one of the four polls, as `Ask::poll` does, and adds it to what is known.
-    #[inline(always)]
-    pub fn poll_seen<W: Registers<WakerSlot<A>>>(
-        &self,
-        known: &mut K::Known,
-        call: Call<T>,
-        task: &mut W,
-        cx: &mut Context<'_>,
-    ) -> Result<Reply<T>, Call<T>>
-        requires { HasPositiveCapacity call }
-        ensures learned { IfOk result (λ reply. K.learns known.old call reply known.new) }
-        ensures asked { IfOk result (IsPossible T.is_clone call) }
-        ensures back { IfErr result (λ back. (back ≡ call) × (known.new ≡ known.old)) }
-
-        ensures notice { IfOk result (λ reply. must_wait reply ≡ true
-            → W.is_refused task.new ≡ false) }
-        ensures refused { OnErr result (W.is_refused task.new ≡ true) }
-        ensures registered { IfOk result (λ reply. must_wait reply ≡ true → IsArmed cx.new) }
-        ensures again { OnErr result (IsArmed cx.new) }
-        ensures kept { Keeps cx.old cx.new }
-        // A call that is answered doesn't change the task's waker and the poll's context.
-        ensures answered { IfOk result (λ reply. must_wait reply ≡ false
-            → (task.new ≡ task.old) × (cx.new ≡ cx.old)) }
-    {
-        poll_locked!(self, known, call, task, cx)
-    }
-}
-
 impl<T: Clone, R: Wait + Clone, A: Allocator + Copy, K: Keep<T>> Ask<T, WakerSlot<A>>
     for Lock<T, R, A, K> {
     ghost use Rattle.async_broadcast.specs.OfKind.{possible};
@@ -194,9 +126,7 @@ impl<T: Clone, R: Wait + Clone, A: Allocator + Copy, K: Keep<T>> Ask<T, WakerSlo
     }
 
     #[inline(always)]
-    fn begin_send(&self) -> Result<usize, AllocError>
-        ensures { K.gave self.now.known Call.BeginSend (Reply.BeginSend result) }
-    {
+    fn begin_send(&self) -> Result<usize, AllocError> {
         locked!(
             self,
             &mut K::same(&self.known),
@@ -208,9 +138,7 @@ impl<T: Clone, R: Wait + Clone, A: Allocator + Copy, K: Keep<T>> Ask<T, WakerSlo
     // An answered poll has taken its listener off the list, and no other poll can have put it
     // back: so the call would change nothing, and isn't made.
     #[inline(always)]
-    fn end_future(&self, key: usize, is_answered: bool) -> Wake<WakerSlot<A>>
-        ensures { K.gave self.now.known (Call.EndFuture key) Reply.EndFuture }
-    {
+    fn end_future(&self, key: usize, is_answered: bool) -> Wake<WakerSlot<A>> {
         if is_answered {
             return Wake::none();
         }
@@ -221,5 +149,81 @@ impl<T: Clone, R: Wait + Clone, A: Allocator + Copy, K: Keep<T>> Ask<T, WakerSlo
             |_notice| { EndedFuture { key } }
         )
         .unwrap_or(Wake::none())
+    }
+}
+
+impl<T: Clone, R: Wait + Clone, A: Allocator + Copy, K: Keep<T>> SeenPort<T, WakerSlot<A>>
+    for Lock<T, R, A, K> {
+    type Known = K::Known;
+
+    ghost knows = { λ port. port.known };
+
+    ghost learns = { λ known call reply after. K.learns known call reply after };
+
+    fn set_known(&mut self, known: &K::Known) {
+        self.known = K::same(known);
+    }
+
+    #[inline(always)]
+    fn ask_seen(&self, known: &mut K::Known, call: Call<T>) -> Reply<T>
+        requires { HasPositiveCapacity call }
+        ensures learned { K.learns known.old call result known.new }
+        ensures possible { IsPossible T.is_clone call result }
+    {
+        let wake = Wake::none();
+        ask_locked!(self, known, call, wake)
+    }
+
+    #[inline(always)]
+    fn try_broadcast_seen(
+        &self,
+        known: &mut K::Known,
+        msg: T,
+    ) -> Result<Option<T>, TrySendError<T>> {
+        try_broadcast_locked!(self, known, msg)
+    }
+
+    #[inline(always)]
+    fn try_recv_seen(
+        &self,
+        known: &mut K::Known,
+        key: usize,
+    ) -> Result<Result<T, TryRecvError>, AllocError> {
+        try_recv_locked!(self, known, key)
+    }
+
+    #[inline(always)]
+    fn poll_seen<W: Registers<WakerSlot<A>>>(
+        &self,
+        known: &mut K::Known,
+        call: Call<T>,
+        task: &mut W,
+        cx: &mut Context<'_>,
+    ) -> Result<Reply<T>, Call<T>>
+        requires { HasPositiveCapacity call }
+        ensures learned { IfOk result (λ reply. K.learns known.old call reply known.new) }
+        ensures asked { IfOk result (IsPossible T.is_clone call) }
+        ensures back { IfErr result (λ back. (back ≡ call) × (known.new ≡ known.old)) }
+
+        ensures notice { IfOk result (λ reply. must_wait reply ≡ true
+            → W.is_refused task.new ≡ false) }
+        ensures refused { OnErr result (W.is_refused task.new ≡ true) }
+        ensures registered { IfOk result (λ reply. must_wait reply ≡ true → IsArmed cx.new) }
+        ensures again { OnErr result (IsArmed cx.new) }
+        ensures kept { Keeps cx.old cx.new }
+        // A call that is answered doesn't change the task's waker and the poll's context.
+        ensures answered { IfOk result (λ reply. must_wait reply ≡ false
+            → (task.new ≡ task.old) × (cx.new ≡ cx.old)) }
+    {
+        poll_locked!(self, known, call, task, cx)
+    }
+
+    fn ask_waiting_seen(&self, known: &mut K::Known, call: Call<T>) -> Reply<T>
+        requires { may_wait call ≡ true }
+        ensures learned { K.learns known.old call result known.new }
+        ensures reply { IsPossible T.is_clone call result }
+        ensures answered { is_answer result ≡ true }
+    {
+        self.ask_within(known, call, &NoLimit)
     }
 }

@@ -2,7 +2,7 @@
 use Rattle.std.proofs.Common.{refl}
 use Rattle.bcast_model.proofs.Answers.{possible}
 use Rattle.bcast_model.proofs.Clones.{answers_any}
-use Rattle.async_broadcast.proofs.lock.Lock.try_broadcast_seen.Goals as goal
+use Rattle.async_broadcast.proofs.lock.asking.LockSeenPortWakerSlot.try_broadcast_seen.Goals as goal
 
 pub keep-requires-clause-answers : goal.keep-requires-clause-answers
 keep-requires-clause-answers g c =
