@@ -177,6 +177,11 @@ pub trait SeenPort<T: Clone, S>: Port<T, S> {
         ensures asked { IsPossible T.is_clone (Call.TryRecv key) (Reply.TryRecv result) };
 
     /// Makes one of the four polls as `poll` does, and adds it to what is known.
+    ///
+    /// # Errors
+    ///
+    /// The call is handed back, and was not made: memory for a notice was refused. Nothing is added
+    /// to what is known.
     fn poll_seen<W: Registers<S>>(
         &self,
         known: &mut Self::Known,
@@ -204,8 +209,7 @@ pub trait SeenPort<T: Clone, S>: Port<T, S> {
         ensures answered { is_answer result ≡ true };
 }
 
-/// A port of which both holds: it can wait with a limit of time, and its calls can be added to what
-/// their caller knows.
+/// A port that can also wait with a limit of time, and add such a call to what its caller knows.
 pub trait TimedSeenPort<T: Clone, S>: SeenPort<T, S> {
     /// Makes a call as `ask_timeout` does, and adds the last try to what is known.
     fn ask_timeout_seen(&self, known: &mut Self::Known, call: Call<T>, limit: Duration) -> Reply<T>

@@ -6,7 +6,7 @@ use base.Stored.{Coded-set}
 use mathlib.Core.List.{IsPrefix}
 use Rattle.bcast_model.specs.declared.run.Call.{Call}
 use Rattle.bcast_model.specs.declared.run.Reply.{Reply}
-use Rattle.bcast_model.specs.Words.{View, view_of, Legal, Answers, Represents, IsValid, end_number}
+use Rattle.bcast_model.specs.Words.{View, view_of, Legal, Answers, Represents, IsValid}
 use Rattle.bcast_model.specs.Encodings.{view_code}
 use Rattle.bcast_history.specs.declared.step.Opening.{Opening}
 use Rattle.bcast_history.specs.declared.step.Step.{Step}

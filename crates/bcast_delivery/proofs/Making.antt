@@ -8,20 +8,21 @@ use Rattle.bcast_model.specs.declared.run.Reply.TheVariants as reply
 use Rattle.bcast_model.specs.Words.{view_of, end_number}
 use Rattle.bcast_history.specs.declared.step.Opening.{Opening}
 use Rattle.bcast_history.specs.History.{end_of}
-use Rattle.bcast_delivery.specs.Seen.{Known, Learns, reads_at}
+use Rattle.bcast_delivery.specs.Seen.{Known, Learns, InHistory, reads_at}
 use Rattle.bcast_delivery.specs.Reading.{Reading}
 use Rattle.bcast_delivery.proofs.Started.{new_starts, activated_starts, cloned_starts}
 use Rattle.bcast_delivery.proofs.Taken.{Goes, no_call, one_call}
 
 module _ {T : Type 0} {is_clone : T → T → Type 0} {o : Opening} {known after : Known T} where
   -- a call, or none if there was no memory for the handle
-  pub made_goes : {M E : Type 0} (c : Call T) (made : M → Reply T) (refused : E → Reply T) (result : Result M E)
-      → IfOk result (λ m. Learns is_clone o known c (made m) after)
-      → IfErr result (λ e. (after ≡ known) ⊎ Learns is_clone o known c (refused e) after)
+  pub made_goes : {M E : Type 0} {learns : Known T → Call T → Reply T → Known T → Type 0} → InHistory is_clone o learns
+      → (c : Call T) (made : M → Reply T) (refused : E → Reply T) (result : Result M E)
+      → IfOk result (λ m. learns known c (made m) after)
+      → IfErr result (λ e. (after ≡ known) ⊎ learns known c (refused e) after)
       → Goes is_clone o known after
-  made_goes c made refused (Ok m) learned none = one_call _ _ learned
-  made_goes c made refused (Err e) learned (inl same) = no_call same
-  made_goes c made refused (Err e) learned (inr was) = one_call _ _ was
+  made_goes follows c made refused (Ok m) learned none = one_call _ _ (follows _ _ _ _ learned)
+  made_goes follows c made refused (Err e) learned (inl same) = no_call same
+  made_goes follows c made refused (Err e) learned (inr was) = one_call _ _ (follows _ _ _ _ was)
 
   pub new_reads_at : {key : ℕ} → Learns is_clone o known call.NewReceiver (reply.NewReceiver (Ok key)) after
       → after.end ≡ reads_at (view_of (end_of o after.steps)) key

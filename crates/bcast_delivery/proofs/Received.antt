@@ -1,5 +1,5 @@
 -- What the calls of a `Reading` take.
-use Rattle.std.proofs.Common.{◌≡◌, ◌⊎◌, inl, inr, ℕ, ◌+◌, Bool, length, Option, Some, None, Result, Ok, Err, refl, sym, ap, ◌∙◌, subst, arith}
+use Rattle.std.proofs.Common.{◌≡◌, ◌⊎◌, inl, inr, ℕ, ◌+◌, Bool, length, Option, Some, None, Result, Ok, Err, sym, ap, ◌∙◌, subst, arith}
 use Rattle.std.specs.Prelude.{IfOk, IfErr, IfSome}
 use Rattle.std.specs.declared.alloc.AllocError.{AllocError}
 use mathlib.Core.List.{IsPrefix}
@@ -11,9 +11,9 @@ use Rattle.bcast_model.specs.declared.run.Reply.TheVariants as reply
 use Rattle.bcast_model.specs.Words.{History, view_of, IsValid, Legal, next, given_by}
 use Rattle.bcast_history.specs.declared.step.Opening.{Opening}
 use Rattle.bcast_history.specs.History.{end_of}
-use Rattle.bcast_delivery.specs.Seen.{Known, Learns, reads_at}
+use Rattle.bcast_delivery.specs.Seen.{Known, Learns, InHistory, reads_at}
 use Rattle.bcast_delivery.specs.Reading.{Reading, Finds, Takes, IsSo, as_found, said_closed}
-use Rattle.bcast_delivery.proofs.Taken.{Goes, no_call, one_call, goes_on, ReadsAt, reads_there, finds}
+use Rattle.bcast_delivery.proofs.Taken.{no_call, one_call, goes_on, ReadsAt, reads_there, finds}
 use Rattle.bcast_delivery.proofs.Polled.{Polled, polled_finds}
 
 -- what a receive says of the channel is so
@@ -57,24 +57,29 @@ module _ {T : Type 0} (is_clone : T → T → Type 0) where
             closed = is_so o after (said_closed found) learned.closed (subst (λ said. IfSome said (λ closed. closed ≡ after.closed)) says told);
           }
 
-    pub tried : {r : Result (Result T TryRecvError) AllocError} → Learns is_clone o known (call.TryRecv reader) (reply.TryRecv r) after
-        → given ≡ length (given_by (reply.TryRecv r)) → said ≡ said_closed r → Received o old after key now r
-    tried {r = r} = made call.TryRecv (reply.TryRecv r) r (λ h key was now. finds is_clone h key was now r)
+    -- over a port whose calls have their places in the history
+    module _ {learns : Known T → Call T → Reply T → Known T → Type 0} (follows : InHistory is_clone o learns) where
+      pub tried : {r : Result (Result T TryRecvError) AllocError} → learns known (call.TryRecv reader) (reply.TryRecv r) after
+          → given ≡ length (given_by (reply.TryRecv r)) → said ≡ said_closed r → Received o old after key now r
+      tried {r = r} learned =
+          made call.TryRecv (reply.TryRecv r) r (λ h key was now. finds is_clone h key was now r) (follows _ _ _ _ learned)
 
-    -- a poll for which memory was refused may have made no call
-    pub polled : (X : Type 0) (p : Polled T)
-        → IfOk p (λ poll. Learns is_clone o known (call.PollRecv reader) (reply.PollRecv (Ok poll)) after)
-        → IfErr p (λ error. ((after ≡ known) × X) ⊎ Learns is_clone o known (call.PollRecv reader) (reply.PollRecv (Err error)) after)
-        → given ≡ length (given_by (reply.TryRecv (as_found p))) → said ≡ said_closed (as_found p) → Received o old after key now (as_found p)
-    polled X (Ok poll) learned none counted says =
-        made call.PollRecv (reply.PollRecv (Ok poll)) (as_found (Ok poll)) (λ h key was now. polled_finds is_clone h key was now (Ok poll)) learned counted says
-    polled X (Err error) learned (inr learned') counted says =
-        made call.PollRecv (reply.PollRecv (Err error)) (Err error) (λ h key was now. polled_finds is_clone h key was now (Err error)) learned' counted says
-    polled X (Err error) learned (inl same) counted says =
-        let goes = no_call same.0 in
-        let kept : now ≡ was = omega (arith, counted, behind) in record {
-          reads = reads_there is_clone goes before there;
-          seen = subst (λ (old : Reading T). IsPrefix old.steps after.steps) is_old (goes_on is_clone goes);
-          takes = kept ∙ ap (λ (old : Reading T). old.next) is_old;
-          closed = tt;
-        }
+      -- a poll for which memory was refused may have made no call
+      pub polled : (X : Type 0) (p : Polled T)
+          → IfOk p (λ poll. learns known (call.PollRecv reader) (reply.PollRecv (Ok poll)) after)
+          → IfErr p (λ error. ((after ≡ known) × X) ⊎ learns known (call.PollRecv reader) (reply.PollRecv (Err error)) after)
+          → given ≡ length (given_by (reply.TryRecv (as_found p))) → said ≡ said_closed (as_found p) → Received o old after key now (as_found p)
+      polled X (Ok poll) learned none counted says =
+          made call.PollRecv (reply.PollRecv (Ok poll)) (as_found (Ok poll)) (λ h key was now. polled_finds is_clone h key was now (Ok poll))
+          (follows _ _ _ _ learned) counted says
+      polled X (Err error) learned (inr learned') counted says =
+          made call.PollRecv (reply.PollRecv (Err error)) (Err error) (λ h key was now. polled_finds is_clone h key was now (Err error))
+          (follows _ _ _ _ learned') counted says
+      polled X (Err error) learned (inl same) counted says =
+          let kept : now ≡ was = omega (arith, counted, behind) in
+          let goes = no_call same.0 in record {
+            reads = reads_there is_clone goes before there;
+            seen = subst (λ (old : Reading T). IsPrefix old.steps after.steps) is_old (goes_on is_clone goes);
+            takes = kept ∙ ap (λ (old : Reading T). old.next) is_old;
+            closed = tt;
+          }

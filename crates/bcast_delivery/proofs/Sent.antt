@@ -1,5 +1,5 @@
 -- Where messages stand.
-use Rattle.std.proofs.Common.{◌≡◌, ℕ, List, [], ◌∷◌, ◌++◌, Some, refl, sym, ap, ◌∙◌, subst}
+use Rattle.std.proofs.Common.{◌≡◌, ℕ, List, [], ◌∷◌, ◌++◌, Some, refl, ap, ◌∙◌, subst}
 use mathlib.Core.List.{IsPrefix}
 use Rattle.bcast_model.specs.Words.{History, next, end_of_run, numbered}
 use Rattle.bcast_model.proofs.DeliveryMessages.{numbered_stays}

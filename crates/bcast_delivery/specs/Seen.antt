@@ -41,6 +41,14 @@ pub record Learns
   pub closed : after.closed ≡ (end_of o after.steps).control.closed
   pub reader : after.reader ≡ reader_in (view_of (end_of o after.steps)) known.reader
 
+-- a port that adds its calls to what is known adds them so
+abbrev pub InHistory
+    : {T : Type 0} → (T → T → Type 0) → Opening
+    → (Known T → Call T → Reply T → Known T → Type 0) → Type 0
+InHistory {T} is_clone o learns =
+    (known after : Known T) (c : Call T) (r : Reply T)
+    → learns known c r after → Learns is_clone o known c r after
+
 -- a call and a reply that a port gives: they have a place in the history of its channel, after all
 -- that the port knows. Only giving up a future has none if there is nothing to give up
 abbrev pub GivesInHistory

@@ -3,8 +3,10 @@
 //!
 //! `Opened` makes a channel with a journal of the steps on it, each a call with its reply, and
 //! `broadcast` its first handles. They are the handles of `async_broadcast`, and make the same
-//! calls. A call that ends in `_seen` also tells its caller: it is lent a `Seen`, a beginning of
-//! the history that its caller knows, which then has the steps of others since, and last its own
+//! calls. A function over them is written over their port, a `HistoryPort`.
+//!
+//! A call that ends in `_seen` also tells its caller: it is lent a `Seen`, a beginning of the
+//! history that its caller knows, which then has the steps of others since, and last its own
 //! (`Follows`). All that any `Seen` of the channel knows are beginnings of one list, which is a run
 //! of the channel. So the laws of `bcast_laws` speak of it.
 //!
@@ -30,6 +32,7 @@
 
 mod laws;
 mod opened;
+mod port;
 mod reading;
 mod seen;
 mod steps;
@@ -39,7 +42,8 @@ pub use laws::{
     closed_is_last, end_is_last, logs_are_accepted, messages_stay, receivers_read_on,
     sends_stand_last,
 };
-pub use opened::{History, HistoryInactive, HistoryReceiver, HistorySender, Opened, broadcast};
+pub use opened::{Opened, broadcast};
+pub use port::{History, HistoryPort, KeepsHistory};
 pub use reading::Reading;
 pub use seen::Seen;
 pub use steps::{Channel, KeepsSteps};

@@ -1,9 +1,10 @@
 //! A channel that was made, before it has a name, and its first handles.
 ghost use Rattle.std.specs.Prelude.{◌≡◌, ◌<◌, [], IfOk};
 
+use crate::port::History;
 use crate::reading::Reading;
 use crate::steps::{Channel, KeepsSteps};
-use async_broadcast::{InactiveReceiver, Lock, Port, Receiver, Sender, Wake, WakerSlot};
+use async_broadcast::{Lock, Port, Receiver, Sender, Wake, WakerSlot};
 use bcast_core::Inner;
 use bcast_history::{Journal, Opening, Step};
 use std::alloc::{AllocError, Allocator, Global};
@@ -58,18 +59,6 @@ impl<T: Clone, A: Allocator + Copy> Opened<T, A> {
     }
 }
 
-/// The port of a channel whose steps are kept.
-pub type History<T, R, J, A = Global> = Lock<T, R, A, KeepsSteps<T, J>>;
-
-/// A sender of a channel whose steps are kept.
-pub type HistorySender<T, R, J, A = Global> = Sender<T, History<T, R, J, A>, A>;
-
-/// A receiver of a channel whose steps are kept.
-pub type HistoryReceiver<T, R, J, A = Global> = Receiver<T, History<T, R, J, A>, A>;
-
-/// An inactive receiver of a channel whose steps are kept.
-pub type HistoryInactive<T, R, J, A = Global> = InactiveReceiver<T, History<T, R, J, A>, A>;
-
 /// Makes the first sender and the first receiver of this channel, whose name is `J`, and how far
 /// the receiver has read: nothing.
 ///
@@ -82,8 +71,8 @@ pub fn broadcast<T: Clone, R: Wait + Clone, J: Channel, A: Allocator + Copy>(
     opened: Opened<T, A>,
 ) -> Result<
     (
-        HistorySender<T, R, J, A>,
-        HistoryReceiver<T, R, J, A>,
+        Sender<T, History<T, R, J, A>, A>,
+        Receiver<T, History<T, R, J, A>, A>,
         Reading<T, J>,
     ),
     AllocError,

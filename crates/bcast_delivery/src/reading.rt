@@ -9,14 +9,16 @@ ghost use Rattle.async_broadcast.specs.Timed.{as_timed_try};
 ghost use Rattle.bcast_delivery.specs.Seen.{reads_at};
 ghost use Rattle.bcast_delivery.specs.Reading.{Takes, IsSo, said_closed};
 
-use crate::opened::HistoryReceiver;
+use crate::port::HistoryPort;
 use crate::seen::Seen;
 use crate::steps::Channel;
-use async_broadcast::{RecvError, RecvTimeoutError, TryRecvError};
+use async_broadcast::{
+    Receiver, RecvError, RecvTimeoutError, TimedSeenPort, TryRecvError, WakerSlot,
+};
 use std::alloc::{AllocError, Allocator};
 use std::marker::Model;
 use std::sync::Wait;
-use std::time::{Clock, Duration};
+use std::time::Duration;
 
 mod making;
 mod polling;
@@ -90,10 +92,10 @@ impl<T: Clone, J: Channel> Reading<T, J> {
     /// - `Closed`: every message was read, and the channel is closed.
     ///
     /// Source: this crate's own.
-    pub fn try_recv<R: Wait + Clone, A: Allocator + Copy>(
+    pub fn try_recv<P: HistoryPort<T, J, WakerSlot<A>>, A: Allocator + Copy>(
         &mut self,
         rt: &impl Wait,
-        receiver: &mut HistoryReceiver<T, R, J, A>,
+        receiver: &mut Receiver<T, P, A>,
     ) -> Result<Result<T, TryRecvError>, AllocError>
         requires { receiver.old.role.key ≡ self.old.key }
         ensures receiver { receiver.new ≡ receiver.old }
@@ -120,10 +122,10 @@ impl<T: Clone, J: Channel> Reading<T, J> {
     /// - `Closed`: every message was read, and the channel is closed.
     ///
     /// Source: this crate's own.
-    pub fn recv_blocking<R: Wait + Clone, A: Allocator + Copy>(
+    pub fn recv_blocking<P: HistoryPort<T, J, WakerSlot<A>>, A: Allocator + Copy>(
         &mut self,
         rt: &impl Wait,
-        receiver: &mut HistoryReceiver<T, R, J, A>,
+        receiver: &mut Receiver<T, P, A>,
     ) -> Result<Result<T, RecvError>, AllocError>
         requires { receiver.old.role.key ≡ self.old.key }
         ensures receiver { receiver.new ≡ receiver.old }
@@ -151,10 +153,13 @@ impl<T: Clone, J: Channel> Reading<T, J> {
     /// - `Closed`: every message was read, and the channel is closed.
     ///
     /// Source: this crate's own.
-    pub fn recv_timeout<R: Wait + Clone + Clock, A: Allocator + Copy>(
+    pub fn recv_timeout<
+        P: HistoryPort<T, J, WakerSlot<A>> + TimedSeenPort<T, WakerSlot<A>>,
+        A: Allocator + Copy,
+    >(
         &mut self,
         rt: &impl Wait,
-        receiver: &mut HistoryReceiver<T, R, J, A>,
+        receiver: &mut Receiver<T, P, A>,
         limit: Duration,
     ) -> Result<Result<T, RecvTimeoutError>, AllocError>
         requires { receiver.old.role.key ≡ self.old.key }

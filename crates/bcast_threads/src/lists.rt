@@ -1,17 +1,19 @@
 //! The lists of a run: what each receiver received.
 ghost use Rattle.std.specs.Prelude.{◌≡◌, ◌*◌, IfOk, IfSome, All, length};
 ghost use Rattle.std.specs.Bool.{OnTrue};
+ghost use mathlib.Core.List.{IsPrefix};
 ghost use Rattle.bcast_model.specs.Words.{end_number};
 ghost use Rattle.bcast_history.specs.History.{end_of};
 ghost use Rattle.bcast_delivery.specs.Follows.{accepted_by};
-ghost use Rattle.bcast_threads.specs.Lists.{IsOneList, HasAll};
+ghost use Rattle.bcast_threads.specs.Lists.{AreLists, HasAll};
 ghost use Rattle.bcast_text.specs.Order.{HoldsEachOnce};
 
 use crate::fault::Fault;
 use crate::plan::Plan;
 use crate::started::{Started, clones_of};
 use crate::work::{Log, Sent};
-use bcast_delivery::{Channel, Opened, Seen, broadcast};
+use async_broadcast::{Receiver, Sender, WakerSlot};
+use bcast_delivery::{Channel, HistoryPort, Opened, Reading, Seen, broadcast};
 use std::alloc::Global;
 use std::marker::Brand;
 use std::sync::Wait;
@@ -36,15 +38,13 @@ pub fn lists_of<R: Threads + Wait + Clone + Send + 'static>(
     alloc: Global,
     plan: Plan,
 ) -> Result<Vec<Vec<u64>>, Fault>
-    ensures count { IfOk result (λ lists. length lists.items ≡ plan.receivers) }
-    ensures same { IfOk result (λ lists. IsOneList (λ list. list.items) lists.items) }
-    ensures each { IfOk result (λ lists. All (λ list.
-        HoldsEachOnce list.items (plan.senders * plan.messages)) lists.items) }
+    ensures { IfOk result (λ lists. AreLists plan (λ list. list.items) lists.items) }
 {
     let opened = Opened::new(alloc, CAPACITY)?;
     lists_over::<Brand, R>(rt, alloc, plan, opened)
 }
 
+// The same, over this channel.
 fn lists_over<J: Channel + Send + Sync + 'static, R: Threads + Wait + Clone + Send + 'static>(
     rt: &R,
     alloc: Global,
@@ -53,19 +53,38 @@ fn lists_over<J: Channel + Send + Sync + 'static, R: Threads + Wait + Clone + Se
 ) -> Result<Vec<Vec<u64>>, Fault>
     requires name { (opened.book ≡ J.book) × (opened.opening ≡ J.opening) }
     requires first { opened.opening.first_number ≡ 0 }
-    ensures count { IfOk result (λ lists. length lists.items ≡ plan.receivers) }
-    ensures same { IfOk result (λ lists. IsOneList (λ list. list.items) lists.items) }
-    ensures each { IfOk result (λ lists. All (λ list.
-        HoldsEachOnce list.items (plan.senders * plan.messages)) lists.items) }
+    ensures { IfOk result (λ lists. AreLists plan (λ list. list.items) lists.items) }
 {
-    let (sender, receiver, reading) = broadcast(rt.clone()?, alloc, opened)?;
+    let its_rt = rt.clone()?;
+    let (sender, receiver, reading): (_, _, Reading<u64, J>) = broadcast(its_rt, alloc, opened)?;
+    lists_from(rt, alloc, plan, sender, receiver, reading)
+}
+
+// The same, over these handles, the first ones of their channel.
+fn lists_from<J, R, P>(
+    rt: &R,
+    alloc: Global,
+    plan: Plan,
+    sender: Sender<u64, P>,
+    receiver: Receiver<u64, P>,
+    reading: Reading<u64, J>,
+) -> Result<Vec<Vec<u64>>, Fault>
+where
+    J: Channel + Send + Sync + 'static,
+    R: Threads + Wait + Clone + Send + 'static,
+    P: HistoryPort<u64, J, WakerSlot> + Send + 'static,
+    requires key { receiver.role.key ≡ reading.key }
+    requires start { reading.next ≡ J.opening.first_number }
+    requires first { J.opening.first_number ≡ 0 }
+    ensures { IfOk result (λ lists. AreLists plan (λ list. list.items) lists.items) }
+{
     let mut seen = reading.seen();
     let readers = clones_of(rt, alloc, receiver, reading, plan.receivers)?;
     let mut threads = Started::<J>::with_room(alloc, plan)?;
     let started = threads.start(rt, alloc, plan, &sender, &seen, readers);
     let Started { senders, receivers } = threads;
     let sent = numbers_sent(senders.join(rt), &mut seen);
-    sender.close_seen(&mut seen);
+    close(&sender, &mut seen);
     let logs = receivers.join(rt);
     started?;
     let lists = all_of(alloc, logs, &seen)?;
@@ -73,6 +92,17 @@ fn lists_over<J: Channel + Send + Sync + 'static, R: Threads + Wait + Clone + Se
         return Err(Fault::Missed);
     }
     Ok(lists)
+}
+
+/// Closes the channel. What is seen of it then ends where it does.
+fn close<J: Channel, P: HistoryPort<u64, J, WakerSlot>>(
+    sender: &Sender<u64, P>,
+    seen: &mut Seen<u64, J>,
+)
+    ensures begins { IsPrefix seen.old.steps seen.new.steps }
+    ensures end { seen.new.end ≡ end_number (end_of J.opening seen.new.steps) }
+{
+    sender.close_seen(seen);
 }
 
 /// The numbers from 0 on that were sent, up to the one that is returned, by the senders as they

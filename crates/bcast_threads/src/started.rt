@@ -1,13 +1,13 @@
 //! The threads of a run: started over one channel, and joined.
 ghost use Rattle.std.specs.Prelude.{◌≡◌, ◌+◌, ◌<◌, ◌≤◌, IfOk, IfErr, OnOk, length, vec_len, vec_capacity};
-ghost use Rattle.bcast_delivery.specs.Seen.{GivesInHistory};
 ghost use Rattle.bcast_threads.specs.Given.{WasClosed};
 
 use crate::fault::Fault;
 use crate::group::Group;
 use crate::plan::Plan;
 use crate::work::{Log, Reader, Sent, receive_all, send_all};
-use bcast_delivery::{Channel, History, HistoryReceiver, HistorySender, Reading, Seen};
+use async_broadcast::{Receiver, Sender, WakerSlot};
+use bcast_delivery::{Channel, HistoryPort, Reading, Seen};
 use std::alloc::{AllocError, Global};
 use std::sync::Wait;
 use std::thread::Threads;
@@ -45,15 +45,18 @@ impl<J: Channel + Send + Sync + 'static> Started<J> {
     }
 
     /// Starts the plan's threads over these handles. If that fails, it closes their channel.
-    pub(crate) fn start<R: Threads + Wait + Clone + Send + 'static>(
+    pub(crate) fn start<R, P>(
         &mut self,
         rt: &R,
         alloc: Global,
         plan: Plan,
-        sender: &HistorySender<u64, R, J>,
+        sender: &Sender<u64, P>,
         seen: &Seen<u64, J>,
-        readers: Vec<Reader<J, History<u64, R, J>>>,
+        readers: Vec<Reader<J, P>>,
     ) -> Result<(), Fault>
+    where
+        R: Threads + Wait + Clone + Send + 'static,
+        P: HistoryPort<u64, J, WakerSlot> + Send + 'static,
         requires senders { vec_len self.old.senders.running + plan.senders
             ≤ vec_capacity self.old.senders.running }
         requires receivers { vec_len self.old.receivers.running + vec_len readers
@@ -62,8 +65,7 @@ impl<J: Channel + Send + Sync + 'static> Started<J> {
             ≡ vec_len self.old.senders.running + plan.senders) }
         ensures receivers { OnOk result (vec_len self.new.receivers.running
             ≡ vec_len self.old.receivers.running + vec_len readers) }
-        ensures closed { IfErr result (λ _. WasClosed
-            (GivesInHistory (λ x y. y ≡ x) J.opening sender.now.port.known)) }
+        ensures closed { IfErr result (λ _. WasClosed (P.gave sender.now.port)) }
     {
         let mut started = self.start_receivers(rt, alloc, plan, readers);
         if started.is_ok() {
@@ -75,13 +77,16 @@ impl<J: Channel + Send + Sync + 'static> Started<J> {
         started
     }
 
-    fn start_receivers<R: Threads + Wait + Clone + Send + 'static>(
+    fn start_receivers<R, P>(
         &mut self,
         rt: &R,
         alloc: Global,
         plan: Plan,
-        mut readers: Vec<Reader<J, History<u64, R, J>>>,
+        mut readers: Vec<Reader<J, P>>,
     ) -> Result<(), Fault>
+    where
+        R: Threads + Wait + Clone + Send + 'static,
+        P: HistoryPort<u64, J, WakerSlot> + Send + 'static,
         requires { vec_len self.old.receivers.running + vec_len readers
             ≤ vec_capacity self.old.receivers.running }
         ensures started { OnOk result (vec_len self.new.receivers.running
@@ -98,13 +103,16 @@ impl<J: Channel + Send + Sync + 'static> Started<J> {
         Ok(())
     }
 
-    fn start_senders<R: Threads + Wait + Clone + Send + 'static>(
+    fn start_senders<R, P>(
         &mut self,
         rt: &R,
         plan: Plan,
-        sender: &HistorySender<u64, R, J>,
+        sender: &Sender<u64, P>,
         seen: &Seen<u64, J>,
     ) -> Result<(), Fault>
+    where
+        R: Threads,
+        P: HistoryPort<u64, J, WakerSlot> + Send + 'static,
         requires { vec_len self.old.senders.running + plan.senders
             ≤ vec_capacity self.old.senders.running }
         ensures started { OnOk result (vec_len self.new.senders.running
@@ -125,13 +133,13 @@ impl<J: Channel + Send + Sync + 'static> Started<J> {
 }
 
 /// This many clones of a receiver that has read nothing.
-pub(crate) fn clones_of<J: Channel, R: Wait + Clone>(
+pub(crate) fn clones_of<J: Channel, P: HistoryPort<u64, J, WakerSlot>>(
     rt: &impl Wait,
     alloc: Global,
-    receiver: HistoryReceiver<u64, R, J>,
+    receiver: Receiver<u64, P>,
     mut reading: Reading<u64, J>,
     count: u64,
-) -> Result<Vec<Reader<J, History<u64, R, J>>>, Fault>
+) -> Result<Vec<Reader<J, P>>, Fault>
     requires key { receiver.role.key ≡ reading.key }
     requires start { reading.next ≡ J.opening.first_number }
     ensures { IfOk result (λ readers. vec_len readers ≡ count) }

@@ -3,22 +3,21 @@ ghost use Rattle.std.specs.Prelude.{◌≡◌, IfOk, IfErr};
 ghost use Rattle.bcast_delivery.specs.Follows.{accepted_by};
 ghost use Rattle.bcast_delivery.specs.Log.{IsWholeLog};
 ghost use Rattle.bcast_delivery.specs.Closed.{HasReadAll};
-ghost use Rattle.bcast_delivery.specs.Seen.{GivesInHistory};
 ghost use Rattle.bcast_threads.specs.Given.{WasClosed};
 ghost use Rattle.bcast_threads.specs.Lists.{HasAll};
 
 use crate::fault::Fault;
-use async_broadcast::{Port, Receiver, RecvError, WakerSlot};
+use async_broadcast::{Receiver, RecvError, Sender, WakerSlot};
 use bcast_delivery::{
-    Channel, History, HistoryReceiver, HistorySender, Reading, Seen, closed_is_last,
-    logs_are_accepted, messages_stay, sends_stand_last,
+    Channel, HistoryPort, Reading, Seen, closed_is_last, logs_are_accepted, messages_stay,
+    sends_stand_last,
 };
 use std::alloc::{Allocator, Global};
 use std::sync::Wait;
 
 /// A receiver that has read nothing: it starts with the channel's first message.
 #[derive(Drop)]
-pub struct Reader<J: Channel, P: Port<u64, WakerSlot>> {
+pub struct Reader<J: Channel, P: HistoryPort<u64, J, WakerSlot>> {
     pub receiver: Receiver<u64, P>,
     pub reading: Reading<u64, J>,
     ghost key: { receiver.role.key ≡ reading.key },
@@ -46,8 +45,8 @@ pub struct Log<J: Channel, A: Allocator = Global> {
 
 /// Sends `count` numbers from `first` on, in rising order, unless the channel is closed before.
 /// Returns those that it sent.
-pub fn send_all<J: Channel, R: Wait + Clone>(
-    sender: HistorySender<u64, R, J>,
+pub fn send_all<J: Channel, P: HistoryPort<u64, J, WakerSlot>>(
+    sender: Sender<u64, P>,
     mut seen: Seen<u64, J>,
     first: u64,
     count: u64,
@@ -73,14 +72,13 @@ pub fn send_all<J: Channel, R: Wait + Clone>(
 ///
 /// - `NoMemory`: there was no memory for a message, or for the list.
 /// - `Missed`: the receiver missed messages.
-pub fn receive_all<J: Channel, R: Wait + Clone, A: Allocator>(
+pub fn receive_all<J: Channel, P: HistoryPort<u64, J, WakerSlot>, A: Allocator>(
     rt: &impl Wait,
     alloc: A,
-    reader: Reader<J, History<u64, R, J>>,
+    reader: Reader<J, P>,
     count: usize,
 ) -> Result<Log<J, A>, Fault>
-    ensures closed { IfErr result (λ _. WasClosed
-        (GivesInHistory (λ x y. y ≡ x) J.opening reader.receiver.port.known)) }
+    ensures closed { IfErr result (λ _. WasClosed (P.gave reader.receiver.port)) }
 {
     logs_are_accepted::<u64>();
     let Reader {
@@ -96,11 +94,11 @@ pub fn receive_all<J: Channel, R: Wait + Clone, A: Allocator>(
     }
 }
 
-fn received<J: Channel, R: Wait + Clone, A: Allocator>(
+fn received<J: Channel, P: HistoryPort<u64, J, WakerSlot>, A: Allocator>(
     rt: &impl Wait,
     alloc: A,
     reading: &mut Reading<u64, J>,
-    receiver: &mut HistoryReceiver<u64, R, J>,
+    receiver: &mut Receiver<u64, P>,
     count: usize,
 ) -> Result<Vec<u64, A>, Fault>
     requires key { receiver.old.role.key ≡ reading.old.key }

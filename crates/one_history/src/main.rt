@@ -8,7 +8,8 @@ mod log;
 mod order;
 
 use anyhow::Result;
-use bcast_delivery::{Channel, HistoryReceiver, HistorySender, Opened, Reading, broadcast};
+use async_broadcast::{Receiver, Sender, WakerSlot};
+use bcast_delivery::{Channel, HistoryPort, Opened, Reading, broadcast};
 use log::receive_all;
 use order::send_both;
 use std::alloc::AllocGlobal;
@@ -33,16 +34,17 @@ fn share<J: Channel + Send + Sync, R: Threads + Wait + Sync + Print + AllocGloba
     receive_in_two_threads(rt, receiver, reading)
 }
 
-fn send_from_two_threads<
-    'a,
+fn send_from_two_threads<J, R, P>(
+    rt: &R,
+    sender: Sender<u64, P>,
+    other: Sender<u64, P>,
+    reading: &Reading<u64, J>,
+) -> Result<()>
+where
     J: Channel + Send + Sync,
     R: Threads + Wait + Sync + Print + AllocGlobal,
->(
-    rt: &'a R,
-    sender: HistorySender<u64, &'a R, J>,
-    other: HistorySender<u64, &'a R, J>,
-    reading: &Reading<u64, J>,
-) -> Result<()> {
+    P: HistoryPort<u64, J, WakerSlot> + Send + Sync,
+{
     let (mut one, mut two) = (reading.seen(), reading.seen());
     let (odd, even) = thread::join(
         rt,
@@ -54,11 +56,15 @@ fn send_from_two_threads<
     Ok(())
 }
 
-fn receive_in_two_threads<
-    'a,
+fn receive_in_two_threads<J, R, P>(
+    rt: &R,
+    receiver: Receiver<u64, P>,
+    reading: Reading<u64, J>,
+) -> Result<()>
+where
     J: Channel + Send + Sync,
     R: Threads + Wait + Sync + Print + AllocGlobal,
->(rt: &'a R, receiver: HistoryReceiver<u64, &'a R, J>, reading: Reading<u64, J>) -> Result<()>
+    P: HistoryPort<u64, J, WakerSlot> + Send + Sync,
     requires { receiver.role.key ≡ reading.key }
 {
     let (mut receiver, mut reading) = (receiver, reading);

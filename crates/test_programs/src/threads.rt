@@ -3,7 +3,7 @@ ghost use Rattle.std.specs.Prelude.{◌≡◌, ◌<◌, ◌≤◌};
 
 use crate::streams::Taker;
 use async_broadcast::{Port, Receiver, Sender, WakerSlot};
-use bcast_delivery::{Channel, History, HistorySender, Opened, Reading, broadcast};
+use bcast_delivery::{Channel, HistoryPort, Opened, Reading, broadcast};
 use bcast_text::threads::outcome::print_seen;
 use bcast_threads::plan::{Plan, run as run_plan, threads};
 use bcast_threads::work::{Reader, receive_all, send_all};
@@ -170,11 +170,11 @@ fn run_row_over<J: Channel, R: Wait + Clone, W: Write>(
     }
 }
 
-fn order<J: Channel, R: Wait + Clone, W: Write>(
-    rt: &R,
+fn order<J: Channel, P: HistoryPort<u64, J, WakerSlot>, W: Write>(
+    rt: &impl Wait,
     alloc: Global,
-    sender: HistorySender<u64, R, J>,
-    reader: Reader<J, History<u64, R, J>>,
+    sender: Sender<u64, P>,
+    reader: Reader<J, P>,
     output: &mut W,
 ) -> io::Result<()> {
     send_three(&sender, output)?;
@@ -198,11 +198,11 @@ fn send_three<P: Port<u64, WakerSlot>, W: Write>(
     Ok(())
 }
 
-fn no_memory<J: Channel, R: Wait + Clone, W: Write>(
-    rt: &R,
+fn no_memory<J: Channel, P: HistoryPort<u64, J, WakerSlot>, W: Write>(
+    rt: &impl Wait,
     alloc: Global,
-    sender: HistorySender<u64, R, J>,
-    reader: Reader<J, History<u64, R, J>>,
+    sender: Sender<u64, P>,
+    reader: Reader<J, P>,
     awaited: usize,
     output: &mut W,
 ) -> io::Result<()> {
@@ -242,9 +242,9 @@ fn write_closed<P: Port<u64, WakerSlot>, W: Write>(
     )
 }
 
-fn closed<J: Channel, R: Wait + Clone, W: Write>(
-    sender: HistorySender<u64, R, J>,
-    reader: Reader<J, History<u64, R, J>>,
+fn closed<J: Channel, P: HistoryPort<u64, J, WakerSlot>, W: Write>(
+    sender: Sender<u64, P>,
+    reader: Reader<J, P>,
     output: &mut W,
 ) -> io::Result<()> {
     reader.receiver.close();

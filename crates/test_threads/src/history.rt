@@ -2,7 +2,8 @@
 ghost use Rattle.std.specs.Prelude.{◌≡◌};
 
 use crate::timed::runs::{RUNS, run};
-use bcast_delivery::{Channel, HistoryReceiver, HistorySender, Opened, Reading, Seen, broadcast};
+use async_broadcast::{Receiver, Sender, WakerSlot};
+use bcast_delivery::{Channel, HistoryPort, Opened, Reading, Seen, broadcast};
 use std::alloc::{AllocError, Global};
 use std::marker::Brand;
 use std::process::Abort;
@@ -55,6 +56,22 @@ where
     requires { (opened.book ≡ J.book) × (opened.opening ≡ J.opening) }
 {
     let (sender, receiver, reading): (_, _, Reading<u64, J>) = broadcast(rt, alloc, opened)?;
+    run_both(rt, alloc, sender, receiver, reading)
+}
+
+fn run_both<J, R, P>(
+    rt: R,
+    alloc: Global,
+    sender: Sender<u64, P>,
+    receiver: Receiver<u64, P>,
+    reading: Reading<u64, J>,
+) -> Result<(), Fail>
+where
+    J: Channel + Send + Sync + 'static,
+    R: Threads + Wait + Abort + Copy + Send + Drop + 'static,
+    P: HistoryPort<u64, J, WakerSlot> + Send + 'static,
+    requires { receiver.role.key ≡ reading.key }
+{
     let (first, second) = (reading.seen(), reading.seen());
     let logs = start_receivers(rt, alloc, receiver, reading)?;
     let places = start_senders(rt, alloc, sender, first, second)?;
@@ -67,15 +84,16 @@ where
 }
 
 /// Starts two threads that receive all messages.
-fn start_receivers<J, R>(
+fn start_receivers<J, R, P>(
     rt: R,
     alloc: Global,
-    receiver: HistoryReceiver<u64, R, J>,
+    receiver: Receiver<u64, P>,
     mut reading: Reading<u64, J>,
 ) -> Result<Pair, Fail>
 where
     J: Channel + Send + Sync + 'static,
     R: Threads + Wait + Copy + Send + Drop + 'static,
+    P: HistoryPort<u64, J, WakerSlot> + Send + 'static,
     requires { receiver.role.key ≡ reading.key }
 {
     let (other, its_reading) = reading.clone(&rt, &receiver)?;
@@ -85,16 +103,17 @@ where
 }
 
 /// Starts two threads that send, the second one the messages from `SHARE` on.
-fn start_senders<J, R>(
+fn start_senders<J, R, P>(
     rt: R,
     alloc: Global,
-    sender: HistorySender<u64, R, J>,
+    sender: Sender<u64, P>,
     first: Seen<u64, J>,
     second: Seen<u64, J>,
 ) -> Result<Pair, Fail>
 where
     J: Channel + Send + Sync + 'static,
     R: Threads + Wait + Copy + Send + Drop + 'static,
+    P: HistoryPort<u64, J, WakerSlot> + Send + 'static,
 {
     let other = sender.clone()?;
     let first = thread::spawn(&rt, move || send_all(alloc, sender, first, 0))?;
@@ -103,9 +122,9 @@ where
 }
 
 /// Sends the messages from `first` on, and returns the number at which each stands.
-fn send_all<J: Channel, R: Wait + Clone>(
+fn send_all<J: Channel, P: HistoryPort<u64, J, WakerSlot>>(
     alloc: Global,
-    sender: HistorySender<u64, R, J>,
+    sender: Sender<u64, P>,
     mut seen: Seen<u64, J>,
     first: u64,
 ) -> List {
@@ -119,10 +138,10 @@ fn send_all<J: Channel, R: Wait + Clone>(
 }
 
 /// Receives until the channel is closed.
-fn receive_all<J: Channel, R: Wait + Clone>(
-    rt: &R,
+fn receive_all<J: Channel, P: HistoryPort<u64, J, WakerSlot>>(
+    rt: &impl Wait,
     alloc: Global,
-    mut receiver: HistoryReceiver<u64, R, J>,
+    mut receiver: Receiver<u64, P>,
     mut reading: Reading<u64, J>,
 ) -> List
     requires { receiver.role.key ≡ reading.key }

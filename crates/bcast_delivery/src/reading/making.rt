@@ -4,10 +4,10 @@ ghost use mathlib.Core.List.{IsPrefix};
 ghost use Rattle.bcast_delivery.specs.Reading.{StartsAtTheEnd};
 
 use super::{Found, Reading, agreed};
-use crate::opened::{HistoryInactive, HistoryReceiver, HistorySender};
+use crate::port::HistoryPort;
 use crate::seen::Seen;
 use crate::steps::Channel;
-use async_broadcast::HandleError;
+use async_broadcast::{HandleError, InactiveReceiver, Receiver, Sender, WakerSlot};
 use std::alloc::Allocator;
 use std::sync::Wait;
 
@@ -20,10 +20,10 @@ impl<T: Clone, J: Channel> Reading<T, J> {
     /// - `Memory`: no memory for the handle.
     ///
     /// Source: this crate's own.
-    pub fn new_receiver<R: Wait + Clone, A: Allocator + Copy>(
-        sender: &HistorySender<T, R, J, A>,
+    pub fn new_receiver<P: HistoryPort<T, J, WakerSlot<A>>, A: Allocator + Copy>(
+        sender: &Sender<T, P, A>,
         seen: &mut Seen<T, J>,
-    ) -> Result<(HistoryReceiver<T, R, J, A>, Self), HandleError>
+    ) -> Result<(Receiver<T, P, A>, Self), HandleError>
         ensures seen { IsPrefix seen.old.steps seen.new.steps }
         ensures made { IfOk result (λ made. (made.0.role.key ≡ made.1.key)
             × (made.1.steps ≡ seen.new.steps)) }
@@ -44,19 +44,23 @@ impl<T: Clone, J: Channel> Reading<T, J> {
     /// - `Memory`: no memory for its cursor.
     ///
     /// Source: this crate's own.
-    pub fn activate<R: Wait + Clone, A: Allocator + Copy>(
-        inactive: HistoryInactive<T, R, J, A>,
+    pub fn activate<P: HistoryPort<T, J, WakerSlot<A>>, A: Allocator + Copy>(
+        inactive: InactiveReceiver<T, P, A>,
         seen: &mut Seen<T, J>,
-    ) -> Result<(HistoryReceiver<T, R, J, A>, Self), (HistoryInactive<T, R, J, A>, HandleError)>
+    ) -> Result<(Receiver<T, P, A>, Self), (InactiveReceiver<T, P, A>, HandleError)>
         ensures seen { IsPrefix seen.old.steps seen.new.steps }
         ensures made { IfOk result (λ made. (made.0.role.key ≡ made.1.key)
             × (made.1.steps ≡ seen.new.steps)) }
         ensures starts { IfOk result (λ made. StartsAtTheEnd J.opening made.1) }
         ensures back { IfErr result (λ back. back.0 ≡ inactive) }
     {
-        let made = inactive.activate_seen(seen)?;
-        let reading = Reading::new(made.key(), seen.end(), seen);
-        Ok((made, reading))
+        match inactive.activate_seen(seen) {
+            Ok(made) => {
+                let reading = Reading::new(made.key(), seen.end(), seen);
+                Ok((made, reading))
+            }
+            Err(back) => Err(back),
+        }
     }
 
     /// Makes another receiver as `clone` of the receiver of this key does, and how far it has read:
@@ -67,11 +71,11 @@ impl<T: Clone, J: Channel> Reading<T, J> {
     /// - `Memory`: no memory for the handle.
     ///
     /// Source: this crate's own.
-    pub fn clone<R: Wait + Clone, A: Allocator + Copy>(
+    pub fn clone<P: HistoryPort<T, J, WakerSlot<A>>, A: Allocator + Copy>(
         &mut self,
         rt: &impl Wait,
-        receiver: &HistoryReceiver<T, R, J, A>,
-    ) -> Result<(HistoryReceiver<T, R, J, A>, Self), HandleError>
+        receiver: &Receiver<T, P, A>,
+    ) -> Result<(Receiver<T, P, A>, Self), HandleError>
         requires { receiver.now.role.key ≡ self.old.key }
         ensures same { (self.new.key ≡ self.old.key) × (self.new.next ≡ self.old.next) }
         ensures seen { IsPrefix self.old.steps self.new.steps }

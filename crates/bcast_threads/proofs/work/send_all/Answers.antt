@@ -10,15 +10,16 @@ loop-msg-preserved g c =
     let accepted = not_refused c.broadcast_blocking_seen.result (sym c.is_err.ensures.value ∙ c.if-is_err.false) in
     record {
       end = refl;
-      sent = one_more c.args.first c.sends_stand_last.ensures (rw c.loop-msg.invariant.end at c.loop-msg.invariant.sent)
-          c.broadcast_blocking_seen.ensures.learned.follows accepted;
+      sent = one_more c.args.first {after = c.broadcast_blocking_seen.new.known.steps} c.sends_stand_last.ensures
+          (rw c.loop-msg.invariant.end at c.loop-msg.invariant.sent)
+          (g.met.P.HistoryPort.follows _ c.broadcast_blocking_seen.new.known _ _ c.broadcast_blocking_seen.ensures.learned).follows accepted;
     }
 
 pub invariant_of-result : goal.invariant_of-result
 invariant_of-result g c = elim c.loop-msg-test.branch [
   | else-loop-msg-test w ↦ record { sent = rw w.seen-is c.loop-msg.invariant.sent }
   | then-loop-msg-test+then-is_err w ↦
-      let learned = w.broadcast_blocking_seen.ensures.learned in
+      let learned = g.met.P.HistoryPort.follows _ w.broadcast_blocking_seen.new.known _ _ w.broadcast_blocking_seen.ensures.learned in
       record {
         sent = rw w.seen-is
             (all_stay g.J.Channel.opening c.args.first c.loop-msg.end c.loop-msg.seen.steps w.broadcast_blocking_seen.new.known.steps

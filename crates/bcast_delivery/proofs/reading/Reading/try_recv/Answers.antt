@@ -7,11 +7,11 @@ pub invariant_of-self : goal.invariant_of-self
 invariant_of-self g c =
     let agreed = c.agreed-now.ensures in
     let found = c.found_by_try-found.ensures in
-    (tried _ _ c.self.view_is c.requires c.self.invariant agreed.reader agreed.next agreed.closed c.try_recv_seen-received.ensures.learned found.given found.closed).reads
+    (tried _ _ c.self.view_is c.requires c.self.invariant agreed.reader agreed.next agreed.closed g.met.P.HistoryPort.follows c.try_recv_seen-received.ensures.learned found.given found.closed).reads
 
 pub returns : goal.returns
 returns g c =
     let agreed = c.agreed-now.ensures in
     let found = c.found_by_try-found.ensures in
-    let got = tried _ _ c.self.view_is c.requires c.self.invariant agreed.reader agreed.next agreed.closed c.try_recv_seen-received.ensures.learned found.given found.closed in
+    let got = tried _ _ c.self.view_is c.requires c.self.invariant agreed.reader agreed.next agreed.closed g.met.P.HistoryPort.follows c.try_recv_seen-received.ensures.learned found.given found.closed in
     record { receiver = c.try_recv_seen-received.ensures.same; key = ap (λ old. old.key) c.self.view_is; seen = got.seen; takes = got.takes; closed = got.closed }
