@@ -101,7 +101,7 @@ module _ {T : Type 0} (is_clone : T → T → Type 0) where
       stays o old new (Ok (Err unread.Closed)) read begins run takes said = (record { closed = said; all = at_end takes.0 takes.1 }, inl refl)
       stays o old new (Ok (Err unread.Empty)) read begins run takes said =
           absurd (cc ((still_all o old new.steps read begins run).0, said))
-      stays o old new (Ok (Err (unread.Overflowed n))) read begins run (some, on, most) said =
+      stays o old new (Ok (Err (unread.Overflowed n))) read begins run (some, on, skips, most) said =
           let end = (still_all o old new.steps read begins run).1 in absurd (omega (arith, some, on, most, end))
       stays o old new (Ok (Ok msg)) read begins run takes said =
           let end = (still_all o old new.steps read begins run).1 in
@@ -119,10 +119,12 @@ module _ {T : Type 0} (is_clone : T → T → Type 0) where
           → HasReadAll o new × ((found ≡ Ok (poll.Ready None)) ⊎ (error : AllocError) × (found ≡ Err error))
       stays o old new (Err error) read begins run takes said =
           let all = still_all o old new.steps read begins run in
-          let end = all.1 in (record { closed = all.0; all = omega (arith, end, takes) }, inr (error, refl))
+          let end = all.1 in
+          let on = takes.0 in (record { closed = all.0; all = omega (arith, end, on) }, inr (error, refl))
       stays o old new (Ok (poll.Ready None)) read begins run takes said = (record { closed = said; all = at_end refl takes.1 }, inl refl)
       stays o old new (Ok poll.Pending) read begins run takes said =
           absurd (cc ((still_all o old new.steps read begins run).0, said))
-      stays o old new (Ok (poll.Ready (Some msg))) read begins run (number, behind, there, on) said =
+      stays o old new (Ok (poll.Ready (Some msg))) read begins run (number, skips, there, on) said =
           let end = (still_all o old new.steps read begins run).1 in
+          let behind = skips.0 in
           absurd (none_after (end_of o new.steps) number msg (omega (arith, end, behind)) there)

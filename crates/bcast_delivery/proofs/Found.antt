@@ -27,7 +27,7 @@ use Rattle.bcast_delivery.specs.Seen.{reads_at}
 
 module _ {T : Type 0} (is_clone : T → T → Type 0) where
   -- whether a receive says that the channel is closed
-  abbrev is_closed : Result (Result T TryRecvError) AllocError → Bool
+  abbrev pub is_closed : Result (Result T TryRecvError) AllocError → Bool
   is_closed (Ok (Err unread.Closed)) = true
   is_closed r = false
 

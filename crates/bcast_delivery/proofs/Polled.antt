@@ -1,5 +1,5 @@
 -- A poll finds what a try would have found.
-use Rattle.std.proofs.Common.{◌≡◌, inl, inr, ℕ, ◌+◌, ◌-◌, ◌≤◌, Bool, true, false, if◌then◌else◌, length, Option, Some, None, Result, Ok, Err, nat_lt, refl, sym, ap, ◌∙◌, subst}
+use Rattle.std.proofs.Common.{◌≡◌, inl, inr, ℕ, ◌+◌, ◌-◌, ◌<◌, ◌≤◌, max, Bool, true, false, if◌then◌else◌, length, Option, Some, None, Result, Ok, Err, nat_lt, refl, sym, ap, ◌∙◌, subst}
 use Rattle.std.specs.Prelude.{IsSomeAnd, alloc_error}
 use Rattle.std.specs.FinMap.{get}
 use Rattle.std.specs.List.{slice_get}
@@ -59,6 +59,13 @@ module _ {T : Type 0} where
     | false ↦ refl
   ]
 
+  -- neither drops a message
+  no_floor : (v : View T) (r : Reply T) (c : Control) → (set_unless_refused v r c).floor ≡ 0
+  no_floor v r c = elim (is_out_of_memory r) as (λ b. (if b then sets {T = T} v.control else sets c).floor ≡ 0) [
+    | true ↦ refl
+    | false ↦ refl
+  ]
+
   same_cursors : (h : History T) (key : ℕ) (p : Polled T)
       → (next h (call.PollRecv key) (reply.PollRecv p)).control.cursors ≡ (next h (call.TryRecv key) (reply.TryRecv (as_found p))).control.cursors
   same_cursors h key p =
@@ -85,19 +92,23 @@ module _ {T : Type 0} (is_clone : T → T → Type 0) where
   ends : (h other : History T) → other.first ≡ h.first → other.accepted ≡ h.accepted → end_number other ≡ end_number h
   ends h other first msgs = ap (λ first. first + length other.accepted) first ∙ ap (λ msgs. h.first + length msgs) msgs
 
-  -- what is found depends on the messages alone
+  -- what is found depends on the messages and the floor alone
   moved : (h other : History T) (was now : ℕ) (r : Result (Result T TryRecvError) AllocError) → other.first ≡ h.first → other.accepted ≡ h.accepted
-      → Finds is_clone h was now r → Finds is_clone other was now r
-  moved h other was now (Ok (Ok msg)) first msgs (is, on) =
+      → other.floor ≡ h.floor → Finds is_clone h was now r → Finds is_clone other was now r
+  moved h other was now (Ok (Ok msg)) first msgs floor (is, on) =
       let at : numbered other was ≡ numbered h was =
       ap (λ first. if nat_lt was first then None else slice_get other.accepted (was - first)) first
       ∙ ap (λ msgs. if nat_lt was h.first then None else slice_get msgs (was - h.first)) msgs in
       (subst (λ found. IsSomeAnd found (λ accepted. IsGiven is_clone accepted msg)) (sym at) is, on)
-  moved h other was now (Ok (Err (unread.Overflowed n))) first msgs (some, on, most) =
-      (some, on, subst (λ end. now ≤ end) (sym (ends h other first msgs)) most)
-  moved h other was now (Ok (Err unread.Empty)) first msgs (same, all) = (same, all ∙ sym (ends h other first msgs))
-  moved h other was now (Ok (Err unread.Closed)) first msgs (same, all) = (same, all ∙ sym (ends h other first msgs))
-  moved h other was now (Err error) first msgs found = found
+  moved h other was now (Ok (Err (unread.Overflowed n))) first msgs floor (some, on, skips, most) = (
+    some,
+    on,
+    (skips.0, λ number from below. subst (λ floor. number < floor) (sym floor) (skips.1 number from below)),
+    subst (λ end. now ≤ end) (sym (ends h other first msgs)) most,
+  )
+  moved h other was now (Ok (Err unread.Empty)) first msgs floor (same, all) = (same, all ∙ sym (ends h other first msgs))
+  moved h other was now (Ok (Err unread.Closed)) first msgs floor (same, all) = (same, all ∙ sym (ends h other first msgs))
+  moved h other was now (Err error) first msgs floor found = found
 
   pub polled_finds : (h : History T) (key was now : ℕ) (p : Polled T) → IsValid h → Legal is_clone (view_of h) (call.PollRecv key) (reply.PollRecv p)
       → now ≡ reads_at (view_of (next h (call.PollRecv key) (reply.PollRecv p))) key → now ≡ was + length (given_by (reply.TryRecv (as_found p)))
@@ -112,4 +123,7 @@ module _ {T : Type 0} (is_clone : T → T → Type 0) where
       let there : now ≡ reads_at (view_of tried) key =
       at ∙ ap (λ (cursors : Cursors). option_map_or (λ c. c) (get cursors key) (end_number polled)) (same_cursors h key p)
       ∙ ap (λ msgs. option_map_or (λ c. c) (get tried.control.cursors key) (h.first + length msgs)) msgs in
-      moved tried polled was now (as_found p) refl msgs (finds is_clone h key was now (as_found p) valid tried_legal there counted)
+      let floor : polled.floor ≡ tried.floor =
+      ap (max h.floor) (no_floor (view_of h) (reply.PollRecv p) (receive_poll (view_of h) (stream_of key) (cursor_of h.control key))
+      ∙ sym (no_floor (view_of h) (reply.TryRecv (as_found p)) (receive (view_of h) key (cursor_of h.control key)))) in
+      moved tried polled was now (as_found p) refl msgs floor (finds is_clone h key was now (as_found p) valid tried_legal there counted)

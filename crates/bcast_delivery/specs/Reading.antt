@@ -29,6 +29,10 @@ module _ {T : Type 0} where
   abbrev pub StartsAtTheEnd : Opening → Reading T → Type 0
   StartsAtTheEnd o r = r.next ≡ end_number (end_of o r.steps)
 
+  -- a receiver skips messages, from one number up to another: each of them is gone
+  abbrev pub Skips : History T → ℕ → ℕ → Type 0
+  Skips h from to = (from ≤ to) × ((number : ℕ) → from ≤ number → number < to → number < h.floor)
+
   -- what a `poll_recv` finds, as a `try_recv` returns it: `Pending` is `Empty`, the end `Closed`
   abbrev pub as_found
       : Result (Poll (Option (Result T RecvError))) AllocError
@@ -58,12 +62,12 @@ module _ {T : Type 0} where
 
 module _ {T : Type 0} (is_clone : T → T → Type 0) where
   -- what a receiver finds that read on at `was`, and where it reads on now, on a channel that is
-  -- `h` then: a message is the accepted one of the number `was`, or a clone, and the one behind it is
-  -- next; one that missed some goes on behind them, at the end at most; else it has read all
+  -- `h` then: a message is the accepted one of the number `was`, or a clone, and the one behind it
+  -- is next; one that missed some skips them, up to the end at most; else it has read all
   abbrev pub Finds : History T → ℕ → ℕ → Result (Result T TryRecvError) AllocError → Type 0
   Finds h was now (Ok (Ok msg)) = IsDelivery is_clone h was (Some msg) × (now ≡ was + 1)
   Finds h was now (Ok (Err (unread.Overflowed n))) =
-      (0 < n) × (now ≡ was + n) × (now ≤ end_number h)
+      (0 < n) × (now ≡ was + n) × Skips h was now × (now ≤ end_number h)
   Finds h was now (Ok (Err unread.Empty)) = (now ≡ was) × (was ≡ end_number h)
   Finds h was now (Ok (Err unread.Closed)) = (now ≡ was) × (was ≡ end_number h)
   Finds h was now (Err error) = now ≡ was
@@ -73,14 +77,15 @@ module _ {T : Type 0} (is_clone : T → T → Type 0) where
       : Opening → Reading T → Reading T → Result (Result T TryRecvError) AllocError → Type 0
   Takes o old new found = Finds (end_of o new.steps) old.next new.next found
 
-  -- what a receiver finds that skips what it missed: a message is the accepted one of its number, or
-  -- a clone, and the one behind it is next; else it has read all
+  -- what a receiver finds that isn't told what it missed, and skips it: a message is the accepted
+  -- one of its number, or a clone, and the one behind it is next; else it has read all
   abbrev pub FindsNext : History T → ℕ → ℕ → Result (Poll (Option T)) AllocError → Type 0
   FindsNext h was now (Ok (poll.Ready (Some msg))) =
-      (number : ℕ) × (was ≤ number) × IsDelivery is_clone h number (Some msg) × (now ≡ number + 1)
-  FindsNext h was now (Ok (poll.Ready None)) = (was ≤ now) × (now ≡ end_number h)
-  FindsNext h was now (Ok poll.Pending) = (was ≤ now) × (now ≡ end_number h)
-  FindsNext h was now (Err error) = was ≤ now
+      (number : ℕ) × Skips h was number × IsDelivery is_clone h number (Some msg)
+      × (now ≡ number + 1)
+  FindsNext h was now (Ok (poll.Ready None)) = Skips h was now × (now ≡ end_number h)
+  FindsNext h was now (Ok poll.Pending) = Skips h was now × (now ≡ end_number h)
+  FindsNext h was now (Err error) = Skips h was now
 
   -- the same, of a receiver that has read so far, and then so far
   abbrev pub TakesNext

@@ -15,6 +15,8 @@ mod history;
 #[cfg(test)]
 mod passing_on;
 #[cfg(test)]
+mod readings;
+#[cfg(test)]
 mod scripts;
 #[cfg(test)]
 mod sleepers;

@@ -1,7 +1,7 @@
 -- The receiver skips, and then it finds a message, or that it has read all.
-use Rattle.std.proofs.Common.{Some, Ok, Err, ap, ◌∙◌}
+use Rattle.std.proofs.Common.{Some, None, Ok, Err, ap, ◌∙◌}
 use Rattle.futures.specs.declared.task.Poll.TheVariants as poll
-use Rattle.bcast_delivery.proofs.Skipped.{skips}
+use Rattle.bcast_delivery.proofs.Skipped.{skips, finds_next, errs_next}
 use Rattle.bcast_delivery.proofs.reading.Reading.poll_next.Goals as goal
 
 pub loop-preserved : goal.loop-preserved
@@ -13,6 +13,34 @@ loop-preserved g c =
       tt,
       polled.receiver ∙ c.loop.invariant.2,
       polled.key ∙ c.loop.invariant.3,
-      skips _ _ _ _ _ c.loop.invariant.4 _ _ (ap Ok found) polled.seen polled.takes,
+      skips _ _ _ _ _ c.loop.invariant.4 polled.seen _ _ (ap Ok found) polled.takes,
       λ fact held. polled.kept fact (c.loop.invariant.5 fact held),
     )
+
+pub returns-in_err-next-clause-takes : goal.returns-in_err-next-clause-takes
+returns-in_err-next-clause-takes g c =
+    let polled = c.in_err-next.ensures in
+    errs_next g.T.Clone.is_clone _ _ c.loop.self c.poll_recv.new.self c.loop.invariant.4 polled.seen c.from_residual.result c.from_residual.ensures.0 polled.takes
+
+pub returns-in_default-clause-takes : goal.returns-in_default-clause-takes
+returns-in_default-clause-takes g c =
+    let polled = c.in_ok-next.ensures in
+    finds_next g.T.Clone.is_clone _ _ c.loop.self c.poll_recv.new.self c.loop.invariant.4 polled.seen (Ok poll.Pending) (rw c.in_default.is at polled.takes)
+
+pub returns-in_default-next-clause-takes : goal.returns-in_default-next-clause-takes
+returns-in_default-next-clause-takes g c =
+    let polled = c.in_ok-next.ensures in
+    finds_next g.T.Clone.is_clone _ _ c.loop.self c.poll_recv.new.self c.loop.invariant.4 polled.seen (Ok (poll.Ready None))
+    (rw (c.in-Ready.is, c.in_default-next.is) at polled.takes)
+
+pub returns-in-Ok-clause-takes : goal.returns-in-Ok-clause-takes
+returns-in-Ok-clause-takes g c =
+    let polled = c.in_ok-next.ensures in
+    finds_next g.T.Clone.is_clone _ _ c.loop.self c.poll_recv.new.self c.loop.invariant.4 polled.seen (Ok (poll.Ready (Some c.in-Ok.msg)))
+    (rw (c.in-Ready.is, c.in-Some-next.is, c.in-Ok.is) at polled.takes)
+
+pub returns-in-Closed-clause-takes : goal.returns-in-Closed-clause-takes
+returns-in-Closed-clause-takes g c =
+    let polled = c.in_ok-next.ensures in
+    finds_next g.T.Clone.is_clone _ _ c.loop.self c.poll_recv.new.self c.loop.invariant.4 polled.seen (Ok (poll.Ready None))
+    (rw (c.in-Ready.is, c.in-Some-next.is, c.in-Err.is, c.in-Closed.is) at polled.takes)

@@ -8,4 +8,4 @@ abbrev pub invariant-loop : goal.invariant-loop
 invariant-loop g l =
     (goal.iterator-loop g).can_next l.iterator' × (goal.iterator-loop g).is_finite l.iterator'
     × (l.receiver.role.key ≡ l.fn.receiver.role.key) × (l.self.key ≡ l.fn.self.key)
-    × HasSkipped l.fn.self l.self × Keeps l.fn.cx l.cx
+    × HasSkipped g.J.Channel.opening l.fn.self l.self × Keeps l.fn.cx l.cx
