@@ -63,14 +63,34 @@ impl<J: Channel, P: HistoryPort<u64, J, WakerSlot> + TimedSeenPort<u64, WakerSlo
     }
 }
 
+/// What is done on a channel of its own.
+#[derive(Clone, Copy)]
+enum Row {
+    Take,
+    Start,
+}
+
 // Each call gives the message that comes next, or says how many were missed. A stream skips those.
 #[test]
 fn a_reading_is_given_each_message_in_turn(rt: HostRuntime) -> Result<(), Fail> {
-    let opened = Opened::new(rt.alloc(), 2)?;
-    take_over::<Brand, _>(rt, opened)
+    run(rt, Row::Take)
 }
 
-fn take_over<J, R>(rt: R, opened: Opened<u64>) -> Result<(), Fail>
+// A new receiver and an activated one start at the end, a clone where its original reads on.
+#[test]
+fn a_reading_starts_where_its_receiver_does(rt: HostRuntime) -> Result<(), Fail> {
+    run(rt, Row::Start)
+}
+
+fn run<R>(rt: R, row: Row) -> Result<(), Fail>
+where
+    R: Wait + Clock + Abort + RandomSource + AllocGlobal + Copy + Drop,
+{
+    let opened = Opened::new(rt.alloc(), 2)?;
+    run_over::<Brand, R>(rt, opened, row)
+}
+
+fn run_over<J, R>(rt: R, opened: Opened<u64>, row: Row) -> Result<(), Fail>
 where
     J: Channel,
     R: Wait + Clock + Abort + RandomSource + AllocGlobal + Copy + Drop,
@@ -82,7 +102,11 @@ where
         opened,
     )?;
     sender.set_overflow(true);
-    take_each(&rt, &sender, Reader { receiver, reading })
+    let reader = Reader { receiver, reading };
+    match row {
+        Row::Take => take_each(&rt, &sender, reader),
+        Row::Start => start_each(&rt, &sender, reader),
+    }
 }
 
 fn take_each<J, R, P>(rt: &R, sender: &Sender<u64, P>, mut reader: Reader<J, P>) -> Result<(), Fail>
@@ -121,23 +145,6 @@ where
 /// Sends a message on a channel in overflow mode.
 fn send<P: Port<u64, WakerSlot>>(rt: &impl Abort, sender: &Sender<u64, P>, msg: u64) {
     assert!(rt; sender.try_broadcast(msg).is_ok(), "{msg} is sent");
-}
-
-// A new receiver and an activated one start at the end, a clone where its original reads on.
-#[test]
-fn a_reading_starts_where_its_receiver_does(rt: HostRuntime) -> Result<(), Fail> {
-    let opened = Opened::new(rt.alloc(), 4)?;
-    start_over::<Brand, _>(rt, opened)
-}
-
-fn start_over<J, R>(rt: R, opened: Opened<u64>) -> Result<(), Fail>
-where
-    J: Channel,
-    R: Wait + Clock + Abort + AllocGlobal + Copy + Drop,
-    requires { (opened.book ≡ J.book) × (opened.opening ≡ J.opening) }
-{
-    let (sender, receiver, reading): (_, _, Reading<u64, J>) = broadcast(rt, rt.alloc(), opened)?;
-    start_each(&rt, &sender, Reader { receiver, reading })
 }
 
 fn start_each<J, R, P>(rt: &R, sender: &Sender<u64, P>, mut first: Reader<J, P>) -> Result<(), Fail>
