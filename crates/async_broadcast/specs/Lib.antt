@@ -1,5 +1,4 @@
 -- what a port may reply, and how handles are seen
-pub mod Kinds
 pub mod Ports
 -- the replies of a channel are of their calls' kinds
 pub mod OfKind

@@ -15,7 +15,7 @@ use Rattle.bcast_model.specs.Words.{reply_to_attempt, attempt_send_reply, Legal,
 use Rattle.bcast_model.specs.Words.{cursor_of, skipped_to, skipped_count}
 use Rattle.bcast_model.specs.Words.{future_reply, stream_reply, next_reply}
 use Rattle.bcast_model.specs.Words.{IsMadeFrom, IsPossible}
-use Rattle.async_broadcast.specs.Kinds.{IsA, HandsBack, IsOfKind}
+use Rattle.bcast_core.specs.Kinds.{IsA, HandsBack, IsOfKind}
 
 module _ {T : Type 0} where
   -- a send that must wait hands its message back, whatever the channel is

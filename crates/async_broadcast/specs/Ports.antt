@@ -1,12 +1,14 @@
 -- How handles use ports and replies.
-use Rattle.std.specs.Prelude.{◌↔◌, Result, Ok, Err}
+use Rattle.std.specs.Prelude.{◌↔◌, Bool, true, false, Result, Ok, Err}
 use Rattle.std.specs.declared.alloc.AllocError.{AllocError}
 use Rattle.bcast_model.specs.declared.error.RecvError.{RecvError}
 use Rattle.bcast_model.specs.declared.error.RecvError.TheVariants as unreceived
 use Rattle.bcast_model.specs.declared.error.TryRecvError.{TryRecvError}
 use Rattle.bcast_model.specs.declared.error.TryRecvError.TheVariants as unread
+use Rattle.bcast_model.specs.declared.run.SendPoll.TheVariants as send
 use Rattle.bcast_model.specs.declared.run.Call.{Call}
 use Rattle.bcast_model.specs.declared.run.Reply.{Reply}
+use Rattle.bcast_model.specs.declared.run.Reply.TheVariants as reply
 
 -- `Sender::clone` and the like: this port may give exactly the replies that the other may give
 abbrev pub IsSame : {T P : Type 0} → (P → Call T → Reply T → Type 0) → P → P → Type 0
@@ -20,3 +22,9 @@ as_try_recv (Ok (Ok msg)) = Ok (Ok msg)
 as_try_recv (Ok (Err (unreceived.Overflowed n))) = Ok (Err (unread.Overflowed n))
 as_try_recv (Ok (Err unreceived.Closed)) = Ok (Err unread.Closed)
 as_try_recv (Err error) = Err error
+
+-- a reply that ends the waiting
+abbrev pub is_answer : {T : Type 0} → Reply T → Bool
+is_answer (reply.AttemptSend (send.Wait msg)) = false
+is_answer (reply.TryRecv (Ok (Err unread.Empty))) = false
+is_answer other = true

@@ -2,12 +2,11 @@
 ghost use Rattle.std.specs.Prelude.{◌≡◌, Ok, Err, IfOk, IfErr, ◌⊎◌};
 ghost use Rattle.async_broadcast.specs.Ports.{IsSame};
 
-use crate::asked::{ask, make};
 use crate::handle::{Handle, Role};
 use crate::port::{Ask, Port};
 use crate::receiver::{Receiver, Receiving};
 use crate::wake::{TaskWaker, WakerSlot};
-use bcast_core::{Call, HandleError, Reply};
+use bcast_core::{AddHandle, AddReceiver, Call, Change, HandleError, Reply};
 use std::alloc::{Allocator, Global};
 
 /// Receives nothing, and can become an active receiver.
@@ -56,7 +55,7 @@ impl<T: Clone, P: Port<T, WakerSlot<A>>, A: Allocator + Copy> InactiveReceiver<T
         ensures refused { IfErr result (λ back. (back.0 ≡ self)
             × P.gave self.port Call.Activate (Reply.Activate (Err back.1))) }
     {
-        match ask!(self.port, Activate) {
+        match self.port.ask(AddReceiver::Activate) {
             Ok(key) => {
                 let waker = TaskWaker::new(self.alloc);
                 Ok(self.turned(Receiving { key, waker }))
@@ -92,7 +91,7 @@ impl<T: Clone, P: Port<T, WakerSlot<A>>, A: Allocator + Copy> InactiveReceiver<T
             ⊎ P.gave self.now.port Call.ActivateCloned (Reply.ActivateCloned (Err error))) }
     {
         let port = self.port.same().ok_or(HandleError::Memory)?;
-        let key = ask!(self.port, ActivateCloned)?;
+        let key = self.port.ask(AddReceiver::ActivateCloned)?;
         Ok(Receiver::over(port, key, self.alloc))
     }
 
@@ -123,7 +122,7 @@ impl<T: Clone, P: Port<T, WakerSlot<A>>, A: Allocator + Copy> InactiveReceiver<T
             ⊎ P.gave self.now.port Call.CloneInactive (Reply.CloneInactive (Err error))) }
     {
         let port = self.port.same().ok_or(HandleError::Memory)?;
-        ask!(self.port, CloneInactive)?;
+        self.port.ask(AddHandle::Inactive)?;
         Ok(InactiveReceiver::over(port, self.alloc))
     }
 }
@@ -138,6 +137,6 @@ impl<T: Clone> Role<T> for Inactive {
 
     #[inline(always)]
     fn leave<S, P: Ask<T, S>>(&self, port: &P) {
-        make!(port, DropInactive)
+        port.ask(Change::DropInactive)
     }
 }

@@ -3,20 +3,10 @@ ghost use Rattle.std.specs.Prelude.{◌≡◌, ℕ};
 ghost use Rattle.bcast_model.specs.Words.{Answers, IsPossible};
 
 use crate::wake::{Wake, WakerSlot};
-use bcast_core::Inner;
+use bcast_core::{CallOf, Inner};
 use std::alloc::Allocator;
 use std::snapshot::Snapshot;
 use std::sync::Wait;
-
-/// Shows a call that was made, and its reply.
-pub trait Made<T> {
-    ghost use Rattle.bcast_model.specs.declared.run.Call.{Call};
-    ghost use Rattle.bcast_model.specs.declared.run.Reply.{Reply};
-
-    ghost call: { Self → Call T };
-
-    ghost reply: { Self → Reply T };
-}
 
 /// What a lock keeps of the calls on its channel, beside the channel, and what its ports know of
 /// them. What it keeps is for contracts alone.
@@ -40,24 +30,26 @@ pub trait Keep<T: Clone>: Sized + Drop {
     // Holds of what a port knows, a call, and a reply that it may give to it.
     ghost gave: { Self.Known → Call T → Reply T → Type 0 };
 
-    /// The same knowledge, for another port or another call.
+    /// What is known, once more: for another port or another call.
     fn same(known: &Self::Known) -> Self::Known
         ensures { result ≡ known.now };
 
     /// Keeps a call that was made on the channel, and adds it to what is known.
-    fn keep<Y: Made<T>, A: Allocator + Copy>(
+    fn keep<C: CallOf<T>, A: Allocator + Copy>(
         &mut self,
         rt: &impl Wait,
         known: &mut Self::Known,
-        made: &Y,
+        call: &Snapshot<C>,
+        answer: &C::Answer,
         before: &Snapshot<Inner<T, Wake<WakerSlot<A>>, A>>,
         after: &Inner<T, Wake<WakerSlot<A>>, A>,
     )
         requires kept { ∥ keeps self.old before.now.value ∥₁ }
-        requires answers { Answers T.is_clone before.now.value (Y.call made.now)
-            (Y.reply made.now) after.now }
+        requires answers { Answers T.is_clone before.now.value (C.call call.now.value)
+            (C.reply call.now.value answer.now) after.now }
         ensures keeps { ∥ keeps self.new after.now ∥₁ }
-        ensures learned { learns known.old (Y.call made.now) (Y.reply made.now) known.new };
+        ensures learned { learns known.old (C.call call.now.value)
+            (C.reply call.now.value answer.now) known.new };
 
     // What was known is known.
     ghost unchanged: { (known : Self.Known) → reaches known known };
@@ -108,11 +100,12 @@ impl<T: Clone> Keep<T> for KeepsNothing {
     }
 
     #[inline(always)]
-    fn keep<Y: Made<T>, A: Allocator + Copy>(
+    fn keep<C: CallOf<T>, A: Allocator + Copy>(
         &mut self,
         _rt: &impl Wait,
         _known: &mut (),
-        _made: &Y,
+        _call: &Snapshot<C>,
+        _answer: &C::Answer,
         _before: &Snapshot<Inner<T, Wake<WakerSlot<A>>, A>>,
         _after: &Inner<T, Wake<WakerSlot<A>>, A>,
     ) {}

@@ -19,7 +19,6 @@
 //! ```
 #![tactic(auto)]
 
-mod asked;
 mod future;
 mod handle;
 mod inactive;
@@ -44,7 +43,7 @@ pub use future::{Recv, Send};
 pub use handle::{Handle, Role};
 pub use inactive::{Inactive, InactiveReceiver};
 pub use iter::Iter;
-pub use keep::{Keep, KeepsNothing, Made};
+pub use keep::{Keep, KeepsNothing};
 pub use lock::{Lock, LockInactiveReceiver, LockReceiver, LockSender, broadcast};
 pub use port::{Ask, Port, SeenPort, TimedPort, TimedSeenPort};
 pub use receiver::{Receiver, Receiving};

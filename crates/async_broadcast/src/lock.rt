@@ -1,26 +1,26 @@
 //! The channel of several handles, behind one lock.
-ghost use Rattle.std.specs.Prelude.{◌≡◌, ◌<◌, true, IfOk};
-ghost use Rattle.bcast_model.specs.Words.{View, IsShown, IsPossible, unread, missed};
-ghost use Rattle.async_broadcast.specs.Kinds.{may_wait, is_answer};
+ghost use Rattle.std.specs.Prelude.{◌≡◌, ◌<◌, IfOk};
+ghost use Rattle.bcast_model.specs.Words.{View, IsShown, unread, missed};
 ghost use Rattle.async_broadcast.specs.Snapshots.{ShowsSomeState};
 
 use crate::inactive::InactiveReceiver;
 use crate::keep::{Keep, KeepsNothing};
-use crate::port::{Port, TimedPort, TimedSeenPort};
+use crate::port::{Port, SeenPort, TimedPort, TimedSeenPort};
 use crate::receiver::Receiver;
 use crate::sender::Sender;
+use crate::timed::{RecvTimeoutError, SendTimeoutError};
 use crate::wake::{Wake, WakerSlot};
-use bcast_core::{Call, Inner, Reply, Snapshot, TryRecvError, TrySendError};
-use channel::{Channel, kept, lock, locked, look, try_broadcast_locked, try_recv_locked};
-use limit::{NoLimit, TimeLimit};
+use bcast_core::{Inner, RecvError, SendError, Snapshot};
+use channel::{Channel, lock, look};
+use limit::TimeLimit;
 use std::alloc::{AllocError, Allocator, Global};
 use std::sync::{Arc, Wait};
 use std::time::{Clock, Duration};
+use waiting::{received_in_time, sent_in_time};
 
 mod asking;
 mod channel;
 pub(crate) mod limit;
-mod made;
 mod state;
 mod threads;
 mod waiting;
@@ -185,22 +185,12 @@ impl<T: Clone, R: Wait + Clone, A: Allocator + Copy, K: Keep<T>> Port<T, WakerSl
 
     ghost lacks_memory = { λ _. ⊤ };
 
-    #[inline(always)]
-    fn try_broadcast(&self, msg: T) -> Result<Option<T>, TrySendError<T>> {
-        try_broadcast_locked!(self, &mut K::same(&self.known), msg)
+    fn send_waiting(&self, msg: T) -> Result<Option<T>, SendError<T>> {
+        self.send_waiting_seen(&mut K::same(&self.known), msg)
     }
 
-    #[inline(always)]
-    fn try_recv(&self, key: usize) -> Result<Result<T, TryRecvError>, AllocError> {
-        try_recv_locked!(self, &mut K::same(&self.known), key)
-    }
-
-    fn ask_waiting(&self, call: Call<T>) -> Reply<T>
-        requires { may_wait call ≡ true }
-        ensures reply { K.gave self.now.known call result }
-        ensures answered { is_answer result ≡ true }
-    {
-        self.ask_within(&mut K::same(&self.known), call, &NoLimit)
+    fn receive_waiting(&self, key: usize) -> Result<Result<T, RecvError>, AllocError> {
+        self.receive_waiting_seen(&mut K::same(&self.known), key)
     }
 
     fn same(&self) -> Option<Self> {
@@ -218,23 +208,39 @@ impl<T: Clone, R: Wait + Clone + Clock, A: Allocator + Copy, K: Keep<T>> TimedSe
     T,
     WakerSlot<A>,
 > for Lock<T, R, A, K> {
-    fn ask_timeout_seen(&self, known: &mut K::Known, call: Call<T>, limit: Duration) -> Reply<T>
-        requires { may_wait call ≡ true }
-        ensures learned { K.learns known.old call result known.new }
-        ensures reply { IsPossible T.is_clone call result }
-    {
+    fn send_within_seen(
+        &self,
+        known: &mut K::Known,
+        msg: T,
+        limit: Duration,
+    ) -> Result<Option<T>, SendTimeoutError<T>> {
         let limit = TimeLimit::from_now(&self.rt, limit);
-        self.ask_within(known, call, &limit)
+        sent_in_time(self.send_until(known, msg, &limit))
+    }
+
+    fn receive_within_seen(
+        &self,
+        known: &mut K::Known,
+        key: usize,
+        limit: Duration,
+    ) -> Result<Result<T, RecvTimeoutError>, AllocError> {
+        let limit = TimeLimit::from_now(&self.rt, limit);
+        received_in_time(self.receive_until(known, key, &limit))
     }
 }
 
 impl<T: Clone, R: Wait + Clone + Clock, A: Allocator + Copy, K: Keep<T>> TimedPort<T, WakerSlot<A>>
     for Lock<T, R, A, K> {
-    fn ask_timeout(&self, call: Call<T>, limit: Duration) -> Reply<T>
-        requires { may_wait call ≡ true }
-        ensures { K.gave self.now.known call result }
-    {
-        self.ask_timeout_seen(&mut K::same(&self.known), call, limit)
+    fn send_within(&self, msg: T, limit: Duration) -> Result<Option<T>, SendTimeoutError<T>> {
+        self.send_within_seen(&mut K::same(&self.known), msg, limit)
+    }
+
+    fn receive_within(
+        &self,
+        key: usize,
+        limit: Duration,
+    ) -> Result<Result<T, RecvTimeoutError>, AllocError> {
+        self.receive_within_seen(&mut K::same(&self.known), key, limit)
     }
 }
 

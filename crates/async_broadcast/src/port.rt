@@ -2,12 +2,12 @@
 ghost use Rattle.std.specs.Prelude.{◌≡◌, true, false, IfSome, IfNone, IfOk, IfErr, OnErr};
 ghost use Rattle.futures.specs.Task.{IsArmed, Keeps};
 ghost use Rattle.bcast_model.specs.Words.{must_wait, HasPositiveCapacity, IsPossible};
-ghost use Rattle.async_broadcast.specs.Kinds.{IsOfKind, may_wait, is_answer};
-ghost use Rattle.async_broadcast.specs.Ports.{IsSame};
+ghost use Rattle.async_broadcast.specs.Ports.{IsSame, as_try_recv};
+ghost use Rattle.async_broadcast.specs.Timed.{as_attempt, as_timed_try};
 
-use crate::asked::{ask, make};
+use crate::timed::{RecvTimeoutError, SendTimeoutError};
 use crate::wake::{Registers, Wake};
-use bcast_core::{Call, Reply, TryRecvError, TrySendError};
+use bcast_core::{AtOnce, Call, Change, Polls, RecvError, Reply, SendError, SendPoll};
 use futures::task::Context;
 use std::alloc::AllocError;
 use std::time::Duration;
@@ -23,52 +23,41 @@ use std::time::Duration;
 pub trait Ask<T: Clone, S>: Sized + Drop {
     ghost use Rattle.bcast_model.specs.declared.run.Call.{Call};
     ghost use Rattle.bcast_model.specs.declared.run.Reply.{Reply};
-    ghost use Rattle.async_broadcast.specs.Kinds.{IsOfKind};
+    ghost use Rattle.bcast_core.specs.Kinds.{IsOfKind};
 
     // Holds of a call and a reply that the port may give to it.
     ghost gave: { Self → Call T → Reply T → Type 0 };
 
-    /// Makes one call on the channel. If it is a poll that must wait, it leaves `wake` there.
-    fn ask(&self, call: Call<T>, wake: Wake<S>) -> Reply<T>
-        requires { HasPositiveCapacity call }
-        ensures { gave self.now call result };
+    /// Makes one call that never waits.
+    fn ask<C: AtOnce<T>>(&self, call: C) -> C::Answer
+        requires { HasPositiveCapacity (C.call call) }
+        ensures { gave self.now (C.call call) (C.reply call result) };
 
-    /// Makes one of the four polls, for a task. If the poll must wait, the task is registered, and
-    /// a notice for it left there. A port that needs the notice before it makes the poll registers
+    /// Makes one call that may have to wait, for a task: one of the four polls, or any call as data.
+    /// If it must wait, the task is registered, and a notice for it left there. A port that needs the notice before it makes the poll registers
     /// the task of every poll.
     ///
     /// # Errors
     ///
     /// The call is handed back, and was not made: memory for a notice was refused.
-    fn poll<W: Registers<S>>(
+    fn poll<C: Polls<T>, W: Registers<S>>(
         &self,
-        call: Call<T>,
+        call: C,
         task: &mut W,
         cx: &mut Context<'_>,
-    ) -> Result<Reply<T>, Call<T>>
-        requires { HasPositiveCapacity call }
-        ensures asked { IfOk result (λ reply. gave self.now call reply) }
+    ) -> Result<C::Answer, C>
+        requires { HasPositiveCapacity (C.call call) }
+        ensures asked { IfOk result (λ answer. gave self.now (C.call call)
+            (C.reply call answer)) }
         ensures back { IfErr result (λ back. back ≡ call) }
 
-        ensures notice { IfOk result (λ reply. must_wait reply ≡ true
+        ensures notice { IfOk result (λ answer. must_wait (C.reply call answer) ≡ true
             → W.is_refused task.new ≡ false) }
         ensures refused { OnErr result (W.is_refused task.new ≡ true) }
-        ensures registered { IfOk result (λ reply. must_wait reply ≡ true → IsArmed cx.new) }
+        ensures registered { IfOk result (λ answer. must_wait (C.reply call answer) ≡ true
+            → IsArmed cx.new) }
         ensures again { OnErr result (IsArmed cx.new) }
-        ensures kept { Keeps cx.old cx.new }
-    {
-        let Some(wake) = task.register(cx) else {
-            return Err(call);
-        };
-        Ok(self.ask(call, wake))
-    }
-
-    /// Asks `BeginSend`.
-    fn begin_send(&self) -> Result<usize, AllocError>
-        ensures { gave self.now Call.BeginSend (Reply.BeginSend result) }
-    {
-        ask!(self, BeginSend)
-    }
+        ensures kept { Keeps cx.old cx.new };
 
     /// Gives up the receive of the receiver `key`. `is_answered`: its future's last poll was
     /// answered, and was not out of memory. Asks `EndFuture`; a port may leave that out if it
@@ -79,7 +68,7 @@ pub trait Ask<T: Clone, S>: Sized + Drop {
     fn end_future(&self, key: usize, is_answered: bool) -> Wake<S>
         ensures { gave self.now (Call.EndFuture key) Reply.EndFuture }
     {
-        make!(self, EndFuture(key));
+        self.ask(Change::EndFuture(key));
         Wake::none()
     }
 
@@ -91,26 +80,14 @@ pub trait Ask<T: Clone, S>: Sized + Drop {
 /// A port that can also wait, and that handles can share. `Lock` is the port of a channel that
 /// `broadcast` made.
 pub trait Port<T: Clone, S>: Ask<T, S> {
-    /// Asks `TryBroadcast`.
-    fn try_broadcast(&self, msg: T) -> Result<Option<T>, TrySendError<T>>
-        ensures { Self.gave self.now (Call.TryBroadcast msg) (Reply.TryBroadcast result) }
-    {
-        ask!(self, TryBroadcast(msg))
-    }
+    /// Makes an `AttemptSend` again and again, and waits between, until it needn't wait.
+    fn send_waiting(&self, msg: T) -> Result<Option<T>, SendError<T>>
+        ensures { Self.gave self.now (Call.AttemptSend msg)
+            (Reply.AttemptSend (SendPoll.Ready result)) };
 
-    /// Asks `TryRecv`.
-    fn try_recv(&self, key: usize) -> Result<Result<T, TryRecvError>, AllocError>
-        ensures { Self.gave self.now (Call.TryRecv key) (Reply.TryRecv result) }
-    {
-        ask!(self, TryRecv(key))
-    }
-
-    /// Makes an `AttemptSend` or a `TryRecv` again and again, and waits between, until its reply
-    /// is something other than `Wait` or `Empty`.
-    fn ask_waiting(&self, call: Call<T>) -> Reply<T>
-        requires { may_wait call ≡ true }
-        ensures reply { Self.gave self.now call result }
-        ensures answered { is_answer result ≡ true };
+    /// Makes a `TryRecv` again and again, and waits between, until it doesn't find `Empty`.
+    fn receive_waiting(&self, key: usize) -> Result<Result<T, RecvError>, AllocError>
+        ensures { Self.gave self.now (Call.TryRecv key) (Reply.TryRecv (as_try_recv result)) };
 
     // Holds of a port that may be out of memory for another one.
     ghost lacks_memory: { Self → Type 0 };
@@ -123,12 +100,20 @@ pub trait Port<T: Clone, S>: Ask<T, S> {
 
 /// A port that can also wait with a limit of time. `Lock` is one if its runtime has a clock.
 pub trait TimedPort<T: Clone, S>: Port<T, S> {
-    /// Makes an `AttemptSend` or a `TryRecv` again and again, and waits between, until its reply
-    /// is something other than `Wait` or `Empty`, or `limit` has passed. It tries once more then,
-    /// and that reply is returned. If the clock can't be read, the time counts as over.
-    fn ask_timeout(&self, call: Call<T>, limit: Duration) -> Reply<T>
-        requires { may_wait call ≡ true }
-        ensures { Self.gave self.now call result };
+    /// Sends as `send_waiting` does, until `limit` has passed. It tries once more then. If the clock
+    /// can't be read, the time counts as over.
+    fn send_within(&self, msg: T, limit: Duration) -> Result<Option<T>, SendTimeoutError<T>>
+        ensures { Self.gave self.now (Call.AttemptSend msg)
+            (Reply.AttemptSend (as_attempt result)) };
+
+    /// Receives as `receive_waiting` does, until `limit` has passed. It tries once more then. If the
+    /// clock can't be read, the time counts as over.
+    fn receive_within(
+        &self,
+        key: usize,
+        limit: Duration,
+    ) -> Result<Result<T, RecvTimeoutError>, AllocError>
+        ensures { Self.gave self.now (Call.TryRecv key) (Reply.TryRecv (as_timed_try result)) };
 }
 
 /// A port whose calls can be added to what their caller knows of the channel. `Lock` is one: its
@@ -151,69 +136,81 @@ pub trait SeenPort<T: Clone, S>: Port<T, S> {
         ensures { knows self.new ≡ known.now };
 
     /// Makes a call that never waits, and adds it to what is known.
-    fn ask_seen(&self, known: &mut Self::Known, call: Call<T>) -> Reply<T>
-        requires { HasPositiveCapacity call }
-        ensures learned { learns known.old call result known.new }
-        ensures possible { IsPossible T.is_clone call result };
+    fn ask_seen<C: AtOnce<T>>(&self, known: &mut Self::Known, call: C) -> C::Answer
+        requires { HasPositiveCapacity (C.call call) }
+        ensures learned { learns known.old (C.call call) (C.reply call result) known.new }
+        ensures possible { IsPossible T.is_clone (C.call call) (C.reply call result) };
 
-    /// Asks `TryBroadcast`, and adds it to what is known.
-    fn try_broadcast_seen(
-        &self,
-        known: &mut Self::Known,
-        msg: T,
-    ) -> Result<Option<T>, TrySendError<T>>
-        ensures learned { learns known.old (Call.TryBroadcast msg) (Reply.TryBroadcast result)
-            known.new }
-        ensures asked { IsPossible T.is_clone (Call.TryBroadcast msg)
-            (Reply.TryBroadcast result) };
-
-    /// Asks `TryRecv`, and adds it to what is known.
-    fn try_recv_seen(
-        &self,
-        known: &mut Self::Known,
-        key: usize,
-    ) -> Result<Result<T, TryRecvError>, AllocError>
-        ensures learned { learns known.old (Call.TryRecv key) (Reply.TryRecv result) known.new }
-        ensures asked { IsPossible T.is_clone (Call.TryRecv key) (Reply.TryRecv result) };
-
-    /// Makes one of the four polls as `poll` does, and adds it to what is known.
+    /// Makes a call as `poll` does, and adds it to what is known.
     ///
     /// # Errors
     ///
     /// The call is handed back, and was not made: memory for a notice was refused. Nothing is added
     /// to what is known.
-    fn poll_seen<W: Registers<S>>(
+    fn poll_seen<C: Polls<T>, W: Registers<S>>(
         &self,
         known: &mut Self::Known,
-        call: Call<T>,
+        call: C,
         task: &mut W,
         cx: &mut Context<'_>,
-    ) -> Result<Reply<T>, Call<T>>
-        requires { HasPositiveCapacity call }
-        ensures learned { IfOk result (λ reply. learns known.old call reply known.new) }
-        ensures asked { IfOk result (IsPossible T.is_clone call) }
+    ) -> Result<C::Answer, C>
+        requires { HasPositiveCapacity (C.call call) }
+        ensures learned { IfOk result (λ answer. learns known.old (C.call call)
+            (C.reply call answer) known.new) }
+        ensures asked { IfOk result (λ answer. IsPossible T.is_clone (C.call call)
+            (C.reply call answer)) }
         ensures back { IfErr result (λ back. (back ≡ call) × (known.new ≡ known.old)) }
 
-        ensures notice { IfOk result (λ reply. must_wait reply ≡ true
+        ensures notice { IfOk result (λ answer. must_wait (C.reply call answer) ≡ true
             → W.is_refused task.new ≡ false) }
         ensures refused { OnErr result (W.is_refused task.new ≡ true) }
-        ensures registered { IfOk result (λ reply. must_wait reply ≡ true → IsArmed cx.new) }
+        ensures registered { IfOk result (λ answer. must_wait (C.reply call answer) ≡ true
+            → IsArmed cx.new) }
         ensures again { OnErr result (IsArmed cx.new) }
         ensures kept { Keeps cx.old cx.new };
 
-    /// Makes a call as `ask_waiting` does, and adds the last try to what is known.
-    fn ask_waiting_seen(&self, known: &mut Self::Known, call: Call<T>) -> Reply<T>
-        requires { may_wait call ≡ true }
-        ensures learned { learns known.old call result known.new }
-        ensures reply { IsPossible T.is_clone call result }
-        ensures answered { is_answer result ≡ true };
+    /// Sends as `send_waiting` does, and adds the last try to what is known.
+    fn send_waiting_seen(&self, known: &mut Self::Known, msg: T) -> Result<Option<T>, SendError<T>>
+        ensures learned { learns known.old (Call.AttemptSend msg)
+            (Reply.AttemptSend (SendPoll.Ready result)) known.new }
+        ensures possible { IsPossible T.is_clone (Call.AttemptSend msg)
+            (Reply.AttemptSend (SendPoll.Ready result)) };
+
+    /// Receives as `receive_waiting` does, and adds the last try to what is known.
+    fn receive_waiting_seen(
+        &self,
+        known: &mut Self::Known,
+        key: usize,
+    ) -> Result<Result<T, RecvError>, AllocError>
+        ensures learned { learns known.old (Call.TryRecv key)
+            (Reply.TryRecv (as_try_recv result)) known.new }
+        ensures possible { IsPossible T.is_clone (Call.TryRecv key)
+            (Reply.TryRecv (as_try_recv result)) };
 }
 
 /// A port that can also wait with a limit of time, and add such a call to what its caller knows.
 pub trait TimedSeenPort<T: Clone, S>: SeenPort<T, S> {
-    /// Makes a call as `ask_timeout` does, and adds the last try to what is known.
-    fn ask_timeout_seen(&self, known: &mut Self::Known, call: Call<T>, limit: Duration) -> Reply<T>
-        requires { may_wait call ≡ true }
-        ensures learned { Self.learns known.old call result known.new }
-        ensures reply { IsPossible T.is_clone call result };
+    /// Sends as `send_within` does, and adds the last try to what is known.
+    fn send_within_seen(
+        &self,
+        known: &mut Self::Known,
+        msg: T,
+        limit: Duration,
+    ) -> Result<Option<T>, SendTimeoutError<T>>
+        ensures learned { Self.learns known.old (Call.AttemptSend msg)
+            (Reply.AttemptSend (as_attempt result)) known.new }
+        ensures possible { IsPossible T.is_clone (Call.AttemptSend msg)
+            (Reply.AttemptSend (as_attempt result)) };
+
+    /// Receives as `receive_within` does, and adds the last try to what is known.
+    fn receive_within_seen(
+        &self,
+        known: &mut Self::Known,
+        key: usize,
+        limit: Duration,
+    ) -> Result<Result<T, RecvTimeoutError>, AllocError>
+        ensures learned { Self.learns known.old (Call.TryRecv key)
+            (Reply.TryRecv (as_timed_try result)) known.new }
+        ensures possible { IsPossible T.is_clone (Call.TryRecv key)
+            (Reply.TryRecv (as_timed_try result)) };
 }

@@ -1,15 +1,16 @@
 //! The receiving side.
 ghost use Rattle.std.specs.Prelude.{◌≡◌, true, Ok, Err, IfOk, IfErr, ◌⊎◌};
-ghost use Rattle.async_broadcast.specs.Kinds.{is_answer};
 ghost use Rattle.async_broadcast.specs.Ports.{IsSame, as_try_recv};
 
-use crate::asked::{ask, make};
 use crate::handle::{Handle, Role};
 use crate::inactive::{Inactive, InactiveReceiver};
 use crate::port::{Ask, Port};
 use crate::sender::Sender;
 use crate::wake::{TaskWaker, WakerSlot};
-use bcast_core::{Call, HandleError, RecvError, Reply, TryRecvError};
+use bcast_core::{
+    AddHandle, AddReceiver, Call, Change, HandleError, RecvError, Reply, Test, TryRecv,
+    TryRecvError,
+};
 use std::alloc::{AllocError, Allocator, Global};
 
 /// Receives each message that a channel accepts, from the receiver's start on, or the number of
@@ -84,7 +85,7 @@ impl<T: Clone, P: Port<T, WakerSlot<A>>, A: Allocator + Copy> Receiver<T, P, A> 
             (Reply.TryRecv result) }
         ensures same { self.new ≡ self.old }
     {
-        self.port.try_recv(self.role.key)
+        self.port.ask(TryRecv(self.role.key))
     }
 
     /// Receives the next message, and blocks the thread while there is none and the channel is
@@ -111,10 +112,7 @@ impl<T: Clone, P: Port<T, WakerSlot<A>>, A: Allocator + Copy> Receiver<T, P, A> 
             (Reply.TryRecv (as_try_recv result)) }
         ensures same { self.new ≡ self.old }
     {
-        match self.port.ask_waiting(Call::TryRecv(self.role.key)) {
-            Reply::TryRecv(received) => answered(received),
-            _ => unreachable!(),
-        }
+        self.port.receive_waiting(self.role.key)
     }
 
     /// Whether the channel is closed and keeps no message.
@@ -135,7 +133,7 @@ impl<T: Clone, P: Port<T, WakerSlot<A>>, A: Allocator + Copy> Receiver<T, P, A> 
     pub fn is_terminated(&self) -> bool
         ensures { P.gave self.now.port Call.IsTerminated (Reply.IsTerminated result) }
     {
-        ask!(self.port, IsTerminated)
+        self.port.ask(Test::IsTerminated)
     }
 
     /// Makes another active receiver, which has the same messages still to read.
@@ -163,7 +161,7 @@ impl<T: Clone, P: Port<T, WakerSlot<A>>, A: Allocator + Copy> Receiver<T, P, A> 
             (Reply.CloneReceiver (Err error))) }
     {
         let port = self.port.same().ok_or(HandleError::Memory)?;
-        let key = ask!(self.port, CloneReceiver(self.role.key))?;
+        let key = self.port.ask(AddReceiver::Clone(self.role.key))?;
         Ok(Receiver::over(port, key, self.alloc))
     }
 
@@ -193,7 +191,7 @@ impl<T: Clone, P: Port<T, WakerSlot<A>>, A: Allocator + Copy> Receiver<T, P, A> 
             ⊎ P.gave self.now.port Call.NewReceiver (Reply.NewReceiver (Err error))) }
     {
         let port = self.port.same().ok_or(HandleError::Memory)?;
-        let key = ask!(self.port, NewReceiver)?;
+        let key = self.port.ask(AddReceiver::New)?;
         Ok(Receiver::over(port, key, self.alloc))
     }
 
@@ -222,7 +220,7 @@ impl<T: Clone, P: Port<T, WakerSlot<A>>, A: Allocator + Copy> Receiver<T, P, A> 
             ⊎ P.gave self.now.port Call.NewSender (Reply.NewSender (Err error))) }
     {
         let port = self.port.same().ok_or(HandleError::Memory)?;
-        ask!(self.port, NewSender)?;
+        self.port.ask(AddHandle::Sender)?;
         Ok(Sender::over(port, self.alloc))
     }
 
@@ -252,26 +250,10 @@ impl<T: Clone, P: Port<T, WakerSlot<A>>, A: Allocator + Copy> Receiver<T, P, A> 
         ensures refused { IfErr result (λ back. (back.0 ≡ self)
             × P.gave self.port (Call.Deactivate self.role.key) (Reply.Deactivate (Err back.1))) }
     {
-        match ask!(self.port, Deactivate(self.role.key)) {
+        match self.port.ask(AddHandle::Deactivated(self.role.key)) {
             Ok(()) => Ok(self.turned(Inactive)),
             Err(error) => Err((self, error)),
         }
-    }
-}
-
-// What a `try_recv` returned that found a message, or that there will be none.
-pub(crate) fn answered<T>(
-    received: Result<Result<T, TryRecvError>, AllocError>,
-) -> Result<Result<T, RecvError>, AllocError>
-    requires { is_answer (Reply.TryRecv received) ≡ true }
-    ensures { as_try_recv result ≡ received }
-{
-    match received {
-        Ok(Ok(msg)) => Ok(Ok(msg)),
-        Ok(Err(TryRecvError::Overflowed(n))) => Ok(Err(RecvError::Overflowed(n))),
-        Ok(Err(TryRecvError::Closed)) => Ok(Err(RecvError::Closed)),
-        Ok(Err(TryRecvError::Empty)) => unreachable!(),
-        Err(error) => Err(error),
     }
 }
 
@@ -285,6 +267,6 @@ impl<T: Clone, A: Allocator> Role<T> for Receiving<A> {
 
     #[inline(always)]
     fn leave<S, P: Ask<T, S>>(&self, port: &P) {
-        make!(port, DropReceiver(self.key))
+        port.ask(Change::DropReceiver(self.key))
     }
 }

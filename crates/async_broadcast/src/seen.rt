@@ -9,25 +9,16 @@ ghost use Rattle.async_broadcast.specs.Ports.{as_try_recv};
 use crate::handle::{Handle, Role};
 use crate::inactive::{Inactive, InactiveReceiver};
 use crate::port::SeenPort;
-use crate::receiver::{Receiver, Receiving, answered};
+use crate::receiver::{Receiver, Receiving};
 use crate::sender::Sender;
 use crate::wake::{TaskWaker, WakerSlot};
 use bcast_core::{
-    Call, HandleError, Messages, RecvError, Reply, SendError, SendPoll, TryRecvError, TrySendError,
+    AddHandle, AddReceiver, Call, Close, HandleError, Messages, PollRecv, RecvError, Reply,
+    SendError, SendPoll, TryBroadcast, TryBroadcastAll, TryRecv, TryRecvError, TrySendError,
     in_vec,
 };
 use futures::task::{Context, Poll};
 use std::alloc::{AllocError, Allocator};
-
-/// Makes a call that never waits, adds it to `known`, and returns what the reply holds.
-macro_rules! ask_seen {
-    ($handle:expr, $known:expr, $call:ident $(($argument:expr))?) => {
-        match $handle.port.ask_seen($known, Call::$call $(($argument))?) {
-            Reply::$call(answer) => answer,
-            _ => unreachable!(),
-        }
-    };
-}
 
 impl<T: Clone, P: SeenPort<T, WakerSlot<A>>, H: Role<T>, A: Allocator + Copy> Handle<T, P, H, A> {
     /// Lets the handle know this. Each call that is made by it, or by a future of it, comes after
@@ -56,7 +47,7 @@ impl<T: Clone, P: SeenPort<T, WakerSlot<A>>, A: Allocator + Copy> Sender<T, P, A
         ensures asked { IsPossible T.is_clone (Call.TryBroadcast msg)
             (Reply.TryBroadcast result) }
     {
-        self.port.try_broadcast_seen(known, msg)
+        self.port.ask_seen(known, TryBroadcast(msg))
     }
 
     /// Sends a list of messages as `try_broadcast_all` does, and adds the call to `known`.
@@ -70,7 +61,10 @@ impl<T: Clone, P: SeenPort<T, WakerSlot<A>>, A: Allocator + Copy> Sender<T, P, A
         ensures learned { P.learns known.old (Call.TryBroadcastAll msgs.items)
             (Reply.TryBroadcastAll (in_lists result)) known.new }
     {
-        in_vec(ask_seen!(self, known, TryBroadcastAll(Messages::new(msgs))))
+        in_vec(
+            self.port
+                .ask_seen(known, TryBroadcastAll(Messages::new(msgs))),
+        )
     }
 
     /// Closes the channel as `close` does, and adds the call to `known`.
@@ -80,7 +74,7 @@ impl<T: Clone, P: SeenPort<T, WakerSlot<A>>, A: Allocator + Copy> Sender<T, P, A
         ensures learned { P.learns known.old Call.Close (Reply.Close result) known.new }
         ensures asked { IsPossible T.is_clone Call.Close (Reply.Close result) }
     {
-        ask_seen!(self, known, Close)
+        self.port.ask_seen(known, Close)
     }
 
     /// Sends a message as `broadcast_blocking` does, and adds the try to `known` that sent it, or
@@ -97,14 +91,7 @@ impl<T: Clone, P: SeenPort<T, WakerSlot<A>>, A: Allocator + Copy> Sender<T, P, A
         ensures asked { IsPossible T.is_clone (Call.AttemptSend msg)
             (Reply.AttemptSend (SendPoll.Ready result)) }
     {
-        let call = Call::AttemptSend(msg);
-        match self.port.ask_waiting_seen(known, call) {
-            Reply::AttemptSend(sent) => match sent {
-                SendPoll::Ready(sent) => sent,
-                SendPoll::Wait(_) => unreachable!(),
-            },
-            _ => unreachable!(),
-        }
+        self.port.send_waiting_seen(known, msg)
     }
 
     /// Makes an active receiver as `new_receiver` does, and adds the call to `known`.
@@ -117,7 +104,7 @@ impl<T: Clone, P: SeenPort<T, WakerSlot<A>>, A: Allocator + Copy> Sender<T, P, A
             ⊎ P.learns known.old Call.NewReceiver (Reply.NewReceiver (Err error)) known.new) }
     {
         let port = self.port.same().ok_or(HandleError::Memory)?;
-        let key = ask_seen!(self, known, NewReceiver)?;
+        let key = self.port.ask_seen(known, AddReceiver::New)?;
         Ok(Receiver::over(port, key, self.alloc))
     }
 }
@@ -146,7 +133,7 @@ impl<T: Clone, P: SeenPort<T, WakerSlot<A>>, A: Allocator + Copy> Receiver<T, P,
             (Reply.TryRecv result) }
         ensures same { self.new ≡ self.old }
     {
-        self.port.try_recv_seen(known, self.role.key)
+        self.port.ask_seen(known, TryRecv(self.role.key))
     }
 
     /// Receives the next message as `recv_blocking` does, and adds the try to `known` that found
@@ -163,11 +150,7 @@ impl<T: Clone, P: SeenPort<T, WakerSlot<A>>, A: Allocator + Copy> Receiver<T, P,
             (Reply.TryRecv (as_try_recv result)) }
         ensures same { self.new ≡ self.old }
     {
-        let call = Call::TryRecv(self.role.key);
-        match self.port.ask_waiting_seen(known, call) {
-            Reply::TryRecv(received) => answered(received),
-            _ => unreachable!(),
-        }
+        self.port.receive_waiting_seen(known, self.role.key)
     }
 
     /// Receives the next message as `poll_recv` does, and adds the call to `known`. No call is made
@@ -193,11 +176,8 @@ impl<T: Clone, P: SeenPort<T, WakerSlot<A>>, A: Allocator + Copy> Receiver<T, P,
         ensures kept { Keeps cx.old cx.new }
     {
         let Receiving { key, waker } = &mut self.role;
-        match self.port.poll_seen(known, Call::PollRecv(*key), waker, cx) {
-            Ok(reply) => match reply {
-                Reply::PollRecv(answer) => answer,
-                _ => unreachable!(),
-            },
+        match self.port.poll_seen(known, PollRecv(*key), waker, cx) {
+            Ok(answer) => answer,
             Err(_) => Err(AllocError),
         }
     }
@@ -214,7 +194,9 @@ impl<T: Clone, P: SeenPort<T, WakerSlot<A>>, A: Allocator + Copy> Receiver<T, P,
             (Reply.CloneReceiver (Err error)) known.new) }
     {
         let port = self.port.same().ok_or(HandleError::Memory)?;
-        let key = ask_seen!(self, known, CloneReceiver(self.role.key))?;
+        let key = self
+            .port
+            .ask_seen(known, AddReceiver::Clone(self.role.key))?;
         Ok(Receiver::over(port, key, self.alloc))
     }
 
@@ -231,7 +213,10 @@ impl<T: Clone, P: SeenPort<T, WakerSlot<A>>, A: Allocator + Copy> Receiver<T, P,
             × P.learns known.old (Call.Deactivate self.role.key) (Reply.Deactivate (Err back.1))
             known.new) }
     {
-        match ask_seen!(self, known, Deactivate(self.role.key)) {
+        match self
+            .port
+            .ask_seen(known, AddHandle::Deactivated(self.role.key))
+        {
             Ok(()) => Ok(self.turned(Inactive)),
             Err(error) => Err((self, error)),
         }
@@ -252,7 +237,7 @@ impl<T: Clone, P: SeenPort<T, WakerSlot<A>>, A: Allocator + Copy> InactiveReceiv
         ensures refused { IfErr result (λ back. (back.0 ≡ self)
             × P.learns known.old Call.Activate (Reply.Activate (Err back.1)) known.new) }
     {
-        match ask_seen!(self, known, Activate) {
+        match self.port.ask_seen(known, AddReceiver::Activate) {
             Ok(key) => {
                 let waker = TaskWaker::new(self.alloc);
                 Ok(self.turned(Receiving { key, waker }))

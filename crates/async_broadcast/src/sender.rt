@@ -3,12 +3,14 @@ ghost use Rattle.std.specs.Prelude.{◌≡◌, Ok, Err, IfOk, IfErr, ◌⊎◌};
 ghost use Rattle.bcast_model.specs.Encodings.{in_lists};
 ghost use Rattle.async_broadcast.specs.Ports.{IsSame};
 
-use crate::asked::{ask, make};
 use crate::handle::{Handle, Role};
 use crate::port::{Ask, Port};
 use crate::receiver::Receiver;
 use crate::wake::WakerSlot;
-use bcast_core::{Call, HandleError, Messages, Reply, SendError, SendPoll, TrySendError, in_vec};
+use bcast_core::{
+    AddHandle, AddReceiver, Call, Change, HandleError, Messages, Reply, SendError, SendPoll,
+    TryBroadcast, TryBroadcastAll, TrySendError, in_vec,
+};
 use std::alloc::{Allocator, Global};
 
 /// Sends messages to all active receivers of a channel.
@@ -61,7 +63,7 @@ impl<T: Clone, P: Port<T, WakerSlot<A>>, A: Allocator + Copy> Sender<T, P, A> {
     pub fn try_broadcast(&self, msg: T) -> Result<Option<T>, TrySendError<T>>
         ensures { P.gave self.now.port (Call.TryBroadcast msg) (Reply.TryBroadcast result) }
     {
-        self.port.try_broadcast(msg)
+        self.port.ask(TryBroadcast(msg))
     }
 
     /// Sends a whole list of messages in one step, unless the channel is closed, has no active
@@ -97,7 +99,7 @@ impl<T: Clone, P: Port<T, WakerSlot<A>>, A: Allocator + Copy> Sender<T, P, A> {
         ensures { P.gave self.now.port (Call.TryBroadcastAll msgs.items)
             (Reply.TryBroadcastAll (in_lists result)) }
     {
-        in_vec(ask!(self.port, TryBroadcastAll(Messages::new(msgs))))
+        in_vec(self.port.ask(TryBroadcastAll(Messages::new(msgs))))
     }
 
     /// Sends a message, and blocks the thread while the channel has no room for it, or, with
@@ -126,10 +128,7 @@ impl<T: Clone, P: Port<T, WakerSlot<A>>, A: Allocator + Copy> Sender<T, P, A> {
         ensures { P.gave self.now.port (Call.AttemptSend msg)
             (Reply.AttemptSend (SendPoll.Ready result)) }
     {
-        match self.port.ask_waiting(Call::AttemptSend(msg)) {
-            Reply::AttemptSend(SendPoll::Ready(answer)) => answer,
-            _ => unreachable!(),
-        }
+        self.port.send_waiting(msg)
     }
 
     /// Makes another sender of the channel.
@@ -159,7 +158,7 @@ impl<T: Clone, P: Port<T, WakerSlot<A>>, A: Allocator + Copy> Sender<T, P, A> {
             ⊎ P.gave self.now.port Call.NewSender (Reply.NewSender (Err error))) }
     {
         let port = self.port.same().ok_or(HandleError::Memory)?;
-        ask!(self.port, NewSender)?;
+        self.port.ask(AddHandle::Sender)?;
         Ok(Sender::over(port, self.alloc))
     }
 
@@ -190,7 +189,7 @@ impl<T: Clone, P: Port<T, WakerSlot<A>>, A: Allocator + Copy> Sender<T, P, A> {
             ⊎ P.gave self.now.port Call.NewReceiver (Reply.NewReceiver (Err error))) }
     {
         let port = self.port.same().ok_or(HandleError::Memory)?;
-        let key = ask!(self.port, NewReceiver)?;
+        let key = self.port.ask(AddReceiver::New)?;
         Ok(Receiver::over(port, key, self.alloc))
     }
 }
@@ -205,6 +204,6 @@ impl<T: Clone> Role<T> for Sending {
 
     #[inline(always)]
     fn leave<S, P: Ask<T, S>>(&self, port: &P) {
-        make!(port, DropSender)
+        port.ask(Change::DropSender)
     }
 }

@@ -6,7 +6,7 @@ use crate::port::{TimedPort, TimedSeenPort};
 use crate::receiver::Receiver;
 use crate::sender::Sender;
 use crate::wake::WakerSlot;
-use bcast_core::{Call, Reply, SendError, SendPoll, TryRecvError};
+use bcast_core::{Call, Reply};
 use std::alloc::{AllocError, Allocator};
 use std::time::Duration;
 
@@ -49,10 +49,7 @@ impl<T: Clone, P: TimedPort<T, WakerSlot<A>>, A: Allocator + Copy> Sender<T, P, 
         ensures { P.gave self.now.port (Call.AttemptSend msg)
             (Reply.AttemptSend (as_attempt result)) }
     {
-        match self.port.ask_timeout(Call::AttemptSend(msg), limit) {
-            Reply::AttemptSend(sent) => sent_in_time(sent),
-            _ => unreachable!(),
-        }
+        self.port.send_within(msg, limit)
     }
 }
 
@@ -93,10 +90,7 @@ impl<T: Clone, P: TimedPort<T, WakerSlot<A>>, A: Allocator + Copy> Receiver<T, P
             (Reply.TryRecv (as_timed_try result)) }
         ensures same { self.new ≡ self.old }
     {
-        match self.port.ask_timeout(Call::TryRecv(self.role.key), limit) {
-            Reply::TryRecv(received) => received_in_time(received),
-            _ => unreachable!(),
-        }
+        self.port.receive_within(self.role.key, limit)
     }
 }
 
@@ -113,13 +107,7 @@ impl<T: Clone, P: TimedSeenPort<T, WakerSlot<A>>, A: Allocator + Copy> Sender<T,
         ensures { P.learns known.old (Call.AttemptSend msg)
             (Reply.AttemptSend (as_attempt result)) known.new }
     {
-        match self
-            .port
-            .ask_timeout_seen(known, Call::AttemptSend(msg), limit)
-        {
-            Reply::AttemptSend(sent) => sent_in_time(sent),
-            _ => unreachable!(),
-        }
+        self.port.send_within_seen(known, msg, limit)
     }
 }
 
@@ -136,36 +124,6 @@ impl<T: Clone, P: TimedSeenPort<T, WakerSlot<A>>, A: Allocator + Copy> Receiver<
             (Reply.TryRecv (as_timed_try result)) known.new }
         ensures same { self.new ≡ self.old }
     {
-        match self
-            .port
-            .ask_timeout_seen(known, Call::TryRecv(self.role.key), limit)
-        {
-            Reply::TryRecv(received) => received_in_time(received),
-            _ => unreachable!(),
-        }
-    }
-}
-
-fn sent_in_time<T>(sent: SendPoll<T>) -> Result<Option<T>, SendTimeoutError<T>>
-    ensures { as_attempt result ≡ sent }
-{
-    match sent {
-        SendPoll::Ready(Ok(dropped)) => Ok(dropped),
-        SendPoll::Ready(Err(SendError(back))) => Err(SendTimeoutError::Refused(back)),
-        SendPoll::Wait(back) => Err(SendTimeoutError::Timeout(back)),
-    }
-}
-
-fn received_in_time<T>(
-    received: Result<Result<T, TryRecvError>, AllocError>,
-) -> Result<Result<T, RecvTimeoutError>, AllocError>
-    ensures { as_timed_try result ≡ received }
-{
-    match received {
-        Ok(Ok(msg)) => Ok(Ok(msg)),
-        Ok(Err(TryRecvError::Overflowed(n))) => Ok(Err(RecvTimeoutError::Overflowed(n))),
-        Ok(Err(TryRecvError::Empty)) => Ok(Err(RecvTimeoutError::Timeout)),
-        Ok(Err(TryRecvError::Closed)) => Ok(Err(RecvTimeoutError::Closed)),
-        Err(error) => Err(error),
+        self.port.receive_within_seen(known, self.role.key, limit)
     }
 }

@@ -30,7 +30,7 @@ fn main(rt: HostRuntime) -> ExitCode {
         Ok(None) => Ending::WrongArguments(Program::Bcast),
         Err(AllocError) => Ending::NoMemory,
     };
-    report(&rt, ending)
+    report(ending, &mut rt.stderr())
 }
 
 /// Does what the arguments ask for, and returns how the run ended.

@@ -8,3 +8,7 @@ pub mod Tries
 pub mod Polls
 -- who waits, and who is told of a message that was accepted
 pub mod Telling
+-- which replies belong to which calls
+pub mod Kinds
+-- which call each value of a type of calls is
+pub mod Calls

@@ -245,6 +245,7 @@ impl<T: Drop, N: Notice, A: Allocator + Copy> Parts<T, N, A> {
     }
 
     /// Closes an open channel: all that wait are told.
+    #[inline(never)]
     pub fn close(&mut self)
         ensures { self.new ≡ record self.old { control = close self.old.control } }
     {
@@ -256,6 +257,7 @@ impl<T: Drop, N: Notice, A: Allocator + Copy> Parts<T, N, A> {
     }
 
     /// Whether there is no sender, or no receiver, active or inactive.
+    #[inline(always)]
     pub fn is_deserted(&self) -> bool
         ensures { result ≡ is_deserted self.now.control }
     {
@@ -263,6 +265,7 @@ impl<T: Drop, N: Notice, A: Allocator + Copy> Parts<T, N, A> {
     }
 
     /// Closes the channel if one side has no handle left.
+    #[inline(always)]
     pub fn close_if_deserted(&mut self)
         ensures { self.new ≡ record self.old { control = close_if_deserted self.old.control } }
     {

@@ -71,7 +71,7 @@ impl<T: Drop, N: Notice, A: Allocator + Copy> Inner<T, N, A> {
         Self::starting_at(alloc, cap, 0)
     }
 
-    /// The same, but the first message gets the number `first`.
+    /// Makes a channel as `new` does, whose first message gets the number `first`.
     ///
     /// # Errors
     ///

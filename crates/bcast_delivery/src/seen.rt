@@ -34,7 +34,7 @@ impl<T, J: Named> Model for Seen<T, J> {
 }
 
 impl<T, J: Named> Seen<T, J> {
-    /// The same once more.
+    /// What is known, once more.
     #[inline(always)]
     pub fn same(&self) -> Self
         ensures { result ≡ self.now }
@@ -47,7 +47,7 @@ impl<T, J: Named> Seen<T, J> {
         }
     }
 
-    // The same, of the receiver of this key, which reads on at this number.
+    // What is known, of the receiver of this key, which reads on at this number.
     #[inline(always)]
     pub(crate) fn at(&self, key: usize, next: u64) -> Self
         ensures { result ≡ record self.now { reader = Some (key, next) } }
@@ -68,7 +68,7 @@ impl<T, J: Named> Seen<T, J> {
         self.reader
     }
 
-    // The same, of no receiver.
+    // What is known, of no receiver.
     #[inline(always)]
     pub(crate) fn elsewhere(&self) -> Self
         ensures { result ≡ record self.now { reader = None } }

@@ -4,11 +4,11 @@ ghost use Rattle.bcast_model.specs.Words.{IsValid};
 ghost use Rattle.bcast_history.specs.History.{start_of};
 
 use crate::seen::{Seen, reader_in};
-use async_broadcast::{Keep, Made, Wake, WakerSlot};
-use bcast_core::Inner;
+use async_broadcast::{Keep, Wake, WakerSlot};
+use bcast_core::{CallOf, Inner};
 use bcast_history::{Journal, Named, Notes, Step, Writer};
 use std::alloc::Allocator;
-use std::marker::{Brand, Model};
+use std::marker::{Brand, Model, PhantomData};
 use std::snapshot::Snapshot;
 use std::sync::Wait;
 
@@ -71,13 +71,17 @@ impl<T: Clone, J: Channel> KeepsSteps<T, J> {
 
 // What was made, as a step.
 #[derive(Drop)]
-struct ShownStep<'a, Y> {
-    made: &'a Y,
+struct ShownStep<'a, T, C: CallOf<T>> {
+    call: &'a Snapshot<C>,
+    answer: &'a C::Answer,
+    messages: PhantomData<T>,
 }
 
-impl<'a, T, Y: Made<T>> Notes<Step<T>> for ShownStep<'a, Y> {
-    ghost note = { λ shown.
-        record { call = Y.call shown.made.now; reply = Y.reply shown.made.now } };
+impl<'a, T, C: CallOf<T>> Notes<Step<T>> for ShownStep<'a, T, C> {
+    ghost note = { λ shown. record {
+      call = C.call shown.call.now.value;
+      reply = C.reply shown.call.now.value shown.answer.now;
+    } };
 }
 
 impl<T: Clone, J: Channel> Keep<T> for KeepsSteps<T, J> {
@@ -103,16 +107,21 @@ impl<T: Clone, J: Channel> Keep<T> for KeepsSteps<T, J> {
     }
 
     #[inline(always)]
-    fn keep<Y: Made<T>, A: Allocator + Copy>(
+    fn keep<C: CallOf<T>, A: Allocator + Copy>(
         &mut self,
         rt: &impl Wait,
         known: &mut Seen<T, J>,
-        made: &Y,
+        call: &Snapshot<C>,
+        answer: &C::Answer,
         _before: &Snapshot<Inner<T, Wake<WakerSlot<A>>, A>>,
         after: &Inner<T, Wake<WakerSlot<A>>, A>,
     ) {
-        self.writer
-            .append(rt, &mut known.steps, &ShownStep { made });
+        let step = ShownStep {
+            call,
+            answer,
+            messages: PhantomData,
+        };
+        self.writer.append(rt, &mut known.steps, &step);
         known.end = after.end_number();
         known.closed = after.is_closed();
         let reader = reader_in(after, known.reader);

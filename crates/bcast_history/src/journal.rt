@@ -95,7 +95,7 @@ impl<X, J: Named> Model for Prefix<X, J> {
 }
 
 impl<X, J: Named> Prefix<X, J> {
-    /// The same beginning once more.
+    /// The beginning, once more.
     #[inline(always)]
     pub fn same(&self) -> Prefix<X, J>
         ensures { result ≡ self.now }

@@ -103,7 +103,7 @@ impl<T: fmt::Debug> fmt::Debug for Messages<T> {
     }
 }
 
-/// The same result, with refused messages in the vector in which they were given.
+/// The result with refused messages in the vector in which they were given.
 pub fn in_vec<T>(sent: Result<(), TrySendError<Messages<T>>>) -> Result<(), TrySendError<Vec<T>>>
     ensures { in_lists result ≡ sent }
 {

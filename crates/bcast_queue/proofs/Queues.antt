@@ -4,7 +4,7 @@ use Rattle.std.proofs.lemmas.Grind.{common_steps}
 use Rattle.std.proofs.lemmas.List.{length-map}
 use Rattle.std.proofs.lemmas.Option.{slice_get-map}
 use Rattle.circular_buffer.specs.Buffer.{Buffer}
-use Rattle.bcast_queue.specs.declared.Entry.{Entry}
+use Rattle.bcast_queue.specs.declared.entry.Entry.{Entry}
 use Rattle.bcast_queue.specs.Queue.{one_fewer_from, Queued, queue_with, without_reader}
 use Rattle.bcast_queue.specs.Entries.{counts, messages, next_of, owed_by, queue_of, AreCounted, IsSound}
 use Rattle.bcast_queue.proofs.Owed.{RisesFrom, at_least}

@@ -2,7 +2,7 @@
 use Rattle.std.proofs.Common.{◌≡◌, ℕ, suc, ◌+◌, ◌-◌, ◌<◌, Some, length, map, set, get_or, slice_get, sum, refl, ap, ◌∙◌, arith, rules}
 use Rattle.std.proofs.lemmas.List.{length-map}
 use Rattle.circular_buffer.specs.Buffer.{Buffer}
-use Rattle.bcast_queue.specs.declared.Entry.{Entry}
+use Rattle.bcast_queue.specs.declared.entry.Entry.{Entry}
 use Rattle.bcast_queue.specs.Queue.{Queued, one_more_from, one_fewer_from, read_at}
 use Rattle.bcast_queue.specs.Entries.{counts, messages, next_of, message_of, owed_by, queue_of, IsSound}
 use Rattle.bcast_queue.proofs.Entries.{fewer, messages-set, taken}

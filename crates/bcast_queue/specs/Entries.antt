@@ -1,7 +1,7 @@
 -- The queue that the entries of a ring make up, and what holds of them. No public clause names it.
 use Rattle.std.specs.Prelude.{◌≡◌, ℕ, ◌+◌, ◌<◌, ◌≤◌, ◌^◌, List, [], ◌∷◌, ◌++◌, map, take, drop, length, sum, slice_index}
 use Rattle.circular_buffer.specs.Buffer.{Buffer}
-use Rattle.bcast_queue.specs.declared.Entry.{Entry}
+use Rattle.bcast_queue.specs.declared.entry.Entry.{Entry}
 use Rattle.bcast_queue.specs.Queue.{Queued, queue_with}
 
 -- how many readers owe each message: these `before`, and all that are counted up to it

@@ -4,7 +4,8 @@ ghost use Rattle.std.specs.Prelude.{slice_index, slice_set};
 ghost use Rattle.std.specs.List.{prefix_len};
 ghost use Rattle.bcast_queue.specs.Entries.{counts, messages, owed_by, more_from};
 
-use crate::{Counter, Entry};
+use crate::Counter;
+use crate::entry::Entry;
 use circular_buffer::HeapCircularBuffer;
 use std::alloc::Allocator;
 
@@ -30,27 +31,7 @@ pub(crate) fn change_at<T, A: Allocator, C: Counter>(
     let Some(entry) = ring.get_mut(index) else {
         unreachable!()
     };
-    steps.count();
-    entry.next = entry.next + more - fewer;
-    entry.next
-}
-
-// How many read the message at `index` next. This is one step.
-#[inline(always)]
-pub(crate) fn count_at<T, A: Allocator, C: Counter>(
-    ring: &HeapCircularBuffer<Entry<T>, A>,
-    index: usize,
-    steps: &mut C,
-) -> usize
-    requires within { index < length ring.now.items }
-    ensures value { result ≡ slice_index (counts ring.now) index }
-    ensures steps { C.total steps.new ≤ C.total steps.old + 1 }
-{
-    let Some(entry) = ring.get(index) else {
-        unreachable!()
-    };
-    steps.count();
-    entry.next
+    entry.change(more, fewer, steps)
 }
 
 // Adds readers, who are in the total already, at the message at `index`. If there are not so many,
@@ -108,6 +89,6 @@ pub(crate) fn drop_unowed<T: Drop, A: Allocator, C: Counter>(
         if ring.is_empty() {
             return;
         }
-        next = count_at(ring, 0, steps);
+        next = change_at(ring, 0, 0, 0, steps);
     }
 }

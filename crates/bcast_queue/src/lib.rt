@@ -9,11 +9,13 @@ ghost use Rattle.bcast_queue.specs.Queue.{last_item, queue_with, without};
 
 use circular_buffer::HeapCircularBuffer;
 use counts::add_readers;
+use entry::Entry;
 use std::alloc::{AllocError, Allocator, Global};
 use std::marker::Model;
 pub use steps::{Counter, Steps, Uncounted};
 
 mod counts;
+mod entry;
 mod readers;
 mod steps;
 
@@ -36,14 +38,6 @@ pub struct Queue<T, A: Allocator = Global> {
     total: usize,
     // How many messages fit. The ring may have room for more.
     room: usize,
-}
-
-// A message, and how many readers read it next. Those that read a message next that is gone are
-// counted at the first one.
-#[derive(Drop)]
-struct Entry<T> {
-    message: T,
-    next: usize,
 }
 
 impl<T, A: Allocator> Model for Queue<T, A> {
@@ -191,7 +185,9 @@ impl<T, A: Allocator> Queue<T, A> {
         let number = self.front + self.ring.len() as u64;
         // The readers that have read all messages read this one next.
         let next = owing - self.total;
-        match self.ring.try_push_back(Entry { message: msg, next }) {
+        let mut entry = Entry::new(msg);
+        entry.change(next, 0, &mut Uncounted);
+        match self.ring.try_push_back(entry) {
             Ok(()) => {}
             Err(_) => unreachable!(),
         }
@@ -209,9 +205,10 @@ impl<T, A: Allocator> Queue<T, A> {
         ensures none { IfNone result (self.new ≡ self.old) }
         ensures steps { C.total steps.new ≤ C.total steps.old + 1 }
     {
-        let entry = self.ring.pop_front()?;
+        let mut entry = self.ring.pop_front()?;
         self.front += 1;
-        add_readers(&mut self.ring, &mut self.total, 0, entry.next, steps);
+        let next = entry.change(0, 0, &mut Uncounted);
+        add_readers(&mut self.ring, &mut self.total, 0, next, steps);
         Some(entry.message)
     }
 }

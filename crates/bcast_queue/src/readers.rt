@@ -84,15 +84,15 @@ impl<T: Clone, A: Allocator> Queue<T, A> {
         let Some(entry) = self.ring.get_mut(index) else {
             unreachable!()
         };
-        steps.count();
-        if index == 0 && entry.next == 1 {
+        let next = entry.change(0, 0, steps);
+        if index == 0 && next == 1 {
             let Some(message) = self.pop(steps) else {
                 unreachable!()
             };
             return Ok(message);
         }
         let message = entry.message.clone()?;
-        entry.next -= 1;
+        entry.change(0, 1, steps);
         add_readers(&mut self.ring, &mut self.total, index + 1, 1, steps);
         Ok(message)
     }

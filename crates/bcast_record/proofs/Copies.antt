@@ -10,7 +10,7 @@ use Rattle.bcast_model.specs.declared.run.Call.TheVariants as call
 use Rattle.bcast_model.specs.declared.run.Reply.{Reply}
 use Rattle.bcast_model.specs.declared.run.Reply.TheVariants as reply
 use Rattle.std.specs.Prelude.{ℕ}
-use Rattle.bcast_model.specs.Words.{Cursors, has_no_receiver, View, free_room, Legal}
+use Rattle.bcast_model.specs.Words.{Cursors, has_no_receiver, View, free_room, Legal, Answers}
 use Rattle.bcast_model.specs.Words.{IsReceivedBy, IsMade, IsMadeFrom, cursor_of, skipped_to}
 use Rattle.bcast_model.specs.Words.{skipped_count, future_reply, stream_reply, next_reply}
 use Rattle.bcast_record.specs.declared.entry.Entry.{Entry}
@@ -45,7 +45,7 @@ module _ {T : Type 0} where
   refused false false false msgs = tt
   refused closed nobody over msgs = refl
 
-  pub legal_list : (is_clone : T → T → Type 0) (v : View T) (c : Call T) (r : Reply T) → Legal is_clone v c r → IsListOf (list_of c) r
+  legal_list : (is_clone : T → T → Type 0) (v : View T) (c : Call T) (r : Reply T) → Legal is_clone v c r → IsListOf (list_of c) r
   legal_list is_clone v (call.TryBroadcastAll msgs) r legal = subst (IsListOf (Some msgs)) (sym legal) (refused v.control.closed (has_no_receiver v.control) (nat_lt (free_room v) (length msgs)) msgs)
   legal_list is_clone v call.BeginSend r (inl (place, is, free)) = hands_none _ r (ap hands_list is)
   legal_list is_clone v call.BeginSend r (inr is) = hands_none _ r (ap hands_list is)
@@ -62,6 +62,10 @@ module _ {T : Type 0} where
   legal_list is_clone v call.ActivateCloned r legal = hands_none _ r (made_from _ _ reply.ActivateCloned r (λ _. refl) legal)
   legal_list is_clone v (call.CloneReceiver key) r legal = hands_none _ r (made_from _ _ reply.CloneReceiver r (λ _. refl) legal)
   legal_list is_clone v c r legal = hands_none _ r (ap hands_list legal)
+
+  -- whichever channel answered
+  pub answered_list : (is_clone : T → T → Type 0) (v after : View T) (c : Call T) (r : Reply T) → Answers is_clone v c r after → IsListOf (list_of c) r
+  answered_list is_clone v after c r answers = legal_list is_clone v c r answers.legal
 
   -- an entry that was made with a copy of the call
   pub same_entry : (made : Entry T) (seat : ℕ) (copy call : Call T) (r : Reply T) → made ≡ record { seat = seat; call = copy; reply = r } → copy ≡ call → made ≡ record { seat = seat; call = call; reply = r }

@@ -1,12 +1,12 @@
 -- Texts that are split at a space.
-use Rattle.std.proofs.Common.{◌-◌, ◌≡◌, ◌≢◌, ◌<◌, ◌^◌, ℕ, List, All, ◌∷◌, ◌++◌, Option, Some, None, Bool, true, IfSome, eqb, Bor, length, length-append, codes, append_assoc, sym, ◌∙◌, arith}
+use Rattle.std.proofs.Common.{◌-◌, ◌≡◌, ◌≢◌, ◌<◌, ◌^◌, ℕ, List, All, ◌∷◌, ◌++◌, Option, Some, None, Bool, true, eqb, Bor, length, length-append, arith}
 use Rattle.std.proofs.lemmas.Grind.{common_steps}
 use Rattle.std.specs.Prelude.{MatchOption, not}
 use Rattle.std.proofs.lemmas.List.Sums.{AllPass-from_list_all}
 use Rattle.std.specs.List.{list_all}
 use Rattle.std.specs.Fmt.{decimal}
 use Rattle.std.proofs.Math.Seq.{get_or-append_seam}
-use Rattle.std.proofs.lemmas.List.Elements.{All-cons, All-append, All-from_get_or}
+use Rattle.std.proofs.lemmas.List.Elements.{All-from_get_or}
 use Rattle.std.proofs.lemmas.Fmt.{decimal_is_IsNumeral}
 use Rattle.std.proofs.lemmas.Str.Parse.{not_in_digits}
 use Rattle.std.proofs.lemmas.Str.Pattern.{IsSplitOnceResult, split_after, split_parts}
@@ -34,19 +34,10 @@ Lacks-decimal c n low small =
 pub name_space : (word : List ℕ) → IsName word → Lacks 32 word
 name_space word is k d below = grind (arith, common_steps, is.4 (k - 1) d)
 
-pub Lacks-spaced : (c : ℕ) (word : List ℕ) (arguments : Option (List ℕ)) → c ≢ 32 → Lacks c word → IfSome arguments (Lacks c) → Lacks c (spaced word arguments)
-Lacks-spaced c word None not none more = none
-Lacks-spaced c word (Some a) not none more = All-append (λ x. x ≢ c) word (32 ∷ a) none (All-cons (λ x. x ≢ c) 32 a (λ e. not (sym e)) more)
-
 -- the first space of a text is the one after its first part, if that part has none
 pub at_space : (bytes xs ys : List ℕ) (r : Option (Bor (List ℕ) × Bor (List ℕ))) → IsSplitOnceResult 32 bytes r → Lacks 32 xs
     → bytes ≡ xs ++ 32 ∷ ys → MatchOption r ⊥ (λ x. (x.0.now ≡ xs) × (x.1.now ≡ ys))
 at_space bytes xs ys r split none same = split_after 32 bytes xs ys r split (omega arith) same (λ i. none i 0)
-
-pub at_numbers : (bytes : List ℕ) (m n : ℕ) (r : Option (Bor (List ℕ) × Bor (List ℕ))) → IsSplitOnceResult 32 bytes r → m < 2 ^ 64
-    → bytes ≡ decimal m ++ codes " " ++ decimal n → MatchOption r ⊥ (λ x. (x.0.now ≡ decimal m) × (x.1.now ≡ decimal n))
-at_numbers bytes m n r split small same =
-    at_space bytes (decimal m) (decimal n) r split (Lacks-decimal 32 m (omega arith) small) (same ∙ append_assoc (decimal m) (codes " ") (decimal n))
 
 -- a text without a space has no arguments
 pub at_none : (bytes : List ℕ) → IsSplitOnceResult 32 bytes None → (word : List ℕ) (arguments : Option (List ℕ)) → Lacks 32 word

@@ -16,7 +16,7 @@ status_of NoThread = 3
 status_of InputFailed = 4
 status_of OutputFailed = 4
 
--- the line on standard error, its LF aside; empty if the output is all that is printed
+-- the text on standard error, its LF aside; empty if the output is all that is printed
 abbrev pub text_of : Ending → List ℕ
 text_of Done = []
 text_of Differ = []
@@ -27,3 +27,9 @@ text_of NoMemory = codes "out of memory"
 text_of NoThread = codes "no thread"
 text_of InputFailed = codes "input failed"
 text_of OutputFailed = codes "output failed"
+
+-- the line on standard error; none if the output is all that is printed
+abbrev pub line_of : Ending → List ℕ
+line_of Done = []
+line_of Differ = []
+line_of ending = text_of ending ++ codes "\n"

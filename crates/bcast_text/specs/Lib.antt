@@ -10,12 +10,6 @@ pub mod Name
 pub mod ScriptLine
 pub mod ScriptCall
 pub mod ScriptAnswer
--- traces: the lines, the calls that they name, and what is written of a reply
-pub mod Opening
-pub mod TraceCall
-pub mod TraceLine
-pub mod TraceAnswer
-pub mod TraceReply
 -- threads: what receivers saw, and what a run prints
 pub mod Order
 pub mod Outcome

@@ -41,3 +41,8 @@ answer_of (reply.NewReceiver (Ok key)) = Some (codes "ok")
 answer_of (reply.Activate (Ok key)) = Some (codes "ok")
 answer_of (reply.Activate (Err handle.Gone)) = Some (codes "gone")
 answer_of r = None
+
+-- words, and the number that follows them
+abbrev pub words_text : List ℕ → Option ℕ → List ℕ
+words_text words None = words
+words_text words (Some n) = words ++ decimal n

@@ -1,11 +1,13 @@
 //! How a run of a program ends: its text on standard error, and its exit status.
-ghost use Rattle.std.specs.Prelude.{◌≡◌};
+ghost use Rattle.std.specs.Prelude.{◌≡◌, OnOk};
+ghost use Rattle.std.specs.Io.KnownBytes.{Appends};
 ghost use Rattle.std.specs.Process.{exit_status};
-ghost use Rattle.bcast_text.specs.Ending.{status_of};
+ghost use Rattle.bcast_text.specs.Ending.{status_of, line_of};
 
-use crate::{script, trace};
-use std::fmt;
+use crate::script;
+use std::io::Write;
 use std::process::ExitCode;
+use std::{fmt, io};
 
 /// One of the programs whose runs have an `Ending`.
 #[derive(Clone, Copy, Debug, PartialEq, Eq)]
@@ -50,6 +52,17 @@ impl Ending {
             Ending::InputFailed | Ending::OutputFailed => 4,
         }
     }
+
+    /// Writes the line of this ending. `Done` and `Differ` have none: their text is the output.
+    pub fn write_line<W: Write>(self, errors: &mut W) -> io::Result<()>
+        ensures { OnOk result (Appends (W.contents errors.old) (W.contents errors.new)
+            (line_of self)) }
+    {
+        match self {
+            Ending::Done | Ending::Differ => Ok(()),
+            _ => writeln!(errors, "{self}"),
+        }
+    }
 }
 
 impl fmt::Display for Ending {
@@ -62,7 +75,9 @@ impl fmt::Display for Ending {
         match self {
             Ending::Done | Ending::Differ => Ok(()),
             Ending::WrongArguments(Program::Bcast) => f.write_str(script::command::USAGE),
-            Ending::WrongArguments(Program::Replay) => f.write_str(trace::command::USAGE),
+            Ending::WrongArguments(Program::Replay) => {
+                f.write_str("usage: replay trace | replay list")
+            }
             Ending::NotACall(line) => write!(f, "line {line}: not a call"),
             Ending::NoMemory => f.write_str("out of memory"),
             Ending::NoThread => f.write_str("no thread"),
@@ -72,14 +87,11 @@ impl fmt::Display for Ending {
     }
 }
 
-/// Prints how the run ended on standard error, and returns the exit status.
-///
-/// `Done` and `Differ` print nothing there: their text is the output.
-pub fn report(rt: &impl Eprint, ending: Ending) -> ExitCode
+/// Writes how the run ended on `errors`, the standard error of the program, and returns the exit
+/// status, also if the write fails.
+pub fn report<W: Write>(ending: Ending, errors: &mut W) -> ExitCode
     ensures { exit_status result ≡ status_of ending }
 {
-    if ending != Ending::Done && ending != Ending::Differ {
-        let _ = eprintln!(rt; "{ending}");
-    }
+    let _ = ending.write_line(errors);
     ExitCode::from(ending.status())
 }

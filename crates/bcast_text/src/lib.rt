@@ -1,4 +1,4 @@
-//! What the programs read and print: arguments, lines, numbers, calls, replies, and how a run ends.
+//! What the programs read and print: arguments, lines, numbers, scripts, and how a run ends.
 #![tactic(auto)]
 
 pub mod arguments;
@@ -8,4 +8,3 @@ pub mod lines;
 pub mod number;
 pub mod script;
 pub mod threads;
-pub mod trace;

@@ -1,4 +1,4 @@
-//! The numbers of scripts, traces and arguments.
+//! The numbers of scripts, topics, traces and arguments.
 ghost use Rattle.bcast_text.specs.Words.{numbers_text, IsU64};
 ghost use Rattle.std.specs.List.{AllByRecursion};
 ghost use Rattle.std.specs.Prelude.{◌≡◌, ◌≢◌, ◌<◌, ◌^◌, ℕ, List, length, Some, IsNone, IfOk, IfSome};

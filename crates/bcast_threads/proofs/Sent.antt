@@ -12,15 +12,11 @@ use Rattle.bcast_model.specs.declared.run.Call.TheVariants as call
 use Rattle.bcast_model.specs.declared.run.Reply.TheVariants as reply
 use Rattle.bcast_model.specs.declared.run.SendPoll.TheVariants as send
 use Rattle.bcast_model.specs.declared.run.Reply.{Reply}
-use Rattle.bcast_model.specs.Words.{end_number}
 use Rattle.bcast_laws.specs.Sends.{is_accepted}
-use Rattle.bcast_text.specs.Order.{HoldsEachOnce}
 use Rattle.bcast_history.specs.declared.step.Opening.{Opening}
 use Rattle.bcast_history.specs.declared.step.Step.{Step}
-use Rattle.bcast_history.specs.History.{start_of, end_of}
 use Rattle.bcast_delivery.specs.Follows.{Follows, accepted_by}
 use Rattle.bcast_delivery.specs.Laws.{SendsStandLast}
-use Rattle.bcast_delivery.proofs.Logged.{first_kept}
 use Rattle.bcast_delivery.proofs.Sent.{accepted_grows}
 use Rattle.bcast_threads.specs.Lists.{HasAll}
 
@@ -42,7 +38,7 @@ pushed msgs number =
     or_true true = refl
     or_true false = refl
 
-contained : (list : List ℕ) (number : ℕ) → Has list number → Contains list number
+pub contained : (list : List ℕ) (number : ℕ) → Has list number → Contains list number
 contained list number there =
     let (place, found, within, at, is) = Any-from_list_any (nat_eq number) list there in
     let same : found ≡ number = grind (arith, common_steps, is) in
@@ -76,13 +72,3 @@ joined first middle next end msgs meet low high number from before = elim (cases
 pub not_refused : (sent : Result (Option ℕ) (SendError ℕ)) → is_err sent ≡ false → is_accepted (reply.AttemptSend (send.Ready sent)) ≡ true
 not_refused (Ok back) is = refl
 not_refused (Err error) is = absurd cc
-
--- as many as were to be sent, and each of them
-pub each_once : (o : Opening) (closed : List (Step ℕ)) (total sent end : ℕ)
-    → o.first_number ≡ 0 → end ≡ end_number (end_of o closed) → HasAll 0 sent (accepted_by o closed) → total ≡ sent → sent ≡ end
-    → HoldsEachOnce (accepted_by o closed) total
-each_once o closed total sent end first ended all is same =
-    let start = first_kept (start_of o) closed in (
-      omega (arith, first, ended, is, same, start),
-      λ number below. contained (accepted_by o closed) number (all number (omega arith) (omega (arith, below, is))),
-    )

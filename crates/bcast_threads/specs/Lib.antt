@@ -1,4 +1,6 @@
 -- what the receivers received
 pub mod Lists
+-- what was sent and received before the channel closed
+pub mod Closed
 -- what a port gave
 pub mod Given

@@ -1,19 +1,16 @@
 //! The lists of a run: what each receiver received.
-ghost use Rattle.std.specs.Prelude.{◌≡◌, ◌*◌, IfOk, IfSome, All, length};
+ghost use Rattle.std.specs.Prelude.{◌≡◌, ◌*◌, IfOk, All, length};
 ghost use Rattle.std.specs.Bool.{OnTrue};
 ghost use mathlib.Core.List.{IsPrefix};
-ghost use Rattle.bcast_model.specs.Words.{end_number};
-ghost use Rattle.bcast_history.specs.History.{end_of};
-ghost use Rattle.bcast_delivery.specs.Follows.{accepted_by};
-ghost use Rattle.bcast_threads.specs.Lists.{AreLists, HasAll};
-ghost use Rattle.bcast_text.specs.Order.{HoldsEachOnce};
+ghost use Rattle.bcast_threads.specs.Lists.{AreLists};
+ghost use Rattle.bcast_threads.specs.Closed.{WereSent, IsWhole};
 
 use crate::fault::Fault;
 use crate::plan::Plan;
 use crate::started::{Started, clones_of};
 use crate::work::{Log, Sent};
 use async_broadcast::{Receiver, Sender, WakerSlot};
-use bcast_delivery::{Channel, HistoryPort, Opened, Reading, Seen, broadcast};
+use bcast_delivery::{Channel, HistoryPort, Opened, Reading, Seen, broadcast, closed_is_last};
 use std::alloc::Global;
 use std::marker::Brand;
 use std::sync::Wait;
@@ -44,7 +41,7 @@ pub fn lists_of<R: Threads + Wait + Clone + Send + 'static>(
     lists_over::<Brand, R>(rt, alloc, plan, opened)
 }
 
-// The same, over this channel.
+// Runs the threads over this channel.
 fn lists_over<J: Channel + Send + Sync + 'static, R: Threads + Wait + Clone + Send + 'static>(
     rt: &R,
     alloc: Global,
@@ -52,7 +49,6 @@ fn lists_over<J: Channel + Send + Sync + 'static, R: Threads + Wait + Clone + Se
     opened: Opened<u64>,
 ) -> Result<Vec<Vec<u64>>, Fault>
     requires name { (opened.book ≡ J.book) × (opened.opening ≡ J.opening) }
-    requires first { opened.opening.first_number ≡ 0 }
     ensures { IfOk result (λ lists. AreLists plan (λ list. list.items) lists.items) }
 {
     let its_rt = rt.clone()?;
@@ -60,7 +56,8 @@ fn lists_over<J: Channel + Send + Sync + 'static, R: Threads + Wait + Clone + Se
     lists_from(rt, alloc, plan, sender, receiver, reading)
 }
 
-// The same, over these handles, the first ones of their channel.
+// Runs the threads over these handles, the first ones of their channel. The last thread that sends
+// closes it, by the drop of its sender.
 fn lists_from<J, R, P>(
     rt: &R,
     alloc: Global,
@@ -75,40 +72,44 @@ where
     P: HistoryPort<u64, J, WakerSlot> + Send + 'static,
     requires key { receiver.role.key ≡ reading.key }
     requires start { reading.next ≡ J.opening.first_number }
-    requires first { J.opening.first_number ≡ 0 }
     ensures { IfOk result (λ lists. AreLists plan (λ list. list.items) lists.items) }
 {
-    let mut seen = reading.seen();
+    let seen = reading.seen();
     let readers = clones_of(rt, alloc, receiver, reading, plan.receivers)?;
     let mut threads = Started::<J>::with_room(alloc, plan)?;
-    let started = threads.start(rt, alloc, plan, &sender, &seen, readers);
+    let started = threads.start(rt, alloc, plan, sender, &seen, readers);
     let Started { senders, receivers } = threads;
-    let sent = numbers_sent(senders.join(rt), &mut seen);
-    close(&sender, &mut seen);
+    let sent = senders.join(rt);
     let logs = receivers.join(rt);
     started?;
-    let lists = all_of(alloc, logs, &seen)?;
-    if !is_each_once(plan, sent, &seen) {
+    lists_received(alloc, plan, sent, logs, seen)
+}
+
+/// The lists of receivers, if each number that was to be sent was sent, and they received nothing
+/// else. All are the same, since in each is all that the channel had accepted when it was closed.
+fn lists_received<J: Channel>(
+    alloc: Global,
+    plan: Plan,
+    senders: Vec<Sent<J>>,
+    receivers: Vec<Result<Log<J>, Fault>>,
+    mut seen: Seen<u64, J>,
+) -> Result<Vec<Vec<u64>>, Fault>
+    requires { length receivers.items ≡ plan.receivers }
+    ensures { IfOk result (λ lists. AreLists plan (λ list. list.items) lists.items) }
+{
+    closed_is_last::<u64>();
+    let sent = numbers_sent(senders, &mut seen);
+    let lists = all_of(alloc, receivers, &mut seen)?;
+    if !are_of_all(plan, sent, lists.as_slice()) {
         return Err(Fault::Missed);
     }
     Ok(lists)
 }
 
-/// Closes the channel. What is seen of it then ends where it does.
-fn close<J: Channel, P: HistoryPort<u64, J, WakerSlot>>(
-    sender: &Sender<u64, P>,
-    seen: &mut Seen<u64, J>,
-)
-    ensures begins { IsPrefix seen.old.steps seen.new.steps }
-    ensures end { seen.new.end ≡ end_number (end_of J.opening seen.new.steps) }
-{
-    sender.close_seen(seen);
-}
-
 /// The numbers from 0 on that were sent, up to the one that is returned, by the senders as they
 /// were started, the last one first.
 fn numbers_sent<J: Channel>(mut senders: Vec<Sent<J>>, seen: &mut Seen<u64, J>) -> u64
-    ensures { HasAll 0 result (accepted_by J.opening seen.new.steps) }
+    ensures { WereSent J.opening 0 result seen.new.steps }
 {
     let mut end = 0;
     while let Some(sent) = senders.pop() {
@@ -120,56 +121,45 @@ fn numbers_sent<J: Channel>(mut senders: Vec<Sent<J>>, seen: &mut Seen<u64, J>) 
     end
 }
 
-/// Whether the channel accepted each number that was to be sent, and nothing else.
-fn is_each_once<J: Channel>(plan: Plan, sent: u64, closed: &Seen<u64, J>) -> bool
-    requires first { J.opening.first_number ≡ 0 }
-    requires end { closed.now.end ≡ end_number (end_of J.opening closed.now.steps) }
-    requires sent { HasAll 0 sent (accepted_by J.opening closed.now.steps) }
-    ensures { OnTrue result (HoldsEachOnce (accepted_by J.opening closed.now.steps)
-        (plan.senders * plan.messages)) }
+/// Whether `sent` numbers were to be sent, and so many are in each list.
+fn are_of_all(plan: Plan, sent: u64, lists: &[Vec<u64>]) -> bool
+    ensures sent { OnTrue result (sent ≡ plan.senders * plan.messages) }
+    ensures each { OnTrue result (All (λ list. length list.items ≡ sent) lists.now) }
 {
-    let Some(total) = total_of(plan) else {
-        return false;
-    };
-    total == sent && sent == closed.end()
+    plan.senders.checked_mul(plan.messages) == Some(sent) && are_this_long(lists, sent)
 }
 
-/// How many numbers are to be sent.
-fn total_of(plan: Plan) -> Option<u64>
-    ensures { IfSome result (λ total. total ≡ plan.senders * plan.messages) }
+fn are_this_long(lists: &[Vec<u64>], len: u64) -> bool
+    ensures { OnTrue result (All (λ list. length list.items ≡ len) lists.now) }
 {
-    plan.senders.checked_mul(plan.messages)
+    lists.iter().all(|list| list.len() as u64 == len)
 }
 
-/// The lists, if each receiver received all that the channel had accepted when it was closed.
+/// What each receiver received: all that the channel had accepted when it was closed.
 fn all_of<J: Channel>(
     alloc: Global,
     logs: Vec<Result<Log<J>, Fault>>,
-    closed: &Seen<u64, J>,
+    seen: &mut Seen<u64, J>,
 ) -> Result<Vec<Vec<u64>>, Fault>
-    requires first { J.opening.first_number ≡ 0 }
-    requires end { closed.now.end ≡ end_number (end_of J.opening closed.now.steps) }
     ensures count { IfOk result (λ all. length all.items ≡ length logs.items) }
-    ensures accepted { IfOk result (λ all.
-        All (λ list. list.items ≡ accepted_by J.opening closed.now.steps) all.items) }
+    ensures longer { IsPrefix seen.old.steps seen.new.steps }
+    ensures whole { IfOk result (λ all.
+        All (λ list. IsWhole J.opening seen.new.steps list.items) all.items) }
 {
     let mut all = Vec::new(alloc);
     for log in logs {
-        all.push(list_of(log?, closed)?)?;
+        all.push(list_of(log?, seen))?;
     }
     Ok(all)
 }
 
-fn list_of<J: Channel>(log: Log<J>, closed: &Seen<u64, J>) -> Result<Vec<u64>, Fault>
-    requires first { J.opening.first_number ≡ 0 }
-    requires end { closed.now.end ≡ end_number (end_of J.opening closed.now.steps) }
-    ensures { IfOk result (λ list. list.items ≡ accepted_by J.opening closed.now.steps) }
+fn list_of<J: Channel>(log: Log<J>, seen: &mut Seen<u64, J>) -> Vec<u64>
+    ensures longer { IsPrefix seen.old.steps seen.new.steps }
+    ensures whole { IsWhole J.opening seen.new.steps result.items }
 {
     let Log { list, reading } = log;
-    let mut later = reading.seen();
-    later.learn(closed);
-    if list.as_slice().len() as u64 != closed.end() {
-        return Err(Fault::Missed);
-    }
-    Ok(list)
+    reading.invariant_holds();
+    let its = reading.seen();
+    seen.learn(&its);
+    list
 }

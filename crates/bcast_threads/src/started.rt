@@ -44,13 +44,14 @@ impl<J: Channel + Send + Sync + 'static> Started<J> {
         })
     }
 
-    /// Starts the plan's threads over these handles. If that fails, it closes their channel.
+    /// Starts the plan's threads over these handles, and drops the sender once each thread that
+    /// sends has its own. If that fails, it closes their channel.
     pub(crate) fn start<R, P>(
         &mut self,
         rt: &R,
         alloc: Global,
         plan: Plan,
-        sender: &Sender<u64, P>,
+        sender: Sender<u64, P>,
         seen: &Seen<u64, J>,
         readers: Vec<Reader<J, P>>,
     ) -> Result<(), Fault>
@@ -65,11 +66,11 @@ impl<J: Channel + Send + Sync + 'static> Started<J> {
             ≡ vec_len self.old.senders.running + plan.senders) }
         ensures receivers { OnOk result (vec_len self.new.receivers.running
             ≡ vec_len self.old.receivers.running + vec_len readers) }
-        ensures closed { IfErr result (λ _. WasClosed (P.gave sender.now.port)) }
+        ensures closed { IfErr result (λ _. WasClosed (P.gave sender.port)) }
     {
         let mut started = self.start_receivers(rt, alloc, plan, readers);
         if started.is_ok() {
-            started = self.start_senders(rt, plan, sender, seen);
+            started = self.start_senders(rt, plan, &sender, seen);
         }
         if started.is_err() {
             sender.close();

@@ -5,6 +5,7 @@ ghost use Rattle.bcast_delivery.specs.Log.{IsWholeLog};
 ghost use Rattle.bcast_delivery.specs.Closed.{HasReadAll};
 ghost use Rattle.bcast_threads.specs.Given.{WasClosed};
 ghost use Rattle.bcast_threads.specs.Lists.{HasAll};
+ghost use Rattle.bcast_threads.specs.Closed.{AreBeforeClosing};
 
 use crate::fault::Fault;
 use async_broadcast::{Receiver, RecvError, Sender, WakerSlot};
@@ -24,13 +25,15 @@ pub struct Reader<J: Channel, P: HistoryPort<u64, J, WakerSlot>> {
     ghost start: { reading.next ≡ J.opening.first_number },
 }
 
-/// The numbers that a sender sent: from `first` on, up to the one before `end`.
+/// The numbers that a sender sent: from `first` on, up to the one before `end`. The channel had
+/// accepted them before it was closed.
 #[derive(Drop)]
 pub struct Sent<J: Channel> {
     pub first: u64,
     pub end: u64,
     pub seen: Seen<u64, J>,
     ghost sent: { HasAll first end (accepted_by J.opening seen.steps) },
+    ghost before: { AreBeforeClosing J.opening first end seen.steps },
 }
 
 /// What a receiver received till it found the channel closed: all messages that the channel had
@@ -52,6 +55,7 @@ pub fn send_all<J: Channel, P: HistoryPort<u64, J, WakerSlot>>(
     count: u64,
 ) -> Sent<J> {
     sends_stand_last::<u64>();
+    closed_is_last::<u64>();
     let mut end = first;
     for msg in first..first.saturating_add(count) {
         if sender.broadcast_blocking_seen(&mut seen, msg).is_err() {

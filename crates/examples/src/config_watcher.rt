@@ -24,10 +24,11 @@ fn set_all<P: Port<Settings, WakerSlot>>(source: &Sender<Settings, P>) -> Result
 }
 
 /// The next settings by futures, and how many were missed before them.
-fn look<R, P>(rt: &R, watch: &mut Receiver<Settings, P>) -> Result<Option<(Settings, u64)>>
+fn look<R, S, P>(rt: &R, watch: &mut Receiver<S, P>) -> Result<Option<(S, u64)>>
 where
     R: Wait + RandomSource + AllocGlobal,
-    P: Port<Settings, WakerSlot>,
+    S: Clone,
+    P: Port<S, WakerSlot>,
 {
     let mut missed = 0u64;
     for _ in rt.forever() {
@@ -41,10 +42,11 @@ where
 }
 
 /// The next settings by the stream, which skips those that were missed.
-fn next<R, P>(rt: &R, watch: &mut Receiver<Settings, P>) -> Result<Option<Settings>>
+fn next<R, S, P>(rt: &R, watch: &mut Receiver<S, P>) -> Result<Option<S>>
 where
     R: Wait + RandomSource + AllocGlobal,
-    P: Port<Settings, WakerSlot>,
+    S: Clone,
+    P: Port<S, WakerSlot>,
 {
     match block_on(rt, watch.next())? {
         Some(settings) => Ok(Some(settings?)),

@@ -17,7 +17,7 @@ struct Seen {
 }
 
 /// Writes the first records. They are next to one another in the log, or none is written.
-fn begin<P: Port<u64, WakerSlot>>(log: &Sender<u64, P>, header: Vec<u64>) -> bool {
+fn begin<T: Clone, P: Port<T, WakerSlot>>(log: &Sender<T, P>, header: Vec<T>) -> bool {
     log.try_broadcast_all(header).is_ok()
 }
 
@@ -30,9 +30,9 @@ fn produce<P: Port<u64, WakerSlot>>(log: Sender<u64, P>, first: u64) {
 }
 
 /// Reads until the last producer's sender is dropped.
-fn consume<P: Port<u64, WakerSlot>>(
+fn consume<T: Clone, P: Port<T, WakerSlot>>(
     rt: &impl Wait,
-    mut log: Receiver<u64, P>,
+    mut log: Receiver<T, P>,
 ) -> Result<Seen, AllocError> {
     let mut seen = Seen {
         records: 0,

@@ -11,11 +11,13 @@ use std::thread;
 use std::thread::Threads;
 
 /// Does jobs until the signal is given, and then those that are left. Returns how many it did.
-fn work<R, P, Q>(rt: &R, mut jobs: Receiver<u64, P>, mut signal: Receiver<(), Q>) -> Result<u64>
+fn work<R, J, S, P, Q>(rt: &R, mut jobs: Receiver<J, P>, mut signal: Receiver<S, Q>) -> Result<u64>
 where
     R: Wait + RandomSource + AllocGlobal,
-    P: Port<u64, WakerSlot>,
-    Q: Port<(), WakerSlot>,
+    J: Clone,
+    S: Clone,
+    P: Port<J, WakerSlot>,
+    Q: Port<S, WakerSlot>,
 {
     let mut done = 0u64;
     for _ in rt.forever() {
@@ -41,7 +43,7 @@ where
     R: Threads + Wait + RandomSource + AllocGlobal + Print + Copy + Send + Drop + 'static,
 {
     let (jobs, one) = broadcast(rt, rt.alloc(), 2)?;
-    let (signal, told) = broadcast(rt, rt.alloc(), 1)?;
+    let (signal, told) = broadcast::<(), _, _>(rt, rt.alloc(), 1)?;
     let two = one.clone()?;
     let also_told = told.clone()?;
     let first = thread::spawn(&rt, move || work(&rt, one, told))?;

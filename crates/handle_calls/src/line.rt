@@ -63,7 +63,7 @@ pub enum Opening {
     Channel(Capacity, Futures),
     /// Handles over recording ports.
     Recorded,
-    /// The same, and their memory is refused.
+    /// Handles over recording ports, whose memory is refused.
     WithoutMemory,
 }
 

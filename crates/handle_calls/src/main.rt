@@ -34,5 +34,5 @@ use std::process::ExitCode;
 
 fn main(rt: HostRuntime) -> ExitCode {
     let ending = play(&rt, rt.alloc(), rt.stdin(), rt.stdout());
-    report(&rt, ending)
+    report(ending, &mut rt.stderr())
 }

@@ -1,13 +1,10 @@
 //! Ports that record the calls made through them, and reply as a script sets.
-ghost use Rattle.std.specs.Prelude.{◌≡◌, true, false, IfOk, IfErr, OnErr};
-ghost use Rattle.futures.specs.Task.{IsArmed, Keeps};
-ghost use Rattle.bcast_model.specs.Words.{must_wait, HasPositiveCapacity};
-ghost use Rattle.async_broadcast.specs.Kinds.{IsOfKind, may_wait, is_answer};
+ghost use Rattle.bcast_core.specs.Kinds.{IsOfKind};
 
-use async_broadcast::{Ask, Call, Port, Registers, Reply, Wake, WakerSlot};
-use bcast_core::Notice;
+use async_broadcast::{Ask, Call, Port, RecvError, Registers, Reply, SendError, WakerSlot};
+use bcast_core::{AtOnce, Notice, Polls, RepliesTo};
 use futures::task::Context;
-use replies::{Outcome, reply_to, waited_reply_to};
+use replies::{Outcome, answered, reply_to, waited};
 use std::alloc::{AllocError, Allocator, Global};
 use std::cell::Cell;
 use std::rc::Rc;
@@ -99,47 +96,43 @@ impl State {
     }
 }
 
+impl RepliesTo<u64> for RecordingPort {
+    ghost gave = { λ _ call reply. IsOfKind call reply };
+
+    fn reply_to(&self, call: Call<u64>) -> Reply<u64>
+        ensures gave { IsOfKind call result }
+        ensures kind { IsOfKind call result }
+    {
+        self.state.record(&call);
+        reply_to(self.state.outcome.get(), call)
+    }
+}
+
 impl<A: Allocator> Ask<u64, WakerSlot<A>> for RecordingPort {
-    ghost use Rattle.async_broadcast.specs.Kinds.{IsOfKind};
+    ghost use Rattle.bcast_core.specs.Kinds.{IsOfKind};
 
     ghost gave = { λ _ call reply. IsOfKind call reply };
 
     ghost of_kind = { λ _ call reply gave. gave };
 
-    // A port that replies that a poll must wait tells it at once.
-    fn ask(&self, call: Call<u64>, mut wake: Wake<WakerSlot<A>>) -> Reply<u64>
-        requires { HasPositiveCapacity call }
-        ensures { IsOfKind call result }
-    {
-        self.state.record(&call);
-        let outcome = self.state.outcome.get();
-        if outcome == Outcome::Wait {
-            wake.tell();
-        }
-        reply_to(outcome, call)
+    fn ask<C: AtOnce<u64>>(&self, call: C) -> C::Answer {
+        call.answered_by(self)
     }
 
-    fn poll<W: Registers<WakerSlot<A>>>(
+    // A port that replies that a poll must wait tells it at once.
+    fn poll<C: Polls<u64>, W: Registers<WakerSlot<A>>>(
         &self,
-        call: Call<u64>,
+        call: C,
         task: &mut W,
         cx: &mut Context<'_>,
-    ) -> Result<Reply<u64>, Call<u64>>
-        requires { HasPositiveCapacity call }
-        ensures asked { IfOk result (IsOfKind call) }
-        ensures back { IfErr result (λ back. back ≡ call) }
-
-        ensures notice { IfOk result (λ reply. must_wait reply ≡ true
-            → W.is_refused task.new ≡ false) }
-        ensures refused { OnErr result (W.is_refused task.new ≡ true) }
-        ensures registered { IfOk result (λ reply. must_wait reply ≡ true → IsArmed cx.new) }
-        ensures again { OnErr result (IsArmed cx.new) }
-        ensures kept { Keeps cx.old cx.new }
-    {
-        let Some(wake) = task.register(cx) else {
+    ) -> Result<C::Answer, C> {
+        let Some(mut wake) = task.register(cx) else {
             return Err(call);
         };
-        Ok(self.ask(call, wake))
+        if self.state.outcome.get() == Outcome::Wait {
+            wake.tell();
+        }
+        Ok(call.answered_by(self))
     }
 }
 
@@ -148,13 +141,14 @@ impl<A: Allocator> Port<u64, WakerSlot<A>> for RecordingPort {
 
     ghost lacks_memory = { λ _. ⊤ };
 
-    fn ask_waiting(&self, call: Call<u64>) -> Reply<u64>
-        requires { may_wait call ≡ true }
-        ensures reply { IsOfKind call result }
-        ensures answered { is_answer result ≡ true }
-    {
-        self.state.record(&call);
-        waited_reply_to(self.state.outcome.get(), call)
+    fn send_waiting(&self, msg: u64) -> Result<Option<u64>, SendError<u64>> {
+        self.state.record(&Call::AttemptSend(msg));
+        answered(self.state.outcome.get(), msg)
+    }
+
+    fn receive_waiting(&self, key: usize) -> Result<Result<u64, RecvError>, AllocError> {
+        self.state.record(&Call::TryRecv(key));
+        waited(self.state.outcome.get())
     }
 
     fn same(&self) -> Option<Self> {

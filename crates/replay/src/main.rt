@@ -2,13 +2,10 @@
 //! again with the replies and views of the channel.
 #![tactic(auto)]
 
-ghost use Rattle.std.specs.Prelude.{◌≢◌};
-ghost use Rattle.replay.specs.Run.{HasWritten};
-
-use bcast_play::{list, trace};
 use bcast_text::arguments::arguments;
 use bcast_text::ending::{Ending, Program, report};
-use bcast_text::trace::command::Command;
+use bcast_trace::command::Command;
+use bcast_trace::{list, trace};
 use std::alloc::{AllocError, Global};
 use std::io::{BufWriter, Read, Write};
 use std::process::ExitCode;
@@ -25,7 +22,7 @@ fn main(rt: HostRuntime) -> ExitCode {
         Ok(None) => Ending::WrongArguments(Program::Replay),
         Err(AllocError) => Ending::NoMemory,
     };
-    report(&rt, ending)
+    report(ending, &mut rt.stderr())
 }
 
 /// Plays the trace that `input` holds, as `command` says, and returns how the run ended.
@@ -34,10 +31,7 @@ fn run<I: Read + Drop, W: Write>(
     command: Command,
     input: I,
     output: &mut W,
-) -> Ending
-    ensures { result ≢ Ending.OutputFailed → HasWritten command (I.remaining input)
-        (W.contents output.old) (W.contents output.new) result }
-{
+) -> Ending {
     match command {
         Command::Trace => trace(alloc, alloc, input, output),
         Command::List => list(alloc, alloc, input, output),

@@ -54,7 +54,7 @@ const BASIC_ASYNC: Rows = &[
     (Step::Next(2), Answer::Message(8)),
 ];
 
-// The same in tasks, by futures and by streams.
+// Receivers that are cloned receive in tasks, by futures and by streams.
 #[test]
 fn basic_async(rt: HostRuntime) -> Result<(), Fail> {
     play_on(&rt, 10, BASIC_ASYNC)

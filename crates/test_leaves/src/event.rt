@@ -131,7 +131,7 @@ fn wait<N: Notice, A: Allocator>(
     Ok(made.is_ok() && event.is_untold(id))
 }
 
-// The same with a maker whose notice is taken already. Returns whether it is refused.
+// Lists a listener by a maker whose notice is taken already. Returns whether it is refused.
 fn refuse<N: Notice, A: Allocator>(
     event: &mut Event<Id, N, A>,
     id: Id,

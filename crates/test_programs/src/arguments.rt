@@ -1,6 +1,7 @@
 //! Arguments of both programs.
 use bcast_text::arguments::arguments;
-use bcast_text::{script, trace};
+use bcast_text::script;
+use bcast_trace::command::Command;
 use std::alloc::{AllocError, Global};
 use std::env::{Env, FillError};
 use std::io;
@@ -20,7 +21,7 @@ pub fn bcast<W: Write>(alloc: Global, lines: &str, output: &mut W) -> io::Result
 pub fn replay<W: Write>(alloc: Global, lines: &str, output: &mut W) -> io::Result<()> {
     for line in lines.lines() {
         let words = words_of(alloc, line)?;
-        let command = trace::command::Command::from_words(words.as_slice());
+        let command = Command::from_words(words.as_slice());
         writeln!(output, "{line}: {command:?}")?;
     }
     Ok(())

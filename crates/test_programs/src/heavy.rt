@@ -30,7 +30,7 @@ impl<'a> Clone for Heavy<'a> {
     }
 }
 
-/// The same call, with messages whose memory is of the heap. None: it is an accessor.
+/// The call with messages whose memory is of the heap. None: it is an accessor.
 ///
 /// A list itself takes its memory from `alloc`.
 pub fn with_memory<'a>(
@@ -75,7 +75,7 @@ fn number_of(call: &Call<u64>) -> Option<u64> {
     }
 }
 
-/// The same call, if it sends one message, with this message.
+/// The call with this message, if it sends one.
 fn with_message<'a>(call: &Call<u64>, msg: Heavy<'a>) -> Call<Heavy<'a>>
     ensures { HasPositiveCapacity result }
 {
@@ -86,7 +86,7 @@ fn with_message<'a>(call: &Call<u64>, msg: Heavy<'a>) -> Call<Heavy<'a>>
     }
 }
 
-/// The same call, if it has no message and is no accessor.
+/// The call, if it has no message and is no accessor.
 fn without_message<'a>(call: &Call<u64>) -> Option<Call<Heavy<'a>>>
     requires { HasPositiveCapacity call.now }
     ensures { IfSome result HasPositiveCapacity }

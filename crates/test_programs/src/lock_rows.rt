@@ -5,8 +5,8 @@ ghost use Rattle.bcast_model.specs.Next.{HasPositiveCapacity};
 use asking::{Way, ask};
 use async_broadcast::{Lock, Port, Wake, WakerSlot};
 use bcast_core::{Call, Inner, Silent, step};
-use bcast_text::trace::line::{Line, read_line};
-use bcast_text::trace::opening::{Opening, read_opening};
+use bcast_trace::line::{Line, read_line};
+use bcast_trace::opening::{Opening, read_opening};
 use futures::test::MockTask;
 use seen::{Shows, differs};
 use std::alloc::{AllocError, AllocGlobal, Global};
@@ -20,7 +20,7 @@ pub mod beside;
 mod seen;
 
 /// The ways in which each trace is played.
-const WAYS: [Way; 4] = [Way::OwnBodies, Way::Ask, Way::AskWaiting, Way::LateLock];
+const WAYS: [Way; 4] = [Way::Typed, Way::Data, Way::Waiting, Way::LateLock];
 
 /// What is different on a lock and on a channel without one.
 #[derive(Clone, Copy, Debug)]

@@ -6,6 +6,7 @@
 
 mod arguments;
 mod cases;
+mod endings;
 mod failing;
 mod heavy;
 mod lock_rows;
@@ -32,6 +33,7 @@ fn main(rt: HostRuntime) -> io::Result<()> {
     tally.write(&mut output)?;
     lock_rows::beside::run(&rt, rt.alloc(), &mut output)?;
     unusual::run(rt.alloc(), &mut output)?;
+    endings::run(rt.alloc(), &mut output)?;
     arguments::run(rt.alloc(), &mut output)?;
     threads::run(&rt, rt.alloc(), &mut output)?;
     output.flush()

@@ -1,7 +1,8 @@
 //! A text played in one way.
 use crate::streams::{Bytes, Pieces, Taker};
-use bcast_play::{list, script, seeded_hub_script, trace};
+use bcast_play::{script, seeded_hub_script};
 use bcast_text::ending::Ending;
+use bcast_trace::{list, trace};
 use std::alloc::{Allocator, Global};
 use std::io::{BufWriter, Write};
 use std::{io, str};

@@ -3,8 +3,8 @@ ghost use Rattle.bcast_model.specs.Next.{HasPositiveCapacity};
 
 use crate::heavy::{Heavy, with_memory};
 use bcast_core::{Call, HandleError, Inner, Reply, Silent, step};
-use bcast_text::trace::line::{Line, read_line};
-use bcast_text::trace::opening::{Opening, read_opening};
+use bcast_trace::line::{Line, read_line};
+use bcast_trace::opening::{Opening, read_opening};
 use linked_list_allocator::LocalHeap;
 use std::alloc::{AllocError, Allocator, Global};
 use std::io;

@@ -1,8 +1,8 @@
 //! Traces played with notices that count how often they are called.
 use bcast_core::{Inner, Notice, step};
-use bcast_text::trace::line::{Line, read_line};
-use bcast_text::trace::opening::read_opening;
-use bcast_text::trace::reply::write_answer;
+use bcast_trace::line::{Line, read_line};
+use bcast_trace::opening::read_opening;
+use bcast_trace::reply::write_answer;
 use std::alloc::Global;
 use std::cell::Cell;
 use std::io;

@@ -105,7 +105,7 @@ fn parallel(rt: HostRuntime) -> Result<(), Fail> {
     play_two(rt, rt.alloc(), PARALLEL_SENDS, PARALLEL_RECEIVES)
 }
 
-// The same, with both sides waiting, and with two more messages.
+// As in `parallel`, with both sides waiting, and with two more messages.
 #[test]
 fn parallel_async(rt: HostRuntime) -> Result<(), Fail> {
     play_two(rt, rt.alloc(), WAITING_SENDS, WAITING_RECEIVES)

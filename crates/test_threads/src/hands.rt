@@ -22,12 +22,12 @@ pub enum Step {
     TrySendBoth(u64, u64),
     /// Waits until the message is accepted.
     Send(usize, u64),
-    /// The same, until the limit of the handles is over.
+    /// Waits until the message is accepted, or the limit of the handles is over.
     SendInTime(u64),
     TryRecv(usize),
     /// Waits until there is a message.
     Receive(usize),
-    /// The same, until the limit of the handles is over.
+    /// Waits until there is a message, or the limit of the handles is over.
     ReceiveInTime,
     /// Whether the channel keeps so many messages.
     Keeps(usize),

@@ -15,13 +15,13 @@ use std::time::Clock;
 /// How many messages each thread sends.
 const ROUNDS: u64 = 500;
 
-// Neither thread can finish alone: each waits for what the other sends.
+// No thread can finish alone: each waits for what the other sends.
 #[test]
 fn handshake(rt: HostRuntime) -> Result<(), Fail> {
     both_finish(rt, rt.alloc(), (Patience::Endless, Patience::Endless))
 }
 
-// The same, with random limits of time.
+// As in `handshake`, with random limits of time.
 #[test]
 fn handshake_with_limits(rt: HostRuntime) -> Result<(), Fail> {
     both_finish(

@@ -1,7 +1,7 @@
 //! Threads of one receiver: one that is woken and finds nothing to receive wakes the next one.
 use crate::steps::{pause, wait_for};
-use async_broadcast::{Call, Lock, Reply, TimedPort, Wake, WakerSlot};
-use bcast_core::Inner;
+use async_broadcast::{Lock, TimedPort, WakerSlot};
+use bcast_core::{AddReceiver, Close, Inner, TryBroadcast};
 use std::alloc::Global;
 use std::process::Abort;
 use std::sync::atomic::{AtomicU64, Ordering};
@@ -38,13 +38,14 @@ fn receive<P: TimedPort<u64, WakerSlot>>(
     counts: &Counts,
 ) {
     counts.begun.fetch_add(1, Ordering::SeqCst);
-    let reply = match limit {
-        Some(limit) => port.ask_timeout(Call::TryRecv(key), limit),
-        None => port.ask_waiting(Call::TryRecv(key)),
+    let has_message = match limit {
+        Some(limit) => matches!(port.receive_within(key, limit), Ok(Ok(7))),
+        None => matches!(port.receive_waiting(key), Ok(Ok(7))),
     };
-    let count = match reply {
-        Reply::TryRecv(Ok(Ok(7))) => &counts.received,
-        _ => &counts.ended,
+    let count = if has_message {
+        &counts.received
+    } else {
+        &counts.ended
     };
     count.fetch_add(1, Ordering::SeqCst);
 }
@@ -80,20 +81,18 @@ where
     R: Threads + Wait + Abort + Copy + Send + Drop + 'static,
     P: TimedPort<u64, WakerSlot> + Send + 'static,
 {
-    let Reply::NewReceiver(Ok(other)) = port.ask(Call::NewReceiver, Wake::none()) else {
-        return Err(Fail::from("no receiver"));
-    };
+    let other = port.ask(AddReceiver::New).ok().ok_or("no receiver")?;
     let counts = Arc::new(alloc, Counts::none())?;
     let threads = start(rt, alloc, &port, &[key, key, other], None, &counts)?;
     assert!(&rt; counts.received.load(Ordering::SeqCst) == 0, "all wait");
-    assert!(&rt; matches!(port.try_broadcast(7), Ok(None)));
+    assert!(&rt; matches!(port.ask(TryBroadcast(7)), Ok(None)));
     wait_for(
         &rt,
         &counts.received,
         2,
         "one thread of each receiver got it",
     );
-    assert!(&rt; matches!(port.ask(Call::Close, Wake::none()), Reply::Close(true)));
+    assert!(&rt; port.ask(Close));
     wait_for(&rt, &counts.ended, 1, "the third saw that it closed");
     for thread in threads {
         thread.join(&rt);

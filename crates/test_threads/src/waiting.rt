@@ -64,7 +64,7 @@ const RECEIVERS: &[(&str, Script, Script)] = &[
 /// One message, which fills a channel of capacity 1.
 const FULL: Script = &[(TrySend(0, 1), Done)];
 
-/// The same message, which one of two receivers has read.
+/// One message in a channel of capacity 1, which one of two receivers has read.
 const HALF_READ: Script = &[
     (Change(CloneReceiver), Done),
     (TrySend(0, 1), Done),

@@ -121,7 +121,7 @@ impl<S: Clone> Config<S> {
     }
 }
 
-// The same poll, whose steps are not counted.
+// The poll of a watcher, whose steps are not counted.
 fn poll_next<S: Clone, L: Ledger>(
     inner: &mut Inner<S, Silent>,
     watcher: usize,

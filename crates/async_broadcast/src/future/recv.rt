@@ -4,12 +4,11 @@ ghost use Rattle.futures.specs.Task.{Covers, IsArmed, Keeps};
 ghost use Rattle.futures.specs.Poll.{IfReady, OnPending};
 ghost use Rattle.async_broadcast.specs.Futures.{GivesReceived};
 
-use crate::asked::polls;
 use crate::handle::Handle;
 use crate::port::Ask;
 use crate::receiver::{Receiver, Receiving};
 use crate::wake::WakerSlot;
-use bcast_core::{Call, RecvError, Reply};
+use bcast_core::{Call, PollFuture, PollRecv, RecvError, Reply};
 use futures::Future;
 use futures::task::{Context, Poll};
 use std::alloc::{AllocError, Allocator, Global};
@@ -123,7 +122,10 @@ impl<T: Clone, P: Ask<T, WakerSlot<A>>, A: Allocator + Copy> Receiver<T, P, A> {
         ensures kept { Keeps cx.old cx.new }
     {
         let Receiving { key, waker } = &mut self.role;
-        polls::poll_recv::<T, WakerSlot<A>, P, _>(&self.port, *key, waker, cx)
+        match self.port.poll(PollRecv(*key), waker, cx) {
+            Ok(answer) => answer,
+            Err(_) => Err(AllocError),
+        }
     }
 }
 
@@ -178,13 +180,14 @@ impl<T: Clone, P: Ask<T, WakerSlot<A>>, A: Allocator + Copy> Future for Recv<'_,
         let receiver = &mut *self.receiver;
         let Handle { port, role, .. } = receiver;
         let Receiving { key, waker } = role;
-        match polls::poll_future::<T, WakerSlot<A>, P, _>(port, *key, waker, cx) {
-            Ok(Poll::Ready(answer)) => {
+        match port.poll(PollFuture(*key), waker, cx) {
+            Ok(Ok(Poll::Ready(answer))) => {
                 self.is_answered = true;
                 Poll::Ready(Ok(answer))
             }
-            Ok(Poll::Pending) => Poll::Pending,
-            Err(error) => Poll::Ready(Err(error)),
+            Ok(Ok(Poll::Pending)) => Poll::Pending,
+            Ok(Err(error)) => Poll::Ready(Err(error)),
+            Err(_) => Poll::Ready(Err(AllocError)),
         }
     }
 }

@@ -4,11 +4,10 @@ ghost use Rattle.futures.specs.Task.{Covers, Keeps};
 ghost use Rattle.futures.specs.Poll.{IfReady, OnPending};
 ghost use Rattle.async_broadcast.specs.Futures.{BeganSend, GivesSent, MustWait, RefusedSend};
 
-use crate::asked::{make, polls};
 use crate::port::Ask;
 use crate::sender::Sender;
 use crate::wake::{TaskWaker, WakerSlot};
-use bcast_core::{Call, NoMemory, Reply, SendError, SendPoll};
+use bcast_core::{BeginSend, Call, Change, NoMemory, PollSend, Reply, SendError, SendPoll};
 use futures::Future;
 use futures::task::{Context, Poll};
 use std::alloc::{Allocator, Global};
@@ -86,7 +85,7 @@ impl<T: Clone, P: Ask<T, WakerSlot<A>>, A: Allocator + Copy> Sender<T, P, A> {
         ensures refused { IfErr result (λ error. (error.0 ≡ msg)
             × P.gave self.now.port Call.BeginSend (Reply.BeginSend (Err alloc_error))) }
     {
-        match self.port.begin_send() {
+        match self.port.ask(BeginSend) {
             Ok(place) => Ok(Send {
                 sender: self,
                 place: Some(place),
@@ -126,7 +125,7 @@ impl<T: Clone, P: Ask<T, WakerSlot<A>>, A: Allocator> Sender<T, P, A> {
         ensures { IfSome place (λ place. P.gave self.now.port (Call.EndSend place) Reply.EndSend) }
     {
         if let Some(place) = place {
-            make!(self.port, EndSend(place));
+            self.port.ask(Change::EndSend(place));
         }
     }
 }
@@ -187,13 +186,8 @@ impl<T: Clone, P: Ask<T, WakerSlot<A>>, A: Allocator + Copy> Future for Send<'_,
             return Poll::Pending;
         };
         let sender = self.sender;
-        match polls::poll_send::<T, WakerSlot<A>, P, _>(
-            &sender.port,
-            place,
-            msg,
-            &mut self.waker,
-            cx,
-        ) {
+        let poll = PollSend(place, msg);
+        match sender.port.poll(poll, &mut self.waker, cx) {
             Ok(SendPoll::Ready(answer)) => {
                 self.place = None;
                 Poll::Ready(Ok(answer))
@@ -202,7 +196,7 @@ impl<T: Clone, P: Ask<T, WakerSlot<A>>, A: Allocator + Copy> Future for Send<'_,
                 self.msg = Some(msg);
                 Poll::Pending
             }
-            Err(error) => Poll::Ready(Err(error)),
+            Err(back) => Poll::Ready(Err(NoMemory(back.1))),
         }
     }
 }

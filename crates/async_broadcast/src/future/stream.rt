@@ -5,11 +5,10 @@ ghost use Rattle.futures.specs.Poll.{IfReady, OnPending};
 ghost use Rattle.futures.specs.Runs.{After, Within};
 ghost use Rattle.async_broadcast.specs.Futures.{YieldsItems};
 
-use crate::asked::polls;
 use crate::port::Ask;
 use crate::receiver::{Receiver, Receiving};
 use crate::wake::WakerSlot;
-use bcast_core::{Call, Reply};
+use bcast_core::{Call, PollNext, Reply};
 use futures::Stream;
 use futures::task::{Context, Poll};
 use std::alloc::{AllocError, Allocator};
@@ -44,11 +43,12 @@ impl<T: Clone, P: Ask<T, WakerSlot<A>>, A: Allocator + Copy> Stream for Receiver
         ensures key { self.new.role.key ≡ self.old.role.key }
     {
         let Receiving { key, waker } = &mut self.role;
-        match polls::poll_next::<T, WakerSlot<A>, P, _>(&self.port, *key, waker, cx) {
-            Ok(Poll::Ready(Some(next))) => Poll::Ready(Some(Ok(next.0))),
-            Ok(Poll::Ready(None)) => Poll::Ready(None),
-            Ok(Poll::Pending) => Poll::Pending,
-            Err(error) => Poll::Ready(Some(Err(error))),
+        match self.port.poll(PollNext(*key), waker, cx) {
+            Ok(Ok(Poll::Ready(Some(next)))) => Poll::Ready(Some(Ok(next.0))),
+            Ok(Ok(Poll::Ready(None))) => Poll::Ready(None),
+            Ok(Ok(Poll::Pending)) => Poll::Pending,
+            Ok(Err(error)) => Poll::Ready(Some(Err(error))),
+            Err(_) => Poll::Ready(Some(Err(AllocError))),
         }
     }
 }

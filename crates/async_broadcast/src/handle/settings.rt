@@ -2,10 +2,9 @@
 ghost use Rattle.std.specs.Prelude.{◌≡◌, ◌<◌};
 
 use super::{Handle, Role};
-use crate::asked::{ask, make};
 use crate::port::Ask;
 use crate::wake::WakerSlot;
-use bcast_core::{Call, Reply};
+use bcast_core::{Call, Change, Close, Count, Reply, SetCapacity, Test};
 use std::alloc::{AllocError, Allocator};
 
 impl<T: Clone, P: Ask<T, WakerSlot<A>>, K: Role<T>, A: Allocator + Copy> Handle<T, P, K, A> {
@@ -20,7 +19,7 @@ impl<T: Clone, P: Ask<T, WakerSlot<A>>, K: Role<T>, A: Allocator + Copy> Handle<
     pub fn capacity(&self) -> usize
         ensures { P.gave self.now.port Call.Capacity (Reply.Capacity result) }
     {
-        ask!(self.port, Capacity)
+        self.port.ask(Count::Capacity)
     }
 
     /// Changes how many messages the channel keeps at once.
@@ -47,7 +46,7 @@ impl<T: Clone, P: Ask<T, WakerSlot<A>>, K: Role<T>, A: Allocator + Copy> Handle<
         ensures asked { P.gave self.old.port (Call.SetCapacity new_cap) (Reply.SetCapacity result) }
         ensures same { self.new ≡ self.old }
     {
-        ask!(self.port, SetCapacity(new_cap))
+        self.port.ask(SetCapacity(new_cap))
     }
 
     /// Whether a full channel drops its oldest message to accept a new one.
@@ -63,7 +62,7 @@ impl<T: Clone, P: Ask<T, WakerSlot<A>>, K: Role<T>, A: Allocator + Copy> Handle<
     pub fn overflow(&self) -> bool
         ensures { P.gave self.now.port Call.Overflow (Reply.Overflow result) }
     {
-        ask!(self.port, Overflow)
+        self.port.ask(Test::Overflow)
     }
 
     /// Sets whether a full channel drops its oldest message to accept a new one.
@@ -82,7 +81,7 @@ impl<T: Clone, P: Ask<T, WakerSlot<A>>, K: Role<T>, A: Allocator + Copy> Handle<
         ensures asked { P.gave self.old.port (Call.SetOverflow overflow) Reply.SetOverflow }
         ensures same { self.new ≡ self.old }
     {
-        make!(self.port, SetOverflow(overflow))
+        self.port.ask(Change::SetOverflow(overflow))
     }
 
     /// Whether sends that may wait do so while there is no active receiver.
@@ -98,7 +97,7 @@ impl<T: Clone, P: Ask<T, WakerSlot<A>>, K: Role<T>, A: Allocator + Copy> Handle<
     pub fn await_active(&self) -> bool
         ensures { P.gave self.now.port Call.AwaitActive (Reply.AwaitActive result) }
     {
-        ask!(self.port, AwaitActive)
+        self.port.ask(Test::AwaitActive)
     }
 
     /// Sets whether sends that may wait do so while there is no active receiver.
@@ -117,7 +116,7 @@ impl<T: Clone, P: Ask<T, WakerSlot<A>>, K: Role<T>, A: Allocator + Copy> Handle<
             Reply.SetAwaitActive }
         ensures same { self.new ≡ self.old }
     {
-        make!(self.port, SetAwaitActive(await_active))
+        self.port.ask(Change::SetAwaitActive(await_active))
     }
 
     /// Closes the channel, and returns whether it was open.
@@ -134,7 +133,7 @@ impl<T: Clone, P: Ask<T, WakerSlot<A>>, K: Role<T>, A: Allocator + Copy> Handle<
     pub fn close(&self) -> bool
         ensures { P.gave self.now.port Call.Close (Reply.Close result) }
     {
-        ask!(self.port, Close)
+        self.port.ask(Close)
     }
 
     /// Whether the channel is closed.
@@ -150,7 +149,7 @@ impl<T: Clone, P: Ask<T, WakerSlot<A>>, K: Role<T>, A: Allocator + Copy> Handle<
     pub fn is_closed(&self) -> bool
         ensures { P.gave self.now.port Call.IsClosed (Reply.IsClosed result) }
     {
-        ask!(self.port, IsClosed)
+        self.port.ask(Test::IsClosed)
     }
 
     /// Whether the channel keeps no message.
@@ -166,7 +165,7 @@ impl<T: Clone, P: Ask<T, WakerSlot<A>>, K: Role<T>, A: Allocator + Copy> Handle<
     pub fn is_empty(&self) -> bool
         ensures { P.gave self.now.port Call.IsEmpty (Reply.IsEmpty result) }
     {
-        ask!(self.port, IsEmpty)
+        self.port.ask(Test::IsEmpty)
     }
 
     /// Whether the channel keeps as many messages as its capacity allows.
@@ -182,7 +181,7 @@ impl<T: Clone, P: Ask<T, WakerSlot<A>>, K: Role<T>, A: Allocator + Copy> Handle<
     pub fn is_full(&self) -> bool
         ensures { P.gave self.now.port Call.IsFull (Reply.IsFull result) }
     {
-        ask!(self.port, IsFull)
+        self.port.ask(Test::IsFull)
     }
 
     /// The number of messages that the channel keeps.
@@ -197,7 +196,7 @@ impl<T: Clone, P: Ask<T, WakerSlot<A>>, K: Role<T>, A: Allocator + Copy> Handle<
     pub fn len(&self) -> usize
         ensures { P.gave self.now.port Call.Len (Reply.Len result) }
     {
-        ask!(self.port, Len)
+        self.port.ask(Count::Len)
     }
 
     /// The number of active receivers.
@@ -212,7 +211,7 @@ impl<T: Clone, P: Ask<T, WakerSlot<A>>, K: Role<T>, A: Allocator + Copy> Handle<
     pub fn receiver_count(&self) -> usize
         ensures { P.gave self.now.port Call.ReceiverCount (Reply.ReceiverCount result) }
     {
-        ask!(self.port, ReceiverCount)
+        self.port.ask(Count::ReceiverCount)
     }
 
     /// The number of inactive receivers.
@@ -228,7 +227,7 @@ impl<T: Clone, P: Ask<T, WakerSlot<A>>, K: Role<T>, A: Allocator + Copy> Handle<
         ensures { P.gave self.now.port Call.InactiveReceiverCount
             (Reply.InactiveReceiverCount result) }
     {
-        ask!(self.port, InactiveReceiverCount)
+        self.port.ask(Count::InactiveReceiverCount)
     }
 
     /// The number of senders.
@@ -243,6 +242,6 @@ impl<T: Clone, P: Ask<T, WakerSlot<A>>, K: Role<T>, A: Allocator + Copy> Handle<
     pub fn sender_count(&self) -> usize
         ensures { P.gave self.now.port Call.SenderCount (Reply.SenderCount result) }
     {
-        ask!(self.port, SenderCount)
+        self.port.ask(Count::SenderCount)
     }
 }

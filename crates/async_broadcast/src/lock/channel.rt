@@ -34,17 +34,10 @@ impl<T: Clone, A: Allocator + Copy, K: Keep<T>> Channel<T, A, K> {
         }
     }
 
-    /// Releases the lock, and then wakes these threads.
-    #[inline(always)]
-    pub(super) fn unlock(&self, state: Locked<'_, T, A, K>, woken: Option<Woken>) {
-        if let Some(woken) = woken {
-            self.unlock_for(state, woken);
-        }
-    }
-
-    // In a function of its own, so that a call while no thread waits costs one test.
+    /// Releases the lock, and then wakes these threads. In a function of its own, so that a call
+    /// while no thread waits costs one test.
     #[inline(never)]
-    fn unlock_for(&self, state: Locked<'_, T, A, K>, woken: Woken) {
+    pub(super) fn unlock(&self, state: Locked<'_, T, A, K>, woken: Woken) {
         drop(state);
         woken.wake(&self.ready, &self.news);
     }
@@ -89,76 +82,5 @@ macro_rules! look {
     }};
 }
 
-/// Makes a call on the channel of a locked state, names its reply, and keeps the call, as `made`
-/// shows it. It is added to what is known.
-macro_rules! kept {
-    (
-        $rt:expr,
-        $known:expr,
-        $locked:ident,
-        |$inner:ident| $call:expr,
-        |$reply:ident| $made:expr
-    ) => {
-        let before = std::snapshot::Snapshot::of(&$locked.inner);
-        let $inner = &mut $locked.inner;
-        let $reply = $call;
-        $locked.kept.keep($rt, $known, &$made, &before, &$locked.inner);
-    };
-}
-
-/// Makes a call on the channel of a port, while its lock is held, keeps it, and then wakes the
-/// threads that can do something.
-macro_rules! locked {
-    ($port:expr, $known:expr, |$inner:ident| $call:expr, |$reply:ident| $made:expr) => {{
-        let channel = &*$port.channel;
-        let mut state = lock!(channel, &$port.rt);
-        let locked = &mut *state;
-        kept!(&$port.rt, $known, locked, |$inner| $call, |$reply| $made);
-        let woken = locked.threads.note(&locked.inner);
-        channel.unlock(state, woken);
-        $reply
-    }};
-}
-
-/// Sends a message on the channel of a port, if it can be sent, and adds the call to what is known.
-macro_rules! try_broadcast_locked {
-    ($port:expr, $known:expr, $msg:ident) => {{
-        let msg_shown = std::snapshot::Snapshot::of(&$msg);
-        locked!(
-            $port,
-            $known,
-            |inner| inner.try_broadcast($msg),
-            |sent| {
-                $crate::lock::made::TriedToSend {
-                    msg: msg_shown,
-                    sent: &sent
-                }
-            }
-        )
-    }};
-}
-
-/// Receives the next message from the channel of a port, if there is one, and adds the call to what
-/// is known.
-macro_rules! try_recv_locked {
-    ($port:expr, $known:expr, $key:ident) => {
-        locked!(
-            $port,
-            $known,
-            |inner| inner.try_recv($key),
-            |answer| {
-                $crate::lock::made::TriedToReceive {
-                    key: $key,
-                    answer: &answer
-                }
-            }
-        )
-    };
-}
-
-pub(super) use kept;
 pub(super) use lock;
-pub(super) use locked;
 pub(super) use look;
-pub(super) use try_broadcast_locked;
-pub(super) use try_recv_locked;

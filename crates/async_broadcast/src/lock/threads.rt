@@ -53,7 +53,8 @@ impl Woken {
 /// there is something for it.
 pub(super) struct WaitingToSend(());
 
-/// The same for a thread that waits for a message, with what it knew when it began (`news`).
+/// A thread that is counted as one that waits for a message, with what it knew when it began
+/// (`news`). It has to be given to `end_waiting_to_receive`.
 pub(super) struct WaitingToReceive {
     known: (u64, bool),
 }

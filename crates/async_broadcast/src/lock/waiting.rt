@@ -1,14 +1,17 @@
 //! Calls of threads that wait until they are answered, or their time is over.
 ghost use Rattle.std.specs.Prelude.{◌≡◌, true, false, not};
 ghost use Rattle.bcast_model.specs.Answers.{IsPossible};
-ghost use Rattle.async_broadcast.specs.Kinds.{may_wait, is_answer};
+ghost use Rattle.async_broadcast.specs.Ports.{is_answer, as_try_recv};
+ghost use Rattle.async_broadcast.specs.Timed.{as_attempt, as_timed_try};
 
 use super::Lock;
-use super::channel::{kept, lock};
+use super::channel::lock;
 use super::limit::Limit;
-use super::made::{AttemptedToSend, TriedToReceive};
 use crate::keep::Keep;
-use bcast_core::{Call, Reply, SendPoll, TryRecvError};
+use crate::timed::{RecvTimeoutError, SendTimeoutError};
+use bcast_core::{
+    AtOnce, AttemptSend, Call, RecvError, Reply, SendError, SendPoll, TryRecv, TryRecvError,
+};
 use std::alloc::{AllocError, Allocator};
 use std::snapshot::Snapshot;
 use std::sync::Wait;
@@ -17,28 +20,14 @@ use std::thread::yield_now;
 type Received<T> = Result<Result<T, TryRecvError>, AllocError>;
 
 impl<T: Clone, R: Wait + Clone, A: Allocator + Copy, K: Keep<T>> Lock<T, R, A, K> {
-    /// Makes an `AttemptSend` or a `TryRecv`, and waits while it must. `Wait` or `Empty`: the time
-    /// is over. `known` is told of the last try.
-    pub(crate) fn ask_within<L: Limit<R>>(
+    /// Sends a message, and waits while it must. `Wait`: the time is over. `known` is told of the
+    /// last try.
+    pub(super) fn send_until<L: Limit<R>>(
         &self,
         known: &mut K::Known,
-        call: Call<T>,
+        msg: T,
         limit: &L,
-    ) -> Reply<T>
-        requires { may_wait call ≡ true }
-        ensures learned { K.learns known.old call result known.new }
-        ensures reply { IsPossible T.is_clone call result }
-        ensures answered { L.is_endless → is_answer result ≡ true }
-    {
-        match call {
-            Call::AttemptSend(msg) => Reply::AttemptSend(self.send_waiting(known, msg, limit)),
-            Call::TryRecv(key) => Reply::TryRecv(self.receive_waiting(known, key, limit)),
-            _ => unreachable!(),
-        }
-    }
-
-    // Sends a message, and waits while it must. `Wait`: the time is over.
-    fn send_waiting<L: Limit<R>>(&self, known: &mut K::Known, msg: T, limit: &L) -> SendPoll<T>
+    ) -> SendPoll<T>
         ensures learned { K.learns known.old (Call.AttemptSend msg) (Reply.AttemptSend result)
             known.new }
         ensures reply { IsPossible T.is_clone (Call.AttemptSend msg) (Reply.AttemptSend result) }
@@ -73,56 +62,47 @@ impl<T: Clone, R: Wait + Clone, A: Allocator + Copy, K: Keep<T>> Lock<T, R, A, K
             (Reply.AttemptSend result.0) }
         ensures endless { L.is_endless → result.1 ≡ false }
     {
-        let msg_shown = Snapshot::of(&msg);
         let channel = &*self.channel;
-        let mut state = lock!(channel, &self.rt);
-        let locked = &mut *state;
-        kept!(
-            &self.rt,
-            known,
-            locked,
-            |inner| inner.attempt_send(msg),
-            |sent| {
-                AttemptedToSend {
-                    msg: msg_shown,
-                    sent: &sent
-                }
-            }
-        );
+        let mut guard = lock!(channel, &self.rt);
+        let state = &mut *guard;
+        let call = AttemptSend(msg);
+        let asked = Snapshot::of(&call);
+        let before = Snapshot::of(&state.inner);
+        let sent = call.make(&mut state.inner);
+        state
+            .kept
+            .keep(&self.rt, known, &asked, &sent, &before, &state.inner);
         if !waits || !must_wait(&sent) {
-            let woken = locked.threads.note(&locked.inner);
-            channel.unlock(state, woken);
+            if let Some(woken) = state.threads.note(&state.inner) {
+                channel.unlock(guard, woken);
+            }
             return (sent, false);
         }
         let back = match sent {
             SendPoll::Wait(back) => back,
             SendPoll::Ready(_answer) => unreachable!(),
         };
-        let waiting = locked.threads.begin_to_send();
-        let woken = locked.threads.note(&locked.inner);
-        let (mut state, is_over) = channel.wait(&self.rt, &channel.ready, state, woken, limit);
-        let locked = &mut *state;
-        let back_shown = Snapshot::of(&back);
-        kept!(
-            &self.rt,
-            known,
-            locked,
-            |inner| inner.attempt_send(back),
-            |sent| {
-                AttemptedToSend {
-                    msg: back_shown,
-                    sent: &sent
-                }
-            }
-        );
-        locked.threads.end_waiting_to_send(waiting);
-        let woken = locked.threads.note(&locked.inner);
-        channel.unlock(state, woken);
+        let waiting = state.threads.begin_to_send();
+        let woken = state.threads.note(&state.inner);
+        let (mut guard, is_over) = channel.wait(&self.rt, &channel.ready, guard, woken, limit);
+        let state = &mut *guard;
+        let call = AttemptSend(back);
+        let asked = Snapshot::of(&call);
+        let before = Snapshot::of(&state.inner);
+        let sent = call.make(&mut state.inner);
+        state
+            .kept
+            .keep(&self.rt, known, &asked, &sent, &before, &state.inner);
+        state.threads.end_waiting_to_send(waiting);
+        if let Some(woken) = state.threads.note(&state.inner) {
+            channel.unlock(guard, woken);
+        }
         (sent, is_over)
     }
 
-    // Receives a message, and waits while there is none. `Empty`: the time is over.
-    fn receive_waiting<L: Limit<R>>(
+    /// Receives a message, and waits while there is none. `Empty`: the time is over. `known` is told
+    /// of the last try.
+    pub(super) fn receive_until<L: Limit<R>>(
         &self,
         known: &mut K::Known,
         key: usize,
@@ -159,44 +139,36 @@ impl<T: Clone, R: Wait + Clone, A: Allocator + Copy, K: Keep<T>> Lock<T, R, A, K
         ensures endless { L.is_endless → result.1 ≡ false }
     {
         let channel = &*self.channel;
-        let mut state = lock!(channel, &self.rt);
-        let locked = &mut *state;
-        kept!(
-            &self.rt,
-            known,
-            locked,
-            |inner| inner.try_recv(key),
-            |answer| {
-                TriedToReceive {
-                    key,
-                    answer: &answer
-                }
-            }
-        );
+        let mut guard = lock!(channel, &self.rt);
+        let state = &mut *guard;
+        let call = TryRecv(key);
+        let asked = Snapshot::of(&call);
+        let before = Snapshot::of(&state.inner);
+        let answer = call.make(&mut state.inner);
+        state
+            .kept
+            .keep(&self.rt, known, &asked, &answer, &before, &state.inner);
         if !waits || !is_empty(&answer) {
-            let woken = locked.threads.note(&locked.inner);
-            channel.unlock(state, woken);
+            if let Some(woken) = state.threads.note(&state.inner) {
+                channel.unlock(guard, woken);
+            }
             return (answer, false);
         }
-        let waiting = locked.threads.begin_to_receive(&locked.inner);
-        let woken = locked.threads.note(&locked.inner);
-        let (mut state, is_over) = channel.wait(&self.rt, &channel.news, state, woken, limit);
-        let locked = &mut *state;
-        kept!(
-            &self.rt,
-            known,
-            locked,
-            |inner| inner.try_recv(key),
-            |answer| {
-                TriedToReceive {
-                    key,
-                    answer: &answer
-                }
-            }
-        );
-        locked.threads.end_waiting_to_receive(waiting);
-        let woken = locked.threads.note(&locked.inner);
-        channel.unlock(state, woken);
+        let waiting = state.threads.begin_to_receive(&state.inner);
+        let woken = state.threads.note(&state.inner);
+        let (mut guard, is_over) = channel.wait(&self.rt, &channel.news, guard, woken, limit);
+        let state = &mut *guard;
+        let call = TryRecv(key);
+        let asked = Snapshot::of(&call);
+        let before = Snapshot::of(&state.inner);
+        let answer = call.make(&mut state.inner);
+        state
+            .kept
+            .keep(&self.rt, known, &asked, &answer, &before, &state.inner);
+        state.threads.end_waiting_to_receive(waiting);
+        if let Some(woken) = state.threads.note(&state.inner) {
+            channel.unlock(guard, woken);
+        }
         (answer, is_over)
     }
 }
@@ -211,4 +183,57 @@ fn is_empty<T>(answer: &Received<T>) -> bool
     ensures { is_answer (Reply.TryRecv answer.now) ≡ not result }
 {
     matches!(answer, Ok(Err(TryRecvError::Empty)))
+}
+
+/// What a send returned that needn't wait.
+pub(super) fn answer_of_send<T>(sent: SendPoll<T>) -> Result<Option<T>, SendError<T>>
+    requires { is_answer (Reply.AttemptSend sent) ≡ true }
+    ensures { SendPoll.Ready result ≡ sent }
+{
+    match sent {
+        SendPoll::Ready(answer) => answer,
+        SendPoll::Wait(_) => unreachable!(),
+    }
+}
+
+/// What a receive returned that found a message, or that there will be none.
+pub(super) fn answer_of_receive<T>(
+    received: Result<Result<T, TryRecvError>, AllocError>,
+) -> Result<Result<T, RecvError>, AllocError>
+    requires { is_answer (Reply.TryRecv received) ≡ true }
+    ensures { as_try_recv result ≡ received }
+{
+    match received {
+        Ok(Ok(msg)) => Ok(Ok(msg)),
+        Ok(Err(TryRecvError::Overflowed(n))) => Ok(Err(RecvError::Overflowed(n))),
+        Ok(Err(TryRecvError::Closed)) => Ok(Err(RecvError::Closed)),
+        Ok(Err(TryRecvError::Empty)) => unreachable!(),
+        Err(error) => Err(error),
+    }
+}
+
+/// What a send returned before its time was over, or that it is over.
+pub(super) fn sent_in_time<T>(sent: SendPoll<T>) -> Result<Option<T>, SendTimeoutError<T>>
+    ensures { as_attempt result ≡ sent }
+{
+    match sent {
+        SendPoll::Ready(Ok(dropped)) => Ok(dropped),
+        SendPoll::Ready(Err(SendError(back))) => Err(SendTimeoutError::Refused(back)),
+        SendPoll::Wait(back) => Err(SendTimeoutError::Timeout(back)),
+    }
+}
+
+/// What a receive returned before its time was over, or that it is over.
+pub(super) fn received_in_time<T>(
+    received: Result<Result<T, TryRecvError>, AllocError>,
+) -> Result<Result<T, RecvTimeoutError>, AllocError>
+    ensures { as_timed_try result ≡ received }
+{
+    match received {
+        Ok(Ok(msg)) => Ok(Ok(msg)),
+        Ok(Err(TryRecvError::Overflowed(n))) => Ok(Err(RecvTimeoutError::Overflowed(n))),
+        Ok(Err(TryRecvError::Empty)) => Ok(Err(RecvTimeoutError::Timeout)),
+        Ok(Err(TryRecvError::Closed)) => Ok(Err(RecvTimeoutError::Closed)),
+        Err(error) => Err(error),
+    }
 }

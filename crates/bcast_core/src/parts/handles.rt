@@ -10,7 +10,7 @@ use std::alloc::Allocator;
 
 impl<T: Drop, N: Notice, A: Allocator + Copy> Parts<T, N, A> {
     ghost use Rattle.bcast_model.specs.Words.{IsValidView, with_cursor, without_receiver, settle};
-    ghost use Rattle.bcast_model.specs.Words.{sets, cursor_of};
+    ghost use Rattle.bcast_model.specs.Words.{sets, cursor_of, pair_ended, stream_of, future_of};
 
     /// Adds a receiver that reads the message of this number next, under a key that none has.
     #[inline(always)]
@@ -37,6 +37,7 @@ impl<T: Drop, N: Notice, A: Allocator + Copy> Parts<T, N, A> {
     }
 
     // Removes a receiver's cursor, and drops the messages that no receiver has to read any more.
+    #[inline(always)]
     fn remove_cursor(&mut self, key: usize)
         requires { is_some (cursor_of self.old.control key) ≡ true }
         ensures { self.new ≡ settle self.old
@@ -52,9 +53,21 @@ impl<T: Drop, N: Notice, A: Allocator + Copy> Parts<T, N, A> {
         requires there { is_some (cursor_of self.old.control key) ≡ true }
         ensures { self.new ≡ settle self.old (sets (without_receiver self.old.control key)) }
     {
+        if !self.receives.is_empty() {
+            self.end_listeners(key);
+        }
+        self.remove_cursor(key);
+    }
+
+    // In a function of its own, so that a receiver that leaves while none waits costs one test.
+    #[inline(never)]
+    fn end_listeners(&mut self, key: usize)
+        ensures { self.new ≡ record self.old {
+          control = pair_ended (pair_ended self.old.control (stream_of key)) (future_of key);
+        } }
+    {
         let _ = self.pair_ended(key, Kind::Stream);
         let _ = self.pair_ended(key, Kind::Future);
-        self.remove_cursor(key);
     }
 
     pub fn set_senders(&mut self, senders: usize)

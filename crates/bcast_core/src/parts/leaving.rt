@@ -26,6 +26,7 @@ impl<T: Drop, N: Notice, A: Allocator + Copy> Parts<T, N, A> {
         Ok(())
     }
 
+    #[inline(always)]
     pub fn drop_sender(&mut self)
         requires { IsValidView self.old }
         ensures { Does NoClone self.old call.DropSender reply.DropSender self.new }

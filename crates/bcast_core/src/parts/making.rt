@@ -12,6 +12,7 @@ use bcast_waiting::notice::Notice;
 use std::alloc::Allocator;
 
 impl<T: Drop, N: Notice, A: Allocator + Copy> Parts<T, N, A> {
+    #[inline(always)]
     pub fn new_sender(&mut self) -> Result<(), HandleError>
         requires { IsValidView self.old }
         ensures { Does NoClone self.old call.NewSender (reply.NewSender result) self.new }
@@ -76,6 +77,7 @@ impl<T: Drop, N: Notice, A: Allocator + Copy> Parts<T, N, A> {
         self.add_receiver(self.end())
     }
 
+    #[inline(always)]
     pub fn clone_receiver(&mut self, key: usize) -> Result<usize, HandleError>
         requires { IsValidView self.old }
         ensures does { Does NoClone self.old (call.CloneReceiver key) (reply.CloneReceiver result)

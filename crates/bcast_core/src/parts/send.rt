@@ -149,7 +149,7 @@ impl<T: Drop, N: Notice, A: Allocator + Copy> Parts<T, N, A> {
         Ok(oldest)
     }
 
-    /// The same for a send that may wait.
+    /// Accepts a message as `offer` does, for a send that may wait.
     #[inline(always)]
     pub fn attempt(&mut self, msg: T) -> SendPoll<T>
         requires { IsValidView self.old }

@@ -17,6 +17,7 @@ impl<T: Drop, N: Notice, A: Allocator + Copy> Inner<T, N, A> {
     ///
     /// Source: `Sender::clone` and `new_sender` of async-broadcast; the refusal is this crate's
     /// own.
+    #[inline(always)]
     pub fn new_sender(&mut self) -> Result<(), HandleError>
         ensures { Answers NoClone self.old call.NewSender (reply.NewSender result) self.new }
     {
@@ -122,6 +123,7 @@ impl<T: Drop, N: Notice, A: Allocator + Copy> Inner<T, N, A> {
     /// - `Memory`: memory for the new one was refused.
     ///
     /// Source: `Receiver::clone` of async-broadcast.
+    #[inline(always)]
     pub fn clone_receiver(&mut self, key: usize) -> Result<usize, HandleError>
         ensures { Answers NoClone self.old (call.CloneReceiver key) (reply.CloneReceiver result)
             self.new }
@@ -135,6 +137,7 @@ impl<T: Drop, N: Notice, A: Allocator + Copy> Inner<T, N, A> {
     /// nothing changes.
     ///
     /// Source: the drop of `Sender` of async-broadcast.
+    #[inline(always)]
     pub fn drop_sender(&mut self)
         ensures { Answers NoClone self.old call.DropSender reply.DropSender self.new }
     {

@@ -61,7 +61,7 @@ impl<T: Drop, N: Notice, A: Allocator + Copy> Inner<T, N, A> {
         in_vec(self.offer_all(Messages::new(msgs)))
     }
 
-    // The same for `Messages`.
+    // Sends a list as `try_broadcast_all` does.
     pub(crate) fn offer_all(&mut self, msgs: Messages<T>) -> Result<(), TrySendError<Messages<T>>>
         ensures { Answers NoClone self.old (call.TryBroadcastAll msgs)
             (reply.TryBroadcastAll result) self.new }
@@ -122,8 +122,8 @@ impl<T: Drop, N: Notice, A: Allocator + Copy> Inner<T, N, A> {
         }
     }
 
-    // The same with a maker of the notice, which is used if the send must wait. If it makes no
-    // notice, the message is handed back and nothing changed.
+    // Tries a pending send as `poll_send` does, with a maker of the notice, which is used if the send
+    // must wait. If it makes no notice, the message is handed back and nothing changed.
     #[inline(always)]
     pub(crate) fn poll_send_by<M: MakesNotice<N>>(
         &mut self,

@@ -32,6 +32,7 @@ impl<T: Drop, N: Notice, A: Allocator + Copy> Inner<T, N, A> {
     /// Nothing changed.
     ///
     /// Source: `set_capacity` of async-broadcast.
+    #[inline(always)]
     pub fn set_capacity(&mut self, n: usize) -> Result<(), AllocError>
         requires { 0 < n }
         ensures { Answers NoClone self.old (call.SetCapacity n) (reply.SetCapacity result)

@@ -1,7 +1,7 @@
 //! The answers of a script, as text.
-ghost use Rattle.std.specs.Prelude.{◌≡◌, ◌≢◌, ◌↔◌, Err, OnOk, IsNone, IsSome, IfSome, ◌++◌, ◌∷◌, []};
+ghost use Rattle.std.specs.Prelude.{◌≡◌, ◌≢◌, ◌↔◌, Some, Err, OnOk, IsNone, IsSome, IfSome, ◌++◌, ◌∷◌, []};
 ghost use Rattle.std.specs.Io.KnownBytes.{Appends};
-ghost use Rattle.bcast_text.specs.ScriptAnswer.{answer_of};
+ghost use Rattle.bcast_text.specs.ScriptAnswer.{answer_of, words_text};
 
 use crate::input::Fault;
 use bcast_model::error::{HandleError, TryRecvError, TrySendError};
@@ -22,39 +22,47 @@ pub fn answer<W: Write>(reply: &Reply<u64>, output: &mut W) -> Result<(), Fault>
     ensures not_a_call { result ≢ Err Fault.NotACall }
     ensures no_memory { (result ≡ Err Fault.NoMemory) ↔ IsNone (answer_of reply.now) }
 {
-    match reply {
-        Reply::TryBroadcast(Ok(None)) => output.write_all(b"ok\n")?,
-        Reply::TryBroadcast(Ok(Some(oldest))) => writeln!(output, "ok dropped {oldest}")?,
-        Reply::TryBroadcast(Err(TrySendError::Full(msg))) => writeln!(output, "full {msg}")?,
-        Reply::TryBroadcast(Err(TrySendError::Closed(msg))) => writeln!(output, "closed {msg}")?,
-        Reply::TryBroadcast(Err(TrySendError::Inactive(msg))) => {
-            writeln!(output, "inactive {msg}")?
-        }
-        Reply::TryBroadcastAll(Ok(())) => output.write_all(b"ok\n")?,
-        Reply::TryBroadcastAll(Err(TrySendError::Full(_))) => output.write_all(b"full all\n")?,
-        Reply::TryBroadcastAll(Err(TrySendError::Closed(_))) => output.write_all(b"closed all\n")?,
-        Reply::TryBroadcastAll(Err(TrySendError::Inactive(_))) => {
-            output.write_all(b"inactive all\n")?
-        }
-        Reply::TryRecv(Ok(Ok(msg))) => writeln!(output, "got {msg}")?,
-        Reply::TryRecv(Ok(Err(TryRecvError::Overflowed(n)))) => writeln!(output, "overflowed {n}")?,
-        Reply::TryRecv(Ok(Err(TryRecvError::Empty))) => output.write_all(b"empty\n")?,
-        Reply::TryRecv(Ok(Err(TryRecvError::Closed))) => output.write_all(b"closed\n")?,
-        Reply::Close(closed) => writeln!(output, "{closed}")?,
-        Reply::Len(len) => writeln!(output, "{len}")?,
-        Reply::SetCapacity(Ok(())) => output.write_all(b"ok\n")?,
-        Reply::SetOverflow | Reply::SetAwaitActive => output.write_all(b"ok\n")?,
-        Reply::DropSender | Reply::DropInactive | Reply::DropReceiver => {
-            output.write_all(b"ok\n")?
-        }
-        Reply::NewSender(Ok(())) | Reply::Deactivate(Ok(())) => output.write_all(b"ok\n")?,
-        Reply::CloneReceiver(Ok(_)) | Reply::NewReceiver(Ok(_)) | Reply::Activate(Ok(_)) => {
-            output.write_all(b"ok\n")?
-        }
-        Reply::NewSender(Err(HandleError::TooMany))
-        | Reply::Deactivate(Err(HandleError::TooMany)) => output.write_all(b"too many\n")?,
-        Reply::Activate(Err(HandleError::Gone)) => output.write_all(b"gone\n")?,
-        _ => return Err(Fault::NoMemory),
+    match words_of(reply) {
+        Some((words, None)) => writeln!(output, "{words}")?,
+        Some((words, Some(number))) => writeln!(output, "{words}{number}")?,
+        None => return Err(Fault::NoMemory),
     }
     Ok(())
+}
+
+/// The words of the answer to `reply`, and the number that follows them. None: it has no answer.
+fn words_of(reply: &Reply<u64>) -> Option<(&'static str, Option<u64>)>
+    ensures some { IfSome result (λ words.
+        answer_of reply.now ≡ Some (words_text words.0.now words.1)) }
+    ensures none { IsNone result → IsNone (answer_of reply.now) }
+{
+    Some(match reply {
+        Reply::TryBroadcast(Ok(None)) => ("ok", None),
+        Reply::TryBroadcast(Ok(Some(oldest))) => ("ok dropped ", Some(*oldest)),
+        Reply::TryBroadcast(Err(TrySendError::Full(msg))) => ("full ", Some(*msg)),
+        Reply::TryBroadcast(Err(TrySendError::Closed(msg))) => ("closed ", Some(*msg)),
+        Reply::TryBroadcast(Err(TrySendError::Inactive(msg))) => ("inactive ", Some(*msg)),
+        Reply::TryBroadcastAll(Ok(())) => ("ok", None),
+        Reply::TryBroadcastAll(Err(TrySendError::Full(_))) => ("full all", None),
+        Reply::TryBroadcastAll(Err(TrySendError::Closed(_))) => ("closed all", None),
+        Reply::TryBroadcastAll(Err(TrySendError::Inactive(_))) => ("inactive all", None),
+        Reply::TryRecv(Ok(Ok(msg))) => ("got ", Some(*msg)),
+        Reply::TryRecv(Ok(Err(TryRecvError::Overflowed(n)))) => ("overflowed ", Some(*n)),
+        Reply::TryRecv(Ok(Err(TryRecvError::Empty))) => ("empty", None),
+        Reply::TryRecv(Ok(Err(TryRecvError::Closed))) => ("closed", None),
+        Reply::Close(true) => ("true", None),
+        Reply::Close(false) => ("false", None),
+        Reply::Len(len) => ("", Some(*len as u64)),
+        Reply::SetCapacity(Ok(())) => ("ok", None),
+        Reply::SetOverflow | Reply::SetAwaitActive => ("ok", None),
+        Reply::DropSender | Reply::DropInactive | Reply::DropReceiver => ("ok", None),
+        Reply::NewSender(Ok(())) | Reply::Deactivate(Ok(())) => ("ok", None),
+        Reply::CloneReceiver(Ok(_)) | Reply::NewReceiver(Ok(_)) | Reply::Activate(Ok(_)) => {
+            ("ok", None)
+        }
+        Reply::NewSender(Err(HandleError::TooMany))
+        | Reply::Deactivate(Err(HandleError::TooMany)) => ("too many", None),
+        Reply::Activate(Err(HandleError::Gone)) => ("gone", None),
+        _ => return None,
+    })
 }

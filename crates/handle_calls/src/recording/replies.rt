@@ -1,6 +1,5 @@
 //! What a recording port replies.
-ghost use Rattle.std.specs.Prelude.{◌≡◌, true};
-ghost use Rattle.async_broadcast.specs.Kinds.{HandsBack, IsOfKind, may_wait, is_answer};
+ghost use Rattle.bcast_core.specs.Kinds.{HandsBack, IsOfKind};
 
 use async_broadcast::{
     Call, HandleError, Messages, RecvError, Reply, SendError, SendPoll, TryRecvError, TrySendError,
@@ -82,18 +81,6 @@ pub(super) fn reply_to(outcome: Outcome, call: Call<u64>) -> Reply<u64>
     }
 }
 
-pub(super) fn waited_reply_to(outcome: Outcome, call: Call<u64>) -> Reply<u64>
-    requires { may_wait call ≡ true }
-    ensures reply { IsOfKind call result }
-    ensures answered { is_answer result ≡ true }
-{
-    match call {
-        Call::AttemptSend(msg) => Reply::AttemptSend(SendPoll::Ready(answered(outcome, msg))),
-        Call::TryRecv(_) => Reply::TryRecv(waited(outcome)),
-        _ => unreachable!(),
-    }
-}
-
 fn tried(outcome: Outcome, msg: u64) -> Result<Option<u64>, TrySendError<u64>> {
     match outcome {
         Outcome::Grant => Ok(None),
@@ -113,7 +100,8 @@ fn tried_all(outcome: Outcome, msgs: Messages<u64>) -> Result<(), TrySendError<M
     }
 }
 
-fn answered(outcome: Outcome, msg: u64) -> Result<Option<u64>, SendError<u64>> {
+/// What a send that needn't wait is given.
+pub(super) fn answered(outcome: Outcome, msg: u64) -> Result<Option<u64>, SendError<u64>> {
     match outcome {
         Outcome::Grant | Outcome::Wait => Ok(None),
         Outcome::Overflow => Ok(Some(OLDEST)),
@@ -146,19 +134,19 @@ fn grown(outcome: Outcome) -> Result<(), AllocError> {
 
 fn received(outcome: Outcome) -> Result<Result<u64, TryRecvError>, AllocError> {
     match outcome {
+        Outcome::Grant => Ok(Ok(MESSAGE)),
         Outcome::Wait => Ok(Err(TryRecvError::Empty)),
-        _ => waited(outcome),
-    }
-}
-
-fn waited(outcome: Outcome) -> Result<Result<u64, TryRecvError>, AllocError>
-    ensures { is_answer (Reply.TryRecv result) ≡ true }
-{
-    match outcome {
-        Outcome::Grant | Outcome::Wait => Ok(Ok(MESSAGE)),
         Outcome::Overflow => Ok(Err(TryRecvError::Overflowed(MISSED))),
         Outcome::Close => Ok(Err(TryRecvError::Closed)),
         Outcome::Refuse | Outcome::Inactive => Err(AllocError),
+    }
+}
+
+/// What a receive that needn't wait is given.
+pub(super) fn waited(outcome: Outcome) -> Result<Result<u64, RecvError>, AllocError> {
+    match outcome {
+        Outcome::Refuse | Outcome::Inactive => Err(AllocError),
+        _ => Ok(message(outcome)),
     }
 }
 

@@ -146,7 +146,7 @@ fn stores_until<R: Named>(
     Ok(Some(2))
 }
 
-/// The same for a log on this heap.
+/// How many calls a log on this heap stores.
 ///
 /// # Errors
 ///

@@ -130,7 +130,7 @@ fn has_all<R: Named>(finished: &Finished<u64, R, &LocalHeap>, calls: &[Step]) ->
     finished.entries().len() == calls.len() && pairs.all(|(entry, call)| call.is_stored(0, entry))
 }
 
-/// The same on a new recorder, which must have an entry for each call at its end.
+/// Makes the calls on a new recorder, which must have an entry for each at its end.
 fn records<R: Named>(
     rt: &impl Wait,
     alloc: Global,

@@ -1,14 +1,11 @@
-//! A port that hands no notices back: its polls leave their task's waker in a slot.
-ghost use Rattle.std.specs.Prelude.{◌≡◌, true, false, IfOk, IfErr, OnErr};
-ghost use Rattle.futures.specs.Task.{IsArmed, Keeps};
-ghost use Rattle.bcast_model.specs.Words.{must_wait, HasPositiveCapacity};
-ghost use Rattle.async_broadcast.specs.Kinds.{may_wait, is_answer};
-
-use async_broadcast::{Ask, Call, Port, Registers, Reply, Wake, WakerSlot};
+//! A port that takes memory for the notice of each poll.
+use async_broadcast::{Ask, Port, RecvError, Registers, SendError, WakerSlot};
+use bcast_core::{AtOnce, Polls};
 use futures::task::Context;
-use std::alloc::Allocator;
+use std::alloc::{AllocError, Allocator};
 
-/// Makes its calls on another port. The slot of a poll takes memory, which that of a lock doesn't.
+/// Makes its calls on another port. Registers the task of each poll in a slot before, which takes
+/// memory where that of a lock takes none.
 #[derive(Drop)]
 pub struct SlotPort<P> {
     pub port: P,
@@ -19,46 +16,32 @@ impl<A: Allocator, P: Port<u64, WakerSlot<A>>> Ask<u64, WakerSlot<A>> for SlotPo
 
     ghost of_kind = { λ port call reply gave. P.of_kind port.port call reply gave };
 
-    fn ask(&self, call: Call<u64>, wake: Wake<WakerSlot<A>>) -> Reply<u64>
-        requires { HasPositiveCapacity call }
-        ensures { P.gave self.now.port call result }
-    {
-        self.port.ask(call, wake)
+    fn ask<C: AtOnce<u64>>(&self, call: C) -> C::Answer {
+        self.port.ask(call)
     }
 
-    fn poll<W: Registers<WakerSlot<A>>>(
+    fn poll<C: Polls<u64>, W: Registers<WakerSlot<A>>>(
         &self,
-        call: Call<u64>,
+        call: C,
         task: &mut W,
         cx: &mut Context<'_>,
-    ) -> Result<Reply<u64>, Call<u64>>
-        requires { HasPositiveCapacity call }
-        ensures asked { IfOk result (λ reply. P.gave self.now.port call reply) }
-        ensures back { IfErr result (λ back. back ≡ call) }
-
-        ensures notice { IfOk result (λ reply. must_wait reply ≡ true
-            → W.is_refused task.new ≡ false) }
-        ensures refused { OnErr result (W.is_refused task.new ≡ true) }
-        ensures registered { IfOk result (λ reply. must_wait reply ≡ true → IsArmed cx.new) }
-        ensures again { OnErr result (IsArmed cx.new) }
-        ensures kept { Keeps cx.old cx.new }
-    {
-        let Some(wake) = task.register(cx) else {
+    ) -> Result<C::Answer, C> {
+        if task.register(cx).is_none() {
             return Err(call);
-        };
-        Ok(self.port.ask(call, wake))
+        }
+        self.port.poll(call, task, cx)
     }
 }
 
 impl<A: Allocator, P: Port<u64, WakerSlot<A>>> Port<u64, WakerSlot<A>> for SlotPort<P> {
     ghost lacks_memory = { λ port. P.lacks_memory port.port };
 
-    fn ask_waiting(&self, call: Call<u64>) -> Reply<u64>
-        requires { may_wait call ≡ true }
-        ensures reply { P.gave self.now.port call result }
-        ensures answered { is_answer result ≡ true }
-    {
-        self.port.ask_waiting(call)
+    fn send_waiting(&self, msg: u64) -> Result<Option<u64>, SendError<u64>> {
+        self.port.send_waiting(msg)
+    }
+
+    fn receive_waiting(&self, key: usize) -> Result<Result<u64, RecvError>, AllocError> {
+        self.port.receive_waiting(key)
     }
 
     fn same(&self) -> Option<Self> {

@@ -1,12 +1,12 @@
 //! Calls made on a lock while a thread waits there.
 ghost use Rattle.bcast_model.specs.Next.{HasPositiveCapacity};
 
-use super::asking::Way;
+use super::asking::{Way, tried};
 use super::seen::Shows;
 use super::{Outcome, Part, Row, calls_of, open_both, play_calls};
 use async_broadcast::{Lock, Port, Wake, WakerSlot};
-use bcast_core::{Call, Reply, Silent, step};
-use bcast_text::trace::opening::read_opening;
+use bcast_core::{Call, Close, Reply, SendPoll, Silent, step};
+use bcast_trace::opening::read_opening;
 use futures::test::MockTask;
 use std::alloc::{AllocError, AllocGlobal, Global};
 use std::io::Write;
@@ -81,8 +81,8 @@ fn call_of(awaited: Awaited) -> Call<u64>
 /// Waits until there is a reply.
 fn wait<P: Port<u64, WakerSlot>>(port: &P, awaited: Awaited) -> Reply<u64> {
     match awaited {
-        Awaited::Message(key) => port.ask_waiting(Call::TryRecv(key)),
-        Awaited::Room(msg) => port.ask_waiting(Call::AttemptSend(msg)),
+        Awaited::Message(key) => Reply::TryRecv(tried(port.receive_waiting(key))),
+        Awaited::Room(msg) => Reply::AttemptSend(SendPoll::Ready(port.send_waiting(msg))),
     }
 }
 
@@ -99,7 +99,7 @@ impl<P: Port<u64, WakerSlot> + Shows> Row<'_, P> {
         let Some(calls) = calls_of(alloc, line)? else {
             return Ok(Some(Part::Reply));
         };
-        let is_same = self.is_same_reply(alloc, Way::OwnBodies, false, calls);
+        let is_same = self.is_same_reply(alloc, Way::Typed, false, calls);
         Ok((!is_same).then_some(Part::Reply))
     }
 }
@@ -115,13 +115,13 @@ fn play_beside<R: Threads, P: Port<u64, WakerSlot> + Shows + Send + 'static>(
     let awaited = case.awaited;
     let thread = thread::spawn(rt, move || wait(&port, awaited))?;
     pause();
-    let found = match play_calls(alloc, row, Way::OwnBodies, 0, case.calls)? {
+    let found = match play_calls(alloc, row, Way::Typed, 0, case.calls)? {
         Outcome::Differs(_, part) => Some(part),
         Outcome::Same(_) => row.ends_wait(alloc, case.last)?,
     };
     if found.is_some() {
         // This lets the thread end.
-        row.port.ask(Call::Close, Wake::none());
+        row.port.ask(Close);
     }
     let reply = thread.join(rt);
     let wanted = step(&mut row.alone, call_of(awaited), Silent);

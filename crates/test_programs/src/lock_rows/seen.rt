@@ -1,7 +1,7 @@
 //! What is seen of a lock, and of a channel that has no lock.
 use super::Part;
-use async_broadcast::{Lock, Port, Wake, WakerSlot};
-use bcast_core::{Call, Inner, Reply, Silent, Snapshot};
+use async_broadcast::{Lock, Port, WakerSlot};
+use bcast_core::{Count, EndNumber, Inner, Reply, Silent, Snapshot, Test};
 use std::alloc::{AllocError, Global};
 use std::sync::Wait;
 
@@ -22,7 +22,7 @@ pub(super) fn differs<P: Port<u64, WakerSlot> + Shows>(
     port: &P,
     alone: &Inner<u64, Silent>,
 ) -> Result<Option<Part>, AllocError> {
-    if accessors_of(port) != accessors_alone(alone) {
+    if accessors_of(port) != accessors_of_inner(alone) {
         return Ok(Some(Part::Accessors));
     }
     let is_same = is_same(&port.shows(alloc)?, &alone.snapshot(alloc)?);
@@ -32,23 +32,23 @@ pub(super) fn differs<P: Port<u64, WakerSlot> + Shows>(
 /// What a port replies to all accessors.
 fn accessors_of<P: Port<u64, WakerSlot>>(port: &P) -> [Reply<u64>; 12] {
     [
-        port.ask(Call::Overflow, Wake::none()),
-        port.ask(Call::AwaitActive, Wake::none()),
-        port.ask(Call::IsEmpty, Wake::none()),
-        port.ask(Call::IsFull, Wake::none()),
-        port.ask(Call::IsClosed, Wake::none()),
-        port.ask(Call::IsTerminated, Wake::none()),
-        port.ask(Call::Capacity, Wake::none()),
-        port.ask(Call::Len, Wake::none()),
-        port.ask(Call::ReceiverCount, Wake::none()),
-        port.ask(Call::InactiveReceiverCount, Wake::none()),
-        port.ask(Call::SenderCount, Wake::none()),
-        port.ask(Call::EndNumber, Wake::none()),
+        Reply::Overflow(port.ask(Test::Overflow)),
+        Reply::AwaitActive(port.ask(Test::AwaitActive)),
+        Reply::IsEmpty(port.ask(Test::IsEmpty)),
+        Reply::IsFull(port.ask(Test::IsFull)),
+        Reply::IsClosed(port.ask(Test::IsClosed)),
+        Reply::IsTerminated(port.ask(Test::IsTerminated)),
+        Reply::Capacity(port.ask(Count::Capacity)),
+        Reply::Len(port.ask(Count::Len)),
+        Reply::ReceiverCount(port.ask(Count::ReceiverCount)),
+        Reply::InactiveReceiverCount(port.ask(Count::InactiveReceiverCount)),
+        Reply::SenderCount(port.ask(Count::SenderCount)),
+        Reply::EndNumber(port.ask(EndNumber)),
     ]
 }
 
-/// The same for a channel without a lock.
-fn accessors_alone(alone: &Inner<u64, Silent>) -> [Reply<u64>; 12] {
+/// What a channel without a lock replies to all accessors.
+fn accessors_of_inner(alone: &Inner<u64, Silent>) -> [Reply<u64>; 12] {
     [
         Reply::Overflow(alone.overflow()),
         Reply::AwaitActive(alone.await_active()),

@@ -6,7 +6,7 @@ use crate::sleepers::{Row, Sleepers};
 use crate::steps::{Receiving, Sending, wait_for};
 use crate::timed::clock::{Dial, SetClock};
 use async_broadcast::{Lock, TimedPort, WakerSlot, broadcast};
-use bcast_core::Inner;
+use bcast_core::{Inner, TryBroadcast};
 use std::alloc::Global;
 use std::process::Abort;
 use std::sync::atomic::Ordering;
@@ -111,7 +111,7 @@ where
     let threads = start(rt, alloc, &port, &[key, key], limit, &counts)?;
     wait_for(&rt, &dial.reads, BOTH_SLEEP, "both sleep");
     dial.seconds.store(LIMIT - 1, Ordering::SeqCst);
-    assert!(&rt; matches!(port.try_broadcast(7), Ok(None)));
+    assert!(&rt; matches!(port.ask(TryBroadcast(7)), Ok(None)));
     wait_for(&rt, &counts.received, 1, "one receives");
     // Each has read whether its time is over, and the other twice more, to sleep for a second.
     wait_for(&rt, &dial.reads, BOTH_SLEEP + 4, "the other sleeps again");

@@ -13,7 +13,7 @@ use topics::{Answer, Hub, Request};
 /// next 8 spell. So a factor of the last product is 0, and the last 8 bytes of a name don't matter.
 const COLLIDING: &str = "topic.aaaaakzyusmej9x47o";
 
-/// The same except for one letter, with which no factor is 0.
+/// It differs from `COLLIDING` in one letter, with which no factor is 0.
 const OTHER: &str = "topic.aaaaakzyusmej9x47p";
 
 /// How many topics are opened.
@@ -56,7 +56,7 @@ where
 }
 
 #[test]
-fn names_collide_under_the_fixed_seed_alone(rt: HostRuntime) -> Result<(), Fail> {
+fn names_collide_only_under_the_fixed_seed(rt: HostRuntime) -> Result<(), Fail> {
     let fixed = BuildHasherDefault::<FoldHasher>::new();
     let seed = RandomState::new(&rt)?;
     assert!(rt; hashes(rt.alloc(), &fixed, COLLIDING)? == 1);

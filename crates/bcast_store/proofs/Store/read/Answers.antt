@@ -13,7 +13,6 @@ use Rattle.bcast_store.proofs.Messages.{same_sound, same_store}
 use Rattle.bcast_store.proofs.Reading.{is_reading, reading_up, sound_read, store_read}
 use Rattle.bcast_store.proofs.HandedOut.{owed_by_another, handed_out}
 use Rattle.bcast_store.proofs.Store.read.Goals as goal
-use Rattle.bcast_store.proofs.Store.read.Goals.{After-replace-in-Err}
 
 -- a cursor that is put back
 put_back : (m : Cursors) (key cursor other : ℕ) → get m key ≡ Some cursor → insert (insert m key other) key cursor ≡ m
@@ -27,21 +26,7 @@ put_back m key cursor other at =
     by_key q true e = sym (ap (get m) (eqb-true q key (sym (unsigned_tied q key) ∙ e)) ∙ at)
     by_key q false e = refl
 
-back : (g : _) (c : After-replace-in-Err g) → c.replace-in-Err.new.self ≡ c.self.inside.cursors
-back g c = grind (arith, common_steps, is_reading, inserted, put_back)
-
-pub read-requires-clause-owed : goal.read-requires-clause-owed
-read-requires-clause-owed g c = λ some.
-    let r = is_reading c.self.inside.queue c.self.inside.cursors c.args.self.now c.args.key c.args.number c.front.result c.self.view_is c.front.ensures c.requires.at c.requires.below in
-    reading_up c.self.inside.queue c.self.inside.cursors c.args.key c.args.number (c.args.number - c.front.result) c.self.invariant r some
-
-pub invariant_of-self : goal.invariant_of-self
-invariant_of-self g c = search (rules, is_reading, same_sound, sound_read)
-
-pub invariant_of-self-in-Err : goal.invariant_of-self-in-Err
-invariant_of-self-in-Err g c =
-    same_sound _ _ _ _ c.in-Err.ensures.err (back g (goal.at.invariant_of-self-in-Err g c).After-replace-in-Err) c.self.invariant
-
+-- what callers rely on, before what the code itself needs
 pub returns-in-Ok-clause-given : goal.returns-in-Ok-clause-given
 returns-in-Ok-clause-given g c =
     let r = is_reading c.self.inside.queue c.self.inside.cursors c.args.self.now c.args.key c.args.number c.front.result c.self.view_is c.front.ensures c.requires.at c.requires.below in
@@ -68,6 +53,24 @@ returns-in-Err-clause-owed g c =
 
 pub returns-in-Err-clause-err : goal.returns-in-Err-clause-err
 returns-in-Err-clause-err g c =
-    same_store c.read.new.self c.self.inside.queue c.replace-in-Err.new.self c.self.inside.cursors c.in-Err.ensures.err
-    (back g (goal.at.returns-in-Err-clause-err g c).After-replace-in-Err)
+    let m = c.self.inside.cursors in
+    let key = c.args.key in
+    let r = is_reading c.self.inside.queue m c.args.self.now key c.args.number c.front.result c.self.view_is c.front.ensures c.requires.at c.requires.below in
+    let moved : c.replace.new.self ≡ insert m key (c.args.number + 1) = rw (c.replace.ensures.value ∙ r.at) at c.replace.ensures.some in
+    let there = ap (λ ms. get ms key) moved ∙ inserted m key (c.args.number + 1) in
+    let set = rw (c.replace-in-Err.ensures.value ∙ there) at c.replace-in-Err.ensures.some in
+    let same : c.unwrap_or-cursor.result ≡ r.cursor = grind (arith, common_steps, r.at) in
+    same_store c.read.new.self c.self.inside.queue c.replace-in-Err.new.self m c.in-Err.ensures.err
+    (set ∙ ap (λ ms. insert ms key c.unwrap_or-cursor.result) moved ∙ ap (insert (insert m key (c.args.number + 1)) key) same ∙ put_back m key r.cursor (c.args.number + 1) r.at)
     ∙ c.self.view_is
+
+pub read-requires-clause-owed : goal.read-requires-clause-owed
+read-requires-clause-owed g c = λ some.
+    let r = is_reading c.self.inside.queue c.self.inside.cursors c.args.self.now c.args.key c.args.number c.front.result c.self.view_is c.front.ensures c.requires.at c.requires.below in
+    reading_up c.self.inside.queue c.self.inside.cursors c.args.key c.args.number (c.args.number - c.front.result) c.self.invariant r some
+
+pub invariant_of-self : goal.invariant_of-self
+invariant_of-self g c = search (rules, is_reading, same_sound, sound_read)
+
+pub invariant_of-self-in-Err : goal.invariant_of-self-in-Err
+invariant_of-self-in-Err g c = grind (arith, common_steps, is_reading, inserted, put_back, same_sound)

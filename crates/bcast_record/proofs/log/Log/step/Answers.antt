@@ -2,10 +2,21 @@ use Rattle.std.proofs.Common.{◌≡◌, [], ◌∷◌, ◌++◌, Some, suc, len
 use Rattle.bcast_record.specs.declared.entry.Entry.{Entry}
 use Rattle.bcast_record.specs.declared.entry.Note.TheVariants as note
 use Rattle.bcast_record.specs.Content.{notes_of}
-use Rattle.bcast_record.proofs.Copies.{legal_list, same_entry}
+use Rattle.bcast_record.proofs.Copies.{answered_list, same_entry}
 use Rattle.bcast_record.proofs.Appends.{replays_push, may_run_again_push}
 use Rattle.bcast_record.proofs.Notes.{notes_of-push, last_note, length-notes_of}
 use Rattle.bcast_record.proofs.log.Log.step.Goals as goal
+
+-- what callers rely on, before what the code itself needs
+pub returns-clause-run : goal.returns-clause-run
+returns-clause-run g c =
+    let opening = c.self.inside.opening in
+    let entries = c.self.inside.entries.items in
+    let entry : Entry g.row.T.Denot = record { seat = c.number.result; call = c.args.call; reply = c.step-reply.result } in
+    let stored : c.into_entries-stored.result.0 ≡ entry = same_entry _ c.number.result c.in-Some.spares.stored c.args.call c.step-reply.result c.into_entries-stored.ensures.stored c.in-Some.ensures.stored in
+    (replays_push g.T.Clone.is_clone opening entries c.push_reserved.new.self.items c.self.inside.inner c.step-reply.new.inner entry c.args.call
+    (c.push_reserved.ensures.items ∙ (λ i. c.room.ensures.items i ++ stored i ∷ []))
+    refl c.self.invariant.0 c.step-reply.ensures.answers).run
 
 pub room-requires : goal.room-requires
 room-requires g c =
@@ -24,7 +35,7 @@ invariant_of-self g c =
 
 pub into_entries-stored-requires : goal.into_entries-stored-requires
 into_entries-stored-requires g c =
-    rw c.in-Some.ensures.list (legal_list g.T.Clone.is_clone c.self.inside.inner c.args.call c.step-reply.result c.step-reply.ensures.answers.legal)
+    rw c.in-Some.ensures.list (answered_list _ _ _ c.args.call c.step-reply.result c.step-reply.ensures.answers)
 
 pub invariant_of-result : goal.invariant_of-result
 invariant_of-result g c =
@@ -56,13 +67,3 @@ invariant_of-self-2 g c =
       before.3,
       may_run_again_push opening entries c.push_reserved.new.self.items entry pushed before.4 c.requires,
     )
-
-pub returns-clause-run : goal.returns-clause-run
-returns-clause-run g c =
-    let opening = c.self.inside.opening in
-    let entries = c.self.inside.entries.items in
-    let entry : Entry g.row.T.Denot = record { seat = c.number.result; call = c.args.call; reply = c.step-reply.result } in
-    let stored : c.into_entries-stored.result.0 ≡ entry = same_entry _ c.number.result c.in-Some.spares.stored c.args.call c.step-reply.result c.into_entries-stored.ensures.stored c.in-Some.ensures.stored in
-    (replays_push g.T.Clone.is_clone opening entries c.push_reserved.new.self.items c.self.inside.inner c.step-reply.new.inner entry c.args.call
-    (c.push_reserved.ensures.items ∙ (λ i. c.room.ensures.items i ++ stored i ∷ []))
-    refl c.self.invariant.0 c.step-reply.ensures.answers).run

@@ -2,7 +2,7 @@
 use Rattle.std.proofs.Common.{refl, sym, subst}
 use Rattle.bcast_model.specs.declared.run.Call.TheVariants as call
 use Rattle.bcast_model.specs.declared.run.Reply.TheVariants as reply
-use Rattle.async_broadcast.specs.Kinds.{IsOfKind}
+use Rattle.bcast_core.specs.Kinds.{IsOfKind}
 use Rattle.handle_calls.proofs.recording.replies.reply_to.Goals as goal
 
 pub returns-in-SetCapacity : goal.returns-in-SetCapacity

@@ -1,0 +1,102 @@
+-- What a channel had accepted when it was closed: nothing comes after it.
+use Rattle.std.proofs.Common.{◌≡◌, ◌⊎◌, inl, inr, ℕ, true, List, [], ◌∷◌, Err, length, refl, sym, ◌∙◌, subst, arith}
+use Rattle.std.proofs.lemmas.Bool.{cases_lt}
+use Rattle.std.proofs.lemmas.List.Elements.{All-nil, All-head}
+use Rattle.std.specs.Prelude.{All}
+use mathlib.Core.List.{IsPrefix}
+use Rattle.bcast_text.specs.Order.{HoldsEachOnce}
+use Rattle.bcast_model.specs.Words.{end_number}
+use Rattle.bcast_history.specs.declared.step.Opening.{Opening}
+use Rattle.bcast_history.specs.declared.step.Step.{Step}
+use Rattle.bcast_history.specs.History.{IsHistory, start_of, end_of}
+use Rattle.bcast_history.proofs.Prefixes.{prefix_trans, prefix_shorter, prefix_whole}
+use Rattle.bcast_delivery.specs.Follows.{accepted_by}
+use Rattle.bcast_delivery.specs.Reading.{Reading}
+use Rattle.bcast_delivery.specs.Closed.{ClosedIsLast}
+use Rattle.bcast_delivery.proofs.Sent.{accepted_grows}
+use Rattle.bcast_delivery.proofs.Logged.{first_kept}
+use Rattle.bcast_threads.specs.Lists.{HasAll, IsOneList}
+use Rattle.bcast_threads.specs.Closed.{AreBeforeClosing, WereSent, IsWhole}
+use Rattle.bcast_threads.proofs.Sent.{all_stay, contained, joined}
+
+-- of two beginnings of one list, one begins the other
+meet : (known other later : List (Step ℕ)) → IsPrefix known later → IsPrefix other later → IsPrefix known other ⊎ IsPrefix other known
+meet known other later one two = elim (cases_lt (length other) (length known)) [
+  | inl less ↦ inr (prefix_shorter other known later two one (omega (arith, less)))
+  | inr more ↦ inl (prefix_shorter known other later one two more)
+]
+
+-- a closed channel accepts nothing more
+closed_keeps : {is_clone : ℕ → ℕ → Type 0} → ClosedIsLast is_clone → (o : Opening) (closed later : List (Step ℕ))
+    → (end_of o closed).control.closed ≡ true → IsPrefix closed later → IsHistory is_clone o later → accepted_by o closed ≡ accepted_by o later
+closed_keeps law o closed later is begins run =
+    let end = end_number (end_of o closed) in
+    let old : Reading ℕ = record { key = 0; next = end; steps = closed } in
+    let new : Reading ℕ = record { key = 0; next = end; steps = later } in
+    let all = (law.stays o old new (Err (record {})) (record { closed = is; all = omega arith }) begins run refl tt).0.all in
+    let before = first_kept (start_of o) closed in
+    let after = first_kept (start_of o) later in
+    prefix_whole (accepted_by o closed) (accepted_by o later) (accepted_grows o closed later begins) (omega (arith, all, before, after))
+
+-- what was accepted by a run was so before it closed the channel
+pub before_closing : {is_clone : ℕ → ℕ → Type 0} → ClosedIsLast is_clone → (o : Opening) (first end : ℕ) (steps : List (Step ℕ))
+    → IsHistory is_clone o steps → HasAll first end (accepted_by o steps) → AreBeforeClosing o first end steps
+before_closing law o first end steps run sent closed begins is =
+    subst (HasAll first end) (sym (closed_keeps law o closed steps is begins run)) sent
+
+-- and stays so
+pub still_sent : (o : Opening) (first end : ℕ) (steps later : List (Step ℕ)) → IsPrefix steps later
+    → WereSent o first end steps → WereSent o first end later
+still_sent o first end steps later longer were = record {
+  sent = all_stay o first end steps later longer were.sent;
+  before = λ closed begins is. elim (meet closed steps later begins longer) [
+    | inl sooner ↦ were.before closed sooner is
+    | inr after ↦ all_stay o first end steps closed after were.sent
+  ];
+}
+
+-- two ranges that meet
+pub both_sent : (o : Opening) (first middle next end : ℕ) (steps : List (Step ℕ)) → next ≡ middle
+    → WereSent o first middle steps → WereSent o next end steps → WereSent o first end steps
+both_sent o first middle next end steps same low high = record {
+  sent = joined first middle next end (accepted_by o steps) same low.sent high.sent;
+  before = λ closed begins is. joined first middle next end (accepted_by o closed) same (low.before closed begins is) (high.before closed begins is);
+}
+
+-- more steps
+pub still_whole : (o : Opening) (steps later : List (Step ℕ)) (list : List ℕ) → IsPrefix steps later → IsWhole o steps list → IsWhole o later list
+still_whole o steps later list longer whole = record {
+  known = whole.known;
+  begins = prefix_trans whole.known steps later whole.begins longer;
+  run = whole.run;
+  closed = whole.closed;
+  all = whole.all;
+}
+
+same_whole : ClosedIsLast (λ (one two : ℕ). two ≡ one) → (o : Opening) (steps : List (Step ℕ)) (list other : List ℕ)
+    → IsWhole o steps list → IsWhole o steps other → list ≡ other
+same_whole law o steps list other one two = one.all ∙ elim (meet one.known two.known steps one.begins two.begins) [
+  | inl sooner ↦ closed_keeps law o one.known two.known one.closed sooner two.run
+  | inr later ↦ sym (closed_keeps law o two.known one.known two.closed later one.run)
+] ∙ sym two.all
+
+-- lists of all that was accepted are one list
+pub one_list : {X : Type 0} (items : X → List ℕ) → ClosedIsLast (λ (one two : ℕ). two ≡ one) → (o : Opening) (steps : List (Step ℕ)) (lists : List X)
+    → All (λ list. IsWhole o steps (items list)) lists → IsOneList items lists
+one_list items law o steps [] whole = ([], All-nil _)
+one_list items law o steps (first ∷ others) whole = (
+  items first,
+  λ k d within. same_whole law o steps _ (items first) (whole k d within) (All-head (λ list. IsWhole o steps (items list)) first others whole),
+)
+
+-- what was sent is in each of them, and if nothing else is, once
+pub each_once : {X : Type 0} (items : X → List ℕ) (o : Opening) (known steps : List (Step ℕ)) (sent total : ℕ) (lists : List X)
+    → IsPrefix known steps → WereSent o 0 sent known → sent ≡ total
+    → All (λ list. length (items list) ≡ sent) lists → All (λ list. IsWhole o steps (items list)) lists
+    → All (λ list. HoldsEachOnce (items list) total) lists
+each_once items o known steps sent total lists longer were all counted whole k d within =
+    let its = whole k d within in
+    let there = (still_sent o 0 sent known steps longer were).before its.known its.begins its.closed in (
+      counted k d within ∙ all,
+      λ number below. contained _ number (subst (HasAll 0 sent) (sym its.all) there number (omega arith) (omega (arith, below, all))),
+    )

@@ -1,0 +1,3 @@
+-- new capacities are positive: in a line, and in lists of calls
+pub mod Line
+pub mod Positive

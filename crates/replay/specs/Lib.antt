@@ -1,2 +1,0 @@
--- what a run has written
-pub mod Run
