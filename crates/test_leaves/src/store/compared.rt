@@ -1,4 +1,4 @@
-//! The same calls on both stores: every short list of calls, and long lists from a fixed seed.
+//! Every short list of calls, and long lists from a fixed seed, on a store and on the plain model.
 use super::slow::Plain;
 use super::{Call, Played, Tried};
 use bcast_store::Store;
