@@ -2,6 +2,8 @@
 pub mod Ports
 -- the replies of a channel are of their calls' kinds
 pub mod OfKind
+-- handles that are made
+pub mod Handles
 -- futures and streams
 pub mod TaskWakers
 pub mod Futures

@@ -1,12 +1,12 @@
 -- What the maker of a poll's notice does for its task.
 use Rattle.std.specs.Prelude.{◌≡◌, Bool}
-use Rattle.async_broadcast.specs.declared.wake.making.ForTask.{ForTask}
+use Rattle.async_broadcast.specs.declared.wake.ForTask.{ForTask}
 
 -- it has registered its task in its context, and was refused a notice or not; it lends what it lent
 -- before
-pub record RegistersTask {W C : Type 0} (is_refused : W → Bool) (registered : C → C → Type 0)
-    (answer : Bool) (old new : ForTask W C) : Type 0 where
+pub record RegistersTask {C : Type 0} (registered : C → C → Type 0)
+    (answer : Bool) (old new : ForTask C) : Type 0 where
   pub context : registered old.cx.now new.cx.now
-  pub refused : is_refused new.task.now ≡ answer
+  pub refused : new.task.now.is_refused ≡ answer
   pub same_task : new.task.ghost_name ≡ old.task.ghost_name
   pub same_cx : new.cx.ghost_name ≡ old.cx.ghost_name

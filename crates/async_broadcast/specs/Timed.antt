@@ -8,10 +8,10 @@ use Rattle.bcast_model.specs.declared.error.TryRecvError.{TryRecvError}
 use Rattle.bcast_model.specs.declared.error.TryRecvError.TheVariants as unread
 use Rattle.bcast_model.specs.declared.run.SendPoll.{SendPoll}
 use Rattle.bcast_model.specs.declared.run.SendPoll.TheVariants as send
-use Rattle.async_broadcast.specs.declared.timed.error.SendTimeoutError.{SendTimeoutError}
-use Rattle.async_broadcast.specs.declared.timed.error.SendTimeoutError.TheVariants as timed_send
-use Rattle.async_broadcast.specs.declared.timed.error.RecvTimeoutError.{RecvTimeoutError}
-use Rattle.async_broadcast.specs.declared.timed.error.RecvTimeoutError.TheVariants as timed_receive
+use Rattle.async_broadcast.specs.declared.timed.SendTimeoutError.{SendTimeoutError}
+use Rattle.async_broadcast.specs.declared.timed.SendTimeoutError.TheVariants as timed_send
+use Rattle.async_broadcast.specs.declared.timed.RecvTimeoutError.{RecvTimeoutError}
+use Rattle.async_broadcast.specs.declared.timed.RecvTimeoutError.TheVariants as timed_receive
 
 module _ {T : Type 0} where
   -- `broadcast_timeout`: its result, as the last try returned it, which must wait at the limit

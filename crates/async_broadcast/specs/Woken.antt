@@ -1,6 +1,6 @@
 -- Which threads wait for the channel behind a lock, and which of them are woken.
 use Rattle.std.specs.Prelude.{◌≡◌, ℕ, ◌+◌, ◌-◌, ◌%◌, ◌^◌, ◌<◌, ◌||◌, Bool, true, false}
-use Rattle.bcast_model.specs.Words.{is_ready, View, is_full}
+use Rattle.bcast_model.specs.Words.{View, sends_are_ready}
 use Rattle.async_broadcast.specs.declared.lock.threads.Threads.{Threads}
 use Rattle.async_broadcast.specs.declared.lock.threads.Woken.{Woken}
 
@@ -27,23 +27,23 @@ KnowsNews v t = 0 < t.caught_up_receivers → t.known ≡ news_of v
 -- if sends are ready and a thread waits to send, one was woken that hasn't tried yet
 abbrev pub HasWokenSender : {T : Type 0} → View T → Threads → Type 0
 HasWokenSender v t =
-    is_ready v.control (is_full v) ≡ true → 0 < t.senders → t.is_sender_woken ≡ true
+    sends_are_ready v ≡ true → 0 < t.senders → t.is_sender_woken ≡ true
 
--- the same for a thread that has something to receive
+-- if a thread has something to receive, one was woken that hasn't tried yet
 abbrev pub HasWokenReceiver : Threads → Type 0
 HasWokenReceiver t = 0 < t.due_receivers → t.is_receiver_woken ≡ true
 
--- a thread is newly noted as woken exactly if it is to be woken: one that waits to send, if sends
--- are ready and none is noted already
-abbrev pub NotesSender : {T : Type 0} → View T → Threads → Threads → Woken → Type 0
-NotesSender v old new woken =
+-- a thread is newly marked as woken exactly if it is to be woken: one that waits to send, if sends
+-- are ready and none is marked already
+abbrev pub ChoosesSender : {T : Type 0} → View T → Threads → Threads → Woken → Type 0
+ChoosesSender v old new woken =
     (new.is_sender_woken ≡ (woken.sender || old.is_sender_woken))
     × (woken.sender ≡ true
-    → (0 < old.senders) × (old.is_sender_woken ≡ false) × (is_ready v.control (is_full v) ≡ true))
+    → (0 < old.senders) × (old.is_sender_woken ≡ false) × (sends_are_ready v ≡ true))
 
--- and one that has something to receive, if none is noted already
-abbrev pub NotesReceiver : Threads → Threads → Woken → Type 0
-NotesReceiver old new woken =
+-- and one that has something to receive, if none is marked already
+abbrev pub ChoosesReceiver : Threads → Threads → Woken → Type 0
+ChoosesReceiver old new woken =
     (new.is_receiver_woken ≡ (woken.receiver || old.is_receiver_woken))
     × (woken.receiver ≡ true → (0 < new.due_receivers) × (old.is_receiver_woken ≡ false))
 

@@ -1,23 +1,25 @@
 //! The type of all handles.
-ghost use Rattle.std.specs.Prelude.{◌≡◌};
+ghost use Rattle.std.specs.Prelude.{◌≡◌, Ok, Err, IfOk, IfErr, ◌⊎◌};
+ghost use Rattle.bcast_core.specs.Calls.{receiver_call, receiver_reply};
+ghost use Rattle.async_broadcast.specs.Handles.{MakesHandle};
 
-use crate::port::Ask;
-use crate::wake::WakerSlot;
-use bcast_core::{Call, Reply};
+use crate::port::{Ask, KnowingPort};
+use crate::receiver::Receiver;
+use bcast_core::{AddReceiver, Call, HandleError, Reply};
 use std::alloc::{Allocator, Global};
 use std::marker::PhantomData;
 
-mod settings;
-
 /// A handle of a channel: a `Sender`, a `Receiver` or an `InactiveReceiver`, by its role.
 ///
-/// Contracts name its `port`, and of a receiver `role.key`.
-pub struct Handle<T: Clone, P: Ask<T, WakerSlot<A>>, K: Role<T>, A: Allocator = Global> {
+/// Contracts name its `port`, and of a receiver `role.key`. `K` is what its port knows of the calls
+/// on the channel.
+pub struct Handle<T: Clone, P: Ask<T, K>, H: Role<T>, A: Allocator = Global, K: Drop = ()> {
     pub(crate) port: P,
-    pub(crate) role: K,
+    pub(crate) role: H,
     // For futures, and for handles made here.
     pub(crate) alloc: A,
     messages: PhantomData<T>,
+    known: PhantomData<K>,
 }
 
 /// What a handle is counted as by its channel.
@@ -32,12 +34,12 @@ pub trait Role<T: Clone>: Sized + Drop {
     ghost left: { Reply T };
 
     /// Makes the call of the handle's drop.
-    fn leave<S, P: Ask<T, S>>(&self, port: &P)
+    fn ask_drop<K: Drop, P: Ask<T, K>>(&self, port: &P)
         ensures { P.gave port.now (last self.now) left };
 }
 
-impl<T: Clone, P: Ask<T, WakerSlot<A>>, K: Role<T>, A: Allocator> Handle<T, P, K, A> {
-    pub(crate) fn new(port: P, role: K, alloc: A) -> Self
+impl<T: Clone, P: Ask<T, K>, H: Role<T>, A: Allocator, K: Drop> Handle<T, P, H, A, K> {
+    pub(crate) fn new(port: P, role: H, alloc: A) -> Self
         ensures { (result.port ≡ port) × (result.role ≡ role) }
     {
         Handle {
@@ -45,11 +47,12 @@ impl<T: Clone, P: Ask<T, WakerSlot<A>>, K: Role<T>, A: Allocator> Handle<T, P, K
             role,
             alloc,
             messages: PhantomData,
+            known: PhantomData,
         }
     }
 
     // The handle in another role. Makes no call.
-    pub(crate) fn turned<J: Role<T>>(self, role: J) -> Handle<T, P, J, A>
+    pub(crate) fn with_role<I: Role<T>>(self, role: I) -> Handle<T, P, I, A, K>
         ensures { (result.port ≡ self.port) × (result.role ≡ role) }
     {
         let Handle {
@@ -57,21 +60,51 @@ impl<T: Clone, P: Ask<T, WakerSlot<A>>, K: Role<T>, A: Allocator> Handle<T, P, K
             role: _,
             alloc,
             messages: _,
+            known: _,
         } = self;
         Handle::new(port, role, alloc)
     }
 }
 
-impl<T: Clone, P: Ask<T, WakerSlot<A>>, K: Role<T>, A: Allocator> Drop for Handle<T, P, K, A> {
-    fn drop(self)
-        ensures { P.gave self.port (K.last self.role) K.left }
+impl<T: Clone, P: KnowingPort<T, K>, H: Role<T>, A: Allocator + Copy, K: Drop> Handle<
+    T,
+    P,
+    H,
+    A,
+    K,
+> {
+    /// Makes a receiver by this call, and adds the call to `known`. No call is made if there is no
+    /// memory for the handle.
+    pub(crate) fn make_receiver(
+        &self,
+        known: &mut K,
+        call: AddReceiver,
+    ) -> Result<Receiver<T, P, A, K>, HandleError>
+        ensures made { known.old ≡ P.knows self.now.port → MakesHandle P.gave P.lacks_memory
+            self.now.port (receiver_call call) (receiver_reply call) (λ made. made.role.key)
+            result }
+        ensures learned { IfOk result (λ made. P.learns known.old (receiver_call call)
+            (receiver_reply call (Ok made.role.key)) known.new) }
+        ensures refused { IfErr result (λ error. (known.new ≡ known.old)
+            ⊎ P.learns known.old (receiver_call call) (receiver_reply call (Err error)) known.new) }
     {
-        self.role.leave::<WakerSlot<A>, P>(&self.port);
+        let port = self.port.try_clone().ok_or(HandleError::Memory)?;
+        let key = self.port.ask(known, call)?;
+        Ok(Receiver::from_port(port, key, self.alloc))
+    }
+}
+
+impl<T: Clone, P: Ask<T, K>, H: Role<T>, A: Allocator, K: Drop> Drop for Handle<T, P, H, A, K> {
+    fn drop(self)
+        ensures { P.gave self.port (H.last self.role) H.left }
+    {
+        self.role.ask_drop::<K, P>(&self.port);
         let Handle {
             port: _,
             role: _,
             alloc: _,
             messages: _,
+            known: _,
         } = self;
     }
 }

@@ -1,11 +1,10 @@
 //! Receivers that receive nothing, and keep the channel open.
-ghost use Rattle.std.specs.Prelude.{◌≡◌, Ok, Err, IfOk, IfErr, ◌⊎◌};
-ghost use Rattle.async_broadcast.specs.Ports.{IsSame};
+ghost use Rattle.std.specs.Prelude.{◌≡◌, Ok, Err, IfOk, IfErr};
+ghost use Rattle.async_broadcast.specs.Handles.{MakesHandle};
 
 use crate::handle::{Handle, Role};
-use crate::port::{Ask, Port};
+use crate::port::{Ask, KnowingPort};
 use crate::receiver::{Receiver, Receiving};
-use crate::wake::{TaskWaker, WakerSlot};
 use bcast_core::{AddHandle, AddReceiver, Call, Change, HandleError, Reply};
 use std::alloc::{Allocator, Global};
 
@@ -14,18 +13,18 @@ use std::alloc::{Allocator, Global};
 /// While there is one, the channel isn't closed because receivers leave. Contracts name its `port`.
 ///
 /// Source: `InactiveReceiver` of async-broadcast 0.7.2.
-pub type InactiveReceiver<T, P, A = Global> = Handle<T, P, Inactive, A>;
+pub type InactiveReceiver<T, P, A = Global, K = ()> = Handle<T, P, Inactive, A, K>;
 
 /// The role of an `InactiveReceiver`.
 #[derive(Drop)]
 pub struct Inactive;
 
-impl<T: Clone, P: Port<T, WakerSlot<A>>, A: Allocator + Copy> InactiveReceiver<T, P, A> {
+impl<T: Clone, P: KnowingPort<T, K>, A: Allocator + Copy, K: Drop> InactiveReceiver<T, P, A, K> {
     /// An inactive receiver over this port, whose channel has counted it: its drop asks
     /// `DropInactive`.
     ///
     /// Handles that are made by it take their memory from `alloc`.
-    pub fn over(port: P, alloc: A) -> Self
+    pub fn from_port(port: P, alloc: A) -> Self
         ensures { result.port ≡ port }
     {
         Handle::new(port, Inactive, alloc)
@@ -49,17 +48,14 @@ impl<T: Clone, P: Port<T, WakerSlot<A>>, A: Allocator + Copy> InactiveReceiver<T
     /// ```
     ///
     /// Source: `InactiveReceiver::activate` of async-broadcast 0.7.2, which never refuses.
-    pub fn activate(self) -> Result<Receiver<T, P, A>, (Self, HandleError)>
+    pub fn activate(self) -> Result<Receiver<T, P, A, K>, (Self, HandleError)>
         ensures made { IfOk result (λ made. (made.port ≡ self.port)
             × P.gave self.port Call.Activate (Reply.Activate (Ok made.role.key))) }
         ensures refused { IfErr result (λ back. (back.0 ≡ self)
             × P.gave self.port Call.Activate (Reply.Activate (Err back.1))) }
     {
-        match self.port.ask(AddReceiver::Activate) {
-            Ok(key) => {
-                let waker = TaskWaker::new(self.alloc);
-                Ok(self.turned(Receiving { key, waker }))
-            }
+        match self.port.ask(&mut self.port.known(), AddReceiver::Activate) {
+            Ok(key) => Ok(self.with_role(Receiving::new(key))),
             Err(error) => Err((self, error)),
         }
     }
@@ -82,17 +78,11 @@ impl<T: Clone, P: Port<T, WakerSlot<A>>, A: Allocator + Copy> InactiveReceiver<T
     /// ```
     ///
     /// Source: `InactiveReceiver::activate_cloned` of async-broadcast 0.7.2, which never refuses.
-    pub fn activate_cloned(&self) -> Result<Receiver<T, P, A>, HandleError>
-        ensures channel { IfOk result (λ made. IsSame P.gave made.port self.now.port) }
-        ensures made { IfOk result (λ made. P.gave self.now.port Call.ActivateCloned
-            (Reply.ActivateCloned (Ok made.role.key))) }
-        ensures refused { IfErr result (λ error.
-            ((error ≡ HandleError.Memory) × P.lacks_memory self.now.port)
-            ⊎ P.gave self.now.port Call.ActivateCloned (Reply.ActivateCloned (Err error))) }
+    pub fn activate_cloned(&self) -> Result<Receiver<T, P, A, K>, HandleError>
+        ensures { MakesHandle P.gave P.lacks_memory self.now.port
+            Call.ActivateCloned Reply.ActivateCloned (λ made. made.role.key) result }
     {
-        let port = self.port.same().ok_or(HandleError::Memory)?;
-        let key = self.port.ask(AddReceiver::ActivateCloned)?;
-        Ok(Receiver::over(port, key, self.alloc))
+        self.make_receiver(&mut self.port.known(), AddReceiver::ActivateCloned)
     }
 
     /// Makes another inactive receiver of the channel.
@@ -114,16 +104,12 @@ impl<T: Clone, P: Port<T, WakerSlot<A>>, A: Allocator + Copy> InactiveReceiver<T
     ///
     /// Source: `InactiveReceiver::clone` of async-broadcast 0.7.2, which never refuses.
     pub fn clone(&self) -> Result<Self, HandleError>
-        ensures channel { IfOk result (λ made. IsSame P.gave made.port self.now.port) }
-        ensures made { IfOk result
-            (λ _. P.gave self.now.port Call.CloneInactive (Reply.CloneInactive (Ok tt))) }
-        ensures refused { IfErr result (λ error.
-            ((error ≡ HandleError.Memory) × P.lacks_memory self.now.port)
-            ⊎ P.gave self.now.port Call.CloneInactive (Reply.CloneInactive (Err error))) }
+        ensures { MakesHandle P.gave P.lacks_memory self.now.port
+            Call.CloneInactive Reply.CloneInactive (λ _. tt) result }
     {
-        let port = self.port.same().ok_or(HandleError::Memory)?;
-        self.port.ask(AddHandle::Inactive)?;
-        Ok(InactiveReceiver::over(port, self.alloc))
+        let port = self.port.try_clone().ok_or(HandleError::Memory)?;
+        self.port.ask(&mut self.port.known(), AddHandle::Inactive)?;
+        Ok(InactiveReceiver::from_port(port, self.alloc))
     }
 }
 
@@ -136,7 +122,7 @@ impl<T: Clone> Role<T> for Inactive {
     ghost left = { Reply.DropInactive };
 
     #[inline(always)]
-    fn leave<S, P: Ask<T, S>>(&self, port: &P) {
-        port.ask(Change::DropInactive)
+    fn ask_drop<K: Drop, P: Ask<T, K>>(&self, port: &P) {
+        port.ask(&mut port.known(), Change::DropInactive)
     }
 }

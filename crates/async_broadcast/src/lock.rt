@@ -4,21 +4,23 @@ ghost use Rattle.bcast_model.specs.Words.{View, IsShown, unread, missed};
 ghost use Rattle.async_broadcast.specs.Snapshots.{ShowsSomeState};
 
 use crate::inactive::InactiveReceiver;
-use crate::keep::{Keep, KeepsNothing};
-use crate::port::{Port, SeenPort, TimedPort, TimedSeenPort};
+use crate::journal::{CallJournal, NoJournal};
+use crate::port::{KnowingPort, KnowingTimedPort};
 use crate::receiver::Receiver;
 use crate::sender::Sender;
 use crate::timed::{RecvTimeoutError, SendTimeoutError};
-use crate::wake::{Wake, WakerSlot};
-use bcast_core::{Inner, RecvError, SendError, Snapshot};
-use channel::{Channel, lock, look};
-use limit::TimeLimit;
+use crate::wake::Wake;
+use attempt::{Receives, Sends};
+use bcast_core::{AttemptSend, Inner, RecvError, SendError, Snapshot, TryRecv};
+use channel::{Channel, lock, with_channel};
+use limit::{NoLimit, TimeLimit};
 use std::alloc::{AllocError, Allocator, Global};
 use std::sync::{Arc, Wait};
 use std::time::{Clock, Duration};
-use waiting::{received_in_time, sent_in_time};
+use waiting::{answer_of_receive, answer_of_send, received_in_time, sent_in_time};
 
 mod asking;
+mod attempt;
 mod channel;
 pub(crate) mod limit;
 mod state;
@@ -29,14 +31,15 @@ mod waiting;
 /// call waits for it.
 ///
 /// A reply is one that the channel gives in some valid history. A contract knows nothing more of
-/// the channel, since its other handles change it too, unless the lock keeps the calls (`K`).
+/// the channel, since its other handles change it too, unless the lock keeps a journal of the calls
+/// (`J`).
 ///
 /// A message is cloned and dropped, and a waker is dropped, while the lock is held: none of these
 /// may use a handle of the same channel, which would wait for the lock for ever.
-pub struct Lock<T: Clone, R: Wait + Clone, A: Allocator = Global, K: Keep<T> = KeepsNothing> {
-    channel: Arc<Channel<T, A, K>, A>,
+pub struct Lock<T: Clone, R: Wait + Clone, A: Allocator = Global, J: CallJournal<T> = NoJournal> {
+    channel: Arc<Channel<T, A, J>, A>,
     rt: R,
-    pub(crate) known: K::Known,
+    pub(crate) known: J::Known,
 }
 
 /// A sender of a channel that `broadcast` made.
@@ -85,14 +88,17 @@ pub fn broadcast<T: Clone, R: Wait + Clone, A: Allocator + Copy>(
 {
     let (inner, key) = Inner::new(alloc, cap)?;
     let port = Lock::new(rt, alloc, inner)?;
-    let other = port.same().ok_or(AllocError)?;
-    Ok((Sender::over(port, alloc), Receiver::over(other, key, alloc)))
+    let other = port.try_clone().ok_or(AllocError)?;
+    Ok((
+        Sender::from_port(port, alloc),
+        Receiver::from_port(other, key, alloc),
+    ))
 }
 
 impl<T: Clone, R: Wait + Clone, A: Allocator + Copy> Lock<T, R, A> {
     /// The port of a channel that the caller made. `broadcast` makes both.
     ///
-    /// The handles that `inner` counts are to be made over it and over its `same`: for a new
+    /// The handles that `inner` counts are to be made over it and over its `try_clone`: for a new
     /// `Inner` one sender, and one receiver with the key that came with it. `rt` is what waits for
     /// the lock, and what the ports share is allocated from `alloc`.
     ///
@@ -103,44 +109,40 @@ impl<T: Clone, R: Wait + Clone, A: Allocator + Copy> Lock<T, R, A> {
     /// ```rust
     /// let (inner, key) = Inner::starting_at(rt.alloc(), 2, 100)?;
     /// let port = Lock::new(&rt, rt.alloc(), inner)?;
-    /// let other = port.same().ok_or("no memory")?;
-    /// let sender = Sender::over(port, rt.alloc());
-    /// let mut receiver = Receiver::over(other, key, rt.alloc());
+    /// let other = port.try_clone().ok_or("no memory")?;
+    /// let sender = Sender::from_port(port, rt.alloc());
+    /// let mut receiver = Receiver::from_port(other, key, rt.alloc());
     /// assert!(rt; sender.try_broadcast(7).is_ok());
     /// assert!(rt; matches!(receiver.try_recv(), Ok(Ok(7))));
     /// assert!(rt; sender.snapshot()?.end == 101);
     /// ```
     ///
     /// Source: this crate's own.
-    pub fn new(
-        rt: R,
-        alloc: A,
-        inner: Inner<T, Wake<WakerSlot<A>>, A>,
-    ) -> Result<Self, AllocError> {
-        Lock::keeping(rt, alloc, inner, KeepsNothing, ())
+    pub fn new(rt: R, alloc: A, inner: Inner<T, Wake, A>) -> Result<Self, AllocError> {
+        Lock::with_journal(rt, alloc, inner, NoJournal, ())
     }
 }
 
-impl<T: Clone, R: Wait + Clone, A: Allocator + Copy, K: Keep<T>> Lock<T, R, A, K> {
-    /// The port of a channel that the caller made, as `new` makes it. Its lock begins with `kept`,
-    /// which keeps the calls on the channel, and `known` is what the port knows of them.
+impl<T: Clone, R: Wait + Clone, A: Allocator + Copy, J: CallJournal<T>> Lock<T, R, A, J> {
+    /// The port of a channel that the caller made, as `new` makes it. Its lock begins with
+    /// `journal`, which records the calls on the channel, and `known` is what the port knows of them.
     ///
     /// # Errors
     ///
     /// - `AllocError`: no memory for what the ports share. The channel is dropped.
     ///
     /// Source: this crate's own.
-    pub fn keeping(
+    pub fn with_journal(
         rt: R,
         alloc: A,
-        inner: Inner<T, Wake<WakerSlot<A>>, A>,
-        kept: K,
-        known: K::Known,
+        inner: Inner<T, Wake, A>,
+        journal: J,
+        known: J::Known,
     ) -> Result<Self, AllocError>
-        requires { ∥ K.keeps kept inner ∥₁ }
+        requires { ∥ J.records journal inner ∥₁ }
         ensures { IfOk result (λ port. port.known ≡ known) }
     {
-        let channel = Arc::new(alloc, Channel::new(inner, kept))?;
+        let channel = Arc::new(alloc, Channel::new(inner, journal))?;
         Ok(Lock { channel, rt, known })
     }
 
@@ -154,7 +156,7 @@ impl<T: Clone, R: Wait + Clone, A: Allocator + Copy, K: Keep<T>> Lock<T, R, A, K
     pub fn snapshot(&self, alloc: A) -> Result<Snapshot<T, A>, AllocError>
         ensures { IfOk result (λ snapshot. ShowsSomeState T.is_clone snapshot) }
     {
-        look!(self, |inner| {
+        with_channel!(self, |inner| {
             inner.invariant_holds();
             inner.snapshot(alloc)
         })
@@ -163,7 +165,7 @@ impl<T: Clone, R: Wait + Clone, A: Allocator + Copy, K: Keep<T>> Lock<T, R, A, K
     pub(crate) fn unread(&self, key: usize) -> usize
         ensures { (v : View T) × IsShown v × (result ≡ unread v key) }
     {
-        look!(self, |inner| {
+        with_channel!(self, |inner| {
             inner.invariant_holds();
             inner.unread(key)
         })
@@ -172,79 +174,72 @@ impl<T: Clone, R: Wait + Clone, A: Allocator + Copy, K: Keep<T>> Lock<T, R, A, K
     pub(crate) fn missed(&self, key: usize) -> u64
         ensures { (v : View T) × IsShown v × (result ≡ missed v key) }
     {
-        look!(self, |inner| {
+        with_channel!(self, |inner| {
             inner.invariant_holds();
             inner.missed(key)
         })
     }
 }
 
-impl<T: Clone, R: Wait + Clone, A: Allocator + Copy, K: Keep<T>> Port<T, WakerSlot<A>>
-    for Lock<T, R, A, K> {
+impl<T: Clone, R: Wait + Clone, A: Allocator + Copy, J: CallJournal<T>> KnowingPort<T, J::Known>
+    for Lock<T, R, A, J> {
     ghost use Rattle.std.specs.Prelude.{⊤};
+
+    fn set_known(&mut self, known: &J::Known) {
+        self.known = J::copy(known);
+    }
+
+    fn send_waiting(&self, known: &mut J::Known, msg: T) -> Result<Option<T>, SendError<T>> {
+        answer_of_send(self.make_until(known, &Sends, AttemptSend(msg), &NoLimit))
+    }
+
+    fn receive_waiting(
+        &self,
+        known: &mut J::Known,
+        key: usize,
+    ) -> Result<Result<T, RecvError>, AllocError> {
+        answer_of_receive(self.make_until(known, &Receives { key }, TryRecv(key), &NoLimit))
+    }
 
     ghost lacks_memory = { λ _. ⊤ };
 
-    fn send_waiting(&self, msg: T) -> Result<Option<T>, SendError<T>> {
-        self.send_waiting_seen(&mut K::same(&self.known), msg)
-    }
-
-    fn receive_waiting(&self, key: usize) -> Result<Result<T, RecvError>, AllocError> {
-        self.receive_waiting_seen(&mut K::same(&self.known), key)
-    }
-
-    fn same(&self) -> Option<Self> {
+    fn try_clone(&self) -> Option<Self> {
         let channel = Arc::try_clone(&self.channel).ok()?;
         let rt = self.rt.clone().ok()?;
         Some(Lock {
             channel,
             rt,
-            known: K::same(&self.known),
+            known: J::copy(&self.known),
         })
     }
 }
 
-impl<T: Clone, R: Wait + Clone + Clock, A: Allocator + Copy, K: Keep<T>> TimedSeenPort<
+impl<T: Clone, R: Wait + Clone + Clock, A: Allocator + Copy, J: CallJournal<T>> KnowingTimedPort<
     T,
-    WakerSlot<A>,
-> for Lock<T, R, A, K> {
-    fn send_within_seen(
+    J::Known,
+> for Lock<T, R, A, J> {
+    fn send_within(
         &self,
-        known: &mut K::Known,
+        known: &mut J::Known,
         msg: T,
         limit: Duration,
     ) -> Result<Option<T>, SendTimeoutError<T>> {
         let limit = TimeLimit::from_now(&self.rt, limit);
-        sent_in_time(self.send_until(known, msg, &limit))
-    }
-
-    fn receive_within_seen(
-        &self,
-        known: &mut K::Known,
-        key: usize,
-        limit: Duration,
-    ) -> Result<Result<T, RecvTimeoutError>, AllocError> {
-        let limit = TimeLimit::from_now(&self.rt, limit);
-        received_in_time(self.receive_until(known, key, &limit))
-    }
-}
-
-impl<T: Clone, R: Wait + Clone + Clock, A: Allocator + Copy, K: Keep<T>> TimedPort<T, WakerSlot<A>>
-    for Lock<T, R, A, K> {
-    fn send_within(&self, msg: T, limit: Duration) -> Result<Option<T>, SendTimeoutError<T>> {
-        self.send_within_seen(&mut K::same(&self.known), msg, limit)
+        sent_in_time(self.make_until(known, &Sends, AttemptSend(msg), &limit))
     }
 
     fn receive_within(
         &self,
+        known: &mut J::Known,
         key: usize,
         limit: Duration,
     ) -> Result<Result<T, RecvTimeoutError>, AllocError> {
-        self.receive_within_seen(&mut K::same(&self.known), key, limit)
+        let limit = TimeLimit::from_now(&self.rt, limit);
+        received_in_time(self.make_until(known, &Receives { key }, TryRecv(key), &limit))
     }
 }
 
-impl<T: Clone, R: Wait + Clone, A: Allocator, K: Keep<T>> Drop for Lock<T, R, A, K> {
+impl<T: Clone, R: Wait + Clone, A: Allocator, J: CallJournal<T>> Drop for Lock<T, R, A, J> {
     fn drop(self) {
         let Lock {
             channel: _,

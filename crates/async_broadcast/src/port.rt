@@ -1,12 +1,12 @@
 //! Ports: how a handle calls its channel.
 ghost use Rattle.std.specs.Prelude.{◌≡◌, true, false, IfSome, IfNone, IfOk, IfErr, OnErr};
 ghost use Rattle.futures.specs.Task.{IsArmed, Keeps};
-ghost use Rattle.bcast_model.specs.Words.{must_wait, HasPositiveCapacity, IsPossible};
+ghost use Rattle.bcast_model.specs.Words.{must_wait, HasPositiveCapacity};
 ghost use Rattle.async_broadcast.specs.Ports.{IsSame, as_try_recv};
 ghost use Rattle.async_broadcast.specs.Timed.{as_attempt, as_timed_try};
 
 use crate::timed::{RecvTimeoutError, SendTimeoutError};
-use crate::wake::{Registers, Wake};
+use crate::wake::{TaskWaker, Wake};
 use bcast_core::{AtOnce, Call, Change, Polls, RecvError, Reply, SendError, SendPoll};
 use futures::task::Context;
 use std::alloc::AllocError;
@@ -15,45 +15,62 @@ use std::time::Duration;
 /// The way from a handle to its channel: it makes a call, and returns its reply.
 ///
 /// The contracts of handles and futures hold over every port: what a method returns is the reply
-/// that the port gave to the method's call. `S` is where the notices of a port keep a task's
-/// waker: `WakerSlot`, unless memory comes from another allocator than `Global`.
+/// that the port gave to the method's call. `K` is what a caller knows of the calls on the channel,
+/// which is nothing, `()`, unless the channel keeps a journal of them. It is lent to each call, and
+/// the call adds itself.
 ///
 /// This is all that the structs of handles and of futures need of a port. It is small, so that
 /// proofs about several futures at once are small too.
-pub trait Ask<T: Clone, S>: Sized + Drop {
+pub trait Ask<T: Clone, K: Drop>: Sized + Drop {
     ghost use Rattle.bcast_model.specs.declared.run.Call.{Call};
     ghost use Rattle.bcast_model.specs.declared.run.Reply.{Reply};
     ghost use Rattle.bcast_core.specs.Kinds.{IsOfKind};
 
+    // What the port knows of the calls so far.
+    ghost knows: { Self → K };
+
     // Holds of a call and a reply that the port may give to it.
     ghost gave: { Self → Call T → Reply T → Type 0 };
 
-    /// Makes one call that never waits.
-    fn ask<C: AtOnce<T>>(&self, call: C) -> C::Answer
+    // Holds of what was known before a call, the call and its reply, and what is known then.
+    ghost learns: { K → Call T → Reply T → K → Type 0 };
+
+    /// What the port knows, for one call.
+    fn known(&self) -> K
+        ensures { result ≡ knows self.now };
+
+    /// Makes one call that never waits, and adds it to what is known.
+    fn ask<C: AtOnce<T>>(&self, known: &mut K, call: C) -> C::Answer
         requires { HasPositiveCapacity (C.call call) }
-        ensures { gave self.now (C.call call) (C.reply call result) };
+        ensures gave { known.old ≡ knows self.now
+            → gave self.now (C.call call) (C.reply call result) }
+        ensures learned { learns known.old (C.call call) (C.reply call result) known.new };
 
     /// Makes one call that may have to wait, for a task: one of the four polls, or any call as data.
-    /// If it must wait, the task is registered, and a notice for it left there. A port that needs the notice before it makes the poll registers
-    /// the task of every poll.
+    /// If it must wait, the task is registered, and a notice for it left there. A port that needs
+    /// the notice before it makes the poll registers the task of every poll.
     ///
     /// # Errors
     ///
-    /// The call is handed back, and was not made: memory for a notice was refused.
-    fn poll<C: Polls<T>, W: Registers<S>>(
+    /// The call is handed back, and was not made: memory for a notice was refused. Nothing is added
+    /// to what is known.
+    fn poll<C: Polls<T>>(
         &self,
+        known: &mut K,
         call: C,
-        task: &mut W,
+        task: &mut TaskWaker,
         cx: &mut Context<'_>,
     ) -> Result<C::Answer, C>
         requires { HasPositiveCapacity (C.call call) }
-        ensures asked { IfOk result (λ answer. gave self.now (C.call call)
-            (C.reply call answer)) }
-        ensures back { IfErr result (λ back. back ≡ call) }
+        ensures gave { IfOk result (λ answer. known.old ≡ knows self.now
+            → gave self.now (C.call call) (C.reply call answer)) }
+        ensures learned { IfOk result (λ answer. learns known.old (C.call call)
+            (C.reply call answer) known.new) }
+        ensures back { IfErr result (λ back. (back ≡ call) × (known.new ≡ known.old)) }
 
         ensures notice { IfOk result (λ answer. must_wait (C.reply call answer) ≡ true
-            → W.is_refused task.new ≡ false) }
-        ensures refused { OnErr result (W.is_refused task.new ≡ true) }
+            → task.new.is_refused ≡ false) }
+        ensures refused { OnErr result (task.new.is_refused ≡ true) }
         ensures registered { IfOk result (λ answer. must_wait (C.reply call answer) ≡ true
             → IsArmed cx.new) }
         ensures again { OnErr result (IsArmed cx.new) }
@@ -65,10 +82,10 @@ pub trait Ask<T: Clone, S>: Sized + Drop {
     ///
     /// Returns the notice of the receive that was given up, or one that wakes no task if the port
     /// doesn't give notices back.
-    fn end_future(&self, key: usize, is_answered: bool) -> Wake<S>
+    fn end_future(&self, key: usize, is_answered: bool) -> Wake
         ensures { gave self.now (Call.EndFuture key) Reply.EndFuture }
     {
-        self.ask(Change::EndFuture(key));
+        self.ask(&mut self.known(), Change::EndFuture(key));
         Wake::none()
     }
 
@@ -79,138 +96,72 @@ pub trait Ask<T: Clone, S>: Sized + Drop {
 
 /// A port that can also wait, and that handles can share. `Lock` is the port of a channel that
 /// `broadcast` made.
-pub trait Port<T: Clone, S>: Ask<T, S> {
-    /// Makes an `AttemptSend` again and again, and waits between, until it needn't wait.
-    fn send_waiting(&self, msg: T) -> Result<Option<T>, SendError<T>>
-        ensures { Self.gave self.now (Call.AttemptSend msg)
-            (Reply.AttemptSend (SendPoll.Ready result)) };
+pub trait KnowingPort<T: Clone, K: Drop>: Ask<T, K> {
+    /// Lets the port know this.
+    fn set_known(&mut self, known: &K)
+        ensures { Self.knows self.new ≡ known.now };
 
-    /// Makes a `TryRecv` again and again, and waits between, until it doesn't find `Empty`.
-    fn receive_waiting(&self, key: usize) -> Result<Result<T, RecvError>, AllocError>
-        ensures { Self.gave self.now (Call.TryRecv key) (Reply.TryRecv (as_try_recv result)) };
+    /// Makes an `AttemptSend` again and again, and waits between, until it needn't wait. The last
+    /// one is added to what is known.
+    fn send_waiting(&self, known: &mut K, msg: T) -> Result<Option<T>, SendError<T>>
+        ensures gave { known.old ≡ Self.knows self.now → Self.gave self.now (Call.AttemptSend msg)
+            (Reply.AttemptSend (SendPoll.Ready result)) }
+        ensures learned { Self.learns known.old (Call.AttemptSend msg)
+            (Reply.AttemptSend (SendPoll.Ready result)) known.new };
+
+    /// Makes a `TryRecv` again and again, and waits between, until it doesn't find `Empty`. The last
+    /// one is added to what is known.
+    fn receive_waiting(&self, known: &mut K, key: usize) -> Result<Result<T, RecvError>, AllocError>
+        ensures gave { known.old ≡ Self.knows self.now → Self.gave self.now (Call.TryRecv key)
+            (Reply.TryRecv (as_try_recv result)) }
+        ensures learned { Self.learns known.old (Call.TryRecv key)
+            (Reply.TryRecv (as_try_recv result)) known.new };
 
     // Holds of a port that may be out of memory for another one.
     ghost lacks_memory: { Self → Type 0 };
 
     /// Another port of the same channel. None: there was no memory for it.
-    fn same(&self) -> Option<Self>
+    fn try_clone(&self) -> Option<Self>
         ensures channel { IfSome result (λ port. IsSame Self.gave port self.now) }
         ensures refused { IfNone result (lacks_memory self.now) };
 }
 
 /// A port that can also wait with a limit of time. `Lock` is one if its runtime has a clock.
-pub trait TimedPort<T: Clone, S>: Port<T, S> {
+pub trait KnowingTimedPort<T: Clone, K: Drop>: KnowingPort<T, K> {
     /// Sends as `send_waiting` does, until `limit` has passed. It tries once more then. If the clock
     /// can't be read, the time counts as over.
-    fn send_within(&self, msg: T, limit: Duration) -> Result<Option<T>, SendTimeoutError<T>>
-        ensures { Self.gave self.now (Call.AttemptSend msg)
-            (Reply.AttemptSend (as_attempt result)) };
+    fn send_within(
+        &self,
+        known: &mut K,
+        msg: T,
+        limit: Duration,
+    ) -> Result<Option<T>, SendTimeoutError<T>>
+        ensures gave { known.old ≡ Self.knows self.now → Self.gave self.now (Call.AttemptSend msg)
+            (Reply.AttemptSend (as_attempt result)) }
+        ensures learned { Self.learns known.old (Call.AttemptSend msg)
+            (Reply.AttemptSend (as_attempt result)) known.new };
 
     /// Receives as `receive_waiting` does, until `limit` has passed. It tries once more then. If the
     /// clock can't be read, the time counts as over.
     fn receive_within(
         &self,
+        known: &mut K,
         key: usize,
         limit: Duration,
     ) -> Result<Result<T, RecvTimeoutError>, AllocError>
-        ensures { Self.gave self.now (Call.TryRecv key) (Reply.TryRecv (as_timed_try result)) };
-}
-
-/// A port whose calls can be added to what their caller knows of the channel. `Lock` is one: its
-/// `Keep` says what is known.
-pub trait SeenPort<T: Clone, S>: Port<T, S> {
-    ghost use Rattle.bcast_model.specs.declared.run.Call.{Call};
-    ghost use Rattle.bcast_model.specs.declared.run.Reply.{Reply};
-
-    /// What is known of the calls so far.
-    type Known: Drop;
-
-    // What the port knows.
-    ghost knows: { Self → Self.Known };
-
-    // Holds of what was known before a call, the call and its reply, and what is known then.
-    ghost learns: { Self.Known → Call T → Reply T → Self.Known → Type 0 };
-
-    /// Lets the port know this.
-    fn set_known(&mut self, known: &Self::Known)
-        ensures { knows self.new ≡ known.now };
-
-    /// Makes a call that never waits, and adds it to what is known.
-    fn ask_seen<C: AtOnce<T>>(&self, known: &mut Self::Known, call: C) -> C::Answer
-        requires { HasPositiveCapacity (C.call call) }
-        ensures learned { learns known.old (C.call call) (C.reply call result) known.new }
-        ensures possible { IsPossible T.is_clone (C.call call) (C.reply call result) };
-
-    /// Makes a call as `poll` does, and adds it to what is known.
-    ///
-    /// # Errors
-    ///
-    /// The call is handed back, and was not made: memory for a notice was refused. Nothing is added
-    /// to what is known.
-    fn poll_seen<C: Polls<T>, W: Registers<S>>(
-        &self,
-        known: &mut Self::Known,
-        call: C,
-        task: &mut W,
-        cx: &mut Context<'_>,
-    ) -> Result<C::Answer, C>
-        requires { HasPositiveCapacity (C.call call) }
-        ensures learned { IfOk result (λ answer. learns known.old (C.call call)
-            (C.reply call answer) known.new) }
-        ensures asked { IfOk result (λ answer. IsPossible T.is_clone (C.call call)
-            (C.reply call answer)) }
-        ensures back { IfErr result (λ back. (back ≡ call) × (known.new ≡ known.old)) }
-
-        ensures notice { IfOk result (λ answer. must_wait (C.reply call answer) ≡ true
-            → W.is_refused task.new ≡ false) }
-        ensures refused { OnErr result (W.is_refused task.new ≡ true) }
-        ensures registered { IfOk result (λ answer. must_wait (C.reply call answer) ≡ true
-            → IsArmed cx.new) }
-        ensures again { OnErr result (IsArmed cx.new) }
-        ensures kept { Keeps cx.old cx.new };
-
-    /// Sends as `send_waiting` does, and adds the last try to what is known.
-    fn send_waiting_seen(&self, known: &mut Self::Known, msg: T) -> Result<Option<T>, SendError<T>>
-        ensures learned { learns known.old (Call.AttemptSend msg)
-            (Reply.AttemptSend (SendPoll.Ready result)) known.new }
-        ensures possible { IsPossible T.is_clone (Call.AttemptSend msg)
-            (Reply.AttemptSend (SendPoll.Ready result)) };
-
-    /// Receives as `receive_waiting` does, and adds the last try to what is known.
-    fn receive_waiting_seen(
-        &self,
-        known: &mut Self::Known,
-        key: usize,
-    ) -> Result<Result<T, RecvError>, AllocError>
-        ensures learned { learns known.old (Call.TryRecv key)
-            (Reply.TryRecv (as_try_recv result)) known.new }
-        ensures possible { IsPossible T.is_clone (Call.TryRecv key)
-            (Reply.TryRecv (as_try_recv result)) };
-}
-
-/// A port that can also wait with a limit of time, and add such a call to what its caller knows.
-pub trait TimedSeenPort<T: Clone, S>: SeenPort<T, S> {
-    /// Sends as `send_within` does, and adds the last try to what is known.
-    fn send_within_seen(
-        &self,
-        known: &mut Self::Known,
-        msg: T,
-        limit: Duration,
-    ) -> Result<Option<T>, SendTimeoutError<T>>
-        ensures learned { Self.learns known.old (Call.AttemptSend msg)
-            (Reply.AttemptSend (as_attempt result)) known.new }
-        ensures possible { IsPossible T.is_clone (Call.AttemptSend msg)
-            (Reply.AttemptSend (as_attempt result)) };
-
-    /// Receives as `receive_within` does, and adds the last try to what is known.
-    fn receive_within_seen(
-        &self,
-        known: &mut Self::Known,
-        key: usize,
-        limit: Duration,
-    ) -> Result<Result<T, RecvTimeoutError>, AllocError>
+        ensures gave { known.old ≡ Self.knows self.now → Self.gave self.now (Call.TryRecv key)
+            (Reply.TryRecv (as_timed_try result)) }
         ensures learned { Self.learns known.old (Call.TryRecv key)
-            (Reply.TryRecv (as_timed_try result)) known.new }
-        ensures possible { IsPossible T.is_clone (Call.TryRecv key)
-            (Reply.TryRecv (as_timed_try result)) };
+            (Reply.TryRecv (as_timed_try result)) known.new };
 }
+
+/// A port whose callers needn't know anything of the channel. Functions over handles are written
+/// over it: `P: Port<u64>`.
+pub trait Port<T: Clone>: KnowingPort<T, ()> {}
+
+impl<T: Clone, P: KnowingPort<T, ()>> Port<T> for P {}
+
+/// Such a port that can also wait with a limit of time.
+pub trait TimedPort<T: Clone>: Port<T> + KnowingTimedPort<T, ()> {}
+
+impl<T: Clone, P: KnowingTimedPort<T, ()>> TimedPort<T> for P {}

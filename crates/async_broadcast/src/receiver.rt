@@ -1,12 +1,13 @@
 //! The receiving side.
-ghost use Rattle.std.specs.Prelude.{◌≡◌, true, Ok, Err, IfOk, IfErr, ◌⊎◌};
-ghost use Rattle.async_broadcast.specs.Ports.{IsSame, as_try_recv};
+ghost use Rattle.std.specs.Prelude.{◌≡◌, Ok, Err, IfOk, IfErr};
+ghost use Rattle.async_broadcast.specs.Handles.{MakesHandle};
+ghost use Rattle.async_broadcast.specs.Ports.{as_try_recv};
 
 use crate::handle::{Handle, Role};
 use crate::inactive::{Inactive, InactiveReceiver};
-use crate::port::{Ask, Port};
+use crate::port::{Ask, KnowingPort};
 use crate::sender::Sender;
-use crate::wake::{TaskWaker, WakerSlot};
+use crate::wake::TaskWaker;
 use bcast_core::{
     AddHandle, AddReceiver, Call, Change, HandleError, RecvError, Reply, Test, TryRecv,
     TryRecvError,
@@ -34,27 +35,38 @@ use std::alloc::{AllocError, Allocator, Global};
 /// ```
 ///
 /// Source: `Receiver` of async-broadcast 0.7.2.
-pub type Receiver<T, P, A = Global> = Handle<T, P, Receiving<A>, A>;
+pub type Receiver<T, P, A = Global, K = ()> = Handle<T, P, Receiving, A, K>;
 
 /// The role of a `Receiver`.
 #[derive(Drop)]
-pub struct Receiving<A: Allocator = Global> {
+pub struct Receiving {
     // The key under which the channel has the cursor.
     pub(crate) key: usize,
     // For the task that polls the receiver, as a stream or by a `Recv`.
-    pub(crate) waker: TaskWaker<A>,
+    pub(crate) waker: TaskWaker,
 }
 
-impl<T: Clone, P: Port<T, WakerSlot<A>>, A: Allocator + Copy> Receiver<T, P, A> {
+impl Receiving {
+    /// For the receiver of this key, which no task has polled.
+    pub(crate) fn new(key: usize) -> Self
+        ensures { result.key ≡ key }
+    {
+        Receiving {
+            key,
+            waker: TaskWaker::new(),
+        }
+    }
+}
+
+impl<T: Clone, P: KnowingPort<T, K>, A: Allocator + Copy, K: Drop> Receiver<T, P, A, K> {
     /// A receiver over this port, whose channel has its cursor under this key: its drop asks
     /// `DropReceiver`.
     ///
     /// Futures and handles that are made by it take their memory from `alloc`.
-    pub fn over(port: P, key: usize, alloc: A) -> Self
+    pub fn from_port(port: P, key: usize, alloc: A) -> Self
         ensures { (result.port ≡ port) × (result.role.key ≡ key) }
     {
-        let waker = TaskWaker::new(alloc);
-        Handle::new(port, Receiving { key, waker }, alloc)
+        Handle::new(port, Receiving::new(key), alloc)
     }
 
     /// Receives the next message, if there is one.
@@ -85,7 +97,8 @@ impl<T: Clone, P: Port<T, WakerSlot<A>>, A: Allocator + Copy> Receiver<T, P, A> 
             (Reply.TryRecv result) }
         ensures same { self.new ≡ self.old }
     {
-        self.port.ask(TryRecv(self.role.key))
+        self.port
+            .ask(&mut self.port.known(), TryRecv(self.role.key))
     }
 
     /// Receives the next message, and blocks the thread while there is none and the channel is
@@ -112,7 +125,8 @@ impl<T: Clone, P: Port<T, WakerSlot<A>>, A: Allocator + Copy> Receiver<T, P, A> 
             (Reply.TryRecv (as_try_recv result)) }
         ensures same { self.new ≡ self.old }
     {
-        self.port.receive_waiting(self.role.key)
+        self.port
+            .receive_waiting(&mut self.port.known(), self.role.key)
     }
 
     /// Whether the channel is closed and keeps no message.
@@ -133,7 +147,7 @@ impl<T: Clone, P: Port<T, WakerSlot<A>>, A: Allocator + Copy> Receiver<T, P, A> 
     pub fn is_terminated(&self) -> bool
         ensures { P.gave self.now.port Call.IsTerminated (Reply.IsTerminated result) }
     {
-        self.port.ask(Test::IsTerminated)
+        self.port.ask(&mut self.port.known(), Test::IsTerminated)
     }
 
     /// Makes another active receiver, which has the same messages still to read.
@@ -152,17 +166,11 @@ impl<T: Clone, P: Port<T, WakerSlot<A>>, A: Allocator + Copy> Receiver<T, P, A> 
     ///
     /// Source: `Receiver::clone` of async-broadcast 0.7.2, which never refuses.
     pub fn clone(&self) -> Result<Self, HandleError>
-        ensures channel { IfOk result (λ made. IsSame P.gave made.port self.now.port) }
-        ensures made { IfOk result (λ made. P.gave self.now.port
-            (Call.CloneReceiver self.now.role.key) (Reply.CloneReceiver (Ok made.role.key))) }
-        ensures refused { IfErr result (λ error.
-            ((error ≡ HandleError.Memory) × P.lacks_memory self.now.port)
-            ⊎ P.gave self.now.port (Call.CloneReceiver self.now.role.key)
-            (Reply.CloneReceiver (Err error))) }
+        ensures { MakesHandle P.gave P.lacks_memory self.now.port
+            (Call.CloneReceiver self.now.role.key) Reply.CloneReceiver (λ made. made.role.key)
+            result }
     {
-        let port = self.port.same().ok_or(HandleError::Memory)?;
-        let key = self.port.ask(AddReceiver::Clone(self.role.key))?;
-        Ok(Receiver::over(port, key, self.alloc))
+        self.make_receiver(&mut self.port.known(), AddReceiver::Clone(self.role.key))
     }
 
     /// Makes an active receiver, whose first message is the next one that is accepted.
@@ -183,16 +191,10 @@ impl<T: Clone, P: Port<T, WakerSlot<A>>, A: Allocator + Copy> Receiver<T, P, A> 
     ///
     /// Source: `Receiver::new_receiver` of async-broadcast 0.7.2, which never refuses.
     pub fn new_receiver(&self) -> Result<Self, HandleError>
-        ensures channel { IfOk result (λ made. IsSame P.gave made.port self.now.port) }
-        ensures made { IfOk result (λ made. P.gave self.now.port Call.NewReceiver
-            (Reply.NewReceiver (Ok made.role.key))) }
-        ensures refused { IfErr result (λ error.
-            ((error ≡ HandleError.Memory) × P.lacks_memory self.now.port)
-            ⊎ P.gave self.now.port Call.NewReceiver (Reply.NewReceiver (Err error))) }
+        ensures { MakesHandle P.gave P.lacks_memory self.now.port
+            Call.NewReceiver Reply.NewReceiver (λ made. made.role.key) result }
     {
-        let port = self.port.same().ok_or(HandleError::Memory)?;
-        let key = self.port.ask(AddReceiver::New)?;
-        Ok(Receiver::over(port, key, self.alloc))
+        self.make_receiver(&mut self.port.known(), AddReceiver::New)
     }
 
     /// Makes a sender of the channel. It doesn't open a closed one.
@@ -211,17 +213,13 @@ impl<T: Clone, P: Port<T, WakerSlot<A>>, A: Allocator + Copy> Receiver<T, P, A> 
     /// ```
     ///
     /// Source: `Receiver::new_sender` of async-broadcast 0.7.2, which never refuses.
-    pub fn new_sender(&self) -> Result<Sender<T, P, A>, HandleError>
-        ensures channel { IfOk result (λ made. IsSame P.gave made.port self.now.port) }
-        ensures made { IfOk result
-            (λ _. P.gave self.now.port Call.NewSender (Reply.NewSender (Ok tt))) }
-        ensures refused { IfErr result (λ error.
-            ((error ≡ HandleError.Memory) × P.lacks_memory self.now.port)
-            ⊎ P.gave self.now.port Call.NewSender (Reply.NewSender (Err error))) }
+    pub fn new_sender(&self) -> Result<Sender<T, P, A, K>, HandleError>
+        ensures { MakesHandle P.gave P.lacks_memory self.now.port
+            Call.NewSender Reply.NewSender (λ _. tt) result }
     {
-        let port = self.port.same().ok_or(HandleError::Memory)?;
-        self.port.ask(AddHandle::Sender)?;
-        Ok(Sender::over(port, self.alloc))
+        let port = self.port.try_clone().ok_or(HandleError::Memory)?;
+        self.port.ask(&mut self.port.known(), AddHandle::Sender)?;
+        Ok(Sender::from_port(port, self.alloc))
     }
 
     /// Turns the receiver into an inactive one, which receives nothing and keeps the channel open.
@@ -244,20 +242,21 @@ impl<T: Clone, P: Port<T, WakerSlot<A>>, A: Allocator + Copy> Receiver<T, P, A> 
     /// ```
     ///
     /// Source: `Receiver::deactivate` of async-broadcast 0.7.2, which never refuses.
-    pub fn deactivate(self) -> Result<InactiveReceiver<T, P, A>, (Self, HandleError)>
+    pub fn deactivate(self) -> Result<InactiveReceiver<T, P, A, K>, (Self, HandleError)>
         ensures made { IfOk result (λ made. (made.port ≡ self.port)
             × P.gave self.port (Call.Deactivate self.role.key) (Reply.Deactivate (Ok tt))) }
         ensures refused { IfErr result (λ back. (back.0 ≡ self)
             × P.gave self.port (Call.Deactivate self.role.key) (Reply.Deactivate (Err back.1))) }
     {
-        match self.port.ask(AddHandle::Deactivated(self.role.key)) {
-            Ok(()) => Ok(self.turned(Inactive)),
+        let call = AddHandle::Deactivated(self.role.key);
+        match self.port.ask(&mut self.port.known(), call) {
+            Ok(()) => Ok(self.with_role(Inactive)),
             Err(error) => Err((self, error)),
         }
     }
 }
 
-impl<T: Clone, A: Allocator> Role<T> for Receiving<A> {
+impl<T: Clone> Role<T> for Receiving {
     ghost use Rattle.bcast_model.specs.declared.run.Call.{Call};
     ghost use Rattle.bcast_model.specs.declared.run.Reply.{Reply};
 
@@ -266,7 +265,7 @@ impl<T: Clone, A: Allocator> Role<T> for Receiving<A> {
     ghost left = { Reply.DropReceiver };
 
     #[inline(always)]
-    fn leave<S, P: Ask<T, S>>(&self, port: &P) {
-        port.ask(Change::DropReceiver(self.key))
+    fn ask_drop<K: Drop, P: Ask<T, K>>(&self, port: &P) {
+        port.ask(&mut port.known(), Change::DropReceiver(self.key))
     }
 }

@@ -1,12 +1,11 @@
 //! The sending side.
-ghost use Rattle.std.specs.Prelude.{◌≡◌, Ok, Err, IfOk, IfErr, ◌⊎◌};
+ghost use Rattle.std.specs.Prelude.{◌≡◌};
 ghost use Rattle.bcast_model.specs.Encodings.{in_lists};
-ghost use Rattle.async_broadcast.specs.Ports.{IsSame};
+ghost use Rattle.async_broadcast.specs.Handles.{MakesHandle};
 
 use crate::handle::{Handle, Role};
-use crate::port::{Ask, Port};
+use crate::port::{Ask, KnowingPort};
 use crate::receiver::Receiver;
-use crate::wake::WakerSlot;
 use bcast_core::{
     AddHandle, AddReceiver, Call, Change, HandleError, Messages, Reply, SendError, SendPoll,
     TryBroadcast, TryBroadcastAll, TrySendError, in_vec,
@@ -19,17 +18,17 @@ use std::alloc::{Allocator, Global};
 /// are accepted, and those that are kept can still be received. Contracts name its `port`.
 ///
 /// Source: `Sender` of async-broadcast 0.7.2.
-pub type Sender<T, P, A = Global> = Handle<T, P, Sending, A>;
+pub type Sender<T, P, A = Global, K = ()> = Handle<T, P, Sending, A, K>;
 
 /// The role of a `Sender`.
 #[derive(Drop)]
 pub struct Sending;
 
-impl<T: Clone, P: Port<T, WakerSlot<A>>, A: Allocator + Copy> Sender<T, P, A> {
+impl<T: Clone, P: KnowingPort<T, K>, A: Allocator + Copy, K: Drop> Sender<T, P, A, K> {
     /// A sender over this port, whose channel has counted it: its drop asks `DropSender`.
     ///
     /// Futures and handles that are made by it take their memory from `alloc`.
-    pub fn over(port: P, alloc: A) -> Self
+    pub fn from_port(port: P, alloc: A) -> Self
         ensures { result.port ≡ port }
     {
         Handle::new(port, Sending, alloc)
@@ -63,7 +62,7 @@ impl<T: Clone, P: Port<T, WakerSlot<A>>, A: Allocator + Copy> Sender<T, P, A> {
     pub fn try_broadcast(&self, msg: T) -> Result<Option<T>, TrySendError<T>>
         ensures { P.gave self.now.port (Call.TryBroadcast msg) (Reply.TryBroadcast result) }
     {
-        self.port.ask(TryBroadcast(msg))
+        self.port.ask(&mut self.port.known(), TryBroadcast(msg))
     }
 
     /// Sends a whole list of messages in one step, unless the channel is closed, has no active
@@ -99,7 +98,8 @@ impl<T: Clone, P: Port<T, WakerSlot<A>>, A: Allocator + Copy> Sender<T, P, A> {
         ensures { P.gave self.now.port (Call.TryBroadcastAll msgs.items)
             (Reply.TryBroadcastAll (in_lists result)) }
     {
-        in_vec(self.port.ask(TryBroadcastAll(Messages::new(msgs))))
+        let call = TryBroadcastAll(Messages::new(msgs));
+        in_vec(self.port.ask(&mut self.port.known(), call))
     }
 
     /// Sends a message, and blocks the thread while the channel has no room for it, or, with
@@ -128,7 +128,7 @@ impl<T: Clone, P: Port<T, WakerSlot<A>>, A: Allocator + Copy> Sender<T, P, A> {
         ensures { P.gave self.now.port (Call.AttemptSend msg)
             (Reply.AttemptSend (SendPoll.Ready result)) }
     {
-        self.port.send_waiting(msg)
+        self.port.send_waiting(&mut self.port.known(), msg)
     }
 
     /// Makes another sender of the channel.
@@ -150,16 +150,12 @@ impl<T: Clone, P: Port<T, WakerSlot<A>>, A: Allocator + Copy> Sender<T, P, A> {
     ///
     /// Source: `Sender::clone` of async-broadcast 0.7.2, which never refuses.
     pub fn clone(&self) -> Result<Self, HandleError>
-        ensures channel { IfOk result (λ made. IsSame P.gave made.port self.now.port) }
-        ensures made { IfOk result
-            (λ _. P.gave self.now.port Call.NewSender (Reply.NewSender (Ok tt))) }
-        ensures refused { IfErr result (λ error.
-            ((error ≡ HandleError.Memory) × P.lacks_memory self.now.port)
-            ⊎ P.gave self.now.port Call.NewSender (Reply.NewSender (Err error))) }
+        ensures { MakesHandle P.gave P.lacks_memory self.now.port
+            Call.NewSender Reply.NewSender (λ _. tt) result }
     {
-        let port = self.port.same().ok_or(HandleError::Memory)?;
-        self.port.ask(AddHandle::Sender)?;
-        Ok(Sender::over(port, self.alloc))
+        let port = self.port.try_clone().ok_or(HandleError::Memory)?;
+        self.port.ask(&mut self.port.known(), AddHandle::Sender)?;
+        Ok(Sender::from_port(port, self.alloc))
     }
 
     /// Makes an active receiver, whose first message is the next one that is accepted.
@@ -180,17 +176,11 @@ impl<T: Clone, P: Port<T, WakerSlot<A>>, A: Allocator + Copy> Sender<T, P, A> {
     /// ```
     ///
     /// Source: `Sender::new_receiver` of async-broadcast 0.7.2, which never refuses.
-    pub fn new_receiver(&self) -> Result<Receiver<T, P, A>, HandleError>
-        ensures channel { IfOk result (λ made. IsSame P.gave made.port self.now.port) }
-        ensures made { IfOk result (λ made. P.gave self.now.port Call.NewReceiver
-            (Reply.NewReceiver (Ok made.role.key))) }
-        ensures refused { IfErr result (λ error.
-            ((error ≡ HandleError.Memory) × P.lacks_memory self.now.port)
-            ⊎ P.gave self.now.port Call.NewReceiver (Reply.NewReceiver (Err error))) }
+    pub fn new_receiver(&self) -> Result<Receiver<T, P, A, K>, HandleError>
+        ensures { MakesHandle P.gave P.lacks_memory self.now.port
+            Call.NewReceiver Reply.NewReceiver (λ made. made.role.key) result }
     {
-        let port = self.port.same().ok_or(HandleError::Memory)?;
-        let key = self.port.ask(AddReceiver::New)?;
-        Ok(Receiver::over(port, key, self.alloc))
+        self.make_receiver(&mut self.port.known(), AddReceiver::New)
     }
 }
 
@@ -203,7 +193,7 @@ impl<T: Clone> Role<T> for Sending {
     ghost left = { Reply.DropSender };
 
     #[inline(always)]
-    fn leave<S, P: Ask<T, S>>(&self, port: &P) {
-        port.ask(Change::DropSender)
+    fn ask_drop<K: Drop, P: Ask<T, K>>(&self, port: &P) {
+        port.ask(&mut port.known(), Change::DropSender)
     }
 }

@@ -1,19 +1,23 @@
-//! The view of a channel, as a value, through its handles.
-ghost use Rattle.std.specs.Prelude.{IfOk};
+//! What handles of a lock say of the channel at one moment: its view as a value, and how much a
+//! receiver has still to read.
+ghost use Rattle.std.specs.Prelude.{◌≡◌, IfOk};
+ghost use Rattle.bcast_model.specs.Words.{View, IsShown, unread, missed};
 ghost use Rattle.async_broadcast.specs.Snapshots.{ShowsSomeState};
 
 use crate::handle::{Handle, Role};
-use crate::keep::Keep;
+use crate::journal::CallJournal;
 use crate::lock::Lock;
+use crate::receiver::Receiver;
 use bcast_core::Snapshot;
 use std::alloc::{AllocError, Allocator};
 use std::sync::Wait;
 
-impl<T: Clone, R: Wait + Clone, A: Allocator + Copy, J: Role<T>, K: Keep<T>> Handle<
+impl<T: Clone, R: Wait + Clone, A: Allocator + Copy, H: Role<T>, J: CallJournal<T>> Handle<
     T,
-    Lock<T, R, A, K>,
-    J,
+    Lock<T, R, A, J>,
+    H,
     A,
+    J::Known,
 > {
     /// The view of the channel at one moment, with a clone of each message that it keeps.
     ///
@@ -27,5 +31,49 @@ impl<T: Clone, R: Wait + Clone, A: Allocator + Copy, J: Role<T>, K: Keep<T>> Han
         ensures { IfOk result (λ snapshot. ShowsSomeState T.is_clone snapshot) }
     {
         self.port.snapshot(self.alloc)
+    }
+}
+
+impl<T: Clone, R: Wait + Clone, A: Allocator + Copy, J: CallJournal<T>> Receiver<
+    T,
+    Lock<T, R, A, J>,
+    A,
+    J::Known,
+> {
+    /// How many of the messages that the channel keeps this receiver has still to read. `len` is
+    /// how many the channel keeps, for all receivers.
+    ///
+    /// Waits for the lock, and changes nothing. While no other call comes between, as many
+    /// `try_recv` in a row give a message, after one that says what was missed, if any was.
+    ///
+    /// ```rust
+    /// let (mut sender, mut receiver) = broadcast(&rt, rt.alloc(), 2)?;
+    /// sender.set_overflow(true);
+    /// for msg in [1, 2, 3] {
+    ///     assert!(rt; sender.try_broadcast(msg).is_ok());
+    /// }
+    /// assert!(rt; receiver.unread() == 2 && receiver.missed() == 1);
+    /// assert!(rt; matches!(receiver.try_recv(), Ok(Err(TryRecvError::Overflowed(1)))));
+    /// assert!(rt; matches!(receiver.try_recv(), Ok(Ok(2))));
+    /// assert!(rt; receiver.unread() == 1 && receiver.missed() == 0);
+    /// ```
+    ///
+    /// Source: this crate's own; `Receiver::len` of tokio's broadcast counts what was missed too.
+    pub fn unread(&self) -> usize
+        ensures { (v : View T) × IsShown v × (result ≡ unread v self.now.role.key) }
+    {
+        self.port.unread(self.role.key)
+    }
+
+    /// How many messages were dropped before this receiver read them, and were not yet counted as
+    /// missed: if that isn't 0, the next receive says so.
+    ///
+    /// Waits for the lock, and changes nothing. The example is that of `unread`.
+    ///
+    /// Source: this crate's own.
+    pub fn missed(&self) -> u64
+        ensures { (v : View T) × IsShown v × (result ≡ missed v self.now.role.key) }
+    {
+        self.port.missed(self.role.key)
     }
 }

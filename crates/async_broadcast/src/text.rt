@@ -7,11 +7,10 @@ use crate::inactive::InactiveReceiver;
 use crate::port::Ask;
 use crate::receiver::Receiver;
 use crate::sender::Sender;
-use crate::wake::WakerSlot;
 use std::alloc::Allocator;
 use std::fmt;
 
-impl<T: Clone, P: Ask<T, WakerSlot<A>>, A: Allocator> fmt::Debug for Sender<T, P, A> {
+impl<T: Clone, P: Ask<T, K>, A: Allocator, K: Drop> fmt::Debug for Sender<T, P, A, K> {
     ghost debug_output = { λ _. Some (codes "Sender { .. }") };
 
     fn fmt<W: fmt::Write>(&self, f: &mut fmt::Formatter<W>) -> fmt::Result {
@@ -19,7 +18,7 @@ impl<T: Clone, P: Ask<T, WakerSlot<A>>, A: Allocator> fmt::Debug for Sender<T, P
     }
 }
 
-impl<T: Clone, P: Ask<T, WakerSlot<A>>, A: Allocator> fmt::Debug for Receiver<T, P, A> {
+impl<T: Clone, P: Ask<T, K>, A: Allocator, K: Drop> fmt::Debug for Receiver<T, P, A, K> {
     ghost debug_output = { λ _. Some (codes "Receiver { .. }") };
 
     fn fmt<W: fmt::Write>(&self, f: &mut fmt::Formatter<W>) -> fmt::Result {
@@ -27,7 +26,7 @@ impl<T: Clone, P: Ask<T, WakerSlot<A>>, A: Allocator> fmt::Debug for Receiver<T,
     }
 }
 
-impl<T: Clone, P: Ask<T, WakerSlot<A>>, A: Allocator> fmt::Debug for InactiveReceiver<T, P, A> {
+impl<T: Clone, P: Ask<T, K>, A: Allocator, K: Drop> fmt::Debug for InactiveReceiver<T, P, A, K> {
     ghost debug_output = { λ _. Some (codes "InactiveReceiver { .. }") };
 
     fn fmt<W: fmt::Write>(&self, f: &mut fmt::Formatter<W>) -> fmt::Result {
@@ -35,7 +34,7 @@ impl<T: Clone, P: Ask<T, WakerSlot<A>>, A: Allocator> fmt::Debug for InactiveRec
     }
 }
 
-impl<T: Clone, P: Ask<T, WakerSlot<A>>, A: Allocator> fmt::Debug for Send<'_, T, P, A> {
+impl<T: Clone, P: Ask<T, K>, A: Allocator, K: Drop> fmt::Debug for Send<'_, T, P, A, K> {
     ghost debug_output = { λ _. Some (codes "Send { .. }") };
 
     fn fmt<W: fmt::Write>(&self, f: &mut fmt::Formatter<W>) -> fmt::Result {
@@ -43,7 +42,7 @@ impl<T: Clone, P: Ask<T, WakerSlot<A>>, A: Allocator> fmt::Debug for Send<'_, T,
     }
 }
 
-impl<T: Clone, P: Ask<T, WakerSlot<A>>, A: Allocator> fmt::Debug for Recv<'_, T, P, A> {
+impl<T: Clone, P: Ask<T, K>, A: Allocator, K: Drop> fmt::Debug for Recv<'_, T, P, A, K> {
     ghost debug_output = { λ _. Some (codes "Recv { .. }") };
 
     fn fmt<W: fmt::Write>(&self, f: &mut fmt::Formatter<W>) -> fmt::Result {

@@ -1,20 +1,19 @@
-//! Blocking calls with a limit of time.
-ghost use Rattle.std.specs.Prelude.{◌≡◌};
-ghost use Rattle.async_broadcast.specs.Timed.{as_attempt, as_timed_try};
+//! Blocking calls with a limit of time, and their errors.
+ghost use Rattle.std.specs.Prelude.{◌≡◌, ◌↔◌, Some, IsTrue};
+ghost use Rattle.async_broadcast.specs.Timed.{as_attempt, as_timed_try, unsent_message};
+ghost use Rattle.async_broadcast.specs.Timed.{send_timeout_text, send_timeout_debug};
+ghost use Rattle.async_broadcast.specs.Timed.{recv_timeout_text};
 
-use crate::port::{TimedPort, TimedSeenPort};
+use crate::port::KnowingTimedPort;
 use crate::receiver::Receiver;
 use crate::sender::Sender;
-use crate::wake::WakerSlot;
 use bcast_core::{Call, Reply};
 use std::alloc::{AllocError, Allocator};
+use std::error::Error;
+use std::fmt;
 use std::time::Duration;
 
-mod error;
-
-pub use error::{RecvTimeoutError, SendTimeoutError};
-
-impl<T: Clone, P: TimedPort<T, WakerSlot<A>>, A: Allocator + Copy> Sender<T, P, A> {
+impl<T: Clone, P: KnowingTimedPort<T, K>, A: Allocator + Copy, K: Drop> Sender<T, P, A, K> {
     /// Sends a message as `broadcast_blocking` does, and gives up once `limit` has passed. Waiting
     /// for the lock, and until the system runs the thread again, comes on top.
     ///
@@ -49,11 +48,11 @@ impl<T: Clone, P: TimedPort<T, WakerSlot<A>>, A: Allocator + Copy> Sender<T, P, 
         ensures { P.gave self.now.port (Call.AttemptSend msg)
             (Reply.AttemptSend (as_attempt result)) }
     {
-        self.port.send_within(msg, limit)
+        self.port.send_within(&mut self.port.known(), msg, limit)
     }
 }
 
-impl<T: Clone, P: TimedPort<T, WakerSlot<A>>, A: Allocator + Copy> Receiver<T, P, A> {
+impl<T: Clone, P: KnowingTimedPort<T, K>, A: Allocator + Copy, K: Drop> Receiver<T, P, A, K> {
     /// Receives the next message as `recv_blocking` does, and gives up once `limit` has passed.
     /// Waiting for the lock, and until the system runs the thread again, comes on top.
     ///
@@ -90,40 +89,92 @@ impl<T: Clone, P: TimedPort<T, WakerSlot<A>>, A: Allocator + Copy> Receiver<T, P
             (Reply.TryRecv (as_timed_try result)) }
         ensures same { self.new ≡ self.old }
     {
-        self.port.receive_within(self.role.key, limit)
+        self.port
+            .receive_within(&mut self.port.known(), self.role.key, limit)
     }
 }
 
-impl<T: Clone, P: TimedSeenPort<T, WakerSlot<A>>, A: Allocator + Copy> Sender<T, P, A> {
-    /// Sends a message as `broadcast_timeout` does, and adds the last try to `known`.
+/// Why `broadcast_timeout` did not accept a message, which it hands back. Printing it needs no
+/// trait of `T`.
+#[derive(Clone, Copy, Drop, PartialEq, Eq)]
+pub enum SendTimeoutError<T> {
+    /// The time is over: there is still no room, or, with `await_active`, no active receiver.
+    Timeout(T),
+    /// The channel is closed, or it has no active receiver and `await_active` is off.
+    Refused(T),
+}
+
+/// Why `recv_timeout` gave no message.
+#[derive(Clone, Copy, Debug, PartialEq, Eq)]
+pub enum RecvTimeoutError {
+    /// This many messages were dropped before the receiver read them. It continues after them.
+    Overflowed(u64),
+    /// The time is over: every message was read, and the channel is open.
+    Timeout,
+    /// Every message was read, and the channel is closed.
+    Closed,
+}
+
+impl<T> SendTimeoutError<T> {
+    /// The message that was not sent.
+    ///
+    /// Source: this crate's own, as `SendError::into_inner`.
+    pub fn into_inner(self) -> T
+        ensures { result ≡ unsent_message self }
+    {
+        match self {
+            SendTimeoutError::Timeout(msg) => msg,
+            SendTimeoutError::Refused(msg) => msg,
+        }
+    }
+
+    /// Whether this is `Timeout`. If not, the channel is closed, or it has no active receiver and
+    /// `await_active` is off.
     ///
     /// Source: this crate's own.
-    pub fn broadcast_timeout_seen(
-        &self,
-        known: &mut P::Known,
-        msg: T,
-        limit: Duration,
-    ) -> Result<Option<T>, SendTimeoutError<T>>
-        ensures { P.learns known.old (Call.AttemptSend msg)
-            (Reply.AttemptSend (as_attempt result)) known.new }
+    pub fn is_timeout(&self) -> bool
+        ensures { IsTrue result ↔ (self.now ≡ SendTimeoutError.Timeout (unsent_message self.now)) }
     {
-        self.port.send_within_seen(known, msg, limit)
+        matches!(self, SendTimeoutError::Timeout(_))
     }
 }
 
-impl<T: Clone, P: TimedSeenPort<T, WakerSlot<A>>, A: Allocator + Copy> Receiver<T, P, A> {
-    /// Receives the next message as `recv_timeout` does, and adds the last try to `known`.
-    ///
-    /// Source: this crate's own.
-    pub fn recv_timeout_seen(
-        &mut self,
-        known: &mut P::Known,
-        limit: Duration,
-    ) -> Result<Result<T, RecvTimeoutError>, AllocError>
-        ensures learned { P.learns known.old (Call.TryRecv self.old.role.key)
-            (Reply.TryRecv (as_timed_try result)) known.new }
-        ensures same { self.new ≡ self.old }
-    {
-        self.port.receive_within_seen(known, self.role.key, limit)
+impl<T> fmt::Display for SendTimeoutError<T> {
+    ghost output = { λ error. Some (send_timeout_text error) };
+
+    fn fmt<W: fmt::Write>(&self, f: &mut fmt::Formatter<W>) -> fmt::Result {
+        f.write_str(match self {
+            SendTimeoutError::Timeout(_) => "sending timed out",
+            SendTimeoutError::Refused(_) => "sending into a closed channel",
+        })
     }
 }
+
+impl<T> fmt::Debug for SendTimeoutError<T> {
+    ghost debug_output = { λ error. Some (send_timeout_debug error) };
+
+    fn fmt<W: fmt::Write>(&self, f: &mut fmt::Formatter<W>) -> fmt::Result {
+        f.write_str(match self {
+            SendTimeoutError::Timeout(_) => "Timeout(..)",
+            SendTimeoutError::Refused(_) => "Refused(..)",
+        })
+    }
+}
+
+impl<T: Drop> Error for SendTimeoutError<T> {}
+
+impl fmt::Display for RecvTimeoutError {
+    ghost output = { λ error. Some (recv_timeout_text error) };
+
+    fn fmt<W: fmt::Write>(&self, f: &mut fmt::Formatter<W>) -> fmt::Result {
+        match self {
+            RecvTimeoutError::Overflowed(missed) => {
+                write!(f, "receiving skipped {missed} messages")
+            }
+            RecvTimeoutError::Timeout => f.write_str("receiving timed out"),
+            RecvTimeoutError::Closed => f.write_str("receiving from an empty and closed channel"),
+        }
+    }
+}
+
+impl Error for RecvTimeoutError {}

@@ -1,93 +1,43 @@
 //! What wakes the task that a poll left waiting.
-ghost use Rattle.std.specs.Prelude.{◌≡◌, not, IsSome, IfSome, is_some, is_none};
+ghost use Rattle.std.specs.Prelude.{◌≡◌, true, false, not, is_some, IfOk, OnOk, OnErr};
 ghost use Rattle.futures.specs.Task.{IsArmed, Keeps};
 
-use bcast_core::Notice;
-use futures::spin::lock;
+use bcast_core::{MakesNotice, NoNotice, Notice};
 use futures::task::{Context, Poll, Source, Waker};
-use std::alloc::{Allocator, Global};
 use std::marker::Model;
-use std::sync::{Arc, Mutex};
-
-pub(crate) mod making;
-
-/// Where a task's waker is kept between the polls of a future or a receiver, if its port doesn't
-/// give notices back.
-pub type WakerSlot<A = Global> = Arc<Mutex<Option<Waker>>, A>;
 
 /// The notice of a poll: when it is called it wakes the poll's task, or no task.
 #[derive(Drop)]
-pub struct Wake<S = WakerSlot> {
-    // The task's waker, for a notice that its port gives back to the next poll.
+pub struct Wake {
     waker: Option<Waker>,
-    // Where the waker is kept, for any other notice.
-    slot: Option<S>,
 }
 
-impl<S> Wake<S> {
-    /// A notice that wakes no task, for a call that never waits.
+impl Wake {
+    /// A notice that wakes no task, for a call that never waits, or a poll that registers its task.
     pub fn none() -> Self {
-        Wake {
-            waker: None,
-            slot: None,
-        }
+        Wake { waker: None }
     }
 }
 
-impl<A: Allocator> Notice for Wake<WakerSlot<A>> {
+impl Notice for Wake {
     fn tell(&mut self) {
         // A waker that is dropped wakes its task.
         self.waker = None;
-        if let Some(slot) = &self.slot {
-            if let Some(mut waker) = lock(&**slot) {
-                *waker = None;
-            }
-        }
     }
-}
-
-/// What registers the task of a poll.
-pub trait Registers<S> {
-    ghost use Rattle.std.specs.Prelude.{Bool};
-
-    // Whether memory for a notice was refused at the last registering.
-    ghost is_refused: { Self → Bool };
-
-    /// Registers the poll's task, and makes a notice for it. None: there was no memory for one.
-    ///
-    /// For a port that doesn't give notices back: all notices made here share the task's waker.
-    fn register(&mut self, cx: &mut Context<'_>) -> Option<Wake<S>>
-        ensures refused { is_refused self.new ≡ is_none result }
-        ensures registered { IsArmed cx.new }
-        ensures kept { Keeps cx.old cx.new };
-
-    /// Registers the poll's task in a notice: a new one, or the one that the last poll left, where
-    /// the port keeps it. Returns whether the notice has the task's waker then; it has none if
-    /// there was no memory for one.
-    fn register_in(&mut self, wake: &mut Wake<S>, cx: &mut Context<'_>) -> bool
-        ensures refused { is_refused self.new ≡ not result }
-        ensures waker { is_some wake.new.waker ≡ result }
-        ensures registered { IsArmed cx.new }
-        ensures kept { Keeps cx.old cx.new };
 }
 
 /// Registers the task of a future or a receiver, from one poll to the next. Handles and futures
 /// keep one; code that polls a port by itself makes one for each of its futures.
 #[derive(Drop)]
-pub struct TaskWaker<A: Allocator = Global> {
+pub struct TaskWaker {
     source: Source,
-    alloc: A,
-    // Shared by all notices that `register` makes, so that a newer one doesn't wake the task by the
-    // drop of an older one. Made by the first poll, and then kept: dropped with a waker in it, it
-    // wakes the task.
-    slot: Option<WakerSlot<A>>,
     // The waker of a notice that was not needed any more, for the next notice.
     unused: Option<Waker>,
     // Whether memory for a notice was refused at the last poll.
     is_refused: bool,
 }
 
-impl<A: Allocator> Model for TaskWaker<A> {
+impl Model for TaskWaker {
     ghost use Rattle.async_broadcast.specs.Encodings.{task_waker_code};
     ghost use Rattle.async_broadcast.specs.TaskWakers.{TaskWaker as Seen};
 
@@ -98,60 +48,20 @@ impl<A: Allocator> Model for TaskWaker<A> {
     ghost view = { λ task. record { is_refused = task.is_refused } };
 }
 
-impl<A: Allocator + Copy> TaskWaker<A> {
-    /// For a task that was not registered yet. It allocates from `alloc`, at its first poll.
-    pub fn new(alloc: A) -> Self {
+impl TaskWaker {
+    /// For a task that was not registered yet.
+    pub fn new() -> Self {
         TaskWaker {
             source: Source::new(),
-            alloc,
-            slot: None,
             unused: None,
             is_refused: false,
         }
     }
-}
 
-impl<A: Allocator> TaskWaker<A> {
-    /// Keeps the waker of a notice that was given back and is not needed any more: if it were
-    /// dropped, it would wake the task.
-    #[inline(always)]
-    pub(crate) fn keep(&mut self, wake: Wake<WakerSlot<A>>)
-        ensures { self.new ≡ self.old }
-    {
-        let Wake { waker, slot: _ } = wake;
-        if waker.is_some() {
-            self.unused = waker;
-        }
-    }
-}
-
-impl<A: Allocator + Copy> TaskWaker<A> {
-    /// Registers the task of a poll that makes no call. In a function of its own, so that a poll
-    /// that makes one clears no memory for a notice.
-    #[inline(never)]
-    pub(crate) fn register_only(&mut self, cx: &mut Context<'_>)
-        ensures registered { IsArmed cx.new }
-        ensures kept { Keeps cx.old cx.new }
-    {
-        self.register(cx);
-    }
-}
-
-impl<A: Allocator + Copy> Registers<WakerSlot<A>> for TaskWaker<A> {
-    ghost is_refused = { λ task. task.is_refused };
-
-    #[inline(never)]
-    fn register(&mut self, cx: &mut Context<'_>) -> Option<Wake<WakerSlot<A>>>
-        ensures refused { self.new.is_refused ≡ is_none result }
-        ensures registered { IsArmed cx.new }
-        ensures kept { Keeps cx.old cx.new }
-    {
-        let notice = notice_in(&mut self.slot, self.alloc, &self.source, cx);
-        self.is_refused = notice.is_none();
-        notice
-    }
-
-    fn register_in(&mut self, wake: &mut Wake<WakerSlot<A>>, cx: &mut Context<'_>) -> bool
+    /// Registers the poll's task in a notice: a new one, or the one that the last poll left where
+    /// the port keeps it. Returns whether the notice has the task's waker then; it has none if
+    /// there was no memory for one.
+    pub fn register(&mut self, wake: &mut Wake, cx: &mut Context<'_>) -> bool
         ensures refused { self.new.is_refused ≡ not result }
         ensures waker { is_some wake.new.waker ≡ result }
         ensures registered { IsArmed cx.new }
@@ -165,50 +75,114 @@ impl<A: Allocator + Copy> Registers<WakerSlot<A>> for TaskWaker<A> {
         self.is_refused = !has_waker;
         has_waker
     }
+
+    /// Has the task polled again, for a port that had no memory for the poll's notice.
+    pub fn refuse(&mut self, cx: &mut Context<'_>)
+        ensures refused { self.new.is_refused ≡ true }
+        ensures registered { IsArmed cx.new }
+        ensures kept { Keeps cx.old cx.new }
+    {
+        let _: Poll<()> = cx.yield_now();
+        self.is_refused = true;
+    }
+
+    /// Takes back a notice that is not needed any more: if its waker were dropped, it would wake
+    /// the task.
+    #[inline(always)]
+    pub fn put_back(&mut self, wake: Wake)
+        ensures { self.new ≡ self.old }
+    {
+        let Wake { waker } = wake;
+        if waker.is_some() {
+            self.unused = waker;
+        }
+    }
+
+    /// Registers the task of a poll that makes no call. In a function of its own, so that a poll
+    /// that makes one clears no memory for a notice.
+    #[inline(never)]
+    pub(crate) fn register_idle(&mut self, cx: &mut Context<'_>)
+        ensures registered { IsArmed cx.new }
+        ensures kept { Keeps cx.old cx.new }
+    {
+        let mut wake = Wake::none();
+        self.register(&mut wake, cx);
+        self.put_back(wake);
+    }
 }
 
-// The notice of a task whose waker is kept in this slot, which the first call makes.
-fn notice_in<A: Allocator + Copy>(
-    slot: &mut Option<WakerSlot<A>>,
-    alloc: A,
-    source: &Source,
-    cx: &mut Context<'_>,
-) -> Option<Wake<WakerSlot<A>>>
-    ensures slot { IsSome slot.old → slot.new ≡ slot.old }
-    ensures registered { IsArmed cx.new }
-    ensures kept { Keeps cx.old cx.new }
-{
-    if slot.is_none() {
-        *slot = Arc::new(alloc, Mutex::new(None)).ok();
-    }
-    let Some(slot) = &*slot else {
-        let _: Poll<()> = cx.yield_now();
-        return None;
-    };
-    register_at(slot, source, cx)
+/// A context in which the task of a poll is registered: a `Context`.
+///
+/// If a struct holds a `&mut`, a proof knows the value after it only if the value's type names no
+/// lifetime, and that of a `Context` names one. So `ForTask` takes the type as a parameter, as
+/// does the function that makes one.
+pub(crate) trait Registers {
+    // Holds of a context before and after a task was registered in it.
+    ghost registered: { Self → Self → Type 0 };
+
+    /// Registers a task here, as `TaskWaker::register` does.
+    fn register(&mut self, task: &mut TaskWaker, wake: &mut Wake) -> bool
+        ensures refused { task.new.is_refused ≡ not result }
+        ensures waker { is_some wake.new.waker ≡ result }
+        ensures registered { registered self.old self.new };
 }
 
-// A context that is out of memory for a waker leaves none, and has its task polled again.
-fn register_at<A: Allocator + Copy>(
-    slot: &WakerSlot<A>,
-    source: &Source,
-    cx: &mut Context<'_>,
-) -> Option<Wake<WakerSlot<A>>>
-    ensures registered { IsArmed cx.new }
-    ensures kept { Keeps cx.old cx.new }
-{
-    let Some(mut waker) = lock(&**slot) else {
-        let _: Poll<()> = cx.yield_now();
-        return None;
-    };
-    let _: Poll<()> = cx.register(source, &mut *waker);
-    let has_waker = waker.is_some();
-    if !has_waker {
-        return None;
+impl Registers for Context<'_> {
+    ghost registered = { λ old new. IsArmed new × Keeps old new };
+
+    #[inline(always)]
+    fn register(&mut self, task: &mut TaskWaker, wake: &mut Wake) -> bool {
+        task.register(wake, self)
     }
-    let slot = Arc::try_clone(slot).ok()?;
-    Some(Wake {
-        waker: None,
-        slot: Some(slot),
-    })
+}
+
+/// Makes the notice of a poll by registering the poll's task.
+#[derive(Drop)]
+pub(crate) struct ForTask<'a, C> {
+    task: &'a mut TaskWaker,
+    cx: &'a mut C,
+}
+
+impl<'a, C> ForTask<'a, C> {
+    #[inline(always)]
+    pub(crate) fn new(task: &'a mut TaskWaker, cx: &'a mut C) -> Self
+        ensures task { result.task.now ≡ task.old }
+        ensures cx { result.cx.now ≡ cx.old }
+        ensures same_task { result.task.ghost_name ≡ task.entry.ghost_name }
+        ensures same_cx { result.cx.ghost_name ≡ cx.entry.ghost_name }
+    {
+        ForTask { task, cx }
+    }
+}
+
+impl<C: Registers> MakesNotice<Wake> for ForTask<'_, C> {
+    ghost use Rattle.async_broadcast.specs.Made.{RegistersTask};
+
+    ghost made = { λ old new. RegistersTask C.registered false old new };
+
+    ghost refused = { λ old new. RegistersTask C.registered true old new };
+
+    #[inline(always)]
+    fn make(&mut self) -> Result<Wake, NoNotice>
+        ensures waker { IfOk result (λ wake. is_some wake.waker ≡ true) }
+        ensures made { OnOk result (RegistersTask C.registered false self.old self.new) }
+        ensures refused { OnErr result (RegistersTask C.registered true self.old self.new) }
+    {
+        let mut wake = Wake::none();
+        self.renew(&mut wake)?;
+        Ok(wake)
+    }
+
+    #[inline(always)]
+    fn renew(&mut self, wake: &mut Wake) -> Result<(), NoNotice>
+        ensures waker { OnOk result (is_some wake.new.waker ≡ true) }
+        ensures made { OnOk result (RegistersTask C.registered false self.old self.new) }
+        ensures refused { OnErr result (RegistersTask C.registered true self.old self.new) }
+    {
+        if self.cx.register(self.task, wake) {
+            Ok(())
+        } else {
+            Err(NoNotice)
+        }
+    }
 }

@@ -20,7 +20,7 @@ module _ {T : Type 0} where
         next = sym (ap (λ x. tell_if_ready x (settle v (effect v c r))) may ∙ ap (λ (w : View T). tell_if_ready (not (sends_are_ready v)) w) (ap (settle v) idle ∙ settle_same v (valid_shown shown)) ∙ told_nobody v);
       })
 
-  -- the same call under another name
+  -- a call has its answer under another name, too
   pub named : {is_clone : T → T → Type 0} {old new : View T} {c made : Call T} {r : Reply T} → c ≡ made → Answers is_clone old made r new → Answers is_clone old c r new
   named {is_clone = is_clone} {old = old} {new = new} {r = r} is a = subst (λ x. Answers is_clone old x r new) (sym is) a
 

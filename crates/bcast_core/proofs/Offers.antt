@@ -49,7 +49,7 @@ module _ {T : Type 0} where
   offer_all_nothing v [] valid opened some n = grind (arith, common_steps, settle_same)
   offer_all_nothing v (msg ∷ rest) valid opened some n = let none = is_zero (length (msg ∷ rest)) n in absurd (omega (arith, none))
 
-  -- nor does it if the list is refused
+  -- a list that is refused changes nothing
   pub offer_all_refused : (v : View T) (msgs : List T) → IsValidView v → is_ok (try_broadcast_all_reply v msgs) ≡ false → settle v (offer_all v msgs) ≡ v
   offer_all_refused v msgs valid is = ap (λ b. settle v (cond b (accept_all v msgs) (sets v.control))) is ∙ settle_same v valid
 

@@ -80,7 +80,7 @@ module _ {T : Type 0} where
       let cursor = cursor_of v.control key in
       steps_polled v new (call.PollNext key) (key, kind.Stream) (skipped_to v.front cursor) (next_reply (skipped_count v.front cursor)) reply.PollNext found valid polled (λ r legal. legal) (λ a. refl) refl (λ n. tt)
 
-  -- the same of the listener, where it read, and what it skipped, that were looked up
+  -- `steps_as`, if the listener, where it read, and what it skipped were looked up
   pub receive_steps : {is_clone : T → T → Type 0} (poll : ReceivePoll) (v new : View T) (key skips : ℕ) (kind : Kind) (at : Option ℕ) (found : Result (Result T TryRecvError) AllocError) → IsValidView v
       → kind ≡ kind_of poll → at ≡ reads_at poll v key → skips ≡ skips_of poll v key → IsPolled is_clone v (key, kind) at found new
       → Steps is_clone v (call_of poll key) (reply_of poll (record { found = found; skips = skips })) new

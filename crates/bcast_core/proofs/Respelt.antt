@@ -46,7 +46,7 @@ module _ {T : Type 0} where
   does_receive v new key (Ok answer) valid legal ok err = record { legal = legal; effect = ok }
   does_receive v new key (Err e) valid legal ok err = does_nothing valid legal refl err
 
-  -- the same for a cursor that was looked up
+  -- `does_receive`, for a cursor that was looked up
   pub does_receive_at : {is_clone : T → T → Type 0} (v new : View T) (key : ℕ) (at : Option ℕ) (r : Result (Result T TryRecvError) AllocError) → at ≡ cursor_of v.control key → IsValidView v
       → IsReceived is_clone (IsOwed v key at) (λ a. reply.TryRecv (Ok a)) (reply.TryRecv (Err alloc_error)) (try_recv_reply v at) (reply.TryRecv r)
       → OnOk r (new ≡ settle v (sets (receive v key at))) → OnErr r (new ≡ v) → Does is_clone v (call.TryRecv key) (reply.TryRecv r) new

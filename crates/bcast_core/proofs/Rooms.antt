@@ -55,7 +55,7 @@ module _ {T : Type 0} where
   with_own_cursors : (s : Stored T) → least (end_of s) (values s.cursors) ≤ s.front → with_cursors s s.cursors ≡ s
   with_own_cursors s low = grind (arith, common_steps)
 
-  -- nor does a receiver that was added and removed at once
+  -- a receiver that was added and removed at once doesn't change a store
   pub taken_back : (s : Stored T) (key cursor : ℕ) → get s.cursors key ≡ None → least (end_of s) (values s.cursors) ≤ s.front
       → with_cursors s (remove (insert s.cursors key cursor) key) ≡ s
   taken_back s key cursor fresh low = ap (with_cursors s) (remove-insert s.cursors key cursor fresh) ∙ with_own_cursors s low

@@ -31,7 +31,7 @@ module _ {T : Type 0} where
   pub told_valid : (v : View T) → IsValidView v → tell_if_ready true v ≡ v
   told_valid v valid = tell_once false v (λ _. valid.wake_ups.sends)
 
-  -- nor once a receiver waits in it
+  -- no further send is told once a receiver waits in a valid state
   pub told_waiting : (v : View T) (pair : Pair) → IsValidView v → tell_if_ready true (record v { control = pair_waits v.control pair }) ≡ record v { control = pair_waits v.control pair }
   told_waiting v pair valid = tell_once false (record v { control = pair_waits v.control pair }) (λ _. valid.wake_ups.sends)
 

@@ -61,7 +61,8 @@ pub trait AtOnce<T: Clone>: CallOf<T> {
     /// Makes the call.
     fn make<N: Notice, A: Allocator + Copy>(self, inner: &mut Inner<T, N, A>) -> Self::Answer
         requires { HasPositiveCapacity (Self.call self) }
-        ensures { Answers T.is_clone inner.old (Self.call self) (Self.reply self result) inner.new };
+        ensures { Answers T.is_clone inner.old (Self.call self) (Self.reply self result)
+            inner.new };
 }
 
 /// A call that may have to wait, and leaves a notice then.

@@ -15,7 +15,7 @@ use crate::receive_poll::ReceivePoll;
 use crate::state::Inner;
 use bcast_model::run::{Call, Reply};
 use bcast_queue::Uncounted;
-use bcast_waiting::notice::{Given, MakesNotice, Notice, Silent};
+use bcast_waiting::notice::{MakesNotice, Notice, OwnedNotice, Silent};
 use std::alloc::{Allocator, Global};
 
 /// Makes the one state call that `call` names, and returns its reply.
@@ -36,7 +36,7 @@ pub fn step<T: Clone, N: Notice, A: Allocator + Copy>(
     // If a clone equals its original, receives give the messages themselves.
     ensures exact { ClonesEqual T.is_clone → Answers NoClone inner.old call result inner.new }
 {
-    match poll(inner, call, &mut Given::new(notice)) {
+    match poll(inner, call, &mut OwnedNotice::new(notice)) {
         Ok(reply) => reply,
         Err(_) => unreachable!(),
     }

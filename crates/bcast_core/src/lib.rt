@@ -20,7 +20,7 @@ pub use bcast_model::listener::Kind;
 pub use bcast_model::messages::{Messages, in_vec};
 pub use bcast_model::run::{Call, Reply, SendPoll};
 pub use bcast_queue::Steps;
-pub use bcast_waiting::notice::{Given, MakesNotice, Notice, Refused, Silent};
+pub use bcast_waiting::notice::{MakesNotice, NoNotice, Notice, OwnedNotice, Silent};
 pub use calls::changes::{Change, Close, SetCapacity};
 pub use calls::handles::{AddHandle, AddReceiver};
 pub use calls::messages::{AttemptSend, BeginSend, TryBroadcast, TryBroadcastAll, TryRecv};

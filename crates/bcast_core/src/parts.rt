@@ -164,7 +164,7 @@ impl<T: Drop, N: Notice, A: Allocator + Copy> Parts<T, N, A> {
     }
 
     /// Whether a send would be answered without waiting.
-    pub fn is_ready(&self) -> bool
+    pub fn sends_are_ready(&self) -> bool
         ensures { result ≡ sends_are_ready self.now }
     {
         let nobody = self.has_no_receiver();
@@ -205,7 +205,7 @@ impl<T: Drop, N: Notice, A: Allocator + Copy> Parts<T, N, A> {
     fn tell_first_sender(&mut self)
         ensures { self.new ≡ tell_if_ready true self.old }
     {
-        if self.is_ready() {
+        if self.sends_are_ready() {
             self.sends.tell_one();
         }
     }

@@ -51,7 +51,7 @@ impl<T: Drop, N: Notice, A: Allocator> Drop for Inner<T, N, A> {
 }
 
 impl<T: Drop, N: Notice, A: Allocator + Copy> Inner<T, N, A> {
-    ghost use Rattle.bcast_model.specs.Words.{IsValid, Represents, IsShown};
+    ghost use Rattle.bcast_model.specs.Words.{IsValid, Represents, IsShown, sends_are_ready};
 
     /// A new channel of this capacity, and the key of its first receiver.
     ///
@@ -138,6 +138,15 @@ impl<T: Drop, N: Notice, A: Allocator + Copy> Inner<T, N, A> {
         ensures { result ≡ self.now.control.closed }
     {
         self.parts.is_closed()
+    }
+
+    /// Whether a send would be answered without waiting: there is room for it, or it is refused.
+    ///
+    /// Source: this crate's own.
+    pub fn sends_are_ready(&self) -> bool
+        ensures { result ≡ sends_are_ready self.now }
+    {
+        self.parts.sends_are_ready()
     }
 
     /// Whether the channel is closed and no message is kept, for any receiver.

@@ -59,7 +59,7 @@ module _ {T : Type 0} where
     | false ↦ refl
   ]
 
-  -- neither drops a message
+  -- no message is dropped, refused or not
   no_floor : (v : View T) (r : Reply T) (c : Control) → (set_unless_refused v r c).floor ≡ 0
   no_floor v r c = elim (is_out_of_memory r) as (λ b. (if b then sets {T = T} v.control else sets c).floor ≡ 0) [
     | true ↦ refl

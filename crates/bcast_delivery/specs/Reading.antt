@@ -50,7 +50,7 @@ module _ {T : Type 0} where
   said_closed (Ok (Err unread.Empty)) = Some false
   said_closed other = None
 
-  -- the same of a stream: it ends, or has to wait
+  -- what a poll of a stream says so: that it ends, or that it has to wait
   abbrev pub said_ended : Result (Poll (Option T)) AllocError → Option Bool
   said_ended (Ok (poll.Ready None)) = Some true
   said_ended (Ok poll.Pending) = Some false
@@ -72,7 +72,7 @@ module _ {T : Type 0} (is_clone : T → T → Type 0) where
   Finds h was now (Ok (Err unread.Closed)) = (now ≡ was) × (was ≡ end_number h)
   Finds h was now (Err error) = now ≡ was
 
-  -- the same, of a receiver that has read so far, and then so far
+  -- `Finds`, for what a receiver has read before the receive and after it
   abbrev pub Takes
       : Opening → Reading T → Reading T → Result (Result T TryRecvError) AllocError → Type 0
   Takes o old new found = Finds (end_of o new.steps) old.next new.next found
@@ -87,7 +87,7 @@ module _ {T : Type 0} (is_clone : T → T → Type 0) where
   FindsNext h was now (Ok poll.Pending) = Skips h was now × (now ≡ end_number h)
   FindsNext h was now (Err error) = Skips h was now
 
-  -- the same, of a receiver that has read so far, and then so far
+  -- `FindsNext`, for what a receiver has read before the poll and after it
   abbrev pub TakesNext
       : Opening → Reading T → Reading T → Result (Poll (Option T)) AllocError → Type 0
   TakesNext o old new found = FindsNext (end_of o new.steps) old.next new.next found

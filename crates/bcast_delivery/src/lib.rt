@@ -3,7 +3,8 @@
 //!
 //! `Opened` makes a channel with a journal of the steps on it, each a call with its reply, and
 //! `broadcast` its first handles. They are the handles of `async_broadcast`, and make the same
-//! calls. A function over them is written over their port, a `HistoryPort`.
+//! calls. A function over them is written over their port, a `HistoryPort<T, J>`, and takes a
+//! `HistorySender<T, P, J>`, a `HistoryReceiver` or a `HistoryInactiveReceiver`.
 //!
 //! A call that ends in `_seen` also tells its caller: it is lent a `Seen`, a beginning of the
 //! history that its caller knows, which then has the steps of others since, and last its own
@@ -43,7 +44,9 @@ pub use laws::{
     sends_stand_last,
 };
 pub use opened::{Opened, broadcast};
-pub use port::{History, HistoryPort, KeepsHistory};
+pub use port::{
+    History, HistoryInactiveReceiver, HistoryPort, HistoryReceiver, HistorySender, KeepsHistory,
+};
 pub use reading::Reading;
 pub use seen::Seen;
 pub use steps::{Channel, KeepsSteps};

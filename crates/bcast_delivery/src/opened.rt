@@ -1,10 +1,10 @@
 //! A channel that was made, before it has a name, and its first handles.
 ghost use Rattle.std.specs.Prelude.{◌≡◌, ◌<◌, [], IfOk};
 
-use crate::port::History;
+use crate::port::{History, HistoryReceiver, HistorySender};
 use crate::reading::Reading;
 use crate::steps::{Channel, KeepsSteps};
-use async_broadcast::{Lock, Port, Receiver, Sender, Wake, WakerSlot};
+use async_broadcast::{KnowingPort, Lock, Receiver, Sender, Wake};
 use bcast_core::Inner;
 use bcast_history::{Journal, Opening, Step};
 use std::alloc::{AllocError, Allocator, Global};
@@ -15,7 +15,7 @@ use std::sync::Wait;
 /// both as what a name has to say of them.
 #[derive(Drop)]
 pub struct Opened<T: Clone, A: Allocator = Global> {
-    inner: Inner<T, Wake<WakerSlot<A>>, A>,
+    inner: Inner<T, Wake, A>,
     opening: Opening,
     journal: Journal<Step<T>>,
 }
@@ -71,8 +71,8 @@ pub fn broadcast<T: Clone, R: Wait + Clone, J: Channel, A: Allocator + Copy>(
     opened: Opened<T, A>,
 ) -> Result<
     (
-        Sender<T, History<T, R, J, A>, A>,
-        Receiver<T, History<T, R, J, A>, A>,
+        HistorySender<T, History<T, R, J, A>, J, A>,
+        HistoryReceiver<T, History<T, R, J, A>, J, A>,
         Reading<T, J>,
     ),
     AllocError,
@@ -92,11 +92,11 @@ pub fn broadcast<T: Clone, R: Wait + Clone, J: Channel, A: Allocator + Copy>(
     } = opened;
     let steps = KeepsSteps::new(journal);
     let seen = steps.nothing();
-    let port = Lock::keeping(rt, alloc, inner, steps, seen.same())?;
-    let other = port.same().ok_or(AllocError)?;
+    let port = Lock::with_journal(rt, alloc, inner, steps, seen.same())?;
+    let other = port.try_clone().ok_or(AllocError)?;
     let key = opening.first_key;
-    let sender = Sender::over(port, alloc);
-    let receiver = Receiver::over(other, key, alloc);
+    let sender = Sender::from_port(port, alloc);
+    let receiver = Receiver::from_port(other, key, alloc);
     Ok((
         sender,
         receiver,

@@ -9,12 +9,10 @@ ghost use Rattle.async_broadcast.specs.Timed.{as_timed_try};
 ghost use Rattle.bcast_delivery.specs.Seen.{reads_at};
 ghost use Rattle.bcast_delivery.specs.Reading.{Takes, IsSo, said_closed};
 
-use crate::port::HistoryPort;
+use crate::port::{HistoryPort, HistoryReceiver};
 use crate::seen::Seen;
 use crate::steps::Channel;
-use async_broadcast::{
-    Receiver, RecvError, RecvTimeoutError, TimedSeenPort, TryRecvError, WakerSlot,
-};
+use async_broadcast::{KnowingTimedPort, RecvError, RecvTimeoutError, TryRecvError};
 use std::alloc::{AllocError, Allocator};
 use std::marker::Model;
 use std::sync::Wait;
@@ -92,10 +90,10 @@ impl<T: Clone, J: Channel> Reading<T, J> {
     /// - `Closed`: every message was read, and the channel is closed.
     ///
     /// Source: this crate's own.
-    pub fn try_recv<P: HistoryPort<T, J, WakerSlot<A>>, A: Allocator + Copy>(
+    pub fn try_recv<P: HistoryPort<T, J>, A: Allocator + Copy>(
         &mut self,
         rt: &impl Wait,
-        receiver: &mut Receiver<T, P, A>,
+        receiver: &mut HistoryReceiver<T, P, J, A>,
     ) -> Result<Result<T, TryRecvError>, AllocError>
         requires { receiver.old.role.key ≡ self.old.key }
         ensures receiver { receiver.new ≡ receiver.old }
@@ -122,10 +120,10 @@ impl<T: Clone, J: Channel> Reading<T, J> {
     /// - `Closed`: every message was read, and the channel is closed.
     ///
     /// Source: this crate's own.
-    pub fn recv_blocking<P: HistoryPort<T, J, WakerSlot<A>>, A: Allocator + Copy>(
+    pub fn recv_blocking<P: HistoryPort<T, J>, A: Allocator + Copy>(
         &mut self,
         rt: &impl Wait,
-        receiver: &mut Receiver<T, P, A>,
+        receiver: &mut HistoryReceiver<T, P, J, A>,
     ) -> Result<Result<T, RecvError>, AllocError>
         requires { receiver.old.role.key ≡ self.old.key }
         ensures receiver { receiver.new ≡ receiver.old }
@@ -154,12 +152,12 @@ impl<T: Clone, J: Channel> Reading<T, J> {
     ///
     /// Source: this crate's own.
     pub fn recv_timeout<
-        P: HistoryPort<T, J, WakerSlot<A>> + TimedSeenPort<T, WakerSlot<A>>,
+        P: HistoryPort<T, J> + KnowingTimedPort<T, Seen<T, J>>,
         A: Allocator + Copy,
     >(
         &mut self,
         rt: &impl Wait,
-        receiver: &mut Receiver<T, P, A>,
+        receiver: &mut HistoryReceiver<T, P, J, A>,
         limit: Duration,
     ) -> Result<Result<T, RecvTimeoutError>, AllocError>
         requires { receiver.old.role.key ≡ self.old.key }

@@ -3,7 +3,7 @@ ghost use Rattle.std.specs.Prelude.{◌≡◌, None, Some};
 ghost use mathlib.Core.List.{IsPrefix};
 ghost use Rattle.bcast_delivery.specs.Seen.{reader_in, reads_at};
 
-use async_broadcast::{Wake, WakerSlot};
+use async_broadcast::Wake;
 use bcast_core::Inner;
 use bcast_history::{Named, Prefix, Step};
 use std::alloc::Allocator;
@@ -112,10 +112,7 @@ impl<T, J: Named> Seen<T, J> {
 
 // Where the receiver of this key reads on: at its cursor, or at the end if there is none.
 #[inline(always)]
-fn number_of<T: Clone, A: Allocator + Copy>(
-    inner: &Inner<T, Wake<WakerSlot<A>>, A>,
-    key: usize,
-) -> u64
+fn number_of<T: Clone, A: Allocator + Copy>(inner: &Inner<T, Wake, A>, key: usize) -> u64
     ensures { result ≡ reads_at inner.now key }
 {
     inner.invariant_holds();
@@ -129,7 +126,7 @@ fn number_of<T: Clone, A: Allocator + Copy>(
 /// Where a receiver reads on, once the channel shows this.
 #[inline(always)]
 pub(crate) fn reader_in<T: Clone, A: Allocator + Copy>(
-    inner: &Inner<T, Wake<WakerSlot<A>>, A>,
+    inner: &Inner<T, Wake, A>,
     reader: Option<(usize, u64)>,
 ) -> Option<(usize, u64)>
     ensures { result ≡ reader_in inner.now reader }

@@ -1,10 +1,10 @@
-//! What the lock of such a channel keeps: the steps on it.
+//! The journal of such a channel: the steps on it.
 ghost use Rattle.std.specs.Prelude.{◌≡◌, [], None, false};
 ghost use Rattle.bcast_model.specs.Words.{IsValid};
 ghost use Rattle.bcast_history.specs.History.{start_of};
 
 use crate::seen::{Seen, reader_in};
-use async_broadcast::{Keep, Wake, WakerSlot};
+use async_broadcast::{CallJournal, Wake};
 use bcast_core::{CallOf, Inner};
 use bcast_history::{Journal, Named, Notes, Step, Writer};
 use std::alloc::Allocator;
@@ -84,7 +84,7 @@ impl<'a, T, C: CallOf<T>> Notes<Step<T>> for ShownStep<'a, T, C> {
     } };
 }
 
-impl<T: Clone, J: Channel> Keep<T> for KeepsSteps<T, J> {
+impl<T: Clone, J: Channel> CallJournal<T> for KeepsSteps<T, J> {
     ghost use Rattle.std.proofs.Common.{inl, inr, refl};
     ghost use Rattle.bcast_model.specs.Words.{Represents};
     ghost use Rattle.bcast_history.specs.History.{end_of};
@@ -93,7 +93,7 @@ impl<T: Clone, J: Channel> Keep<T> for KeepsSteps<T, J> {
 
     type Known = Seen<T, J>;
 
-    ghost keeps = { λ kept v. Represents v (end_of J.opening kept) };
+    ghost records = { λ steps v. Represents v (end_of J.opening steps) };
 
     ghost reaches = { λ known after. Reaches known after };
 
@@ -102,19 +102,19 @@ impl<T: Clone, J: Channel> Keep<T> for KeepsSteps<T, J> {
     ghost gave = { λ known call reply. GivesInHistory T.is_clone J.opening known call reply };
 
     #[inline(always)]
-    fn same(known: &Seen<T, J>) -> Seen<T, J> {
+    fn copy(known: &Seen<T, J>) -> Seen<T, J> {
         known.same()
     }
 
     #[inline(always)]
-    fn keep<C: CallOf<T>, A: Allocator + Copy>(
+    fn append<C: CallOf<T>, A: Allocator + Copy>(
         &mut self,
         rt: &impl Wait,
         known: &mut Seen<T, J>,
         call: &Snapshot<C>,
         answer: &C::Answer,
-        _before: &Snapshot<Inner<T, Wake<WakerSlot<A>>, A>>,
-        after: &Inner<T, Wake<WakerSlot<A>>, A>,
+        _before: &Snapshot<Inner<T, Wake, A>>,
+        after: &Inner<T, Wake, A>,
     ) {
         let step = ShownStep {
             call,
@@ -130,14 +130,14 @@ impl<T: Clone, J: Channel> Keep<T> for KeepsSteps<T, J> {
 
     ghost unchanged = { λ known. reaches_same known };
 
-    ghost reached = { λ known after call reply learned. learns_reaches learned };
+    ghost extends = { λ known after call reply learned. learns_reaches learned };
 
-    ghost sooner = { λ less known after call reply reaches learned.
+    ghost learns_from_less = { λ less known after call reply reaches learned.
         learns_sooner reaches learned };
 
-    ghost kept = { λ known after call reply may learned. inl (after, learned) };
+    ghost gives = { λ known after call reply may learned. inl (after, learned) };
 
-    ghost left_out = { λ known key may. inr (key, refl, may) };
+    ghost may_skip_end_future = { λ known key may. inr (key, refl, may) };
 
     ghost possible = { λ known call reply gave. gives_possible gave };
 }

@@ -43,7 +43,7 @@ module _ {T : Type 0} where
         valid = subst IsValid (sym end) (answers.valid (end_of o steps) replays.valid replays.end);
       }
 
-  -- the same, for the lists before and after, and a step of this call and this reply
+  -- `replays_more`, for the lists before and after, and a step of this call and this reply
   pub replays_push : (is_clone : T → T → Type 0) (o : Opening) (steps longer : List (Step T)) (seen after : View T) (step : Step T) (call : Call T) (reply : Reply T)
       → longer ≡ steps ++ step ∷ [] → step.call ≡ call → step.reply ≡ reply → Replays is_clone o steps seen → Answers is_clone seen call reply after
       → Replays is_clone o longer after

@@ -42,7 +42,7 @@ module _ {T : Type 0} where
         valid = λ h valid is. valid-next is_clone h c r valid (within h is) (legal h is);
       }
 
-  -- the same, if the view has another name
+  -- `answers`, if the view has another name
   pub answers_as : {is_clone : T → T → Type 0} {was old new : View T} {c : Call T} {r : Reply T} → was ≡ old → HasRange c (len new.control.cursors) → IsShown was → Steps is_clone was c r new → Answers is_clone old c r new
   answers_as {is_clone = is_clone} {new = new} {c = c} {r = r} e range shown s = subst (λ v. Answers is_clone v c r new) e (answers range shown s)
 

@@ -37,7 +37,7 @@ uncloned c (Some cursor) = refl
 abbrev pub Lasts : Type 0 → Control → Control → Type 0
 Lasts Allowed old new = (Allowed → 1 ≤ old.capacity → 1 ≤ new.capacity) × (old.closed ≡ true → new.closed ≡ true)
 
--- the same of what is always allowed
+-- `Lasts`, for a call that is always allowed
 abbrev pub Leaves : Control → Control → Type 0
 Leaves old new = Lasts (Unit {0}) old new
 

@@ -14,7 +14,7 @@ still_some P None later stays there = absurd there
 still_some P (Some x) later stays there = subst (λ o. IsSomeAnd o P) (sym (stays x refl)) there
 
 module _ {T : Type 0} where
-  -- the same by index
+  -- exact deliveries, message by message
   record AreExactAt (is_clone : T → T → Type 0) (h : History T) (key start : ℕ) (calls : List (Call T)) (replies : List (Reply T)) : Type 0 where
     size : last_cursor_of key h calls replies ≡ Some (start + length (deliveries_of key h calls replies))
     each : (index : ℕ) (msg : T) → slice_get (deliveries_of key h calls replies) index ≡ Some (Some msg) → IsSomeAnd (numbered (end_of_run h calls replies) (start + index)) (λ accepted. IsGiven is_clone accepted msg)

@@ -75,7 +75,8 @@ MissedWereDropped {T} is_clone =
     → Legal is_clone (view_of (end_of_run h calls replies)) c r
     → TellsDropped h calls replies key cursor c r
 
--- the same for all deliveries of a receiver from each point of each run on
+-- at each point of each run: all that a receiver counts as missed from there on was dropped, and what
+-- it gets was not
 abbrev pub DeliveriesTile : {T : Type 0} → (T → T → Type 0) → Type 0
 DeliveriesTile {T} is_clone =
     (h : History T) (calls : List (Call T)) (replies : List (Reply T))

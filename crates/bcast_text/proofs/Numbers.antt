@@ -18,7 +18,7 @@ parsed_is_spelt {E} bs (Ok m) h plain lone n e =
     search (rules, decimal-digits_value digits bs read.0.0 read.0.1 lone read.0.2, read.1, e)
 parsed_is_spelt {E} bs (Err x) h plain lone n e = search rules
 
--- the same of the number that `parse` finds, if it finds one
+-- if `parse` finds a number, its text is what `decimal` spells for it
 pub spelt_if_parsed : {E : Type 0} (bs : List ℕ) (r : Result ℕ E) → ParsesUnsigned 64 10 bs r → get_or bs 0 0 ≢ 43 → (get_or bs 0 0 ≡ 48 → length bs ≡ 1) → IfSome (result_ok r) (λ n. bs ≡ decimal n)
 spelt_if_parsed {E} bs (Ok n) h plain lone = parsed_is_spelt {E = E} bs (Ok n) h plain lone n refl
 spelt_if_parsed {E} bs (Err x) h plain lone = search rules
@@ -27,7 +27,7 @@ spelt_if_parsed {E} bs (Err x) h plain lone = search rules
 pub no_plus : (bs : List ℕ) (n : ℕ) → n < 2 ^ 64 → bs ≡ decimal n → get_or bs 0 0 ≢ 43
 no_plus bs n small e = let d = decimal_is_IsNumeral n small in rw e (not_in_digits digits (decimal n) 43 d.0.1 (λ r. omega (arith, r)) 0 d.0.0)
 
--- nor with a zero in front
+-- no number but 0 is written with a zero in front
 pub no_leading_zero : (bs : List ℕ) (n : ℕ) → n < 2 ^ 64 → bs ≡ decimal n → get_or bs 0 0 ≡ 48 → length bs ≡ 1
 no_leading_zero bs zero small e z = rw e (search (rules, decimal_digit 0 (omega arith)))
 no_leading_zero bs (suc n) small e z = let f = first_decimal (suc n) (omega arith) small in let same = e in grind (arith, f, same)

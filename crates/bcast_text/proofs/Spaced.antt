@@ -18,7 +18,7 @@ use Rattle.bcast_text.proofs.Numbers.{digits}
 abbrev pub Lacks : ℕ → List ℕ → Type 0
 Lacks c bytes = All (λ x. x ≢ c) bytes
 
--- the same as a test
+-- `Lacks`, as a test
 abbrev pub lacks : ℕ → List ℕ → Bool
 lacks c bytes = list_all (λ x. not (eqb x c)) bytes
 

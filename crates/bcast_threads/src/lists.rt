@@ -9,8 +9,10 @@ use crate::fault::Fault;
 use crate::plan::Plan;
 use crate::started::{Started, clones_of};
 use crate::work::{Log, Sent};
-use async_broadcast::{Receiver, Sender, WakerSlot};
-use bcast_delivery::{Channel, HistoryPort, Opened, Reading, Seen, broadcast, closed_is_last};
+use bcast_delivery::{
+    Channel, HistoryPort, HistoryReceiver, HistorySender, Opened, Reading, Seen, broadcast,
+    closed_is_last,
+};
 use std::alloc::Global;
 use std::marker::Brand;
 use std::sync::Wait;
@@ -62,14 +64,14 @@ fn lists_from<J, R, P>(
     rt: &R,
     alloc: Global,
     plan: Plan,
-    sender: Sender<u64, P>,
-    receiver: Receiver<u64, P>,
+    sender: HistorySender<u64, P, J>,
+    receiver: HistoryReceiver<u64, P, J>,
     reading: Reading<u64, J>,
 ) -> Result<Vec<Vec<u64>>, Fault>
 where
     J: Channel + Send + Sync + 'static,
     R: Threads + Wait + Clone + Send + 'static,
-    P: HistoryPort<u64, J, WakerSlot> + Send + 'static,
+    P: HistoryPort<u64, J> + Send + 'static,
     requires key { receiver.role.key ≡ reading.key }
     requires start { reading.next ≡ J.opening.first_number }
     ensures { IfOk result (λ lists. AreLists plan (λ list. list.items) lists.items) }

@@ -6,8 +6,7 @@ use crate::fault::Fault;
 use crate::group::Group;
 use crate::plan::Plan;
 use crate::work::{Log, Reader, Sent, receive_all, send_all};
-use async_broadcast::{Receiver, Sender, WakerSlot};
-use bcast_delivery::{Channel, HistoryPort, Reading, Seen};
+use bcast_delivery::{Channel, HistoryPort, HistoryReceiver, HistorySender, Reading, Seen};
 use std::alloc::{AllocError, Global};
 use std::sync::Wait;
 use std::thread::Threads;
@@ -51,13 +50,13 @@ impl<J: Channel + Send + Sync + 'static> Started<J> {
         rt: &R,
         alloc: Global,
         plan: Plan,
-        sender: Sender<u64, P>,
+        sender: HistorySender<u64, P, J>,
         seen: &Seen<u64, J>,
-        readers: Vec<Reader<J, P>>,
+        readers: Vec<Reader<u64, J, P>>,
     ) -> Result<(), Fault>
     where
         R: Threads + Wait + Clone + Send + 'static,
-        P: HistoryPort<u64, J, WakerSlot> + Send + 'static,
+        P: HistoryPort<u64, J> + Send + 'static,
         requires senders { vec_len self.old.senders.running + plan.senders
             ≤ vec_capacity self.old.senders.running }
         requires receivers { vec_len self.old.receivers.running + vec_len readers
@@ -83,11 +82,11 @@ impl<J: Channel + Send + Sync + 'static> Started<J> {
         rt: &R,
         alloc: Global,
         plan: Plan,
-        mut readers: Vec<Reader<J, P>>,
+        mut readers: Vec<Reader<u64, J, P>>,
     ) -> Result<(), Fault>
     where
         R: Threads + Wait + Clone + Send + 'static,
-        P: HistoryPort<u64, J, WakerSlot> + Send + 'static,
+        P: HistoryPort<u64, J> + Send + 'static,
         requires { vec_len self.old.receivers.running + vec_len readers
             ≤ vec_capacity self.old.receivers.running }
         ensures started { OnOk result (vec_len self.new.receivers.running
@@ -97,8 +96,9 @@ impl<J: Channel + Send + Sync + 'static> Started<J> {
         let total = plan.senders.saturating_mul(plan.messages) as usize;
         while let Some(reader) = readers.pop() {
             let its_rt = rt.clone()?;
+            let Reader { receiver, reading } = reader;
             self.receivers.start(rt, plan.receiver_stack, move || {
-                receive_all(&its_rt, alloc, reader, total)
+                receive_all(&its_rt, alloc, receiver, reading, total)
             })?;
         }
         Ok(())
@@ -108,12 +108,12 @@ impl<J: Channel + Send + Sync + 'static> Started<J> {
         &mut self,
         rt: &R,
         plan: Plan,
-        sender: &Sender<u64, P>,
+        sender: &HistorySender<u64, P, J>,
         seen: &Seen<u64, J>,
     ) -> Result<(), Fault>
     where
         R: Threads,
-        P: HistoryPort<u64, J, WakerSlot> + Send + 'static,
+        P: HistoryPort<u64, J> + Send + 'static,
         requires { vec_len self.old.senders.running + plan.senders
             ≤ vec_capacity self.old.senders.running }
         ensures started { OnOk result (vec_len self.new.senders.running
@@ -134,13 +134,13 @@ impl<J: Channel + Send + Sync + 'static> Started<J> {
 }
 
 /// This many clones of a receiver that has read nothing.
-pub(crate) fn clones_of<J: Channel, P: HistoryPort<u64, J, WakerSlot>>(
+pub(crate) fn clones_of<J: Channel, P: HistoryPort<u64, J>>(
     rt: &impl Wait,
     alloc: Global,
-    receiver: Receiver<u64, P>,
+    receiver: HistoryReceiver<u64, P, J>,
     mut reading: Reading<u64, J>,
     count: u64,
-) -> Result<Vec<Reader<J, P>>, Fault>
+) -> Result<Vec<Reader<u64, J, P>>, Fault>
     requires key { receiver.role.key ≡ reading.key }
     requires start { reading.next ≡ J.opening.first_number }
     ensures { IfOk result (λ readers. vec_len readers ≡ count) }

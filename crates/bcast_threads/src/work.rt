@@ -8,19 +8,19 @@ ghost use Rattle.bcast_threads.specs.Lists.{HasAll};
 ghost use Rattle.bcast_threads.specs.Closed.{AreBeforeClosing};
 
 use crate::fault::Fault;
-use async_broadcast::{Receiver, RecvError, Sender, WakerSlot};
+use async_broadcast::RecvError;
 use bcast_delivery::{
-    Channel, HistoryPort, Reading, Seen, closed_is_last, logs_are_accepted, messages_stay,
-    sends_stand_last,
+    Channel, HistoryPort, HistoryReceiver, HistorySender, Reading, Seen, closed_is_last,
+    logs_are_accepted, messages_stay, sends_stand_last,
 };
 use std::alloc::{Allocator, Global};
 use std::sync::Wait;
 
 /// A receiver that has read nothing: it starts with the channel's first message.
 #[derive(Drop)]
-pub struct Reader<J: Channel, P: HistoryPort<u64, J, WakerSlot>> {
-    pub receiver: Receiver<u64, P>,
-    pub reading: Reading<u64, J>,
+pub struct Reader<T: Clone, J: Channel, P: HistoryPort<T, J>> {
+    pub receiver: HistoryReceiver<T, P, J>,
+    pub reading: Reading<T, J>,
     ghost key: { receiver.role.key ≡ reading.key },
     ghost start: { reading.next ≡ J.opening.first_number },
 }
@@ -48,8 +48,8 @@ pub struct Log<J: Channel, A: Allocator = Global> {
 
 /// Sends `count` numbers from `first` on, in rising order, unless the channel is closed before.
 /// Returns those that it sent.
-pub fn send_all<J: Channel, P: HistoryPort<u64, J, WakerSlot>>(
-    sender: Sender<u64, P>,
+pub fn send_all<J: Channel, P: HistoryPort<u64, J>>(
+    sender: HistorySender<u64, P, J>,
     mut seen: Seen<u64, J>,
     first: u64,
     count: u64,
@@ -66,7 +66,7 @@ pub fn send_all<J: Channel, P: HistoryPort<u64, J, WakerSlot>>(
     Sent { first, end, seen }
 }
 
-/// Returns what the receiver receives until the channel is closed.
+/// Returns what the receiver receives until the channel is closed. It has read nothing before.
 ///
 /// Memory for `count` messages is taken before the first one is received.
 ///
@@ -76,19 +76,18 @@ pub fn send_all<J: Channel, P: HistoryPort<u64, J, WakerSlot>>(
 ///
 /// - `NoMemory`: there was no memory for a message, or for the list.
 /// - `Missed`: the receiver missed messages.
-pub fn receive_all<J: Channel, P: HistoryPort<u64, J, WakerSlot>, A: Allocator>(
+pub fn receive_all<J: Channel, P: HistoryPort<u64, J>, A: Allocator>(
     rt: &impl Wait,
     alloc: A,
-    reader: Reader<J, P>,
+    mut receiver: HistoryReceiver<u64, P, J>,
+    mut reading: Reading<u64, J>,
     count: usize,
 ) -> Result<Log<J, A>, Fault>
-    ensures closed { IfErr result (λ _. WasClosed (P.gave reader.receiver.port)) }
+    requires key { receiver.role.key ≡ reading.key }
+    requires start { reading.next ≡ J.opening.first_number }
+    ensures closed { IfErr result (λ _. WasClosed (P.gave receiver.port)) }
 {
     logs_are_accepted::<u64>();
-    let Reader {
-        mut receiver,
-        mut reading,
-    } = reader;
     match received(rt, alloc, &mut reading, &mut receiver, count) {
         Ok(list) => Ok(Log { list, reading }),
         Err(fault) => {
@@ -98,11 +97,11 @@ pub fn receive_all<J: Channel, P: HistoryPort<u64, J, WakerSlot>, A: Allocator>(
     }
 }
 
-fn received<J: Channel, P: HistoryPort<u64, J, WakerSlot>, A: Allocator>(
+fn received<J: Channel, P: HistoryPort<u64, J>, A: Allocator>(
     rt: &impl Wait,
     alloc: A,
     reading: &mut Reading<u64, J>,
-    receiver: &mut Receiver<u64, P>,
+    receiver: &mut HistoryReceiver<u64, P, J>,
     count: usize,
 ) -> Result<Vec<u64, A>, Fault>
     requires key { receiver.old.role.key ≡ reading.old.key }

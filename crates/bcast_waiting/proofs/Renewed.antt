@@ -9,7 +9,7 @@ use Rattle.bcast_waiting.specs.declared.slots.Slots.TheInside.{Inside}
 use Rattle.bcast_waiting.proofs.InSlots.{ids-renewed}
 
 module _ {I N A : Type 0} where
-  -- the same ids with the same entries, in as much memory
+  -- ids, positions and memory stay as they were
   pub record IsRenewed (before after : Inside I N A) : Type 0 where
     pub ids : ids_in after.listeners.items ≡ ids_in before.listeners.items
     pub positions : after.positions ≡ before.positions

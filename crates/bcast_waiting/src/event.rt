@@ -4,7 +4,7 @@ ghost use Rattle.bcast_model.specs.Listeners.{no_listeners, tell, tell_all, join
 ghost use Rattle.bcast_waiting.specs.Event.{is_told};
 
 use crate::indexed::Indexed;
-use crate::notice::{MakesNotice, Notice, Refused};
+use crate::notice::{MakesNotice, NoNotice, Notice};
 use crate::slots::Slots;
 use std::alloc::{AllocError, Allocator, Global};
 use std::marker::Model;
@@ -254,9 +254,9 @@ impl<I: Copy + Eq + Indexed, N: Notice, A: Allocator> Event<I, N, A> {
     ///
     /// # Errors
     ///
-    /// `Refused`: the maker made no notice, and nothing changed.
+    /// `NoNotice`: the maker made no notice, and nothing changed.
     #[inline(always)]
-    pub fn wait_again<M: MakesNotice<N>>(&mut self, id: I, maker: &mut M) -> Result<(), Refused>
+    pub fn wait_again<M: MakesNotice<N>>(&mut self, id: I, maker: &mut M) -> Result<(), NoNotice>
         requires room { I.number id < self.old.room }
         ensures waits { OnOk result (self.new
             ≡ record self.old { listeners = wait_again I.eq id self.old.listeners }) }

@@ -21,7 +21,7 @@ impl Notice for Silent {
 
 /// No notice was made.
 #[derive(Drop)]
-pub struct Refused;
+pub struct NoNotice;
 
 /// Makes the notice of a poll. It is called once if the poll must wait, and otherwise not at all.
 pub trait MakesNotice<N> {
@@ -35,8 +35,8 @@ pub trait MakesNotice<N> {
     ///
     /// # Errors
     ///
-    /// `Refused`: no notice was made.
-    fn make(&mut self) -> Result<N, Refused>
+    /// `NoNotice`: no notice was made.
+    fn make(&mut self) -> Result<N, NoNotice>
         ensures made { OnOk result (made self.old self.new) }
         ensures refused { OnErr result (refused self.old self.new) };
 
@@ -44,32 +44,32 @@ pub trait MakesNotice<N> {
     ///
     /// # Errors
     ///
-    /// `Refused`: no notice was made. The notice of the listener may then do nothing when called.
-    fn renew(&mut self, notice: &mut N) -> Result<(), Refused>
+    /// `NoNotice`: no notice was made. The notice of the listener may then do nothing when called.
+    fn renew(&mut self, notice: &mut N) -> Result<(), NoNotice>
         ensures made { OnOk result (made self.old self.new) }
         ensures refused { OnErr result (refused self.old self.new) };
 }
 
 /// A maker that has its notice, and gives it once.
 #[derive(Drop)]
-pub struct Given<N> {
+pub struct OwnedNotice<N> {
     /// The notice, until it was given.
     pub notice: Option<N>,
 }
 
-impl<N> Given<N> {
+impl<N> OwnedNotice<N> {
     /// A maker that gives this notice.
     #[inline(always)]
     pub fn new(notice: N) -> Self
         ensures { IsSome result.notice }
     {
-        Given {
+        OwnedNotice {
             notice: Some(notice),
         }
     }
 }
 
-impl<N: Drop> MakesNotice<N> for Given<N> {
+impl<N: Drop> MakesNotice<N> for OwnedNotice<N> {
     ghost use Rattle.std.specs.Prelude.{⊤};
 
     ghost made = { λ _ _. ⊤ };
@@ -77,14 +77,14 @@ impl<N: Drop> MakesNotice<N> for Given<N> {
     ghost refused = { λ old _. old.notice ≡ None };
 
     #[inline(always)]
-    fn make(&mut self) -> Result<N, Refused> {
-        self.notice.take().ok_or(Refused)
+    fn make(&mut self) -> Result<N, NoNotice> {
+        self.notice.take().ok_or(NoNotice)
     }
 
     #[inline(always)]
-    fn renew(&mut self, notice: &mut N) -> Result<(), Refused> {
+    fn renew(&mut self, notice: &mut N) -> Result<(), NoNotice> {
         let Some(given) = self.notice.take() else {
-            return Err(Refused);
+            return Err(NoNotice);
         };
         let _ = replace(notice, given);
         Ok(())

@@ -5,7 +5,7 @@ ghost use Rattle.bcast_waiting.specs.Words.{slot_id, ids_in, IsIndexed, listed, 
 ghost use Rattle.bcast_model.specs.Listeners.{is_in, IsDistinct};
 
 use crate::indexed::Indexed;
-use crate::notice::{MakesNotice, Notice, Refused};
+use crate::notice::{MakesNotice, NoNotice, Notice};
 use std::alloc::{AllocError, Allocator};
 use std::marker::Model;
 use std::mem::replace;
@@ -29,7 +29,7 @@ struct Listener<I, N> {
 impl<I, N> Listener<I, N> {
     // Replaces its notice by that of another poll.
     #[inline(always)]
-    fn renew<M: MakesNotice<N>>(&mut self, maker: &mut M) -> Result<(), Refused>
+    fn renew<M: MakesNotice<N>>(&mut self, maker: &mut M) -> Result<(), NoNotice>
         ensures same { self.new.id ≡ self.old.id }
         ensures made { OnOk result (M.made maker.old maker.new) }
         ensures refused { OnErr result (M.refused maker.old maker.new) }
@@ -169,7 +169,7 @@ impl<I: Copy + Eq + Indexed, N: Notice, A: Allocator> Slots<I, N, A> {
         &mut self,
         position: usize,
         maker: &mut M,
-    ) -> Result<(), Refused>
+    ) -> Result<(), NoNotice>
         requires within { position < length self.old.ids }
         requires there { is_some (slice_index_or self.old.ids position None) ≡ true }
         ensures same { self.new ≡ self.old }

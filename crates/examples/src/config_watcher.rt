@@ -1,7 +1,7 @@
 //! A configuration watcher: a watcher that looks late gets the latest settings, and how many it
 //! missed.
 use anyhow::Result;
-use async_broadcast::{Port, Receiver, RecvError, Sender, WakerSlot, broadcast};
+use async_broadcast::{Port, Receiver, RecvError, Sender, broadcast};
 use futures::StreamExt;
 use futures::executor::block_on;
 use std::alloc::AllocGlobal;
@@ -16,7 +16,7 @@ struct Settings {
 }
 
 /// Sets five versions. A channel of capacity 1 in overflow mode keeps the latest one.
-fn set_all<P: Port<Settings, WakerSlot>>(source: &Sender<Settings, P>) -> Result<()> {
+fn set_all<P: Port<Settings>>(source: &Sender<Settings, P>) -> Result<()> {
     for version in 1..6 {
         source.try_broadcast(Settings { version, limit: 10 })?;
     }
@@ -28,7 +28,7 @@ fn look<R, S, P>(rt: &R, watch: &mut Receiver<S, P>) -> Result<Option<(S, u64)>>
 where
     R: Wait + RandomSource + AllocGlobal,
     S: Clone,
-    P: Port<S, WakerSlot>,
+    P: Port<S>,
 {
     let mut missed = 0u64;
     for _ in rt.forever() {
@@ -46,7 +46,7 @@ fn next<R, S, P>(rt: &R, watch: &mut Receiver<S, P>) -> Result<Option<S>>
 where
     R: Wait + RandomSource + AllocGlobal,
     S: Clone,
-    P: Port<S, WakerSlot>,
+    P: Port<S>,
 {
     match block_on(rt, watch.next())? {
         Some(settings) => Ok(Some(settings?)),

@@ -3,7 +3,7 @@
 ghost use Rattle.std.specs.Prelude.{IfOk};
 
 use anyhow::Result;
-use async_broadcast::{InactiveReceiver, Port, Receiver, Sender, WakerSlot, broadcast};
+use async_broadcast::{InactiveReceiver, Port, Receiver, Sender, broadcast};
 use futures::Future;
 use futures::executor::block_on;
 use futures::future::join3;
@@ -14,12 +14,12 @@ use std::sync::Wait;
 
 /// Two handles of the channel: the inactive one keeps it open, and makes the subscribers.
 #[derive(Drop)]
-struct Hub<E: Clone, P: Port<E, WakerSlot>> {
+struct Hub<E: Clone, P: Port<E>> {
     events: Sender<E, P>,
     idle: InactiveReceiver<E, P>,
 }
 
-impl<E: Clone, P: Port<E, WakerSlot>> Hub<E, P> {
+impl<E: Clone, P: Port<E>> Hub<E, P> {
     fn new(events: Sender<E, P>, first: Receiver<E, P>) -> Result<Self> {
         let idle = first.deactivate().map_err(|(_first, error)| error)?;
         Ok(Hub { events, idle })
@@ -56,7 +56,7 @@ where
 fn talk<R, P>(rt: &R, hub: &Hub<String, P>) -> Result<()>
 where
     R: Wait + RandomSource + AllocGlobal + Print,
-    P: Port<String, WakerSlot>,
+    P: Port<String>,
 {
     let mut one = hub.idle.activate_cloned()?;
     let mut two = hub.idle.activate_cloned()?;

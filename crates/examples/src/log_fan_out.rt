@@ -1,6 +1,6 @@
 //! A log: producers write records from threads of their own, and each consumer reads all of them.
 use anyhow::Result;
-use async_broadcast::{Port, Receiver, RecvError, Sender, WakerSlot, broadcast};
+use async_broadcast::{Port, Receiver, RecvError, Sender, broadcast};
 use std::alloc::{AllocError, AllocGlobal};
 use std::sync::Wait;
 use std::thread;
@@ -17,11 +17,11 @@ struct Seen {
 }
 
 /// Writes the first records. They are next to one another in the log, or none is written.
-fn begin<T: Clone, P: Port<T, WakerSlot>>(log: &Sender<T, P>, header: Vec<T>) -> bool {
+fn begin<T: Clone, P: Port<T>>(log: &Sender<T, P>, header: Vec<T>) -> bool {
     log.try_broadcast_all(header).is_ok()
 }
 
-fn produce<P: Port<u64, WakerSlot>>(log: Sender<u64, P>, first: u64) {
+fn produce<P: Port<u64>>(log: Sender<u64, P>, first: u64) {
     for record in first..first.saturating_add(RECORDS) {
         if log.broadcast_blocking(record).is_err() {
             break;
@@ -30,7 +30,7 @@ fn produce<P: Port<u64, WakerSlot>>(log: Sender<u64, P>, first: u64) {
 }
 
 /// Reads until the last producer's sender is dropped.
-fn consume<T: Clone, P: Port<T, WakerSlot>>(
+fn consume<T: Clone, P: Port<T>>(
     rt: &impl Wait,
     mut log: Receiver<T, P>,
 ) -> Result<Seen, AllocError> {

@@ -1,7 +1,7 @@
 //! A signal to stop: it is given by the drop of its last sender. Workers first finish the jobs that
 //! they were sent before.
 use anyhow::Result;
-use async_broadcast::{Port, Receiver, WakerSlot, broadcast};
+use async_broadcast::{Port, Receiver, broadcast};
 use futures::executor::block_on;
 use futures::future::{Either, select};
 use std::alloc::AllocGlobal;
@@ -16,8 +16,8 @@ where
     R: Wait + RandomSource + AllocGlobal,
     J: Clone,
     S: Clone,
-    P: Port<J, WakerSlot>,
-    Q: Port<S, WakerSlot>,
+    P: Port<J>,
+    Q: Port<S>,
 {
     let mut done = 0u64;
     for _ in rt.forever() {

@@ -3,7 +3,7 @@ use crate::answer::Answer;
 use crate::handles::Handles;
 use crate::held::of_recv_poll;
 use crate::settings::{by_handle, setting_of};
-use async_broadcast::{Port, Receiver, WakerSlot};
+use async_broadcast::{Port, Receiver};
 use bcast_text::input::Fault;
 use futures::StreamExt;
 use futures::task::Poll;
@@ -11,7 +11,7 @@ use futures::test::MockTask;
 use std::alloc::Allocator;
 
 /// Makes a call on a receiver: one of its own, or one that every handle has.
-fn answer<P: Port<u64, WakerSlot<A>>, A: Allocator + Copy>(
+fn answer<P: Port<u64>, A: Allocator + Copy>(
     receiver: &mut Receiver<u64, P, A>,
     method: &str,
     argument: Option<u64>,
@@ -24,16 +24,14 @@ fn answer<P: Port<u64, WakerSlot<A>>, A: Allocator + Copy>(
     }
 }
 
-fn received<P: Port<u64, WakerSlot<A>>, A: Allocator + Copy>(
-    receiver: &mut Receiver<u64, P, A>,
-) -> Answer {
+fn received<P: Port<u64>, A: Allocator + Copy>(receiver: &mut Receiver<u64, P, A>) -> Answer {
     match receiver.recv_blocking() {
         Ok(answer) => Answer::of_recv(answer),
         Err(_) => Answer::NoMemory,
     }
 }
 
-fn poll_recv<P: Port<u64, WakerSlot<A>>, A: Allocator + Copy>(
+fn poll_recv<P: Port<u64>, A: Allocator + Copy>(
     task: &MockTask,
     receiver: &mut Receiver<u64, P, A>,
 ) -> Answer {
@@ -45,7 +43,7 @@ fn poll_recv<P: Port<u64, WakerSlot<A>>, A: Allocator + Copy>(
     }
 }
 
-fn poll_next<P: Port<u64, WakerSlot<A>>, A: Allocator + Copy>(
+fn poll_next<P: Port<u64>, A: Allocator + Copy>(
     task: &MockTask,
     receiver: &mut Receiver<u64, P, A>,
 ) -> Answer {
@@ -58,14 +56,14 @@ fn poll_next<P: Port<u64, WakerSlot<A>>, A: Allocator + Copy>(
 }
 
 // Makes a future, polls it once and drops it.
-fn poll_future<P: Port<u64, WakerSlot<A>>, A: Allocator + Copy>(
+fn poll_future<P: Port<u64>, A: Allocator + Copy>(
     task: &MockTask,
     receiver: &mut Receiver<u64, P, A>,
 ) -> Answer {
     of_recv_poll(task.poll(&mut receiver.recv_direct()))
 }
 
-impl<P: Port<u64, WakerSlot<A>>, A: Allocator + Copy> Handles<P, A> {
+impl<P: Port<u64>, A: Allocator + Copy> Handles<P, A> {
     /// Makes a call on the receiver of this number.
     pub fn by_receiver(
         &mut self,

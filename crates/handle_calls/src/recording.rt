@@ -1,7 +1,7 @@
 //! Ports that record the calls made through them, and reply as a script sets.
 ghost use Rattle.bcast_core.specs.Kinds.{IsOfKind};
 
-use async_broadcast::{Ask, Call, Port, RecvError, Registers, Reply, SendError, WakerSlot};
+use async_broadcast::{Ask, Call, KnowingPort, RecvError, Reply, SendError, TaskWaker, Wake};
 use bcast_core::{AtOnce, Notice, Polls, RepliesTo};
 use futures::task::Context;
 use replies::{Outcome, answered, reply_to, waited};
@@ -34,10 +34,12 @@ pub struct Recorder {
     state: Rc<State>,
 }
 
-/// A port that records each call, and replies to it by itself.
+/// A port that records each call, and replies to it by itself. It takes memory from `alloc` for
+/// each poll.
 #[derive(Drop)]
-pub struct RecordingPort {
+pub struct RecordingPort<A: Allocator> {
     state: Rc<State>,
+    alloc: A,
 }
 
 impl Recorder {
@@ -53,9 +55,9 @@ impl Recorder {
     }
 
     /// A port whose calls are recorded here.
-    pub fn port(&self) -> Result<RecordingPort, AllocError> {
+    pub fn port<A: Allocator>(&self, alloc: A) -> Result<RecordingPort<A>, AllocError> {
         let state = self.state.clone()?;
-        Ok(RecordingPort { state })
+        Ok(RecordingPort { state, alloc })
     }
 
     /// Sets how the ports reply from now on, or that there is no memory for another port. False:
@@ -96,7 +98,7 @@ impl State {
     }
 }
 
-impl RepliesTo<u64> for RecordingPort {
+impl<A: Allocator> RepliesTo<u64> for RecordingPort<A> {
     ghost gave = { λ _ call reply. IsOfKind call reply };
 
     fn reply_to(&self, call: Call<u64>) -> Reply<u64>
@@ -108,54 +110,77 @@ impl RepliesTo<u64> for RecordingPort {
     }
 }
 
-impl<A: Allocator> Ask<u64, WakerSlot<A>> for RecordingPort {
+impl<A: Allocator + Copy> Ask<u64, ()> for RecordingPort<A> {
+    ghost use Rattle.std.specs.Prelude.{⊤};
     ghost use Rattle.bcast_core.specs.Kinds.{IsOfKind};
+
+    ghost knows = { λ _. tt };
 
     ghost gave = { λ _ call reply. IsOfKind call reply };
 
+    ghost learns = { λ _ _ _ _. ⊤ };
+
     ghost of_kind = { λ _ call reply gave. gave };
 
-    fn ask<C: AtOnce<u64>>(&self, call: C) -> C::Answer {
+    fn known(&self) -> () {}
+
+    fn ask<C: AtOnce<u64>>(&self, _known: &mut (), call: C) -> C::Answer {
         call.answered_by(self)
     }
 
     // A port that replies that a poll must wait tells it at once.
-    fn poll<C: Polls<u64>, W: Registers<WakerSlot<A>>>(
+    fn poll<C: Polls<u64>>(
         &self,
+        _known: &mut (),
         call: C,
-        task: &mut W,
+        task: &mut TaskWaker,
         cx: &mut Context<'_>,
     ) -> Result<C::Answer, C> {
-        let Some(mut wake) = task.register(cx) else {
+        let Ok(_slot) = Box::new(self.alloc, 0u64) else {
+            task.refuse(cx);
             return Err(call);
         };
+        let mut wake = Wake::none();
+        if !task.register(&mut wake, cx) {
+            return Err(call);
+        }
         if self.state.outcome.get() == Outcome::Wait {
             wake.tell();
         }
+        task.put_back(wake);
         Ok(call.answered_by(self))
     }
 }
 
-impl<A: Allocator> Port<u64, WakerSlot<A>> for RecordingPort {
+impl<A: Allocator + Copy> KnowingPort<u64, ()> for RecordingPort<A> {
     ghost use Rattle.std.specs.Prelude.{⊤};
 
-    ghost lacks_memory = { λ _. ⊤ };
+    fn set_known(&mut self, _known: &()) {}
 
-    fn send_waiting(&self, msg: u64) -> Result<Option<u64>, SendError<u64>> {
+    fn send_waiting(&self, _known: &mut (), msg: u64) -> Result<Option<u64>, SendError<u64>> {
         self.state.record(&Call::AttemptSend(msg));
         answered(self.state.outcome.get(), msg)
     }
 
-    fn receive_waiting(&self, key: usize) -> Result<Result<u64, RecvError>, AllocError> {
+    fn receive_waiting(
+        &self,
+        _known: &mut (),
+        key: usize,
+    ) -> Result<Result<u64, RecvError>, AllocError> {
         self.state.record(&Call::TryRecv(key));
         waited(self.state.outcome.get())
     }
 
-    fn same(&self) -> Option<Self> {
+    ghost lacks_memory = { λ _. ⊤ };
+
+    fn try_clone(&self) -> Option<Self> {
         if !self.state.has_others.get() {
             return None;
         }
         let state = self.state.clone().ok()?;
-        Some(RecordingPort { state })
+        Some(RecordingPort {
+            state,
+            alloc: self.alloc,
+        })
     }
 }

@@ -3,7 +3,7 @@ use crate::held::{Held, Makers};
 use crate::line::{Capacity, Futures, LONGEST, Opening, read_opening, read_request};
 use crate::recording::Recorder;
 use crate::session::{ChannelPorts, Ports, Session, tasks_of};
-use async_broadcast::{InactiveReceiver, Port, Receiver, Sender, WakerSlot, broadcast};
+use async_broadcast::{InactiveReceiver, Port, Receiver, Sender, broadcast};
 use bcast_text::ending::Ending;
 use bcast_text::input::Fault;
 use bcast_text::lines::{Found, Lines};
@@ -45,7 +45,7 @@ impl<R: Read + Drop> Script<R> {
 }
 
 /// Plays lines up to the next opening. None: up to the end.
-fn play_lines<S: Ports, P: Port<u64, WakerSlot<A>>, A: Allocator + Copy, R: Read + Drop, W: Write>(
+fn play_lines<S: Ports, P: Port<u64>, A: Allocator + Copy, R: Read + Drop, W: Write>(
     ports: &S,
     session: &mut Session<P, A>,
     held: &mut Held<'_, P, A>,
@@ -86,7 +86,7 @@ fn play_channel<S: Wait + RandomSource + AllocGlobal, R: Read + Drop, W: Write>(
 }
 
 /// Plays the lines of a sender and a receiver.
-fn play_handles<P: Port<u64, WakerSlot>, R: Read + Drop, W: Write>(
+fn play_handles<P: Port<u64>, R: Read + Drop, W: Write>(
     alloc: Global,
     tasks: Vec<MockTask>,
     futures: Futures,
@@ -121,15 +121,15 @@ fn play_recorded<A: Allocator + Copy, R: Read + Drop, W: Write>(
 ) -> Result<Option<Opening>, Fault> {
     let recorder = Recorder::new(alloc)?;
     let mut makers = Makers {
-        sender: Some(Sender::over(recorder.port()?, memory)),
-        receiver: Some(Receiver::over(recorder.port()?, 4, memory)),
+        sender: Some(Sender::from_port(recorder.port(memory)?, memory)),
+        receiver: Some(Receiver::from_port(recorder.port(memory)?, 4, memory)),
     };
     let mut session = Session::new(alloc, tasks);
-    let sender = Sender::over(recorder.port()?, memory);
+    let sender = Sender::from_port(recorder.port(memory)?, memory);
     session.handles.add_sender(Ok(sender))?;
-    let receiver = Receiver::over(recorder.port()?, 3, memory);
+    let receiver = Receiver::from_port(recorder.port(memory)?, 3, memory);
     session.handles.add_receiver(Ok(receiver))?;
-    let inactive = InactiveReceiver::over(recorder.port()?, memory);
+    let inactive = InactiveReceiver::from_port(recorder.port(memory)?, memory);
     session.handles.add_inactive(Ok(inactive))?;
     let mut held = Held::new(alloc, &mut makers);
     play_lines(&recorder, &mut session, &mut held, script, output)

@@ -2,13 +2,13 @@
 use crate::answer::Answer;
 use crate::handles::Handles;
 use crate::settings::{by_handle, setting_of};
-use async_broadcast::{Port, Sender, WakerSlot};
+use async_broadcast::{Port, Sender};
 use bcast_text::input::Fault;
 use bcast_text::number::numbers;
 use std::alloc::Allocator;
 
 /// Sends, or makes a call that every handle has.
-fn answer<P: Port<u64, WakerSlot<A>>, A: Allocator + Copy>(
+fn answer<P: Port<u64>, A: Allocator + Copy>(
     sender: &mut Sender<u64, P, A>,
     method: &str,
     argument: Option<u64>,
@@ -20,7 +20,7 @@ fn answer<P: Port<u64, WakerSlot<A>>, A: Allocator + Copy>(
     }
 }
 
-impl<P: Port<u64, WakerSlot<A>>, A: Allocator + Copy> Handles<P, A> {
+impl<P: Port<u64>, A: Allocator + Copy> Handles<P, A> {
     /// Makes a call on the sender of this number.
     pub fn by_sender(
         &mut self,

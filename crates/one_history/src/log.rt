@@ -3,8 +3,8 @@ ghost use Rattle.std.specs.Prelude.{◌≡◌, IfOk};
 ghost use Rattle.bcast_delivery.specs.Log.{IsWholeLog};
 
 use anyhow::{Result, bail};
-use async_broadcast::{Receiver, RecvError, WakerSlot};
-use bcast_delivery::{Channel, HistoryPort, Reading, messages_stay};
+use async_broadcast::RecvError;
+use bcast_delivery::{Channel, HistoryPort, HistoryReceiver, Reading, messages_stay};
 use std::alloc::AllocGlobal;
 use std::sync::Wait;
 
@@ -14,10 +14,10 @@ use std::sync::Wait;
 /// # Errors
 ///
 /// - The receiver missed messages, or there was no memory for one. The log isn't whole.
-pub fn receive_all<J: Channel, P: HistoryPort<u64, J, WakerSlot>>(
+pub fn receive_all<J: Channel, P: HistoryPort<u64, J>>(
     rt: &(impl Wait + AllocGlobal),
     reading: &mut Reading<u64, J>,
-    receiver: &mut Receiver<u64, P>,
+    receiver: &mut HistoryReceiver<u64, P, J>,
 ) -> Result<Vec<u64>>
     requires { receiver.old.role.key ≡ reading.old.key }
     ensures { IfOk result (λ log. IsWholeLog J.opening reading.old.next log.items reading.new) }

@@ -8,8 +8,9 @@ mod log;
 mod order;
 
 use anyhow::Result;
-use async_broadcast::{Receiver, Sender, WakerSlot};
-use bcast_delivery::{Channel, HistoryPort, Opened, Reading, broadcast};
+use bcast_delivery::{
+    Channel, HistoryPort, HistoryReceiver, HistorySender, Opened, Reading, broadcast,
+};
 use log::receive_all;
 use order::send_both;
 use std::alloc::AllocGlobal;
@@ -36,14 +37,14 @@ fn share<J: Channel + Send + Sync, R: Threads + Wait + Sync + Print + AllocGloba
 
 fn send_from_two_threads<J, R, P>(
     rt: &R,
-    sender: Sender<u64, P>,
-    other: Sender<u64, P>,
+    sender: HistorySender<u64, P, J>,
+    other: HistorySender<u64, P, J>,
     reading: &Reading<u64, J>,
 ) -> Result<()>
 where
     J: Channel + Send + Sync,
     R: Threads + Wait + Sync + Print + AllocGlobal,
-    P: HistoryPort<u64, J, WakerSlot> + Send + Sync,
+    P: HistoryPort<u64, J> + Send + Sync,
 {
     let (mut one, mut two) = (reading.seen(), reading.seen());
     let (odd, even) = thread::join(
@@ -58,13 +59,13 @@ where
 
 fn receive_in_two_threads<J, R, P>(
     rt: &R,
-    receiver: Receiver<u64, P>,
+    receiver: HistoryReceiver<u64, P, J>,
     reading: Reading<u64, J>,
 ) -> Result<()>
 where
     J: Channel + Send + Sync,
     R: Threads + Wait + Sync + Print + AllocGlobal,
-    P: HistoryPort<u64, J, WakerSlot> + Send + Sync,
+    P: HistoryPort<u64, J> + Send + Sync,
     requires { receiver.role.key ≡ reading.key }
 {
     let (mut receiver, mut reading) = (receiver, reading);

@@ -2,13 +2,12 @@
 ghost use Rattle.std.specs.Prelude.{◌≡◌, true};
 ghost use Rattle.one_history.specs.Order.{StandInOrder};
 
-use async_broadcast::{Sender, WakerSlot};
-use bcast_delivery::{Channel, HistoryPort, Seen, sends_stand_last};
+use bcast_delivery::{Channel, HistoryPort, HistorySender, Seen, sends_stand_last};
 
 /// Sends two messages, and returns whether both were accepted. Then the second stands after the
 /// first, whatever other threads sent in between, and before both stands all that the caller knew.
-pub fn send_both<J: Channel, P: HistoryPort<u64, J, WakerSlot>>(
-    sender: &Sender<u64, P>,
+pub fn send_both<J: Channel, P: HistoryPort<u64, J>>(
+    sender: &HistorySender<u64, P, J>,
     seen: &mut Seen<u64, J>,
     first: u64,
     second: u64,

@@ -2,7 +2,7 @@
 //! README.
 ghost use Rattle.std.specs.Prelude.{◌<◌};
 
-use async_broadcast::{Port, Receiver, Sender, WakerSlot, broadcast};
+use async_broadcast::{Port, Receiver, Sender, broadcast};
 use std::alloc::AllocGlobal;
 use std::process::Abort;
 use std::random::RandomSource;
@@ -143,7 +143,7 @@ fn inactive_drop(rt: HostRuntime) -> Result<(), Fail> {
     closes_by_its_inactive_receivers(&rt, &sender, receiver)
 }
 
-fn closes_by_its_inactive_receivers<P: Port<(), WakerSlot>>(
+fn closes_by_its_inactive_receivers<P: Port<()>>(
     rt: &impl Abort,
     sender: &Sender<(), P>,
     receiver: Receiver<(), P>,

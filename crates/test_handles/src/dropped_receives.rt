@@ -1,6 +1,6 @@
 //! Two receives that wait in tasks, one of which is dropped.
 use async_broadcast::{
-    Kind, LockReceiver, LockSender, Port, Receiver, Recv, Sender, Snapshot, WakerSlot, broadcast,
+    Kind, LockReceiver, LockSender, Port, Receiver, Recv, Sender, Snapshot, broadcast,
 };
 use futures::task::Poll;
 use futures::test::MockTask;
@@ -18,12 +18,12 @@ fn waiting(seen: &Snapshot<u64>) -> &[(usize, Kind)] {
     }
 }
 
-fn is_pending<P: Port<u64, WakerSlot>>(task: &MockTask, receive: &mut Recv<'_, u64, P>) -> bool {
+fn is_pending<P: Port<u64>>(task: &MockTask, receive: &mut Recv<'_, u64, P>) -> bool {
     matches!(task.poll(receive), Poll::Pending)
 }
 
 /// Sends a message, which wakes the task of the receive that was kept, and no other.
-fn wakes_who_stayed<P: Port<u64, WakerSlot>>(
+fn wakes_who_stayed<P: Port<u64>>(
     rt: &impl Abort,
     sender: &Sender<u64, P>,
     (left, stayed): (&MockTask, &MockTask),

@@ -4,7 +4,7 @@
 //! One test makes the channel of each example, as the example's first line does, and calls a
 //! function with the example's other lines. These functions are over any port, so that their proofs
 //! name no lock, and borrow a handle that the example doesn't drop.
-use async_broadcast::{Port, Receiver, Sender, WakerSlot, broadcast};
+use async_broadcast::{Port, Receiver, Sender, broadcast};
 use std::alloc::AllocGlobal;
 use std::process::Abort;
 use std::random::RandomSource;
@@ -119,7 +119,7 @@ fn examples(rt: HostRuntime) -> Result<(), Fail> {
     Ok(())
 }
 
-fn play<R: Abort + Wait + RandomSource + AllocGlobal, P: Port<u64, WakerSlot>>(
+fn play<R: Abort + Wait + RandomSource + AllocGlobal, P: Port<u64>>(
     rt: &R,
     example: Example,
     mut sender: Sender<u64, P>,
@@ -132,7 +132,7 @@ fn play<R: Abort + Wait + RandomSource + AllocGlobal, P: Port<u64, WakerSlot>>(
     }
 }
 
-fn play_borrowing<R: Abort + Wait + RandomSource + AllocGlobal, P: Port<u64, WakerSlot>>(
+fn play_borrowing<R: Abort + Wait + RandomSource + AllocGlobal, P: Port<u64>>(
     rt: &R,
     example: Borrows,
     sender: &mut Sender<u64, P>,
@@ -155,7 +155,7 @@ fn play_borrowing<R: Abort + Wait + RandomSource + AllocGlobal, P: Port<u64, Wak
     Ok(())
 }
 
-fn play_sends<R: Abort + Wait + RandomSource + AllocGlobal, P: Port<u64, WakerSlot>>(
+fn play_sends<R: Abort + Wait + RandomSource + AllocGlobal, P: Port<u64>>(
     rt: &R,
     example: Sends,
     sender: Sender<u64, P>,
@@ -173,7 +173,7 @@ fn play_sends<R: Abort + Wait + RandomSource + AllocGlobal, P: Port<u64, WakerSl
     Ok(())
 }
 
-fn play_receives<R: Abort + Wait + RandomSource + AllocGlobal, P: Port<u64, WakerSlot>>(
+fn play_receives<R: Abort + Wait + RandomSource + AllocGlobal, P: Port<u64>>(
     rt: &R,
     example: Receives,
     sender: Sender<u64, P>,

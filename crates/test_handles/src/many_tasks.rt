@@ -1,8 +1,9 @@
 //! Many tasks in one thread: senders that wait, and receivers as streams.
-use async_broadcast::{Port, Receiver, Sender, WakerSlot, broadcast};
+use async_broadcast::{Port, Receiver, Sender, broadcast};
 use futures::executor::{LocalPool, LocalSpawner};
 use std::alloc::{AllocError, AllocGlobal};
 use std::process::Abort;
+use std::random::RandomSource;
 use std::sync::{Mutex, Wait};
 use std::test::Fail;
 use tasks::{Counts, Task};
@@ -36,10 +37,7 @@ fn many_receivers_get_one_order(rt: HostRuntime) -> Result<(), Fail> {
     let (sender, receiver) = broadcast(rt, rt.alloc(), CAPACITY)?;
     let counts = Counts::new(SENDERS);
     let lists = Mutex::new(Vec::new(rt.alloc()));
-    let mut pool = LocalPool::new(&rt)?;
-    start_all(rt, &pool.spawner()?, &sender, receiver, &counts, &lists)?;
-    pool.run(&rt);
-    drop(pool);
+    run_all(rt, &sender, receiver, &counts, &lists)?;
     expect_one_order(&rt, lists.into_inner().as_slice())?;
     let (received, sent) = (counts.receive_polls(), counts.send_polls());
     println!(rt; "{received} polls of receivers, {sent} of sends")?;
@@ -47,8 +45,26 @@ fn many_receivers_get_one_order(rt: HostRuntime) -> Result<(), Fail> {
     Ok(())
 }
 
+/// Runs all tasks to their end.
+fn run_all<'a, R, P>(
+    rt: R,
+    sender: &'a Sender<u64, P>,
+    receiver: Receiver<u64, P>,
+    counts: &'a Counts,
+    lists: &'a Mutex<Vec<Vec<u64>>>,
+) -> Result<(), Fail>
+where
+    R: Wait + RandomSource + AllocGlobal + Copy + Drop,
+    P: Port<u64> + 'static,
+{
+    let mut pool = LocalPool::new(&rt)?;
+    start_all(rt, &pool.spawner()?, sender, receiver, counts, lists)?;
+    pool.run(&rt);
+    Ok(())
+}
+
 /// Starts the task of each receiver, and of each sender.
-fn start_all<'a, R: Wait + AllocGlobal + Copy + Drop, P: Port<u64, WakerSlot>>(
+fn start_all<'a, R: Wait + AllocGlobal + Copy + Drop, P: Port<u64>>(
     rt: R,
     spawner: &LocalSpawner<Task<'a, R, P>>,
     sender: &'a Sender<u64, P>,

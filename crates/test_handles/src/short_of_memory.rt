@@ -1,6 +1,6 @@
 //! Handles of a channel whose heap is full: what is refused is handed back, and nothing is lost.
 use async_broadcast::{
-    Lock, NoMemory, Port, Receiver, Send, Sender, Snapshot, WakerSlot, broadcast,
+    KnowingPort, Lock, NoMemory, Port, Receiver, Send, Sender, Snapshot, broadcast,
 };
 use bcast_core::Inner;
 use futures::StreamExt;
@@ -86,7 +86,7 @@ where
     R: Abort + Wait + RandomSource + AllocGlobal,
     T: Clone + PartialEq,
     A: Allocator + Copy,
-    P: Port<T, WakerSlot<A>>,
+    P: Port<T>,
 {
     let task = MockTask::new(rt)?;
     let taken = fill(rt.alloc(), heap)?;
@@ -123,7 +123,7 @@ fn a_send_without_a_box_frees_its_place(rt: HostRuntime) -> Result<(), Fail> {
     Ok(())
 }
 
-fn hands_back_without_a_box<A: Allocator + Copy, P: Port<u64, WakerSlot<A>>>(
+fn hands_back_without_a_box<A: Allocator + Copy, P: Port<u64>>(
     rt: &impl Abort,
     alloc: Global,
     heap: &LocalHeap,
@@ -150,9 +150,10 @@ fn a_send_without_a_notice_keeps_its_place(rt: HostRuntime) -> Result<(), Fail> 
     let heap = LocalHeap::new(rt.alloc(), HEAP)?;
     let (inner, key) = Inner::new(&heap, 1)?;
     let lock = Lock::new(&rt, &heap, inner)?;
-    let port = lock.same().ok_or("no memory")?;
-    let sender = Sender::over(SlotPort { port }, &heap);
-    let mut receiver = Receiver::over(lock, key, &heap);
+    let port = lock.try_clone().ok_or("no memory")?;
+    let alloc = &heap;
+    let sender = Sender::from_port(SlotPort { port, alloc }, alloc);
+    let mut receiver = Receiver::from_port(lock, key, &heap);
     assert!(rt; sender.try_broadcast(1).is_ok());
     let mut send = sender.broadcast_direct(7)?;
     hands_back_without_a_notice(&rt, &heap, &mut send)?;
@@ -173,7 +174,7 @@ fn hands_back_without_a_notice<R, A, P>(
 where
     R: Abort + RandomSource + AllocGlobal,
     A: Allocator + Copy,
-    P: Port<u64, WakerSlot<A>>,
+    P: Port<u64>,
 {
     let task = MockTask::new(rt)?;
     let _taken = fill(rt.alloc(), heap)?;
@@ -185,7 +186,7 @@ where
     Ok(())
 }
 
-fn is_pending<A: Allocator + Copy, P: Port<u64, WakerSlot<A>>>(
+fn is_pending<A: Allocator + Copy, P: Port<u64>>(
     rt: &(impl RandomSource + AllocGlobal),
     send: &mut Send<'_, u64, P, A>,
 ) -> Result<bool, Fail> {

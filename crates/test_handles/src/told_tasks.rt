@@ -1,5 +1,5 @@
 //! Tasks that all wait for one channel: how many polls follow after a call tells some of them.
-use async_broadcast::{Port, Receiver, Send, Sender, Snapshot, WakerSlot, broadcast};
+use async_broadcast::{Port, Receiver, Send, Sender, Snapshot, broadcast};
 use futures::executor::{LocalPool, LocalSpawner};
 use futures::task::{Context, Poll, Source, Waker};
 use futures::test::MockTask;
@@ -55,14 +55,14 @@ const MANY: usize = 100_000;
 
 /// What a task waits for.
 #[derive(Drop)]
-enum Awaited<'a, P: Port<u64, WakerSlot>> {
+enum Awaited<'a, P: Port<u64>> {
     Message(Receiver<u64, P>),
     Room(Send<'a, u64, P>),
 }
 
 /// A task that polls until it needn't wait, and then keeps its handle. Its polls are counted.
 #[derive(Drop)]
-struct Listener<'a, P: Port<u64, WakerSlot>> {
+struct Listener<'a, P: Port<u64>> {
     awaited: Awaited<'a, P>,
     is_answered: bool,
     polls: &'a AtomicU64,
@@ -71,7 +71,7 @@ struct Listener<'a, P: Port<u64, WakerSlot>> {
     waker: Option<Waker>,
 }
 
-impl<'a, P: Port<u64, WakerSlot>> Listener<'a, P> {
+impl<'a, P: Port<u64>> Listener<'a, P> {
     fn new(awaited: Awaited<'a, P>, polls: &'a AtomicU64) -> Self {
         Listener {
             awaited,
@@ -83,7 +83,7 @@ impl<'a, P: Port<u64, WakerSlot>> Listener<'a, P> {
     }
 }
 
-impl<P: Port<u64, WakerSlot>> Future for Listener<'_, P> {
+impl<P: Port<u64>> Future for Listener<'_, P> {
     type Output = ();
 
     fn poll(&mut self, cx: &mut Context<'_>) -> Poll<()> {
@@ -108,11 +108,7 @@ impl<P: Port<u64, WakerSlot>> Future for Listener<'_, P> {
 }
 
 /// Makes a call, and returns whether it returns what the row needs.
-fn is_made<P: Port<u64, WakerSlot>>(
-    ask: Ask,
-    sender: &Sender<u64, P>,
-    reader: &mut Receiver<u64, P>,
-) -> bool {
+fn is_made<P: Port<u64>>(ask: Ask, sender: &Sender<u64, P>, reader: &mut Receiver<u64, P>) -> bool {
     match ask {
         Ask::Send => sender.try_broadcast(1).is_ok(),
         Ask::Receive => matches!(reader.try_recv(), Ok(Ok(_))),
@@ -137,7 +133,7 @@ struct Seen {
 }
 
 /// Adds the tasks of a row: streams, and then sends.
-fn add_tasks<'a, P: Port<u64, WakerSlot>>(
+fn add_tasks<'a, P: Port<u64>>(
     spawner: &LocalSpawner<Listener<'a, P>>,
     (streams, sends): (u64, u64),
     sender: &'a Sender<u64, P>,
@@ -158,7 +154,7 @@ fn add_tasks<'a, P: Port<u64, WakerSlot>>(
 }
 
 /// Makes the calls, each of which must return what the row needs.
-fn make_all<P: Port<u64, WakerSlot>>(
+fn make_all<P: Port<u64>>(
     asks: &[Ask],
     sender: &Sender<u64, P>,
     reader: &mut Receiver<u64, P>,

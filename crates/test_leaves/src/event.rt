@@ -1,7 +1,7 @@
 //! Which notices are called, how often and in which order, and what holds after refused memory.
 use bcast_model::listener::Kind;
 use bcast_waiting::event::Event;
-use bcast_waiting::notice::{Given, MakesNotice, Notice, Silent};
+use bcast_waiting::notice::{MakesNotice, Notice, OwnedNotice, Silent};
 use linked_list_allocator::LocalHeap;
 use std::alloc::{AllocError, Allocator, Global};
 use std::cell::Cell;
@@ -127,7 +127,7 @@ fn wait<N: Notice, A: Allocator>(
     notice: N,
 ) -> Result<bool, AllocError> {
     event.reserve_for(id)?;
-    let made = event.wait_again(id, &mut Given::new(notice));
+    let made = event.wait_again(id, &mut OwnedNotice::new(notice));
     Ok(made.is_ok() && event.is_untold(id))
 }
 
@@ -138,7 +138,7 @@ fn refuse<N: Notice, A: Allocator>(
     notice: N,
 ) -> Result<bool, AllocError> {
     event.reserve_for(id)?;
-    let mut maker = Given::new(notice);
+    let mut maker = OwnedNotice::new(notice);
     let _ = maker.make();
     Ok(event.wait_again(id, &mut maker).is_err())
 }

@@ -1,7 +1,7 @@
 //! The listeners of two receivers.
 use bcast_model::listener::Kind;
 use bcast_waiting::Event;
-use bcast_waiting::notice::{Given, Silent};
+use bcast_waiting::notice::{OwnedNotice, Silent};
 use std::alloc::{AllocError, Global};
 use std::test::Fail;
 
@@ -40,7 +40,7 @@ const ROWS: &[(Call, Ids, usize)] = &[
 // Lists a listener, and returns whether it is not told then.
 fn wait(receives: &mut Receives, key: usize, kind: Kind) -> Result<bool, AllocError> {
     receives.reserve_for((key, Kind::Future))?;
-    let made = receives.wait_again((key, kind), &mut Given::new(Silent));
+    let made = receives.wait_again((key, kind), &mut OwnedNotice::new(Silent));
     Ok(made.is_ok() && receives.is_untold((key, kind)))
 }
 

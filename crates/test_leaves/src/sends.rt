@@ -1,6 +1,6 @@
 //! Three sends that wait, from when they get places until the last one is answered.
 use bcast_waiting::SendList;
-use bcast_waiting::notice::{Given, Silent};
+use bcast_waiting::notice::{OwnedNotice, Silent};
 use std::alloc::{AllocError, Global};
 use std::test::Fail;
 
@@ -40,7 +40,7 @@ const ROWS: &[(Call, &[usize], usize)] = &[
 // Lists a send, if it has a place.
 fn wait(sends: &mut SendList<Silent>, place: usize) {
     if sends.has(place) {
-        let _ = sends.wait(place, &mut Given::new(Silent));
+        let _ = sends.wait(place, &mut OwnedNotice::new(Silent));
     }
 }
 

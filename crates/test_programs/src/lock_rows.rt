@@ -3,7 +3,7 @@ ghost use Rattle.std.specs.Prelude.{IfOk, IfSome};
 ghost use Rattle.bcast_model.specs.Next.{HasPositiveCapacity};
 
 use asking::{Way, ask};
-use async_broadcast::{Lock, Port, Wake, WakerSlot};
+use async_broadcast::{KnowingPort, Lock, Port, Wake};
 use bcast_core::{Call, Inner, Silent, step};
 use bcast_trace::line::{Line, read_line};
 use bcast_trace::opening::{Opening, read_opening};
@@ -55,22 +55,16 @@ struct Row<'a, P> {
     alone: Inner<u64, Silent>,
 }
 
-impl<P: Port<u64, WakerSlot> + Shows> Row<'_, P> {
+impl<P: Port<u64> + Shows> Row<'_, P> {
     /// Makes a call on one port and without a lock, and returns whether the replies are equal.
-    fn is_same_reply(
-        &mut self,
-        alloc: Global,
-        way: Way,
-        is_odd: bool,
-        calls: (Call<u64>, Call<u64>),
-    ) -> bool
+    fn is_same_reply(&mut self, way: Way, is_odd: bool, calls: (Call<u64>, Call<u64>)) -> bool
         requires call { HasPositiveCapacity calls.0 }
         requires again { HasPositiveCapacity calls.1 }
     {
         let (call, again) = calls;
         let wanted = step(&mut self.alone, again, Silent);
         let port = if is_odd { self.same } else { self.port };
-        ask(alloc, self.task, way, port, call, &wanted) == Some(wanted)
+        ask(self.task, way, port, call, &wanted) == Some(wanted)
     }
 
     /// What the ports see that is different without a lock. None: nothing.
@@ -113,7 +107,7 @@ fn open_both(
 
 /// Makes the calls of all lines except the first `before`. The first of `calls` is line 2 of its
 /// trace.
-fn play_calls<P: Port<u64, WakerSlot> + Shows>(
+fn play_calls<P: Port<u64> + Shows>(
     alloc: Global,
     row: &mut Row<'_, P>,
     way: Way,
@@ -126,7 +120,7 @@ fn play_calls<P: Port<u64, WakerSlot> + Shows>(
             continue;
         };
         let number = index.saturating_add(2);
-        if !row.is_same_reply(alloc, way, made % 2 == 1, calls) {
+        if !row.is_same_reply(way, made % 2 == 1, calls) {
             return Ok(Outcome::Differs(number, Part::Reply));
         }
         if let Some(part) = row.differs(alloc)? {
@@ -148,7 +142,7 @@ fn play_locked<R: Wait>(
     calls: &str,
 ) -> Result<Outcome, AllocError> {
     let port = Lock::new(rt, alloc, locked)?;
-    let same = port.same().ok_or(AllocError)?;
+    let same = port.try_clone().ok_or(AllocError)?;
     let mut row = Row {
         task,
         port: &port,

@@ -2,11 +2,13 @@
 ghost use Rattle.std.specs.Prelude.{◌≡◌, ◌<◌, ◌≤◌};
 
 use crate::streams::Taker;
-use async_broadcast::{Port, Receiver, Sender, WakerSlot};
-use bcast_delivery::{Channel, HistoryPort, Opened, Reading, broadcast};
+use async_broadcast::{KnowingPort, Receiver, Sender};
+use bcast_delivery::{
+    Channel, HistoryPort, HistoryReceiver, HistorySender, Opened, Reading, broadcast,
+};
 use bcast_text::threads::outcome::print_seen;
 use bcast_threads::plan::{Plan, run as run_plan, threads};
-use bcast_threads::work::{Reader, receive_all, send_all};
+use bcast_threads::work::{receive_all, send_all};
 use linked_list_allocator::LocalHeap;
 use std::alloc::{AllocError, Global};
 use std::io;
@@ -162,31 +164,36 @@ fn run_row_over<J: Channel, R: Wait + Clone, W: Write>(
         alloc,
         opened,
     )?;
-    let reader = Reader { receiver, reading };
     match row {
-        Row::Order => order(rt, alloc, sender, reader, output),
-        Row::NoMemory(awaited) => no_memory(rt, alloc, sender, reader, awaited, output),
-        Row::Closed => closed(sender, reader, output),
+        Row::Order => order(rt, alloc, sender, receiver, reading, output),
+        Row::NoMemory(awaited) => {
+            no_memory(rt, alloc, sender, receiver, reading, awaited, output)
+        }
+        Row::Closed => closed(sender, receiver, &reading, output),
     }
 }
 
-fn order<J: Channel, P: HistoryPort<u64, J, WakerSlot>, W: Write>(
+fn order<J: Channel, P: HistoryPort<u64, J>, W: Write>(
     rt: &impl Wait,
     alloc: Global,
-    sender: Sender<u64, P>,
-    reader: Reader<J, P>,
+    sender: HistorySender<u64, P, J>,
+    receiver: HistoryReceiver<u64, P, J>,
+    reading: Reading<u64, J>,
     output: &mut W,
-) -> io::Result<()> {
+) -> io::Result<()>
+    requires key { receiver.role.key ≡ reading.key }
+    requires start { reading.next ≡ J.opening.first_number }
+{
     send_three(&sender, output)?;
-    match receive_all(rt, alloc, reader, 3) {
+    match receive_all(rt, alloc, receiver, reading, 3) {
         Ok(log) => writeln!(output, "received {:?}", log.list.as_slice()),
         Err(fault) => writeln!(output, "{fault:?}"),
     }
 }
 
 /// Sends three messages, and closes the channel.
-fn send_three<P: Port<u64, WakerSlot>, W: Write>(
-    sender: &Sender<u64, P>,
+fn send_three<P: KnowingPort<u64, K>, K: Drop, W: Write>(
+    sender: &Sender<u64, P, Global, K>,
     output: &mut W,
 ) -> io::Result<()> {
     for msg in [2u64, 0, 1] {
@@ -198,25 +205,29 @@ fn send_three<P: Port<u64, WakerSlot>, W: Write>(
     Ok(())
 }
 
-fn no_memory<J: Channel, P: HistoryPort<u64, J, WakerSlot>, W: Write>(
+fn no_memory<J: Channel, P: HistoryPort<u64, J>, W: Write>(
     rt: &impl Wait,
     alloc: Global,
-    sender: Sender<u64, P>,
-    reader: Reader<J, P>,
+    sender: HistorySender<u64, P, J>,
+    receiver: HistoryReceiver<u64, P, J>,
+    reading: Reading<u64, J>,
     awaited: usize,
     output: &mut W,
-) -> io::Result<()> {
+) -> io::Result<()>
+    requires key { receiver.role.key ≡ reading.key }
+    requires start { reading.next ≡ J.opening.first_number }
+{
     send_hundred(&sender, output)?;
-    let Ok(other) = reader.receiver.clone() else {
+    let Ok(other) = receiver.clone() else {
         return output.write_all(b"no clone\n");
     };
     let heap = LocalHeap::new(alloc, 64)?;
-    let is_err = receive_all(rt, &heap, reader, awaited).is_err();
+    let is_err = receive_all(rt, &heap, receiver, reading, awaited).is_err();
     write_closed(is_err, &sender, &other, output)
 }
 
-fn send_hundred<P: Port<u64, WakerSlot>, W: Write>(
-    sender: &Sender<u64, P>,
+fn send_hundred<P: KnowingPort<u64, K>, K: Drop, W: Write>(
+    sender: &Sender<u64, P, Global, K>,
     output: &mut W,
 ) -> io::Result<()> {
     for msg in 0..100u64 {
@@ -228,10 +239,10 @@ fn send_hundred<P: Port<u64, WakerSlot>, W: Write>(
 }
 
 /// Writes whether memory was refused, and what is kept for another receiver.
-fn write_closed<P: Port<u64, WakerSlot>, W: Write>(
+fn write_closed<P: KnowingPort<u64, K>, K: Drop, W: Write>(
     is_err: bool,
-    sender: &Sender<u64, P>,
-    other: &Receiver<u64, P>,
+    sender: &Sender<u64, P, Global, K>,
+    other: &Receiver<u64, P, Global, K>,
     output: &mut W,
 ) -> io::Result<()> {
     let is_closed = sender.is_closed();
@@ -242,13 +253,14 @@ fn write_closed<P: Port<u64, WakerSlot>, W: Write>(
     )
 }
 
-fn closed<J: Channel, P: HistoryPort<u64, J, WakerSlot>, W: Write>(
-    sender: Sender<u64, P>,
-    reader: Reader<J, P>,
+fn closed<J: Channel, P: HistoryPort<u64, J>, W: Write>(
+    sender: HistorySender<u64, P, J>,
+    receiver: HistoryReceiver<u64, P, J>,
+    reading: &Reading<u64, J>,
     output: &mut W,
 ) -> io::Result<()> {
-    reader.receiver.close();
-    let sent = send_all(sender, reader.reading.seen(), 0, 100);
-    let kept = reader.receiver.len();
+    receiver.close();
+    let sent = send_all(sender, reading.seen(), 0, 100);
+    let kept = receiver.len();
     writeln!(output, "closed, and {} sent, {kept} kept", sent.end)
 }

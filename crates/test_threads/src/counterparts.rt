@@ -3,7 +3,7 @@ use crate::answers::{Answer, of_try_recv};
 use crate::hands::{Change, Hands, Script, Step};
 use crate::scripts::{Shared, start};
 use crate::steps::{Receiving, Sending, wait_for};
-use async_broadcast::{TimedPort, WakerSlot, broadcast};
+use async_broadcast::{TimedPort, broadcast};
 use std::alloc::Global;
 use std::process::Abort;
 use std::sync::Wait;
@@ -88,7 +88,7 @@ fn play<R, P>(
 ) -> Result<(), Fail>
 where
     R: Threads + Wait + Abort + Copy + Send + Drop + 'static,
-    P: TimedPort<u64, WakerSlot> + Send + 'static,
+    P: TimedPort<u64> + Send + 'static,
 {
     let shared = Shared::new(alloc, &[2, 2, 2])?;
     let first = start(rt, &shared, Hands::receiving(alloc, receiver)?, receives)?;
@@ -149,7 +149,7 @@ fn one_lags<R, P>(
 ) -> Result<(), Fail>
 where
     R: Threads + Wait + Abort + Copy + Send + Drop + 'static,
-    P: TimedPort<u64, WakerSlot> + Send + 'static,
+    P: TimedPort<u64> + Send + 'static,
 {
     lagging.set_overflow(true);
     let shared = Shared::new(alloc, &[3, 2])?;

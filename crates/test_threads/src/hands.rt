@@ -4,7 +4,7 @@ use crate::answers::{
     of_send, of_send_timeout, of_try_recv, of_try_send,
 };
 use crate::steps::{Receiving, Sending};
-use async_broadcast::{InactiveReceiver, TimedPort, WakerSlot};
+use async_broadcast::{InactiveReceiver, TimedPort};
 use futures::StreamExt;
 use futures::task::Poll;
 use futures::test::MockTask;
@@ -85,7 +85,7 @@ pub type Script = &'static [(Step, Answer)];
 
 /// The handles of a thread.
 #[derive(Drop)]
-pub struct Hands<P: TimedPort<u64, WakerSlot>> {
+pub struct Hands<P: TimedPort<u64>> {
     senders: Vec<Sending<P>>,
     receivers: Vec<Receiving<P>>,
     inactive: Option<InactiveReceiver<u64, P>>,
@@ -96,7 +96,7 @@ pub struct Hands<P: TimedPort<u64, WakerSlot>> {
     pub alloc: Global,
 }
 
-impl<P: TimedPort<u64, WakerSlot>> Hands<P> {
+impl<P: TimedPort<u64>> Hands<P> {
     // No handles yet, no task, and a limit that is over at once.
     fn new(alloc: Global) -> Self {
         Hands {
@@ -235,7 +235,7 @@ impl<P: TimedPort<u64, WakerSlot>> Hands<P> {
 }
 
 /// Polls a receive of this kind.
-fn receive<P: TimedPort<u64, WakerSlot>>(
+fn receive<P: TimedPort<u64>>(
     task: &MockTask,
     receiver: &mut Receiving<P>,
     polled: Polled,
@@ -248,7 +248,7 @@ fn receive<P: TimedPort<u64, WakerSlot>>(
 }
 
 /// Whether a send of the task waits, and a receive wakes it.
-fn wakes_a_send<P: TimedPort<u64, WakerSlot>>(
+fn wakes_a_send<P: TimedPort<u64>>(
     task: &MockTask,
     sender: &Sending<P>,
     receiver: &mut Receiving<P>,
@@ -262,7 +262,7 @@ fn wakes_a_send<P: TimedPort<u64, WakerSlot>>(
 }
 
 /// Whether a receive of the task waits, and a send wakes it.
-fn wakes_a_receive<P: TimedPort<u64, WakerSlot>>(
+fn wakes_a_receive<P: TimedPort<u64>>(
     task: &MockTask,
     sender: &Sending<P>,
     receiver: &mut Receiving<P>,

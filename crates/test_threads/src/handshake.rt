@@ -2,7 +2,7 @@
 use crate::answers::Answer;
 use crate::steps::{Receiving, Sending, wait_for};
 use crate::timed::patience::Patience;
-use async_broadcast::{TimedPort, WakerSlot, broadcast};
+use async_broadcast::{TimedPort, broadcast};
 use std::alloc::Global;
 use std::process::Abort;
 use std::sync::atomic::{AtomicU64, Ordering};
@@ -51,7 +51,7 @@ fn play_both<R, P>(
 ) -> Result<(), Fail>
 where
     R: Threads + Wait + Abort + Copy + Send + Drop + 'static,
-    P: TimedPort<u64, WakerSlot> + Send + 'static,
+    P: TimedPort<u64> + Send + 'static,
 {
     let finished = Arc::new(alloc, AtomicU64::new(0))?;
     let first = start(rt, true, (there.0, back.1), patience.0, &finished)?;
@@ -72,14 +72,14 @@ fn start<R, P>(
 ) -> Result<JoinHandle<()>, Fail>
 where
     R: Threads + Wait + Abort + Copy + Send + Drop + 'static,
-    P: TimedPort<u64, WakerSlot> + Send + 'static,
+    P: TimedPort<u64> + Send + 'static,
 {
     let own = Arc::try_clone(finished)?;
     Ok(thread::spawn(&rt, move || play(&rt, asks, ends, patience, &own))?)
 }
 
 // Sends each number, and waits until it is sent back; or waits for each number, and sends it back.
-fn play<R: Wait + Abort, P: TimedPort<u64, WakerSlot>>(
+fn play<R: Wait + Abort, P: TimedPort<u64>>(
     rt: &R,
     asks: bool,
     (sender, mut receiver): Ends<P>,

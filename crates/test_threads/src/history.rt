@@ -2,8 +2,9 @@
 ghost use Rattle.std.specs.Prelude.{◌≡◌};
 
 use crate::timed::runs::{RUNS, run};
-use async_broadcast::{Receiver, Sender, WakerSlot};
-use bcast_delivery::{Channel, HistoryPort, Opened, Reading, Seen, broadcast};
+use bcast_delivery::{
+    Channel, HistoryPort, HistoryReceiver, HistorySender, Opened, Reading, Seen, broadcast,
+};
 use std::alloc::{AllocError, Global};
 use std::marker::Brand;
 use std::process::Abort;
@@ -62,14 +63,14 @@ where
 fn run_both<J, R, P>(
     rt: R,
     alloc: Global,
-    sender: Sender<u64, P>,
-    receiver: Receiver<u64, P>,
+    sender: HistorySender<u64, P, J>,
+    receiver: HistoryReceiver<u64, P, J>,
     reading: Reading<u64, J>,
 ) -> Result<(), Fail>
 where
     J: Channel + Send + Sync + 'static,
     R: Threads + Wait + Abort + Copy + Send + Drop + 'static,
-    P: HistoryPort<u64, J, WakerSlot> + Send + 'static,
+    P: HistoryPort<u64, J> + Send + 'static,
     requires { receiver.role.key ≡ reading.key }
 {
     let (first, second) = (reading.seen(), reading.seen());
@@ -87,13 +88,13 @@ where
 fn start_receivers<J, R, P>(
     rt: R,
     alloc: Global,
-    receiver: Receiver<u64, P>,
+    receiver: HistoryReceiver<u64, P, J>,
     mut reading: Reading<u64, J>,
 ) -> Result<Pair, Fail>
 where
     J: Channel + Send + Sync + 'static,
     R: Threads + Wait + Copy + Send + Drop + 'static,
-    P: HistoryPort<u64, J, WakerSlot> + Send + 'static,
+    P: HistoryPort<u64, J> + Send + 'static,
     requires { receiver.role.key ≡ reading.key }
 {
     let (other, its_reading) = reading.clone(&rt, &receiver)?;
@@ -106,14 +107,14 @@ where
 fn start_senders<J, R, P>(
     rt: R,
     alloc: Global,
-    sender: Sender<u64, P>,
+    sender: HistorySender<u64, P, J>,
     first: Seen<u64, J>,
     second: Seen<u64, J>,
 ) -> Result<Pair, Fail>
 where
     J: Channel + Send + Sync + 'static,
     R: Threads + Wait + Copy + Send + Drop + 'static,
-    P: HistoryPort<u64, J, WakerSlot> + Send + 'static,
+    P: HistoryPort<u64, J> + Send + 'static,
 {
     let other = sender.clone()?;
     let first = thread::spawn(&rt, move || send_all(alloc, sender, first, 0))?;
@@ -122,9 +123,9 @@ where
 }
 
 /// Sends the messages from `first` on, and returns the number at which each stands.
-fn send_all<J: Channel, P: HistoryPort<u64, J, WakerSlot>>(
+fn send_all<J: Channel, P: HistoryPort<u64, J>>(
     alloc: Global,
-    sender: Sender<u64, P>,
+    sender: HistorySender<u64, P, J>,
     mut seen: Seen<u64, J>,
     first: u64,
 ) -> List {
@@ -138,10 +139,10 @@ fn send_all<J: Channel, P: HistoryPort<u64, J, WakerSlot>>(
 }
 
 /// Receives until the channel is closed.
-fn receive_all<J: Channel, P: HistoryPort<u64, J, WakerSlot>>(
+fn receive_all<J: Channel, P: HistoryPort<u64, J>>(
     rt: &impl Wait,
     alloc: Global,
-    mut receiver: Receiver<u64, P>,
+    mut receiver: HistoryReceiver<u64, P, J>,
     mut reading: Reading<u64, J>,
 ) -> List
     requires { receiver.role.key ≡ reading.key }

@@ -2,11 +2,13 @@
 ghost use Rattle.std.specs.Prelude.{◌≡◌};
 
 use crate::answers::{Answer, of_poll_recv, of_recv, of_recv_timeout, of_try_recv};
-use async_broadcast::{HandleError, Port, Receiver, Sender, TimedSeenPort, WakerSlot};
-use bcast_delivery::{Channel, HistoryPort, Opened, Reading, broadcast};
+use async_broadcast::{HandleError, KnowingPort, KnowingTimedPort, Sender};
+use bcast_delivery::{
+    Channel, HistoryPort, HistoryReceiver, HistorySender, Opened, Reading, Seen, broadcast,
+};
 use futures::task::{Context, Poll};
 use futures::test::MockTask;
-use std::alloc::AllocGlobal;
+use std::alloc::{AllocGlobal, Global};
 use std::marker::Brand;
 use std::process::Abort;
 use std::random::RandomSource;
@@ -16,13 +18,13 @@ use std::time::{Clock, Duration};
 
 /// A receiver, and how far it has read.
 #[derive(Drop)]
-struct Reader<J: Channel, P: HistoryPort<u64, J, WakerSlot>> {
-    receiver: Receiver<u64, P>,
-    reading: Reading<u64, J>,
+struct Reader<T: Clone, J: Channel, P: HistoryPort<T, J>> {
+    receiver: HistoryReceiver<T, P, J>,
+    reading: Reading<T, J>,
     ghost key: { receiver.role.key ≡ reading.key },
 }
 
-impl<J: Channel, P: HistoryPort<u64, J, WakerSlot> + TimedSeenPort<u64, WakerSlot>> Reader<J, P> {
+impl<J: Channel, P: HistoryPort<u64, J> + KnowingTimedPort<u64, Seen<u64, J>>> Reader<u64, J, P> {
     fn clone(&mut self, rt: &impl Wait) -> Result<Self, HandleError> {
         let (receiver, reading) = self.reading.clone(rt, &self.receiver)?;
         Ok(Reader { receiver, reading })
@@ -102,19 +104,25 @@ where
         opened,
     )?;
     sender.set_overflow(true);
-    let reader = Reader { receiver, reading };
     match row {
-        Row::Take => take_each(&rt, &sender, reader),
-        Row::Start => start_each(&rt, &sender, reader),
+        Row::Take => take_each(&rt, &sender, receiver, reading),
+        Row::Start => start_each(&rt, &sender, receiver, reading),
     }
 }
 
-fn take_each<J, R, P>(rt: &R, sender: &Sender<u64, P>, mut reader: Reader<J, P>) -> Result<(), Fail>
+fn take_each<J, R, P>(
+    rt: &R,
+    sender: &HistorySender<u64, P, J>,
+    receiver: HistoryReceiver<u64, P, J>,
+    reading: Reading<u64, J>,
+) -> Result<(), Fail>
 where
     J: Channel,
     R: Wait + Abort + RandomSource + AllocGlobal,
-    P: HistoryPort<u64, J, WakerSlot> + TimedSeenPort<u64, WakerSlot>,
+    P: HistoryPort<u64, J> + KnowingTimedPort<u64, Seen<u64, J>>,
+    requires { receiver.role.key ≡ reading.key }
 {
+    let mut reader = Reader { receiver, reading };
     let task = MockTask::new(&rt)?;
     assert!(rt; reader.try_recv(rt) == Answer::Empty);
     assert!(rt; reader.recv_timeout(rt) == Answer::Empty);
@@ -143,16 +151,27 @@ where
 }
 
 /// Sends a message on a channel in overflow mode.
-fn send<P: Port<u64, WakerSlot>>(rt: &impl Abort, sender: &Sender<u64, P>, msg: u64) {
+fn send<P: KnowingPort<u64, K>, K: Drop>(
+    rt: &impl Abort,
+    sender: &Sender<u64, P, Global, K>,
+    msg: u64,
+) {
     assert!(rt; sender.try_broadcast(msg).is_ok(), "{msg} is sent");
 }
 
-fn start_each<J, R, P>(rt: &R, sender: &Sender<u64, P>, mut first: Reader<J, P>) -> Result<(), Fail>
+fn start_each<J, R, P>(
+    rt: &R,
+    sender: &HistorySender<u64, P, J>,
+    receiver: HistoryReceiver<u64, P, J>,
+    reading: Reading<u64, J>,
+) -> Result<(), Fail>
 where
     J: Channel,
     R: Wait + Abort,
-    P: HistoryPort<u64, J, WakerSlot> + TimedSeenPort<u64, WakerSlot>,
+    P: HistoryPort<u64, J> + KnowingTimedPort<u64, Seen<u64, J>>,
+    requires { receiver.role.key ≡ reading.key }
 {
+    let mut first = Reader { receiver, reading };
     let mut seen = first.reading.seen();
     send(rt, sender, 1);
     let mut cloned = first.clone(rt)?;

@@ -1,7 +1,7 @@
 //! Threads that make lists of calls on their handles, and meet in between.
 use crate::answers::Answer;
 use crate::hands::{Hands, Script, Step};
-use async_broadcast::{TimedPort, WakerSlot};
+use async_broadcast::TimedPort;
 use std::alloc::Global;
 use std::process::Abort;
 use std::sync::atomic::{AtomicU64, Ordering};
@@ -36,7 +36,7 @@ impl Shared {
 }
 
 /// Does the steps of a thread, each of which must return its answer.
-fn play<R: Abort + Wait, P: TimedPort<u64, WakerSlot>>(
+fn play<R: Abort + Wait, P: TimedPort<u64>>(
     rt: &R,
     shared: &Shared,
     mut hands: Hands<P>,
@@ -61,7 +61,7 @@ pub fn start<R, P>(
 ) -> Result<JoinHandle<()>, Fail>
 where
     R: Threads + Wait + Abort + Copy + Send + Drop + 'static,
-    P: TimedPort<u64, WakerSlot> + Send + 'static,
+    P: TimedPort<u64> + Send + 'static,
 {
     let own = Arc::try_clone(shared)?;
     Ok(thread::spawn(&rt, move || play(&rt, &own, hands, script))?)

@@ -2,7 +2,7 @@
 use crate::answers::Answer;
 use crate::hands::{Hands, Script, Step};
 use crate::steps::{pause, wait_for};
-use async_broadcast::{TimedPort, WakerSlot};
+use async_broadcast::TimedPort;
 use std::process::Abort;
 use std::sync::atomic::{AtomicU64, Ordering};
 use std::sync::{Arc, Wait};
@@ -28,7 +28,7 @@ pub struct Sleepers {
 }
 
 /// Makes the call, which must return this answer.
-fn sleep<P: TimedPort<u64, WakerSlot>>(
+fn sleep<P: TimedPort<u64>>(
     rt: &impl Abort,
     counts: &Counts,
     mut hands: Hands<P>,
@@ -49,7 +49,7 @@ fn start_one<R, P>(
 ) -> Result<JoinHandle<()>, Fail>
 where
     R: Threads + Wait + Abort + Copy + Send + Drop + 'static,
-    P: TimedPort<u64, WakerSlot> + Send + 'static,
+    P: TimedPort<u64> + Send + 'static,
 {
     let own = Arc::try_clone(counts)?;
     let made = hands.cloned_for(call.0).ok_or("no handles")?;
@@ -61,7 +61,7 @@ impl Sleepers {
     pub fn start<R, P>(rt: R, hands: &Hands<P>, calls: Script) -> Result<Sleepers, Fail>
     where
         R: Threads + Wait + Abort + Copy + Send + Drop + 'static,
-        P: TimedPort<u64, WakerSlot> + Send + 'static,
+        P: TimedPort<u64> + Send + 'static,
     {
         let (begun, ended) = (AtomicU64::new(0), AtomicU64::new(0));
         let counts = Arc::new(hands.alloc, Counts { begun, ended })?;
@@ -102,7 +102,7 @@ pub fn wakes<R, P>(
 ) -> Result<(), Fail>
 where
     R: Threads + Wait + Abort + Copy + Send + Drop + 'static,
-    P: TimedPort<u64, WakerSlot> + Send + 'static,
+    P: TimedPort<u64> + Send + 'static,
 {
     hands.make_all(&rt, name, before);
     let sleepers = Sleepers::start(rt, &hands, asleep)?;

@@ -9,7 +9,7 @@ use crate::hands::Step::{Change, Poll, Receive, TryRecv, TrySend, TrySendBoth};
 use crate::hands::{Hands, Polled, Script, Step};
 use crate::sleepers::{Row, wakes};
 use crate::steps::{Receiving, Sending};
-use async_broadcast::{TimedPort, WakerSlot, broadcast};
+use async_broadcast::{TimedPort, broadcast};
 use futures::test::MockTask;
 use std::alloc::Global;
 use std::process::Abort;
@@ -161,7 +161,7 @@ fn play<R, P>(
 ) -> Result<(), Fail>
 where
     R: Threads + Wait + Abort + Copy + Send + Drop + 'static,
-    P: TimedPort<u64, WakerSlot> + Send + 'static,
+    P: TimedPort<u64> + Send + 'static,
 {
     let mut hands = Hands::both(alloc, channel)?;
     hands.task = Some(task);

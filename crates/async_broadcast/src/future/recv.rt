@@ -1,5 +1,6 @@
 //! Receiving in a task, one message at a time.
-ghost use Rattle.std.specs.Prelude.{◌≡◌, ◌⊎◌, ⊤, true, false, Ok, Err, IfOk, IfErr, OnOk, OnErr};
+ghost use Rattle.std.specs.Prelude.{◌≡◌, ◌⊎◌, ⊤, true, false};
+ghost use Rattle.std.specs.Prelude.{Ok, Err, IfOk, IfErr, OnOk, OnErr};
 ghost use Rattle.futures.specs.Task.{Covers, IsArmed, Keeps};
 ghost use Rattle.futures.specs.Poll.{IfReady, OnPending};
 ghost use Rattle.async_broadcast.specs.Futures.{GivesReceived};
@@ -7,7 +8,6 @@ ghost use Rattle.async_broadcast.specs.Futures.{GivesReceived};
 use crate::handle::Handle;
 use crate::port::Ask;
 use crate::receiver::{Receiver, Receiving};
-use crate::wake::WakerSlot;
 use bcast_core::{Call, PollFuture, PollRecv, RecvError, Reply};
 use futures::Future;
 use futures::task::{Context, Poll};
@@ -20,13 +20,13 @@ use std::alloc::{AllocError, Allocator, Global};
 ///
 /// Source: `Recv` of async-broadcast 0.7.2.
 #[must_use]
-pub struct Recv<'a, T: Clone, P: Ask<T, WakerSlot<A>>, A: Allocator = Global> {
-    receiver: &'a mut Receiver<T, P, A>,
+pub struct Recv<'a, T: Clone, P: Ask<T, K>, A: Allocator = Global, K: Drop = ()> {
+    receiver: &'a mut Receiver<T, P, A, K>,
     // Whether the last poll was answered, and not because it was out of memory.
     is_answered: bool,
 }
 
-impl<T: Clone, P: Ask<T, WakerSlot<A>>, A: Allocator + Copy> Receiver<T, P, A> {
+impl<T: Clone, P: Ask<T, K>, A: Allocator + Copy, K: Drop> Receiver<T, P, A, K> {
     /// Receives the next message in a task, by a future in a box.
     ///
     /// # Errors
@@ -40,7 +40,7 @@ impl<T: Clone, P: Ask<T, WakerSlot<A>>, A: Allocator + Copy> Receiver<T, P, A> {
     /// ```
     ///
     /// Source: `Receiver::recv` of async-broadcast 0.7.2, which never refuses.
-    pub fn recv(&mut self) -> Result<Box<Recv<'_, T, P, A>, A>, AllocError>
+    pub fn recv(&mut self) -> Result<Box<Recv<'_, T, P, A, K>, A>, AllocError>
         ensures lent { IfOk result (λ recv. recv.value.receiver.now ≡ self.old) }
         ensures same { IfOk result
             (λ recv. recv.value.receiver.ghost_name ≡ self.entry.ghost_name) }
@@ -72,7 +72,7 @@ impl<T: Clone, P: Ask<T, WakerSlot<A>>, A: Allocator + Copy> Receiver<T, P, A> {
     ///
     /// Source: `Receiver::recv_direct` of async-broadcast 0.7.2.
     #[inline(always)]
-    pub fn recv_direct(&mut self) -> Recv<'_, T, P, A>
+    pub fn recv_direct(&mut self) -> Recv<'_, T, P, A, K>
         ensures lent { result.receiver.now ≡ self.old }
         ensures same { result.receiver.ghost_name ≡ self.entry.ghost_name }
         ensures fresh { result.is_answered ≡ false }
@@ -122,14 +122,15 @@ impl<T: Clone, P: Ask<T, WakerSlot<A>>, A: Allocator + Copy> Receiver<T, P, A> {
         ensures kept { Keeps cx.old cx.new }
     {
         let Receiving { key, waker } = &mut self.role;
-        match self.port.poll(PollRecv(*key), waker, cx) {
+        let known = &mut self.port.known();
+        match self.port.poll(known, PollRecv(*key), waker, cx) {
             Ok(answer) => answer,
             Err(_) => Err(AllocError),
         }
     }
 }
 
-impl<T: Clone, P: Ask<T, WakerSlot<A>>, A: Allocator> Drop for Recv<'_, T, P, A> {
+impl<T: Clone, P: Ask<T, K>, A: Allocator, K: Drop> Drop for Recv<'_, T, P, A, K> {
     fn drop(self)
         ensures asked { P.gave self.entry.receiver.now.port
             (Call.EndFuture self.entry.receiver.now.role.key) Reply.EndFuture }
@@ -140,11 +141,11 @@ impl<T: Clone, P: Ask<T, WakerSlot<A>>, A: Allocator> Drop for Recv<'_, T, P, A>
             is_answered,
         } = self;
         let wake = receiver.port.end_future(receiver.role.key, is_answered);
-        receiver.role.waker.keep(wake);
+        receiver.role.waker.put_back(wake);
     }
 }
 
-impl<T: Clone, P: Ask<T, WakerSlot<A>>, A: Allocator + Copy> Future for Recv<'_, T, P, A> {
+impl<T: Clone, P: Ask<T, K>, A: Allocator + Copy, K: Drop> Future for Recv<'_, T, P, A, K> {
     type Output = Result<Result<T, RecvError>, AllocError>;
 
     ghost gives = { λ r. GivesReceived P.gave r.receiver.now.port r.receiver.now.role.key };
@@ -180,7 +181,7 @@ impl<T: Clone, P: Ask<T, WakerSlot<A>>, A: Allocator + Copy> Future for Recv<'_,
         let receiver = &mut *self.receiver;
         let Handle { port, role, .. } = receiver;
         let Receiving { key, waker } = role;
-        match port.poll(PollFuture(*key), waker, cx) {
+        match port.poll(&mut port.known(), PollFuture(*key), waker, cx) {
             Ok(Ok(Poll::Ready(answer))) => {
                 self.is_answered = true;
                 Poll::Ready(Ok(answer))

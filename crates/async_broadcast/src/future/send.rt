@@ -1,12 +1,13 @@
 //! Sends that wait in a task.
-ghost use Rattle.std.specs.Prelude.{◌≡◌, ⊤, true, false, Some, None, Ok, Err, IfOk, IfErr, IfSome, IsSome, alloc_error};
+ghost use Rattle.std.specs.Prelude.{◌≡◌, ⊤, true, false, alloc_error};
+ghost use Rattle.std.specs.Prelude.{Some, None, IfSome, IsSome, Ok, Err, IfOk, IfErr};
 ghost use Rattle.futures.specs.Task.{Covers, Keeps};
 ghost use Rattle.futures.specs.Poll.{IfReady, OnPending};
 ghost use Rattle.async_broadcast.specs.Futures.{BeganSend, GivesSent, MustWait, RefusedSend};
 
 use crate::port::Ask;
 use crate::sender::Sender;
-use crate::wake::{TaskWaker, WakerSlot};
+use crate::wake::TaskWaker;
 use bcast_core::{BeginSend, Call, Change, NoMemory, PollSend, Reply, SendError, SendPoll};
 use futures::Future;
 use futures::task::{Context, Poll};
@@ -20,16 +21,16 @@ use std::alloc::{Allocator, Global};
 ///
 /// Source: `Send` of async-broadcast 0.7.2, which panics when polled again.
 #[must_use]
-pub struct Send<'a, T: Clone, P: Ask<T, WakerSlot<A>>, A: Allocator = Global> {
-    sender: &'a Sender<T, P, A>,
+pub struct Send<'a, T: Clone, P: Ask<T, K>, A: Allocator = Global, K: Drop = ()> {
+    sender: &'a Sender<T, P, A, K>,
     // The place that the channel gave to this send, until it is answered.
     place: Option<usize>,
     // The message, until the output.
     msg: Option<T>,
-    waker: TaskWaker<A>,
+    waker: TaskWaker,
 }
 
-impl<T: Clone, P: Ask<T, WakerSlot<A>>, A: Allocator + Copy> Sender<T, P, A> {
+impl<T: Clone, P: Ask<T, K>, A: Allocator + Copy, K: Drop> Sender<T, P, A, K> {
     /// Makes a send of this message, in a box. It sends nothing before it is polled.
     ///
     /// # Errors
@@ -46,7 +47,7 @@ impl<T: Clone, P: Ask<T, WakerSlot<A>>, A: Allocator + Copy> Sender<T, P, A> {
     /// ```
     ///
     /// Source: `Sender::broadcast` of async-broadcast 0.7.2, which never refuses.
-    pub fn broadcast(&self, msg: T) -> Result<Box<Send<'_, T, P, A>, A>, NoMemory<T>>
+    pub fn broadcast(&self, msg: T) -> Result<Box<Send<'_, T, P, A, K>, A>, NoMemory<T>>
         ensures port { IfOk result (λ send. send.value.sender.now.port ≡ self.now.port) }
         ensures made { IfOk result (λ send. (send.value.msg ≡ Some msg)
             × BeganSend P.gave self.now.port send.value.place) }
@@ -78,26 +79,26 @@ impl<T: Clone, P: Ask<T, WakerSlot<A>>, A: Allocator + Copy> Sender<T, P, A> {
     ///
     /// Source: `Sender::broadcast_direct` of async-broadcast 0.7.2, which never refuses.
     #[inline(always)]
-    pub fn broadcast_direct(&self, msg: T) -> Result<Send<'_, T, P, A>, NoMemory<T>>
+    pub fn broadcast_direct(&self, msg: T) -> Result<Send<'_, T, P, A, K>, NoMemory<T>>
         ensures port { IfOk result (λ send. send.sender.now.port ≡ self.now.port) }
         ensures made { IfOk result (λ send. (send.msg ≡ Some msg)
             × BeganSend P.gave self.now.port send.place) }
         ensures refused { IfErr result (λ error. (error.0 ≡ msg)
             × P.gave self.now.port Call.BeginSend (Reply.BeginSend (Err alloc_error))) }
     {
-        match self.port.ask(BeginSend) {
+        match self.port.ask(&mut self.port.known(), BeginSend) {
             Ok(place) => Ok(Send {
                 sender: self,
                 place: Some(place),
                 msg: Some(msg),
-                waker: TaskWaker::new(self.alloc),
+                waker: TaskWaker::new(),
             }),
             Err(_) => Err(NoMemory(msg)),
         }
     }
 }
 
-impl<T: Clone, P: Ask<T, WakerSlot<A>>, A: Allocator> Send<'_, T, P, A> {
+impl<T: Clone, P: Ask<T, K>, A: Allocator, K: Drop> Send<'_, T, P, A, K> {
     // Gives up a send that was never polled.
     fn cancel(self) -> T
         requires { IsSome self.msg }
@@ -119,18 +120,19 @@ impl<T: Clone, P: Ask<T, WakerSlot<A>>, A: Allocator> Send<'_, T, P, A> {
     }
 }
 
-impl<T: Clone, P: Ask<T, WakerSlot<A>>, A: Allocator> Sender<T, P, A> {
+impl<T: Clone, P: Ask<T, K>, A: Allocator, K: Drop> Sender<T, P, A, K> {
     // Gives up the place of a send, if it still has one.
     fn end_send(&self, place: Option<usize>)
         ensures { IfSome place (λ place. P.gave self.now.port (Call.EndSend place) Reply.EndSend) }
     {
         if let Some(place) = place {
-            self.port.ask(Change::EndSend(place));
+            self.port
+                .ask(&mut self.port.known(), Change::EndSend(place));
         }
     }
 }
 
-impl<T: Clone, P: Ask<T, WakerSlot<A>>, A: Allocator> Drop for Send<'_, T, P, A> {
+impl<T: Clone, P: Ask<T, K>, A: Allocator, K: Drop> Drop for Send<'_, T, P, A, K> {
     fn drop(self)
         ensures { IfSome self.entry.place (λ place.
             P.gave self.entry.sender.now.port (Call.EndSend place) Reply.EndSend) }
@@ -145,7 +147,7 @@ impl<T: Clone, P: Ask<T, WakerSlot<A>>, A: Allocator> Drop for Send<'_, T, P, A>
     }
 }
 
-impl<T: Clone, P: Ask<T, WakerSlot<A>>, A: Allocator + Copy> Future for Send<'_, T, P, A> {
+impl<T: Clone, P: Ask<T, K>, A: Allocator + Copy, K: Drop> Future for Send<'_, T, P, A, K> {
     type Output = Result<Result<Option<T>, SendError<T>>, NoMemory<T>>;
 
     ghost gives = { λ s out. GivesSent P.gave s.sender.now.port s.place s.msg out };
@@ -178,16 +180,16 @@ impl<T: Clone, P: Ask<T, WakerSlot<A>>, A: Allocator + Copy> Future for Send<'_,
         ensures port { self.new.sender.now.port ≡ self.old.sender.now.port }
     {
         let Some(place) = self.place else {
-            self.waker.register_only(cx);
+            self.waker.register_idle(cx);
             return Poll::Pending;
         };
         let Some(msg) = self.msg.take() else {
-            self.waker.register_only(cx);
+            self.waker.register_idle(cx);
             return Poll::Pending;
         };
-        let sender = self.sender;
+        let port = &self.sender.port;
         let poll = PollSend(place, msg);
-        match sender.port.poll(poll, &mut self.waker, cx) {
+        match port.poll(&mut port.known(), poll, &mut self.waker, cx) {
             Ok(SendPoll::Ready(answer)) => {
                 self.place = None;
                 Poll::Ready(Ok(answer))

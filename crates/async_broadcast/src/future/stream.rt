@@ -1,5 +1,6 @@
 //! A receiver as a stream of its messages.
-ghost use Rattle.std.specs.Prelude.{◌≡◌, ◌⊎◌, ⊤, true, false, None, Ok, Err, IfErr, IfSome, OnSome, []};
+ghost use Rattle.std.specs.Prelude.{◌≡◌, ◌⊎◌, ⊤, true, false, []};
+ghost use Rattle.std.specs.Prelude.{None, IfSome, OnSome, Ok, Err, IfErr};
 ghost use Rattle.futures.specs.Task.{Covers, Keeps};
 ghost use Rattle.futures.specs.Poll.{IfReady, OnPending};
 ghost use Rattle.futures.specs.Runs.{After, Within};
@@ -7,7 +8,6 @@ ghost use Rattle.async_broadcast.specs.Futures.{YieldsItems};
 
 use crate::port::Ask;
 use crate::receiver::{Receiver, Receiving};
-use crate::wake::WakerSlot;
 use bcast_core::{Call, PollNext, Reply};
 use futures::Stream;
 use futures::task::{Context, Poll};
@@ -15,7 +15,7 @@ use std::alloc::{AllocError, Allocator};
 
 // Dropped messages are skipped. If memory for a notice or a clone is refused, the item is an `Err`,
 // and nothing changed. The stream ends when every message was read and the channel is closed.
-impl<T: Clone, P: Ask<T, WakerSlot<A>>, A: Allocator + Copy> Stream for Receiver<T, P, A> {
+impl<T: Clone, P: Ask<T, K>, A: Allocator + Copy, K: Drop> Stream for Receiver<T, P, A, K> {
     type Item = Result<T, AllocError>;
 
     ghost yields = { λ r items last. YieldsItems P.gave r.port r.role.key items last };
@@ -43,7 +43,8 @@ impl<T: Clone, P: Ask<T, WakerSlot<A>>, A: Allocator + Copy> Stream for Receiver
         ensures key { self.new.role.key ≡ self.old.role.key }
     {
         let Receiving { key, waker } = &mut self.role;
-        match self.port.poll(PollNext(*key), waker, cx) {
+        let known = &mut self.port.known();
+        match self.port.poll(known, PollNext(*key), waker, cx) {
             Ok(Ok(Poll::Ready(Some(next)))) => Poll::Ready(Some(Ok(next.0))),
             Ok(Ok(Poll::Ready(None))) => Poll::Ready(None),
             Ok(Ok(Poll::Pending)) => Poll::Pending,

@@ -4,42 +4,42 @@ ghost use Rattle.std.specs.Prelude.{◌≡◌, false};
 use super::limit::Limit;
 use super::state::State;
 use super::threads::Woken;
-use crate::keep::Keep;
-use crate::wake::{Wake, WakerSlot};
+use crate::journal::CallJournal;
+use crate::wake::Wake;
 use bcast_core::Inner;
 use std::alloc::Allocator;
 use std::sync::{Condvar, Mutex, MutexGuard, Wait};
 
 /// A channel behind its lock.
 #[derive(Drop)]
-pub(super) struct Channel<T: Clone, A: Allocator, K: Keep<T>> {
-    pub(super) state: Mutex<State<T, A, K>>,
+pub(super) struct Channel<T: Clone, A: Allocator, J: CallJournal<T>> {
+    pub(super) state: Mutex<State<T, A, J>>,
     /// Notified once a thread that waits to send should try again.
-    pub(super) ready: Condvar,
+    pub(super) send_ready: Condvar,
     /// Notified once a thread that waits for a message should try again.
-    pub(super) news: Condvar,
+    pub(super) message_ready: Condvar,
 }
 
 /// The state, while the lock is held.
-pub(super) type Locked<'a, T, A, K> = MutexGuard<'a, State<T, A, K>>;
+pub(super) type Locked<'a, T, A, J> = MutexGuard<'a, State<T, A, J>>;
 
-impl<T: Clone, A: Allocator + Copy, K: Keep<T>> Channel<T, A, K> {
-    pub(super) fn new(inner: Inner<T, Wake<WakerSlot<A>>, A>, kept: K) -> Self
-        requires { ∥ K.keeps kept inner ∥₁ }
+impl<T: Clone, A: Allocator + Copy, J: CallJournal<T>> Channel<T, A, J> {
+    pub(super) fn new(inner: Inner<T, Wake, A>, journal: J) -> Self
+        requires { ∥ J.records journal inner ∥₁ }
     {
         Channel {
-            state: Mutex::new(State::new(inner, kept)),
-            ready: Condvar::new(),
-            news: Condvar::new(),
+            state: Mutex::new(State::new(inner, journal)),
+            send_ready: Condvar::new(),
+            message_ready: Condvar::new(),
         }
     }
 
     /// Releases the lock, and then wakes these threads. In a function of its own, so that a call
     /// while no thread waits costs one test.
     #[inline(never)]
-    pub(super) fn unlock(&self, state: Locked<'_, T, A, K>, woken: Woken) {
+    pub(super) fn unlock(&self, state: Locked<'_, T, A, J>, woken: Woken) {
         drop(state);
-        woken.wake(&self.ready, &self.news);
+        woken.wake(&self.send_ready, &self.message_ready);
     }
 
     /// Wakes these threads, and releases the lock until the condition is notified or the time is
@@ -48,14 +48,14 @@ impl<T: Clone, A: Allocator + Copy, K: Keep<T>> Channel<T, A, K> {
         &'a self,
         rt: &R,
         condition: &Condvar,
-        state: Locked<'a, T, A, K>,
+        state: Locked<'a, T, A, J>,
         woken: Option<Woken>,
         limit: &L,
-    ) -> (Locked<'a, T, A, K>, bool)
+    ) -> (Locked<'a, T, A, J>, bool)
         ensures { L.is_endless → result.1 ≡ false }
     {
         if let Some(woken) = woken {
-            woken.wake(&self.ready, &self.news);
+            woken.wake(&self.send_ready, &self.message_ready);
         }
         limit.wait(rt, condition, state)
     }
@@ -73,14 +73,14 @@ macro_rules! lock {
     };
 }
 
-/// Looks at the channel of a port, while its lock is held.
-macro_rules! look {
-    ($port:expr, |$inner:ident| $look:expr) => {{
+/// Reads the channel of a port, while its lock is held.
+macro_rules! with_channel {
+    ($port:expr, |$inner:ident| $read:expr) => {{
         let state = lock!($port.channel, &$port.rt);
         let $inner = &state.inner;
-        $look
+        $read
     }};
 }
 
 pub(super) use lock;
-pub(super) use look;
+pub(super) use with_channel;

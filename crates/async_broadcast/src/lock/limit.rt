@@ -2,7 +2,7 @@
 ghost use Rattle.std.specs.Prelude.{◌≡◌, ⊤, false};
 
 use super::channel::Locked;
-use crate::keep::Keep;
+use crate::journal::CallJournal;
 use std::alloc::Allocator;
 use std::sync::{Condvar, Wait};
 use std::time::{Clock, Duration, Instant};
@@ -14,12 +14,12 @@ pub(crate) trait Limit<R: Wait> {
 
     /// Releases the lock until the condition is notified or the time is over, and returns whether
     /// it is over. If it is over already, the lock is kept.
-    fn wait<'a, T: Clone, A: Allocator, K: Keep<T>>(
+    fn wait<'a, T: Clone, A: Allocator, J: CallJournal<T>>(
         &self,
         rt: &R,
         condition: &Condvar,
-        state: Locked<'a, T, A, K>,
-    ) -> (Locked<'a, T, A, K>, bool)
+        state: Locked<'a, T, A, J>,
+    ) -> (Locked<'a, T, A, J>, bool)
         ensures { is_endless → result.1 ≡ false };
 }
 
@@ -52,12 +52,12 @@ impl TimeLimit {
 impl<R: Wait> Limit<R> for NoLimit {
     ghost is_endless = { ⊤ };
 
-    fn wait<'a, T: Clone, A: Allocator, K: Keep<T>>(
+    fn wait<'a, T: Clone, A: Allocator, J: CallJournal<T>>(
         &self,
         rt: &R,
         condition: &Condvar,
-        state: Locked<'a, T, A, K>,
-    ) -> (Locked<'a, T, A, K>, bool) {
+        state: Locked<'a, T, A, J>,
+    ) -> (Locked<'a, T, A, J>, bool) {
         (condition.wait(rt, state), false)
     }
 }
@@ -65,12 +65,12 @@ impl<R: Wait> Limit<R> for NoLimit {
 impl<R: Wait + Clock> Limit<R> for TimeLimit {
     ghost is_endless = { ⊥ };
 
-    fn wait<'a, T: Clone, A: Allocator, K: Keep<T>>(
+    fn wait<'a, T: Clone, A: Allocator, J: CallJournal<T>>(
         &self,
         rt: &R,
         condition: &Condvar,
-        state: Locked<'a, T, A, K>,
-    ) -> (Locked<'a, T, A, K>, bool) {
+        state: Locked<'a, T, A, J>,
+    ) -> (Locked<'a, T, A, J>, bool) {
         let Some(left) = self.left(rt) else {
             return (state, true);
         };

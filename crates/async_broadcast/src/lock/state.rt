@@ -1,29 +1,30 @@
-//! What the lock guards: the channel, what is kept of its calls, and the threads that wait for it.
+//! What the lock guards: the channel, the journal of its calls, and the threads that wait for it.
 ghost use Rattle.std.specs.Prelude.{◌≡◌, false};
-ghost use Rattle.async_broadcast.specs.Woken.{HasNoThread, KnowsNews, HasWokenSender, HasWokenReceiver};
+ghost use Rattle.async_broadcast.specs.Woken.{HasNoThread, KnowsNews};
+ghost use Rattle.async_broadcast.specs.Woken.{HasWokenSender, HasWokenReceiver};
 
 use super::threads::Threads;
-use crate::keep::Keep;
-use crate::wake::{Wake, WakerSlot};
+use crate::journal::CallJournal;
+use crate::wake::Wake;
 use bcast_core::Inner;
 use std::alloc::Allocator;
 
-/// Once the lock is taken, it is noted of every earlier call which threads it has to wake.
+/// Once the lock is taken, it was chosen for every earlier call which threads it has to wake.
 #[derive(Drop)]
-pub(crate) struct State<T: Clone, A: Allocator, K: Keep<T>> {
-    pub(super) inner: Inner<T, Wake<WakerSlot<A>>, A>,
-    pub(super) kept: K,
+pub(crate) struct State<T: Clone, A: Allocator, J: CallJournal<T>> {
+    pub(super) inner: Inner<T, Wake, A>,
+    pub(super) journal: J,
     pub(super) threads: Threads,
-    ghost keeps: { ∥ K.keeps kept inner ∥₁ },
+    ghost records: { ∥ J.records journal inner ∥₁ },
     ghost knows: { KnowsNews inner threads },
     ghost sends: { HasWokenSender inner threads },
     ghost receives: { HasWokenReceiver threads },
 }
 
-impl<T: Clone, A: Allocator + Copy, K: Keep<T>> State<T, A, K> {
+impl<T: Clone, A: Allocator + Copy, J: CallJournal<T>> State<T, A, J> {
     /// A channel that no thread waits for.
-    pub(super) fn new(inner: Inner<T, Wake<WakerSlot<A>>, A>, kept: K) -> Self
-        requires { ∥ K.keeps kept inner ∥₁ }
+    pub(super) fn new(inner: Inner<T, Wake, A>, journal: J) -> Self
+        requires { ∥ J.records journal inner ∥₁ }
         ensures channel { result.inner ≡ inner }
         ensures threads { HasNoThread result.threads }
         ensures sender { result.threads.is_sender_woken ≡ false }
@@ -31,7 +32,7 @@ impl<T: Clone, A: Allocator + Copy, K: Keep<T>> State<T, A, K> {
     {
         State {
             inner,
-            kept,
+            journal,
             threads: Threads::none(),
         }
     }

@@ -1,10 +1,11 @@
 //! The threads that wait for the channel, and which of them to wake.
 ghost use Rattle.std.specs.Prelude.{◌≡◌, true, false, IfSome, IfNone};
-ghost use Rattle.bcast_model.specs.Words.{is_ready, is_full};
-ghost use Rattle.async_broadcast.specs.Woken.{HasNoThread, KnowsNews, HasWokenSender, HasWokenReceiver};
-ghost use Rattle.async_broadcast.specs.Woken.{NotesSender, NotesReceiver, MovesReceivers, EndsWait, news_of, one_more, one_less};
+ghost use Rattle.async_broadcast.specs.Woken.{HasNoThread, KnowsNews};
+ghost use Rattle.async_broadcast.specs.Woken.{HasWokenSender, HasWokenReceiver};
+ghost use Rattle.async_broadcast.specs.Woken.{ChoosesSender, ChoosesReceiver, MovesReceivers};
+ghost use Rattle.async_broadcast.specs.Woken.{EndsWait, news_of, one_more, one_less};
 
-use crate::wake::{Wake, WakerSlot};
+use crate::wake::Wake;
 use bcast_core::Inner;
 use std::alloc::Allocator;
 use std::sync::Condvar;
@@ -28,15 +29,16 @@ pub(super) struct Threads {
     is_receiver_woken: bool,
 }
 
-/// Which threads to wake: one that waits to send, one that waits for a message. It can't be dropped,
-/// so they have to be woken.
+/// Which threads to wake: one that waits to send, one that waits for a message. It can't be
+/// dropped, so they have to be woken.
 pub(super) struct Woken {
     sender: bool,
     receiver: bool,
 }
 
 impl Woken {
-    /// Wakes them, by the condition variables that those wait on. Best called once the lock is free.
+    /// Wakes them, by the condition variables that those wait on. Best called once the lock is
+    /// free.
     pub(super) fn wake(self, senders: &Condvar, receivers: &Condvar) {
         let Woken { sender, receiver } = self;
         if sender {
@@ -49,8 +51,8 @@ impl Woken {
 }
 
 /// A thread that is counted as one that waits to send. It can't be dropped, so it has to be given
-/// to `end_waiting_to_send`. The thread does that after its next try; `note` then wakes another if
-/// there is something for it.
+/// to `end_waiting_to_send`. The thread does that after its next try; `choose_woken` then has
+/// another woken if there is something for it.
 pub(super) struct WaitingToSend(());
 
 /// A thread that is counted as one that waits for a message, with what it knew when it began
@@ -76,21 +78,21 @@ impl Threads {
         }
     }
 
-    /// Notes which threads can do something after the last call on the channel, and returns which
-    /// of them to wake. `None`: no thread waits.
+    /// Chooses which of the threads to wake that can do something after the last call on the
+    /// channel. `None`: no thread waits.
     #[inline(always)]
     #[tactic(auto, using(std::proofs::lemmas::Nat::le_or_l, std::proofs::lemmas::Nat::le_or_r))]
-    pub(super) fn note<T: Clone, A: Allocator + Copy>(
+    pub(super) fn choose_woken<T: Clone, A: Allocator + Copy>(
         &mut self,
-        inner: &Inner<T, Wake<WakerSlot<A>>, A>,
+        inner: &Inner<T, Wake, A>,
     ) -> Option<Woken>
         ensures knows { KnowsNews inner.now self.new }
         ensures sends { HasWokenSender inner.now self.new }
         ensures receives { HasWokenReceiver self.new }
 
         ensures nobody { IfNone result (self.new ≡ self.old) }
-        ensures sender { IfSome result (NotesSender inner.now self.old self.new) }
-        ensures receiver { IfSome result (NotesReceiver self.old self.new) }
+        ensures sender { IfSome result (ChoosesSender inner.now self.old self.new) }
+        ensures receiver { IfSome result (ChoosesReceiver self.old self.new) }
         ensures moved { MovesReceivers inner.now self.old self.new }
         ensures senders { self.new.senders ≡ self.old.senders }
     {
@@ -98,20 +100,17 @@ impl Threads {
         if (self.senders | self.caught_up_receivers | self.due_receivers) == 0 {
             return None;
         }
-        Some(self.note_call(inner))
+        Some(self.choose_among(inner))
     }
 
     // In a function of its own, so that a call while no thread waits costs one test.
     #[inline(never)]
-    fn note_call<T: Clone, A: Allocator + Copy>(
-        &mut self,
-        inner: &Inner<T, Wake<WakerSlot<A>>, A>,
-    ) -> Woken
+    fn choose_among<T: Clone, A: Allocator + Copy>(&mut self, inner: &Inner<T, Wake, A>) -> Woken
         ensures knows { KnowsNews inner.now self.new }
         ensures sends { HasWokenSender inner.now self.new }
         ensures receives { HasWokenReceiver self.new }
-        ensures sender { NotesSender inner.now self.old self.new result }
-        ensures receiver { NotesReceiver self.old self.new result }
+        ensures sender { ChoosesSender inner.now self.old self.new result }
+        ensures receiver { ChoosesReceiver self.old self.new result }
         ensures moved { MovesReceivers inner.now self.old self.new }
         ensures senders { self.new.senders ≡ self.old.senders }
     {
@@ -123,7 +122,7 @@ impl Threads {
         }
         let receiver = self.due_receivers > 0 && !self.is_receiver_woken;
         self.is_receiver_woken |= receiver;
-        let sender = self.senders > 0 && !self.is_sender_woken && sends_are_ready(inner);
+        let sender = self.senders > 0 && !self.is_sender_woken && inner.sends_are_ready();
         self.is_sender_woken |= sender;
         Woken { sender, receiver }
     }
@@ -151,7 +150,7 @@ impl Threads {
     /// A thread that has nothing to receive is about to wait for a message.
     pub(super) fn begin_to_receive<T: Clone, A: Allocator + Copy>(
         &mut self,
-        inner: &Inner<T, Wake<WakerSlot<A>>, A>,
+        inner: &Inner<T, Wake, A>,
     ) -> WaitingToReceive
         ensures known { result.known ≡ news_of inner.now }
         ensures waits { self.new ≡ record self.old {
@@ -179,18 +178,8 @@ impl Threads {
 }
 
 // What changes when a receiver that had read everything has something to receive.
-fn news<T: Clone, A: Allocator + Copy>(inner: &Inner<T, Wake<WakerSlot<A>>, A>) -> (u64, bool)
+fn news<T: Clone, A: Allocator + Copy>(inner: &Inner<T, Wake, A>) -> (u64, bool)
     ensures { result ≡ news_of inner.now }
 {
     (inner.end_number(), inner.is_closed())
-}
-
-fn sends_are_ready<T: Clone, A: Allocator + Copy>(inner: &Inner<T, Wake<WakerSlot<A>>, A>) -> bool
-    ensures { result ≡ is_ready inner.now.control (is_full inner.now) }
-{
-    if inner.receiver_count() == 0 {
-        inner.is_closed() || !inner.await_active()
-    } else {
-        inner.is_closed() || inner.overflow() || !inner.is_full()
-    }
 }

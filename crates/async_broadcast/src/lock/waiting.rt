@@ -1,188 +1,101 @@
 //! Calls of threads that wait until they are answered, or their time is over.
-ghost use Rattle.std.specs.Prelude.{◌≡◌, true, false, not};
-ghost use Rattle.bcast_model.specs.Answers.{IsPossible};
+ghost use Rattle.std.specs.Prelude.{◌≡◌, true, false};
+ghost use Rattle.bcast_model.specs.Words.{HasPositiveCapacity, IsPossible};
 ghost use Rattle.async_broadcast.specs.Ports.{is_answer, as_try_recv};
 ghost use Rattle.async_broadcast.specs.Timed.{as_attempt, as_timed_try};
 
 use super::Lock;
+use super::attempt::Attempt;
 use super::channel::lock;
 use super::limit::Limit;
-use crate::keep::Keep;
+use crate::journal::CallJournal;
 use crate::timed::{RecvTimeoutError, SendTimeoutError};
-use bcast_core::{
-    AtOnce, AttemptSend, Call, RecvError, Reply, SendError, SendPoll, TryRecv, TryRecvError,
-};
+use bcast_core::{AtOnce, RecvError, Reply, SendError, SendPoll, TryRecvError};
 use std::alloc::{AllocError, Allocator};
 use std::snapshot::Snapshot;
 use std::sync::Wait;
 use std::thread::yield_now;
 
-type Received<T> = Result<Result<T, TryRecvError>, AllocError>;
-
-impl<T: Clone, R: Wait + Clone, A: Allocator + Copy, K: Keep<T>> Lock<T, R, A, K> {
-    /// Sends a message, and waits while it must. `Wait`: the time is over. `known` is told of the
-    /// last try.
-    pub(super) fn send_until<L: Limit<R>>(
+impl<T: Clone, R: Wait + Clone, A: Allocator + Copy, J: CallJournal<T>> Lock<T, R, A, J> {
+    /// Makes a call again and again, and waits between, until it needn't wait or the time is over.
+    /// The last one is added to `known`.
+    pub(super) fn make_until<C: AtOnce<T>, B: Attempt<T, C>, L: Limit<R>>(
         &self,
-        known: &mut K::Known,
-        msg: T,
+        known: &mut J::Known,
+        attempt: &B,
+        call: C,
         limit: &L,
-    ) -> SendPoll<T>
-        ensures learned { K.learns known.old (Call.AttemptSend msg) (Reply.AttemptSend result)
-            known.new }
-        ensures reply { IsPossible T.is_clone (Call.AttemptSend msg) (Reply.AttemptSend result) }
-        ensures answered { L.is_endless → is_answer (Reply.AttemptSend result) ≡ true }
+    ) -> C::Answer
+        requires makes { B.makes attempt.now call }
+        requires capacity { HasPositiveCapacity (C.call call) }
+        ensures learned { J.learns known.old (C.call call) (C.reply call result) known.new }
+        ensures reply { IsPossible T.is_clone (C.call call) (C.reply call result) }
+        ensures answered { L.is_endless → is_answer (C.reply call result) ≡ true }
     {
-        let mut left = msg;
+        let mut call = call;
         let mut waits = false;
         for _ in self.rt.forever() {
-            match self.send_or_wait(known, left, waits, limit) {
-                (SendPoll::Wait(back), false) => left = back,
-                (sent, _) => return sent,
-            }
-            // Meanwhile others may make room, and then this thread needn't sleep and be woken.
-            yield_now();
-            waits = true;
-        }
-        unreachable!()
-    }
-
-    // Tries to send, and if it must wait and `waits`, waits once and tries again. Returns also
-    // whether the time is over.
-    fn send_or_wait<L: Limit<R>>(
-        &self,
-        known: &mut K::Known,
-        msg: T,
-        waits: bool,
-        limit: &L,
-    ) -> (SendPoll<T>, bool)
-        ensures learned { K.learns known.old (Call.AttemptSend msg) (Reply.AttemptSend result.0)
-            known.new }
-        ensures reply { IsPossible T.is_clone (Call.AttemptSend msg)
-            (Reply.AttemptSend result.0) }
-        ensures endless { L.is_endless → result.1 ≡ false }
-    {
-        let channel = &*self.channel;
-        let mut guard = lock!(channel, &self.rt);
-        let state = &mut *guard;
-        let call = AttemptSend(msg);
-        let asked = Snapshot::of(&call);
-        let before = Snapshot::of(&state.inner);
-        let sent = call.make(&mut state.inner);
-        state
-            .kept
-            .keep(&self.rt, known, &asked, &sent, &before, &state.inner);
-        if !waits || !must_wait(&sent) {
-            if let Some(woken) = state.threads.note(&state.inner) {
-                channel.unlock(guard, woken);
-            }
-            return (sent, false);
-        }
-        let back = match sent {
-            SendPoll::Wait(back) => back,
-            SendPoll::Ready(_answer) => unreachable!(),
-        };
-        let waiting = state.threads.begin_to_send();
-        let woken = state.threads.note(&state.inner);
-        let (mut guard, is_over) = channel.wait(&self.rt, &channel.ready, guard, woken, limit);
-        let state = &mut *guard;
-        let call = AttemptSend(back);
-        let asked = Snapshot::of(&call);
-        let before = Snapshot::of(&state.inner);
-        let sent = call.make(&mut state.inner);
-        state
-            .kept
-            .keep(&self.rt, known, &asked, &sent, &before, &state.inner);
-        state.threads.end_waiting_to_send(waiting);
-        if let Some(woken) = state.threads.note(&state.inner) {
-            channel.unlock(guard, woken);
-        }
-        (sent, is_over)
-    }
-
-    /// Receives a message, and waits while there is none. `Empty`: the time is over. `known` is told
-    /// of the last try.
-    pub(super) fn receive_until<L: Limit<R>>(
-        &self,
-        known: &mut K::Known,
-        key: usize,
-        limit: &L,
-    ) -> Received<T>
-        ensures learned { K.learns known.old (Call.TryRecv key) (Reply.TryRecv result) known.new }
-        ensures reply { IsPossible T.is_clone (Call.TryRecv key) (Reply.TryRecv result) }
-        ensures answered { L.is_endless → is_answer (Reply.TryRecv result) ≡ true }
-    {
-        let mut waits = false;
-        for _ in self.rt.forever() {
-            let (answer, is_over) = self.receive_or_wait(known, key, waits, limit);
-            if is_over || !is_empty(&answer) {
+            let made = Snapshot::of(&call);
+            let (answer, is_over) = self.make_or_wait(known, attempt, call, waits, limit);
+            if is_over || !attempt.must_wait(&answer) {
                 return answer;
             }
-            // Meanwhile several messages may come, which are then received without another wait.
+            call = attempt.again(&made, answer);
+            // Meanwhile others may make room or send, and then this thread needn't sleep.
             yield_now();
             waits = true;
         }
         unreachable!()
     }
 
-    // Tries to receive, and if there is nothing and `waits`, waits once and tries again. Returns
-    // also whether the time is over.
-    fn receive_or_wait<L: Limit<R>>(
+    // Makes a call, and if it must wait and `waits`, waits once and makes it again. Returns also
+    // whether the time is over.
+    fn make_or_wait<C: AtOnce<T>, B: Attempt<T, C>, L: Limit<R>>(
         &self,
-        known: &mut K::Known,
-        key: usize,
+        known: &mut J::Known,
+        attempt: &B,
+        call: C,
         waits: bool,
         limit: &L,
-    ) -> (Received<T>, bool)
-        ensures learned { K.learns known.old (Call.TryRecv key) (Reply.TryRecv result.0) known.new }
-        ensures reply { IsPossible T.is_clone (Call.TryRecv key) (Reply.TryRecv result.0) }
+    ) -> (C::Answer, bool)
+        requires makes { B.makes attempt.now call }
+        requires capacity { HasPositiveCapacity (C.call call) }
+        ensures learned { J.learns known.old (C.call call) (C.reply call result.0) known.new }
+        ensures reply { IsPossible T.is_clone (C.call call) (C.reply call result.0) }
         ensures endless { L.is_endless → result.1 ≡ false }
     {
         let channel = &*self.channel;
         let mut guard = lock!(channel, &self.rt);
         let state = &mut *guard;
-        let call = TryRecv(key);
-        let asked = Snapshot::of(&call);
+        let made = Snapshot::of(&call);
         let before = Snapshot::of(&state.inner);
         let answer = call.make(&mut state.inner);
         state
-            .kept
-            .keep(&self.rt, known, &asked, &answer, &before, &state.inner);
-        if !waits || !is_empty(&answer) {
-            if let Some(woken) = state.threads.note(&state.inner) {
+            .journal
+            .append(&self.rt, known, &made, &answer, &before, &state.inner);
+        if !waits || !attempt.must_wait(&answer) {
+            if let Some(woken) = state.threads.choose_woken(&state.inner) {
                 channel.unlock(guard, woken);
             }
             return (answer, false);
         }
-        let waiting = state.threads.begin_to_receive(&state.inner);
-        let woken = state.threads.note(&state.inner);
-        let (mut guard, is_over) = channel.wait(&self.rt, &channel.news, guard, woken, limit);
+        let call = attempt.again(&made, answer);
+        let waiting = attempt.begin(&mut state.threads, &state.inner);
+        let woken = state.threads.choose_woken(&state.inner);
+        let condition = attempt.condition(channel);
+        let (mut guard, is_over) = channel.wait(&self.rt, condition, guard, woken, limit);
         let state = &mut *guard;
-        let call = TryRecv(key);
-        let asked = Snapshot::of(&call);
         let before = Snapshot::of(&state.inner);
         let answer = call.make(&mut state.inner);
         state
-            .kept
-            .keep(&self.rt, known, &asked, &answer, &before, &state.inner);
-        state.threads.end_waiting_to_receive(waiting);
-        if let Some(woken) = state.threads.note(&state.inner) {
+            .journal
+            .append(&self.rt, known, &made, &answer, &before, &state.inner);
+        attempt.end(&mut state.threads, waiting);
+        if let Some(woken) = state.threads.choose_woken(&state.inner) {
             channel.unlock(guard, woken);
         }
         (answer, is_over)
     }
-}
-
-fn must_wait<T>(sent: &SendPoll<T>) -> bool
-    ensures { is_answer (Reply.AttemptSend sent.now) ≡ not result }
-{
-    matches!(sent, SendPoll::Wait(_))
-}
-
-fn is_empty<T>(answer: &Received<T>) -> bool
-    ensures { is_answer (Reply.TryRecv answer.now) ≡ not result }
-{
-    matches!(answer, Ok(Err(TryRecvError::Empty)))
 }
 
 /// What a send returned that needn't wait.

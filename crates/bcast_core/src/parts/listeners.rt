@@ -4,7 +4,7 @@ ghost use Rattle.std.specs.FinMap.{get};
 
 use super::Parts;
 use bcast_model::listener::Kind;
-use bcast_waiting::notice::{MakesNotice, Notice, Refused};
+use bcast_waiting::notice::{MakesNotice, NoNotice, Notice};
 use std::alloc::{AllocError, Allocator};
 
 impl<T: Drop, N: Notice, A: Allocator + Copy> Parts<T, N, A> {
@@ -36,7 +36,7 @@ impl<T: Drop, N: Notice, A: Allocator + Copy> Parts<T, N, A> {
         &mut self,
         place: usize,
         maker: &mut M,
-    ) -> Result<(), Refused>
+    ) -> Result<(), NoNotice>
         requires { has_place self.old.control place ≡ true }
         ensures waits { OnOk result (self.new
             ≡ record self.old { control = place_waits self.old.control place }) }
@@ -70,7 +70,7 @@ impl<T: Drop, N: Notice, A: Allocator + Copy> Parts<T, N, A> {
         key: usize,
         kind: Kind,
         maker: &mut M,
-    ) -> Result<(), Refused>
+    ) -> Result<(), NoNotice>
         requires valid { IsValidView self.old }
         requires there { is_some (get self.old.control.cursors key) ≡ true }
         ensures waits { OnOk result (self.new

@@ -7,7 +7,7 @@ use crate::receive_poll::ReceivePoll;
 use bcast_model::error::TryRecvError;
 use bcast_model::listener::Kind;
 use bcast_queue::Counter;
-use bcast_waiting::notice::{MakesNotice, Notice, Refused};
+use bcast_waiting::notice::{MakesNotice, NoNotice, Notice};
 use std::alloc::{AllocError, Allocator};
 
 impl<T: Clone, N: Notice, A: Allocator + Copy> Parts<T, N, A> {
@@ -133,7 +133,7 @@ impl<T: Clone, N: Notice, A: Allocator + Copy> Parts<T, N, A> {
     ///
     /// # Errors
     ///
-    /// `Refused`: no notice was made, and nothing changed.
+    /// `NoNotice`: no notice was made, and nothing changed.
     #[inline(always)]
     pub fn poll<C: Counter, M: MakesNotice<N>>(
         &mut self,
@@ -142,7 +142,7 @@ impl<T: Clone, N: Notice, A: Allocator + Copy> Parts<T, N, A> {
         at: Option<u64>,
         maker: &mut M,
         steps: &mut C,
-    ) -> Result<Result<Result<T, TryRecvError>, AllocError>, Refused>
+    ) -> Result<Result<Result<T, TryRecvError>, AllocError>, NoNotice>
         requires valid { IsValidView self.old }
         requires at { (at ≡ cursor_of self.old.control key)
             ⊎ (at ≡ skipped_to self.old.front (cursor_of self.old.control key)) }

@@ -12,7 +12,7 @@ use crate::receive_poll::{ReceivePoll, Received};
 use bcast_model::error::RecvError;
 use bcast_model::listener::Kind;
 use bcast_queue::{Counter, Steps};
-use bcast_waiting::notice::{Given, MakesNotice, Notice, Refused};
+use bcast_waiting::notice::{MakesNotice, NoNotice, Notice, OwnedNotice};
 use futures::task::Poll;
 use std::alloc::{AllocError, Allocator};
 use std::sync::ledger::Ledger;
@@ -38,7 +38,12 @@ impl<T: Clone, N: Notice, A: Allocator + Copy> Inner<T, N, A> {
         ensures sure { ((msg : T) → T.is_infallible msg) → IsOk result }
         ensures steps { steps.new ≡ steps.old + 1 }
     {
-        match self.poll_receive(ReceivePoll::Future, key, &mut Given::new(notice), steps) {
+        match self.poll_receive(
+            ReceivePoll::Future,
+            key,
+            &mut OwnedNotice::new(notice),
+            steps,
+        ) {
             Ok(received) => received.of_future(),
             Err(_) => unreachable!(),
         }
@@ -64,7 +69,7 @@ impl<T: Clone, N: Notice, A: Allocator + Copy> Inner<T, N, A> {
         ensures sure { ((msg : T) → T.is_infallible msg) → IsOk result }
         ensures steps { steps.new ≡ steps.old + tries_of self.old.control (stream_of key) }
     {
-        match self.poll_receive(ReceivePoll::Recv, key, &mut Given::new(notice), steps) {
+        match self.poll_receive(ReceivePoll::Recv, key, &mut OwnedNotice::new(notice), steps) {
             Ok(received) => received.of_recv(),
             Err(_) => unreachable!(),
         }
@@ -89,7 +94,7 @@ impl<T: Clone, N: Notice, A: Allocator + Copy> Inner<T, N, A> {
         ensures sure { ((msg : T) → T.is_infallible msg) → IsOk result }
         ensures steps { steps.new ≡ steps.old + tries_of self.old.control (stream_of key) }
     {
-        match self.poll_receive(ReceivePoll::Next, key, &mut Given::new(notice), steps) {
+        match self.poll_receive(ReceivePoll::Next, key, &mut OwnedNotice::new(notice), steps) {
             Ok(received) => received.of_next(),
             Err(_) => unreachable!(),
         }
@@ -99,7 +104,7 @@ impl<T: Clone, N: Notice, A: Allocator + Copy> Inner<T, N, A> {
     ///
     /// # Errors
     ///
-    /// `Refused`: no notice was made, and nothing changed.
+    /// `NoNotice`: no notice was made, and nothing changed.
     #[inline(always)]
     pub(crate) fn poll_receive<C: Counter, M: MakesNotice<N>>(
         &mut self,
@@ -107,7 +112,7 @@ impl<T: Clone, N: Notice, A: Allocator + Copy> Inner<T, N, A> {
         key: usize,
         maker: &mut M,
         steps: &mut C,
-    ) -> Result<Received<T>, Refused>
+    ) -> Result<Received<T>, NoNotice>
         ensures answers { IfOk result (λ received. Answers T.is_clone self.old (call_of poll key)
             (reply_of poll received) self.new) }
         ensures sure { ((msg : T) → T.is_infallible msg)

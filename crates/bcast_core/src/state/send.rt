@@ -9,7 +9,7 @@ use crate::parts::is_accepted;
 use bcast_model::error::TrySendError;
 use bcast_model::messages::{Messages, in_vec};
 use bcast_model::run::SendPoll;
-use bcast_waiting::notice::{Given, MakesNotice, Notice};
+use bcast_waiting::notice::{MakesNotice, Notice, OwnedNotice};
 use std::alloc::{AllocError, Allocator};
 
 impl<T: Drop, N: Notice, A: Allocator + Copy> Inner<T, N, A> {
@@ -116,7 +116,7 @@ impl<T: Drop, N: Notice, A: Allocator + Copy> Inner<T, N, A> {
         ensures { Answers NoClone self.old (call.PollSend place msg) (reply.PollSend result)
             self.new }
     {
-        match self.poll_send_by(place, msg, &mut Given::new(notice)) {
+        match self.poll_send_by(place, msg, &mut OwnedNotice::new(notice)) {
             Ok(sent) => sent,
             Err(_) => unreachable!(),
         }

@@ -4,10 +4,10 @@ ghost use mathlib.Core.List.{IsPrefix};
 ghost use Rattle.bcast_delivery.specs.Reading.{StartsAtTheEnd};
 
 use super::{Found, Reading, agreed};
-use crate::port::HistoryPort;
+use crate::port::{HistoryInactiveReceiver, HistoryPort, HistoryReceiver, HistorySender};
 use crate::seen::Seen;
 use crate::steps::Channel;
-use async_broadcast::{HandleError, InactiveReceiver, Receiver, Sender, WakerSlot};
+use async_broadcast::HandleError;
 use std::alloc::Allocator;
 use std::sync::Wait;
 
@@ -20,10 +20,10 @@ impl<T: Clone, J: Channel> Reading<T, J> {
     /// - `Memory`: no memory for the handle.
     ///
     /// Source: this crate's own.
-    pub fn new_receiver<P: HistoryPort<T, J, WakerSlot<A>>, A: Allocator + Copy>(
-        sender: &Sender<T, P, A>,
+    pub fn new_receiver<P: HistoryPort<T, J>, A: Allocator + Copy>(
+        sender: &HistorySender<T, P, J, A>,
         seen: &mut Seen<T, J>,
-    ) -> Result<(Receiver<T, P, A>, Self), HandleError>
+    ) -> Result<(HistoryReceiver<T, P, J, A>, Self), HandleError>
         ensures seen { IsPrefix seen.old.steps seen.new.steps }
         ensures made { IfOk result (λ made. (made.0.role.key ≡ made.1.key)
             × (made.1.steps ≡ seen.new.steps)) }
@@ -44,10 +44,13 @@ impl<T: Clone, J: Channel> Reading<T, J> {
     /// - `Memory`: no memory for its cursor.
     ///
     /// Source: this crate's own.
-    pub fn activate<P: HistoryPort<T, J, WakerSlot<A>>, A: Allocator + Copy>(
-        inactive: InactiveReceiver<T, P, A>,
+    pub fn activate<P: HistoryPort<T, J>, A: Allocator + Copy>(
+        inactive: HistoryInactiveReceiver<T, P, J, A>,
         seen: &mut Seen<T, J>,
-    ) -> Result<(Receiver<T, P, A>, Self), (InactiveReceiver<T, P, A>, HandleError)>
+    ) -> Result<
+        (HistoryReceiver<T, P, J, A>, Self),
+        (HistoryInactiveReceiver<T, P, J, A>, HandleError),
+    >
         ensures seen { IsPrefix seen.old.steps seen.new.steps }
         ensures made { IfOk result (λ made. (made.0.role.key ≡ made.1.key)
             × (made.1.steps ≡ seen.new.steps)) }
@@ -71,11 +74,11 @@ impl<T: Clone, J: Channel> Reading<T, J> {
     /// - `Memory`: no memory for the handle.
     ///
     /// Source: this crate's own.
-    pub fn clone<P: HistoryPort<T, J, WakerSlot<A>>, A: Allocator + Copy>(
+    pub fn clone<P: HistoryPort<T, J>, A: Allocator + Copy>(
         &mut self,
         rt: &impl Wait,
-        receiver: &Receiver<T, P, A>,
-    ) -> Result<(Receiver<T, P, A>, Self), HandleError>
+        receiver: &HistoryReceiver<T, P, J, A>,
+    ) -> Result<(HistoryReceiver<T, P, J, A>, Self), HandleError>
         requires { receiver.now.role.key ≡ self.old.key }
         ensures same { (self.new.key ≡ self.old.key) × (self.new.next ≡ self.old.next) }
         ensures seen { IsPrefix self.old.steps self.new.steps }

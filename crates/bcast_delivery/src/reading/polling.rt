@@ -9,9 +9,9 @@ ghost use Rattle.bcast_model.specs.Words.{given_by};
 ghost use Rattle.bcast_delivery.specs.Reading.{Takes, TakesNext, IsSo, as_found, said_closed, said_ended};
 
 use super::{Found, Reading, agreed};
-use crate::port::HistoryPort;
+use crate::port::{HistoryPort, HistoryReceiver};
 use crate::steps::Channel;
-use async_broadcast::{Receiver, RecvError, WakerSlot};
+use async_broadcast::RecvError;
 use futures::task::{Context, Poll};
 use std::alloc::{AllocError, Allocator};
 use std::sync::Wait;
@@ -29,10 +29,10 @@ impl<T: Clone, J: Channel> Reading<T, J> {
     /// - `Overflowed(n)`: the next `n` messages were dropped. The receiver continues after them.
     ///
     /// Source: this crate's own.
-    pub fn poll_recv<P: HistoryPort<T, J, WakerSlot<A>>, A: Allocator + Copy>(
+    pub fn poll_recv<P: HistoryPort<T, J>, A: Allocator + Copy>(
         &mut self,
         rt: &impl Wait,
-        receiver: &mut Receiver<T, P, A>,
+        receiver: &mut HistoryReceiver<T, P, J, A>,
         cx: &mut Context<'_>,
     ) -> Result<Poll<Option<Result<T, RecvError>>>, AllocError>
         requires { receiver.old.role.key ≡ self.old.key }
@@ -62,10 +62,10 @@ impl<T: Clone, J: Channel> Reading<T, J> {
     ///   to read. What was skipped till then stays skipped.
     ///
     /// Source: this crate's own.
-    pub fn poll_next<P: HistoryPort<T, J, WakerSlot<A>>, A: Allocator + Copy>(
+    pub fn poll_next<P: HistoryPort<T, J>, A: Allocator + Copy>(
         &mut self,
         rt: &impl Wait,
-        receiver: &mut Receiver<T, P, A>,
+        receiver: &mut HistoryReceiver<T, P, J, A>,
         cx: &mut Context<'_>,
     ) -> Result<Poll<Option<T>>, AllocError>
         requires { receiver.old.role.key ≡ self.old.key }

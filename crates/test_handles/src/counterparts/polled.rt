@@ -1,5 +1,5 @@
 //! A stream of the test's own, which is made by `poll_recv`.
-use async_broadcast::{Port, Receiver, RecvError, Sender, WakerSlot};
+use async_broadcast::{Port, Receiver, RecvError, Sender};
 use futures::executor::block_on;
 use futures::task::{Context, Poll};
 use futures::{Stream, StreamExt};
@@ -11,11 +11,11 @@ use std::test::Fail;
 
 /// What a receiver gives, and how much it missed.
 #[derive(Drop)]
-struct Polled<P: Port<u64, WakerSlot>> {
+struct Polled<P: Port<u64>> {
     receiver: Receiver<u64, P>,
 }
 
-impl<P: Port<u64, WakerSlot>> Stream for Polled<P> {
+impl<P: Port<u64>> Stream for Polled<P> {
     type Item = Result<Result<u64, RecvError>, AllocError>;
 
     fn poll_next(
@@ -33,7 +33,7 @@ impl<P: Port<u64, WakerSlot>> Stream for Polled<P> {
 
 /// Sends four messages over a channel of capacity 2 in overflow mode, awaits what the stream gives,
 /// and ends it by dropping the sender.
-pub fn plays<R: Abort + Wait + RandomSource + AllocGlobal, P: Port<u64, WakerSlot>>(
+pub fn plays<R: Abort + Wait + RandomSource + AllocGlobal, P: Port<u64>>(
     rt: &R,
     sender: Sender<u64, P>,
     mut receiver: Receiver<u64, P>,

@@ -1,7 +1,5 @@
 //! Tests that are rows of calls on the handles of one channel, each with its answer.
-use async_broadcast::{
-    Port, Receiver, RecvError, SendError, Sender, TryRecvError, TrySendError, WakerSlot,
-};
+use async_broadcast::{Port, Receiver, RecvError, SendError, Sender, TryRecvError, TrySendError};
 use futures::StreamExt;
 use futures::executor::block_on;
 use std::alloc::{AllocError, AllocGlobal, Global};
@@ -99,12 +97,12 @@ fn of_next(item: Option<Result<u64, AllocError>>) -> Answer {
 
 /// The handles of a channel.
 #[derive(Drop)]
-struct Hands<P: Port<u64, WakerSlot>> {
+struct Hands<P: Port<u64>> {
     senders: Vec<Sender<u64, P>>,
     receivers: Vec<Receiver<u64, P>>,
 }
 
-impl<P: Port<u64, WakerSlot>> Hands<P> {
+impl<P: Port<u64>> Hands<P> {
     fn sender(&self, number: usize) -> Result<&Sender<u64, P>, Fail> {
         Ok(self.senders.get(number).ok_or("no such sender")?)
     }
@@ -162,7 +160,7 @@ impl<P: Port<u64, WakerSlot>> Hands<P> {
 }
 
 /// Makes the calls of all rows on a channel, and fails unless each returns its answer.
-pub fn play<R: Abort + Wait + RandomSource + AllocGlobal, P: Port<u64, WakerSlot>>(
+pub fn play<R: Abort + Wait + RandomSource + AllocGlobal, P: Port<u64>>(
     rt: &R,
     alloc: Global,
     (sender, receiver): (Sender<u64, P>, Receiver<u64, P>),

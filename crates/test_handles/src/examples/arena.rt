@@ -1,5 +1,5 @@
 //! Of docs/GUIDE.md: a channel whose memory is an arena.
-use async_broadcast::{Port, Receiver, Sender, WakerSlot, broadcast};
+use async_broadcast::{Port, Receiver, Sender, broadcast};
 use linked_list_allocator::LocalHeap;
 use std::alloc::Allocator;
 use std::process::Abort;
@@ -12,7 +12,7 @@ fn a_channel_in_an_arena(rt: HostRuntime) -> Result<(), Fail> {
     keeps_to_the_arena(&rt, sender, receiver)
 }
 
-fn keeps_to_the_arena<A: Allocator + Copy, P: Port<u64, WakerSlot<A>>>(
+fn keeps_to_the_arena<A: Allocator + Copy, P: Port<u64>>(
     rt: &impl Abort,
     mut sender: Sender<u64, P, A>,
     mut receiver: Receiver<u64, P, A>,

@@ -1,5 +1,5 @@
 //! Of `lock.rt` and `lib.rt`.
-use async_broadcast::{NoMemory, Port, Receiver, Sender, TryRecvError, TrySendError, WakerSlot};
+use async_broadcast::{NoMemory, Port, Receiver, Sender, TryRecvError, TrySendError};
 use futures::StreamExt;
 use futures::executor::block_on;
 use std::alloc::AllocGlobal;
@@ -9,7 +9,7 @@ use std::sync::Wait;
 use std::test::Fail;
 
 // Of `broadcast`.
-pub fn plays_two<R: Abort + Wait + RandomSource + AllocGlobal, P: Port<u64, WakerSlot>>(
+pub fn plays_two<R: Abort + Wait + RandomSource + AllocGlobal, P: Port<u64>>(
     rt: &R,
     sender: Sender<u64, P>,
     mut one: Receiver<u64, P>,
@@ -31,7 +31,7 @@ pub fn plays_two<R: Abort + Wait + RandomSource + AllocGlobal, P: Port<u64, Wake
 }
 
 // Of the crate, on its errors.
-pub fn refuses<P: Port<u64, WakerSlot>>(
+pub fn refuses<P: Port<u64>>(
     rt: &impl Abort,
     sender: &Sender<u64, P>,
     receiver: &mut Receiver<u64, P>,

@@ -1,5 +1,5 @@
 //! Of `future/send.rt` and `future/recv.rt`.
-use async_broadcast::{Port, Receiver, RecvError, SendError, Sender, TryRecvError, WakerSlot};
+use async_broadcast::{Port, Receiver, RecvError, SendError, Sender, TryRecvError};
 use futures::executor::block_on;
 use futures::task::Poll;
 use futures::test::MockTask;
@@ -10,7 +10,7 @@ use std::sync::Wait;
 use std::test::Fail;
 
 // Of `broadcast`.
-pub fn sends_in_a_box<R: Abort + Wait + RandomSource + AllocGlobal, P: Port<u64, WakerSlot>>(
+pub fn sends_in_a_box<R: Abort + Wait + RandomSource + AllocGlobal, P: Port<u64>>(
     rt: &R,
     sender: &Sender<u64, P>,
     receiver: &mut Receiver<u64, P>,
@@ -23,7 +23,7 @@ pub fn sends_in_a_box<R: Abort + Wait + RandomSource + AllocGlobal, P: Port<u64,
 }
 
 // Of `broadcast_direct`.
-pub fn sends_directly<R: Abort + Wait + RandomSource + AllocGlobal, P: Port<u64, WakerSlot>>(
+pub fn sends_directly<R: Abort + Wait + RandomSource + AllocGlobal, P: Port<u64>>(
     rt: &R,
     sender: Sender<u64, P>,
     receiver: Receiver<u64, P>,
@@ -36,7 +36,7 @@ pub fn sends_directly<R: Abort + Wait + RandomSource + AllocGlobal, P: Port<u64,
 }
 
 // Of `recv`.
-pub fn receives_in_a_box<R: Abort + Wait + RandomSource + AllocGlobal, P: Port<u64, WakerSlot>>(
+pub fn receives_in_a_box<R: Abort + Wait + RandomSource + AllocGlobal, P: Port<u64>>(
     rt: &R,
     sender: &Sender<u64, P>,
     receiver: &mut Receiver<u64, P>,
@@ -47,7 +47,7 @@ pub fn receives_in_a_box<R: Abort + Wait + RandomSource + AllocGlobal, P: Port<u
 }
 
 // Of `recv_direct`.
-pub fn receives_directly<R: Abort + Wait + RandomSource + AllocGlobal, P: Port<u64, WakerSlot>>(
+pub fn receives_directly<R: Abort + Wait + RandomSource + AllocGlobal, P: Port<u64>>(
     rt: &R,
     sender: Sender<u64, P>,
     mut receiver: Receiver<u64, P>,
@@ -61,7 +61,7 @@ pub fn receives_directly<R: Abort + Wait + RandomSource + AllocGlobal, P: Port<u
 }
 
 // Of `poll_recv`.
-pub fn polls<R: Abort + RandomSource + AllocGlobal, P: Port<u64, WakerSlot>>(
+pub fn polls<R: Abort + RandomSource + AllocGlobal, P: Port<u64>>(
     rt: &R,
     sender: &Sender<u64, P>,
     receiver: &mut Receiver<u64, P>,

@@ -1,10 +1,10 @@
 //! Of `inactive.rt`.
-use async_broadcast::{Port, Receiver, Sender, WakerSlot};
+use async_broadcast::{Port, Receiver, Sender};
 use std::process::Abort;
 use std::test::Fail;
 
 // Of `activate`.
-pub fn activates<P: Port<u64, WakerSlot>>(
+pub fn activates<P: Port<u64>>(
     rt: &impl Abort,
     sender: Sender<u64, P>,
     receiver: Receiver<u64, P>,
@@ -17,7 +17,7 @@ pub fn activates<P: Port<u64, WakerSlot>>(
 }
 
 // Of `activate_cloned`.
-pub fn activates_clones<P: Port<u64, WakerSlot>>(
+pub fn activates_clones<P: Port<u64>>(
     rt: &impl Abort,
     sender: Sender<u64, P>,
     receiver: Receiver<u64, P>,
@@ -32,7 +32,7 @@ pub fn activates_clones<P: Port<u64, WakerSlot>>(
 }
 
 // Of `clone`.
-pub fn keeps_it_open<P: Port<u64, WakerSlot>>(
+pub fn keeps_it_open<P: Port<u64>>(
     rt: &impl Abort,
     sender: Sender<u64, P>,
     receiver: Receiver<u64, P>,

@@ -1,5 +1,5 @@
 //! Of `Lock::new` of `lock.rt`, a channel that its caller made, and of `unread.rt`.
-use async_broadcast::{Lock, Port, Receiver, Sender, TryRecvError, broadcast};
+use async_broadcast::{KnowingPort, Lock, Port, Receiver, Sender, TryRecvError, broadcast};
 use bcast_core::Inner;
 use std::test::Fail;
 
@@ -7,9 +7,9 @@ use std::test::Fail;
 fn a_port_of_a_channel_that_its_caller_made(rt: HostRuntime) -> Result<(), Fail> {
     let (inner, key) = Inner::starting_at(rt.alloc(), 2, 100)?;
     let port = Lock::new(&rt, rt.alloc(), inner)?;
-    let other = port.same().ok_or("no memory")?;
-    let sender = Sender::over(port, rt.alloc());
-    let mut receiver = Receiver::over(other, key, rt.alloc());
+    let other = port.try_clone().ok_or("no memory")?;
+    let sender = Sender::from_port(port, rt.alloc());
+    let mut receiver = Receiver::from_port(other, key, rt.alloc());
     assert!(rt; sender.try_broadcast(7).is_ok());
     assert!(rt; matches!(receiver.try_recv(), Ok(Ok(7))));
     assert!(rt; sender.snapshot()?.end == 101);

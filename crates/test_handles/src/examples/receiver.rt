@@ -1,7 +1,5 @@
 //! Of `receiver.rt` and `iter.rt`, and one of a setting of the channel that a receiver makes.
-use async_broadcast::{
-    Port, Receiver, RecvError, SendError, Sender, TryRecvError, TrySendError, WakerSlot,
-};
+use async_broadcast::{Port, Receiver, RecvError, SendError, Sender, TryRecvError, TrySendError};
 use futures::StreamExt;
 use futures::executor::block_on;
 use std::alloc::AllocGlobal;
@@ -11,7 +9,7 @@ use std::sync::Wait;
 use std::test::Fail;
 
 // Of `Receiver`, as a stream.
-pub fn streams<R: Abort + Wait + RandomSource + AllocGlobal, P: Port<u64, WakerSlot>>(
+pub fn streams<R: Abort + Wait + RandomSource + AllocGlobal, P: Port<u64>>(
     rt: &R,
     sender: Sender<u64, P>,
     mut receiver: Receiver<u64, P>,
@@ -24,7 +22,7 @@ pub fn streams<R: Abort + Wait + RandomSource + AllocGlobal, P: Port<u64, WakerS
 }
 
 // Of `try_recv`.
-pub fn tries<P: Port<u64, WakerSlot>>(
+pub fn tries<P: Port<u64>>(
     rt: &impl Abort,
     sender: Sender<u64, P>,
     mut receiver: Receiver<u64, P>,
@@ -37,7 +35,7 @@ pub fn tries<P: Port<u64, WakerSlot>>(
 }
 
 // Of `recv_blocking`.
-pub fn blocks<P: Port<u64, WakerSlot>>(
+pub fn blocks<P: Port<u64>>(
     rt: &impl Abort,
     sender: Sender<u64, P>,
     mut receiver: Receiver<u64, P>,
@@ -49,7 +47,7 @@ pub fn blocks<P: Port<u64, WakerSlot>>(
 }
 
 // Of `iter`.
-pub fn loops<R: Abort + Wait, P: Port<u64, WakerSlot>>(
+pub fn loops<R: Abort + Wait, P: Port<u64>>(
     rt: &R,
     sender: Sender<u64, P>,
     mut receiver: Receiver<u64, P>,
@@ -67,7 +65,7 @@ pub fn loops<R: Abort + Wait, P: Port<u64, WakerSlot>>(
 }
 
 // Of `is_terminated`.
-pub fn sees_the_end<P: Port<u64, WakerSlot>>(
+pub fn sees_the_end<P: Port<u64>>(
     rt: &impl Abort,
     sender: Sender<u64, P>,
     mut receiver: Receiver<u64, P>,
@@ -80,7 +78,7 @@ pub fn sees_the_end<P: Port<u64, WakerSlot>>(
 }
 
 // Of `clone`.
-pub fn clones<P: Port<u64, WakerSlot>>(
+pub fn clones<P: Port<u64>>(
     rt: &impl Abort,
     sender: &Sender<u64, P>,
     one: &mut Receiver<u64, P>,
@@ -93,7 +91,7 @@ pub fn clones<P: Port<u64, WakerSlot>>(
 }
 
 // Of `new_receiver`.
-pub fn adds_a_receiver<P: Port<u64, WakerSlot>>(
+pub fn adds_a_receiver<P: Port<u64>>(
     rt: &impl Abort,
     sender: &Sender<u64, P>,
     one: &Receiver<u64, P>,
@@ -106,7 +104,7 @@ pub fn adds_a_receiver<P: Port<u64, WakerSlot>>(
 }
 
 // Of `new_sender`.
-pub fn adds_a_sender<P: Port<u64, WakerSlot>>(
+pub fn adds_a_sender<P: Port<u64>>(
     rt: &impl Abort,
     sender: Sender<u64, P>,
     mut receiver: Receiver<u64, P>,
@@ -119,7 +117,7 @@ pub fn adds_a_sender<P: Port<u64, WakerSlot>>(
 }
 
 // Of `deactivate`.
-pub fn pauses<P: Port<u64, WakerSlot>>(
+pub fn pauses<P: Port<u64>>(
     rt: &impl Abort,
     sender: Sender<u64, P>,
     receiver: Receiver<u64, P>,
@@ -133,7 +131,7 @@ pub fn pauses<P: Port<u64, WakerSlot>>(
 }
 
 // Of `set_await_active`, by a receiver.
-pub fn awaits_nobody<R: Abort + Wait + RandomSource + AllocGlobal, P: Port<u64, WakerSlot>>(
+pub fn awaits_nobody<R: Abort + Wait + RandomSource + AllocGlobal, P: Port<u64>>(
     rt: &R,
     sender: &Sender<u64, P>,
     mut receiver: Receiver<u64, P>,

@@ -1,11 +1,11 @@
 //! Of `sender.rt`.
-use async_broadcast::{Port, Receiver, SendError, Sender, TryRecvError, TrySendError, WakerSlot};
+use async_broadcast::{Port, Receiver, SendError, Sender, TryRecvError, TrySendError};
 use std::alloc::AllocGlobal;
 use std::process::Abort;
 use std::test::Fail;
 
 // Of `try_broadcast`.
-pub fn tries<P: Port<u64, WakerSlot>>(
+pub fn tries<P: Port<u64>>(
     rt: &impl Abort,
     sender: Sender<u64, P>,
     receiver: Receiver<u64, P>,
@@ -20,7 +20,7 @@ pub fn tries<P: Port<u64, WakerSlot>>(
 }
 
 // Of `try_broadcast_all`.
-pub fn sends_a_list<P: Port<u64, WakerSlot>>(
+pub fn sends_a_list<P: Port<u64>>(
     rt: &(impl Abort + AllocGlobal),
     sender: &Sender<u64, P>,
     receiver: &mut Receiver<u64, P>,
@@ -36,7 +36,7 @@ pub fn sends_a_list<P: Port<u64, WakerSlot>>(
 }
 
 // Of `broadcast_blocking`.
-pub fn blocks<P: Port<u64, WakerSlot>>(
+pub fn blocks<P: Port<u64>>(
     rt: &impl Abort,
     sender: Sender<u64, P>,
     mut receiver: Receiver<u64, P>,
@@ -50,7 +50,7 @@ pub fn blocks<P: Port<u64, WakerSlot>>(
 }
 
 // Of `clone`.
-pub fn clones<P: Port<u64, WakerSlot>>(
+pub fn clones<P: Port<u64>>(
     rt: &impl Abort,
     sender: Sender<u64, P>,
     mut receiver: Receiver<u64, P>,
@@ -65,7 +65,7 @@ pub fn clones<P: Port<u64, WakerSlot>>(
 }
 
 // Of `new_receiver`.
-pub fn adds_a_receiver<P: Port<u64, WakerSlot>>(
+pub fn adds_a_receiver<P: Port<u64>>(
     rt: &impl Abort,
     sender: &Sender<u64, P>,
     one: &mut Receiver<u64, P>,

@@ -1,10 +1,10 @@
 //! Of `sender/settings.rt`.
-use async_broadcast::{Port, Receiver, SendError, Sender, TryRecvError, WakerSlot};
+use async_broadcast::{Port, Receiver, SendError, Sender, TryRecvError};
 use std::process::Abort;
 use std::test::Fail;
 
 // Of the calls that return the channel's settings and counts.
-pub fn says<P: Port<u64, WakerSlot>>(
+pub fn says<P: Port<u64>>(
     rt: &impl Abort,
     sender: Sender<u64, P>,
     receiver: Receiver<u64, P>,
@@ -13,7 +13,7 @@ pub fn says<P: Port<u64, WakerSlot>>(
     counts_handles(rt, &sender, receiver)
 }
 
-fn says_what_is_kept<P: Port<u64, WakerSlot>>(rt: &impl Abort, sender: &Sender<u64, P>) {
+fn says_what_is_kept<P: Port<u64>>(rt: &impl Abort, sender: &Sender<u64, P>) {
     assert!(rt; sender.capacity() == 1);
     assert!(rt; sender.is_empty());
     assert!(rt; !sender.is_full());
@@ -23,7 +23,7 @@ fn says_what_is_kept<P: Port<u64, WakerSlot>>(rt: &impl Abort, sender: &Sender<u
     assert!(rt; sender.len() == 1);
 }
 
-fn counts_handles<P: Port<u64, WakerSlot>>(
+fn counts_handles<P: Port<u64>>(
     rt: &impl Abort,
     sender: &Sender<u64, P>,
     receiver: Receiver<u64, P>,
@@ -39,7 +39,7 @@ fn counts_handles<P: Port<u64, WakerSlot>>(
 }
 
 // Of `overflow`, `await_active` and `close`.
-pub fn changes_modes<P: Port<u64, WakerSlot>>(rt: &impl Abort, sender: &mut Sender<u64, P>) {
+pub fn changes_modes<P: Port<u64>>(rt: &impl Abort, sender: &mut Sender<u64, P>) {
     assert!(rt; !sender.overflow());
     sender.set_overflow(true);
     assert!(rt; sender.overflow());
@@ -51,7 +51,7 @@ pub fn changes_modes<P: Port<u64, WakerSlot>>(rt: &impl Abort, sender: &mut Send
 }
 
 // Of `is_closed`.
-pub fn sees_the_end<P: Port<u64, WakerSlot>>(
+pub fn sees_the_end<P: Port<u64>>(
     rt: &impl Abort,
     sender: &Sender<u64, P>,
     receiver: &Receiver<u64, P>,
@@ -62,7 +62,7 @@ pub fn sees_the_end<P: Port<u64, WakerSlot>>(
 }
 
 // Of `set_capacity`.
-pub fn shrinks<P: Port<u64, WakerSlot>>(
+pub fn shrinks<P: Port<u64>>(
     rt: &impl Abort,
     sender: &mut Sender<u64, P>,
     receiver: &mut Receiver<u64, P>,
@@ -76,7 +76,7 @@ pub fn shrinks<P: Port<u64, WakerSlot>>(
 }
 
 // Of `set_overflow`.
-pub fn overflows<P: Port<u64, WakerSlot>>(
+pub fn overflows<P: Port<u64>>(
     rt: &impl Abort,
     sender: &mut Sender<u64, P>,
     receiver: &mut Receiver<u64, P>,
@@ -89,7 +89,7 @@ pub fn overflows<P: Port<u64, WakerSlot>>(
 }
 
 // Of `set_await_active`.
-pub fn awaits_nobody<P: Port<u64, WakerSlot>>(
+pub fn awaits_nobody<P: Port<u64>>(
     rt: &impl Abort,
     mut sender: Sender<u64, P>,
     receiver: Receiver<u64, P>,

@@ -1,5 +1,5 @@
 //! The tasks, whose polls are counted.
-use async_broadcast::{Port, Receiver, Send, Sender, WakerSlot};
+use async_broadcast::{Port, Receiver, Send, Sender};
 use futures::stream::{Count, TryCollect};
 use futures::task::{Context, Poll};
 use futures::{Future, Stream, StreamExt, TryStreamExt};
@@ -38,12 +38,12 @@ impl Counts {
 
 /// A receiver as a stream.
 #[derive(Drop)]
-struct Received<'a, P: Port<u64, WakerSlot>> {
+struct Received<'a, P: Port<u64>> {
     receiver: Receiver<u64, P>,
     counts: &'a Counts,
 }
 
-impl<P: Port<u64, WakerSlot>> Stream for Received<'_, P> {
+impl<P: Port<u64>> Stream for Received<'_, P> {
     type Item = Result<u64, AllocError>;
 
     fn poll_next(&mut self, cx: &mut Context<'_>) -> Poll<Option<Result<u64, AllocError>>> {
@@ -55,7 +55,7 @@ impl<P: Port<u64, WakerSlot>> Stream for Received<'_, P> {
 /// The sends of a sender, one after another. An item says that a number was accepted, and the
 /// stream ends after the last number, or if one is refused.
 #[derive(Drop)]
-struct Sends<'a, P: Port<u64, WakerSlot>> {
+struct Sends<'a, P: Port<u64>> {
     sender: &'a Sender<u64, P>,
     next: u64,
     end: u64,
@@ -64,7 +64,7 @@ struct Sends<'a, P: Port<u64, WakerSlot>> {
     counts: &'a Counts,
 }
 
-impl<P: Port<u64, WakerSlot>> Stream for Sends<'_, P> {
+impl<P: Port<u64>> Stream for Sends<'_, P> {
     type Item = ();
 
     fn poll_next(&mut self, cx: &mut Context<'_>) -> Poll<Option<()>> {
@@ -89,14 +89,14 @@ impl<P: Port<u64, WakerSlot>> Stream for Sends<'_, P> {
 
 /// A task of the pool.
 #[derive(Drop)]
-pub enum Task<'a, R: Wait + Drop, P: Port<u64, WakerSlot>> {
+pub enum Task<'a, R: Wait + Drop, P: Port<u64>> {
     Receiving(Receiving<'a, R, P>),
     Sending(Sending<'a, P>),
 }
 
 /// Receives to the end, and keeps the list of what was received.
 #[derive(Drop)]
-pub struct Receiving<'a, R: Wait + Drop, P: Port<u64, WakerSlot>> {
+pub struct Receiving<'a, R: Wait + Drop, P: Port<u64>> {
     rt: R,
     list: TryCollect<Received<'a, P>, u64>,
     lists: &'a Mutex<Vec<Vec<u64>>>,
@@ -104,13 +104,13 @@ pub struct Receiving<'a, R: Wait + Drop, P: Port<u64, WakerSlot>> {
 
 /// Sends numbers. The last of the senders closes the channel.
 #[derive(Drop)]
-pub struct Sending<'a, P: Port<u64, WakerSlot>> {
+pub struct Sending<'a, P: Port<u64>> {
     sender: &'a Sender<u64, P>,
     count: Count<Sends<'a, P>>,
     counts: &'a Counts,
 }
 
-impl<'a, R: Wait + Drop, P: Port<u64, WakerSlot>> Task<'a, R, P> {
+impl<'a, R: Wait + Drop, P: Port<u64>> Task<'a, R, P> {
     /// Receives to the end, and adds what was received to `lists`.
     pub fn receiving(
         rt: R,
@@ -140,7 +140,7 @@ impl<'a, R: Wait + Drop, P: Port<u64, WakerSlot>> Task<'a, R, P> {
     }
 }
 
-impl<R: Wait + Drop, P: Port<u64, WakerSlot>> Future for Receiving<'_, R, P> {
+impl<R: Wait + Drop, P: Port<u64>> Future for Receiving<'_, R, P> {
     type Output = ();
 
     fn poll(&mut self, cx: &mut Context<'_>) -> Poll<()> {
@@ -159,7 +159,7 @@ fn keep<R: Wait>(rt: &R, lists: &Mutex<Vec<Vec<u64>>>, list: Result<Vec<u64>, Al
     }
 }
 
-impl<P: Port<u64, WakerSlot>> Future for Sending<'_, P> {
+impl<P: Port<u64>> Future for Sending<'_, P> {
     type Output = ();
 
     fn poll(&mut self, cx: &mut Context<'_>) -> Poll<()> {
@@ -173,7 +173,7 @@ impl<P: Port<u64, WakerSlot>> Future for Sending<'_, P> {
     }
 }
 
-impl<R: Wait + Drop, P: Port<u64, WakerSlot>> Future for Task<'_, R, P> {
+impl<R: Wait + Drop, P: Port<u64>> Future for Task<'_, R, P> {
     type Output = ();
 
     fn poll(&mut self, cx: &mut Context<'_>) -> Poll<()> {

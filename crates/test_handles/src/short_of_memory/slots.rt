@@ -1,51 +1,73 @@
 //! A port that takes memory for the notice of each poll.
-use async_broadcast::{Ask, Port, RecvError, Registers, SendError, WakerSlot};
+use async_broadcast::{Ask, KnowingPort, Port, RecvError, SendError, TaskWaker};
 use bcast_core::{AtOnce, Polls};
 use futures::task::Context;
 use std::alloc::{AllocError, Allocator};
 
-/// Makes its calls on another port. Registers the task of each poll in a slot before, which takes
-/// memory where that of a lock takes none.
+/// Makes its calls on another port. Takes memory for each poll before it makes it, where that of a
+/// lock takes none.
 #[derive(Drop)]
-pub struct SlotPort<P> {
+pub struct SlotPort<P, A: Allocator> {
     pub port: P,
+    pub alloc: A,
 }
 
-impl<A: Allocator, P: Port<u64, WakerSlot<A>>> Ask<u64, WakerSlot<A>> for SlotPort<P> {
+impl<P: Port<u64>, A: Allocator + Copy> Ask<u64, ()> for SlotPort<P, A> {
+    ghost knows = { λ port. P.knows port.port };
+
     ghost gave = { λ port call reply. P.gave port.port call reply };
+
+    ghost learns = { λ known call reply after. P.learns known call reply after };
 
     ghost of_kind = { λ port call reply gave. P.of_kind port.port call reply gave };
 
-    fn ask<C: AtOnce<u64>>(&self, call: C) -> C::Answer {
-        self.port.ask(call)
+    fn known(&self) -> () {
+        self.port.known()
     }
 
-    fn poll<C: Polls<u64>, W: Registers<WakerSlot<A>>>(
+    fn ask<C: AtOnce<u64>>(&self, known: &mut (), call: C) -> C::Answer {
+        self.port.ask(known, call)
+    }
+
+    fn poll<C: Polls<u64>>(
         &self,
+        known: &mut (),
         call: C,
-        task: &mut W,
+        task: &mut TaskWaker,
         cx: &mut Context<'_>,
     ) -> Result<C::Answer, C> {
-        if task.register(cx).is_none() {
+        let Ok(_slot) = Box::new(self.alloc, 0u64) else {
+            task.refuse(cx);
             return Err(call);
-        }
-        self.port.poll(call, task, cx)
+        };
+        self.port.poll(known, call, task, cx)
     }
 }
 
-impl<A: Allocator, P: Port<u64, WakerSlot<A>>> Port<u64, WakerSlot<A>> for SlotPort<P> {
+impl<P: Port<u64>, A: Allocator + Copy> KnowingPort<u64, ()> for SlotPort<P, A> {
+    fn set_known(&mut self, known: &()) {
+        self.port.set_known(known);
+    }
+
+    fn send_waiting(&self, known: &mut (), msg: u64) -> Result<Option<u64>, SendError<u64>> {
+        self.port.send_waiting(known, msg)
+    }
+
+    fn receive_waiting(
+        &self,
+        known: &mut (),
+        key: usize,
+    ) -> Result<Result<u64, RecvError>, AllocError> {
+        self.port.receive_waiting(known, key)
+    }
+
     ghost lacks_memory = { λ port. P.lacks_memory port.port };
 
-    fn send_waiting(&self, msg: u64) -> Result<Option<u64>, SendError<u64>> {
-        self.port.send_waiting(msg)
-    }
-
-    fn receive_waiting(&self, key: usize) -> Result<Result<u64, RecvError>, AllocError> {
-        self.port.receive_waiting(key)
-    }
-
-    fn same(&self) -> Option<Self> {
-        let port = self.port.same()?;
-        Some(SlotPort { port })
+    fn try_clone(&self) -> Option<Self> {
+        let port = self.port.try_clone()?;
+        Some(SlotPort {
+            port,
+            alloc: self.alloc,
+        })
     }
 }

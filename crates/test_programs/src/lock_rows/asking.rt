@@ -1,14 +1,14 @@
 //! The ways to make a call through a port.
 ghost use Rattle.bcast_model.specs.Next.{HasPositiveCapacity};
 
-use async_broadcast::{Port, RecvError, TaskWaker, WakerSlot};
+use async_broadcast::{Port, RecvError, TaskWaker};
 use bcast_core::{
-    AddHandle, AddReceiver, AttemptSend, BeginSend, Call, Change, Close, Count, EndNumber,
+    AddHandle, AddReceiver, AtOnce, AttemptSend, BeginSend, Call, Change, Close, Count, EndNumber,
     PollFuture, PollNext, PollRecv, PollSend, Reply, SendPoll, SetCapacity, Test, TryBroadcast,
     TryBroadcastAll, TryRecv, TryRecvError,
 };
 use futures::test::MockTask;
-use std::alloc::{AllocError, Global};
+use std::alloc::AllocError;
 
 /// How the calls of a trace are made.
 #[derive(Clone, Copy, Debug)]
@@ -24,8 +24,7 @@ pub(super) enum Way {
 }
 
 /// Makes a call whose reply should be `wanted`. None: there was no memory for a notice.
-pub(super) fn ask<P: Port<u64, WakerSlot>>(
-    alloc: Global,
+pub(super) fn ask<P: Port<u64>>(
     task: &MockTask,
     way: Way,
     port: &P,
@@ -35,74 +34,74 @@ pub(super) fn ask<P: Port<u64, WakerSlot>>(
     requires { HasPositiveCapacity call }
 {
     match way {
-        Way::Typed | Way::LateLock => typed(alloc, task, port, call),
+        Way::Typed | Way::LateLock => typed(task, port, call),
         Way::Data => {
-            let mut waker = TaskWaker::new(alloc);
-            task.enter(|cx| port.poll(call, &mut waker, cx)).ok()
+            let mut waker = TaskWaker::new();
+            task.enter(|cx| port.poll(&mut (), call, &mut waker, cx))
+                .ok()
         }
-        Way::Waiting => waiting(alloc, task, port, call, wanted),
+        Way::Waiting => waiting(task, port, call, wanted),
     }
 }
 
 /// Makes the call as the type that it is.
-fn typed<P: Port<u64, WakerSlot>>(
-    alloc: Global,
-    task: &MockTask,
-    port: &P,
-    call: Call<u64>,
-) -> Option<Reply<u64>>
+fn typed<P: Port<u64>>(task: &MockTask, port: &P, call: Call<u64>) -> Option<Reply<u64>>
     requires { HasPositiveCapacity call }
 {
     let reply = match call {
         Call::PollSend(..) | Call::PollFuture(_) | Call::PollRecv(_) | Call::PollNext(_) => {
-            return polled(alloc, task, port, call);
+            return polled(task, port, call);
         }
         Call::EndFuture(key) => {
             port.end_future(key, false);
             Reply::EndFuture
         }
-        Call::TryBroadcast(msg) => Reply::TryBroadcast(port.ask(TryBroadcast(msg))),
-        Call::TryBroadcastAll(msgs) => Reply::TryBroadcastAll(port.ask(TryBroadcastAll(msgs))),
-        Call::AttemptSend(msg) => Reply::AttemptSend(port.ask(AttemptSend(msg))),
-        Call::BeginSend => Reply::BeginSend(port.ask(BeginSend)),
-        Call::TryRecv(key) => Reply::TryRecv(port.ask(TryRecv(key))),
-        Call::Close => Reply::Close(port.ask(Close)),
-        Call::SetCapacity(n) => Reply::SetCapacity(port.ask(SetCapacity(n))),
-        Call::NewSender => Reply::NewSender(port.ask(AddHandle::Sender)),
-        Call::CloneInactive => Reply::CloneInactive(port.ask(AddHandle::Inactive)),
-        Call::Deactivate(key) => Reply::Deactivate(port.ask(AddHandle::Deactivated(key))),
-        Call::NewReceiver => Reply::NewReceiver(port.ask(AddReceiver::New)),
-        Call::Activate => Reply::Activate(port.ask(AddReceiver::Activate)),
-        Call::ActivateCloned => Reply::ActivateCloned(port.ask(AddReceiver::ActivateCloned)),
-        Call::CloneReceiver(key) => Reply::CloneReceiver(port.ask(AddReceiver::Clone(key))),
+        Call::TryBroadcast(msg) => Reply::TryBroadcast(made(port, TryBroadcast(msg))),
+        Call::TryBroadcastAll(msgs) => Reply::TryBroadcastAll(made(port, TryBroadcastAll(msgs))),
+        Call::AttemptSend(msg) => Reply::AttemptSend(made(port, AttemptSend(msg))),
+        Call::BeginSend => Reply::BeginSend(made(port, BeginSend)),
+        Call::TryRecv(key) => Reply::TryRecv(made(port, TryRecv(key))),
+        Call::Close => Reply::Close(made(port, Close)),
+        Call::SetCapacity(n) => Reply::SetCapacity(made(port, SetCapacity(n))),
+        Call::NewSender => Reply::NewSender(made(port, AddHandle::Sender)),
+        Call::CloneInactive => Reply::CloneInactive(made(port, AddHandle::Inactive)),
+        Call::Deactivate(key) => Reply::Deactivate(made(port, AddHandle::Deactivated(key))),
+        Call::NewReceiver => Reply::NewReceiver(made(port, AddReceiver::New)),
+        Call::Activate => Reply::Activate(made(port, AddReceiver::Activate)),
+        Call::ActivateCloned => Reply::ActivateCloned(made(port, AddReceiver::ActivateCloned)),
+        Call::CloneReceiver(key) => Reply::CloneReceiver(made(port, AddReceiver::Clone(key))),
         call => return changed(port, call).or_else(|call| seen(port, call)).ok(),
     };
     Some(reply)
 }
 
+/// Makes a call that never waits.
+pub(super) fn made<P: Port<u64>, C: AtOnce<u64>>(port: &P, call: C) -> C::Answer
+    requires { HasPositiveCapacity (C.call call) }
+{
+    port.ask(&mut (), call)
+}
+
 /// Polls in the task.
-fn polled<P: Port<u64, WakerSlot>>(
-    alloc: Global,
-    task: &MockTask,
-    port: &P,
-    call: Call<u64>,
-) -> Option<Reply<u64>> {
-    let mut waker = TaskWaker::new(alloc);
+fn polled<P: Port<u64>>(task: &MockTask, port: &P, call: Call<u64>) -> Option<Reply<u64>> {
+    let mut waker = TaskWaker::new();
     task.enter(|cx| match call {
         Call::PollSend(place, msg) => {
-            let poll = port.poll(PollSend(place, msg), &mut waker, cx).ok()?;
+            let poll = port
+                .poll(&mut (), PollSend(place, msg), &mut waker, cx)
+                .ok()?;
             Some(Reply::PollSend(poll))
         }
         Call::PollFuture(key) => {
-            let poll = port.poll(PollFuture(key), &mut waker, cx).ok()?;
+            let poll = port.poll(&mut (), PollFuture(key), &mut waker, cx).ok()?;
             Some(Reply::PollFuture(poll))
         }
         Call::PollRecv(key) => {
-            let poll = port.poll(PollRecv(key), &mut waker, cx).ok()?;
+            let poll = port.poll(&mut (), PollRecv(key), &mut waker, cx).ok()?;
             Some(Reply::PollRecv(poll))
         }
         Call::PollNext(key) => {
-            let poll = port.poll(PollNext(key), &mut waker, cx).ok()?;
+            let poll = port.poll(&mut (), PollNext(key), &mut waker, cx).ok()?;
             Some(Reply::PollNext(poll))
         }
         _ => None,
@@ -110,7 +109,7 @@ fn polled<P: Port<u64, WakerSlot>>(
 }
 
 /// Makes a call that returns nothing, or hands it back if it isn't one.
-fn changed<P: Port<u64, WakerSlot>>(port: &P, call: Call<u64>) -> Result<Reply<u64>, Call<u64>> {
+fn changed<P: Port<u64>>(port: &P, call: Call<u64>) -> Result<Reply<u64>, Call<u64>> {
     let (change, reply) = match call {
         Call::EndSend(place) => (Change::EndSend(place), Reply::EndSend),
         Call::SetOverflow(on) => (Change::SetOverflow(on), Reply::SetOverflow),
@@ -120,34 +119,33 @@ fn changed<P: Port<u64, WakerSlot>>(port: &P, call: Call<u64>) -> Result<Reply<u
         Call::DropReceiver(key) => (Change::DropReceiver(key), Reply::DropReceiver),
         call => return Err(call),
     };
-    port.ask(change);
+    made(port, change);
     Ok(reply)
 }
 
 /// Makes a call that only reads, or hands it back if it isn't one.
-fn seen<P: Port<u64, WakerSlot>>(port: &P, call: Call<u64>) -> Result<Reply<u64>, Call<u64>> {
+fn seen<P: Port<u64>>(port: &P, call: Call<u64>) -> Result<Reply<u64>, Call<u64>> {
     Ok(match call {
-        Call::Overflow => Reply::Overflow(port.ask(Test::Overflow)),
-        Call::AwaitActive => Reply::AwaitActive(port.ask(Test::AwaitActive)),
-        Call::IsEmpty => Reply::IsEmpty(port.ask(Test::IsEmpty)),
-        Call::IsFull => Reply::IsFull(port.ask(Test::IsFull)),
-        Call::IsClosed => Reply::IsClosed(port.ask(Test::IsClosed)),
-        Call::IsTerminated => Reply::IsTerminated(port.ask(Test::IsTerminated)),
-        Call::Capacity => Reply::Capacity(port.ask(Count::Capacity)),
-        Call::Len => Reply::Len(port.ask(Count::Len)),
-        Call::ReceiverCount => Reply::ReceiverCount(port.ask(Count::ReceiverCount)),
+        Call::Overflow => Reply::Overflow(made(port, Test::Overflow)),
+        Call::AwaitActive => Reply::AwaitActive(made(port, Test::AwaitActive)),
+        Call::IsEmpty => Reply::IsEmpty(made(port, Test::IsEmpty)),
+        Call::IsFull => Reply::IsFull(made(port, Test::IsFull)),
+        Call::IsClosed => Reply::IsClosed(made(port, Test::IsClosed)),
+        Call::IsTerminated => Reply::IsTerminated(made(port, Test::IsTerminated)),
+        Call::Capacity => Reply::Capacity(made(port, Count::Capacity)),
+        Call::Len => Reply::Len(made(port, Count::Len)),
+        Call::ReceiverCount => Reply::ReceiverCount(made(port, Count::ReceiverCount)),
         Call::InactiveReceiverCount => {
-            Reply::InactiveReceiverCount(port.ask(Count::InactiveReceiverCount))
+            Reply::InactiveReceiverCount(made(port, Count::InactiveReceiverCount))
         }
-        Call::SenderCount => Reply::SenderCount(port.ask(Count::SenderCount)),
-        Call::EndNumber => Reply::EndNumber(port.ask(EndNumber)),
+        Call::SenderCount => Reply::SenderCount(made(port, Count::SenderCount)),
+        Call::EndNumber => Reply::EndNumber(made(port, EndNumber)),
         call => return Err(call),
     })
 }
 
 /// Makes the call by one that waits, unless that would wait.
-fn waiting<P: Port<u64, WakerSlot>>(
-    alloc: Global,
+fn waiting<P: Port<u64>>(
     task: &MockTask,
     port: &P,
     call: Call<u64>,
@@ -157,15 +155,15 @@ fn waiting<P: Port<u64, WakerSlot>>(
 {
     match (call, wanted) {
         (Call::AttemptSend(msg), Reply::AttemptSend(SendPoll::Ready(_))) => {
-            Some(Reply::AttemptSend(SendPoll::Ready(port.send_waiting(msg))))
+            Some(Reply::AttemptSend(SendPoll::Ready(port.send_waiting(&mut (), msg))))
         }
         (Call::TryRecv(key), Reply::TryRecv(Ok(Ok(_)) | Err(_))) => {
-            Some(Reply::TryRecv(tried(port.receive_waiting(key))))
+            Some(Reply::TryRecv(tried(port.receive_waiting(&mut (), key))))
         }
         (Call::TryRecv(key), Reply::TryRecv(Ok(Err(unread)))) if *unread != TryRecvError::Empty => {
-            Some(Reply::TryRecv(tried(port.receive_waiting(key))))
+            Some(Reply::TryRecv(tried(port.receive_waiting(&mut (), key))))
         }
-        (call, _) => typed(alloc, task, port, call),
+        (call, _) => typed(task, port, call),
     }
 }
 

@@ -1,10 +1,10 @@
 //! Calls made on a lock while a thread waits there.
 ghost use Rattle.bcast_model.specs.Next.{HasPositiveCapacity};
 
-use super::asking::{Way, tried};
+use super::asking::{Way, made, tried};
 use super::seen::Shows;
 use super::{Outcome, Part, Row, calls_of, open_both, play_calls};
-use async_broadcast::{Lock, Port, Wake, WakerSlot};
+use async_broadcast::{KnowingPort, Lock, Port, Wake};
 use bcast_core::{Call, Close, Reply, SendPoll, Silent, step};
 use bcast_trace::opening::read_opening;
 use futures::test::MockTask;
@@ -79,10 +79,10 @@ fn call_of(awaited: Awaited) -> Call<u64>
 }
 
 /// Waits until there is a reply.
-fn wait<P: Port<u64, WakerSlot>>(port: &P, awaited: Awaited) -> Reply<u64> {
+fn wait<P: Port<u64>>(port: &P, awaited: Awaited) -> Reply<u64> {
     match awaited {
-        Awaited::Message(key) => Reply::TryRecv(tried(port.receive_waiting(key))),
-        Awaited::Room(msg) => Reply::AttemptSend(SendPoll::Ready(port.send_waiting(msg))),
+        Awaited::Message(key) => Reply::TryRecv(tried(port.receive_waiting(&mut (), key))),
+        Awaited::Room(msg) => Reply::AttemptSend(SendPoll::Ready(port.send_waiting(&mut (), msg))),
     }
 }
 
@@ -93,19 +93,19 @@ fn pause() {
     }
 }
 
-impl<P: Port<u64, WakerSlot> + Shows> Row<'_, P> {
+impl<P: Port<u64> + Shows> Row<'_, P> {
     /// Makes the call of a line. None: the reply is the same.
     fn ends_wait(&mut self, alloc: Global, line: &str) -> Result<Option<Part>, AllocError> {
         let Some(calls) = calls_of(alloc, line)? else {
             return Ok(Some(Part::Reply));
         };
-        let is_same = self.is_same_reply(alloc, Way::Typed, false, calls);
+        let is_same = self.is_same_reply(Way::Typed, false, calls);
         Ok((!is_same).then_some(Part::Reply))
     }
 }
 
 /// Makes the calls while a thread waits, and then the call that ends the wait.
-fn play_beside<R: Threads, P: Port<u64, WakerSlot> + Shows + Send + 'static>(
+fn play_beside<R: Threads, P: Port<u64> + Shows + Send + 'static>(
     rt: &R,
     alloc: Global,
     case: Case,
@@ -121,7 +121,7 @@ fn play_beside<R: Threads, P: Port<u64, WakerSlot> + Shows + Send + 'static>(
     };
     if found.is_some() {
         // This lets the thread end.
-        row.port.ask(Close);
+        made(row.port, Close);
     }
     let reply = thread.join(rt);
     let wanted = step(&mut row.alone, call_of(awaited), Silent);
@@ -144,8 +144,8 @@ fn play<R: Threads + Wait + RandomSource + AllocGlobal + Clone + Send + 'static>
     let task = MockTask::new(rt)?;
     let (locked, alone) = open_both(alloc, opening, usize::MAX, case.first)?;
     let port = Lock::new(rt.clone()?, alloc, locked)?;
-    let same = port.same().ok_or(AllocError)?;
-    let other = port.same().ok_or(AllocError)?;
+    let same = port.try_clone().ok_or(AllocError)?;
+    let other = port.try_clone().ok_or(AllocError)?;
     let mut row = Row {
         task: &task,
         port: &port,

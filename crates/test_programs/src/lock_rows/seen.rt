@@ -1,6 +1,7 @@
 //! What is seen of a lock, and of a channel that has no lock.
 use super::Part;
-use async_broadcast::{Lock, Port, WakerSlot};
+use super::asking::made;
+use async_broadcast::{Lock, Port};
 use bcast_core::{Count, EndNumber, Inner, Reply, Silent, Snapshot, Test};
 use std::alloc::{AllocError, Global};
 use std::sync::Wait;
@@ -17,7 +18,7 @@ impl<R: Wait + Clone> Shows for Lock<u64, R> {
 }
 
 /// What a port sees that is different on a channel without a lock. None: nothing.
-pub(super) fn differs<P: Port<u64, WakerSlot> + Shows>(
+pub(super) fn differs<P: Port<u64> + Shows>(
     alloc: Global,
     port: &P,
     alone: &Inner<u64, Silent>,
@@ -30,20 +31,20 @@ pub(super) fn differs<P: Port<u64, WakerSlot> + Shows>(
 }
 
 /// What a port replies to all accessors.
-fn accessors_of<P: Port<u64, WakerSlot>>(port: &P) -> [Reply<u64>; 12] {
+fn accessors_of<P: Port<u64>>(port: &P) -> [Reply<u64>; 12] {
     [
-        Reply::Overflow(port.ask(Test::Overflow)),
-        Reply::AwaitActive(port.ask(Test::AwaitActive)),
-        Reply::IsEmpty(port.ask(Test::IsEmpty)),
-        Reply::IsFull(port.ask(Test::IsFull)),
-        Reply::IsClosed(port.ask(Test::IsClosed)),
-        Reply::IsTerminated(port.ask(Test::IsTerminated)),
-        Reply::Capacity(port.ask(Count::Capacity)),
-        Reply::Len(port.ask(Count::Len)),
-        Reply::ReceiverCount(port.ask(Count::ReceiverCount)),
-        Reply::InactiveReceiverCount(port.ask(Count::InactiveReceiverCount)),
-        Reply::SenderCount(port.ask(Count::SenderCount)),
-        Reply::EndNumber(port.ask(EndNumber)),
+        Reply::Overflow(made(port, Test::Overflow)),
+        Reply::AwaitActive(made(port, Test::AwaitActive)),
+        Reply::IsEmpty(made(port, Test::IsEmpty)),
+        Reply::IsFull(made(port, Test::IsFull)),
+        Reply::IsClosed(made(port, Test::IsClosed)),
+        Reply::IsTerminated(made(port, Test::IsTerminated)),
+        Reply::Capacity(made(port, Count::Capacity)),
+        Reply::Len(made(port, Count::Len)),
+        Reply::ReceiverCount(made(port, Count::ReceiverCount)),
+        Reply::InactiveReceiverCount(made(port, Count::InactiveReceiverCount)),
+        Reply::SenderCount(made(port, Count::SenderCount)),
+        Reply::EndNumber(made(port, EndNumber)),
     ]
 }
 

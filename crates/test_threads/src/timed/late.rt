@@ -5,7 +5,7 @@ use crate::passing_on::{Counts, start};
 use crate::sleepers::{Row, Sleepers};
 use crate::steps::{Receiving, Sending, wait_for};
 use crate::timed::clock::{Dial, SetClock};
-use async_broadcast::{Lock, TimedPort, WakerSlot, broadcast};
+use async_broadcast::{Lock, TimedPort, broadcast};
 use bcast_core::{Inner, TryBroadcast};
 use std::alloc::Global;
 use std::process::Abort;
@@ -62,7 +62,7 @@ fn play<R, P>(
 ) -> Result<(), Fail>
 where
     R: Threads + Wait + Abort + Copy + Send + Drop + 'static,
-    P: TimedPort<u64, WakerSlot> + Send + 'static,
+    P: TimedPort<u64> + Send + 'static,
 {
     hands.limit = Duration::from_secs(LIMIT);
     hands.make_all(&rt, name, before);
@@ -104,14 +104,14 @@ fn a_wait_goes_on_to_its_limit(rt: HostRuntime) -> Result<(), Fail> {
 fn one_goes_on<R, P>(rt: R, alloc: Global, dial: &Dial, port: P, key: usize) -> Result<(), Fail>
 where
     R: Threads + Wait + Abort + Copy + Send + Drop + 'static,
-    P: TimedPort<u64, WakerSlot> + Send + 'static,
+    P: TimedPort<u64> + Send + 'static,
 {
     let counts = Arc::new(alloc, Counts::none())?;
     let limit = Some(Duration::from_secs(LIMIT));
     let threads = start(rt, alloc, &port, &[key, key], limit, &counts)?;
     wait_for(&rt, &dial.reads, BOTH_SLEEP, "both sleep");
     dial.seconds.store(LIMIT - 1, Ordering::SeqCst);
-    assert!(&rt; matches!(port.ask(TryBroadcast(7)), Ok(None)));
+    assert!(&rt; matches!(port.ask(&mut (), TryBroadcast(7)), Ok(None)));
     wait_for(&rt, &counts.received, 1, "one receives");
     // Each has read whether its time is over, and the other twice more, to sleep for a second.
     wait_for(&rt, &dial.reads, BOTH_SLEEP + 4, "the other sleeps again");
@@ -133,7 +133,7 @@ fn without_a_clock_no_call_waits(rt: HostRuntime) -> Result<(), Fail> {
     Ok(())
 }
 
-fn ends_at_once<P: TimedPort<u64, WakerSlot>>(
+fn ends_at_once<P: TimedPort<u64>>(
     rt: &impl Abort,
     (_sender, mut receiver): (Sending<P>, Receiving<P>),
 ) {

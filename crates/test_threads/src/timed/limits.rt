@@ -2,7 +2,7 @@
 use crate::answers::Answer;
 use crate::hands::{Change, Hands, Script, Step};
 use crate::steps::{Receiving, Sending};
-use async_broadcast::{RecvTimeoutError, SendTimeoutError, TimedPort, WakerSlot, broadcast};
+use async_broadcast::{RecvTimeoutError, SendTimeoutError, TimedPort, broadcast};
 use std::alloc::Global;
 use std::error::Error;
 use std::process::Abort;
@@ -14,7 +14,7 @@ use std::time::{Clock, Duration, Instant};
 const LIMITS: [u64; 2] = [0, 2];
 
 /// Each call must return its answer, and only if the time is over may it take as long as the limit.
-fn play<R: Abort + Clock, P: TimedPort<u64, WakerSlot>>(
+fn play<R: Abort + Clock, P: TimedPort<u64>>(
     rt: &R,
     alloc: Global,
     channel: (Sending<P>, Receiving<P>),

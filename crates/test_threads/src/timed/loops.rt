@@ -1,6 +1,6 @@
 //! A loop over a receiver, which blocks the thread while there is no message.
 use crate::steps::{Receiving, Sending};
-use async_broadcast::{Port, RecvError, WakerSlot, broadcast};
+use async_broadcast::{Port, RecvError, broadcast};
 use std::process::Abort;
 use std::sync::Wait;
 use std::test::Fail;
@@ -22,7 +22,7 @@ fn gets_each_message<R, P>(
 ) -> Result<(), Fail>
 where
     R: Threads + Wait + Abort + Copy + Send + Drop + 'static,
-    P: Port<u64, WakerSlot> + Send + 'static,
+    P: Port<u64> + Send + 'static,
 {
     let thread = thread::spawn(&rt, move || send_all(&rt, sender))?;
     receive_all(&rt, &mut receiver);
@@ -30,13 +30,13 @@ where
     Ok(())
 }
 
-fn send_all<P: Port<u64, WakerSlot>>(rt: &impl Abort, sender: Sending<P>) {
+fn send_all<P: Port<u64>>(rt: &impl Abort, sender: Sending<P>) {
     for msg in 0..MESSAGES {
         assert!(rt; sender.broadcast_blocking(msg).is_ok());
     }
 }
 
-fn receive_all<R: Abort + Wait, P: Port<u64, WakerSlot>>(rt: &R, receiver: &mut Receiving<P>) {
+fn receive_all<R: Abort + Wait, P: Port<u64>>(rt: &R, receiver: &mut Receiving<P>) {
     let mut next = 0u64;
     for received in receiver.iter(rt) {
         assert!(rt; matches!(received, Ok(Ok(msg)) if msg == next));
@@ -52,7 +52,7 @@ fn a_loop_says_what_was_missed(rt: HostRuntime) -> Result<(), Fail> {
     Ok(())
 }
 
-fn says_what_was_missed<R: Abort + Wait, P: Port<u64, WakerSlot>>(
+fn says_what_was_missed<R: Abort + Wait, P: Port<u64>>(
     rt: &R,
     (mut sender, mut receiver): (Sending<P>, Receiving<P>),
 ) {

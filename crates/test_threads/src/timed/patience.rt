@@ -1,7 +1,7 @@
 //! How long the calls of a thread wait.
 use crate::answers::{Answer, of_recv, of_recv_timeout, of_send, of_send_timeout};
 use crate::steps::{Receiving, Sending};
-use async_broadcast::{TimedPort, WakerSlot};
+use async_broadcast::KnowingTimedPort;
 use rand_core::utils::NextWord;
 use rand_pcg::Pcg32;
 use std::sync::Wait;
@@ -31,10 +31,10 @@ impl Patience {
     }
 
     /// Sends a message, as often as the time is over.
-    pub fn send<P: TimedPort<u64, WakerSlot>>(
+    pub fn send<P: KnowingTimedPort<u64, K>, K: Drop>(
         &mut self,
         rt: &impl Wait,
-        sender: &Sending<P>,
+        sender: &Sending<P, K>,
         msg: u64,
     ) -> Answer {
         for _ in rt.forever() {
@@ -50,10 +50,10 @@ impl Patience {
     }
 
     /// Receives, as often as the time is over.
-    pub fn receive<P: TimedPort<u64, WakerSlot>>(
+    pub fn receive<P: KnowingTimedPort<u64, K>, K: Drop>(
         &mut self,
         rt: &impl Wait,
-        receiver: &mut Receiving<P>,
+        receiver: &mut Receiving<P, K>,
     ) -> Answer {
         for _ in rt.forever() {
             let received = match self.limit() {

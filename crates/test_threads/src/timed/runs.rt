@@ -2,7 +2,7 @@
 use crate::answers::Answer;
 use crate::steps::{Receiving, Sending, wait_for};
 use crate::timed::patience::Patience;
-use async_broadcast::{TimedPort, WakerSlot, broadcast};
+use async_broadcast::{KnowingTimedPort, broadcast};
 use std::alloc::Global;
 use std::process::Abort;
 use std::sync::atomic::{AtomicU64, Ordering};
@@ -17,10 +17,10 @@ pub const RUNS: u64 = 1000;
 const MESSAGES: u64 = 8;
 
 /// Sends the messages from `first` on.
-fn send_all<R: Wait + Abort, P: TimedPort<u64, WakerSlot>>(
+fn send_all<R: Wait + Abort, P: KnowingTimedPort<u64, K>, K: Drop>(
     rt: &R,
     first: u64,
-    sender: Sending<P>,
+    sender: Sending<P, K>,
     mut patience: Patience,
     ended: &AtomicU64,
 ) {
@@ -37,9 +37,9 @@ fn send_all<R: Wait + Abort, P: TimedPort<u64, WakerSlot>>(
 
 /// Receives until the channel is closed. Each message must come once, in the order of its sender,
 /// or be counted as missed.
-fn receive_all<R: Wait + Abort, P: TimedPort<u64, WakerSlot>>(
+fn receive_all<R: Wait + Abort, P: KnowingTimedPort<u64, K>, K: Drop>(
     rt: &R,
-    mut receiver: Receiving<P>,
+    mut receiver: Receiving<P, K>,
     mut patience: Patience,
     ended: &AtomicU64,
 ) {
@@ -65,46 +65,49 @@ fn receive_all<R: Wait + Abort, P: TimedPort<u64, WakerSlot>>(
 }
 
 /// Starts a thread that receives.
-fn start_receiver<R, P>(
+fn start_receiver<R, P, K>(
     rt: R,
-    receiver: Receiving<P>,
+    receiver: Receiving<P, K>,
     patience: Patience,
     ended: &Arc<AtomicU64>,
 ) -> Result<JoinHandle<()>, Fail>
 where
     R: Threads + Wait + Abort + Copy + Send + Drop + 'static,
-    P: TimedPort<u64, WakerSlot> + Send + 'static,
+    P: KnowingTimedPort<u64, K> + Send + 'static,
+    K: Drop + Send + 'static,
 {
     let own = Arc::try_clone(ended)?;
     Ok(thread::spawn(&rt, move || receive_all(&rt, receiver, patience, &own))?)
 }
 
 /// Starts a thread that sends the messages from `first` on.
-fn start_sender<R, P>(
+fn start_sender<R, P, K>(
     rt: R,
     first: u64,
-    sender: Sending<P>,
+    sender: Sending<P, K>,
     patience: Patience,
     ended: &Arc<AtomicU64>,
 ) -> Result<JoinHandle<()>, Fail>
 where
     R: Threads + Wait + Abort + Copy + Send + Drop + 'static,
-    P: TimedPort<u64, WakerSlot> + Send + 'static,
+    P: KnowingTimedPort<u64, K> + Send + 'static,
+    K: Drop + Send + 'static,
 {
     let own = Arc::try_clone(ended)?;
     Ok(thread::spawn(&rt, move || send_all(&rt, first, sender, patience, &own))?)
 }
 
 /// Two threads send, and two receive. Of each two, one has random limits.
-pub fn run<R, P>(
+pub fn run<R, P, K>(
     rt: R,
     alloc: Global,
     number: u64,
-    (mut sender, receiver): (Sending<P>, Receiving<P>),
+    (mut sender, receiver): (Sending<P, K>, Receiving<P, K>),
 ) -> Result<(), Fail>
 where
     R: Threads + Wait + Abort + Copy + Send + Drop + 'static,
-    P: TimedPort<u64, WakerSlot> + Send + 'static,
+    P: KnowingTimedPort<u64, K> + Send + 'static,
+    K: Drop + Send + 'static,
 {
     sender.set_overflow(number % 2 == 1);
     let ended = Arc::new(alloc, AtomicU64::new(0))?;

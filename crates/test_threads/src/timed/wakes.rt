@@ -3,7 +3,7 @@ use crate::answers::Answer;
 use crate::hands::{Change, Hands, Script, Step};
 use crate::sleepers::{Row, wakes};
 use crate::steps::{Receiving, Sending};
-use async_broadcast::{TimedPort, WakerSlot, broadcast};
+use async_broadcast::{TimedPort, broadcast};
 use std::alloc::Global;
 use std::process::Abort;
 use std::sync::Wait;
@@ -35,7 +35,7 @@ fn play<R, P>(
 ) -> Result<(), Fail>
 where
     R: Threads + Wait + Abort + Copy + Send + Drop + 'static,
-    P: TimedPort<u64, WakerSlot> + Send + 'static,
+    P: TimedPort<u64> + Send + 'static,
 {
     let mut hands = Hands::both(alloc, channel)?;
     hands.limit = Duration::from_secs(limit);

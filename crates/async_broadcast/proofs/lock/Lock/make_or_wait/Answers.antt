@@ -1,0 +1,23 @@
+-- The reply to the last try, which was of the call that was given. Who learns of it knows the first
+-- try, too.
+use Rattle.std.proofs.Common.{refl, ◌∙◌}
+use Rattle.bcast_model.proofs.Answers.{possible}
+use Rattle.async_broadcast.proofs.lock.Lock.make_or_wait.Goals as goal
+
+pub returns-then-not-waits-clause-reply : goal.returns-then-not-waits-clause-reply
+returns-then-not-waits-clause-reply g c = possible refl c.make-answer.ensures
+
+pub again-call-requires-clause-reply : goal.again-call-requires-clause-reply
+again-call-requires-clause-reply g c =
+    rw c.of-made.ensures (possible {is_clone = g.T.Clone.is_clone} refl c.make-answer.ensures)
+
+pub returns-clause-reply : goal.returns-clause-reply
+returns-clause-reply g c =
+    let last = possible {is_clone = g.T.Clone.is_clone} refl c.make-answer-2.ensures in
+    rw (c.again-call.ensures ∙ c.of-made.ensures) at last
+
+pub returns-clause-learned : goal.returns-clause-learned
+returns-clause-learned g c =
+    g.met.J.CallJournal.learns_from_less _ _ _ _ _
+    (g.met.J.CallJournal.extends _ _ _ _ c.append.ensures.learned)
+    (rw c.of-made.ensures at c.append-2.ensures.learned)
