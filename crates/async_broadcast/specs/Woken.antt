@@ -3,6 +3,8 @@ use Rattle.std.specs.Prelude.{◌≡◌, ℕ, ◌+◌, ◌-◌, ◌%◌, ◌^◌
 use Rattle.bcast_model.specs.Words.{View, sends_are_ready}
 use Rattle.async_broadcast.specs.declared.lock.threads.Threads.{Threads}
 use Rattle.async_broadcast.specs.declared.lock.threads.Woken.{Woken}
+use Rattle.async_broadcast.specs.declared.lock.threads.WokenReceivers.{WokenReceivers}
+use Rattle.async_broadcast.specs.declared.lock.threads.WokenReceivers.TheVariants as receivers
 
 -- one more thread, as the lock counts
 abbrev pub one_more : ℕ → ℕ
@@ -17,12 +19,12 @@ abbrev pub HasNoThread : Threads → Type 0
 HasNoThread t = (t.senders ≡ 0) × (t.caught_up_receivers ≡ 0) × (t.due_receivers ≡ 0)
 
 -- what changes when a receiver that had read everything has something to receive
-abbrev pub news_of : {T : Type 0} → View T → ℕ × Bool
-news_of v = (v.end, v.control.closed)
+abbrev pub end_of : {T : Type 0} → View T → ℕ × Bool
+end_of v = (v.end, v.control.closed)
 
 -- threads that wait for a message and have nothing to receive know all that was sent
-abbrev pub KnowsNews : {T : Type 0} → View T → Threads → Type 0
-KnowsNews v t = 0 < t.caught_up_receivers → t.known ≡ news_of v
+abbrev pub KnowsEnd : {T : Type 0} → View T → Threads → Type 0
+KnowsEnd v t = 0 < t.caught_up_receivers → t.known ≡ end_of v
 
 -- if sends are ready and a thread waits to send, one was woken that hasn't tried yet
 abbrev pub HasWokenSender : {T : Type 0} → View T → Threads → Type 0
@@ -33,40 +35,73 @@ HasWokenSender v t =
 abbrev pub HasWokenReceiver : Threads → Type 0
 HasWokenReceiver t = 0 < t.due_receivers → t.is_receiver_woken ≡ true
 
--- a thread is newly marked as woken exactly if it is to be woken: one that waits to send, if sends
--- are ready and none is marked already
-abbrev pub ChoosesSender : {T : Type 0} → View T → Threads → Threads → Woken → Type 0
-ChoosesSender v old new woken =
-    (new.is_sender_woken ≡ (woken.sender || old.is_sender_woken))
-    × (woken.sender ≡ true
+-- a thread that waits to send is newly marked exactly if it is to be woken, and that only if sends
+-- are ready and none is marked
+abbrev pub ChoosesSender : {T : Type 0} → View T → Threads → Threads → Bool → Type 0
+ChoosesSender v old new is_woken =
+    (new ≡ record old { is_sender_woken = is_woken || old.is_sender_woken })
+    × (is_woken ≡ true
     → (0 < old.senders) × (old.is_sender_woken ≡ false) × (sends_are_ready v ≡ true))
 
--- and one that has something to receive, if none is marked already
-abbrev pub ChoosesReceiver : Threads → Threads → Woken → Type 0
-ChoosesReceiver old new woken =
-    (new.is_receiver_woken ≡ (woken.receiver || old.is_receiver_woken))
-    × (woken.receiver ≡ true → (0 < new.due_receivers) × (old.is_receiver_woken ≡ false))
+-- the threads that wait to send are as they were
+abbrev pub AreSenders : Threads → Threads → Type 0
+AreSenders old new =
+    (new.senders ≡ old.senders) × (new.is_sender_woken ≡ old.is_sender_woken)
 
 -- threads that wait for a message have something to receive, if there is more than they know
 abbrev pub MovesReceivers : {T : Type 0} → View T → Threads → Threads → Type 0
 MovesReceivers v old new =
-    (news_of v ≡ old.known
-    → (new.caught_up_receivers ≡ old.caught_up_receivers)
-    × (new.due_receivers ≡ old.due_receivers))
-    × ((news_of v ≡ old.known → ⊥)
-    → (new.caught_up_receivers ≡ 0)
-    × (new.due_receivers ≡ (old.due_receivers + old.caught_up_receivers) % 2 ^ 64))
+    (end_of v ≡ old.known → new ≡ record old { known = end_of v })
+    × ((end_of v ≡ old.known → ⊥)
+    → new ≡ record old {
+      known = end_of v;
+      caught_up_receivers = 0;
+      due_receivers = (old.due_receivers + old.caught_up_receivers) % 2 ^ 64;
+    })
 
--- a thread that waited for a message has tried again: it was counted among those that this names
-abbrev pub EndsWait : ℕ × Bool → Threads → Threads → Type 0
-EndsWait known old new =
-    (old.known ≡ known
+-- one that has something to receive is woken and marked if none is marked; all are woken, and
+-- counted no more, if the last to try had waited and found nothing
+abbrev pub ChoosesReceivers : Threads → Threads → WokenReceivers → Type 0
+ChoosesReceivers old new receivers.Nobody =
+    (new ≡ record old { is_misled = false })
+    × (0 < old.due_receivers → (old.is_misled ≡ false) × (old.is_receiver_woken ≡ true))
+ChoosesReceivers old new receivers.One =
+    (new ≡ record old { is_misled = false; is_receiver_woken = true })
+    × (0 < old.due_receivers) × (old.is_misled ≡ false) × (old.is_receiver_woken ≡ false)
+ChoosesReceivers old new receivers.All =
+    (new ≡ record old {
+      is_misled = false;
+      caught_up_receivers = 0;
+      due_receivers = 0;
+      rounds = one_more old.rounds;
+    })
+    × (0 < old.due_receivers) × (old.is_misled ≡ true)
+
+-- a sender is chosen, then receivers among those that have something to receive by now
+abbrev pub Chooses : {T : Type 0} → View T → Threads → Threads → Woken → Type 0
+Chooses v old new woken =
+    (marked moved : Threads) × ChoosesSender v old marked woken.sender
+    × MovesReceivers v marked moved × ChoosesReceivers moved new woken.receivers
+
+-- a thread that waited to send has tried again
+abbrev pub EndsWaitToSend : Threads → Threads → Type 0
+EndsWaitToSend old new =
+    new ≡ record old { senders = one_less old.senders; is_sender_woken = false }
+
+-- a thread that waited for a message has tried again: it was counted among those that know this
+-- much, unless a new round has begun since
+abbrev pub EndsWait : ℕ × Bool → ℕ → Bool → Threads → Threads → Type 0
+EndsWait known round is_empty old new =
+    ((old.rounds ≡ round → ⊥) → new ≡ old)
+    × (old.rounds ≡ round → old.known ≡ known
     → new ≡ record old {
       caught_up_receivers = one_less old.caught_up_receivers;
       is_receiver_woken = false;
+      is_misled = is_empty;
     })
-    × ((old.known ≡ known → ⊥)
+    × (old.rounds ≡ round → (old.known ≡ known → ⊥)
     → new ≡ record old {
       due_receivers = one_less old.due_receivers;
       is_receiver_woken = false;
+      is_misled = is_empty;
     })

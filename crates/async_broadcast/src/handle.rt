@@ -75,6 +75,7 @@ impl<T: Clone, P: KnowingPort<T, K>, H: Role<T>, A: Allocator + Copy, K: Drop> H
 > {
     /// Makes a receiver by this call, and adds the call to `known`. No call is made if there is no
     /// memory for the handle.
+    #[inline(always)]
     pub(crate) fn make_receiver(
         &self,
         known: &mut K,

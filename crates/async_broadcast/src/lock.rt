@@ -86,6 +86,8 @@ pub fn broadcast<T: Clone, R: Wait + Clone, A: Allocator + Copy>(
 ) -> Result<(LockSender<T, R, A>, LockReceiver<T, R, A>), AllocError>
     requires { 0 < cap }
 {
+    // A program that isn't proved stops here.
+    prove!(cap > 0);
     let (inner, key) = Inner::new(alloc, cap)?;
     let port = Lock::new(rt, alloc, inner)?;
     let other = port.try_clone().ok_or(AllocError)?;

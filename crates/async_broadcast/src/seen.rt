@@ -155,10 +155,9 @@ impl<T: Clone, P: KnowingPort<T, K>, A: Allocator + Copy, K: Drop> Receiver<T, P
         ensures kept { Keeps cx.old cx.new }
     {
         let Receiving { key, waker } = &mut self.role;
-        match self.port.poll(known, PollRecv(*key), waker, cx) {
-            Ok(answer) => answer,
-            Err(_) => Err(AllocError),
-        }
+        self.port
+            .poll(known, PollRecv(*key), waker, cx)
+            .unwrap_or(Err(AllocError))
     }
 
     /// Makes another active receiver as `clone` does, and adds the call to `known`.

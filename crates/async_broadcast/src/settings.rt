@@ -45,6 +45,8 @@ impl<T: Clone, P: Ask<T, K>, H: Role<T>, A: Allocator, K: Drop> Handle<T, P, H, 
         ensures asked { P.gave self.old.port (Call.SetCapacity new_cap) (Reply.SetCapacity result) }
         ensures same { self.new ≡ self.old }
     {
+        // A program that isn't proved stops here.
+        prove!(new_cap > 0);
         self.port.ask(&mut self.port.known(), SetCapacity(new_cap))
     }
 

@@ -3,7 +3,9 @@ use bcast_model::listener::Kind;
 use std::alloc::{Allocator, Global};
 
 /// The view of a channel between two calls, with a clone of each message that it keeps.
-#[derive(Drop)]
+///
+/// `{:?}` prints each field by its name, in this order.
+#[derive(Debug, Drop)]
 pub struct Snapshot<T, A: Allocator = Global> {
     /// The number of the first kept message, or of the next one if none is kept.
     pub front: u64,
@@ -36,7 +38,7 @@ pub struct Snapshot<T, A: Allocator = Global> {
 }
 
 /// The listeners that wait, in the order of registering.
-#[derive(Drop)]
+#[derive(Debug, Drop)]
 pub struct Waiting<I, A: Allocator = Global> {
     /// The id of each of them, from the front.
     pub ids: Vec<I, A>,

@@ -1,6 +1,9 @@
 //! What calls on handles returned, as values that print.
 use crate::seen::Seen;
-use async_broadcast::{HandleError, RecvError, SendError, TryRecvError, TrySendError};
+use async_broadcast::{
+    HandleError, RecvError, RecvTimeoutError, SendError, SendTimeoutError, TryRecvError,
+    TrySendError,
+};
 use std::alloc::AllocError;
 
 /// What a call returned.
@@ -18,9 +21,13 @@ pub enum Answer {
     AllInactive(usize),
     /// A send that may wait is refused.
     Refused(u64),
+    /// The time of a send is over.
+    NotInTime(u64),
     Message(u64),
     Overflowed(u64),
     Empty,
+    /// The time of a receive is over.
+    Timeout,
     /// The channel is closed, and nothing is left to receive.
     Ended,
     Pending,
@@ -76,6 +83,15 @@ impl Answer {
         }
     }
 
+    /// What `broadcast_timeout` returned.
+    pub fn of_timed_send(answer: Result<Option<u64>, SendTimeoutError<u64>>) -> Self {
+        match answer {
+            Ok(oldest) => Answer::accepted(oldest),
+            Err(SendTimeoutError::Refused(back)) => Answer::Refused(back),
+            Err(SendTimeoutError::Timeout(back)) => Answer::NotInTime(back),
+        }
+    }
+
     /// What `try_recv` returned.
     pub fn of_try_recv(answer: Result<Result<u64, TryRecvError>, AllocError>) -> Self {
         match answer {
@@ -83,6 +99,17 @@ impl Answer {
             Ok(Err(TryRecvError::Overflowed(n))) => Answer::Overflowed(n),
             Ok(Err(TryRecvError::Empty)) => Answer::Empty,
             Ok(Err(TryRecvError::Closed)) => Answer::Ended,
+            Err(_) => Answer::NoMemory,
+        }
+    }
+
+    /// What `recv_timeout` returned.
+    pub fn of_timed_recv(answer: Result<Result<u64, RecvTimeoutError>, AllocError>) -> Self {
+        match answer {
+            Ok(Ok(msg)) => Answer::Message(msg),
+            Ok(Err(RecvTimeoutError::Overflowed(n))) => Answer::Overflowed(n),
+            Ok(Err(RecvTimeoutError::Timeout)) => Answer::Timeout,
+            Ok(Err(RecvTimeoutError::Closed)) => Answer::Ended,
             Err(_) => Answer::NoMemory,
         }
     }

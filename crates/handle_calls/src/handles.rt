@@ -1,13 +1,13 @@
 //! The handles of one channel, each with its number.
 use crate::answer::Answer;
-use async_broadcast::{HandleError, InactiveReceiver, Port, Receiver, Sender};
+use async_broadcast::{HandleError, InactiveReceiver, Receiver, Sender, TimedPort};
 use bcast_text::input::Fault;
 use std::alloc::{Allocator, Global};
 
 /// The handles of one channel. Each kind is numbered in the order of making. The number of a handle
 /// that left is not given again.
 #[derive(Drop)]
-pub struct Handles<P: Port<u64>, A: Allocator> {
+pub struct Handles<P: TimedPort<u64>, A: Allocator> {
     pub senders: Vec<Option<Sender<u64, P, A>>>,
     pub receivers: Vec<Option<Receiver<u64, P, A>>>,
     pub inactive: Vec<Option<InactiveReceiver<u64, P, A>>>,
@@ -22,7 +22,7 @@ fn add<H: Drop>(list: &mut Vec<Option<H>>, made: H) -> Result<Answer, Fault> {
     }
 }
 
-impl<P: Port<u64>, A: Allocator + Copy> Handles<P, A> {
+impl<P: TimedPort<u64>, A: Allocator + Copy> Handles<P, A> {
     /// No handles yet.
     pub fn new(alloc: Global) -> Self {
         Handles {

@@ -1,6 +1,6 @@
 //! Futures that are held between lines: sends, and one receive.
 use crate::answer::Answer;
-use async_broadcast::{NoMemory, Port, Receiver, Recv, Send, Sender};
+use async_broadcast::{NoMemory, Receiver, Recv, Send, Sender, TimedPort};
 use bcast_text::input::Fault;
 use futures::task::Poll;
 use futures::test::MockTask;
@@ -8,19 +8,19 @@ use std::alloc::{AllocError, Allocator, Global};
 
 /// The handles that only make futures.
 #[derive(Drop)]
-pub struct Makers<P: Port<u64>, A: Allocator> {
+pub struct Makers<P: TimedPort<u64>, A: Allocator> {
     pub sender: Option<Sender<u64, P, A>>,
     pub receiver: Option<Receiver<u64, P, A>>,
 }
 
 #[derive(Drop)]
-enum HeldSend<'a, P: Port<u64>, A: Allocator> {
+enum HeldSend<'a, P: TimedPort<u64>, A: Allocator> {
     Plain(Send<'a, u64, P, A>),
     Boxed(Box<Send<'a, u64, P, A>, A>),
 }
 
 #[derive(Drop)]
-enum HeldRecv<'a, P: Port<u64>, A: Allocator> {
+enum HeldRecv<'a, P: TimedPort<u64>, A: Allocator> {
     Plain(Recv<'a, u64, P, A>),
     Boxed(Box<Recv<'a, u64, P, A>, A>),
 }
@@ -28,7 +28,7 @@ enum HeldRecv<'a, P: Port<u64>, A: Allocator> {
 /// The futures of one channel. Sends are numbered in the order of making. The number of a future
 /// that was dropped is not given again.
 #[derive(Drop)]
-pub struct Held<'a, P: Port<u64>, A: Allocator> {
+pub struct Held<'a, P: TimedPort<u64>, A: Allocator> {
     sender: Option<&'a Sender<u64, P, A>>,
     // Borrowed by the receive, once.
     receiver: Option<&'a mut Receiver<u64, P, A>>,
@@ -61,7 +61,7 @@ pub fn of_recv_poll(polled: RecvPoll) -> Answer {
     }
 }
 
-impl<'a, P: Port<u64>, A: Allocator + Copy> Held<'a, P, A> {
+impl<'a, P: TimedPort<u64>, A: Allocator + Copy> Held<'a, P, A> {
     /// No futures yet. They are made by these handles.
     pub fn new(alloc: Global, makers: &'a mut Makers<P, A>) -> Self {
         Held {

@@ -2,11 +2,11 @@
 use crate::answer::Answer;
 use crate::handles::Handles;
 use crate::settings::{by_handle, setting_of};
-use async_broadcast::Port;
+use async_broadcast::TimedPort;
 use bcast_text::input::Fault;
 use std::alloc::Allocator;
 
-impl<P: Port<u64>, A: Allocator + Copy> Handles<P, A> {
+impl<P: TimedPort<u64>, A: Allocator + Copy> Handles<P, A> {
     /// Makes a call on the inactive receiver of this number.
     pub fn by_inactive(
         &mut self,

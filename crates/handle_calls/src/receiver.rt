@@ -3,15 +3,16 @@ use crate::answer::Answer;
 use crate::handles::Handles;
 use crate::held::of_recv_poll;
 use crate::settings::{by_handle, setting_of};
-use async_broadcast::{Port, Receiver};
+use async_broadcast::{Receiver, TimedPort};
 use bcast_text::input::Fault;
 use futures::StreamExt;
 use futures::task::Poll;
 use futures::test::MockTask;
 use std::alloc::Allocator;
+use std::time::Duration;
 
 /// Makes a call on a receiver: one of its own, or one that every handle has.
-fn answer<P: Port<u64>, A: Allocator + Copy>(
+fn answer<P: TimedPort<u64>, A: Allocator + Copy>(
     receiver: &mut Receiver<u64, P, A>,
     method: &str,
     argument: Option<u64>,
@@ -19,19 +20,23 @@ fn answer<P: Port<u64>, A: Allocator + Copy>(
     match (method, argument) {
         ("try_recv", None) => Some(Answer::of_try_recv(receiver.try_recv())),
         ("recv_blocking", None) => Some(received(receiver)),
+        ("recv_timeout", Some(nanoseconds)) => {
+            let received = receiver.recv_timeout(Duration::from_nanos(nanoseconds));
+            Some(Answer::of_timed_recv(received))
+        }
         ("is_terminated", None) => Some(Answer::Is(receiver.is_terminated())),
         _ => Some(by_handle(receiver, setting_of(method, argument)?)),
     }
 }
 
-fn received<P: Port<u64>, A: Allocator + Copy>(receiver: &mut Receiver<u64, P, A>) -> Answer {
+fn received<P: TimedPort<u64>, A: Allocator + Copy>(receiver: &mut Receiver<u64, P, A>) -> Answer {
     match receiver.recv_blocking() {
         Ok(answer) => Answer::of_recv(answer),
         Err(_) => Answer::NoMemory,
     }
 }
 
-fn poll_recv<P: Port<u64>, A: Allocator + Copy>(
+fn poll_recv<P: TimedPort<u64>, A: Allocator + Copy>(
     task: &MockTask,
     receiver: &mut Receiver<u64, P, A>,
 ) -> Answer {
@@ -43,7 +48,7 @@ fn poll_recv<P: Port<u64>, A: Allocator + Copy>(
     }
 }
 
-fn poll_next<P: Port<u64>, A: Allocator + Copy>(
+fn poll_next<P: TimedPort<u64>, A: Allocator + Copy>(
     task: &MockTask,
     receiver: &mut Receiver<u64, P, A>,
 ) -> Answer {
@@ -56,14 +61,14 @@ fn poll_next<P: Port<u64>, A: Allocator + Copy>(
 }
 
 // Makes a future, polls it once and drops it.
-fn poll_future<P: Port<u64>, A: Allocator + Copy>(
+fn poll_future<P: TimedPort<u64>, A: Allocator + Copy>(
     task: &MockTask,
     receiver: &mut Receiver<u64, P, A>,
 ) -> Answer {
     of_recv_poll(task.poll(&mut receiver.recv_direct()))
 }
 
-impl<P: Port<u64>, A: Allocator + Copy> Handles<P, A> {
+impl<P: TimedPort<u64>, A: Allocator + Copy> Handles<P, A> {
     /// Makes a call on the receiver of this number.
     pub fn by_receiver(
         &mut self,

@@ -1,13 +1,17 @@
 //! Ports that record the calls made through them, and reply as a script sets.
 ghost use Rattle.bcast_core.specs.Kinds.{IsOfKind};
 
-use async_broadcast::{Ask, Call, KnowingPort, RecvError, Reply, SendError, TaskWaker, Wake};
+use async_broadcast::{
+    Ask, Call, KnowingPort, KnowingTimedPort, RecvError, RecvTimeoutError, Reply, SendError,
+    SendTimeoutError, TaskWaker, Wake,
+};
 use bcast_core::{AtOnce, Notice, Polls, RepliesTo};
 use futures::task::Context;
 use replies::{Outcome, answered, reply_to, waited};
 use std::alloc::{AllocError, Allocator, Global};
 use std::cell::Cell;
 use std::rc::Rc;
+use std::time::Duration;
 
 mod replies;
 
@@ -182,5 +186,41 @@ impl<A: Allocator + Copy> KnowingPort<u64, ()> for RecordingPort<A> {
             state,
             alloc: self.alloc,
         })
+    }
+}
+
+// A wait that the port replies is one whose time is over.
+impl<A: Allocator + Copy> KnowingTimedPort<u64, ()> for RecordingPort<A> {
+    fn send_within(
+        &self,
+        known: &mut (),
+        msg: u64,
+        _limit: Duration,
+    ) -> Result<Option<u64>, SendTimeoutError<u64>> {
+        if self.state.outcome.get() == Outcome::Wait {
+            self.state.record(&Call::AttemptSend(msg));
+            return Err(SendTimeoutError::Timeout(msg));
+        }
+        match self.send_waiting(known, msg) {
+            Ok(oldest) => Ok(oldest),
+            Err(SendError(back)) => Err(SendTimeoutError::Refused(back)),
+        }
+    }
+
+    fn receive_within(
+        &self,
+        known: &mut (),
+        key: usize,
+        _limit: Duration,
+    ) -> Result<Result<u64, RecvTimeoutError>, AllocError> {
+        if self.state.outcome.get() == Outcome::Wait {
+            self.state.record(&Call::TryRecv(key));
+            return Ok(Err(RecvTimeoutError::Timeout));
+        }
+        match self.receive_waiting(known, key)? {
+            Ok(msg) => Ok(Ok(msg)),
+            Err(RecvError::Overflowed(n)) => Ok(Err(RecvTimeoutError::Overflowed(n))),
+            Err(RecvError::Closed) => Ok(Err(RecvTimeoutError::Closed)),
+        }
     }
 }

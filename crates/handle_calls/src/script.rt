@@ -3,7 +3,7 @@ use crate::held::{Held, Makers};
 use crate::line::{Capacity, Futures, LONGEST, Opening, read_opening, read_request};
 use crate::recording::Recorder;
 use crate::session::{ChannelPorts, Ports, Session, tasks_of};
-use async_broadcast::{InactiveReceiver, Port, Receiver, Sender, broadcast};
+use async_broadcast::{InactiveReceiver, Receiver, Sender, TimedPort, broadcast};
 use bcast_text::ending::Ending;
 use bcast_text::input::Fault;
 use bcast_text::lines::{Found, Lines};
@@ -14,6 +14,7 @@ use std::io::{BufWriter, Read, Write};
 use std::random::RandomSource;
 use std::str;
 use std::sync::Wait;
+use std::time::Clock;
 
 /// The lines of a script, counted.
 #[derive(Drop)]
@@ -45,7 +46,7 @@ impl<R: Read + Drop> Script<R> {
 }
 
 /// Plays lines up to the next opening. None: up to the end.
-fn play_lines<S: Ports, P: Port<u64>, A: Allocator + Copy, R: Read + Drop, W: Write>(
+fn play_lines<S: Ports, P: TimedPort<u64>, A: Allocator + Copy, R: Read + Drop, W: Write>(
     ports: &S,
     session: &mut Session<P, A>,
     held: &mut Held<'_, P, A>,
@@ -73,7 +74,7 @@ fn play_lines<S: Ports, P: Port<u64>, A: Allocator + Copy, R: Read + Drop, W: Wr
 }
 
 /// Plays the lines of a channel.
-fn play_channel<S: Wait + RandomSource + AllocGlobal, R: Read + Drop, W: Write>(
+fn play_channel<S: Wait + Clock + RandomSource + AllocGlobal, R: Read + Drop, W: Write>(
     rt: &S,
     alloc: Global,
     (capacity, futures): (Capacity, Futures),
@@ -86,7 +87,7 @@ fn play_channel<S: Wait + RandomSource + AllocGlobal, R: Read + Drop, W: Write>(
 }
 
 /// Plays the lines of a sender and a receiver.
-fn play_handles<P: Port<u64>, R: Read + Drop, W: Write>(
+fn play_handles<P: TimedPort<u64>, R: Read + Drop, W: Write>(
     alloc: Global,
     tasks: Vec<MockTask>,
     futures: Futures,
@@ -136,7 +137,7 @@ fn play_recorded<A: Allocator + Copy, R: Read + Drop, W: Write>(
 }
 
 /// Plays the lines up to the next opening.
-fn play_opening<S: Wait + RandomSource + AllocGlobal, R: Read + Drop, W: Write>(
+fn play_opening<S: Wait + Clock + RandomSource + AllocGlobal, R: Read + Drop, W: Write>(
     rt: &S,
     alloc: Global,
     opening: Opening,
@@ -177,7 +178,7 @@ fn first_opening<R: Read + Drop, W: Write>(
 }
 
 /// Plays all lines.
-fn play_script<S: Wait + RandomSource + AllocGlobal, R: Read + Drop, W: Write>(
+fn play_script<S: Wait + Clock + RandomSource + AllocGlobal, R: Read + Drop, W: Write>(
     rt: &S,
     alloc: Global,
     script: &mut Script<R>,
@@ -194,7 +195,7 @@ fn play_script<S: Wait + RandomSource + AllocGlobal, R: Read + Drop, W: Write>(
 }
 
 /// Plays the script `input`, and writes each line with what its call returned.
-pub fn play<S: Wait + RandomSource + AllocGlobal, R: Read + Drop, W: Write + Drop>(
+pub fn play<S: Wait + Clock + RandomSource + AllocGlobal, R: Read + Drop, W: Write + Drop>(
     rt: &S,
     alloc: Global,
     input: R,

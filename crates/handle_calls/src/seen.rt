@@ -1,7 +1,7 @@
 //! What all handles see of their channel.
 use crate::answer::Answer;
 use crate::handles::Handles;
-use async_broadcast::{Handle, Port, Role};
+use async_broadcast::{Handle, Role, TimedPort};
 use std::alloc::Allocator;
 
 /// What the ten calls that each handle has and that change nothing return.
@@ -20,7 +20,9 @@ pub struct Seen {
 }
 
 impl Seen {
-    fn by<P: Port<u64>, K: Role<u64>, A: Allocator + Copy>(handle: &Handle<u64, P, K, A>) -> Self {
+    fn by<P: TimedPort<u64>, K: Role<u64>, A: Allocator + Copy>(
+        handle: &Handle<u64, P, K, A>,
+    ) -> Self {
         Seen {
             capacity: handle.capacity(),
             len: handle.len(),
@@ -51,7 +53,7 @@ impl Agreed {
     }
 }
 
-impl<P: Port<u64>, A: Allocator + Copy> Handles<P, A> {
+impl<P: TimedPort<u64>, A: Allocator + Copy> Handles<P, A> {
     /// What each handle sees of the channel, or that they don't all see the same.
     pub fn seen(&self) -> Answer {
         let mut agreed = Agreed(Answer::Done);

@@ -2,13 +2,14 @@
 use crate::answer::Answer;
 use crate::handles::Handles;
 use crate::settings::{by_handle, setting_of};
-use async_broadcast::{Port, Sender};
+use async_broadcast::{Sender, TimedPort};
 use bcast_text::input::Fault;
 use bcast_text::number::numbers;
 use std::alloc::Allocator;
+use std::time::Duration;
 
 /// Sends, or makes a call that every handle has.
-fn answer<P: Port<u64>, A: Allocator + Copy>(
+fn answer<P: TimedPort<u64>, A: Allocator + Copy>(
     sender: &mut Sender<u64, P, A>,
     method: &str,
     argument: Option<u64>,
@@ -16,11 +17,15 @@ fn answer<P: Port<u64>, A: Allocator + Copy>(
     match (method, argument) {
         ("try_broadcast", Some(msg)) => Some(Answer::of_try_send(sender.try_broadcast(msg))),
         ("broadcast_blocking", Some(msg)) => Some(Answer::of_send(sender.broadcast_blocking(msg))),
+        ("broadcast_timeout", Some(msg)) => {
+            let sent = sender.broadcast_timeout(msg, Duration::ZERO);
+            Some(Answer::of_timed_send(sent))
+        }
         _ => Some(by_handle(sender, setting_of(method, argument)?)),
     }
 }
 
-impl<P: Port<u64>, A: Allocator + Copy> Handles<P, A> {
+impl<P: TimedPort<u64>, A: Allocator + Copy> Handles<P, A> {
     /// Makes a call on the sender of this number.
     pub fn by_sender(
         &mut self,

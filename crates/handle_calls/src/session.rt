@@ -4,7 +4,7 @@ use crate::handles::Handles;
 use crate::held::Held;
 use crate::line::{Request, Subject};
 use crate::recording::Recorder;
-use async_broadcast::Port;
+use async_broadcast::TimedPort;
 use bcast_text::input::Fault;
 use futures::test::MockTask;
 use std::alloc::{AllocGlobal, Allocator, Global};
@@ -47,12 +47,12 @@ impl Ports for Recorder {
 
 /// The handles of one channel, and the tasks that poll.
 #[derive(Drop)]
-pub struct Session<P: Port<u64>, A: Allocator> {
+pub struct Session<P: TimedPort<u64>, A: Allocator> {
     pub tasks: Vec<MockTask>,
     pub handles: Handles<P, A>,
 }
 
-impl<P: Port<u64>, A: Allocator + Copy> Session<P, A> {
+impl<P: TimedPort<u64>, A: Allocator + Copy> Session<P, A> {
     /// No handles yet, and the tasks.
     pub fn new(alloc: Global, tasks: Vec<MockTask>) -> Self {
         Session {

@@ -1,7 +1,7 @@
 //! What every handle returns of its channel's settings and sets there.
 use crate::answer::Answer;
 use crate::line::Capacity;
-use async_broadcast::{Handle, Port, Role};
+use async_broadcast::{Handle, Role, TimedPort};
 use std::alloc::{AllocError, Allocator};
 
 /// A call that every handle has.
@@ -65,7 +65,7 @@ fn of_set(answer: Result<(), AllocError>) -> Answer {
 }
 
 /// Makes the call by a handle.
-pub fn by_handle<P: Port<u64>, K: Role<u64>, A: Allocator + Copy>(
+pub fn by_handle<P: TimedPort<u64>, K: Role<u64>, A: Allocator + Copy>(
     handle: &mut Handle<u64, P, K, A>,
     setting: Setting,
 ) -> Answer {

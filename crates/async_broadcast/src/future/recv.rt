@@ -123,10 +123,9 @@ impl<T: Clone, P: Ask<T, K>, A: Allocator + Copy, K: Drop> Receiver<T, P, A, K> 
     {
         let Receiving { key, waker } = &mut self.role;
         let known = &mut self.port.known();
-        match self.port.poll(known, PollRecv(*key), waker, cx) {
-            Ok(answer) => answer,
-            Err(_) => Err(AllocError),
-        }
+        self.port
+            .poll(known, PollRecv(*key), waker, cx)
+            .unwrap_or(Err(AllocError))
     }
 }
 
@@ -181,14 +180,14 @@ impl<T: Clone, P: Ask<T, K>, A: Allocator + Copy, K: Drop> Future for Recv<'_, T
         let receiver = &mut *self.receiver;
         let Handle { port, role, .. } = receiver;
         let Receiving { key, waker } = role;
-        match port.poll(&mut port.known(), PollFuture(*key), waker, cx) {
-            Ok(Ok(Poll::Ready(answer))) => {
+        let polled = port.poll(&mut port.known(), PollFuture(*key), waker, cx);
+        match polled.unwrap_or(Err(AllocError)) {
+            Ok(Poll::Ready(answer)) => {
                 self.is_answered = true;
                 Poll::Ready(Ok(answer))
             }
-            Ok(Ok(Poll::Pending)) => Poll::Pending,
-            Ok(Err(error)) => Poll::Ready(Err(error)),
-            Err(_) => Poll::Ready(Err(AllocError)),
+            Ok(Poll::Pending) => Poll::Pending,
+            Err(error) => Poll::Ready(Err(error)),
         }
     }
 }

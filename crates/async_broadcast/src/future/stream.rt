@@ -44,12 +44,12 @@ impl<T: Clone, P: Ask<T, K>, A: Allocator + Copy, K: Drop> Stream for Receiver<T
     {
         let Receiving { key, waker } = &mut self.role;
         let known = &mut self.port.known();
-        match self.port.poll(known, PollNext(*key), waker, cx) {
-            Ok(Ok(Poll::Ready(Some(next)))) => Poll::Ready(Some(Ok(next.0))),
-            Ok(Ok(Poll::Ready(None))) => Poll::Ready(None),
-            Ok(Ok(Poll::Pending)) => Poll::Pending,
-            Ok(Err(error)) => Poll::Ready(Some(Err(error))),
-            Err(_) => Poll::Ready(Some(Err(AllocError))),
+        let polled = self.port.poll(known, PollNext(*key), waker, cx);
+        match polled.unwrap_or(Err(AllocError)) {
+            Ok(Poll::Ready(Some(next))) => Poll::Ready(Some(Ok(next.0))),
+            Ok(Poll::Ready(None)) => Poll::Ready(None),
+            Ok(Poll::Pending) => Poll::Pending,
+            Err(error) => Poll::Ready(Some(Err(error))),
         }
     }
 }

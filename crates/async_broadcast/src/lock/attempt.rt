@@ -1,20 +1,20 @@
 //! What a thread tries again until it is answered, and how it is counted while it waits.
-ghost use Rattle.std.specs.Prelude.{◌≡◌, ⊤, true, false, not};
+ghost use Rattle.std.specs.Prelude.{◌≡◌, Bool, ⊤, true, false, not};
 ghost use Rattle.bcast_model.specs.Words.{IsPossible};
+ghost use Rattle.async_broadcast.specs.Ports.{is_answer};
+ghost use Rattle.async_broadcast.specs.Woken.{EndsWait, EndsWaitToSend};
 
 use super::channel::Channel;
 use super::threads::{Threads, WaitingToReceive, WaitingToSend};
 use crate::journal::CallJournal;
 use crate::wake::Wake;
-use bcast_core::{AtOnce, AttemptSend, Inner, SendPoll, TryRecv, TryRecvError};
+use bcast_core::{AtOnce, AttemptSend, Inner, Reply, SendPoll, TryRecv, TryRecvError};
 use std::alloc::{AllocError, Allocator};
 use std::snapshot::Snapshot;
 use std::sync::Condvar;
 
 /// A call that is made again and again until it needn't wait.
 pub(super) trait Attempt<T: Clone, C: AtOnce<T>> {
-    ghost use Rattle.async_broadcast.specs.Ports.{is_answer};
-
     /// A thread that is counted as waiting.
     type Waiting;
 
@@ -46,8 +46,8 @@ pub(super) trait Attempt<T: Clone, C: AtOnce<T>> {
         inner: &Inner<T, Wake, A>,
     ) -> Self::Waiting;
 
-    /// Counts a thread no more that has waited and tried again.
-    fn end(&self, threads: &mut Threads, waiting: Self::Waiting);
+    /// Counts a thread no more that has waited and tried again, with this answer.
+    fn end(&self, threads: &mut Threads, waiting: Self::Waiting, answer: &C::Answer);
 }
 
 /// Sends a message. A thread that must wait gets it back.
@@ -90,7 +90,9 @@ impl<T: Clone> Attempt<T, AttemptSend<T>> for Sends {
         threads.begin_to_send()
     }
 
-    fn end(&self, threads: &mut Threads, waiting: WaitingToSend) {
+    fn end(&self, threads: &mut Threads, waiting: WaitingToSend, _answer: &SendPoll<T>)
+        ensures { EndsWaitToSend threads.old threads.new }
+    {
         threads.end_waiting_to_send(waiting);
     }
 }
@@ -127,7 +129,16 @@ impl<T: Clone> Attempt<T, TryRecv> for Receives {
         threads.begin_to_receive(inner)
     }
 
-    fn end(&self, threads: &mut Threads, waiting: WaitingToReceive) {
-        threads.end_waiting_to_receive(waiting);
+    fn end(
+        &self,
+        threads: &mut Threads,
+        waiting: WaitingToReceive,
+        answer: &Result<Result<T, TryRecvError>, AllocError>,
+    )
+        ensures { (is_empty : Bool) × (is_answer (Reply.TryRecv answer.now) ≡ not is_empty)
+            × EndsWait waiting.known waiting.round is_empty threads.old threads.new }
+    {
+        let is_empty = <Self as Attempt<T, TryRecv>>::must_wait(self, answer);
+        threads.end_waiting_to_receive(waiting, is_empty);
     }
 }

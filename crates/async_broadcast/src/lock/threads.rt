@@ -1,9 +1,10 @@
 //! The threads that wait for the channel, and which of them to wake.
 ghost use Rattle.std.specs.Prelude.{◌≡◌, true, false, IfSome, IfNone};
-ghost use Rattle.async_broadcast.specs.Woken.{HasNoThread, KnowsNews};
+ghost use Rattle.async_broadcast.specs.Woken.{HasNoThread, KnowsEnd};
 ghost use Rattle.async_broadcast.specs.Woken.{HasWokenSender, HasWokenReceiver};
-ghost use Rattle.async_broadcast.specs.Woken.{ChoosesSender, ChoosesReceiver, MovesReceivers};
-ghost use Rattle.async_broadcast.specs.Woken.{EndsWait, news_of, one_more, one_less};
+ghost use Rattle.async_broadcast.specs.Woken.{AreSenders, Chooses, ChoosesSender};
+ghost use Rattle.async_broadcast.specs.Woken.{ChoosesReceivers, MovesReceivers};
+ghost use Rattle.async_broadcast.specs.Woken.{EndsWait, EndsWaitToSend, end_of, one_more};
 
 use crate::wake::Wake;
 use bcast_core::Inner;
@@ -15,6 +16,10 @@ use std::sync::Condvar;
 /// A call wakes at most one of each kind, and none while one is marked as woken, so that few
 /// threads want the lock at once. A thread that has tried, also one whose time is over, takes the
 /// mark away, and wakes the next.
+///
+/// A condition variable may wake any of its threads, so also one that has nothing to receive,
+/// while one sleeps that has. Then a new round begins: all that wait for a message are woken, and
+/// none is counted any more. Who finds nothing waits again, and is counted in the new round.
 #[derive(Drop)]
 pub(super) struct Threads {
     // How many threads wait to send, and whether one of them was woken and hasn't tried yet.
@@ -23,29 +28,46 @@ pub(super) struct Threads {
     // How many threads wait for a message: those that have nothing to receive, and those that have.
     caught_up_receivers: u64,
     due_receivers: u64,
-    // What those that have nothing to receive know (`news`).
+    // What those that have nothing to receive know (`end`).
     known: (u64, bool),
-    // Whether one of the others was woken and hasn't tried yet.
+    // Whether one that has something to receive was woken and hasn't tried yet.
     is_receiver_woken: bool,
+    // Whether the thread that tried last had waited for a message, and found none.
+    is_misled: bool,
+    // How often all that wait for a message were woken.
+    rounds: u64,
 }
 
-/// Which threads to wake: one that waits to send, one that waits for a message. It can't be
-/// dropped, so they have to be woken.
+/// Which threads to wake. It can't be dropped, so they have to be woken.
 pub(super) struct Woken {
+    // Whether to wake one that waits to send.
     sender: bool,
-    receiver: bool,
+    receivers: WokenReceivers,
+}
+
+/// How many of the threads to wake that wait for a message.
+#[derive(Clone, Copy, PartialEq)]
+pub(super) enum WokenReceivers {
+    Nobody,
+    One,
+    All,
 }
 
 impl Woken {
     /// Wakes them, by the condition variables that those wait on. Best called once the lock is
     /// free.
     pub(super) fn wake(self, senders: &Condvar, receivers: &Condvar) {
-        let Woken { sender, receiver } = self;
+        let Woken {
+            sender,
+            receivers: woken,
+        } = self;
         if sender {
             senders.notify_one();
         }
-        if receiver {
-            receivers.notify_one();
+        match woken {
+            WokenReceivers::Nobody => {}
+            WokenReceivers::One => receivers.notify_one(),
+            WokenReceivers::All => receivers.notify_all(),
         }
     }
 }
@@ -56,9 +78,10 @@ impl Woken {
 pub(super) struct WaitingToSend(());
 
 /// A thread that is counted as one that waits for a message, with what it knew when it began
-/// (`news`). It has to be given to `end_waiting_to_receive`.
+/// (`end`), and in which round. It has to be given to `end_waiting_to_receive`.
 pub(super) struct WaitingToReceive {
     known: (u64, bool),
+    round: u64,
 }
 
 impl Threads {
@@ -75,6 +98,8 @@ impl Threads {
             due_receivers: 0,
             known: (0, false),
             is_receiver_woken: false,
+            is_misled: false,
+            rounds: 0,
         }
     }
 
@@ -86,15 +111,12 @@ impl Threads {
         &mut self,
         inner: &Inner<T, Wake, A>,
     ) -> Option<Woken>
-        ensures knows { KnowsNews inner.now self.new }
+        ensures knows { KnowsEnd inner.now self.new }
         ensures sends { HasWokenSender inner.now self.new }
         ensures receives { HasWokenReceiver self.new }
 
         ensures nobody { IfNone result (self.new ≡ self.old) }
-        ensures sender { IfSome result (ChoosesSender inner.now self.old self.new) }
-        ensures receiver { IfSome result (ChoosesReceiver self.old self.new) }
-        ensures moved { MovesReceivers inner.now self.old self.new }
-        ensures senders { self.new.senders ≡ self.old.senders }
+        ensures chosen { IfSome result (Chooses inner.now self.old self.new) }
     {
         // One test in place of three.
         if (self.senders | self.caught_up_receivers | self.due_receivers) == 0 {
@@ -106,25 +128,62 @@ impl Threads {
     // In a function of its own, so that a call while no thread waits costs one test.
     #[inline(never)]
     fn choose_among<T: Clone, A: Allocator + Copy>(&mut self, inner: &Inner<T, Wake, A>) -> Woken
-        ensures knows { KnowsNews inner.now self.new }
+        ensures knows { KnowsEnd inner.now self.new }
         ensures sends { HasWokenSender inner.now self.new }
         ensures receives { HasWokenReceiver self.new }
-        ensures sender { ChoosesSender inner.now self.old self.new result }
-        ensures receiver { ChoosesReceiver self.old self.new result }
-        ensures moved { MovesReceivers inner.now self.old self.new }
-        ensures senders { self.new.senders ≡ self.old.senders }
+        ensures chosen { Chooses inner.now self.old self.new result }
     {
-        let news = news(inner);
-        if news != self.known {
-            self.known = news;
+        let sender = self.choose_sender(inner);
+        self.move_receivers(inner);
+        let receivers = self.choose_receivers();
+        Woken { sender, receivers }
+    }
+
+    // Whether to wake a thread that waits to send.
+    fn choose_sender<T: Clone, A: Allocator + Copy>(&mut self, inner: &Inner<T, Wake, A>) -> bool
+        ensures chosen { ChoosesSender inner.now self.old self.new result }
+        ensures sends { HasWokenSender inner.now self.new }
+    {
+        let is_woken = self.senders > 0 && !self.is_sender_woken && inner.sends_are_ready();
+        self.is_sender_woken |= is_woken;
+        is_woken
+    }
+
+    // Counts the threads that wait for a message among those that have something to receive, if
+    // there is more than they know.
+    fn move_receivers<T: Clone, A: Allocator + Copy>(&mut self, inner: &Inner<T, Wake, A>)
+        ensures moved { MovesReceivers inner.now self.old self.new }
+        ensures senders { AreSenders self.old self.new }
+    {
+        let end = end(inner);
+        if end != self.known {
             self.due_receivers = self.due_receivers.wrapping_add(self.caught_up_receivers);
             self.caught_up_receivers = 0;
         }
-        let receiver = self.due_receivers > 0 && !self.is_receiver_woken;
-        self.is_receiver_woken |= receiver;
-        let sender = self.senders > 0 && !self.is_sender_woken && inner.sends_are_ready();
-        self.is_sender_woken |= sender;
-        Woken { sender, receiver }
+        self.known = end;
+    }
+
+    // Which of the threads to wake that wait for a message.
+    fn choose_receivers(&mut self) -> WokenReceivers
+        ensures chosen { ChoosesReceivers self.old self.new result }
+        ensures senders { AreSenders self.old self.new }
+    {
+        let is_misled = self.is_misled;
+        self.is_misled = false;
+        if self.due_receivers == 0 {
+            return WokenReceivers::Nobody;
+        }
+        if is_misled {
+            self.caught_up_receivers = 0;
+            self.due_receivers = 0;
+            self.rounds = self.rounds.wrapping_add(1);
+            return WokenReceivers::All;
+        }
+        if self.is_receiver_woken {
+            return WokenReceivers::Nobody;
+        }
+        self.is_receiver_woken = true;
+        WokenReceivers::One
     }
 
     /// A thread is about to wait to send.
@@ -137,10 +196,7 @@ impl Threads {
 
     /// A thread that waited to send has tried again.
     pub(super) fn end_waiting_to_send(&mut self, waiting: WaitingToSend)
-        ensures { self.new ≡ record self.old {
-          senders = one_less self.old.senders;
-          is_sender_woken = false;
-        } }
+        ensures { EndsWaitToSend self.old self.new }
     {
         let WaitingToSend(()) = waiting;
         self.senders = self.senders.wrapping_sub(1);
@@ -152,34 +208,45 @@ impl Threads {
         &mut self,
         inner: &Inner<T, Wake, A>,
     ) -> WaitingToReceive
-        ensures known { result.known ≡ news_of inner.now }
+        ensures known { result.known ≡ end_of inner.now }
+        ensures round { result.round ≡ self.old.rounds }
         ensures waits { self.new ≡ record self.old {
           caught_up_receivers = one_more self.old.caught_up_receivers;
-          known = news_of inner.now;
+          known = end_of inner.now;
+          is_misled = false;
         } }
     {
         self.caught_up_receivers = self.caught_up_receivers.wrapping_add(1);
-        self.known = news(inner);
-        WaitingToReceive { known: self.known }
+        self.known = end(inner);
+        self.is_misled = false;
+        WaitingToReceive {
+            known: self.known,
+            round: self.rounds,
+        }
     }
 
-    /// A thread that waited for a message has tried again.
-    pub(super) fn end_waiting_to_receive(&mut self, waiting: WaitingToReceive)
-        ensures { EndsWait waiting.known self.old self.new }
+    /// A thread that waited for a message has tried again. `is_empty`: it found none.
+    pub(super) fn end_waiting_to_receive(&mut self, waiting: WaitingToReceive, is_empty: bool)
+        ensures { EndsWait waiting.known waiting.round is_empty self.old self.new }
     {
-        let WaitingToReceive { known } = waiting;
+        let WaitingToReceive { known, round } = waiting;
+        if self.rounds != round {
+            return;
+        }
         if self.known == known {
             self.caught_up_receivers = self.caught_up_receivers.wrapping_sub(1);
         } else {
             self.due_receivers = self.due_receivers.wrapping_sub(1);
         }
         self.is_receiver_woken = false;
+        self.is_misled = is_empty;
     }
 }
 
-// What changes when a receiver that had read everything has something to receive.
-fn news<T: Clone, A: Allocator + Copy>(inner: &Inner<T, Wake, A>) -> (u64, bool)
-    ensures { result ≡ news_of inner.now }
+// What changes when a receiver that had read everything has something to receive: the number after
+// the last message, and whether the channel is closed.
+fn end<T: Clone, A: Allocator + Copy>(inner: &Inner<T, Wake, A>) -> (u64, bool)
+    ensures { result ≡ end_of inner.now }
 {
     (inner.end_number(), inner.is_closed())
 }

@@ -90,7 +90,7 @@ impl<T: Clone, R: Wait + Clone, A: Allocator + Copy, J: CallJournal<T>> Lock<T, 
         state
             .journal
             .append(&self.rt, known, &made, &answer, &before, &state.inner);
-        attempt.end(&mut state.threads, waiting);
+        attempt.end(&mut state.threads, waiting, &answer);
         if let Some(woken) = state.threads.choose_woken(&state.inner) {
             channel.unlock(guard, woken);
         }

@@ -2,9 +2,9 @@
 use Rattle.std.proofs.Common.{rules, refl}
 use Rattle.async_broadcast.proofs.future.stream.ReceiverStream.poll_next.Goals as goal
 
-pub returns-in-Ok-Ok-Ready-Some-clause-value : goal.returns-in-Ok-Ok-Ready-Some-clause-value
-returns-in-Ok-Ok-Ready-Some-clause-value g c = (tt, (c.in-Ok-Ok-Ready-Some.next, refl, search rules))
+pub returns-in-Ok-Ready-Some-clause-value : goal.returns-in-Ok-Ready-Some-clause-value
+returns-in-Ok-Ready-Some-clause-value g c = (tt, (c.in-Ok-Ready-Some.next, refl, search rules))
 
-pub returns-in-Ok-Ok-Ready-Some-clause-rest : goal.returns-in-Ok-Ok-Ready-Some-clause-rest
-returns-in-Ok-Ok-Ready-Some-clause-rest g c xs last comes =
-    (((c.in-Ok-Ok-Ready-Some.next, refl, search rules), comes.0), comes.1)
+pub returns-in-Ok-Ready-Some-clause-rest : goal.returns-in-Ok-Ready-Some-clause-rest
+returns-in-Ok-Ready-Some-clause-rest g c xs last comes =
+    (((c.in-Ok-Ready-Some.next, refl, search rules), comes.0), comes.1)
