@@ -1,29 +1,18 @@
-/* Threads that wait for a channel behind one lock: can one sleep though its call would be answered, and can they wake
-   one another for ever? What is done while the lock is held is one step; waking after the lock is free, sleeping, and the
-   end of a limit are steps of their own. Each step names the function that it stands for, in
-   `crates/async_broadcast/src/lock`.
+/* The channel behind its lock: what is done while the lock is held. Each step names the function that it stands for: of
+   `Inner` in `crates/bcast_core`, of `Threads` in `crates/async_broadcast/src/lock/threads.rt`. */
 
-   SENDERS, RECEIVERS   how many threads send, and receive by a receiver of their own
-   CAPACITY, MESSAGES   of the channel; how many messages each sender sends at most
-   CALLS                how many messages a thread sends at most that never waits
-   ANY                  the condition variable wakes any thread that waits on it; else the one that waits longest
-   LIMITS               a call may have a limit, and its wait may end since its time is over
-   SPURIOUS             so many waits may end for nothing
-   CLOSES               the channel may be closed at any time
-   WAKES_ALL            another rule: a thread that was woken and finds nothing, while others have something to receive,
-                        wakes all, and they are counted no more. The code's rule is that it wakes the next
-   PLANT                a number: this mistake is made (see `run`) */
+#define READERS (RECEIVERS + TASK_RECEIVERS + 1)
+#define GUEST (READERS - 1)
 
-#ifndef PLANT
-#define PLANT 0
-#endif
-
-#define THREADS (SENDERS + RECEIVERS)
-
-/* `Inner`: how many messages were accepted, whether it is closed, and where each receiver reads on. */
+/* How many messages were accepted; who is there to read, and how many each has read. The last reader is a guest: a
+   receiver by which nobody reads, and that comes and goes. */
 byte accepted = 0;
+bool is_reader[READERS];
+byte cursor[READERS];
+byte capacity = CAPACITY;
 bool closed = false;
-byte cursor[RECEIVERS];
+bool overflow = false;
+bool await_active = true;
 
 /* `Threads` */
 byte senders = 0;
@@ -33,40 +22,127 @@ byte due_receivers = 0;
 byte known_accepted = 0;
 bool known_closed = false;
 bool is_receiver_woken = false;
-
-/* for WAKES_ALL: whether the thread that tried last had waited and found nothing, and how often all were woken */
 bool is_misled = false;
 byte rounds = 0;
 
-#ifdef SPURIOUS
-byte spurious_left = SPURIOUS;
-#endif
-
-/* Who waits on which condition variable, the longest first; which round each was counted in. */
+/* Who waits on which condition variable, the longest first; which round each thread was counted in. */
 chan send_ready = [THREADS] of { byte };
 chan message_ready = [THREADS] of { byte };
 bool sleeps[THREADS];
 byte round_of[THREADS];
 
+/* The tasks that wait to send, in the order of coming; who of them is told, and which task is woken. */
+chan pending_sends = [TASK_SENDERS + 1] of { byte };
+bool is_told[TASK_SENDERS + 1];
+bool is_woken[TASK_SENDERS + TASK_RECEIVERS + 1];
+
 hidden byte key_;
 hidden byte least_;
 hidden byte turns_;
 hidden byte who_;
+hidden byte has_reader_;
+hidden byte is_ready_;
+hidden byte was_ready_;
 
 /* `Inner::sends_are_ready`, into `is_ready` */
 inline look_for_room(is_ready) {
   least_ = accepted;
+  has_reader_ = false;
   key_ = 0;
   do
-  :: key_ < RECEIVERS ->
+  :: key_ < READERS && is_reader[key_] ->
+     has_reader_ = true;
      if
      :: cursor[key_] < least_ -> least_ = cursor[key_]
      :: else
      fi;
      key_++
+  :: key_ < READERS && !is_reader[key_] -> key_++
   :: else -> break
   od;
-  is_ready = (closed || accepted - least_ < CAPACITY)
+  is_ready = closed || (has_reader_ && (overflow || accepted - least_ < capacity)) || (!has_reader_ && !await_active)
+}
+
+/* Tells the first task that waits to send, unless one is told. */
+inline tell_send() {
+  if
+  :: nempty(pending_sends) ->
+     pending_sends ? <who_>;
+     is_woken[who_] = is_woken[who_] || !is_told[who_];
+     is_told[who_] = true
+  :: empty(pending_sends)
+  fi
+}
+
+/* Tells all tasks, since the channel was closed. */
+inline tell_all() {
+  key_ = 0;
+  do
+  :: key_ < TASK_SENDERS + TASK_RECEIVERS -> is_woken[key_] = true; key_++
+  :: else -> break
+  od
+}
+
+/* Tells all tasks that wait for a message. */
+inline tell_receives() {
+  key_ = TASK_SENDERS;
+  do
+  :: key_ < TASK_SENDERS + TASK_RECEIVERS -> is_woken[key_] = true; key_++
+  :: else -> break
+  od
+}
+
+/* At the beginning and at the end of each call: if sends are ready that were not, one task is told. */
+inline begin_call() { look_for_room(was_ready_) }
+
+inline end_call() {
+  look_for_room(is_ready_);
+  if
+  :: is_ready_ && !was_ready_ && PLANT != 11 -> tell_send()
+  :: else
+  fi
+}
+
+/* A message is accepted. In overflow mode the oldest is dropped, and who has not read it goes on behind it. */
+inline accept() {
+  accepted++;
+  key_ = 0;
+  do
+  :: key_ < READERS ->
+     if
+     :: accepted - cursor[key_] > capacity -> cursor[key_] = accepted - capacity
+     :: else
+     fi;
+     key_++
+  :: else -> break
+  od;
+  tell_receives()
+}
+
+/* `Inner::attempt_send`: whether it must wait, into `must_wait` */
+inline attempt_send(must_wait) {
+  begin_call();
+  must_wait = !was_ready_;
+  if
+  :: was_ready_ && !closed && has_reader_ -> accept()
+  :: else
+  fi;
+  end_call()
+}
+
+#define MESSAGE 0
+#define EMPTY 1
+#define ENDED 2
+
+/* `Inner::try_recv` */
+inline try_recv(key, answer) {
+  begin_call();
+  if
+  :: cursor[key] < accepted -> cursor[key]++; answer = MESSAGE
+  :: cursor[key] == accepted && closed -> answer = ENDED
+  :: cursor[key] == accepted && !closed -> answer = EMPTY
+  fi;
+  end_call()
 }
 
 /* `Threads::choose_woken`: which threads to wake, into these three */
@@ -77,6 +153,15 @@ inline choose_woken(sender, receiver, all) {
   if
   :: senders + caught_up_receivers + due_receivers == 0 -> skip
   :: else ->
+     /* `choose_sender` */
+     look_for_room(is_ready_);
+     if
+     :: senders > 0 && !is_sender_woken && is_ready_ && PLANT != 2 ->
+        sender = true;
+        is_sender_woken = true
+     :: else
+     fi;
+     /* `move_receivers` */
      if
      :: accepted != known_accepted || closed != known_closed ->
         known_accepted = accepted;
@@ -85,36 +170,27 @@ inline choose_woken(sender, receiver, all) {
         caught_up_receivers = 0
      :: else
      fi;
-#ifdef WAKES_ALL
+     /* `choose_receivers` */
      if
-     :: is_misled && due_receivers > 0 ->
+     :: due_receivers == 0 || PLANT == 1 -> skip
+#ifndef ONE_BY_ONE
+     :: due_receivers > 0 && is_misled && PLANT != 1 ->
         all = true;
         due_receivers = 0;
 #if PLANT != 7
         caught_up_receivers = 0;
 #endif
         rounds = (rounds + 1) % 16
-     :: else
-     fi;
-     is_misled = false;
 #endif
-     if
-     :: due_receivers > 0 && !is_receiver_woken && PLANT != 1 ->
-        receiver = true;
-        is_receiver_woken = true
-     :: else
+     :: else ->
+        if
+        :: !is_receiver_woken -> receiver = true; is_receiver_woken = true
+        :: else
+        fi
      fi;
-     look_for_room(is_ready_);
-     if
-     :: senders > 0 && !is_sender_woken && is_ready_ && PLANT != 2 ->
-        sender = true;
-        is_sender_woken = true
-     :: else
-     fi
+     is_misled = false
   fi
 }
-
-hidden byte is_ready_;
 
 /* `Condvar::notify_one` */
 inline notify_one(queue) {
@@ -160,291 +236,4 @@ inline wake(sender, receiver, all) {
   sender = false;
   receiver = false;
   all = false
-}
-
-/* `Inner::attempt_send`: whether it must wait, into `must_wait` */
-inline attempt_send(must_wait) {
-  look_for_room(is_ready_);
-  must_wait = !is_ready_;
-  if
-  :: is_ready_ && !closed -> accepted++
-  :: else
-  fi
-}
-
-proctype sender(byte me) {
-  bool sender_, receiver_, all_, must_wait, is_over, has_limit;
-  byte left = MESSAGES;
-
-  do
-  :: left > 0 && !closed ->
-     /* `Lock::make_or_wait`, which doesn't wait at first */
-     atomic { attempt_send(must_wait); choose_woken(sender_, receiver_, all_) };
-     atomic { wake(sender_, receiver_, all_) };
-     is_over = false;
-#ifdef LIMITS
-     if
-     :: has_limit = true
-     :: has_limit = false
-     fi;
-#endif
-     do
-     :: must_wait && !is_over ->
-        /* `Lock::make_or_wait`, which waits: up to the wait */
-        atomic {
-          attempt_send(must_wait);
-          if
-          :: must_wait ->
-             senders++;
-             choose_woken(sender_, receiver_, all_);
-             wake(sender_, receiver_, all_);
-             send_ready ! me;
-             sleeps[me] = true
-          :: else -> choose_woken(sender_, receiver_, all_)
-          fi
-        };
-        atomic { wake(sender_, receiver_, all_) };
-        if
-        :: must_wait ->
-           /* `Limit::wait` */
-end_asleep:
-           if
-           :: !sleeps[me]
-#ifdef LIMITS
-           :: atomic { sleeps[me] && has_limit -> send_ready ?? eval(me); sleeps[me] = false; is_over = true }
-#endif
-#ifdef SPURIOUS
-           :: atomic { sleeps[me] && spurious_left > 0 -> send_ready ?? eval(me); sleeps[me] = false; spurious_left-- }
-#endif
-           fi;
-           /* the try after the wait */
-           atomic {
-             attempt_send(must_wait);
-             senders--;
-#if PLANT != 3
-             is_sender_woken = false;
-#endif
-#if PLANT == 4
-             if
-             :: is_over -> sender_ = false; receiver_ = false; all_ = false
-             :: else -> choose_woken(sender_, receiver_, all_)
-             fi
-#elif PLANT == 5
-             sender_ = false;
-             receiver_ = false;
-             all_ = false
-#else
-             choose_woken(sender_, receiver_, all_)
-#endif
-           };
-           atomic { wake(sender_, receiver_, all_) }
-        :: else
-        fi
-     :: else -> break
-     od;
-progress_sent:
-     left--
-  :: true -> break
-  od
-}
-
-#define MESSAGE 0
-#define EMPTY 1
-#define ENDED 2
-
-/* `Inner::try_recv` */
-inline try_recv(key, answer) {
-  if
-  :: cursor[key] < accepted -> cursor[key]++; answer = MESSAGE
-  :: cursor[key] == accepted && closed -> answer = ENDED
-  :: cursor[key] == accepted && !closed -> answer = EMPTY
-  fi
-}
-
-proctype receiver(byte key) {
-  bool sender_, receiver_, all_, is_over, has_limit, its_closed;
-  byte answer, its_accepted;
-  byte me = SENDERS + key;
-
-  do
-  :: true ->
-     atomic { try_recv(key, answer); choose_woken(sender_, receiver_, all_) };
-     atomic { wake(sender_, receiver_, all_) };
-     is_over = false;
-#ifdef LIMITS
-     if
-     :: has_limit = true
-     :: has_limit = false
-     fi;
-#endif
-     do
-     :: answer == EMPTY && !is_over ->
-        atomic {
-          try_recv(key, answer);
-          if
-          :: answer == EMPTY ->
-             /* `Threads::begin_to_receive` */
-             caught_up_receivers++;
-#if PLANT != 6
-             known_accepted = accepted;
-             known_closed = closed;
-#endif
-             is_misled = false;
-             its_accepted = known_accepted;
-             its_closed = known_closed;
-             round_of[me] = rounds;
-             choose_woken(sender_, receiver_, all_);
-             wake(sender_, receiver_, all_);
-             message_ready ! me;
-             sleeps[me] = true
-          :: else -> choose_woken(sender_, receiver_, all_)
-          fi
-        };
-        atomic { wake(sender_, receiver_, all_) };
-        if
-        :: answer == EMPTY ->
-end_asleep:
-           if
-           :: !sleeps[me]
-#ifdef LIMITS
-           :: atomic { sleeps[me] && has_limit -> message_ready ?? eval(me); sleeps[me] = false; is_over = true }
-#endif
-#ifdef SPURIOUS
-           :: atomic { sleeps[me] && spurious_left > 0 -> message_ready ?? eval(me); sleeps[me] = false; spurious_left-- }
-#endif
-           fi;
-           atomic {
-             try_recv(key, answer);
-             /* `Threads::end_waiting_to_receive` */
-             if
-             :: round_of[me] == rounds ->
-                is_misled = (answer == EMPTY);
-                if
-                :: its_accepted == known_accepted && its_closed == known_closed -> caught_up_receivers--
-                :: else -> due_receivers--
-                fi;
-#if PLANT != 8
-                is_receiver_woken = false
-#endif
-             :: else
-             fi;
-#if PLANT == 9
-             if
-             :: is_over -> sender_ = false; receiver_ = false; all_ = false
-             :: else -> choose_woken(sender_, receiver_, all_)
-             fi
-#else
-             choose_woken(sender_, receiver_, all_)
-#endif
-           };
-           atomic { wake(sender_, receiver_, all_) }
-        :: else
-        fi
-     :: else -> break
-     od;
-     if
-     :: answer == MESSAGE ->
-progress_received:
-        skip
-     :: answer == ENDED -> break
-     :: else
-     fi
-  :: true -> break
-  od
-}
-
-#ifdef CALLS
-/* `Inner::try_broadcast`, in overflow mode: the channel drops its oldest message, and a receiver that has not read it
-   goes on behind it */
-active proctype caller() {
-  bool sender_, receiver_, all_;
-  byte left = CALLS;
-
-  do
-  :: left > 0 && !closed ->
-     atomic {
-       accepted++;
-       key_ = 0;
-       do
-       :: key_ < RECEIVERS ->
-          if
-          :: accepted - cursor[key_] > CAPACITY -> cursor[key_]++
-          :: else
-          fi;
-          key_++
-       :: else -> break
-       od;
-       choose_woken(sender_, receiver_, all_)
-     };
-     atomic { wake(sender_, receiver_, all_) };
-     left--
-  :: true -> break
-  od
-}
-#endif
-
-#ifdef CLOSES
-/* `Inner::close` */
-active proctype closer() {
-  bool sender_, receiver_, all_;
-
-  if
-  :: true ->
-     atomic {
-       closed = true;
-#if PLANT == 10
-       sender_ = false
-#else
-       choose_woken(sender_, receiver_, all_)
-#endif
-     };
-     atomic { wake(sender_, receiver_, all_) }
-  :: true
-  fi
-}
-#endif
-
-/* Once nothing more can happen: who sleeps has nothing to do, and each that sleeps is counted once. */
-active proctype rest() {
-  byte thread = 0;
-  byte asleep = 0;
-
-end_rest:
-  timeout ->
-  atomic {
-    look_for_room(is_ready_);
-    do
-    :: thread < SENDERS -> assert(!sleeps[thread] || !is_ready_); asleep = asleep + sleeps[thread]; thread++
-    :: else -> break
-    od;
-    assert(asleep == senders);
-    asleep = 0;
-    do
-    :: thread < THREADS ->
-       assert(!sleeps[thread] || (cursor[thread - SENDERS] == accepted && !closed));
-       if
-       :: sleeps[thread] && round_of[thread] == rounds -> asleep++
-       :: else
-       fi;
-       thread++
-    :: else -> break
-    od;
-    assert(asleep == caught_up_receivers + due_receivers)
-  }
-}
-
-init {
-  byte next = 0;
-
-  atomic {
-    do
-    :: next < SENDERS -> run sender(next); next++
-    :: else -> break
-    od;
-    next = 0;
-    do
-    :: next < RECEIVERS -> run receiver(next); next++
-    :: else -> break
-    od
-  }
 }
