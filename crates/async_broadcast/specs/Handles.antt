@@ -9,10 +9,10 @@ use Rattle.async_broadcast.specs.Ports.{IsSame}
 
 -- a handle over another port of the same channel, by this call, whose reply has this value of the
 -- handle; or why there is none: the port had no memory for another one, or the channel refused
-pub record MakesHandle {T P H A K V : Type 0} (gave : P → Call T → Reply T → Type 0)
+pub record MakesHandle {T P H A V : Type 0} (gave : P → Call T → Reply T → Type 0)
     (lacks_memory : P → Type 0) (port : P) (call : Call T)
-    (reply : Result V HandleError → Reply T) (value : Handle T P H A K → V)
-    (result : Result (Handle T P H A K) HandleError) : Type 0 where
+    (reply : Result V HandleError → Reply T) (value : Handle T P H A → V)
+    (result : Result (Handle T P H A) HandleError) : Type 0 where
   pub channel : IfOk result (λ made. IsSame gave made.port port)
   pub made : IfOk result (λ made. gave port call (reply (Ok (value made))))
   pub refused : IfErr result (λ error.

@@ -19,12 +19,12 @@ abbrev pub HasNoThread : Threads → Type 0
 HasNoThread t = (t.senders ≡ 0) × (t.caught_up_receivers ≡ 0) × (t.due_receivers ≡ 0)
 
 -- what changes when a receiver that had read everything has something to receive
-abbrev pub end_of : {T : Type 0} → View T → ℕ × Bool
-end_of v = (v.end, v.control.closed)
+abbrev pub tail_of : {T : Type 0} → View T → ℕ × Bool
+tail_of v = (v.end, v.control.closed)
 
 -- threads that wait for a message and have nothing to receive know all that was sent
-abbrev pub KnowsEnd : {T : Type 0} → View T → Threads → Type 0
-KnowsEnd v t = 0 < t.caught_up_receivers → t.known ≡ end_of v
+abbrev pub KnowsTail : {T : Type 0} → View T → Threads → Type 0
+KnowsTail v t = 0 < t.caught_up_receivers → t.known ≡ tail_of v
 
 -- if sends are ready and a thread waits to send, one was woken that hasn't tried yet
 abbrev pub HasWokenSender : {T : Type 0} → View T → Threads → Type 0
@@ -51,10 +51,10 @@ AreSenders old new =
 -- threads that wait for a message have something to receive, if there is more than they know
 abbrev pub MovesReceivers : {T : Type 0} → View T → Threads → Threads → Type 0
 MovesReceivers v old new =
-    (end_of v ≡ old.known → new ≡ record old { known = end_of v })
-    × ((end_of v ≡ old.known → ⊥)
+    (tail_of v ≡ old.known → new ≡ record old { known = tail_of v })
+    × ((tail_of v ≡ old.known → ⊥)
     → new ≡ record old {
-      known = end_of v;
+      known = tail_of v;
       caught_up_receivers = 0;
       due_receivers = (old.due_receivers + old.caught_up_receivers) % 2 ^ 64;
     })

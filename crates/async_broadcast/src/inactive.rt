@@ -3,7 +3,7 @@ ghost use Rattle.std.specs.Prelude.{◌≡◌, Ok, Err, IfOk, IfErr};
 ghost use Rattle.async_broadcast.specs.Handles.{MakesHandle};
 
 use crate::handle::{Handle, Role};
-use crate::port::{Ask, KnowingPort};
+use crate::port::Port;
 use crate::receiver::{Receiver, Receiving};
 use bcast_core::{AddHandle, AddReceiver, Call, Change, HandleError, Reply};
 use std::alloc::{Allocator, Global};
@@ -13,13 +13,13 @@ use std::alloc::{Allocator, Global};
 /// While there is one, the channel isn't closed because receivers leave. Contracts name its `port`.
 ///
 /// Source: `InactiveReceiver` of async-broadcast 0.7.2.
-pub type InactiveReceiver<T, P, A = Global, K = ()> = Handle<T, P, Inactive, A, K>;
+pub type InactiveReceiver<T, P, A = Global> = Handle<T, P, Inactive, A>;
 
 /// The role of an `InactiveReceiver`.
 #[derive(Drop)]
 pub struct Inactive;
 
-impl<T: Clone, P: KnowingPort<T, K>, A: Allocator + Copy, K: Drop> InactiveReceiver<T, P, A, K> {
+impl<T: Clone, P: Port<T>, A: Allocator + Copy> InactiveReceiver<T, P, A> {
     /// An inactive receiver over this port, whose channel has counted it: its drop asks
     /// `DropInactive`.
     ///
@@ -48,13 +48,13 @@ impl<T: Clone, P: KnowingPort<T, K>, A: Allocator + Copy, K: Drop> InactiveRecei
     /// ```
     ///
     /// Source: `InactiveReceiver::activate` of async-broadcast 0.7.2, which never refuses.
-    pub fn activate(self) -> Result<Receiver<T, P, A, K>, (Self, HandleError)>
+    pub fn activate(self) -> Result<Receiver<T, P, A>, (Self, HandleError)>
         ensures made { IfOk result (λ made. (made.port ≡ self.port)
             × P.gave self.port Call.Activate (Reply.Activate (Ok made.role.key))) }
         ensures refused { IfErr result (λ back. (back.0 ≡ self)
             × P.gave self.port Call.Activate (Reply.Activate (Err back.1))) }
     {
-        match self.port.ask(&mut self.port.known(), AddReceiver::Activate) {
+        match self.port.ask(&mut (), AddReceiver::Activate) {
             Ok(key) => Ok(self.with_role(Receiving::new(key))),
             Err(error) => Err((self, error)),
         }
@@ -78,11 +78,11 @@ impl<T: Clone, P: KnowingPort<T, K>, A: Allocator + Copy, K: Drop> InactiveRecei
     /// ```
     ///
     /// Source: `InactiveReceiver::activate_cloned` of async-broadcast 0.7.2, which never refuses.
-    pub fn activate_cloned(&self) -> Result<Receiver<T, P, A, K>, HandleError>
+    pub fn activate_cloned(&self) -> Result<Receiver<T, P, A>, HandleError>
         ensures { MakesHandle P.gave P.lacks_memory self.now.port
             Call.ActivateCloned Reply.ActivateCloned (λ made. made.role.key) result }
     {
-        self.make_receiver(&mut self.port.known(), AddReceiver::ActivateCloned)
+        self.make_receiver(AddReceiver::ActivateCloned)
     }
 
     /// Makes another inactive receiver of the channel.
@@ -108,21 +108,18 @@ impl<T: Clone, P: KnowingPort<T, K>, A: Allocator + Copy, K: Drop> InactiveRecei
             Call.CloneInactive Reply.CloneInactive (λ _. tt) result }
     {
         let port = self.port.try_clone().ok_or(HandleError::Memory)?;
-        self.port.ask(&mut self.port.known(), AddHandle::Inactive)?;
+        self.port.ask(&mut (), AddHandle::Inactive)?;
         Ok(InactiveReceiver::from_port(port, self.alloc))
     }
 }
 
-impl<T: Clone> Role<T> for Inactive {
-    ghost use Rattle.bcast_model.specs.declared.run.Call.{Call};
-    ghost use Rattle.bcast_model.specs.declared.run.Reply.{Reply};
+impl Role for Inactive {
+    ghost use Rattle.bcast_core.specs.declared.calls.changes.Change.TheVariants as change;
 
-    ghost last = { λ _. Call.DropInactive };
-
-    ghost left = { Reply.DropInactive };
+    ghost leaves = { λ _. change.DropInactive };
 
     #[inline(always)]
-    fn ask_drop<K: Drop, P: Ask<T, K>>(&self, port: &P) {
-        port.ask(&mut port.known(), Change::DropInactive)
+    fn leaving(&self) -> Change {
+        Change::DropInactive
     }
 }

@@ -5,7 +5,7 @@ ghost use Rattle.std.specs.Sync.Forever.{forever_left};
 ghost use Rattle.async_broadcast.specs.Ports.{as_try_recv};
 ghost use Rattle.async_broadcast.specs.Timed.{as_received, IsNoEnd};
 
-use crate::port::KnowingPort;
+use crate::port::Port;
 use crate::receiver::Receiver;
 use bcast_core::RecvError;
 use std::alloc::{AllocError, Allocator, Global};
@@ -16,13 +16,13 @@ use std::sync::{Forever, Wait};
 /// Each item is what `recv_blocking` returns. The loop ends when every message was read and the
 /// channel is closed.
 #[derive(Drop)]
-pub struct Iter<'a, T: Clone, P: KnowingPort<T, K>, R: Wait, A: Allocator = Global, K: Drop = ()> {
-    receiver: &'a mut Receiver<T, P, A, K>,
+pub struct Iter<'a, T: Clone, P: Port<T>, R: Wait, A: Allocator = Global> {
+    receiver: &'a mut Receiver<T, P, A>,
     // Counts the turns of the loop, so that a proof about it has an end.
     turns: Forever<'a, R>,
 }
 
-impl<T: Clone, P: KnowingPort<T, K>, A: Allocator + Copy, K: Drop> Receiver<T, P, A, K> {
+impl<T: Clone, P: Port<T>, A: Allocator + Copy> Receiver<T, P, A> {
     /// Receives in a loop, and blocks the thread while there is no message and the channel is
     /// open.
     ///
@@ -44,7 +44,7 @@ impl<T: Clone, P: KnowingPort<T, K>, A: Allocator + Copy, K: Drop> Receiver<T, P
     /// ```
     ///
     /// Source: this crate's own.
-    pub fn iter<'a, R: Wait>(&'a mut self, rt: &'a R) -> Iter<'a, T, P, R, A, K>
+    pub fn iter<'a, R: Wait>(&'a mut self, rt: &'a R) -> Iter<'a, T, P, R, A>
         ensures lent { result.receiver.now ≡ self.old }
         ensures same { result.receiver.ghost_name ≡ self.entry.ghost_name }
     {
@@ -55,8 +55,7 @@ impl<T: Clone, P: KnowingPort<T, K>, A: Allocator + Copy, K: Drop> Receiver<T, P
     }
 }
 
-impl<T: Clone, P: KnowingPort<T, K>, R: Wait, A: Allocator + Copy, K: Drop> Iterator
-    for Iter<'_, T, P, R, A, K> {
+impl<T: Clone, P: Port<T>, R: Wait, A: Allocator + Copy> Iterator for Iter<'_, T, P, R, A> {
     type Item = Result<Result<T, RecvError>, AllocError>;
 
     ghost use Rattle.bcast_model.specs.declared.run.Call.TheVariants as call;

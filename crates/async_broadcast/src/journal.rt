@@ -1,6 +1,6 @@
 //! The journal that a lock may keep of the calls on its channel.
-ghost use Rattle.std.specs.Prelude.{◌≡◌, ℕ};
-ghost use Rattle.bcast_model.specs.Words.{Answers, IsPossible};
+ghost use Rattle.std.specs.Prelude.{◌≡◌, false};
+ghost use Rattle.bcast_model.specs.Words.{Answers, HasPositiveCapacity};
 
 use crate::wake::Wake;
 use bcast_core::{CallOf, Inner};
@@ -8,73 +8,57 @@ use std::alloc::Allocator;
 use std::snapshot::Snapshot;
 use std::sync::Wait;
 
-/// What a lock records of the calls on its channel, beside the channel, and what its ports know of
-/// them. What it records is for contracts alone.
+/// What a lock records of the calls on its channel, beside the channel. It is for contracts alone.
 pub trait CallJournal<T: Clone>: Sized + Drop {
     ghost use Rattle.bcast_model.specs.declared.run.Call.{Call};
     ghost use Rattle.bcast_model.specs.declared.run.Reply.{Reply};
     ghost use Rattle.bcast_model.specs.View.{View};
+    ghost use Rattle.async_broadcast.specs.Ports.{is_answer};
 
-    /// What a port knows of the calls so far.
-    type Known: Drop;
+    /// Who makes calls on the channel, and what it knows of them.
+    type Caller: Drop;
+
+    // Holds of a caller before a call, the call and its reply, and the caller then.
+    ghost learns: { Self.Caller → Call T → Reply T → Self.Caller → Type 0 };
+
+    // Who makes a call again that had to wait learns of the last one.
+    ghost again: { (before between after : Self.Caller) (call : Call T) (reply last : Reply T)
+        → is_answer reply ≡ false → learns before call reply between
+        → learns between call last after → learns before call last after };
 
     // Holds of the journal, and of the channel, whenever the lock is free.
     ghost records: { Self → View T → Type 0 };
 
-    // Holds of what is known, and of all that may be known later.
-    ghost reaches: { Self.Known → Self.Known → Type 0 };
+    // Holds of a caller and the channel, if what the caller knows of it is so.
+    ghost fits: { Self.Caller → View T → Type 0 };
 
-    // Holds of what was known before a call, the call and its reply, and what is known then.
-    ghost learns: { Self.Known → Call T → Reply T → Self.Known → Type 0 };
+    /// Compares what this caller knows of the channel with the channel. Returns only if it is so.
+    fn check<A: Allocator + Copy>(
+        &self,
+        rt: &impl Wait,
+        caller: &Self::Caller,
+        inner: &Inner<T, Wake, A>,
+    )
+        ensures { fits caller.now inner.now };
 
-    // Holds of what a port knows, a call, and a reply that it may give to it.
-    ghost gave: { Self.Known → Call T → Reply T → Type 0 };
-
-    /// What is known, once more: for another port or another call.
-    fn copy(known: &Self::Known) -> Self::Known
-        ensures { result ≡ known.now };
-
-    /// Records a call that was made on the channel, and adds it to what is known.
+    /// Records a call that this caller made, and that led from one state of the channel to another.
     fn append<C: CallOf<T>, A: Allocator + Copy>(
         &mut self,
         rt: &impl Wait,
-        known: &mut Self::Known,
+        caller: &mut Self::Caller,
         call: &Snapshot<C>,
         answer: &C::Answer,
         before: &Snapshot<Inner<T, Wake, A>>,
         after: &Inner<T, Wake, A>,
     )
+        requires capacity { HasPositiveCapacity (C.call call.now.value) }
+        requires fits { fits caller.old before.now.value }
         requires recorded { ∥ records self.old before.now.value ∥₁ }
         requires answers { Answers T.is_clone before.now.value (C.call call.now.value)
             (C.reply call.now.value answer.now) after.now }
         ensures records { ∥ records self.new after.now ∥₁ }
-        ensures learned { learns known.old (C.call call.now.value)
-            (C.reply call.now.value answer.now) known.new };
-
-    // What was known is known.
-    ghost unchanged: { (known : Self.Known) → reaches known known };
-
-    // A call adds to what is known.
-    ghost extends: { (known after : Self.Known) (call : Call T) (reply : Reply T)
-        → learns known call reply after → reaches known after };
-
-    // Who knows less may learn of a call, too.
-    ghost learns_from_less: { (less known after : Self.Known) (call : Call T) (reply : Reply T)
-        → reaches less known → learns known call reply after → learns less call reply after };
-
-    // A port gave the reply to a call that was recorded.
-    ghost gives: { (known after : Self.Known) (call : Call T) (reply : Reply T)
-        → IsPossible T.is_clone call reply → learns known call reply after
-        → gave known call reply };
-
-    // It also gives up a future by no call, if there is nothing to give up.
-    ghost may_skip_end_future: { (known : Self.Known) (key : ℕ)
-        → IsPossible T.is_clone (Call.EndFuture key) Reply.EndFuture
-        → gave known (Call.EndFuture key) Reply.EndFuture };
-
-    // A reply that a port gave is one that the channel gives in some valid history.
-    ghost possible: { (known : Self.Known) (call : Call T) (reply : Reply T)
-        → gave known call reply → IsPossible T.is_clone call reply };
+        ensures learned { learns caller.old (C.call call.now.value)
+            (C.reply call.now.value answer.now) caller.new };
 }
 
 /// The journal of a channel that `broadcast` made: it records nothing.
@@ -84,41 +68,32 @@ pub struct NoJournal;
 impl<T: Clone> CallJournal<T> for NoJournal {
     ghost use Rattle.std.specs.Prelude.{⊤};
 
-    type Known = ();
+    type Caller = ();
+
+    ghost learns = { λ before call reply after. ⊤ };
+
+    ghost again = { λ before between after call reply last waits first second. tt };
 
     ghost records = { λ journal v. ⊤ };
 
-    ghost reaches = { λ known after. ⊤ };
-
-    ghost learns = { λ known call reply after. ⊤ };
-
-    ghost gave = { λ known call reply. IsPossible T.is_clone call reply };
+    ghost fits = { λ caller v. ⊤ };
 
     #[inline(always)]
-    fn copy(known: &()) -> () {
-        *known
-    }
+    fn check<A: Allocator + Copy>(
+        &self,
+        _rt: &impl Wait,
+        _caller: &(),
+        _inner: &Inner<T, Wake, A>,
+    ) {}
 
     #[inline(always)]
     fn append<C: CallOf<T>, A: Allocator + Copy>(
         &mut self,
         _rt: &impl Wait,
-        _known: &mut (),
+        _caller: &mut (),
         _call: &Snapshot<C>,
         _answer: &C::Answer,
         _before: &Snapshot<Inner<T, Wake, A>>,
         _after: &Inner<T, Wake, A>,
     ) {}
-
-    ghost unchanged = { λ known. tt };
-
-    ghost extends = { λ known after call reply learned. tt };
-
-    ghost learns_from_less = { λ less known after call reply reaches learned. tt };
-
-    ghost gives = { λ known after call reply may learned. may };
-
-    ghost may_skip_end_future = { λ known key may. may };
-
-    ghost possible = { λ known call reply may. may };
 }

@@ -5,7 +5,7 @@ ghost use Rattle.async_broadcast.specs.Snapshots.{ShowsSomeState};
 
 use crate::inactive::InactiveReceiver;
 use crate::journal::{CallJournal, NoJournal};
-use crate::port::{KnowingPort, KnowingTimedPort};
+use crate::port::{PortFor, TimedPortFor};
 use crate::receiver::Receiver;
 use crate::sender::Sender;
 use crate::timed::{RecvTimeoutError, SendTimeoutError};
@@ -39,7 +39,6 @@ mod waiting;
 pub struct Lock<T: Clone, R: Wait + Clone, A: Allocator = Global, J: CallJournal<T> = NoJournal> {
     channel: Arc<Channel<T, A, J>, A>,
     rt: R,
-    pub(crate) known: J::Known,
 }
 
 /// A sender of a channel that `broadcast` made.
@@ -121,13 +120,13 @@ impl<T: Clone, R: Wait + Clone, A: Allocator + Copy> Lock<T, R, A> {
     ///
     /// Source: this crate's own.
     pub fn new(rt: R, alloc: A, inner: Inner<T, Wake, A>) -> Result<Self, AllocError> {
-        Lock::with_journal(rt, alloc, inner, NoJournal, ())
+        Lock::with_journal(rt, alloc, inner, NoJournal)
     }
 }
 
 impl<T: Clone, R: Wait + Clone, A: Allocator + Copy, J: CallJournal<T>> Lock<T, R, A, J> {
     /// The port of a channel that the caller made, as `new` makes it. Its lock begins with
-    /// `journal`, which records the calls on the channel, and `known` is what the port knows of them.
+    /// `journal`, which records the calls on the channel.
     ///
     /// # Errors
     ///
@@ -139,13 +138,11 @@ impl<T: Clone, R: Wait + Clone, A: Allocator + Copy, J: CallJournal<T>> Lock<T, 
         alloc: A,
         inner: Inner<T, Wake, A>,
         journal: J,
-        known: J::Known,
     ) -> Result<Self, AllocError>
         requires { ∥ J.records journal inner ∥₁ }
-        ensures { IfOk result (λ port. port.known ≡ known) }
     {
         let channel = Arc::new(alloc, Channel::new(inner, journal))?;
-        Ok(Lock { channel, rt, known })
+        Ok(Lock { channel, rt })
     }
 
     /// The view of the channel, as a value. It is allocated from `alloc`.
@@ -183,24 +180,20 @@ impl<T: Clone, R: Wait + Clone, A: Allocator + Copy, J: CallJournal<T>> Lock<T, 
     }
 }
 
-impl<T: Clone, R: Wait + Clone, A: Allocator + Copy, J: CallJournal<T>> KnowingPort<T, J::Known>
+impl<T: Clone, R: Wait + Clone, A: Allocator + Copy, J: CallJournal<T>> PortFor<T, J::Caller>
     for Lock<T, R, A, J> {
     ghost use Rattle.std.specs.Prelude.{⊤};
 
-    fn set_known(&mut self, known: &J::Known) {
-        self.known = J::copy(known);
-    }
-
-    fn send_waiting(&self, known: &mut J::Known, msg: T) -> Result<Option<T>, SendError<T>> {
-        answer_of_send(self.make_until(known, &Sends, AttemptSend(msg), &NoLimit))
+    fn send_waiting(&self, caller: &mut J::Caller, msg: T) -> Result<Option<T>, SendError<T>> {
+        answer_of_send(self.make_until(caller, &Sends, AttemptSend(msg), &NoLimit))
     }
 
     fn receive_waiting(
         &self,
-        known: &mut J::Known,
+        caller: &mut J::Caller,
         key: usize,
     ) -> Result<Result<T, RecvError>, AllocError> {
-        answer_of_receive(self.make_until(known, &Receives { key }, TryRecv(key), &NoLimit))
+        answer_of_receive(self.make_until(caller, &Receives { key }, TryRecv(key), &NoLimit))
     }
 
     ghost lacks_memory = { λ _. ⊤ };
@@ -208,45 +201,37 @@ impl<T: Clone, R: Wait + Clone, A: Allocator + Copy, J: CallJournal<T>> KnowingP
     fn try_clone(&self) -> Option<Self> {
         let channel = Arc::try_clone(&self.channel).ok()?;
         let rt = self.rt.clone().ok()?;
-        Some(Lock {
-            channel,
-            rt,
-            known: J::copy(&self.known),
-        })
+        Some(Lock { channel, rt })
     }
 }
 
-impl<T: Clone, R: Wait + Clone + Clock, A: Allocator + Copy, J: CallJournal<T>> KnowingTimedPort<
+impl<T: Clone, R: Wait + Clone + Clock, A: Allocator + Copy, J: CallJournal<T>> TimedPortFor<
     T,
-    J::Known,
+    J::Caller,
 > for Lock<T, R, A, J> {
     fn send_within(
         &self,
-        known: &mut J::Known,
+        caller: &mut J::Caller,
         msg: T,
         limit: Duration,
     ) -> Result<Option<T>, SendTimeoutError<T>> {
         let limit = TimeLimit::from_now(&self.rt, limit);
-        sent_in_time(self.make_until(known, &Sends, AttemptSend(msg), &limit))
+        sent_in_time(self.make_until(caller, &Sends, AttemptSend(msg), &limit))
     }
 
     fn receive_within(
         &self,
-        known: &mut J::Known,
+        caller: &mut J::Caller,
         key: usize,
         limit: Duration,
     ) -> Result<Result<T, RecvTimeoutError>, AllocError> {
         let limit = TimeLimit::from_now(&self.rt, limit);
-        received_in_time(self.make_until(known, &Receives { key }, TryRecv(key), &limit))
+        received_in_time(self.make_until(caller, &Receives { key }, TryRecv(key), &limit))
     }
 }
 
 impl<T: Clone, R: Wait + Clone, A: Allocator, J: CallJournal<T>> Drop for Lock<T, R, A, J> {
     fn drop(self) {
-        let Lock {
-            channel: _,
-            rt: _,
-            known: _,
-        } = self;
+        let Lock { channel: _, rt: _ } = self;
     }
 }

@@ -1,5 +1,5 @@
 //! Ports: how a handle calls its channel.
-ghost use Rattle.std.specs.Prelude.{◌≡◌, true, false, IfSome, IfNone, IfOk, IfErr, OnErr};
+ghost use Rattle.std.specs.Prelude.{◌≡◌, ◌⊎◌, true, false, IfSome, IfNone, IfOk, IfErr, OnErr};
 ghost use Rattle.futures.specs.Task.{IsArmed, Keeps};
 ghost use Rattle.bcast_model.specs.Words.{must_wait, HasPositiveCapacity};
 ghost use Rattle.async_broadcast.specs.Ports.{IsSame, as_try_recv};
@@ -15,9 +15,8 @@ use std::time::Duration;
 /// The way from a handle to its channel: it makes a call, and returns its reply.
 ///
 /// The contracts of handles and futures hold over every port: what a method returns is the reply
-/// that the port gave to the method's call. `K` is what a caller knows of the calls on the channel,
-/// which is nothing, `()`, unless the channel keeps a journal of them. It is lent to each call, and
-/// the call adds itself.
+/// that the port gave to the method's call. `K` is who makes the calls: what a caller knows of those
+/// on the channel. It is lent to each call, which adds itself. `()` knows nothing.
 ///
 /// This is all that the structs of handles and of futures need of a port. It is small, so that
 /// proofs about several futures at once are small too.
@@ -26,25 +25,17 @@ pub trait Ask<T: Clone, K: Drop>: Sized + Drop {
     ghost use Rattle.bcast_model.specs.declared.run.Reply.{Reply};
     ghost use Rattle.bcast_core.specs.Kinds.{IsOfKind};
 
-    // What the port knows of the calls so far.
-    ghost knows: { Self → K };
-
     // Holds of a call and a reply that the port may give to it.
     ghost gave: { Self → Call T → Reply T → Type 0 };
 
-    // Holds of what was known before a call, the call and its reply, and what is known then.
+    // Holds of a caller before a call, the call and its reply, and the caller then.
     ghost learns: { K → Call T → Reply T → K → Type 0 };
 
-    /// What the port knows, for one call.
-    fn known(&self) -> K
-        ensures { result ≡ knows self.now };
-
-    /// Makes one call that never waits, and adds it to what is known.
-    fn ask<C: AtOnce<T>>(&self, known: &mut K, call: C) -> C::Answer
+    /// Makes one call that never waits.
+    fn ask<C: AtOnce<T>>(&self, caller: &mut K, call: C) -> C::Answer
         requires { HasPositiveCapacity (C.call call) }
-        ensures gave { known.old ≡ knows self.now
-            → gave self.now (C.call call) (C.reply call result) }
-        ensures learned { learns known.old (C.call call) (C.reply call result) known.new };
+        ensures gave { gave self.now (C.call call) (C.reply call result) }
+        ensures learned { learns caller.old (C.call call) (C.reply call result) caller.new };
 
     /// Makes one call that may have to wait, for a task: one of the four polls, or any call as data.
     /// If it must wait, the task is registered, and a notice for it left there. A port that needs
@@ -52,21 +43,19 @@ pub trait Ask<T: Clone, K: Drop>: Sized + Drop {
     ///
     /// # Errors
     ///
-    /// The call is handed back, and was not made: memory for a notice was refused. Nothing is added
-    /// to what is known.
+    /// The call is handed back, and was not made: memory for a notice was refused.
     fn poll<C: Polls<T>>(
         &self,
-        known: &mut K,
+        caller: &mut K,
         call: C,
         task: &mut TaskWaker,
         cx: &mut Context<'_>,
     ) -> Result<C::Answer, C>
         requires { HasPositiveCapacity (C.call call) }
-        ensures gave { IfOk result (λ answer. known.old ≡ knows self.now
-            → gave self.now (C.call call) (C.reply call answer)) }
-        ensures learned { IfOk result (λ answer. learns known.old (C.call call)
-            (C.reply call answer) known.new) }
-        ensures back { IfErr result (λ back. (back ≡ call) × (known.new ≡ known.old)) }
+        ensures gave { IfOk result (λ answer. gave self.now (C.call call) (C.reply call answer)) }
+        ensures learned { IfOk result (λ answer. learns caller.old (C.call call)
+            (C.reply call answer) caller.new) }
+        ensures back { IfErr result (λ back. (back ≡ call) × (caller.new ≡ caller.old)) }
 
         ensures notice { IfOk result (λ answer. must_wait (C.reply call answer) ≡ true
             → task.new.is_refused ≡ false) }
@@ -82,10 +71,12 @@ pub trait Ask<T: Clone, K: Drop>: Sized + Drop {
     ///
     /// Returns the notice of the receive that was given up, or one that wakes no task if the port
     /// doesn't give notices back.
-    fn end_future(&self, key: usize, is_answered: bool) -> Wake
-        ensures { gave self.now (Call.EndFuture key) Reply.EndFuture }
+    fn end_future(&self, caller: &mut K, key: usize, is_answered: bool) -> Wake
+        ensures gave { gave self.now (Call.EndFuture key) Reply.EndFuture }
+        ensures learned { (caller.new ≡ caller.old)
+            ⊎ learns caller.old (Call.EndFuture key) Reply.EndFuture caller.new }
     {
-        self.ask(&mut self.known(), Change::EndFuture(key));
+        self.ask(caller, Change::EndFuture(key));
         Wake::none()
     }
 
@@ -94,28 +85,26 @@ pub trait Ask<T: Clone, K: Drop>: Sized + Drop {
         → gave port call reply → IsOfKind call reply };
 }
 
-/// A port that can also wait, and that handles can share. `Lock` is the port of a channel that
-/// `broadcast` made.
-pub trait KnowingPort<T: Clone, K: Drop>: Ask<T, K> {
-    /// Lets the port know this.
-    fn set_known(&mut self, known: &K)
-        ensures { Self.knows self.new ≡ known.now };
-
-    /// Makes an `AttemptSend` again and again, and waits between, until it needn't wait. The last
-    /// one is added to what is known.
-    fn send_waiting(&self, known: &mut K, msg: T) -> Result<Option<T>, SendError<T>>
-        ensures gave { known.old ≡ Self.knows self.now → Self.gave self.now (Call.AttemptSend msg)
+/// A port that can also wait, and that handles can share, for callers of this type. `Lock` is the
+/// port of a channel that `broadcast` made.
+pub trait PortFor<T: Clone, K: Drop>: Ask<T, K> {
+    /// Makes an `AttemptSend` again and again, and waits between, until it needn't wait.
+    fn send_waiting(&self, caller: &mut K, msg: T) -> Result<Option<T>, SendError<T>>
+        ensures gave { Self.gave self.now (Call.AttemptSend msg)
             (Reply.AttemptSend (SendPoll.Ready result)) }
-        ensures learned { Self.learns known.old (Call.AttemptSend msg)
-            (Reply.AttemptSend (SendPoll.Ready result)) known.new };
+        ensures learned { Self.learns caller.old (Call.AttemptSend msg)
+            (Reply.AttemptSend (SendPoll.Ready result)) caller.new };
 
-    /// Makes a `TryRecv` again and again, and waits between, until it doesn't find `Empty`. The last
-    /// one is added to what is known.
-    fn receive_waiting(&self, known: &mut K, key: usize) -> Result<Result<T, RecvError>, AllocError>
-        ensures gave { known.old ≡ Self.knows self.now → Self.gave self.now (Call.TryRecv key)
+    /// Makes a `TryRecv` again and again, and waits between, until it doesn't find `Empty`.
+    fn receive_waiting(
+        &self,
+        caller: &mut K,
+        key: usize,
+    ) -> Result<Result<T, RecvError>, AllocError>
+        ensures gave { Self.gave self.now (Call.TryRecv key)
             (Reply.TryRecv (as_try_recv result)) }
-        ensures learned { Self.learns known.old (Call.TryRecv key)
-            (Reply.TryRecv (as_try_recv result)) known.new };
+        ensures learned { Self.learns caller.old (Call.TryRecv key)
+            (Reply.TryRecv (as_try_recv result)) caller.new };
 
     // Holds of a port that may be out of memory for another one.
     ghost lacks_memory: { Self → Type 0 };
@@ -127,41 +116,41 @@ pub trait KnowingPort<T: Clone, K: Drop>: Ask<T, K> {
 }
 
 /// A port that can also wait with a limit of time. `Lock` is one if its runtime has a clock.
-pub trait KnowingTimedPort<T: Clone, K: Drop>: KnowingPort<T, K> {
+pub trait TimedPortFor<T: Clone, K: Drop>: PortFor<T, K> {
     /// Sends as `send_waiting` does, until `limit` has passed. It tries once more then. If the clock
     /// can't be read, the time counts as over.
     fn send_within(
         &self,
-        known: &mut K,
+        caller: &mut K,
         msg: T,
         limit: Duration,
     ) -> Result<Option<T>, SendTimeoutError<T>>
-        ensures gave { known.old ≡ Self.knows self.now → Self.gave self.now (Call.AttemptSend msg)
+        ensures gave { Self.gave self.now (Call.AttemptSend msg)
             (Reply.AttemptSend (as_attempt result)) }
-        ensures learned { Self.learns known.old (Call.AttemptSend msg)
-            (Reply.AttemptSend (as_attempt result)) known.new };
+        ensures learned { Self.learns caller.old (Call.AttemptSend msg)
+            (Reply.AttemptSend (as_attempt result)) caller.new };
 
     /// Receives as `receive_waiting` does, until `limit` has passed. It tries once more then. If the
     /// clock can't be read, the time counts as over.
     fn receive_within(
         &self,
-        known: &mut K,
+        caller: &mut K,
         key: usize,
         limit: Duration,
     ) -> Result<Result<T, RecvTimeoutError>, AllocError>
-        ensures gave { known.old ≡ Self.knows self.now → Self.gave self.now (Call.TryRecv key)
+        ensures gave { Self.gave self.now (Call.TryRecv key)
             (Reply.TryRecv (as_timed_try result)) }
-        ensures learned { Self.learns known.old (Call.TryRecv key)
-            (Reply.TryRecv (as_timed_try result)) known.new };
+        ensures learned { Self.learns caller.old (Call.TryRecv key)
+            (Reply.TryRecv (as_timed_try result)) caller.new };
 }
 
 /// A port whose callers needn't know anything of the channel. Functions over handles are written
 /// over it: `P: Port<u64>`.
-pub trait Port<T: Clone>: KnowingPort<T, ()> {}
+pub trait Port<T: Clone>: PortFor<T, ()> {}
 
-impl<T: Clone, P: KnowingPort<T, ()>> Port<T> for P {}
+impl<T: Clone, P: PortFor<T, ()>> Port<T> for P {}
 
 /// Such a port that can also wait with a limit of time.
-pub trait TimedPort<T: Clone>: Port<T> + KnowingTimedPort<T, ()> {}
+pub trait TimedPort<T: Clone>: Port<T> + TimedPortFor<T, ()> {}
 
-impl<T: Clone, P: KnowingTimedPort<T, ()>> TimedPort<T> for P {}
+impl<T: Clone, P: TimedPortFor<T, ()>> TimedPort<T> for P {}

@@ -5,7 +5,7 @@ ghost use Rattle.async_broadcast.specs.Ports.{as_try_recv};
 
 use crate::handle::{Handle, Role};
 use crate::inactive::{Inactive, InactiveReceiver};
-use crate::port::{Ask, KnowingPort};
+use crate::port::Port;
 use crate::sender::Sender;
 use crate::wake::TaskWaker;
 use bcast_core::{
@@ -35,7 +35,7 @@ use std::alloc::{AllocError, Allocator, Global};
 /// ```
 ///
 /// Source: `Receiver` of async-broadcast 0.7.2.
-pub type Receiver<T, P, A = Global, K = ()> = Handle<T, P, Receiving, A, K>;
+pub type Receiver<T, P, A = Global> = Handle<T, P, Receiving, A>;
 
 /// The role of a `Receiver`.
 #[derive(Drop)]
@@ -58,7 +58,7 @@ impl Receiving {
     }
 }
 
-impl<T: Clone, P: KnowingPort<T, K>, A: Allocator + Copy, K: Drop> Receiver<T, P, A, K> {
+impl<T: Clone, P: Port<T>, A: Allocator + Copy> Receiver<T, P, A> {
     /// A receiver over this port, whose channel has its cursor under this key: its drop asks
     /// `DropReceiver`.
     ///
@@ -97,8 +97,7 @@ impl<T: Clone, P: KnowingPort<T, K>, A: Allocator + Copy, K: Drop> Receiver<T, P
             (Reply.TryRecv result) }
         ensures same { self.new ≡ self.old }
     {
-        self.port
-            .ask(&mut self.port.known(), TryRecv(self.role.key))
+        self.port.ask(&mut (), TryRecv(self.role.key))
     }
 
     /// Receives the next message, and blocks the thread while there is none and the channel is
@@ -125,8 +124,7 @@ impl<T: Clone, P: KnowingPort<T, K>, A: Allocator + Copy, K: Drop> Receiver<T, P
             (Reply.TryRecv (as_try_recv result)) }
         ensures same { self.new ≡ self.old }
     {
-        self.port
-            .receive_waiting(&mut self.port.known(), self.role.key)
+        self.port.receive_waiting(&mut (), self.role.key)
     }
 
     /// Whether the channel is closed and keeps no message.
@@ -147,7 +145,7 @@ impl<T: Clone, P: KnowingPort<T, K>, A: Allocator + Copy, K: Drop> Receiver<T, P
     pub fn is_terminated(&self) -> bool
         ensures { P.gave self.now.port Call.IsTerminated (Reply.IsTerminated result) }
     {
-        self.port.ask(&mut self.port.known(), Test::IsTerminated)
+        self.port.ask(&mut (), Test::IsTerminated)
     }
 
     /// Makes another active receiver, which has the same messages still to read.
@@ -170,7 +168,7 @@ impl<T: Clone, P: KnowingPort<T, K>, A: Allocator + Copy, K: Drop> Receiver<T, P
             (Call.CloneReceiver self.now.role.key) Reply.CloneReceiver (λ made. made.role.key)
             result }
     {
-        self.make_receiver(&mut self.port.known(), AddReceiver::Clone(self.role.key))
+        self.make_receiver(AddReceiver::Clone(self.role.key))
     }
 
     /// Makes an active receiver, whose first message is the next one that is accepted.
@@ -194,7 +192,7 @@ impl<T: Clone, P: KnowingPort<T, K>, A: Allocator + Copy, K: Drop> Receiver<T, P
         ensures { MakesHandle P.gave P.lacks_memory self.now.port
             Call.NewReceiver Reply.NewReceiver (λ made. made.role.key) result }
     {
-        self.make_receiver(&mut self.port.known(), AddReceiver::New)
+        self.make_receiver(AddReceiver::New)
     }
 
     /// Makes a sender of the channel. It doesn't open a closed one.
@@ -213,12 +211,12 @@ impl<T: Clone, P: KnowingPort<T, K>, A: Allocator + Copy, K: Drop> Receiver<T, P
     /// ```
     ///
     /// Source: `Receiver::new_sender` of async-broadcast 0.7.2, which never refuses.
-    pub fn new_sender(&self) -> Result<Sender<T, P, A, K>, HandleError>
+    pub fn new_sender(&self) -> Result<Sender<T, P, A>, HandleError>
         ensures { MakesHandle P.gave P.lacks_memory self.now.port
             Call.NewSender Reply.NewSender (λ _. tt) result }
     {
         let port = self.port.try_clone().ok_or(HandleError::Memory)?;
-        self.port.ask(&mut self.port.known(), AddHandle::Sender)?;
+        self.port.ask(&mut (), AddHandle::Sender)?;
         Ok(Sender::from_port(port, self.alloc))
     }
 
@@ -242,30 +240,27 @@ impl<T: Clone, P: KnowingPort<T, K>, A: Allocator + Copy, K: Drop> Receiver<T, P
     /// ```
     ///
     /// Source: `Receiver::deactivate` of async-broadcast 0.7.2, which never refuses.
-    pub fn deactivate(self) -> Result<InactiveReceiver<T, P, A, K>, (Self, HandleError)>
+    pub fn deactivate(self) -> Result<InactiveReceiver<T, P, A>, (Self, HandleError)>
         ensures made { IfOk result (λ made. (made.port ≡ self.port)
             × P.gave self.port (Call.Deactivate self.role.key) (Reply.Deactivate (Ok tt))) }
         ensures refused { IfErr result (λ back. (back.0 ≡ self)
             × P.gave self.port (Call.Deactivate self.role.key) (Reply.Deactivate (Err back.1))) }
     {
         let call = AddHandle::Deactivated(self.role.key);
-        match self.port.ask(&mut self.port.known(), call) {
+        match self.port.ask(&mut (), call) {
             Ok(()) => Ok(self.with_role(Inactive)),
             Err(error) => Err((self, error)),
         }
     }
 }
 
-impl<T: Clone> Role<T> for Receiving {
-    ghost use Rattle.bcast_model.specs.declared.run.Call.{Call};
-    ghost use Rattle.bcast_model.specs.declared.run.Reply.{Reply};
+impl Role for Receiving {
+    ghost use Rattle.bcast_core.specs.declared.calls.changes.Change.TheVariants as change;
 
-    ghost last = { λ role. Call.DropReceiver role.key };
-
-    ghost left = { Reply.DropReceiver };
+    ghost leaves = { λ role. change.DropReceiver role.key };
 
     #[inline(always)]
-    fn ask_drop<K: Drop, P: Ask<T, K>>(&self, port: &P) {
-        port.ask(&mut port.known(), Change::DropReceiver(self.key))
+    fn leaving(&self) -> Change {
+        Change::DropReceiver(self.key)
     }
 }

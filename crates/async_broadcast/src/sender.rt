@@ -4,7 +4,7 @@ ghost use Rattle.bcast_model.specs.Encodings.{in_lists};
 ghost use Rattle.async_broadcast.specs.Handles.{MakesHandle};
 
 use crate::handle::{Handle, Role};
-use crate::port::{Ask, KnowingPort};
+use crate::port::Port;
 use crate::receiver::Receiver;
 use bcast_core::{
     AddHandle, AddReceiver, Call, Change, HandleError, Messages, Reply, SendError, SendPoll,
@@ -18,13 +18,13 @@ use std::alloc::{Allocator, Global};
 /// are accepted, and those that are kept can still be received. Contracts name its `port`.
 ///
 /// Source: `Sender` of async-broadcast 0.7.2.
-pub type Sender<T, P, A = Global, K = ()> = Handle<T, P, Sending, A, K>;
+pub type Sender<T, P, A = Global> = Handle<T, P, Sending, A>;
 
 /// The role of a `Sender`.
 #[derive(Drop)]
 pub struct Sending;
 
-impl<T: Clone, P: KnowingPort<T, K>, A: Allocator + Copy, K: Drop> Sender<T, P, A, K> {
+impl<T: Clone, P: Port<T>, A: Allocator + Copy> Sender<T, P, A> {
     /// A sender over this port, whose channel has counted it: its drop asks `DropSender`.
     ///
     /// Futures and handles that are made by it take their memory from `alloc`.
@@ -62,7 +62,7 @@ impl<T: Clone, P: KnowingPort<T, K>, A: Allocator + Copy, K: Drop> Sender<T, P, 
     pub fn try_broadcast(&self, msg: T) -> Result<Option<T>, TrySendError<T>>
         ensures { P.gave self.now.port (Call.TryBroadcast msg) (Reply.TryBroadcast result) }
     {
-        self.port.ask(&mut self.port.known(), TryBroadcast(msg))
+        self.port.ask(&mut (), TryBroadcast(msg))
     }
 
     /// Sends a whole list of messages in one step, unless the channel is closed, has no active
@@ -99,7 +99,7 @@ impl<T: Clone, P: KnowingPort<T, K>, A: Allocator + Copy, K: Drop> Sender<T, P, 
             (Reply.TryBroadcastAll (in_lists result)) }
     {
         let call = TryBroadcastAll(Messages::new(msgs));
-        in_vec(self.port.ask(&mut self.port.known(), call))
+        in_vec(self.port.ask(&mut (), call))
     }
 
     /// Sends a message, and blocks the thread while the channel has no room for it, or, with
@@ -128,7 +128,7 @@ impl<T: Clone, P: KnowingPort<T, K>, A: Allocator + Copy, K: Drop> Sender<T, P, 
         ensures { P.gave self.now.port (Call.AttemptSend msg)
             (Reply.AttemptSend (SendPoll.Ready result)) }
     {
-        self.port.send_waiting(&mut self.port.known(), msg)
+        self.port.send_waiting(&mut (), msg)
     }
 
     /// Makes another sender of the channel.
@@ -154,7 +154,7 @@ impl<T: Clone, P: KnowingPort<T, K>, A: Allocator + Copy, K: Drop> Sender<T, P, 
             Call.NewSender Reply.NewSender (λ _. tt) result }
     {
         let port = self.port.try_clone().ok_or(HandleError::Memory)?;
-        self.port.ask(&mut self.port.known(), AddHandle::Sender)?;
+        self.port.ask(&mut (), AddHandle::Sender)?;
         Ok(Sender::from_port(port, self.alloc))
     }
 
@@ -176,24 +176,21 @@ impl<T: Clone, P: KnowingPort<T, K>, A: Allocator + Copy, K: Drop> Sender<T, P, 
     /// ```
     ///
     /// Source: `Sender::new_receiver` of async-broadcast 0.7.2, which never refuses.
-    pub fn new_receiver(&self) -> Result<Receiver<T, P, A, K>, HandleError>
+    pub fn new_receiver(&self) -> Result<Receiver<T, P, A>, HandleError>
         ensures { MakesHandle P.gave P.lacks_memory self.now.port
             Call.NewReceiver Reply.NewReceiver (λ made. made.role.key) result }
     {
-        self.make_receiver(&mut self.port.known(), AddReceiver::New)
+        self.make_receiver(AddReceiver::New)
     }
 }
 
-impl<T: Clone> Role<T> for Sending {
-    ghost use Rattle.bcast_model.specs.declared.run.Call.{Call};
-    ghost use Rattle.bcast_model.specs.declared.run.Reply.{Reply};
+impl Role for Sending {
+    ghost use Rattle.bcast_core.specs.declared.calls.changes.Change.TheVariants as change;
 
-    ghost last = { λ _. Call.DropSender };
-
-    ghost left = { Reply.DropSender };
+    ghost leaves = { λ _. change.DropSender };
 
     #[inline(always)]
-    fn ask_drop<K: Drop, P: Ask<T, K>>(&self, port: &P) {
-        port.ask(&mut port.known(), Change::DropSender)
+    fn leaving(&self) -> Change {
+        Change::DropSender
     }
 }

@@ -6,7 +6,7 @@ use crate::port::Ask;
 use bcast_core::{Call, Change, Close, Count, Reply, SetCapacity, Test};
 use std::alloc::{AllocError, Allocator};
 
-impl<T: Clone, P: Ask<T, K>, H: Role<T>, A: Allocator, K: Drop> Handle<T, P, H, A, K> {
+impl<T: Clone, P: Ask<T, ()>, H: Role, A: Allocator> Handle<T, P, H, A> {
     /// The greatest number of messages that the channel keeps at once.
     ///
     /// ```rust
@@ -18,7 +18,7 @@ impl<T: Clone, P: Ask<T, K>, H: Role<T>, A: Allocator, K: Drop> Handle<T, P, H, 
     pub fn capacity(&self) -> usize
         ensures { P.gave self.now.port Call.Capacity (Reply.Capacity result) }
     {
-        self.port.ask(&mut self.port.known(), Count::Capacity)
+        self.port.ask(&mut (), Count::Capacity)
     }
 
     /// Changes how many messages the channel keeps at once.
@@ -47,7 +47,7 @@ impl<T: Clone, P: Ask<T, K>, H: Role<T>, A: Allocator, K: Drop> Handle<T, P, H, 
     {
         // A program that isn't proved stops here.
         prove!(new_cap > 0);
-        self.port.ask(&mut self.port.known(), SetCapacity(new_cap))
+        self.port.ask(&mut (), SetCapacity(new_cap))
     }
 
     /// Whether a full channel drops its oldest message to accept a new one.
@@ -63,7 +63,7 @@ impl<T: Clone, P: Ask<T, K>, H: Role<T>, A: Allocator, K: Drop> Handle<T, P, H, 
     pub fn overflow(&self) -> bool
         ensures { P.gave self.now.port Call.Overflow (Reply.Overflow result) }
     {
-        self.port.ask(&mut self.port.known(), Test::Overflow)
+        self.port.ask(&mut (), Test::Overflow)
     }
 
     /// Sets whether a full channel drops its oldest message to accept a new one.
@@ -82,8 +82,7 @@ impl<T: Clone, P: Ask<T, K>, H: Role<T>, A: Allocator, K: Drop> Handle<T, P, H, 
         ensures asked { P.gave self.old.port (Call.SetOverflow overflow) Reply.SetOverflow }
         ensures same { self.new ≡ self.old }
     {
-        self.port
-            .ask(&mut self.port.known(), Change::SetOverflow(overflow))
+        self.port.ask(&mut (), Change::SetOverflow(overflow))
     }
 
     /// Whether sends that may wait do so while there is no active receiver.
@@ -99,7 +98,7 @@ impl<T: Clone, P: Ask<T, K>, H: Role<T>, A: Allocator, K: Drop> Handle<T, P, H, 
     pub fn await_active(&self) -> bool
         ensures { P.gave self.now.port Call.AwaitActive (Reply.AwaitActive result) }
     {
-        self.port.ask(&mut self.port.known(), Test::AwaitActive)
+        self.port.ask(&mut (), Test::AwaitActive)
     }
 
     /// Sets whether sends that may wait do so while there is no active receiver.
@@ -118,7 +117,7 @@ impl<T: Clone, P: Ask<T, K>, H: Role<T>, A: Allocator, K: Drop> Handle<T, P, H, 
             Reply.SetAwaitActive }
         ensures same { self.new ≡ self.old }
     {
-        self.port.ask(&mut self.port.known(), Change::SetAwaitActive(await_active))
+        self.port.ask(&mut (), Change::SetAwaitActive(await_active))
     }
 
     /// Closes the channel, and returns whether it was open.
@@ -135,7 +134,7 @@ impl<T: Clone, P: Ask<T, K>, H: Role<T>, A: Allocator, K: Drop> Handle<T, P, H, 
     pub fn close(&self) -> bool
         ensures { P.gave self.now.port Call.Close (Reply.Close result) }
     {
-        self.port.ask(&mut self.port.known(), Close)
+        self.port.ask(&mut (), Close)
     }
 
     /// Whether the channel is closed.
@@ -151,7 +150,7 @@ impl<T: Clone, P: Ask<T, K>, H: Role<T>, A: Allocator, K: Drop> Handle<T, P, H, 
     pub fn is_closed(&self) -> bool
         ensures { P.gave self.now.port Call.IsClosed (Reply.IsClosed result) }
     {
-        self.port.ask(&mut self.port.known(), Test::IsClosed)
+        self.port.ask(&mut (), Test::IsClosed)
     }
 
     /// Whether the channel keeps no message.
@@ -167,7 +166,7 @@ impl<T: Clone, P: Ask<T, K>, H: Role<T>, A: Allocator, K: Drop> Handle<T, P, H, 
     pub fn is_empty(&self) -> bool
         ensures { P.gave self.now.port Call.IsEmpty (Reply.IsEmpty result) }
     {
-        self.port.ask(&mut self.port.known(), Test::IsEmpty)
+        self.port.ask(&mut (), Test::IsEmpty)
     }
 
     /// Whether the channel keeps as many messages as its capacity allows.
@@ -183,7 +182,7 @@ impl<T: Clone, P: Ask<T, K>, H: Role<T>, A: Allocator, K: Drop> Handle<T, P, H, 
     pub fn is_full(&self) -> bool
         ensures { P.gave self.now.port Call.IsFull (Reply.IsFull result) }
     {
-        self.port.ask(&mut self.port.known(), Test::IsFull)
+        self.port.ask(&mut (), Test::IsFull)
     }
 
     /// The number of messages that the channel keeps.
@@ -198,7 +197,7 @@ impl<T: Clone, P: Ask<T, K>, H: Role<T>, A: Allocator, K: Drop> Handle<T, P, H, 
     pub fn len(&self) -> usize
         ensures { P.gave self.now.port Call.Len (Reply.Len result) }
     {
-        self.port.ask(&mut self.port.known(), Count::Len)
+        self.port.ask(&mut (), Count::Len)
     }
 
     /// The number of active receivers.
@@ -213,7 +212,7 @@ impl<T: Clone, P: Ask<T, K>, H: Role<T>, A: Allocator, K: Drop> Handle<T, P, H, 
     pub fn receiver_count(&self) -> usize
         ensures { P.gave self.now.port Call.ReceiverCount (Reply.ReceiverCount result) }
     {
-        self.port.ask(&mut self.port.known(), Count::ReceiverCount)
+        self.port.ask(&mut (), Count::ReceiverCount)
     }
 
     /// The number of inactive receivers.
@@ -229,8 +228,7 @@ impl<T: Clone, P: Ask<T, K>, H: Role<T>, A: Allocator, K: Drop> Handle<T, P, H, 
         ensures { P.gave self.now.port Call.InactiveReceiverCount
             (Reply.InactiveReceiverCount result) }
     {
-        self.port
-            .ask(&mut self.port.known(), Count::InactiveReceiverCount)
+        self.port.ask(&mut (), Count::InactiveReceiverCount)
     }
 
     /// The number of senders.
@@ -245,6 +243,6 @@ impl<T: Clone, P: Ask<T, K>, H: Role<T>, A: Allocator, K: Drop> Handle<T, P, H, 
     pub fn sender_count(&self) -> usize
         ensures { P.gave self.now.port Call.SenderCount (Reply.SenderCount result) }
     {
-        self.port.ask(&mut self.port.known(), Count::SenderCount)
+        self.port.ask(&mut (), Count::SenderCount)
     }
 }

@@ -5,20 +5,12 @@ ghost use Rattle.bcast_model.specs.Words.{View, IsShown, unread, missed};
 ghost use Rattle.async_broadcast.specs.Snapshots.{ShowsSomeState};
 
 use crate::handle::{Handle, Role};
-use crate::journal::CallJournal;
-use crate::lock::Lock;
-use crate::receiver::Receiver;
+use crate::lock::{Lock, LockReceiver};
 use bcast_core::Snapshot;
 use std::alloc::{AllocError, Allocator};
 use std::sync::Wait;
 
-impl<T: Clone, R: Wait + Clone, A: Allocator + Copy, H: Role<T>, J: CallJournal<T>> Handle<
-    T,
-    Lock<T, R, A, J>,
-    H,
-    A,
-    J::Known,
-> {
+impl<T: Clone, R: Wait + Clone, A: Allocator + Copy, H: Role> Handle<T, Lock<T, R, A>, H, A> {
     /// The view of the channel at one moment, with a clone of each message that it keeps.
     ///
     /// Waits for the lock, and changes nothing: no receiver has read a message by this. Some valid
@@ -34,12 +26,7 @@ impl<T: Clone, R: Wait + Clone, A: Allocator + Copy, H: Role<T>, J: CallJournal<
     }
 }
 
-impl<T: Clone, R: Wait + Clone, A: Allocator + Copy, J: CallJournal<T>> Receiver<
-    T,
-    Lock<T, R, A, J>,
-    A,
-    J::Known,
-> {
+impl<T: Clone, R: Wait + Clone, A: Allocator + Copy> LockReceiver<T, R, A> {
     /// How many of the messages that the channel keeps this receiver has still to read. `len` is
     /// how many the channel keeps, for all receivers.
     ///

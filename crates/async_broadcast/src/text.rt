@@ -10,7 +10,7 @@ use crate::sender::Sender;
 use std::alloc::Allocator;
 use std::fmt;
 
-impl<T: Clone, P: Ask<T, K>, A: Allocator, K: Drop> fmt::Debug for Sender<T, P, A, K> {
+impl<T: Clone, P: Ask<T, ()>, A: Allocator> fmt::Debug for Sender<T, P, A> {
     ghost debug_output = { λ _. Some (codes "Sender { .. }") };
 
     fn fmt<W: fmt::Write>(&self, f: &mut fmt::Formatter<W>) -> fmt::Result {
@@ -18,7 +18,7 @@ impl<T: Clone, P: Ask<T, K>, A: Allocator, K: Drop> fmt::Debug for Sender<T, P, 
     }
 }
 
-impl<T: Clone, P: Ask<T, K>, A: Allocator, K: Drop> fmt::Debug for Receiver<T, P, A, K> {
+impl<T: Clone, P: Ask<T, ()>, A: Allocator> fmt::Debug for Receiver<T, P, A> {
     ghost debug_output = { λ _. Some (codes "Receiver { .. }") };
 
     fn fmt<W: fmt::Write>(&self, f: &mut fmt::Formatter<W>) -> fmt::Result {
@@ -26,7 +26,7 @@ impl<T: Clone, P: Ask<T, K>, A: Allocator, K: Drop> fmt::Debug for Receiver<T, P
     }
 }
 
-impl<T: Clone, P: Ask<T, K>, A: Allocator, K: Drop> fmt::Debug for InactiveReceiver<T, P, A, K> {
+impl<T: Clone, P: Ask<T, ()>, A: Allocator> fmt::Debug for InactiveReceiver<T, P, A> {
     ghost debug_output = { λ _. Some (codes "InactiveReceiver { .. }") };
 
     fn fmt<W: fmt::Write>(&self, f: &mut fmt::Formatter<W>) -> fmt::Result {
@@ -34,7 +34,7 @@ impl<T: Clone, P: Ask<T, K>, A: Allocator, K: Drop> fmt::Debug for InactiveRecei
     }
 }
 
-impl<T: Clone, P: Ask<T, K>, A: Allocator, K: Drop> fmt::Debug for Send<'_, T, P, A, K> {
+impl<T: Clone, P: Ask<T, ()>, A: Allocator> fmt::Debug for Send<'_, T, P, A> {
     ghost debug_output = { λ _. Some (codes "Send { .. }") };
 
     fn fmt<W: fmt::Write>(&self, f: &mut fmt::Formatter<W>) -> fmt::Result {
@@ -42,7 +42,7 @@ impl<T: Clone, P: Ask<T, K>, A: Allocator, K: Drop> fmt::Debug for Send<'_, T, P
     }
 }
 
-impl<T: Clone, P: Ask<T, K>, A: Allocator, K: Drop> fmt::Debug for Recv<'_, T, P, A, K> {
+impl<T: Clone, P: Ask<T, ()>, A: Allocator> fmt::Debug for Recv<'_, T, P, A> {
     ghost debug_output = { λ _. Some (codes "Recv { .. }") };
 
     fn fmt<W: fmt::Write>(&self, f: &mut fmt::Formatter<W>) -> fmt::Result {

@@ -4,7 +4,7 @@ ghost use Rattle.async_broadcast.specs.Timed.{as_attempt, as_timed_try, unsent_m
 ghost use Rattle.async_broadcast.specs.Timed.{send_timeout_text, send_timeout_debug};
 ghost use Rattle.async_broadcast.specs.Timed.{recv_timeout_text};
 
-use crate::port::KnowingTimedPort;
+use crate::port::TimedPort;
 use crate::receiver::Receiver;
 use crate::sender::Sender;
 use bcast_core::{Call, Reply};
@@ -13,7 +13,7 @@ use std::error::Error;
 use std::fmt;
 use std::time::Duration;
 
-impl<T: Clone, P: KnowingTimedPort<T, K>, A: Allocator + Copy, K: Drop> Sender<T, P, A, K> {
+impl<T: Clone, P: TimedPort<T>, A: Allocator + Copy> Sender<T, P, A> {
     /// Sends a message as `broadcast_blocking` does, and gives up once `limit` has passed. Waiting
     /// for the lock, and until the system runs the thread again, comes on top.
     ///
@@ -48,11 +48,11 @@ impl<T: Clone, P: KnowingTimedPort<T, K>, A: Allocator + Copy, K: Drop> Sender<T
         ensures { P.gave self.now.port (Call.AttemptSend msg)
             (Reply.AttemptSend (as_attempt result)) }
     {
-        self.port.send_within(&mut self.port.known(), msg, limit)
+        self.port.send_within(&mut (), msg, limit)
     }
 }
 
-impl<T: Clone, P: KnowingTimedPort<T, K>, A: Allocator + Copy, K: Drop> Receiver<T, P, A, K> {
+impl<T: Clone, P: TimedPort<T>, A: Allocator + Copy> Receiver<T, P, A> {
     /// Receives the next message as `recv_blocking` does, and gives up once `limit` has passed.
     /// Waiting for the lock, and until the system runs the thread again, comes on top.
     ///
@@ -89,8 +89,7 @@ impl<T: Clone, P: KnowingTimedPort<T, K>, A: Allocator + Copy, K: Drop> Receiver
             (Reply.TryRecv (as_timed_try result)) }
         ensures same { self.new ≡ self.old }
     {
-        self.port
-            .receive_within(&mut self.port.known(), self.role.key, limit)
+        self.port.receive_within(&mut (), self.role.key, limit)
     }
 }
 

@@ -1,3 +1,22 @@
-pub mod Appends
+-- the journal
 pub mod Prefixes
 pub mod Adding
+-- runs that go on
+pub mod Appends
+pub mod Waits
+pub mod Keeping
+-- what a receiver finds
+pub mod Told
+pub mod Found
+pub mod Polls
+pub mod Polled
+pub mod Received
+pub mod Skipped
+-- where a receiver starts
+pub mod Started
+pub mod Making
+-- laws
+pub mod Sent
+pub mod Given
+pub mod Logged
+pub mod Closed

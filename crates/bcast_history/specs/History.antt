@@ -1,9 +1,10 @@
 -- Steps on a channel, and whether they are a run of it.
 use Rattle.std.specs.Prelude.{List, map}
+use Rattle.std.specs.List.{AllByRecursion}
 use Rattle.bcast_model.specs.declared.run.Call.{Call}
 use Rattle.bcast_model.specs.declared.run.Reply.{Reply}
 use Rattle.bcast_model.specs.Words.{History, opening, IsRun, end_of_run}
-use Rattle.bcast_model.specs.Words.{IsValid, View, Represents}
+use Rattle.bcast_model.specs.Words.{IsValid, View, Represents, HasPositiveCapacity}
 use Rattle.bcast_history.specs.declared.step.Opening.{Opening}
 use Rattle.bcast_history.specs.declared.step.Step.{Step}
 
@@ -22,6 +23,10 @@ module _ {T : Type 0} where
   abbrev pub end_of : Opening → List (Step T) → History T
   end_of o steps = end_of_run (start_of o) (calls_of steps) (replies_of steps)
 
+  -- the messages that the channel accepted by these steps, in order
+  abbrev pub accepted_by : Opening → List (Step T) → List T
+  accepted_by o steps = (end_of o steps).accepted
+
   -- the steps are a run of the channel: each reply is legal after the steps before it
   abbrev pub IsHistory : (T → T → Type 0) → Opening → List (Step T) → Type 0
   IsHistory is_clone o steps = IsRun is_clone (start_of o) (calls_of steps) (replies_of steps)
@@ -33,3 +38,12 @@ module _ {T : Type 0} where
     pub run : IsHistory is_clone o steps
     pub end : Represents seen (end_of o steps)
     pub valid : IsValid (end_of o steps)
+
+  -- the steps are a run of which every law of runs speaks: it begins with a valid channel, each
+  -- capacity is positive, and it ends with a valid channel
+  pub record IsLawful (is_clone : T → T → Type 0) (o : Opening) (steps : List (Step T))
+      : Type 0 where
+    pub start : IsValid (start_of o)
+    pub capacities : AllByRecursion HasPositiveCapacity (calls_of steps)
+    pub run : IsHistory is_clone o steps
+    pub end : IsValid (end_of o steps)

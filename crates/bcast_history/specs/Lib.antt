@@ -2,3 +2,16 @@
 pub mod Book
 -- steps on a channel, and whether they are a run of it
 pub mod History
+-- what a call tells its caller, and who calls
+pub mod Follows
+pub mod Tracker
+pub mod Learning
+-- what follows, and if a handle isn't made
+pub mod Makes
+pub mod Laws
+-- what a receiver is given, a log of it, and that nothing comes after `Closed`
+pub mod Reader
+pub mod Log
+pub mod Closed
+-- a channel before it has a name
+pub mod Opened

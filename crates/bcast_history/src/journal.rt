@@ -215,7 +215,7 @@ impl<X, J: Named> Writer<X, J> {
 // Doesn't return.
 #[cold]
 #[inline(never)]
-fn wait_forever(rt: &impl Wait)
+pub(crate) fn wait_forever(rt: &impl Wait)
     ensures { ⊥ }
 {
     for _ in rt.forever() {}

@@ -1,21 +1,59 @@
-//! A journal of a channel's calls, which contracts read: a list of notes that only grows.
+//! A channel behind a lock whose handles promise more: each call has its place in one history of
+//! the channel, which only grows.
 //!
-//! No note is stored. A journal is a word, the number of notes, and what contracts know of them.
-//! One `Writer` knows them all, and lies in a value behind a lock; a `Prefix` has no bytes, and
-//! knows a beginning. A handle that holds one knows which calls came before its own.
+//! `Opened` makes a channel with a journal of the steps on it, each a call with its reply, and
+//! `broadcast` its first handles: a `TrackedSender` and a `TrackedReceiver`. They make the calls of
+//! the handles of `async_broadcast`, under the same names. A function over them is written over
+//! their port, a `HistoryPort<T, J>`.
 //!
-//! All types of one journal carry a parameter `J` that names it. A program makes and uses a
-//! journal inside a function over `J: Named`, here `work`, and calls it at `Brand` of `std::marker`
-//! with `journal`, a new `Journal`. The caller's `Invariants.antt` says that `J` names it:
+//! A handle knows a beginning of the steps. After each call it knows the steps that others made
+//! meanwhile, too, and last its own (`Follows`). All that any handle of the channel knows are
+//! beginnings of one list, which is a run of the channel. So the laws of `bcast_laws` speak of it.
+//!
+//! A receive promises that the receiver is given the accepted messages one after the other, from its
+//! start on, or told how many it missed (`Takes`). A clone starts where its original reads on, a new
+//! receiver at the end.
+//!
+//! No step is stored: the journal is a word, the number of notes, and what contracts know of them.
+//! One `Writer` knows them all, and lies behind the lock; a `Prefix` has no bytes, and knows a
+//! beginning.
+//!
+//! The channel's parameter is `J: Channel`, which names it. A program uses the channel inside a
+//! function over `J`, here `work`, and calls it at `Brand` of `std::marker` with `opened`, an
+//! `Opened`. The caller's `Invariants.antt` says that `J` names this channel:
 //!
 //! ```text
-//! ghosts-work g a = record { book = a.journal }
+//! ghosts-work g a = record { book = a.opened.book; opening = a.opened.opening }
 //! ```
 #![tactic(auto)]
 
+mod inactive;
+mod iter;
 mod journal;
+mod laws;
+mod opened;
+mod place;
+mod port;
+mod receiver;
 mod rule;
+mod sender;
+mod settings;
 mod step;
+mod steps;
+mod tracker;
 
+pub use inactive::TrackedInactiveReceiver;
+pub use iter::TrackedIter;
 pub use journal::{Journal, Named, Notes, Prefix, Writer};
+pub use laws::{
+    closed_is_last, end_is_last, logs_are_accepted, messages_stay, receivers_read_on,
+    sends_stand_last,
+};
+pub use opened::{FirstHandles, Opened, broadcast};
+pub use place::Place;
+pub use port::{History, HistoryPort, TimedHistoryPort};
+pub use receiver::TrackedReceiver;
+pub use sender::TrackedSender;
 pub use step::{Opening, Step};
+pub use steps::StepJournal;
+pub use tracker::{Channel, Seen, Tracker};

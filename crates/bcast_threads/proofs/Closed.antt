@@ -3,6 +3,8 @@ use Rattle.std.proofs.Common.{◌≡◌, ◌⊎◌, inl, inr, ℕ, true, List, [
 use Rattle.std.proofs.lemmas.Bool.{cases_lt}
 use Rattle.std.proofs.lemmas.List.Elements.{All-nil, All-head}
 use Rattle.std.specs.Prelude.{All}
+use Rattle.std.proofs.Math.Logic.{∥∥₁_elim}
+use base.Stored.{Coded-set, coded_ℕ, coded_list}
 use mathlib.Core.List.{IsPrefix}
 use Rattle.bcast_text.specs.Order.{HoldsEachOnce}
 use Rattle.bcast_model.specs.Words.{end_number}
@@ -10,11 +12,8 @@ use Rattle.bcast_history.specs.declared.step.Opening.{Opening}
 use Rattle.bcast_history.specs.declared.step.Step.{Step}
 use Rattle.bcast_history.specs.History.{IsHistory, start_of, end_of}
 use Rattle.bcast_history.proofs.Prefixes.{prefix_trans, prefix_shorter, prefix_whole}
-use Rattle.bcast_delivery.specs.Follows.{accepted_by}
-use Rattle.bcast_delivery.specs.Reading.{Reading}
-use Rattle.bcast_delivery.specs.Closed.{ClosedIsLast}
-use Rattle.bcast_delivery.proofs.Sent.{accepted_grows}
-use Rattle.bcast_delivery.proofs.Logged.{first_kept}
+use Rattle.bcast_history.specs.History.{accepted_by}
+use Rattle.bcast_history.proofs.Closed.{closed_keeps}
 use Rattle.bcast_threads.specs.Lists.{HasAll, IsOneList}
 use Rattle.bcast_threads.specs.Closed.{AreBeforeClosing, WereSent, IsWhole}
 use Rattle.bcast_threads.proofs.Sent.{all_stay, contained, joined}
@@ -26,23 +25,17 @@ meet known other later one two = elim (cases_lt (length other) (length known)) [
   | inr more ↦ inl (prefix_shorter known other later one two more)
 ]
 
--- a closed channel accepts nothing more
-closed_keeps : {is_clone : ℕ → ℕ → Type 0} → ClosedIsLast is_clone → (o : Opening) (closed later : List (Step ℕ))
-    → (end_of o closed).control.closed ≡ true → IsPrefix closed later → IsHistory is_clone o later → accepted_by o closed ≡ accepted_by o later
-closed_keeps law o closed later is begins run =
-    let end = end_number (end_of o closed) in
-    let old : Reading ℕ = record { key = 0; next = end; steps = closed } in
-    let new : Reading ℕ = record { key = 0; next = end; steps = later } in
-    let all = (law.stays o old new (Err (record {})) (record { closed = is; all = omega arith }) begins run refl tt).0.all in
-    let before = first_kept (start_of o) closed in
-    let after = first_kept (start_of o) later in
-    prefix_whole (accepted_by o closed) (accepted_by o later) (accepted_grows o closed later begins) (omega (arith, all, before, after))
+-- what a channel had accepted is all that it had accepted later
+kept : (o : Opening) (closed later : List (Step ℕ)) → (end_of o closed).control.closed ≡ true → IsPrefix closed later
+    → ∥ IsHistory (λ (one two : ℕ). two ≡ one) o later ∥₁ → accepted_by o closed ≡ accepted_by o later
+kept o closed later is begins run =
+    ∥∥₁_elim run (Coded-set (coded_list coded_ℕ) _ _) (λ run. closed_keeps (λ (one two : ℕ). two ≡ one) o closed later is begins run)
 
 -- what was accepted by a run was so before it closed the channel
-pub before_closing : {is_clone : ℕ → ℕ → Type 0} → ClosedIsLast is_clone → (o : Opening) (first end : ℕ) (steps : List (Step ℕ))
+pub before_closing : (is_clone : ℕ → ℕ → Type 0) (o : Opening) (first end : ℕ) (steps : List (Step ℕ))
     → IsHistory is_clone o steps → HasAll first end (accepted_by o steps) → AreBeforeClosing o first end steps
-before_closing law o first end steps run sent closed begins is =
-    subst (HasAll first end) (sym (closed_keeps law o closed steps is begins run)) sent
+before_closing is_clone o first end steps run sent closed begins is =
+    subst (HasAll first end) (sym (closed_keeps is_clone o closed steps is begins run)) sent
 
 -- and stays so
 pub still_sent : (o : Opening) (first end : ℕ) (steps later : List (Step ℕ)) → IsPrefix steps later
@@ -73,20 +66,20 @@ still_whole o steps later list longer whole = record {
   all = whole.all;
 }
 
-same_whole : ClosedIsLast (λ (one two : ℕ). two ≡ one) → (o : Opening) (steps : List (Step ℕ)) (list other : List ℕ)
+same_whole : (o : Opening) (steps : List (Step ℕ)) (list other : List ℕ)
     → IsWhole o steps list → IsWhole o steps other → list ≡ other
-same_whole law o steps list other one two = one.all ∙ elim (meet one.known two.known steps one.begins two.begins) [
-  | inl sooner ↦ closed_keeps law o one.known two.known one.closed sooner two.run
-  | inr later ↦ sym (closed_keeps law o two.known one.known two.closed later one.run)
+same_whole o steps list other one two = one.all ∙ elim (meet one.known two.known steps one.begins two.begins) [
+  | inl sooner ↦ kept o one.known two.known one.closed sooner two.run
+  | inr later ↦ sym (kept o two.known one.known two.closed later one.run)
 ] ∙ sym two.all
 
 -- lists of all that was accepted are one list
-pub one_list : {X : Type 0} (items : X → List ℕ) → ClosedIsLast (λ (one two : ℕ). two ≡ one) → (o : Opening) (steps : List (Step ℕ)) (lists : List X)
+pub one_list : {X : Type 0} (items : X → List ℕ) (o : Opening) (steps : List (Step ℕ)) (lists : List X)
     → All (λ list. IsWhole o steps (items list)) lists → IsOneList items lists
-one_list items law o steps [] whole = ([], All-nil _)
-one_list items law o steps (first ∷ others) whole = (
+one_list items o steps [] whole = ([], All-nil _)
+one_list items o steps (first ∷ others) whole = (
   items first,
-  λ k d within. same_whole law o steps _ (items first) (whole k d within) (All-head (λ list. IsWhole o steps (items list)) first others whole),
+  λ k d within. same_whole o steps _ (items first) (whole k d within) (All-head (λ list. IsWhole o steps (items list)) first others whole),
 )
 
 -- what was sent is in each of them, and if nothing else is, once

@@ -8,6 +8,7 @@ use Rattle.std.specs.List.{list_any}
 use Rattle.std.specs.Result.{is_err}
 use mathlib.Core.List.{IsPrefix}
 use Rattle.bcast_model.specs.declared.error.SendError.{SendError}
+use Rattle.bcast_model.specs.declared.run.Call.{Call}
 use Rattle.bcast_model.specs.declared.run.Call.TheVariants as call
 use Rattle.bcast_model.specs.declared.run.Reply.TheVariants as reply
 use Rattle.bcast_model.specs.declared.run.SendPoll.TheVariants as send
@@ -15,9 +16,11 @@ use Rattle.bcast_model.specs.declared.run.Reply.{Reply}
 use Rattle.bcast_laws.specs.Sends.{is_accepted}
 use Rattle.bcast_history.specs.declared.step.Opening.{Opening}
 use Rattle.bcast_history.specs.declared.step.Step.{Step}
-use Rattle.bcast_delivery.specs.Follows.{Follows, accepted_by}
-use Rattle.bcast_delivery.specs.Laws.{SendsStandLast}
-use Rattle.bcast_delivery.proofs.Sent.{accepted_grows}
+use Rattle.bcast_history.specs.Follows.{Follows}
+use Rattle.bcast_history.specs.History.{accepted_by}
+use Rattle.bcast_history.specs.Laws.{SendsStandLast}
+use Rattle.bcast_history.proofs.Prefixes.{prefix_trans}
+use Rattle.bcast_history.proofs.Sent.{accepted_grows}
 use Rattle.bcast_threads.specs.Lists.{HasAll}
 
 abbrev Has : List ℕ → ℕ → Type 0
@@ -60,6 +63,12 @@ one_more {o = o} first {end = end} {known = known} {after = after} {r = r} law a
       | inr differs ↦ still_there last.0 (last.0 ++ end ∷ []) number (end ∷ [], refl)
           (still_there (accepted_by o known) last.0 number last.1 (all number from (omega (arith, before, differs))))
     ])
+
+-- what was accepted stays so after a call
+pub all_after : {is_clone : ℕ → ℕ → Type 0} {o : Opening} (first end : ℕ) {known after : List (Step ℕ)} {c : Call ℕ} {r : Reply ℕ}
+    → Follows is_clone o known c r after → HasAll first end (accepted_by o known) → HasAll first end (accepted_by o after)
+all_after {o = o} first end {known = known} {after = after} made all =
+    all_stay o first end known after (prefix_trans known made.before after made.begins (_, sym made.last)) all
 
 -- two ranges that meet
 pub joined : (first middle next end : ℕ) (msgs : List ℕ) → next ≡ middle → HasAll first middle msgs → HasAll next end msgs → HasAll first end msgs

@@ -2,5 +2,3 @@
 pub mod Lists
 -- what was sent and received before the channel closed
 pub mod Closed
--- what a port gave
-pub mod Given

@@ -9,9 +9,8 @@ use crate::fault::Fault;
 use crate::plan::Plan;
 use crate::started::{Started, clones_of};
 use crate::work::{Log, Sent};
-use bcast_delivery::{
-    Channel, HistoryPort, HistoryReceiver, HistorySender, Opened, Reading, Seen, broadcast,
-    closed_is_last,
+use bcast_history::{
+    Channel, HistoryPort, Opened, Seen, TrackedReceiver, TrackedSender, broadcast,
 };
 use std::alloc::Global;
 use std::marker::Brand;
@@ -54,8 +53,8 @@ fn lists_over<J: Channel + Send + Sync + 'static, R: Threads + Wait + Clone + Se
     ensures { IfOk result (λ lists. AreLists plan (λ list. list.items) lists.items) }
 {
     let its_rt = rt.clone()?;
-    let (sender, receiver, reading): (_, _, Reading<u64, J>) = broadcast(its_rt, alloc, opened)?;
-    lists_from(rt, alloc, plan, sender, receiver, reading)
+    let (sender, receiver) = broadcast::<u64, R, J, _>(its_rt, alloc, opened)?;
+    lists_from(rt, alloc, plan, sender, receiver)
 }
 
 // Runs the threads over these handles, the first ones of their channel. The last thread that sends
@@ -64,22 +63,22 @@ fn lists_from<J, R, P>(
     rt: &R,
     alloc: Global,
     plan: Plan,
-    sender: HistorySender<u64, P, J>,
-    receiver: HistoryReceiver<u64, P, J>,
-    reading: Reading<u64, J>,
+    sender: TrackedSender<u64, P, J>,
+    receiver: TrackedReceiver<u64, P, J>,
 ) -> Result<Vec<Vec<u64>>, Fault>
 where
     J: Channel + Send + Sync + 'static,
     R: Threads + Wait + Clone + Send + 'static,
     P: HistoryPort<u64, J> + Send + 'static,
-    requires key { receiver.role.key ≡ reading.key }
-    requires start { reading.next ≡ J.opening.first_number }
+    requires start { receiver.place.next ≡ J.opening.first_number }
     ensures { IfOk result (λ lists. AreLists plan (λ list. list.items) lists.items) }
 {
-    let seen = reading.seen();
-    let readers = clones_of(rt, alloc, receiver, reading, plan.receivers)?;
+    let seen = receiver.seen();
+    let receivers = clones_of(alloc, receiver, plan.receivers)?;
     let mut threads = Started::<J>::with_room(alloc, plan)?;
-    let started = threads.start(rt, alloc, plan, sender, &seen, readers);
+    let mut sender = sender;
+    let started = threads.start(rt, alloc, plan, &mut sender, receivers);
+    drop(sender);
     let Started { senders, receivers } = threads;
     let sent = senders.join(rt);
     let logs = receivers.join(rt);
@@ -99,7 +98,6 @@ fn lists_received<J: Channel>(
     requires { length receivers.items ≡ plan.receivers }
     ensures { IfOk result (λ lists. AreLists plan (λ list. list.items) lists.items) }
 {
-    closed_is_last::<u64>();
     let sent = numbers_sent(senders, &mut seen);
     let lists = all_of(alloc, receivers, &mut seen)?;
     if !are_of_all(plan, sent, lists.as_slice()) {
@@ -111,7 +109,7 @@ fn lists_received<J: Channel>(
 /// The numbers from 0 on that were sent, up to the one that is returned, by the senders as they
 /// were started, the last one first.
 fn numbers_sent<J: Channel>(mut senders: Vec<Sent<J>>, seen: &mut Seen<u64, J>) -> u64
-    ensures { WereSent J.opening 0 result seen.new.steps }
+    ensures { WereSent J.opening 0 result seen.new }
 {
     let mut end = 0;
     while let Some(sent) = senders.pop() {
@@ -144,9 +142,9 @@ fn all_of<J: Channel>(
     seen: &mut Seen<u64, J>,
 ) -> Result<Vec<Vec<u64>>, Fault>
     ensures count { IfOk result (λ all. length all.items ≡ length logs.items) }
-    ensures longer { IsPrefix seen.old.steps seen.new.steps }
+    ensures longer { IsPrefix seen.old seen.new }
     ensures whole { IfOk result (λ all.
-        All (λ list. IsWhole J.opening seen.new.steps list.items) all.items) }
+        All (λ list. IsWhole J.opening seen.new list.items) all.items) }
 {
     let mut all = Vec::new(alloc);
     for log in logs {
@@ -156,12 +154,10 @@ fn all_of<J: Channel>(
 }
 
 fn list_of<J: Channel>(log: Log<J>, seen: &mut Seen<u64, J>) -> Vec<u64>
-    ensures longer { IsPrefix seen.old.steps seen.new.steps }
-    ensures whole { IsWhole J.opening seen.new.steps result.items }
+    ensures longer { IsPrefix seen.old seen.new }
+    ensures whole { IsWhole J.opening seen.new result.items }
 {
-    let Log { list, reading } = log;
-    reading.invariant_holds();
-    let its = reading.seen();
+    let Log { list, seen: its } = log;
     seen.learn(&its);
     list
 }

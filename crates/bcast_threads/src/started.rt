@@ -1,12 +1,12 @@
 //! The threads of a run: started over one channel, and joined.
-ghost use Rattle.std.specs.Prelude.{◌≡◌, ◌+◌, ◌<◌, ◌≤◌, IfOk, IfErr, OnOk, length, vec_len, vec_capacity};
-ghost use Rattle.bcast_threads.specs.Given.{WasClosed};
+ghost use Rattle.std.specs.Prelude.{◌≡◌, ◌+◌, ◌≤◌, true, All, IfSome, IfNone, IfOk, IfErr, OnOk, vec_len, vec_capacity};
+ghost use Rattle.bcast_history.specs.History.{end_of};
 
 use crate::fault::Fault;
 use crate::group::Group;
 use crate::plan::Plan;
-use crate::work::{Log, Reader, Sent, receive_all, send_all};
-use bcast_delivery::{Channel, HistoryPort, HistoryReceiver, HistorySender, Reading, Seen};
+use crate::work::{Log, Sent, receive_all, send_all};
+use bcast_history::{Channel, HistoryPort, TrackedReceiver, TrackedSender};
 use std::alloc::{AllocError, Global};
 use std::sync::Wait;
 use std::thread::Threads;
@@ -43,33 +43,34 @@ impl<J: Channel + Send + Sync + 'static> Started<J> {
         })
     }
 
-    /// Starts the plan's threads over these handles, and drops the sender once each thread that
-    /// sends has its own. If that fails, it closes their channel.
+    /// Starts the plan's threads over these handles. If that fails, it closes their channel.
     pub(crate) fn start<R, P>(
         &mut self,
         rt: &R,
         alloc: Global,
         plan: Plan,
-        sender: HistorySender<u64, P, J>,
-        seen: &Seen<u64, J>,
-        readers: Vec<Reader<u64, J, P>>,
+        sender: &mut TrackedSender<u64, P, J>,
+        receivers: Vec<TrackedReceiver<u64, P, J>>,
     ) -> Result<(), Fault>
     where
         R: Threads + Wait + Clone + Send + 'static,
         P: HistoryPort<u64, J> + Send + 'static,
         requires senders { vec_len self.old.senders.running + plan.senders
             ≤ vec_capacity self.old.senders.running }
-        requires receivers { vec_len self.old.receivers.running + vec_len readers
+        requires receivers { vec_len self.old.receivers.running + vec_len receivers
             ≤ vec_capacity self.old.receivers.running }
+        requires start { All (λ receiver. receiver.place.next ≡ J.opening.first_number)
+            receivers.items }
         ensures senders { OnOk result (vec_len self.new.senders.running
             ≡ vec_len self.old.senders.running + plan.senders) }
         ensures receivers { OnOk result (vec_len self.new.receivers.running
-            ≡ vec_len self.old.receivers.running + vec_len readers) }
-        ensures closed { IfErr result (λ _. WasClosed (P.gave sender.port)) }
+            ≡ vec_len self.old.receivers.running + vec_len receivers) }
+        ensures closed { IfErr result (λ _.
+            (end_of J.opening sender.new.known.steps).control.closed ≡ true) }
     {
-        let mut started = self.start_receivers(rt, alloc, plan, readers);
+        let mut started = self.start_receivers(rt, alloc, plan, receivers);
         if started.is_ok() {
-            started = self.start_senders(rt, plan, &sender, seen);
+            started = self.start_senders(rt, plan, sender);
         }
         if started.is_err() {
             sender.close();
@@ -82,23 +83,24 @@ impl<J: Channel + Send + Sync + 'static> Started<J> {
         rt: &R,
         alloc: Global,
         plan: Plan,
-        mut readers: Vec<Reader<u64, J, P>>,
+        mut receivers: Vec<TrackedReceiver<u64, P, J>>,
     ) -> Result<(), Fault>
     where
         R: Threads + Wait + Clone + Send + 'static,
         P: HistoryPort<u64, J> + Send + 'static,
-        requires { vec_len self.old.receivers.running + vec_len readers
+        requires room { vec_len self.old.receivers.running + vec_len receivers
             ≤ vec_capacity self.old.receivers.running }
+        requires start { All (λ receiver. receiver.place.next ≡ J.opening.first_number)
+            receivers.items }
         ensures started { OnOk result (vec_len self.new.receivers.running
-            ≡ vec_len self.old.receivers.running + vec_len readers) }
+            ≡ vec_len self.old.receivers.running + vec_len receivers) }
         ensures senders { self.new.senders ≡ self.old.senders }
     {
         let total = plan.senders.saturating_mul(plan.messages) as usize;
-        while let Some(reader) = readers.pop() {
+        while let Some(mut receiver) = next_of(&mut receivers) {
             let its_rt = rt.clone()?;
-            let Reader { receiver, reading } = reader;
             self.receivers.start(rt, plan.receiver_stack, move || {
-                receive_all(&its_rt, alloc, receiver, reading, total)
+                receive_all(&its_rt, alloc, &mut receiver, total)
             })?;
         }
         Ok(())
@@ -108,8 +110,7 @@ impl<J: Channel + Send + Sync + 'static> Started<J> {
         &mut self,
         rt: &R,
         plan: Plan,
-        sender: &HistorySender<u64, P, J>,
-        seen: &Seen<u64, J>,
+        sender: &mut TrackedSender<u64, P, J>,
     ) -> Result<(), Fault>
     where
         R: Threads,
@@ -123,10 +124,9 @@ impl<J: Channel + Send + Sync + 'static> Started<J> {
         let count = plan.messages;
         for number in 0..plan.senders {
             let sender = sender.clone()?;
-            let seen = seen.same();
             let first = number.saturating_mul(count);
             self.senders.start(rt, plan.sender_stack, move || {
-                send_all(sender, seen, first, count)
+                send_all(sender, first, count)
             })?;
         }
         Ok(())
@@ -135,23 +135,33 @@ impl<J: Channel + Send + Sync + 'static> Started<J> {
 
 /// This many clones of a receiver that has read nothing.
 pub(crate) fn clones_of<J: Channel, P: HistoryPort<u64, J>>(
-    rt: &impl Wait,
     alloc: Global,
-    receiver: HistoryReceiver<u64, P, J>,
-    mut reading: Reading<u64, J>,
+    receiver: TrackedReceiver<u64, P, J>,
     count: u64,
-) -> Result<Vec<Reader<u64, J, P>>, Fault>
-    requires key { receiver.role.key ≡ reading.key }
-    requires start { reading.next ≡ J.opening.first_number }
-    ensures { IfOk result (λ readers. vec_len readers ≡ count) }
+) -> Result<Vec<TrackedReceiver<u64, P, J>>, Fault>
+    requires start { receiver.place.next ≡ J.opening.first_number }
+    ensures count { IfOk result (λ receivers. vec_len receivers ≡ count) }
+    ensures start { IfOk result (λ receivers.
+        All (λ receiver. receiver.place.next ≡ J.opening.first_number) receivers.items) }
 {
-    let mut readers = Vec::new(alloc);
+    let mut receiver = receiver;
+    let mut receivers = Vec::new(alloc);
     for _ in 0..count {
-        let (clone, its_reading) = reading.clone(rt, &receiver)?;
-        readers.push(Reader {
-            receiver: clone,
-            reading: its_reading,
-        })?;
+        receivers.push(receiver.clone()?)?;
     }
-    Ok(readers)
+    Ok(receivers)
+}
+
+// The last of these receivers, none of which has read anything.
+fn next_of<J: Channel, P: HistoryPort<u64, J>>(
+    receivers: &mut Vec<TrackedReceiver<u64, P, J>>,
+) -> Option<TrackedReceiver<u64, P, J>>
+    requires { All (λ receiver. receiver.place.next ≡ J.opening.first_number) receivers.old.items }
+    ensures start { IfSome result (λ receiver. receiver.place.next ≡ J.opening.first_number) }
+    ensures others { All (λ receiver. receiver.place.next ≡ J.opening.first_number)
+        receivers.new.items }
+    ensures len { IfSome result (λ _. vec_len receivers.old ≡ vec_len receivers.new + 1) }
+    ensures none { IfNone result (vec_len receivers.old ≡ 0) }
+{
+    receivers.pop()
 }

@@ -2,8 +2,8 @@
 ghost use Rattle.bcast_core.specs.Kinds.{IsOfKind};
 
 use async_broadcast::{
-    Ask, Call, KnowingPort, KnowingTimedPort, RecvError, RecvTimeoutError, Reply, SendError,
-    SendTimeoutError, TaskWaker, Wake,
+    Ask, Call, PortFor, RecvError, RecvTimeoutError, Reply, SendError, SendTimeoutError, TaskWaker,
+    TimedPortFor, Wake,
 };
 use bcast_core::{AtOnce, Notice, Polls, RepliesTo};
 use futures::task::Context;
@@ -118,24 +118,20 @@ impl<A: Allocator + Copy> Ask<u64, ()> for RecordingPort<A> {
     ghost use Rattle.std.specs.Prelude.{⊤};
     ghost use Rattle.bcast_core.specs.Kinds.{IsOfKind};
 
-    ghost knows = { λ _. tt };
-
     ghost gave = { λ _ call reply. IsOfKind call reply };
 
     ghost learns = { λ _ _ _ _. ⊤ };
 
     ghost of_kind = { λ _ call reply gave. gave };
 
-    fn known(&self) -> () {}
-
-    fn ask<C: AtOnce<u64>>(&self, _known: &mut (), call: C) -> C::Answer {
+    fn ask<C: AtOnce<u64>>(&self, _caller: &mut (), call: C) -> C::Answer {
         call.answered_by(self)
     }
 
     // A port that replies that a poll must wait tells it at once.
     fn poll<C: Polls<u64>>(
         &self,
-        _known: &mut (),
+        _caller: &mut (),
         call: C,
         task: &mut TaskWaker,
         cx: &mut Context<'_>,
@@ -156,19 +152,17 @@ impl<A: Allocator + Copy> Ask<u64, ()> for RecordingPort<A> {
     }
 }
 
-impl<A: Allocator + Copy> KnowingPort<u64, ()> for RecordingPort<A> {
+impl<A: Allocator + Copy> PortFor<u64, ()> for RecordingPort<A> {
     ghost use Rattle.std.specs.Prelude.{⊤};
 
-    fn set_known(&mut self, _known: &()) {}
-
-    fn send_waiting(&self, _known: &mut (), msg: u64) -> Result<Option<u64>, SendError<u64>> {
+    fn send_waiting(&self, _caller: &mut (), msg: u64) -> Result<Option<u64>, SendError<u64>> {
         self.state.record(&Call::AttemptSend(msg));
         answered(self.state.outcome.get(), msg)
     }
 
     fn receive_waiting(
         &self,
-        _known: &mut (),
+        _caller: &mut (),
         key: usize,
     ) -> Result<Result<u64, RecvError>, AllocError> {
         self.state.record(&Call::TryRecv(key));
@@ -190,10 +184,10 @@ impl<A: Allocator + Copy> KnowingPort<u64, ()> for RecordingPort<A> {
 }
 
 // A wait that the port replies is one whose time is over.
-impl<A: Allocator + Copy> KnowingTimedPort<u64, ()> for RecordingPort<A> {
+impl<A: Allocator + Copy> TimedPortFor<u64, ()> for RecordingPort<A> {
     fn send_within(
         &self,
-        known: &mut (),
+        caller: &mut (),
         msg: u64,
         _limit: Duration,
     ) -> Result<Option<u64>, SendTimeoutError<u64>> {
@@ -201,7 +195,7 @@ impl<A: Allocator + Copy> KnowingTimedPort<u64, ()> for RecordingPort<A> {
             self.state.record(&Call::AttemptSend(msg));
             return Err(SendTimeoutError::Timeout(msg));
         }
-        match self.send_waiting(known, msg) {
+        match self.send_waiting(caller, msg) {
             Ok(oldest) => Ok(oldest),
             Err(SendError(back)) => Err(SendTimeoutError::Refused(back)),
         }
@@ -209,7 +203,7 @@ impl<A: Allocator + Copy> KnowingTimedPort<u64, ()> for RecordingPort<A> {
 
     fn receive_within(
         &self,
-        known: &mut (),
+        caller: &mut (),
         key: usize,
         _limit: Duration,
     ) -> Result<Result<u64, RecvTimeoutError>, AllocError> {
@@ -217,7 +211,7 @@ impl<A: Allocator + Copy> KnowingTimedPort<u64, ()> for RecordingPort<A> {
             self.state.record(&Call::TryRecv(key));
             return Ok(Err(RecvTimeoutError::Timeout));
         }
-        match self.receive_waiting(known, key)? {
+        match self.receive_waiting(caller, key)? {
             Ok(msg) => Ok(Ok(msg)),
             Err(RecvError::Overflowed(n)) => Ok(Err(RecvTimeoutError::Overflowed(n))),
             Err(RecvError::Closed) => Ok(Err(RecvTimeoutError::Closed)),

@@ -20,9 +20,7 @@ pub struct Seen {
 }
 
 impl Seen {
-    fn by<P: TimedPort<u64>, K: Role<u64>, A: Allocator + Copy>(
-        handle: &Handle<u64, P, K, A>,
-    ) -> Self {
+    fn by<P: TimedPort<u64>, K: Role, A: Allocator + Copy>(handle: &Handle<u64, P, K, A>) -> Self {
         Seen {
             capacity: handle.capacity(),
             len: handle.len(),

@@ -65,7 +65,7 @@ fn of_set(answer: Result<(), AllocError>) -> Answer {
 }
 
 /// Makes the call by a handle.
-pub fn by_handle<P: TimedPort<u64>, K: Role<u64>, A: Allocator + Copy>(
+pub fn by_handle<P: TimedPort<u64>, K: Role, A: Allocator + Copy>(
     handle: &mut Handle<u64, P, K, A>,
     setting: Setting,
 ) -> Answer {

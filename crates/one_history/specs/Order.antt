@@ -3,7 +3,7 @@ use Rattle.std.specs.Prelude.{◌≡◌, ℕ, List, [], ◌∷◌, ◌++◌}
 use mathlib.Core.List.{IsPrefix}
 use Rattle.bcast_history.specs.declared.step.Opening.{Opening}
 use Rattle.bcast_history.specs.declared.step.Step.{Step}
-use Rattle.bcast_delivery.specs.Follows.{accepted_by}
+use Rattle.bcast_history.specs.History.{accepted_by}
 
 -- after what was known come both messages, the second last
 abbrev pub StandInOrder : Opening → List (Step ℕ) → ℕ → ℕ → List (Step ℕ) → Type 0

@@ -8,9 +8,7 @@ mod log;
 mod order;
 
 use anyhow::Result;
-use bcast_delivery::{
-    Channel, HistoryPort, HistoryReceiver, HistorySender, Opened, Reading, broadcast,
-};
+use bcast_history::{Channel, HistoryPort, Opened, TrackedReceiver, TrackedSender, broadcast};
 use log::receive_all;
 use order::send_both;
 use std::alloc::AllocGlobal;
@@ -29,51 +27,45 @@ fn share<J: Channel + Send + Sync, R: Threads + Wait + Sync + Print + AllocGloba
 ) -> Result<()>
     requires { (opened.book ≡ J.book) × (opened.opening ≡ J.opening) }
 {
-    let (sender, receiver, reading): (_, _, Reading<u64, J>) = broadcast(rt, rt.alloc(), opened)?;
+    let (mut sender, receiver) = broadcast::<u64, _, J, _>(rt, rt.alloc(), opened)?;
     let other = sender.clone()?;
-    send_from_two_threads(rt, sender, other, &reading)?;
-    receive_in_two_threads(rt, receiver, reading)
+    send_from_two_threads(rt, sender, other)?;
+    receive_in_two_threads(rt, receiver)
 }
 
 fn send_from_two_threads<J, R, P>(
     rt: &R,
-    sender: HistorySender<u64, P, J>,
-    other: HistorySender<u64, P, J>,
-    reading: &Reading<u64, J>,
+    sender: TrackedSender<u64, P, J>,
+    other: TrackedSender<u64, P, J>,
 ) -> Result<()>
 where
     J: Channel + Send + Sync,
     R: Threads + Wait + Sync + Print + AllocGlobal,
     P: HistoryPort<u64, J> + Send + Sync,
 {
-    let (mut one, mut two) = (reading.seen(), reading.seen());
+    let (mut sender, mut other) = (sender, other);
     let (odd, even) = thread::join(
         rt,
-        || send_both(&sender, &mut one, 1, 3),
-        || send_both(&other, &mut two, 2, 4),
+        || send_both(&mut sender, 1, 3),
+        || send_both(&mut other, 2, 4),
     );
     println!(rt; "1 stands before 3: {odd}")?;
     println!(rt; "2 stands before 4: {even}")?;
     Ok(())
 }
 
-fn receive_in_two_threads<J, R, P>(
-    rt: &R,
-    receiver: HistoryReceiver<u64, P, J>,
-    reading: Reading<u64, J>,
-) -> Result<()>
+fn receive_in_two_threads<J, R, P>(rt: &R, receiver: TrackedReceiver<u64, P, J>) -> Result<()>
 where
     J: Channel + Send + Sync,
     R: Threads + Wait + Sync + Print + AllocGlobal,
     P: HistoryPort<u64, J> + Send + Sync,
-    requires { receiver.role.key ≡ reading.key }
 {
-    let (mut receiver, mut reading) = (receiver, reading);
-    let (mut copy, mut its_reading) = reading.clone(rt, &receiver)?;
+    let mut receiver = receiver;
+    let mut copy = receiver.clone()?;
     let (log, same) = thread::join(
         rt,
-        || receive_all(rt, &mut reading, &mut receiver),
-        || receive_all(rt, &mut its_reading, &mut copy),
+        || receive_all(rt, &mut receiver),
+        || receive_all(rt, &mut copy),
     );
     let (log, same) = (log?, same?);
     println!(rt; "messages in the log: {}", log.len())?;

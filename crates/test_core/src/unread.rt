@@ -1,4 +1,5 @@
-//! What receivers have still to read, and what they missed, after each of several calls.
+//! Where receivers read on, what they have still to read, and what they missed, after each of
+//! several calls.
 ghost use Rattle.bcast_model.specs.Next.{HasPositiveCapacity};
 
 use bcast_core::{Call, Inner, Silent, step};
@@ -19,27 +20,30 @@ enum Asked {
     DropReceiver(usize),
 }
 
-/// A call, and `unread` and `missed` of the receivers 0 and 1 after it.
-type Row = (Asked, (usize, u64), (usize, u64));
+/// `cursor`, `unread` and `missed` of a receiver.
+type Seen = (Option<u64>, usize, u64);
+
+/// A call, and what is seen of the receivers 0 and 1 after it.
+type Row = (Asked, Seen, Seen);
 
 /// Calls on a new channel of capacity 2, one after another.
 const ROWS: &[Row] = &[
-    (Asked::SetOverflow, (0, 0), (0, 0)),
-    (Asked::NewReceiver, (0, 0), (0, 0)),
-    (Asked::TryBroadcast(1), (1, 0), (1, 0)),
-    (Asked::TryBroadcast(2), (2, 0), (2, 0)),
+    (Asked::SetOverflow, (Some(0), 0, 0), (None, 0, 0)),
+    (Asked::NewReceiver, (Some(0), 0, 0), (Some(0), 0, 0)),
+    (Asked::TryBroadcast(1), (Some(0), 1, 0), (Some(0), 1, 0)),
+    (Asked::TryBroadcast(2), (Some(0), 2, 0), (Some(0), 2, 0)),
     // 1 is dropped.
-    (Asked::TryBroadcast(3), (2, 1), (2, 1)),
-    (Asked::TryRecv(0), (2, 0), (2, 1)),
-    (Asked::TryRecv(0), (1, 0), (2, 1)),
+    (Asked::TryBroadcast(3), (Some(0), 2, 1), (Some(0), 2, 1)),
+    (Asked::TryRecv(0), (Some(1), 2, 0), (Some(0), 2, 1)),
+    (Asked::TryRecv(0), (Some(2), 1, 0), (Some(0), 2, 1)),
     // 2 is dropped, which the receiver 0 has read.
-    (Asked::Shrink, (1, 0), (1, 2)),
-    (Asked::TryRecv(0), (0, 0), (1, 2)),
-    (Asked::DropReceiver(1), (0, 0), (0, 0)),
-    (Asked::TryBroadcast(4), (1, 0), (0, 0)),
-    (Asked::Close, (1, 0), (0, 0)),
-    (Asked::TryRecv(0), (0, 0), (0, 0)),
-    (Asked::TryRecv(0), (0, 0), (0, 0)),
+    (Asked::Shrink, (Some(2), 1, 0), (Some(0), 1, 2)),
+    (Asked::TryRecv(0), (Some(3), 0, 0), (Some(0), 1, 2)),
+    (Asked::DropReceiver(1), (Some(3), 0, 0), (None, 0, 0)),
+    (Asked::TryBroadcast(4), (Some(3), 1, 0), (None, 0, 0)),
+    (Asked::Close, (Some(3), 1, 0), (None, 0, 0)),
+    (Asked::TryRecv(0), (Some(4), 0, 0), (None, 0, 0)),
+    (Asked::TryRecv(0), (Some(4), 0, 0), (None, 0, 0)),
 ];
 
 fn call_of(asked: Asked) -> Call<u64>
@@ -56,13 +60,12 @@ fn call_of(asked: Asked) -> Call<u64>
     }
 }
 
-/// What this receiver has still to read, and what it missed.
-fn seen(inner: &Channel, key: usize) -> (usize, u64) {
-    (inner.unread(key), inner.missed(key))
+fn seen(inner: &Channel, key: usize) -> Seen {
+    (inner.cursor(key), inner.unread(key), inner.missed(key))
 }
 
 #[test]
-fn unread_and_missed(rt: HostRuntime) -> Result<(), Fail> {
+fn cursor_unread_and_missed(rt: HostRuntime) -> Result<(), Fail> {
     let (mut inner, first) = Inner::new(rt.alloc(), 2)?;
     assert!(rt; first == 0);
     for (asked, left, right) in ROWS {

@@ -1,7 +1,5 @@
 //! Handles of a channel whose heap is full: what is refused is handed back, and nothing is lost.
-use async_broadcast::{
-    KnowingPort, Lock, NoMemory, Port, Receiver, Send, Sender, Snapshot, broadcast,
-};
+use async_broadcast::{Lock, NoMemory, Port, PortFor, Receiver, Send, Sender, Snapshot, broadcast};
 use bcast_core::Inner;
 use futures::StreamExt;
 use futures::task::Poll;

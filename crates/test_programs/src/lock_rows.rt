@@ -3,7 +3,7 @@ ghost use Rattle.std.specs.Prelude.{IfOk, IfSome};
 ghost use Rattle.bcast_model.specs.Next.{HasPositiveCapacity};
 
 use asking::{Way, ask};
-use async_broadcast::{KnowingPort, Lock, Port, Wake};
+use async_broadcast::{Lock, Port, PortFor, Wake};
 use bcast_core::{Call, Inner, Silent, step};
 use bcast_trace::line::{Line, read_line};
 use bcast_trace::opening::{Opening, read_opening};

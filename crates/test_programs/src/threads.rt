@@ -2,10 +2,7 @@
 ghost use Rattle.std.specs.Prelude.{◌≡◌, ◌<◌, ◌≤◌};
 
 use crate::streams::Taker;
-use async_broadcast::{KnowingPort, Receiver, Sender};
-use bcast_delivery::{
-    Channel, HistoryPort, HistoryReceiver, HistorySender, Opened, Reading, broadcast,
-};
+use bcast_history::{Channel, HistoryPort, Opened, TrackedReceiver, TrackedSender, broadcast};
 use bcast_text::threads::outcome::print_seen;
 use bcast_threads::plan::{Plan, run as run_plan, threads};
 use bcast_threads::work::{receive_all, send_all};
@@ -159,93 +156,52 @@ fn run_row_over<J: Channel, R: Wait + Clone, W: Write>(
 ) -> io::Result<()>
     requires { (opened.book ≡ J.book) × (opened.opening ≡ J.opening) }
 {
-    let (sender, receiver, reading): (_, _, Reading<u64, J>) = broadcast(
-        rt.clone()?,
-        alloc,
-        opened,
-    )?;
+    let (sender, receiver) = broadcast::<u64, R, J, _>(rt.clone()?, alloc, opened)?;
     match row {
-        Row::Order => order(rt, alloc, sender, receiver, reading, output),
-        Row::NoMemory(awaited) => {
-            no_memory(rt, alloc, sender, receiver, reading, awaited, output)
-        }
-        Row::Closed => closed(sender, receiver, &reading, output),
+        Row::Order => order(rt, alloc, sender, receiver, output),
+        Row::NoMemory(awaited) => no_memory(rt, alloc, sender, receiver, awaited, output),
+        Row::Closed => closed(sender, receiver, output),
     }
 }
 
 fn order<J: Channel, P: HistoryPort<u64, J>, W: Write>(
     rt: &impl Wait,
     alloc: Global,
-    sender: HistorySender<u64, P, J>,
-    receiver: HistoryReceiver<u64, P, J>,
-    reading: Reading<u64, J>,
+    mut sender: TrackedSender<u64, P, J>,
+    mut receiver: TrackedReceiver<u64, P, J>,
     output: &mut W,
 ) -> io::Result<()>
-    requires key { receiver.role.key ≡ reading.key }
-    requires start { reading.next ≡ J.opening.first_number }
+    requires start { receiver.place.next ≡ J.opening.first_number }
 {
-    send_three(&sender, output)?;
-    match receive_all(rt, alloc, receiver, reading, 3) {
+    for msg in [2u64, 0, 1] {
+        try_send(&mut sender, msg, output)?;
+    }
+    sender.close();
+    match receive_all(rt, alloc, &mut receiver, 3) {
         Ok(log) => writeln!(output, "received {:?}", log.list.as_slice()),
         Err(fault) => writeln!(output, "{fault:?}"),
     }
 }
 
-/// Sends three messages, and closes the channel.
-fn send_three<P: KnowingPort<u64, K>, K: Drop, W: Write>(
-    sender: &Sender<u64, P, Global, K>,
-    output: &mut W,
-) -> io::Result<()> {
-    for msg in [2u64, 0, 1] {
-        if sender.try_broadcast(msg).is_err() {
-            output.write_all(b"not sent\n")?;
-        }
-    }
-    sender.close();
-    Ok(())
-}
-
 fn no_memory<J: Channel, P: HistoryPort<u64, J>, W: Write>(
     rt: &impl Wait,
     alloc: Global,
-    sender: HistorySender<u64, P, J>,
-    receiver: HistoryReceiver<u64, P, J>,
-    reading: Reading<u64, J>,
+    mut sender: TrackedSender<u64, P, J>,
+    mut receiver: TrackedReceiver<u64, P, J>,
     awaited: usize,
     output: &mut W,
 ) -> io::Result<()>
-    requires key { receiver.role.key ≡ reading.key }
-    requires start { reading.next ≡ J.opening.first_number }
+    requires start { receiver.place.next ≡ J.opening.first_number }
 {
-    send_hundred(&sender, output)?;
-    let Ok(other) = receiver.clone() else {
+    for msg in 0..100u64 {
+        try_send(&mut sender, msg, output)?;
+    }
+    let Ok(mut other) = receiver.clone() else {
         return output.write_all(b"no clone\n");
     };
     let heap = LocalHeap::new(alloc, 64)?;
-    let is_err = receive_all(rt, &heap, receiver, reading, awaited).is_err();
-    write_closed(is_err, &sender, &other, output)
-}
-
-fn send_hundred<P: KnowingPort<u64, K>, K: Drop, W: Write>(
-    sender: &Sender<u64, P, Global, K>,
-    output: &mut W,
-) -> io::Result<()> {
-    for msg in 0..100u64 {
-        if sender.try_broadcast(msg).is_err() {
-            output.write_all(b"not sent\n")?;
-        }
-    }
-    Ok(())
-}
-
-/// Writes whether memory was refused, and what is kept for another receiver.
-fn write_closed<P: KnowingPort<u64, K>, K: Drop, W: Write>(
-    is_err: bool,
-    sender: &Sender<u64, P, Global, K>,
-    other: &Receiver<u64, P, Global, K>,
-    output: &mut W,
-) -> io::Result<()> {
-    let is_closed = sender.is_closed();
+    let is_err = receive_all(rt, &heap, &mut receiver, awaited).is_err();
+    let is_closed = !other.close();
     writeln!(
         output,
         "no memory {is_err}, closed {is_closed}, kept {}",
@@ -253,14 +209,24 @@ fn write_closed<P: KnowingPort<u64, K>, K: Drop, W: Write>(
     )
 }
 
+fn try_send<J: Channel, P: HistoryPort<u64, J>, W: Write>(
+    sender: &mut TrackedSender<u64, P, J>,
+    msg: u64,
+    output: &mut W,
+) -> io::Result<()> {
+    if sender.try_broadcast(msg).is_err() {
+        output.write_all(b"not sent\n")?;
+    }
+    Ok(())
+}
+
 fn closed<J: Channel, P: HistoryPort<u64, J>, W: Write>(
-    sender: HistorySender<u64, P, J>,
-    receiver: HistoryReceiver<u64, P, J>,
-    reading: &Reading<u64, J>,
+    sender: TrackedSender<u64, P, J>,
+    mut receiver: TrackedReceiver<u64, P, J>,
     output: &mut W,
 ) -> io::Result<()> {
     receiver.close();
-    let sent = send_all(sender, reading.seen(), 0, 100);
+    let sent = send_all(sender, 0, 100);
     let kept = receiver.len();
     writeln!(output, "closed, and {} sent, {kept} kept", sent.end)
 }

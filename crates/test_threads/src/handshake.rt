@@ -82,17 +82,17 @@ where
 fn play<R: Wait + Abort, P: TimedPort<u64>>(
     rt: &R,
     asks: bool,
-    (sender, mut receiver): Ends<P>,
+    (mut sender, mut receiver): Ends<P>,
     mut patience: Patience,
     finished: &AtomicU64,
 ) {
     for number in 1..=ROUNDS {
         if asks {
-            assert!(rt; patience.send(rt, &sender, number) == Answer::Done);
+            assert!(rt; patience.send(rt, &mut sender, number) == Answer::Done);
         }
         assert!(rt; patience.receive(rt, &mut receiver) == Answer::Message(number));
         if !asks {
-            assert!(rt; patience.send(rt, &sender, number) == Answer::Done);
+            assert!(rt; patience.send(rt, &mut sender, number) == Answer::Done);
         }
     }
     finished.fetch_add(1, Ordering::SeqCst);

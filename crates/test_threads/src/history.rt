@@ -2,8 +2,8 @@
 ghost use Rattle.std.specs.Prelude.{◌≡◌};
 
 use crate::timed::runs::{RUNS, run};
-use bcast_delivery::{
-    Channel, HistoryPort, HistoryReceiver, HistorySender, Opened, Reading, Seen, broadcast,
+use bcast_history::{
+    Channel, HistoryPort, Opened, TimedHistoryPort, TrackedReceiver, TrackedSender, broadcast,
 };
 use std::alloc::{AllocError, Global};
 use std::marker::Brand;
@@ -38,8 +38,25 @@ where
     R: Threads + Wait + Clock + Abort + Copy + Send + Drop + 'static,
     requires { (opened.book ≡ J.book) × (opened.opening ≡ J.opening) }
 {
-    let (sender, receiver, _): (_, _, Reading<u64, J>) = broadcast(rt, alloc, opened)?;
-    run(rt, alloc, number, (sender, receiver))
+    let (sender, receiver) = broadcast::<u64, R, J, _>(rt, alloc, opened)?;
+    run_handles(rt, alloc, number, sender, receiver)
+}
+
+fn run_handles<J, R, P>(
+    rt: R,
+    alloc: Global,
+    number: u64,
+    mut sender: TrackedSender<u64, P, J>,
+    mut receiver: TrackedReceiver<u64, P, J>,
+) -> Result<(), Fail>
+where
+    J: Channel + Send + Sync + 'static,
+    R: Threads + Wait + Abort + Copy + Send + Drop + 'static,
+    P: TimedHistoryPort<u64, J> + Send + 'static,
+{
+    sender.set_overflow(number % 2 == 1);
+    let (other, copy) = (sender.clone()?, receiver.clone()?);
+    run(rt, alloc, number, (other, sender), (copy, receiver))
 }
 
 // Each sender is told at which number of the history each of its messages stands, and there both
@@ -56,26 +73,23 @@ where
     R: Threads + Wait + Abort + Copy + Send + Drop + 'static,
     requires { (opened.book ≡ J.book) × (opened.opening ≡ J.opening) }
 {
-    let (sender, receiver, reading): (_, _, Reading<u64, J>) = broadcast(rt, alloc, opened)?;
-    run_both(rt, alloc, sender, receiver, reading)
+    let (sender, receiver) = broadcast::<u64, R, J, _>(rt, alloc, opened)?;
+    run_both(rt, alloc, sender, receiver)
 }
 
 fn run_both<J, R, P>(
     rt: R,
     alloc: Global,
-    sender: HistorySender<u64, P, J>,
-    receiver: HistoryReceiver<u64, P, J>,
-    reading: Reading<u64, J>,
+    sender: TrackedSender<u64, P, J>,
+    receiver: TrackedReceiver<u64, P, J>,
 ) -> Result<(), Fail>
 where
     J: Channel + Send + Sync + 'static,
     R: Threads + Wait + Abort + Copy + Send + Drop + 'static,
     P: HistoryPort<u64, J> + Send + 'static,
-    requires { receiver.role.key ≡ reading.key }
 {
-    let (first, second) = (reading.seen(), reading.seen());
-    let logs = start_receivers(rt, alloc, receiver, reading)?;
-    let places = start_senders(rt, alloc, sender, first, second)?;
+    let logs = start_receivers(rt, alloc, receiver)?;
+    let places = start_senders(rt, alloc, sender)?;
     let (first, second) = (places.0.join(&rt)?, places.1.join(&rt)?);
     let (log, same) = (logs.0.join(&rt)?, logs.1.join(&rt)?);
     assert!(&rt; log == same && log.len() as u64 == 2 * SHARE);
@@ -88,18 +102,16 @@ where
 fn start_receivers<J, R, P>(
     rt: R,
     alloc: Global,
-    receiver: HistoryReceiver<u64, P, J>,
-    mut reading: Reading<u64, J>,
+    mut receiver: TrackedReceiver<u64, P, J>,
 ) -> Result<Pair, Fail>
 where
     J: Channel + Send + Sync + 'static,
     R: Threads + Wait + Copy + Send + Drop + 'static,
     P: HistoryPort<u64, J> + Send + 'static,
-    requires { receiver.role.key ≡ reading.key }
 {
-    let (other, its_reading) = reading.clone(&rt, &receiver)?;
-    let first = thread::spawn(&rt, move || receive_all(&rt, alloc, receiver, reading))?;
-    let second = thread::spawn(&rt, move || receive_all(&rt, alloc, other, its_reading))?;
+    let other = receiver.clone()?;
+    let first = thread::spawn(&rt, move || receive_all(&rt, alloc, receiver))?;
+    let second = thread::spawn(&rt, move || receive_all(&rt, alloc, other))?;
     Ok((first, second))
 }
 
@@ -107,9 +119,7 @@ where
 fn start_senders<J, R, P>(
     rt: R,
     alloc: Global,
-    sender: HistorySender<u64, P, J>,
-    first: Seen<u64, J>,
-    second: Seen<u64, J>,
+    mut sender: TrackedSender<u64, P, J>,
 ) -> Result<Pair, Fail>
 where
     J: Channel + Send + Sync + 'static,
@@ -117,22 +127,21 @@ where
     P: HistoryPort<u64, J> + Send + 'static,
 {
     let other = sender.clone()?;
-    let first = thread::spawn(&rt, move || send_all(alloc, sender, first, 0))?;
-    let second = thread::spawn(&rt, move || send_all(alloc, other, second, SHARE))?;
+    let first = thread::spawn(&rt, move || send_all(alloc, sender, 0))?;
+    let second = thread::spawn(&rt, move || send_all(alloc, other, SHARE))?;
     Ok((first, second))
 }
 
 /// Sends the messages from `first` on, and returns the number at which each stands.
 fn send_all<J: Channel, P: HistoryPort<u64, J>>(
     alloc: Global,
-    sender: HistorySender<u64, P, J>,
-    mut seen: Seen<u64, J>,
+    mut sender: TrackedSender<u64, P, J>,
     first: u64,
 ) -> List {
     let mut places = Vec::new(alloc);
     for msg in first..first.wrapping_add(SHARE) {
-        if sender.broadcast_blocking_seen(&mut seen, msg).is_ok() {
-            places.push(seen.end().wrapping_sub(1))?;
+        if sender.broadcast_blocking(msg).is_ok() {
+            places.push(sender.end().wrapping_sub(1))?;
         }
     }
     Ok(places)
@@ -142,14 +151,11 @@ fn send_all<J: Channel, P: HistoryPort<u64, J>>(
 fn receive_all<J: Channel, P: HistoryPort<u64, J>>(
     rt: &impl Wait,
     alloc: Global,
-    mut receiver: HistoryReceiver<u64, P, J>,
-    mut reading: Reading<u64, J>,
-) -> List
-    requires { receiver.role.key ≡ reading.key }
-{
+    mut receiver: TrackedReceiver<u64, P, J>,
+) -> List {
     let mut log = Vec::new(alloc);
     for _ in rt.forever() {
-        match reading.recv_blocking(rt, &mut receiver)? {
+        match receiver.recv_blocking()? {
             Ok(msg) => log.push(msg)?,
             Err(_) => break,
         }

@@ -1,6 +1,6 @@
 //! Threads that are woken and wake the next one: by finding nothing to receive, or by a send.
 use crate::steps::{pause, wait_for};
-use async_broadcast::{KnowingPort, Lock, Port, TimedPort};
+use async_broadcast::{Lock, Port, PortFor, TimedPort};
 use bcast_core::{AddReceiver, Close, Inner, TryBroadcast, TryRecv, TryRecvError};
 use std::alloc::{AllocError, Global};
 use std::process::Abort;

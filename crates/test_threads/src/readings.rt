@@ -1,67 +1,48 @@
-//! What the calls of a `Reading` give, one after the other.
+//! What the calls of a `TrackedReceiver` give, one after the other.
 ghost use Rattle.std.specs.Prelude.{◌≡◌};
 
-use crate::answers::{Answer, of_poll_recv, of_recv, of_recv_timeout, of_try_recv};
-use async_broadcast::{HandleError, KnowingPort, KnowingTimedPort, Sender};
-use bcast_delivery::{
-    Channel, HistoryPort, HistoryReceiver, HistorySender, Opened, Reading, Seen, broadcast,
+use crate::answers::{
+    Answer, of_poll_recv, of_recv, of_recv_timeout, of_send_timeout, of_try_recv,
 };
+use bcast_history::{Channel, Opened, TimedHistoryPort, TrackedReceiver, TrackedSender, broadcast};
 use futures::task::{Context, Poll};
 use futures::test::MockTask;
-use std::alloc::{AllocGlobal, Global};
+use settings::set_each;
+use std::alloc::AllocGlobal;
 use std::marker::Brand;
 use std::process::Abort;
 use std::random::RandomSource;
 use std::sync::Wait;
 use std::test::Fail;
-use std::time::{Clock, Duration};
+use std::time::{Clock, Duration, Instant};
 
-/// A receiver, and how far it has read.
-#[derive(Drop)]
-struct Reader<T: Clone, J: Channel, P: HistoryPort<T, J>> {
-    receiver: HistoryReceiver<T, P, J>,
-    reading: Reading<T, J>,
-    ghost key: { receiver.role.key ≡ reading.key },
+mod settings;
+
+fn recv_in<J: Channel, P: TimedHistoryPort<u64, J>>(
+    receiver: &mut TrackedReceiver<u64, P, J>,
+    task: &MockTask,
+) -> Answer {
+    task.enter(|cx| of_poll_recv(receiver.poll_recv(cx)))
 }
 
-impl<J: Channel, P: HistoryPort<u64, J> + KnowingTimedPort<u64, Seen<u64, J>>> Reader<u64, J, P> {
-    fn clone(&mut self, rt: &impl Wait) -> Result<Self, HandleError> {
-        let (receiver, reading) = self.reading.clone(rt, &self.receiver)?;
-        Ok(Reader { receiver, reading })
-    }
+fn next_in<J: Channel, P: TimedHistoryPort<u64, J>>(
+    rt: &impl Wait,
+    receiver: &mut TrackedReceiver<u64, P, J>,
+    task: &MockTask,
+) -> Answer {
+    task.enter(|cx| poll_next(rt, receiver, cx))
+}
 
-    fn try_recv(&mut self, rt: &impl Wait) -> Answer {
-        of_try_recv(self.reading.try_recv(rt, &mut self.receiver))
-    }
-
-    fn recv_blocking(&mut self, rt: &impl Wait) -> Answer {
-        of_recv(self.reading.recv_blocking(rt, &mut self.receiver))
-    }
-
-    fn recv_timeout(&mut self, rt: &impl Wait) -> Answer {
-        let limit = Duration::ZERO;
-        of_recv_timeout(self.reading.recv_timeout(rt, &mut self.receiver, limit))
-    }
-
-    fn recv_in(&mut self, rt: &impl Wait, task: &MockTask) -> Answer {
-        task.enter(|cx| self.poll_recv(rt, cx))
-    }
-
-    fn poll_recv(&mut self, rt: &impl Wait, cx: &mut Context<'_>) -> Answer {
-        of_poll_recv(self.reading.poll_recv(rt, &mut self.receiver, cx))
-    }
-
-    fn next_in(&mut self, rt: &impl Wait, task: &MockTask) -> Answer {
-        task.enter(|cx| self.poll_next(rt, cx))
-    }
-
-    fn poll_next(&mut self, rt: &impl Wait, cx: &mut Context<'_>) -> Answer {
-        match self.reading.poll_next(rt, &mut self.receiver, cx) {
-            Ok(Poll::Ready(Some(msg))) => Answer::Message(msg),
-            Ok(Poll::Ready(None)) => Answer::Ended,
-            Ok(Poll::Pending) => Answer::Pending,
-            Err(_) => Answer::NoMemory,
-        }
+fn poll_next<J: Channel, P: TimedHistoryPort<u64, J>>(
+    rt: &impl Wait,
+    receiver: &mut TrackedReceiver<u64, P, J>,
+    cx: &mut Context<'_>,
+) -> Answer {
+    match receiver.poll_next(rt, cx) {
+        Ok(Poll::Ready(Some(msg))) => Answer::Message(msg),
+        Ok(Poll::Ready(None)) => Answer::Ended,
+        Ok(Poll::Pending) => Answer::Pending,
+        Err(_) => Answer::NoMemory,
     }
 }
 
@@ -70,18 +51,47 @@ impl<J: Channel, P: HistoryPort<u64, J> + KnowingTimedPort<u64, Seen<u64, J>>> R
 enum Row {
     Take,
     Start,
+    Room,
+    Count,
+    Limit,
+    Set,
 }
 
 // Each call gives the message that comes next, or says how many were missed. A stream skips those.
 #[test]
-fn a_reading_is_given_each_message_in_turn(rt: HostRuntime) -> Result<(), Fail> {
+fn a_receiver_is_given_each_message_in_turn(rt: HostRuntime) -> Result<(), Fail> {
     run(rt, Row::Take)
 }
 
 // A new receiver and an activated one start at the end, a clone where its original reads on.
 #[test]
-fn a_reading_starts_where_its_receiver_does(rt: HostRuntime) -> Result<(), Fail> {
+fn a_receiver_starts_where_it_says(rt: HostRuntime) -> Result<(), Fail> {
     run(rt, Row::Start)
+}
+
+// No receiver is made beside those that are returned: once they are gone, or have read all, there
+// is room again.
+#[test]
+fn makers_leave_no_receiver_behind(rt: HostRuntime) -> Result<(), Fail> {
+    run(rt, Row::Room)
+}
+
+// What is unread and what was missed.
+#[test]
+fn a_receiver_counts_what_it_has_still_to_read(rt: HostRuntime) -> Result<(), Fail> {
+    run(rt, Row::Count)
+}
+
+// A call with a limit that finds nothing, or no room, waits until its time is over.
+#[test]
+fn limits_are_waited_for(rt: HostRuntime) -> Result<(), Fail> {
+    run(rt, Row::Limit)
+}
+
+// Each setting, each count, and a whole list.
+#[test]
+fn a_sender_sets_and_counts(rt: HostRuntime) -> Result<(), Fail> {
+    run(rt, Row::Set)
 }
 
 fn run<R>(rt: R, row: Row) -> Result<(), Fail>
@@ -98,62 +108,62 @@ where
     R: Wait + Clock + Abort + RandomSource + AllocGlobal + Copy + Drop,
     requires { (opened.book ≡ J.book) × (opened.opening ≡ J.opening) }
 {
-    let (mut sender, receiver, reading): (_, _, Reading<u64, J>) = broadcast(
-        rt,
-        rt.alloc(),
-        opened,
-    )?;
-    sender.set_overflow(true);
+    let (mut sender, mut receiver) = broadcast::<u64, R, J, _>(rt, rt.alloc(), opened)?;
     match row {
-        Row::Take => take_each(&rt, &sender, receiver, reading),
-        Row::Start => start_each(&rt, &sender, receiver, reading),
+        Row::Take => take_each(&rt, &mut sender, &mut receiver),
+        Row::Start => start_each(&rt, &mut sender, &mut receiver),
+        Row::Room => make_each(&rt, &mut sender, &mut receiver),
+        Row::Count => count_each(&rt, &mut sender, &mut receiver),
+        Row::Limit => wait_each(&rt, &mut sender, &mut receiver),
+        Row::Set => set_each(&rt, &mut sender),
     }
 }
 
 fn take_each<J, R, P>(
     rt: &R,
-    sender: &HistorySender<u64, P, J>,
-    receiver: HistoryReceiver<u64, P, J>,
-    reading: Reading<u64, J>,
+    sender: &mut TrackedSender<u64, P, J>,
+    receiver: &mut TrackedReceiver<u64, P, J>,
 ) -> Result<(), Fail>
 where
     J: Channel,
     R: Wait + Abort + RandomSource + AllocGlobal,
-    P: HistoryPort<u64, J> + KnowingTimedPort<u64, Seen<u64, J>>,
-    requires { receiver.role.key ≡ reading.key }
+    P: TimedHistoryPort<u64, J>,
 {
-    let mut reader = Reader { receiver, reading };
+    sender.set_overflow(true);
     let task = MockTask::new(&rt)?;
-    assert!(rt; reader.try_recv(rt) == Answer::Empty);
-    assert!(rt; reader.recv_timeout(rt) == Answer::Empty);
-    assert!(rt; reader.recv_in(rt, &task) == Answer::Pending);
+    let limit = Duration::from_millis(1);
+    assert!(rt; of_try_recv(receiver.try_recv()) == Answer::Empty);
+    assert!(rt; of_recv_timeout(receiver.recv_timeout(limit)) == Answer::Empty);
+    assert!(rt; recv_in(receiver, &task) == Answer::Pending);
+    assert!(rt; !task.is_woken());
     send(rt, sender, 1);
     assert!(rt; task.is_woken());
-    assert!(rt; reader.recv_in(rt, &task) == Answer::Message(1));
+    assert!(rt; recv_in(receiver, &task) == Answer::Message(1));
     send(rt, sender, 2);
     send(rt, sender, 3);
-    assert!(rt; reader.recv_timeout(rt) == Answer::Message(2));
-    assert!(rt; reader.recv_blocking(rt) == Answer::Message(3));
+    assert!(rt; of_recv_timeout(receiver.recv_timeout(limit)) == Answer::Message(2));
+    assert!(rt; of_recv(receiver.recv_blocking()) == Answer::Message(3));
     for msg in 4..=6 {
         send(rt, sender, msg);
     }
-    assert!(rt; reader.try_recv(rt) == Answer::Missed(1));
-    assert!(rt; reader.try_recv(rt) == Answer::Message(5));
+    assert!(rt; of_try_recv(receiver.try_recv()) == Answer::Missed(1));
+    assert!(rt; of_try_recv(receiver.try_recv()) == Answer::Message(5));
     send(rt, sender, 7);
     send(rt, sender, 8);
-    assert!(rt; reader.next_in(rt, &task) == Answer::Message(7));
-    assert!(rt; reader.next_in(rt, &task) == Answer::Message(8));
-    assert!(rt; reader.next_in(rt, &task) == Answer::Pending);
-    sender.close();
-    assert!(rt; reader.next_in(rt, &task) == Answer::Ended);
-    assert!(rt; reader.try_recv(rt) == Answer::Ended);
+    assert!(rt; next_in(rt, receiver, &task) == Answer::Message(7));
+    assert!(rt; next_in(rt, receiver, &task) == Answer::Message(8));
+    assert!(rt; next_in(rt, receiver, &task) == Answer::Pending);
+    assert!(rt; receiver.next() == 8 && sender.end() == 8);
+    assert!(rt; sender.close() && !sender.close());
+    assert!(rt; next_in(rt, receiver, &task) == Answer::Ended);
+    assert!(rt; of_try_recv(receiver.try_recv()) == Answer::Ended);
     Ok(())
 }
 
-/// Sends a message on a channel in overflow mode.
-fn send<P: KnowingPort<u64, K>, K: Drop>(
+/// Sends a message for which there is room, or one that drops the oldest.
+fn send<J: Channel, P: TimedHistoryPort<u64, J>>(
     rt: &impl Abort,
-    sender: &Sender<u64, P, Global, K>,
+    sender: &mut TrackedSender<u64, P, J>,
     msg: u64,
 ) {
     assert!(rt; sender.try_broadcast(msg).is_ok(), "{msg} is sent");
@@ -161,31 +171,104 @@ fn send<P: KnowingPort<u64, K>, K: Drop>(
 
 fn start_each<J, R, P>(
     rt: &R,
-    sender: &HistorySender<u64, P, J>,
-    receiver: HistoryReceiver<u64, P, J>,
-    reading: Reading<u64, J>,
+    sender: &mut TrackedSender<u64, P, J>,
+    first: &mut TrackedReceiver<u64, P, J>,
 ) -> Result<(), Fail>
 where
     J: Channel,
     R: Wait + Abort,
-    P: HistoryPort<u64, J> + KnowingTimedPort<u64, Seen<u64, J>>,
-    requires { receiver.role.key ≡ reading.key }
+    P: TimedHistoryPort<u64, J>,
 {
-    let mut first = Reader { receiver, reading };
-    let mut seen = first.reading.seen();
     send(rt, sender, 1);
-    let mut cloned = first.clone(rt)?;
-    let (receiver, reading) = Reading::new_receiver(sender, &mut seen)?;
-    let mut made = Reader { receiver, reading };
-    let inactive = sender.new_receiver()?.deactivate()?;
-    let (receiver, reading) = Reading::activate(inactive, &mut seen)?;
-    let mut activated = Reader { receiver, reading };
+    let mut cloned = first.clone()?;
+    let mut made = sender.new_receiver()?;
+    let inactive = sender.new_receiver()?.deactivate().ok().ok_or("no handle")?;
+    let mut activated = inactive.activate().ok().ok_or("no handle")?;
     send(rt, sender, 2);
-    assert!(rt; made.try_recv(rt) == Answer::Message(2));
-    assert!(rt; activated.try_recv(rt) == Answer::Message(2));
+    assert!(rt; of_try_recv(made.try_recv()) == Answer::Message(2));
+    assert!(rt; of_try_recv(activated.try_recv()) == Answer::Message(2));
     for msg in 1..=2 {
-        assert!(rt; first.try_recv(rt) == Answer::Message(msg));
-        assert!(rt; cloned.try_recv(rt) == Answer::Message(msg));
+        assert!(rt; of_try_recv(first.try_recv()) == Answer::Message(msg));
+        assert!(rt; of_try_recv(cloned.try_recv()) == Answer::Message(msg));
     }
+    Ok(())
+}
+
+fn make_each<J, R, P>(
+    rt: &R,
+    sender: &mut TrackedSender<u64, P, J>,
+    first: &mut TrackedReceiver<u64, P, J>,
+) -> Result<(), Fail>
+where
+    J: Channel,
+    R: Wait + Abort,
+    P: TimedHistoryPort<u64, J>,
+{
+    let inactive = sender.new_receiver()?.deactivate().ok().ok_or("no handle")?;
+    let activated = inactive.activate().ok().ok_or("no handle")?;
+    assert!(rt; sender.receiver_count() == 2 && sender.inactive_receiver_count() == 0);
+    drop((first.clone()?, activated));
+    let other = sender.clone()?;
+    assert!(rt; sender.receiver_count() == 1 && sender.sender_count() == 2);
+    drop(other);
+    send(rt, sender, 1);
+    send(rt, sender, 2);
+    assert!(rt; sender.len() == 2 && sender.try_broadcast(3).is_err());
+    for msg in 1..=2 {
+        assert!(rt; of_try_recv(first.try_recv()) == Answer::Message(msg));
+    }
+    assert!(rt; sender.len() == 0 && sender.sender_count() == 1);
+    send(rt, sender, 3);
+    Ok(())
+}
+
+fn count_each<J, R, P>(
+    rt: &R,
+    sender: &mut TrackedSender<u64, P, J>,
+    receiver: &mut TrackedReceiver<u64, P, J>,
+) -> Result<(), Fail>
+where
+    J: Channel,
+    R: Wait + Abort,
+    P: TimedHistoryPort<u64, J>,
+{
+    sender.set_overflow(true);
+    for msg in 1..=3 {
+        send(rt, sender, msg);
+    }
+    assert!(rt; receiver.unread() == 2 && receiver.missed() == 1);
+    assert!(rt; of_try_recv(receiver.try_recv()) == Answer::Missed(1));
+    assert!(rt; receiver.unread() == 2 && receiver.missed() == 0);
+    assert!(rt; of_try_recv(receiver.try_recv()) == Answer::Message(2));
+    assert!(rt; receiver.unread() == 1 && receiver.missed() == 0);
+    drop(sender.close());
+    let mut count = 0u64;
+    for received in receiver.iter(rt) {
+        assert!(rt; of_recv(received) == Answer::Message(3));
+        count = count.wrapping_add(1);
+    }
+    assert!(rt; count == 1 && receiver.unread() == 0);
+    Ok(())
+}
+
+fn wait_each<J, R, P>(
+    rt: &R,
+    sender: &mut TrackedSender<u64, P, J>,
+    receiver: &mut TrackedReceiver<u64, P, J>,
+) -> Result<(), Fail>
+where
+    J: Channel,
+    R: Clock + Abort,
+    P: TimedHistoryPort<u64, J>,
+{
+    let limit = Duration::from_millis(2);
+    let start = Instant::now(rt)?;
+    assert!(rt; of_recv_timeout(receiver.recv_timeout(limit)) == Answer::Empty);
+    assert!(rt; start.elapsed(rt)? >= limit);
+    send(rt, sender, 1);
+    send(rt, sender, 2);
+    let start = Instant::now(rt)?;
+    assert!(rt; of_send_timeout(sender.broadcast_timeout(3, limit)) == Answer::TimedOut(3));
+    assert!(rt; start.elapsed(rt)? >= limit);
     Ok(())
 }

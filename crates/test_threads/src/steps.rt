@@ -5,11 +5,11 @@ use std::process::Abort;
 use std::sync::atomic::{AtomicU64, Ordering};
 use std::thread;
 
-/// The sender of a thread, whose port knows `K` of its channel.
-pub type Sending<P, K = ()> = Sender<u64, P, Global, K>;
+/// The sender of a thread.
+pub type Sending<P> = Sender<u64, P, Global>;
 
-/// The receiver of a thread, whose port knows `K` of its channel.
-pub type Receiving<P, K = ()> = Receiver<u64, P, Global, K>;
+/// The receiver of a thread.
+pub type Receiving<P> = Receiver<u64, P, Global>;
 
 /// How often a test looks for what threads have done, before it fails.
 const MOST_LOOKS: u64 = 20_000_000;

@@ -20,13 +20,13 @@ use std::alloc::{AllocError, Allocator, Global};
 ///
 /// Source: `Recv` of async-broadcast 0.7.2.
 #[must_use]
-pub struct Recv<'a, T: Clone, P: Ask<T, K>, A: Allocator = Global, K: Drop = ()> {
-    receiver: &'a mut Receiver<T, P, A, K>,
+pub struct Recv<'a, T: Clone, P: Ask<T, ()>, A: Allocator = Global> {
+    receiver: &'a mut Receiver<T, P, A>,
     // Whether the last poll was answered, and not because it was out of memory.
     is_answered: bool,
 }
 
-impl<T: Clone, P: Ask<T, K>, A: Allocator + Copy, K: Drop> Receiver<T, P, A, K> {
+impl<T: Clone, P: Ask<T, ()>, A: Allocator + Copy> Receiver<T, P, A> {
     /// Receives the next message in a task, by a future in a box.
     ///
     /// # Errors
@@ -40,7 +40,7 @@ impl<T: Clone, P: Ask<T, K>, A: Allocator + Copy, K: Drop> Receiver<T, P, A, K> 
     /// ```
     ///
     /// Source: `Receiver::recv` of async-broadcast 0.7.2, which never refuses.
-    pub fn recv(&mut self) -> Result<Box<Recv<'_, T, P, A, K>, A>, AllocError>
+    pub fn recv(&mut self) -> Result<Box<Recv<'_, T, P, A>, A>, AllocError>
         ensures lent { IfOk result (λ recv. recv.value.receiver.now ≡ self.old) }
         ensures same { IfOk result
             (λ recv. recv.value.receiver.ghost_name ≡ self.entry.ghost_name) }
@@ -72,7 +72,7 @@ impl<T: Clone, P: Ask<T, K>, A: Allocator + Copy, K: Drop> Receiver<T, P, A, K> 
     ///
     /// Source: `Receiver::recv_direct` of async-broadcast 0.7.2.
     #[inline(always)]
-    pub fn recv_direct(&mut self) -> Recv<'_, T, P, A, K>
+    pub fn recv_direct(&mut self) -> Recv<'_, T, P, A>
         ensures lent { result.receiver.now ≡ self.old }
         ensures same { result.receiver.ghost_name ≡ self.entry.ghost_name }
         ensures fresh { result.is_answered ≡ false }
@@ -122,14 +122,13 @@ impl<T: Clone, P: Ask<T, K>, A: Allocator + Copy, K: Drop> Receiver<T, P, A, K> 
         ensures kept { Keeps cx.old cx.new }
     {
         let Receiving { key, waker } = &mut self.role;
-        let known = &mut self.port.known();
         self.port
-            .poll(known, PollRecv(*key), waker, cx)
+            .poll(&mut (), PollRecv(*key), waker, cx)
             .unwrap_or(Err(AllocError))
     }
 }
 
-impl<T: Clone, P: Ask<T, K>, A: Allocator, K: Drop> Drop for Recv<'_, T, P, A, K> {
+impl<T: Clone, P: Ask<T, ()>, A: Allocator> Drop for Recv<'_, T, P, A> {
     fn drop(self)
         ensures asked { P.gave self.entry.receiver.now.port
             (Call.EndFuture self.entry.receiver.now.role.key) Reply.EndFuture }
@@ -139,12 +138,14 @@ impl<T: Clone, P: Ask<T, K>, A: Allocator, K: Drop> Drop for Recv<'_, T, P, A, K
             receiver,
             is_answered,
         } = self;
-        let wake = receiver.port.end_future(receiver.role.key, is_answered);
+        let wake = receiver
+            .port
+            .end_future(&mut (), receiver.role.key, is_answered);
         receiver.role.waker.put_back(wake);
     }
 }
 
-impl<T: Clone, P: Ask<T, K>, A: Allocator + Copy, K: Drop> Future for Recv<'_, T, P, A, K> {
+impl<T: Clone, P: Ask<T, ()>, A: Allocator + Copy> Future for Recv<'_, T, P, A> {
     type Output = Result<Result<T, RecvError>, AllocError>;
 
     ghost gives = { λ r. GivesReceived P.gave r.receiver.now.port r.receiver.now.role.key };
@@ -180,7 +181,7 @@ impl<T: Clone, P: Ask<T, K>, A: Allocator + Copy, K: Drop> Future for Recv<'_, T
         let receiver = &mut *self.receiver;
         let Handle { port, role, .. } = receiver;
         let Receiving { key, waker } = role;
-        let polled = port.poll(&mut port.known(), PollFuture(*key), waker, cx);
+        let polled = port.poll(&mut (), PollFuture(*key), waker, cx);
         match polled.unwrap_or(Err(AllocError)) {
             Ok(Poll::Ready(answer)) => {
                 self.is_answered = true;

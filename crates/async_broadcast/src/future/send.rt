@@ -21,8 +21,8 @@ use std::alloc::{Allocator, Global};
 ///
 /// Source: `Send` of async-broadcast 0.7.2, which panics when polled again.
 #[must_use]
-pub struct Send<'a, T: Clone, P: Ask<T, K>, A: Allocator = Global, K: Drop = ()> {
-    sender: &'a Sender<T, P, A, K>,
+pub struct Send<'a, T: Clone, P: Ask<T, ()>, A: Allocator = Global> {
+    sender: &'a Sender<T, P, A>,
     // The place that the channel gave to this send, until it is answered.
     place: Option<usize>,
     // The message, until the output.
@@ -30,7 +30,7 @@ pub struct Send<'a, T: Clone, P: Ask<T, K>, A: Allocator = Global, K: Drop = ()>
     waker: TaskWaker,
 }
 
-impl<T: Clone, P: Ask<T, K>, A: Allocator + Copy, K: Drop> Sender<T, P, A, K> {
+impl<T: Clone, P: Ask<T, ()>, A: Allocator + Copy> Sender<T, P, A> {
     /// Makes a send of this message, in a box. It sends nothing before it is polled.
     ///
     /// # Errors
@@ -47,7 +47,7 @@ impl<T: Clone, P: Ask<T, K>, A: Allocator + Copy, K: Drop> Sender<T, P, A, K> {
     /// ```
     ///
     /// Source: `Sender::broadcast` of async-broadcast 0.7.2, which never refuses.
-    pub fn broadcast(&self, msg: T) -> Result<Box<Send<'_, T, P, A, K>, A>, NoMemory<T>>
+    pub fn broadcast(&self, msg: T) -> Result<Box<Send<'_, T, P, A>, A>, NoMemory<T>>
         ensures port { IfOk result (λ send. send.value.sender.now.port ≡ self.now.port) }
         ensures made { IfOk result (λ send. (send.value.msg ≡ Some msg)
             × BeganSend P.gave self.now.port send.value.place) }
@@ -79,14 +79,14 @@ impl<T: Clone, P: Ask<T, K>, A: Allocator + Copy, K: Drop> Sender<T, P, A, K> {
     ///
     /// Source: `Sender::broadcast_direct` of async-broadcast 0.7.2, which never refuses.
     #[inline(always)]
-    pub fn broadcast_direct(&self, msg: T) -> Result<Send<'_, T, P, A, K>, NoMemory<T>>
+    pub fn broadcast_direct(&self, msg: T) -> Result<Send<'_, T, P, A>, NoMemory<T>>
         ensures port { IfOk result (λ send. send.sender.now.port ≡ self.now.port) }
         ensures made { IfOk result (λ send. (send.msg ≡ Some msg)
             × BeganSend P.gave self.now.port send.place) }
         ensures refused { IfErr result (λ error. (error.0 ≡ msg)
             × P.gave self.now.port Call.BeginSend (Reply.BeginSend (Err alloc_error))) }
     {
-        match self.port.ask(&mut self.port.known(), BeginSend) {
+        match self.port.ask(&mut (), BeginSend) {
             Ok(place) => Ok(Send {
                 sender: self,
                 place: Some(place),
@@ -98,7 +98,7 @@ impl<T: Clone, P: Ask<T, K>, A: Allocator + Copy, K: Drop> Sender<T, P, A, K> {
     }
 }
 
-impl<T: Clone, P: Ask<T, K>, A: Allocator, K: Drop> Send<'_, T, P, A, K> {
+impl<T: Clone, P: Ask<T, ()>, A: Allocator> Send<'_, T, P, A> {
     // Gives up a send that was never polled.
     fn cancel(self) -> T
         requires { IsSome self.msg }
@@ -120,19 +120,18 @@ impl<T: Clone, P: Ask<T, K>, A: Allocator, K: Drop> Send<'_, T, P, A, K> {
     }
 }
 
-impl<T: Clone, P: Ask<T, K>, A: Allocator, K: Drop> Sender<T, P, A, K> {
+impl<T: Clone, P: Ask<T, ()>, A: Allocator> Sender<T, P, A> {
     // Gives up the place of a send, if it still has one.
     fn end_send(&self, place: Option<usize>)
         ensures { IfSome place (λ place. P.gave self.now.port (Call.EndSend place) Reply.EndSend) }
     {
         if let Some(place) = place {
-            self.port
-                .ask(&mut self.port.known(), Change::EndSend(place));
+            self.port.ask(&mut (), Change::EndSend(place));
         }
     }
 }
 
-impl<T: Clone, P: Ask<T, K>, A: Allocator, K: Drop> Drop for Send<'_, T, P, A, K> {
+impl<T: Clone, P: Ask<T, ()>, A: Allocator> Drop for Send<'_, T, P, A> {
     fn drop(self)
         ensures { IfSome self.entry.place (λ place.
             P.gave self.entry.sender.now.port (Call.EndSend place) Reply.EndSend) }
@@ -147,7 +146,7 @@ impl<T: Clone, P: Ask<T, K>, A: Allocator, K: Drop> Drop for Send<'_, T, P, A, K
     }
 }
 
-impl<T: Clone, P: Ask<T, K>, A: Allocator + Copy, K: Drop> Future for Send<'_, T, P, A, K> {
+impl<T: Clone, P: Ask<T, ()>, A: Allocator + Copy> Future for Send<'_, T, P, A> {
     type Output = Result<Result<Option<T>, SendError<T>>, NoMemory<T>>;
 
     ghost gives = { λ s out. GivesSent P.gave s.sender.now.port s.place s.msg out };
@@ -189,7 +188,7 @@ impl<T: Clone, P: Ask<T, K>, A: Allocator + Copy, K: Drop> Future for Send<'_, T
         };
         let port = &self.sender.port;
         let poll = PollSend(place, msg);
-        match port.poll(&mut port.known(), poll, &mut self.waker, cx) {
+        match port.poll(&mut (), poll, &mut self.waker, cx) {
             Ok(SendPoll::Ready(answer)) => {
                 self.place = None;
                 Poll::Ready(Ok(answer))

@@ -15,7 +15,7 @@ use std::alloc::{AllocError, Allocator};
 
 // Dropped messages are skipped. If memory for a notice or a clone is refused, the item is an `Err`,
 // and nothing changed. The stream ends when every message was read and the channel is closed.
-impl<T: Clone, P: Ask<T, K>, A: Allocator + Copy, K: Drop> Stream for Receiver<T, P, A, K> {
+impl<T: Clone, P: Ask<T, ()>, A: Allocator + Copy> Stream for Receiver<T, P, A> {
     type Item = Result<T, AllocError>;
 
     ghost yields = { λ r items last. YieldsItems P.gave r.port r.role.key items last };
@@ -43,8 +43,7 @@ impl<T: Clone, P: Ask<T, K>, A: Allocator + Copy, K: Drop> Stream for Receiver<T
         ensures key { self.new.role.key ≡ self.old.role.key }
     {
         let Receiving { key, waker } = &mut self.role;
-        let known = &mut self.port.known();
-        let polled = self.port.poll(known, PollNext(*key), waker, cx);
+        let polled = self.port.poll(&mut (), PollNext(*key), waker, cx);
         match polled.unwrap_or(Err(AllocError)) {
             Ok(Poll::Ready(Some(next))) => Poll::Ready(Some(Ok(next.0))),
             Ok(Poll::Ready(None)) => Poll::Ready(None),

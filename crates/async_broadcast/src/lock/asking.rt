@@ -41,36 +41,28 @@ fn poll_for<T: Clone, A: Allocator + Copy, P: Polls<T>, C: Registers>(
     call.make_for(inner, &mut maker)
 }
 
-impl<T: Clone, R: Wait + Clone, A: Allocator + Copy, J: CallJournal<T>> Ask<T, J::Known>
+impl<T: Clone, R: Wait + Clone, A: Allocator + Copy, J: CallJournal<T>> Ask<T, J::Caller>
     for Lock<T, R, A, J> {
     ghost use Rattle.async_broadcast.specs.OfKind.{possible};
 
-    ghost knows = { λ port. port.known };
+    ghost gave = { λ port call reply. IsPossible T.is_clone call reply };
 
-    ghost gave = { λ port call reply. J.gave port.known call reply };
+    ghost learns = { J.learns };
 
-    ghost learns = { λ known call reply after. IsPossible T.is_clone call reply
-        × J.learns known call reply after };
-
-    ghost of_kind = { λ port call reply gave.
-        possible T.is_clone call reply (J.possible port.known call reply gave) };
+    ghost of_kind = { λ port call reply gave. possible T.is_clone call reply gave };
 
     #[inline(always)]
-    fn known(&self) -> J::Known {
-        J::copy(&self.known)
-    }
-
-    #[inline(always)]
-    fn ask<C: AtOnce<T>>(&self, known: &mut J::Known, call: C) -> C::Answer {
+    fn ask<C: AtOnce<T>>(&self, caller: &mut J::Caller, call: C) -> C::Answer {
         let channel = &*self.channel;
         let mut guard = lock!(channel, &self.rt);
         let state = &mut *guard;
+        state.journal.check(&self.rt, caller, &state.inner);
         let asked = Snapshot::of(&call);
         let before = Snapshot::of(&state.inner);
         let answer = call.make(&mut state.inner);
         state
             .journal
-            .append(&self.rt, known, &asked, &answer, &before, &state.inner);
+            .append(&self.rt, caller, &asked, &answer, &before, &state.inner);
         if let Some(woken) = state.threads.choose_woken(&state.inner) {
             channel.unlock(guard, woken);
         }
@@ -80,18 +72,17 @@ impl<T: Clone, R: Wait + Clone, A: Allocator + Copy, J: CallJournal<T>> Ask<T, J
     #[inline(always)]
     fn poll<C: Polls<T>>(
         &self,
-        known: &mut J::Known,
+        caller: &mut J::Caller,
         call: C,
         task: &mut TaskWaker,
         cx: &mut Context<'_>,
     ) -> Result<C::Answer, C>
         requires { HasPositiveCapacity (C.call call) }
-        ensures gave { IfOk result (λ answer. known.old ≡ self.now.known
-            → J.gave self.now.known (C.call call) (C.reply call answer)) }
-        ensures learned { IfOk result (λ answer. IsPossible T.is_clone (C.call call)
-            (C.reply call answer) × J.learns known.old (C.call call) (C.reply call answer)
-            known.new) }
-        ensures back { IfErr result (λ back. (back ≡ call) × (known.new ≡ known.old)) }
+        ensures gave { IfOk result (λ answer. IsPossible T.is_clone (C.call call)
+            (C.reply call answer)) }
+        ensures learned { IfOk result (λ answer. J.learns caller.old (C.call call)
+            (C.reply call answer) caller.new) }
+        ensures back { IfErr result (λ back. (back ≡ call) × (caller.new ≡ caller.old)) }
 
         ensures notice { IfOk result (λ answer. must_wait (C.reply call answer) ≡ true
             → task.new.is_refused ≡ false) }
@@ -107,12 +98,13 @@ impl<T: Clone, R: Wait + Clone, A: Allocator + Copy, J: CallJournal<T>> Ask<T, J
         let channel = &*self.channel;
         let mut guard = lock!(channel, &self.rt);
         let state = &mut *guard;
+        state.journal.check(&self.rt, caller, &state.inner);
         let asked = Snapshot::of(&call);
         let before = Snapshot::of(&state.inner);
         let answer = poll_for(&mut state.inner, call, task, cx)?;
         state
             .journal
-            .append(&self.rt, known, &asked, &answer, &before, &state.inner);
+            .append(&self.rt, caller, &asked, &answer, &before, &state.inner);
         if let Some(woken) = state.threads.choose_woken(&state.inner) {
             channel.unlock(guard, woken);
         }
@@ -122,20 +114,20 @@ impl<T: Clone, R: Wait + Clone, A: Allocator + Copy, J: CallJournal<T>> Ask<T, J
     // An answered poll has taken its listener off the list, and no other poll can have put it
     // back: so the call would change nothing, and isn't made.
     #[inline(always)]
-    fn end_future(&self, key: usize, is_answered: bool) -> Wake {
+    fn end_future(&self, caller: &mut J::Caller, key: usize, is_answered: bool) -> Wake {
         if is_answered {
             return Wake::none();
         }
-        let known = &mut self.known();
         let channel = &*self.channel;
         let mut guard = lock!(channel, &self.rt);
         let state = &mut *guard;
+        state.journal.check(&self.rt, caller, &state.inner);
         let asked = Snapshot::of(&Change::EndFuture(key));
         let before = Snapshot::of(&state.inner);
         let notice = state.inner.take_future(key);
         state
             .journal
-            .append(&self.rt, known, &asked, &(), &before, &state.inner);
+            .append(&self.rt, caller, &asked, &(), &before, &state.inner);
         // The lock is released before the notice is handed on.
         match state.threads.choose_woken(&state.inner) {
             Some(woken) => channel.unlock(guard, woken),

@@ -1,6 +1,6 @@
 //! What the lock guards: the channel, the journal of its calls, and the threads that wait for it.
 ghost use Rattle.std.specs.Prelude.{◌≡◌, false};
-ghost use Rattle.async_broadcast.specs.Woken.{HasNoThread, KnowsEnd};
+ghost use Rattle.async_broadcast.specs.Woken.{HasNoThread, KnowsTail};
 ghost use Rattle.async_broadcast.specs.Woken.{HasWokenSender, HasWokenReceiver};
 
 use super::threads::Threads;
@@ -16,7 +16,7 @@ pub(crate) struct State<T: Clone, A: Allocator, J: CallJournal<T>> {
     pub(super) journal: J,
     pub(super) threads: Threads,
     ghost records: { ∥ J.records journal inner ∥₁ },
-    ghost knows: { KnowsEnd inner threads },
+    ghost knows: { KnowsTail inner threads },
     ghost sends: { HasWokenSender inner threads },
     ghost receives: { HasWokenReceiver threads },
 }

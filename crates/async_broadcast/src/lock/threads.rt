@@ -1,10 +1,10 @@
 //! The threads that wait for the channel, and which of them to wake.
 ghost use Rattle.std.specs.Prelude.{◌≡◌, true, false, IfSome, IfNone};
-ghost use Rattle.async_broadcast.specs.Woken.{HasNoThread, KnowsEnd};
+ghost use Rattle.async_broadcast.specs.Woken.{HasNoThread, KnowsTail};
 ghost use Rattle.async_broadcast.specs.Woken.{HasWokenSender, HasWokenReceiver};
 ghost use Rattle.async_broadcast.specs.Woken.{AreSenders, Chooses, ChoosesSender};
 ghost use Rattle.async_broadcast.specs.Woken.{ChoosesReceivers, MovesReceivers};
-ghost use Rattle.async_broadcast.specs.Woken.{EndsWait, EndsWaitToSend, end_of, one_more};
+ghost use Rattle.async_broadcast.specs.Woken.{EndsWait, EndsWaitToSend, tail_of, one_more};
 
 use crate::wake::Wake;
 use bcast_core::Inner;
@@ -28,7 +28,7 @@ pub(super) struct Threads {
     // How many threads wait for a message: those that have nothing to receive, and those that have.
     caught_up_receivers: u64,
     due_receivers: u64,
-    // What those that have nothing to receive know (`end`).
+    // What those that have nothing to receive know (`tail`).
     known: (u64, bool),
     // Whether one that has something to receive was woken and hasn't tried yet.
     is_receiver_woken: bool,
@@ -78,7 +78,7 @@ impl Woken {
 pub(super) struct WaitingToSend(());
 
 /// A thread that is counted as one that waits for a message, with what it knew when it began
-/// (`end`), and in which round. It has to be given to `end_waiting_to_receive`.
+/// (`tail`), and in which round. It has to be given to `end_waiting_to_receive`.
 pub(super) struct WaitingToReceive {
     known: (u64, bool),
     round: u64,
@@ -111,7 +111,7 @@ impl Threads {
         &mut self,
         inner: &Inner<T, Wake, A>,
     ) -> Option<Woken>
-        ensures knows { KnowsEnd inner.now self.new }
+        ensures knows { KnowsTail inner.now self.new }
         ensures sends { HasWokenSender inner.now self.new }
         ensures receives { HasWokenReceiver self.new }
 
@@ -128,7 +128,7 @@ impl Threads {
     // In a function of its own, so that a call while no thread waits costs one test.
     #[inline(never)]
     fn choose_among<T: Clone, A: Allocator + Copy>(&mut self, inner: &Inner<T, Wake, A>) -> Woken
-        ensures knows { KnowsEnd inner.now self.new }
+        ensures knows { KnowsTail inner.now self.new }
         ensures sends { HasWokenSender inner.now self.new }
         ensures receives { HasWokenReceiver self.new }
         ensures chosen { Chooses inner.now self.old self.new result }
@@ -155,12 +155,12 @@ impl Threads {
         ensures moved { MovesReceivers inner.now self.old self.new }
         ensures senders { AreSenders self.old self.new }
     {
-        let end = end(inner);
-        if end != self.known {
+        let tail = tail(inner);
+        if tail != self.known {
             self.due_receivers = self.due_receivers.wrapping_add(self.caught_up_receivers);
             self.caught_up_receivers = 0;
         }
-        self.known = end;
+        self.known = tail;
     }
 
     // Which of the threads to wake that wait for a message.
@@ -208,16 +208,16 @@ impl Threads {
         &mut self,
         inner: &Inner<T, Wake, A>,
     ) -> WaitingToReceive
-        ensures known { result.known ≡ end_of inner.now }
+        ensures known { result.known ≡ tail_of inner.now }
         ensures round { result.round ≡ self.old.rounds }
         ensures waits { self.new ≡ record self.old {
           caught_up_receivers = one_more self.old.caught_up_receivers;
-          known = end_of inner.now;
+          known = tail_of inner.now;
           is_misled = false;
         } }
     {
         self.caught_up_receivers = self.caught_up_receivers.wrapping_add(1);
-        self.known = end(inner);
+        self.known = tail(inner);
         self.is_misled = false;
         WaitingToReceive {
             known: self.known,
@@ -245,8 +245,8 @@ impl Threads {
 
 // What changes when a receiver that had read everything has something to receive: the number after
 // the last message, and whether the channel is closed.
-fn end<T: Clone, A: Allocator + Copy>(inner: &Inner<T, Wake, A>) -> (u64, bool)
-    ensures { result ≡ end_of inner.now }
+fn tail<T: Clone, A: Allocator + Copy>(inner: &Inner<T, Wake, A>) -> (u64, bool)
+    ensures { result ≡ tail_of inner.now }
 {
     (inner.end_number(), inner.is_closed())
 }

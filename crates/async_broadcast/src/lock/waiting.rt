@@ -18,17 +18,17 @@ use std::thread::yield_now;
 
 impl<T: Clone, R: Wait + Clone, A: Allocator + Copy, J: CallJournal<T>> Lock<T, R, A, J> {
     /// Makes a call again and again, and waits between, until it needn't wait or the time is over.
-    /// The last one is added to `known`.
     pub(super) fn make_until<C: AtOnce<T>, B: Attempt<T, C>, L: Limit<R>>(
         &self,
-        known: &mut J::Known,
+        caller: &mut J::Caller,
         attempt: &B,
         call: C,
         limit: &L,
     ) -> C::Answer
         requires makes { B.makes attempt.now call }
         requires capacity { HasPositiveCapacity (C.call call) }
-        ensures learned { J.learns known.old (C.call call) (C.reply call result) known.new }
+        ensures learned { J.learns caller.old (C.call call) (C.reply call result)
+            caller.new }
         ensures reply { IsPossible T.is_clone (C.call call) (C.reply call result) }
         ensures answered { L.is_endless → is_answer (C.reply call result) ≡ true }
     {
@@ -36,7 +36,7 @@ impl<T: Clone, R: Wait + Clone, A: Allocator + Copy, J: CallJournal<T>> Lock<T, 
         let mut waits = false;
         for _ in self.rt.forever() {
             let made = Snapshot::of(&call);
-            let (answer, is_over) = self.make_or_wait(known, attempt, call, waits, limit);
+            let (answer, is_over) = self.make_or_wait(caller, attempt, call, waits, limit);
             if is_over || !attempt.must_wait(&answer) {
                 return answer;
             }
@@ -52,7 +52,7 @@ impl<T: Clone, R: Wait + Clone, A: Allocator + Copy, J: CallJournal<T>> Lock<T, 
     // whether the time is over.
     fn make_or_wait<C: AtOnce<T>, B: Attempt<T, C>, L: Limit<R>>(
         &self,
-        known: &mut J::Known,
+        caller: &mut J::Caller,
         attempt: &B,
         call: C,
         waits: bool,
@@ -60,19 +60,21 @@ impl<T: Clone, R: Wait + Clone, A: Allocator + Copy, J: CallJournal<T>> Lock<T, 
     ) -> (C::Answer, bool)
         requires makes { B.makes attempt.now call }
         requires capacity { HasPositiveCapacity (C.call call) }
-        ensures learned { J.learns known.old (C.call call) (C.reply call result.0) known.new }
+        ensures learned { J.learns caller.old (C.call call) (C.reply call result.0)
+            caller.new }
         ensures reply { IsPossible T.is_clone (C.call call) (C.reply call result.0) }
         ensures endless { L.is_endless → result.1 ≡ false }
     {
         let channel = &*self.channel;
         let mut guard = lock!(channel, &self.rt);
         let state = &mut *guard;
+        state.journal.check(&self.rt, caller, &state.inner);
         let made = Snapshot::of(&call);
         let before = Snapshot::of(&state.inner);
         let answer = call.make(&mut state.inner);
         state
             .journal
-            .append(&self.rt, known, &made, &answer, &before, &state.inner);
+            .append(&self.rt, caller, &made, &answer, &before, &state.inner);
         if !waits || !attempt.must_wait(&answer) {
             if let Some(woken) = state.threads.choose_woken(&state.inner) {
                 channel.unlock(guard, woken);
@@ -85,11 +87,12 @@ impl<T: Clone, R: Wait + Clone, A: Allocator + Copy, J: CallJournal<T>> Lock<T, 
         let condition = attempt.condition(channel);
         let (mut guard, is_over) = channel.wait(&self.rt, condition, guard, woken, limit);
         let state = &mut *guard;
+        state.journal.check(&self.rt, caller, &state.inner);
         let before = Snapshot::of(&state.inner);
         let answer = call.make(&mut state.inner);
         state
             .journal
-            .append(&self.rt, known, &made, &answer, &before, &state.inner);
+            .append(&self.rt, caller, &made, &answer, &before, &state.inner);
         attempt.end(&mut state.threads, waiting, &answer);
         if let Some(woken) = state.threads.choose_woken(&state.inner) {
             channel.unlock(guard, woken);

@@ -1,12 +1,23 @@
 //! How much a receiver has still to read.
 ghost use Rattle.std.specs.Prelude.{◌≡◌};
-ghost use Rattle.bcast_model.specs.Words.{unread, missed};
+ghost use Rattle.bcast_model.specs.Words.{cursor_of, unread, missed};
 
 use super::Inner;
 use bcast_waiting::notice::Notice;
 use std::alloc::Allocator;
 
 impl<T: Drop, N: Notice, A: Allocator + Copy> Inner<T, N, A> {
+    /// The number of the message that the receiver `key` reads next, which may have been dropped;
+    /// `None` if there is no such receiver.
+    ///
+    /// Source: `Receiver::pos` of async-broadcast 0.7.2, which is private.
+    #[inline(always)]
+    pub fn cursor(&self, key: usize) -> Option<u64>
+        ensures { result ≡ cursor_of self.now.control key }
+    {
+        self.parts.cursor(key)
+    }
+
     /// How many of the kept messages the receiver `key` has still to read; 0 if there is no such
     /// receiver.
     ///

@@ -1,5 +1,5 @@
 //! Of `Lock::new` of `lock.rt`, a channel that its caller made, and of `unread.rt`.
-use async_broadcast::{KnowingPort, Lock, Port, Receiver, Sender, TryRecvError, broadcast};
+use async_broadcast::{Lock, Port, PortFor, Receiver, Sender, TryRecvError, broadcast};
 use bcast_core::Inner;
 use std::test::Fail;
 

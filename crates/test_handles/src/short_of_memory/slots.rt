@@ -1,5 +1,5 @@
 //! A port that takes memory for the notice of each poll.
-use async_broadcast::{Ask, KnowingPort, Port, RecvError, SendError, TaskWaker};
+use async_broadcast::{Ask, Port, PortFor, RecvError, SendError, TaskWaker};
 use bcast_core::{AtOnce, Polls};
 use futures::task::Context;
 use std::alloc::{AllocError, Allocator};
@@ -13,25 +13,19 @@ pub struct SlotPort<P, A: Allocator> {
 }
 
 impl<P: Port<u64>, A: Allocator + Copy> Ask<u64, ()> for SlotPort<P, A> {
-    ghost knows = { λ port. P.knows port.port };
-
     ghost gave = { λ port call reply. P.gave port.port call reply };
 
-    ghost learns = { λ known call reply after. P.learns known call reply after };
+    ghost learns = { λ before call reply after. P.learns before call reply after };
 
     ghost of_kind = { λ port call reply gave. P.of_kind port.port call reply gave };
 
-    fn known(&self) -> () {
-        self.port.known()
-    }
-
-    fn ask<C: AtOnce<u64>>(&self, known: &mut (), call: C) -> C::Answer {
-        self.port.ask(known, call)
+    fn ask<C: AtOnce<u64>>(&self, caller: &mut (), call: C) -> C::Answer {
+        self.port.ask(caller, call)
     }
 
     fn poll<C: Polls<u64>>(
         &self,
-        known: &mut (),
+        caller: &mut (),
         call: C,
         task: &mut TaskWaker,
         cx: &mut Context<'_>,
@@ -40,25 +34,21 @@ impl<P: Port<u64>, A: Allocator + Copy> Ask<u64, ()> for SlotPort<P, A> {
             task.refuse(cx);
             return Err(call);
         };
-        self.port.poll(known, call, task, cx)
+        self.port.poll(caller, call, task, cx)
     }
 }
 
-impl<P: Port<u64>, A: Allocator + Copy> KnowingPort<u64, ()> for SlotPort<P, A> {
-    fn set_known(&mut self, known: &()) {
-        self.port.set_known(known);
-    }
-
-    fn send_waiting(&self, known: &mut (), msg: u64) -> Result<Option<u64>, SendError<u64>> {
-        self.port.send_waiting(known, msg)
+impl<P: Port<u64>, A: Allocator + Copy> PortFor<u64, ()> for SlotPort<P, A> {
+    fn send_waiting(&self, caller: &mut (), msg: u64) -> Result<Option<u64>, SendError<u64>> {
+        self.port.send_waiting(caller, msg)
     }
 
     fn receive_waiting(
         &self,
-        known: &mut (),
+        caller: &mut (),
         key: usize,
     ) -> Result<Result<u64, RecvError>, AllocError> {
-        self.port.receive_waiting(known, key)
+        self.port.receive_waiting(caller, key)
     }
 
     ghost lacks_memory = { λ port. P.lacks_memory port.port };

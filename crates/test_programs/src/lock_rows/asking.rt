@@ -53,7 +53,7 @@ fn typed<P: Port<u64>>(task: &MockTask, port: &P, call: Call<u64>) -> Option<Rep
             return polled(task, port, call);
         }
         Call::EndFuture(key) => {
-            port.end_future(key, false);
+            port.end_future(&mut (), key, false);
             Reply::EndFuture
         }
         Call::TryBroadcast(msg) => Reply::TryBroadcast(made(port, TryBroadcast(msg))),

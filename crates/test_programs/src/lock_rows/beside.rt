@@ -4,7 +4,7 @@ ghost use Rattle.bcast_model.specs.Next.{HasPositiveCapacity};
 use super::asking::{Way, made, tried};
 use super::seen::Shows;
 use super::{Outcome, Part, Row, calls_of, open_both, play_calls};
-use async_broadcast::{KnowingPort, Lock, Port, Wake};
+use async_broadcast::{Lock, Port, PortFor, Wake};
 use bcast_core::{Call, Close, Reply, SendPoll, Silent, step};
 use bcast_trace::opening::read_opening;
 use futures::test::MockTask;

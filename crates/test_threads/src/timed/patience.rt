@@ -1,11 +1,58 @@
 //! How long the calls of a thread wait.
 use crate::answers::{Answer, of_recv, of_recv_timeout, of_send, of_send_timeout};
 use crate::steps::{Receiving, Sending};
-use async_broadcast::KnowingTimedPort;
+use async_broadcast::TimedPort;
+use bcast_history::{Channel, TimedHistoryPort, TrackedReceiver, TrackedSender};
 use rand_core::utils::NextWord;
 use rand_pcg::Pcg32;
 use std::sync::Wait;
 use std::time::Duration;
+
+/// A sender whose calls may have a limit of time.
+pub trait Sends: Drop {
+    fn send(&mut self, msg: u64, limit: Option<Duration>) -> Answer;
+}
+
+/// A receiver whose calls may have a limit of time.
+pub trait Receives: Drop {
+    fn receive(&mut self, limit: Option<Duration>) -> Answer;
+}
+
+impl<P: TimedPort<u64>> Sends for Sending<P> {
+    fn send(&mut self, msg: u64, limit: Option<Duration>) -> Answer {
+        match limit {
+            Some(limit) => of_send_timeout(self.broadcast_timeout(msg, limit)),
+            None => of_send(self.broadcast_blocking(msg)),
+        }
+    }
+}
+
+impl<P: TimedPort<u64>> Receives for Receiving<P> {
+    fn receive(&mut self, limit: Option<Duration>) -> Answer {
+        match limit {
+            Some(limit) => of_recv_timeout(self.recv_timeout(limit)),
+            None => of_recv(self.recv_blocking()),
+        }
+    }
+}
+
+impl<J: Channel, P: TimedHistoryPort<u64, J>> Sends for TrackedSender<u64, P, J> {
+    fn send(&mut self, msg: u64, limit: Option<Duration>) -> Answer {
+        match limit {
+            Some(limit) => of_send_timeout(self.broadcast_timeout(msg, limit)),
+            None => of_send(self.broadcast_blocking(msg)),
+        }
+    }
+}
+
+impl<J: Channel, P: TimedHistoryPort<u64, J>> Receives for TrackedReceiver<u64, P, J> {
+    fn receive(&mut self, limit: Option<Duration>) -> Answer {
+        match limit {
+            Some(limit) => of_recv_timeout(self.recv_timeout(limit)),
+            None => of_recv(self.recv_blocking()),
+        }
+    }
+}
 
 /// How long the calls of a thread wait at most, before it tries again.
 #[derive(Drop)]
@@ -31,17 +78,9 @@ impl Patience {
     }
 
     /// Sends a message, as often as the time is over.
-    pub fn send<P: KnowingTimedPort<u64, K>, K: Drop>(
-        &mut self,
-        rt: &impl Wait,
-        sender: &Sending<P, K>,
-        msg: u64,
-    ) -> Answer {
+    pub fn send<S: Sends>(&mut self, rt: &impl Wait, sender: &mut S, msg: u64) -> Answer {
         for _ in rt.forever() {
-            let sent = match self.limit() {
-                Some(limit) => of_send_timeout(sender.broadcast_timeout(msg, limit)),
-                None => of_send(sender.broadcast_blocking(msg)),
-            };
+            let sent = sender.send(msg, self.limit());
             if sent != Answer::TimedOut(msg) {
                 return sent;
             }
@@ -50,16 +89,9 @@ impl Patience {
     }
 
     /// Receives, as often as the time is over.
-    pub fn receive<P: KnowingTimedPort<u64, K>, K: Drop>(
-        &mut self,
-        rt: &impl Wait,
-        receiver: &mut Receiving<P, K>,
-    ) -> Answer {
+    pub fn receive<Q: Receives>(&mut self, rt: &impl Wait, receiver: &mut Q) -> Answer {
         for _ in rt.forever() {
-            let received = match self.limit() {
-                Some(limit) => of_recv_timeout(receiver.recv_timeout(limit)),
-                None => of_recv(receiver.recv_blocking()),
-            };
+            let received = receiver.receive(self.limit());
             if received != Answer::Empty {
                 return received;
             }

@@ -1,8 +1,8 @@
 //! A thousand runs of threads of which some wait with random limits, and the others without one.
 use crate::answers::Answer;
-use crate::steps::{Receiving, Sending, wait_for};
-use crate::timed::patience::Patience;
-use async_broadcast::{KnowingTimedPort, broadcast};
+use crate::steps::wait_for;
+use crate::timed::patience::{Patience, Receives, Sends};
+use async_broadcast::broadcast;
 use std::alloc::Global;
 use std::process::Abort;
 use std::sync::atomic::{AtomicU64, Ordering};
@@ -17,16 +17,16 @@ pub const RUNS: u64 = 1000;
 const MESSAGES: u64 = 8;
 
 /// Sends the messages from `first` on.
-fn send_all<R: Wait + Abort, P: KnowingTimedPort<u64, K>, K: Drop>(
+fn send_all<R: Wait + Abort, S: Sends>(
     rt: &R,
     first: u64,
-    sender: Sending<P, K>,
+    mut sender: S,
     mut patience: Patience,
     ended: &AtomicU64,
 ) {
     for index in 0..MESSAGES {
         let msg = first.wrapping_add(index);
-        let sent = patience.send(rt, &sender, msg);
+        let sent = patience.send(rt, &mut sender, msg);
         assert!(rt;
             matches!(sent, Answer::Done | Answer::Dropped(_)),
             "{msg} is sent"
@@ -37,9 +37,9 @@ fn send_all<R: Wait + Abort, P: KnowingTimedPort<u64, K>, K: Drop>(
 
 /// Receives until the channel is closed. Each message must come once, in the order of its sender,
 /// or be counted as missed.
-fn receive_all<R: Wait + Abort, P: KnowingTimedPort<u64, K>, K: Drop>(
+fn receive_all<R: Wait + Abort, Q: Receives>(
     rt: &R,
-    mut receiver: Receiving<P, K>,
+    mut receiver: Q,
     mut patience: Patience,
     ended: &AtomicU64,
 ) {
@@ -65,58 +65,56 @@ fn receive_all<R: Wait + Abort, P: KnowingTimedPort<u64, K>, K: Drop>(
 }
 
 /// Starts a thread that receives.
-fn start_receiver<R, P, K>(
+fn start_receiver<R, Q>(
     rt: R,
-    receiver: Receiving<P, K>,
+    receiver: Q,
     patience: Patience,
     ended: &Arc<AtomicU64>,
 ) -> Result<JoinHandle<()>, Fail>
 where
     R: Threads + Wait + Abort + Copy + Send + Drop + 'static,
-    P: KnowingTimedPort<u64, K> + Send + 'static,
-    K: Drop + Send + 'static,
+    Q: Receives + Send + 'static,
 {
     let own = Arc::try_clone(ended)?;
     Ok(thread::spawn(&rt, move || receive_all(&rt, receiver, patience, &own))?)
 }
 
 /// Starts a thread that sends the messages from `first` on.
-fn start_sender<R, P, K>(
+fn start_sender<R, S>(
     rt: R,
     first: u64,
-    sender: Sending<P, K>,
+    sender: S,
     patience: Patience,
     ended: &Arc<AtomicU64>,
 ) -> Result<JoinHandle<()>, Fail>
 where
     R: Threads + Wait + Abort + Copy + Send + Drop + 'static,
-    P: KnowingTimedPort<u64, K> + Send + 'static,
-    K: Drop + Send + 'static,
+    S: Sends + Send + 'static,
 {
     let own = Arc::try_clone(ended)?;
     Ok(thread::spawn(&rt, move || send_all(&rt, first, sender, patience, &own))?)
 }
 
 /// Two threads send, and two receive. Of each two, one has random limits.
-pub fn run<R, P, K>(
+pub fn run<R, S, Q>(
     rt: R,
     alloc: Global,
     number: u64,
-    (mut sender, receiver): (Sending<P, K>, Receiving<P, K>),
+    senders: (S, S),
+    receivers: (Q, Q),
 ) -> Result<(), Fail>
 where
     R: Threads + Wait + Abort + Copy + Send + Drop + 'static,
-    P: KnowingTimedPort<u64, K> + Send + 'static,
-    K: Drop + Send + 'static,
+    S: Sends + Send + 'static,
+    Q: Receives + Send + 'static,
 {
-    sender.set_overflow(number % 2 == 1);
     let ended = Arc::new(alloc, AtomicU64::new(0))?;
-    let other = receiver.clone()?;
-    let first = start_receiver(rt, other, Patience::random(number, 1), &ended)?;
-    let second = start_receiver(rt, receiver, Patience::Endless, &ended)?;
-    let other = sender.clone()?;
-    let third = start_sender(rt, 0, other, Patience::random(number, 2), &ended)?;
-    let fourth = start_sender(rt, MESSAGES, sender, Patience::Endless, &ended)?;
+    let (one, other) = receivers;
+    let first = start_receiver(rt, one, Patience::random(number, 1), &ended)?;
+    let second = start_receiver(rt, other, Patience::Endless, &ended)?;
+    let (one, other) = senders;
+    let third = start_sender(rt, 0, one, Patience::random(number, 2), &ended)?;
+    let fourth = start_sender(rt, MESSAGES, other, Patience::Endless, &ended)?;
     wait_for(&rt, &ended, 4, "all threads end");
     for thread in [first, second, third, fourth] {
         thread.join(&rt);
@@ -130,7 +128,10 @@ where
 fn a_thousand_runs_end(rt: HostRuntime) -> Result<(), Fail> {
     for number in 0..RUNS {
         let capacity = if number % 4 < 2 { 1 } else { 2 };
-        run(rt, rt.alloc(), number, broadcast(rt, rt.alloc(), capacity)?)?;
+        let (mut sender, receiver) = broadcast(rt, rt.alloc(), capacity)?;
+        sender.set_overflow(number % 2 == 1);
+        let (other, copy) = (sender.clone()?, receiver.clone()?);
+        run(rt, rt.alloc(), number, (other, sender), (copy, receiver))?;
     }
     Ok(())
 }

@@ -9,8 +9,8 @@ use Rattle.bcast_threads.proofs.lists.all_of.Goals as goal
 pub loop-log-preserved : goal.loop-log-preserved
 loop-log-preserved g c =
     let o = g.J.Channel.opening in
-    let before = c.loop-log.seen.steps in
-    let after = c.list_of.new.seen.steps in
+    let before = c.loop-log.seen in
+    let after = c.list_of.new.seen in
     let lists = c.loop-log.all.items in
     let grown = c.in_ok-push.ensures.items in
     let count = c.loop-log.invariant.count in

@@ -2,15 +2,13 @@
 use Rattle.bcast_threads.proofs.lists.list_of.Goals as goal
 
 pub returns : goal.returns
-returns g c =
-    let its = c.seen-its.ensures.0 in
-    record {
-      longer = c.learn.ensures.longer;
-      whole = record {
-        known = c.args.log.reading.steps;
-        begins = rw its at c.learn.ensures.other;
-        run = c.invariant_holds.ensures;
-        closed = c.args.log.ended.closed;
-        all = c.args.log.whole;
-      };
-    }
+returns g c = record {
+  longer = c.learn.ensures.longer;
+  whole = record {
+    known = c.args.log.seen;
+    begins = c.learn.ensures.other;
+    run = c.args.log.run;
+    closed = c.args.log.closed;
+    all = c.args.log.whole;
+  };
+}

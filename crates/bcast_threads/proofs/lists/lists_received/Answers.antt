@@ -8,14 +8,14 @@ pub returns : goal.returns
 returns g c =
     let o = g.J.Channel.opening in
     let lists = c.in_ok-lists.lists.items in
-    let known = c.numbers_sent-sent.new.seen.steps in
-    let steps = c.all_of.new.seen.steps in
+    let known = c.numbers_sent-sent.new.seen in
+    let steps = c.all_of.new.seen in
     let whole = c.in_ok-lists.ensures.whole in
     let are = c.if-not-are_of_all.false in
     let counted = rw c.as_slice.ensures.value at c.are_of_all.ensures.each in
     record {
       count = c.in_ok-lists.ensures.count ∙ c.requires;
-      same = one_list (λ (list : Vec ℕ Global). list.items) c.closed_is_last.ensures o steps lists whole;
+      same = one_list (λ (list : Vec ℕ Global). list.items) o steps lists whole;
       each = each_once (λ (list : Vec ℕ Global). list.items) o known steps c.numbers_sent-sent.result _ lists c.in_ok-lists.ensures.longer
           c.numbers_sent-sent.ensures (OnTrue_at are c.are_of_all.ensures.sent) (OnTrue_at are counted) whole;
     }

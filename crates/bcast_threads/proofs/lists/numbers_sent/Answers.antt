@@ -8,14 +8,14 @@ use Rattle.bcast_threads.proofs.lists.numbers_sent.Goals.{then-sent-end, else-se
 pub loop-sent-preserved : goal.loop-sent-preserved
 loop-sent-preserved g c =
     let o = g.J.Channel.opening in
-    let later = c.learn.new.self.steps in
-    let so_far = still_sent o 0 c.loop-sent.end c.loop-sent.seen.steps later c.learn.ensures.longer c.loop-sent.invariant in
+    let later = c.learn.new.self in
+    let so_far = still_sent o 0 c.loop-sent.end c.loop-sent.seen later c.learn.ensures.longer c.loop-sent.invariant in
     elim c.if-sent-end.branch [
       | then-sent-end w ↦
           let sent = c.in-Some.sent in
           let test = w.if-sent-end.true in
           rw w.end-is
           (both_sent o 0 c.loop-sent.end sent.first sent.end later (grind (arith, common_steps, test)) so_far
-          (still_sent o sent.first sent.end sent.seen.steps later c.learn.ensures.other (record { sent = sent.sent; before = sent.before })))
+          (still_sent o sent.first sent.end sent.seen later c.learn.ensures.other (record { sent = sent.sent; before = sent.before })))
       | else-sent-end w ↦ rw w.end-is so_far
     ]

@@ -1,16 +1,15 @@
 -- The log goes on, and is whole once the channel is closed.
-use Rattle.std.proofs.Common.{sym, ap, ◌∙◌}
-use Rattle.bcast_delivery.proofs.Logged.{longer, whole}
+use Rattle.bcast_history.proofs.Logged.{longer, whole}
 use Rattle.one_history.proofs.log.receive_all.Goals as goal
 
 pub loop-preserved : goal.loop-preserved
 loop-preserved g c =
     let received = c.in_ok-msg.ensures in
-    let log = longer c.in-Ok.msg c.messages_stay.ensures c.loop.invariant.3 received.seen (rw c.in-Ok.is at received.takes) in
-    (tt, tt, ap (λ r. r.role.key) received.receiver ∙ c.loop.invariant.2 ∙ sym received.key, rw c.in_ok-push-in-Ok.ensures.items log)
+    let log = longer c.in-Ok.msg c.messages_stay.ensures c.loop.invariant.2 received.seen (rw c.in-Ok.is at received.takes) in
+    (tt, tt, rw c.in_ok-push-in-Ok.ensures.items log)
 
 pub returns-in-Err-Closed : goal.returns-in-Err-Closed
 returns-in-Err-Closed g c =
     let received = c.in_ok-msg.ensures in
-    whole c.messages_stay.ensures c.loop.invariant.3 received.seen
+    whole c.messages_stay.ensures c.loop.invariant.2 received.seen
     (rw (c.in-Err-Closed.is, c.in-Err-Closed.field-0-is) at received.takes)

@@ -1,9 +1,8 @@
 -- What was received so far is a log.
-use Rattle.std.proofs.Common.{◌≡◌}
-use Rattle.bcast_delivery.specs.Log.{IsLog}
+use Rattle.bcast_history.specs.Log.{IsLog}
 use Rattle.one_history.proofs.log.receive_all.Given as goal
 
 abbrev pub invariant-loop : goal.invariant-loop
 invariant-loop g l =
     (goal.iterator-loop g).can_next l.iterator' × (goal.iterator-loop g).is_finite l.iterator'
-    × (l.receiver.role.key ≡ l.reading.key) × IsLog g.J.Channel.opening l.fn.reading.next l.log.items l.reading
+    × IsLog g.J.Channel.opening l.fn.receiver.place.next l.log.items l.receiver.place

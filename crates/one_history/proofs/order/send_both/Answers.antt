@@ -5,6 +5,5 @@ use Rattle.one_history.proofs.order.send_both.Goals as goal
 
 pub returns-then-is_ok : goal.returns-then-is_ok
 returns-then-is_ok g c = λ both.
-    in_order c.sends_stand_last.ensures (g.met.P.HistoryPort.follows _ _ _ _ c.try_broadcast_seen.ensures.learned).follows
-    (g.met.P.HistoryPort.follows _ _ _ _ c.try_broadcast_seen-then-is_ok.ensures.learned).follows
+    in_order c.sends_stand_last.ensures c.try_broadcast.ensures c.try_broadcast-then-is_ok.ensures
     (sym c.is_ok.ensures.value ∙ c.if-is_ok.true) (sym c.is_ok-then-is_ok.ensures.value ∙ both)

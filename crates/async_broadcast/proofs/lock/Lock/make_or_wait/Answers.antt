@@ -1,7 +1,7 @@
--- The reply to the last try, which was of the call that was given. Who learns of it knows the first
--- try, too.
-use Rattle.std.proofs.Common.{refl, ◌∙◌}
+-- The reply to the last try, which was of the call that was given. Who makes it again learns of it.
+use Rattle.std.proofs.Common.{rules, ◌≡◌, false, refl, ◌∙◌}
 use Rattle.bcast_model.proofs.Answers.{possible}
+use Rattle.async_broadcast.specs.Ports.{is_answer}
 use Rattle.async_broadcast.proofs.lock.Lock.make_or_wait.Goals as goal
 
 pub returns-then-not-waits-clause-reply : goal.returns-then-not-waits-clause-reply
@@ -18,6 +18,6 @@ returns-clause-reply g c =
 
 pub returns-clause-learned : goal.returns-clause-learned
 returns-clause-learned g c =
-    g.met.J.CallJournal.learns_from_less _ _ _ _ _
-    (g.met.J.CallJournal.extends _ _ _ _ c.append.ensures.learned)
+    let waits : is_answer (g.C.CallOf.reply c.args.call c.make-answer.result) ≡ false = search rules in
+    g.J.CallJournal.again _ _ _ _ _ _ waits (rw c.of-made.ensures at c.append.ensures.learned)
     (rw c.of-made.ensures at c.append-2.ensures.learned)

@@ -1,11 +1,22 @@
--- The reply to the last try, which was of the call that was given. Who learns of it knows those
--- before it, too.
-use Rattle.std.proofs.Common.{◌∙◌}
+-- The reply to the last try, which was of the call that was given. Who makes it again learns of it.
+use Rattle.std.proofs.Common.{rules, ◌≡◌, false, inr, ◌∙◌}
+use Rattle.async_broadcast.specs.Ports.{is_answer}
+use Rattle.async_broadcast.proofs.Trying.{at_last}
 use Rattle.async_broadcast.proofs.lock.Lock.make_until.Goals as goal
+
+pub loop-preserved : goal.loop-preserved
+loop-preserved g c =
+    let waits : is_answer (g.C.CallOf.reply c.args.call c.make_or_wait-answer.result.0) ≡ false = search rules in
+    let learned = rw c.loop.invariant.2 at c.make_or_wait-answer.ensures.learned in (
+      tt,
+      tt,
+      c.again-call.ensures ∙ c.of-made.ensures ∙ c.loop.invariant.2,
+      inr (_, waits, at_last g.J.CallJournal.learns g.J.CallJournal.again _ _ _ _ _ c.loop.invariant.3 learned),
+    )
 
 pub returns-then-is_over-clause-learned : goal.returns-then-is_over-clause-learned
 returns-then-is_over-clause-learned g c =
-    g.met.J.CallJournal.learns_from_less _ _ _ _ _ c.loop.invariant.3
+    at_last g.J.CallJournal.learns g.J.CallJournal.again _ _ _ _ _ c.loop.invariant.3
     (rw c.loop.invariant.2 at c.make_or_wait-answer.ensures.learned)
 
 pub returns-then-is_over-clause-reply : goal.returns-then-is_over-clause-reply
@@ -14,13 +25,3 @@ returns-then-is_over-clause-reply g c =
 
 pub again-call-requires-clause-reply : goal.again-call-requires-clause-reply
 again-call-requires-clause-reply g c = rw c.of-made.ensures c.make_or_wait-answer.ensures.reply
-
-pub loop-preserved : goal.loop-preserved
-loop-preserved g c =
-    let learned = g.met.J.CallJournal.learns_from_less _ _ _ _ _ c.loop.invariant.3
-    c.make_or_wait-answer.ensures.learned in (
-      tt,
-      tt,
-      c.again-call.ensures ∙ c.of-made.ensures ∙ c.loop.invariant.2,
-      g.met.J.CallJournal.extends _ _ _ _ learned,
-    )

@@ -1,14 +1,15 @@
 -- Each receiver has its thread, or is still to have one.
-use Rattle.std.proofs.Common.{◌≡◌, ◌+◌, vec_len, vec_capacity}
+use Rattle.std.proofs.Common.{◌≡◌, ◌+◌, vec_len, vec_capacity, All}
 use Rattle.bcast_threads.proofs.started.Started.start_receivers.Given as goal
 
-abbrev pub invariant-loop-reader : goal.invariant-loop-reader
-invariant-loop-reader g l = record {
-  count : vec_len l.self.receivers.running + vec_len l.readers
-      ≡ vec_len l.initial.self.receivers.running + vec_len l.initial.readers;
+abbrev pub invariant-loop-receiver : goal.invariant-loop-receiver
+invariant-loop-receiver g l = record {
+  count : vec_len l.self.receivers.running + vec_len l.receivers
+      ≡ vec_len l.initial.self.receivers.running + vec_len l.initial.receivers;
   room : vec_capacity l.self.receivers.running ≡ vec_capacity l.initial.self.receivers.running;
   senders : l.self.senders ≡ l.initial.self.senders;
+  start : All (λ receiver. receiver.place.next ≡ g.J.Channel.opening.first_number) l.receivers.items;
 }
 
-abbrev pub decreases-loop-reader : goal.decreases-loop-reader
-decreases-loop-reader g l = vec_len l.readers
+abbrev pub decreases-loop-receiver : goal.decreases-loop-receiver
+decreases-loop-receiver g l = vec_len l.receivers

@@ -1,0 +1,2 @@
+-- tries of one call
+pub mod Trying

@@ -1,0 +1,26 @@
+-- Tries of one call, each of which had to wait.
+use Rattle.std.proofs.Common.{◌≡◌, ◌⊎◌, inl, inr, false, sym, subst}
+use Rattle.bcast_model.specs.declared.run.Call.{Call}
+use Rattle.bcast_model.specs.declared.run.Reply.{Reply}
+use Rattle.async_broadcast.specs.Ports.{is_answer}
+
+module _ {K T : Type 0} (learns : K → Call T → Reply T → K → Type 0) where
+  -- nothing was tried so far, or the call was, and must wait
+  abbrev pub Tried : K → Call T → K → Type 0
+  Tried start call now =
+      (start ≡ now) ⊎ ((r : Reply T) × (is_answer r ≡ false) × learns start call r now)
+
+  abbrev pub Again : Type 0
+  Again =
+      (before between after : K) (call : Call T) (r last : Reply T)
+      → is_answer r ≡ false → learns before call r between
+      → learns between call last after → learns before call last after
+
+  -- who tried learns of the last try
+  pub at_last
+      : Again → (start now after : K) (call : Call T) (r : Reply T)
+      → Tried start call now → learns now call r after → learns start call r after
+  at_last again start now after call r (inl same) learned =
+      subst (λ k. learns k call r after) (sym same) learned
+  at_last again start now after call r (inr (first, waits, had)) learned =
+      again start now after call first r waits had learned

@@ -1,6 +1,0 @@
--- The reply to the last try is one that the channel may give, and who asked has learned of it.
-use Rattle.async_broadcast.proofs.lock.LockKnowingPortKnown.receive_waiting.Goals as goal
-
-pub returns-clause-learned : goal.returns-clause-learned
-returns-clause-learned g c =
-    rw c.answer_of_receive.ensures (c.make_until.ensures.reply, c.make_until.ensures.learned)

@@ -1,6 +1,0 @@
--- By the lemma.
-use Rattle.bcast_delivery.proofs.Logged.{logs_are_accepted}
-use Rattle.bcast_delivery.proofs.laws.logs_are_accepted.Goals as goal
-
-pub returns : goal.returns
-returns g c = logs_are_accepted

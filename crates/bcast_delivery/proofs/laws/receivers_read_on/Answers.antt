@@ -1,6 +1,0 @@
--- By the lemma.
-use Rattle.bcast_delivery.proofs.Given.{read_on}
-use Rattle.bcast_delivery.proofs.laws.receivers_read_on.Goals as goal
-
-pub returns : goal.returns
-returns g c = read_on g.T.Clone.is_clone

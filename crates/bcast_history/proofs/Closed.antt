@@ -1,0 +1,135 @@
+-- A closed channel accepts nothing, so a receiver that has read all of it is given nothing.
+use Rattle.std.proofs.Common.{◌≡◌, ◌⊎◌, inl, inr, ℕ, ◌-◌, ◌≤◌, true, false, cond, nat_lt, List, [], ◌∷◌, ◌++◌, length, slice_get, Option, Some, None, Result, Ok, Err, refl, sym, ap, ◌∙◌, subst, arith, append-nil}
+use Rattle.std.specs.Prelude.{IsSomeAnd}
+use Rattle.std.specs.declared.alloc.AllocError.{AllocError}
+use mathlib.Core.List.{IsPrefix}
+use Rattle.futures.specs.declared.task.Poll.{Poll}
+use Rattle.futures.specs.declared.task.Poll.TheVariants as poll
+use Rattle.bcast_model.specs.declared.error.TryRecvError.{TryRecvError}
+use Rattle.bcast_model.specs.declared.error.TryRecvError.TheVariants as unread
+use Rattle.bcast_model.specs.declared.run.Call.{Call}
+use Rattle.bcast_model.specs.declared.run.Call.TheVariants as call
+use Rattle.bcast_model.specs.declared.run.Reply.{Reply}
+use Rattle.bcast_model.specs.declared.run.Reply.TheVariants as reply
+use Rattle.bcast_model.specs.declared.run.SendPoll.TheVariants as send
+use Rattle.bcast_model.specs.Words.{History, view_of, Legal, next, IsRun, end_of_run, end_number, numbered, IsDelivery, IsGiven, has_place, attempt_send_reply}
+use Rattle.std.proofs.lemmas.Option.{slice_get_past}
+use Rattle.bcast_laws.specs.Sends.{is_accepted, messages_of}
+use Rattle.bcast_laws.proofs.Closing.{IsClosed, run_stays, try_refused, all_refused, attempt_refused, poll_refused}
+use Rattle.bcast_laws.proofs.Sends.{messages_added, nothing_added}
+use Rattle.bcast_history.specs.declared.step.Opening.{Opening}
+use Rattle.bcast_history.specs.declared.step.Step.{Step}
+use Rattle.bcast_history.specs.History.{IsHistory, calls_of, replies_of, start_of, end_of, accepted_by}
+use Rattle.bcast_history.specs.Reader.{Reader, Takes, TakesNext}
+use Rattle.bcast_history.specs.Closed.{HasReadAll, ClosedIsLast, EndIsLast}
+use Rattle.bcast_history.proofs.Logged.{first_kept}
+
+module _ {T : Type 0} (is_clone : T → T → Type 0) where
+  -- a call that sends nothing adds nothing
+  no_message : (h : History T) (c : Call T) (r : Reply T) → messages_of c ≡ [] → Legal is_clone (view_of h) c r → (next h c r).accepted ≡ h.accepted
+  no_message h c r none legal = elim (is_accepted r) as (λ b. is_accepted r ≡ b → (next h c r).accepted ≡ h.accepted) [
+    | true ↦ λ e. messages_added is_clone h c r legal e ∙ ap (λ msgs. h.accepted ++ msgs) none ∙ append-nil h.accepted
+    | false ↦ λ e. nothing_added is_clone h c r legal e
+  ] refl
+
+  closed_next : (h : History T) (c : Call T) (r : Reply T) → IsClosed h.control → Legal is_clone (view_of h) c r → (next h c r).accepted ≡ h.accepted
+  closed_next h (call.TryBroadcast msg) r is legal = nothing_added is_clone h (call.TryBroadcast msg) r legal (ap is_accepted (try_refused is_clone (view_of h) msg r is legal))
+  closed_next h (call.TryBroadcastAll msgs) r is legal = nothing_added is_clone h (call.TryBroadcastAll msgs) r legal (ap is_accepted (all_refused is_clone (view_of h) msgs r is legal))
+  closed_next h (call.AttemptSend msg) r is legal = nothing_added is_clone h (call.AttemptSend msg) r legal (ap is_accepted (attempt_refused is_clone (view_of h) msg r is legal))
+  closed_next h (call.PollSend place msg) r is legal = nothing_added is_clone h (call.PollSend place msg) r legal
+      (elim (has_place h.control place) as (λ b. has_place h.control place ≡ b → is_accepted r ≡ false) [
+        | true ↦ λ known. ap is_accepted (poll_refused is_clone (view_of h) msg r is place known legal)
+        | false ↦ λ unknown. ap is_accepted (legal ∙ ap (λ b. reply.PollSend (cond b (attempt_send_reply (view_of h) msg) (send.Wait msg))) unknown)
+      ] refl)
+  closed_next h c r is legal = no_message h c r refl legal
+
+  closed_run : (h : History T) (calls : List (Call T)) (replies : List (Reply T)) → IsRun is_clone h calls replies → IsClosed h.control
+      → (end_of_run h calls replies).accepted ≡ h.accepted
+  closed_run h [] [] run is = refl
+  closed_run h [] (r ∷ replies) run is = absurd run
+  closed_run h (c ∷ calls) [] run is = absurd run
+  closed_run h (c ∷ calls) (r ∷ replies) (legal, run) is =
+      closed_run (next h c r) calls replies run (run_stays h (c ∷ []) (r ∷ []) is) ∙ closed_next h c r is legal
+
+  abbrev IsSame : History T → History T → Type 0
+  IsSame h later = IsClosed later.control × (later.accepted ≡ h.accepted)
+
+  closed_steps : (h : History T) (steps rest : List (Step T)) → IsRun is_clone h (calls_of (steps ++ rest)) (replies_of (steps ++ rest))
+      → IsClosed (end_of_run h (calls_of steps) (replies_of steps)).control
+      → IsSame (end_of_run h (calls_of steps) (replies_of steps)) (end_of_run h (calls_of (steps ++ rest)) (replies_of (steps ++ rest)))
+  closed_steps h [] rest run is = (run_stays h (calls_of rest) (replies_of rest) is, closed_run h (calls_of rest) (replies_of rest) run is)
+  closed_steps h (step ∷ steps) rest run is = closed_steps (next h step.call step.reply) steps rest run.1 is
+
+  -- a closed channel accepts nothing more
+  pub closed_keeps : (o : Opening) (closed later : List (Step T)) → (end_of o closed).control.closed ≡ true → IsPrefix closed later
+      → IsHistory is_clone o later → accepted_by o closed ≡ accepted_by o later
+  closed_keeps o closed later is (rest, whole) run =
+      sym (subst (λ steps. IsSame (end_of o closed) (end_of o steps)) whole
+      (closed_steps (start_of o) closed rest (subst (λ steps. IsHistory is_clone o steps) (sym whole) run) is)).1
+
+  -- all of it was read, and so it stays
+  still_all : (o : Opening) (old : Reader T) (later : List (Step T)) → HasReadAll o old → IsPrefix old.steps later → IsHistory is_clone o later
+      → IsClosed (end_of o later).control × (end_number (end_of o later) ≤ old.next)
+  still_all o old later read (rest, whole) run =
+      let same : IsSame (end_of o old.steps) (end_of o later) = subst (λ steps. IsSame (end_of o old.steps) (end_of o steps)) whole
+      (closed_steps (start_of o) old.steps rest (subst (λ steps. IsHistory is_clone o steps) (sym whole) run) read.closed) in
+      let before = first_kept (start_of o) old.steps in
+      let after = first_kept (start_of o) later in
+      let size = ap length same.1 in
+      let all = read.all in
+      (same.0, omega (arith, before, after, size, all))
+
+  -- no message has a number from the end on
+  none_after : (h : History T) (number : ℕ) (msg : T) → end_number h ≤ number → IsDelivery is_clone h number (Some msg) → ⊥
+  none_after h number msg past there = subst (λ found. IsSomeAnd found (λ accepted. IsGiven is_clone accepted msg)) none there
+    where
+      none : numbered h number ≡ None
+      none = elim (nat_lt number h.first) as (λ b. cond b None (slice_get h.accepted (number - h.first)) ≡ None) [
+        | true ↦ refl
+        | false ↦ slice_get_past h.accepted (number - h.first) (omega (arith, past))
+      ]
+
+  at_end : {now was end : ℕ} → now ≡ was → was ≡ end → end ≤ now
+  at_end same is = omega (arith, same, is)
+
+  pub closed_is_last : ClosedIsLast is_clone
+  closed_is_last = record {
+    said = λ o old new takes. record { closed = takes.2; all = at_end takes.0 takes.1 };
+    stays = stays;
+  }
+    where
+      stays : (o : Opening) (old new : Reader T) (found : Result (Result T TryRecvError) AllocError)
+          → HasReadAll o old → IsPrefix old.steps new.steps → IsHistory is_clone o new.steps
+          → Takes is_clone o old new found → HasReadAll o new × (found ≡ Ok (Err unread.Closed))
+      stays o old new (Err error) read begins run (same, shared) =
+          let end = (still_all o old new.steps read begins run).1 in
+          let kept = shared.kept in absurd (omega (arith, end, kept))
+      stays o old new (Ok (Err unread.Closed)) read begins run takes = (record { closed = takes.2; all = at_end takes.0 takes.1 }, refl)
+      stays o old new (Ok (Err unread.Empty)) read begins run takes =
+          absurd (cc ((still_all o old new.steps read begins run).0, takes.2))
+      stays o old new (Ok (Err (unread.Overflowed n))) read begins run (some, on, skips, most) =
+          let end = (still_all o old new.steps read begins run).1 in absurd (omega (arith, some, on, most, end))
+      stays o old new (Ok (Ok msg)) read begins run takes =
+          let end = (still_all o old new.steps read begins run).1 in
+          absurd (none_after (end_of o new.steps) old.next msg (omega (arith, end)) takes.0)
+
+  pub end_is_last : EndIsLast is_clone
+  end_is_last = record {
+    said = λ o old new takes. record { closed = takes.2; all = at_end refl takes.1 };
+    stays = stays;
+  }
+    where
+      stays : (o : Opening) (old new : Reader T) (found : Result (Poll (Option T)) AllocError)
+          → HasReadAll o old → IsPrefix old.steps new.steps → IsHistory is_clone o new.steps → TakesNext is_clone o old new found
+          → HasReadAll o new × ((found ≡ Ok (poll.Ready None)) ⊎ (error : AllocError) × (found ≡ Err error))
+      stays o old new (Err error) read begins run takes =
+          let all = still_all o old new.steps read begins run in
+          let end = all.1 in
+          let on = takes.0 in (record { closed = all.0; all = omega (arith, end, on) }, inr (error, refl))
+      stays o old new (Ok (poll.Ready None)) read begins run takes = (record { closed = takes.2; all = at_end refl takes.1 }, inl refl)
+      stays o old new (Ok poll.Pending) read begins run takes =
+          absurd (cc ((still_all o old new.steps read begins run).0, takes.2))
+      stays o old new (Ok (poll.Ready (Some msg))) read begins run (number, skips, there, on) =
+          let end = (still_all o old new.steps read begins run).1 in
+          let behind = skips.0 in
+          absurd (none_after (end_of o new.steps) number msg (omega (arith, end, behind)) there)

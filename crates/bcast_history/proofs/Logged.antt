@@ -1,0 +1,92 @@
+-- A log with one more message, and a whole one.
+use Rattle.std.proofs.Common.{◌≡◌, inl, inr, ℕ, zero, suc, ◌+◌, ◌-◌, false, cond, List, [], ◌∷◌, ◌++◌, length, slice_get, nat_lt, Option, Some, None, Ok, Err, refl, sym, ap, ◌∙◌, subst, arith, length-append}
+use Rattle.std.proofs.lemmas.Grind.{common_steps}
+use Rattle.std.proofs.lemmas.Option.{none-some, same_Some}
+use Rattle.std.specs.Prelude.{IsSomeAnd}
+use mathlib.Core.List.{IsPrefix}
+use Rattle.bcast_model.specs.declared.error.TryRecvError.TheVariants as unread
+use Rattle.bcast_model.specs.Words.{History, IsGiven, numbered, next, end_of_run}
+use Rattle.bcast_history.specs.declared.step.Opening.{Opening}
+use Rattle.bcast_history.specs.declared.step.Step.{Step}
+use Rattle.bcast_history.specs.History.{calls_of, replies_of, start_of, end_of}
+use Rattle.bcast_history.proofs.Prefixes.{prefix_shorter, prefix_whole}
+use Rattle.bcast_history.specs.Laws.{MessagesStay}
+use Rattle.bcast_history.specs.Log.{AreFrom, IsLog, IsWholeLog, LogsAreAccepted}
+use Rattle.bcast_history.specs.Reader.{Reader, Takes}
+use Rattle.bcast_history.proofs.Sent.{messages_stay, accepted_grows}
+
+module _ {T : Type 0} where
+  is_there : (accepted : Option T) (msg : T) → IsSomeAnd accepted (λ a. IsGiven {T = T} (λ x y. y ≡ x) a msg) → accepted ≡ Some msg
+  is_there (Some a) msg (inl same) = ap Some (sym same)
+  is_there (Some a) msg (inr same) = ap Some (sym same)
+  is_there None msg there = absurd there
+
+  one_more : (h : History T) (start : ℕ) (log : List T) (msg : T) → AreFrom h start log → numbered h (start + length log) ≡ Some msg
+      → AreFrom h start (log ++ msg ∷ [])
+  one_more h start [] msg all is = (subst (λ n. numbered h n ≡ Some msg) (omega arith) is, tt)
+  one_more h start (first ∷ log) msg (here, rest) is =
+      (here, one_more h (start + 1) log msg rest (subst (λ n. numbered h n ≡ Some msg) (omega arith) is))
+
+  stay : (h later : History T) (start : ℕ) (log : List T) → ((number : ℕ) (msg : T) → numbered h number ≡ Some msg → numbered later number ≡ Some msg)
+      → AreFrom h start log → AreFrom later start log
+  stay h later start [] keeps all = tt
+  stay h later start (msg ∷ log) keeps (here, rest) = (keeps start msg here, stay h later (start + 1) log keeps rest)
+
+  pub longer : {o : Opening} {start : ℕ} {log : List T} {old new : Reader T} (msg : T) → MessagesStay T → IsLog o start log old
+      → IsPrefix old.steps new.steps → Takes (λ x y. y ≡ x) o old new (Ok (Ok msg)) → IsLog o start (log ++ msg ∷ []) new
+  longer {o = o} {start = start} {log = log} {old = old} {new = new} msg law so_far begins (given, on) =
+      let kept = stay (end_of o old.steps) (end_of o new.steps) start log (λ number m. law o old.steps new.steps number m begins) so_far.messages in
+      let there = subst (λ n. numbered (end_of o new.steps) n ≡ Some msg) so_far.next (is_there _ msg given) in
+      let next = so_far.next in
+      let size = length-append log (msg ∷ []) in
+      record { messages = one_more (end_of o new.steps) start log msg kept there; next = omega (arith, on, next, size) }
+
+  pub whole : {o : Opening} {start : ℕ} {log : List T} {old new : Reader T} → MessagesStay T → IsLog o start log old
+      → IsPrefix old.steps new.steps → Takes (λ x y. y ≡ x) o old new (Ok (Err unread.Closed)) → IsWholeLog o start log new
+  whole {o = o} {start = start} {log = log} {old = old} {new = new} law so_far begins (same, all, closed) =
+      record {
+        messages = stay (end_of o old.steps) (end_of o new.steps) start log (λ number m. law o old.steps new.steps number m begins) so_far.messages;
+        whole = sym so_far.next ∙ all;
+        closed = closed;
+      }
+
+  -- an entry of a log has its number
+  at_place : (h : History T) (start : ℕ) (log : List T) → AreFrom h start log → (index : ℕ) (msg : T) → slice_get log index ≡ Some msg
+      → numbered h (start + index) ≡ Some msg
+  at_place h start [] all index msg at = absurd (none-some msg at)
+  at_place h start (first ∷ log) (here, rest) zero msg at =
+      subst (λ n. numbered h n ≡ Some msg) (omega arith) (here ∙ at)
+  at_place h start (first ∷ log) (here, rest) (suc index) msg at =
+      let on : start + 1 + index ≡ start + suc index = omega arith in
+      subst (λ n. numbered h n ≡ Some msg) on (at_place h (start + 1) log rest index msg at)
+
+  -- a list whose entries all stand in another at their places begins it
+  by_places : (log all : List T) → ((index : ℕ) (msg : T) → slice_get log index ≡ Some msg → slice_get all index ≡ Some msg) → IsPrefix log all
+  by_places [] all there = (all, refl)
+  by_places (msg ∷ log) [] there = absurd (none-some msg (there zero msg refl))
+  by_places (msg ∷ log) (one ∷ all) there =
+      let first : one ≡ msg = same_Some one msg (there zero msg refl) in
+      let rest = by_places log all (λ index m at. there (suc index) m at) in
+      (rest.0, ap (λ x. x ∷ log ++ rest.0) (sym first) ∙ ap (λ xs. one ∷ xs) rest.1)
+
+  entry_of : (h : History T) (index : ℕ) (msg : T) → numbered h (h.first + index) ≡ Some msg → slice_get h.accepted index ≡ Some msg
+  entry_of h index msg at =
+      let after : nat_lt (h.first + index) h.first ≡ false = grind (arith, common_steps) in
+      let place : h.first + index - h.first ≡ index = omega arith in
+      sym (ap (λ b. cond b None (slice_get h.accepted (h.first + index - h.first))) after ∙ ap (slice_get h.accepted) place) ∙ at
+
+  pub first_kept : (h : History T) (steps : List (Step T)) → (end_of_run h (calls_of steps) (replies_of steps)).first ≡ h.first
+  first_kept h [] = refl
+  first_kept h (step ∷ steps) = first_kept (next h step.call step.reply) steps
+
+  pub logs_are_accepted : LogsAreAccepted T
+  logs_are_accepted o known ended later log knows ends are end =
+      let h = end_of o later in
+      let first : h.first ≡ o.first_number = first_kept (start_of o) later in
+      let kept = stay (end_of o known) h o.first_number log (λ number m. messages_stay o known later number m knows) are in
+      let begins = by_places log h.accepted (λ index msg at.
+      entry_of h index msg (subst (λ n. numbered h (n + index) ≡ Some msg) (sym first) (at_place h o.first_number log kept index msg at))) in
+      let grown = accepted_grows o ended later ends in
+      let same : (end_of o ended).first ≡ o.first_number = first_kept (start_of o) ended in
+      let size : length log ≡ length (end_of o ended).accepted = omega (arith, end, same) in
+      prefix_whole log (end_of o ended).accepted (prefix_shorter log (end_of o ended).accepted h.accepted begins grown (omega (arith, size))) (omega (arith, size))

@@ -1,0 +1,123 @@
+-- What the receives of a `TrackedReceiver` take.
+use Rattle.std.proofs.Common.{◌≡◌, ◌⊎◌, inr, ℕ, Option, Some, Result, Ok, Err, refl, sym, ap, ◌∙◌, subst}
+use Rattle.std.specs.Prelude.{IfOk, IfErr}
+use Rattle.std.specs.Option.{option_map_or}
+use Rattle.std.specs.declared.alloc.AllocError.{AllocError}
+use mathlib.Core.List.{IsPrefix}
+use Rattle.bcast_model.specs.declared.error.TryRecvError.{TryRecvError}
+use Rattle.bcast_model.specs.declared.run.Call.{Call}
+use Rattle.bcast_model.specs.declared.run.Call.TheVariants as call
+use Rattle.bcast_model.specs.declared.run.Reply.{Reply}
+use Rattle.bcast_model.specs.declared.run.Reply.TheVariants as reply
+use Rattle.bcast_model.specs.Words.{History, next, cursor_of}
+use Rattle.bcast_history.specs.declared.step.Opening.{Opening}
+use Rattle.bcast_history.specs.History.{end_of}
+use Rattle.bcast_history.specs.Reader.{Reader, Finds, Takes, as_found}
+use Rattle.bcast_history.specs.Tracker.{Tracker, Learns, next_in}
+use Rattle.bcast_history.proofs.Found.{finds}
+use Rattle.bcast_history.proofs.Polls.{Polled}
+use Rattle.bcast_history.proofs.Polled.{polled_finds}
+use Rattle.bcast_history.proofs.Prefixes.{prefix_trans}
+
+abbrev pub number : Option ℕ → ℕ
+number cursor = option_map_or (λ n. n) cursor 0
+
+module _ {T : Type 0} where
+  -- a receiver that makes calls by this tracker
+  abbrev pub reader : ℕ → Tracker T → Reader T
+  reader key t = record { key = key; next = number t.next; steps = t.steps }
+
+  -- the tracker is of the receiver of this key, and knows where it reads on
+  abbrev pub IsOf : ℕ → Tracker T → Type 0
+  IsOf key t = (t.key ≡ Some key) × (t.next ≡ Some (number t.next))
+
+  -- there it read on before a call
+  pub read_there : {is_clone : T → T → Type 0} {o : Opening} {key : ℕ} {known after : Tracker T} {c : Call T} {r : Reply T}
+      → IsOf key known → (learned : Learns is_clone o known c r after)
+      → cursor_of (end_of o learned.follows.before).control key ≡ Some (number known.next)
+  read_there {o = o} its learned =
+      sym (learned.there ∙ ap (next_in (end_of o learned.follows.before).control) its.0) ∙ its.1
+
+  -- and here it reads on after it
+  pub reads_on : {is_clone : T → T → Type 0} {o : Opening} {key now : ℕ} {known after : Tracker T} {c : Call T} {r : Reply T}
+      → IsOf key known → (learned : Learns is_clone o known c r after)
+      → cursor_of (next (end_of o learned.follows.before) c r).control key ≡ Some now → after.next ≡ Some now
+  reads_on {o = o} {key = key} {after = after} its learned at =
+      learned.next ∙ ap (next_in (end_of o after.steps).control) (learned.key ∙ its.0)
+      ∙ ap (λ (h : History T). cursor_of h.control key) learned.follows.end ∙ at
+
+  -- so the tracker is still of the receiver
+  pub is_of : {key now : ℕ} (known after : Tracker T) → IsOf key known → after.key ≡ known.key → after.next ≡ Some now → IsOf key after
+  is_of known after its same at = (same ∙ its.0, at ∙ ap (λ n. Some (number n)) (sym at))
+
+  pub seen : {is_clone : T → T → Type 0} {o : Opening} {known after : Tracker T} {c : Call T} {r : Reply T}
+      → Learns is_clone o known c r after → IsPrefix known.steps after.steps
+  seen {known = known} {after = after} learned =
+      let f = learned.follows in prefix_trans known.steps f.before after.steps f.begins (_, sym f.last)
+
+-- a receive that was made
+pub record Received
+    {T : Type 0} (is_clone : T → T → Type 0) (o : Opening) (key : ℕ) (old : Reader T) (after : Tracker T)
+    (found : Result (Result T TryRecvError) AllocError) : Type 0 where
+  pub still : IsOf key after
+  pub seen : IsPrefix old.steps after.steps
+  pub takes : Takes is_clone o old (reader key after) found
+
+-- a call that leaves the receiver where it is
+pub record Stays {T : Type 0} (key : ℕ) (old : Reader T) (after : Tracker T) : Type 0 where
+  pub still : IsOf key after
+  pub same : (key ≡ old.key) × (number after.next ≡ old.next)
+
+module _
+    {T : Type 0} (is_clone : T → T → Type 0) {o : Opening} {key : ℕ} {known after : Tracker T} {old : Reader T}
+    (is_old : reader key known ≡ old) (its : IsOf key known) where
+  received : {c : Call T} {r : Reply T} (found : Result (Result T TryRecvError) AllocError) (learned : Learns is_clone o known c r after)
+      → (now : ℕ) × (cursor_of (next (end_of o learned.follows.before) c r).control key ≡ Some now)
+      × Finds is_clone (next (end_of o learned.follows.before) c r) key (number known.next) now found
+      → Received is_clone o key old after found
+  received found learned (now, at, finds_so) =
+      let on = reads_on its learned at in record {
+        still = is_of known after its learned.key on;
+        seen = subst (λ (old : Reader T). IsPrefix old.steps after.steps) is_old (seen learned);
+        takes = subst (λ (old : Reader T). Takes is_clone o old (reader key after) found) is_old
+            (subst (λ now. Finds is_clone (end_of o after.steps) key (number known.next) now found) (sym (ap number on))
+            (subst (λ h. Finds is_clone h key (number known.next) now found) (sym learned.follows.end) finds_so));
+      }
+
+  pub tried : {r : Result (Result T TryRecvError) AllocError} → Learns is_clone o known (call.TryRecv key) (reply.TryRecv r) after
+      → Received is_clone o key old after r
+  tried {r = r} learned =
+      let f = learned.follows in
+      received r learned (finds is_clone (end_of o f.before) key (number known.next) f.valid (read_there its learned) r f.legal)
+
+  pub polled : {p : Polled T} → Learns is_clone o known (call.PollRecv key) (reply.PollRecv p) after
+      → Received is_clone o key old after (as_found p)
+  polled {p = p} learned =
+      let f = learned.follows in
+      received (as_found p) learned (polled_finds is_clone (end_of o f.before) key (number known.next) p f.valid (read_there its learned) f.legal)
+
+  -- a poll that was made
+  pub ok_part : (p : Polled T) → Received is_clone o key old after (as_found p)
+      → IfOk p (λ poll. Takes is_clone o old (reader key after) (as_found (Ok poll)))
+  ok_part (Ok poll) got = got.takes
+  ok_part (Err error) got = tt
+
+  pub err_part : (p : Polled T) → Received is_clone o key old after (as_found p)
+      → IfErr p (λ error. (reader key after ≡ old) ⊎ Takes is_clone o old (reader key after) (as_found (Err error)))
+  err_part (Ok poll) got = tt
+  err_part (Err error) got = inr got.takes
+
+  pub stays : {c : Call T} {r : Reply T} (learned : Learns is_clone o known c r after)
+      → cursor_of (next (end_of o learned.follows.before) c r).control key ≡ Some (number known.next) → Stays key old after
+  stays learned at =
+      let on = reads_on its learned at in record {
+        still = is_of known after its learned.key on;
+        same = (ap (λ (old : Reader T). old.key) is_old, ap number on ∙ ap (λ (old : Reader T). old.next) is_old);
+      }
+
+-- a poll that was made or wasn't leaves the tracker the receiver's
+pub poll_still : {T C : Type 0} (is_clone : T → T → Type 0) (o : Opening) {key : ℕ} (known after : Tracker T) (X : C → Type 0) (p : Result (Polled T) C)
+    → IsOf key known → IfOk p (λ answer. Learns is_clone o known (call.PollRecv key) (reply.PollRecv answer) after)
+    → IfErr p (λ back. X back × (after ≡ known)) → IsOf key after
+poll_still is_clone o known after X (Ok answer) its learned back = (polled is_clone {known = known} refl its learned).still
+poll_still is_clone o known after X (Err call) its learned back = subst (IsOf _) (sym back.1) its

@@ -1,0 +1,43 @@
+-- Where messages stand.
+use Rattle.std.proofs.Common.{◌≡◌, ℕ, List, [], ◌∷◌, ◌++◌, Some, refl, ap, ◌∙◌, subst}
+use mathlib.Core.List.{IsPrefix}
+use Rattle.bcast_model.specs.Words.{History, next, end_of_run, numbered}
+use Rattle.bcast_model.proofs.DeliveryMessages.{numbered_stays}
+use Rattle.bcast_laws.proofs.Sends.{messages_added}
+use Rattle.bcast_history.specs.declared.step.Opening.{Opening}
+use Rattle.bcast_history.specs.declared.step.Step.{Step}
+use Rattle.bcast_history.specs.History.{calls_of, replies_of, start_of, end_of}
+use Rattle.bcast_history.proofs.Prefixes.{prefix_self, prefix_trans}
+use Rattle.bcast_history.specs.History.{accepted_by}
+use Rattle.bcast_history.specs.Laws.{MessagesStay, SendsStandLast}
+
+module _ {T : Type 0} where
+  -- accepted messages stay, and more come after them
+  grows : (h : History T) (steps rest : List (Step T))
+      → IsPrefix (end_of_run h (calls_of steps) (replies_of steps)).accepted (end_of_run h (calls_of (steps ++ rest)) (replies_of (steps ++ rest))).accepted
+  grows h [] [] = prefix_self h.accepted
+  grows h [] (step ∷ rest) =
+      prefix_trans h.accepted (next h step.call step.reply).accepted _ (_, refl) (grows (next h step.call step.reply) [] rest)
+  grows h (step ∷ steps) rest = grows (next h step.call step.reply) steps rest
+
+  pub accepted_grows : (o : Opening) (known later : List (Step T)) → IsPrefix known later → IsPrefix (accepted_by o known) (accepted_by o later)
+  accepted_grows o known later begins =
+      subst (λ steps. IsPrefix (accepted_by o known) (accepted_by o steps)) begins.1 (grows (start_of o) known begins.0)
+
+  -- a message that has a number keeps it
+  keeps_number : (h : History T) (steps rest : List (Step T)) (number : ℕ) (msg : T)
+      → numbered (end_of_run h (calls_of steps) (replies_of steps)) number ≡ Some msg
+      → numbered (end_of_run h (calls_of (steps ++ rest)) (replies_of (steps ++ rest))) number ≡ Some msg
+  keeps_number h [] rest number msg there = numbered_stays h (calls_of rest) (replies_of rest) number msg there
+  keeps_number h (step ∷ steps) rest number msg there = keeps_number (next h step.call step.reply) steps rest number msg there
+
+  pub messages_stay : MessagesStay T
+  messages_stay o known later number msg begins there =
+      subst (λ steps. numbered (end_of o steps) number ≡ Some msg) begins.1 (keeps_number (start_of o) known begins.0 number msg there)
+
+  pub stands_last : (is_clone : T → T → Type 0) → SendsStandLast is_clone
+  stands_last is_clone o known after call reply follows accepted = (
+    accepted_by o follows.before,
+    accepted_grows o known follows.before follows.begins,
+    ap (λ h. h.accepted) follows.end ∙ messages_added is_clone (end_of o follows.before) call reply follows.legal accepted,
+  )

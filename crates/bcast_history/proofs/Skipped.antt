@@ -1,0 +1,76 @@
+-- What a receiver skips.
+use Rattle.std.proofs.Common.{◌≡◌, inl, inr, ℕ, ◌≤◌, List, [], ◌∷◌, ◌++◌, Option, Some, None, Result, Ok, Err, refl, ◌∙◌, arith, subst}
+use Rattle.std.proofs.lemmas.Bool.{cases_lt}
+use Rattle.std.specs.Result.{IsErr}
+use Rattle.std.specs.declared.alloc.AllocError.{AllocError}
+use mathlib.Core.List.{IsPrefix}
+use Rattle.futures.specs.declared.task.Poll.{Poll}
+use Rattle.futures.specs.declared.task.Poll.TheVariants as poll
+use Rattle.bcast_model.specs.declared.error.RecvError.TheVariants as unreceived
+use Rattle.bcast_model.specs.declared.error.TryRecvError.{TryRecvError}
+use Rattle.bcast_model.specs.declared.error.TryRecvError.TheVariants as unread
+use Rattle.bcast_model.specs.Words.{History, next, end_of_run}
+use Rattle.bcast_history.specs.declared.step.Opening.{Opening}
+use Rattle.bcast_history.specs.declared.step.Step.{Step}
+use Rattle.bcast_history.specs.History.{calls_of, replies_of, start_of, end_of}
+use Rattle.bcast_history.proofs.Prefixes.{prefix_trans}
+use Rattle.bcast_history.specs.Reader.{Reader, Skips, Takes, TakesNext, as_found}
+use Rattle.bcast_history.proofs.Polls.{Polled}
+
+module _ {T : Type 0} where
+  -- what is gone stays so
+  rises : (h : History T) (steps rest : List (Step T))
+      → (end_of_run h (calls_of steps) (replies_of steps)).floor ≤ (end_of_run h (calls_of (steps ++ rest)) (replies_of (steps ++ rest))).floor
+  rises h [] [] = omega arith
+  rises h [] (step ∷ rest) = let later = rises (next h step.call step.reply) [] rest in omega (arith, later)
+  rises h (step ∷ steps) rest = rises (next h step.call step.reply) steps rest
+
+  floor_rises : (o : Opening) (known later : List (Step T)) → IsPrefix known later → (end_of o known).floor ≤ (end_of o later).floor
+  floor_rises o known later begins =
+      subst (λ steps. (end_of o known).floor ≤ (end_of o steps).floor) begins.1 (rises (start_of o) known begins.0)
+
+  -- it knows more, and has skipped
+  pub record HasSkipped (o : Opening) (old now : Reader T) : Type 0 where
+    pub steps : IsPrefix old.steps now.steps
+    pub skips : Skips (end_of o now.steps) old.next now.next
+
+module _ {T : Type 0} (is_clone : T → T → Type 0) (o : Opening) (old mid new : Reader T) (skipped : HasSkipped o old mid) (longer : IsPrefix mid.steps new.steps) where
+  -- it skips more
+  skips_on : (to : ℕ) → Skips (end_of o new.steps) mid.next to → Skips (end_of o new.steps) old.next to
+  skips_on to more =
+      let behind = skipped.skips.0 in
+      let on = more.0 in
+      let rise = floor_rises o mid.steps new.steps longer in (
+        omega (arith, behind, on),
+        λ number from below. elim (cases_lt number mid.next) [
+          | inl before ↦ (let gone = skipped.skips.1 number from before in omega (arith, gone, rise))
+          | inr past ↦ more.1 number past below
+        ],
+      )
+
+  -- it stays where it is
+  stays : (to : ℕ) → to ≡ mid.next → Skips (end_of o new.steps) old.next to
+  stays to same = skips_on to (omega (arith, same), λ number from below. absurd (omega (arith, same, from, below)))
+
+  pub skips : (n : ℕ) (p : Polled T) → p ≡ Ok (poll.Ready (Some (Err (unreceived.Overflowed n))))
+      → Takes is_clone o mid new (as_found p) → HasSkipped o old new
+  skips n p is takes =
+      let missed : Takes is_clone o mid new (Ok (Err (unread.Overflowed n))) = subst (λ p. Takes is_clone o mid new (as_found p)) is takes in
+      record { steps = prefix_trans old.steps mid.steps new.steps skipped.steps longer; skips = skips_on new.next missed.2 }
+
+  pub errs_next : (p : Result (Poll (Option T)) AllocError) → IsErr p → new.next ≡ mid.next → TakesNext is_clone o old new p
+  errs_next (Ok found) is same = absurd (cc is)
+  errs_next (Err error) is same = stays new.next same
+
+  -- what it finds then
+  abbrev pub as_tried : Result (Poll (Option T)) AllocError → Result (Result T TryRecvError) AllocError
+  as_tried (Ok (poll.Ready (Some msg))) = Ok (Ok msg)
+  as_tried (Ok (poll.Ready None)) = Ok (Err unread.Closed)
+  as_tried (Ok poll.Pending) = Ok (Err unread.Empty)
+  as_tried (Err error) = Err error
+
+  pub finds_next : (p : Result (Poll (Option T)) AllocError) → Takes is_clone o mid new (as_tried p) → TakesNext is_clone o old new p
+  finds_next (Ok (poll.Ready (Some msg))) (is, on) = (mid.next, stays mid.next refl, is, on)
+  finds_next (Ok (poll.Ready None)) (same, all, is) = (stays new.next same, same ∙ all, is)
+  finds_next (Ok poll.Pending) (same, all, is) = (stays new.next same, same ∙ all, is)
+  finds_next (Err error) takes = stays new.next takes.0

@@ -1,0 +1,91 @@
+-- Where a receiver starts that was made.
+use Rattle.std.proofs.Common.{◌≡◌, inl, inr, ℕ, ◌+◌, Bool, true, false, if◌then◌else◌, List, [], length, Some, None, Ok, Err, refl, sym, ap, ◌∙◌, subst}
+use Rattle.std.proofs.lemmas.Bool.{cases_eq}
+use Rattle.std.specs.Prelude.{is_some}
+use Rattle.std.specs.FinMap.{get, insert}
+use Rattle.bcast_model.specs.declared.error.HandleError.{HandleError}
+use Rattle.bcast_model.specs.declared.error.HandleError.TheVariants as handle
+use Rattle.bcast_model.specs.declared.run.Call.{Call}
+use Rattle.bcast_model.specs.declared.run.Call.TheVariants as call
+use Rattle.bcast_model.specs.declared.run.Reply.{Reply}
+use Rattle.bcast_model.specs.declared.run.Reply.TheVariants as reply
+use Rattle.bcast_model.specs.Words.{History, view_of, next, Legal, Cursors, cursor_of, end_number, clone_receiver, deactivate, without_receiver, has_next, count_reply}
+use Rattle.bcast_model.proofs.Answers.{cursors-next}
+use Rattle.bcast_model.proofs.Cases.{stays-close}
+use Rattle.bcast_model.proofs.DeliveryMaps.{inserted, inserted_other}
+use Rattle.bcast_laws.specs.Sends.{is_accepted}
+use Rattle.bcast_laws.proofs.Sends.{nothing_added}
+use Rattle.bcast_history.specs.declared.step.Opening.{Opening}
+use Rattle.bcast_history.specs.declared.step.Step.{Step}
+use Rattle.bcast_history.specs.History.{start_of, end_of}
+
+-- the first receiver starts with the first message
+pub first_there : {T : Type 0} {opened named : Opening} {steps : List (Step T)} → opened ≡ named → steps ≡ []
+    → cursor_of (end_of named steps).control opened.first_key ≡ Some opened.first_number
+first_there {T} {opened = o} {named = named} is none =
+    let first : cursor_of (start_of {T = T} o).control o.first_key ≡ Some o.first_number = inserted _ o.first_key o.first_number in
+    subst (λ ss. cursor_of (end_of named ss).control o.first_key ≡ Some o.first_number) (sym none)
+    (subst (λ named. cursor_of (start_of {T = T} named).control o.first_key ≡ Some o.first_number) is first)
+
+-- an entry stays if another is made
+beside : (m : Cursors) (key new at : ℕ) → get m key ≡ Some at → get (insert m new at) key ≡ Some at
+beside m key new at is = elim (cases_eq key new) [
+  | inl e ↦ ap (λ k. get (insert m new at) k) e ∙ inserted m new at
+  | inr differs ↦ inserted_other m new at key differs ∙ is
+]
+
+module _ {T : Type 0} (is_clone : T → T → Type 0) (h : History T) where
+  -- a receiver that a call puts at the end starts there
+  put_at_end : (c : Call T) (r : Reply T) (key : ℕ) → Legal is_clone (view_of h) c r
+      → is_accepted r ≡ false → (next h c r).control.cursors ≡ insert h.control.cursors key (end_number h)
+      → cursor_of (next h c r).control key ≡ Some (end_number (next h c r))
+  put_at_end c r key legal refused put =
+      let end : end_number (next h c r) ≡ end_number h = ap (λ (msgs : List T). h.first + length msgs) (nothing_added is_clone h c r legal refused) in
+      ap (λ (cursors : Cursors). get cursors key) put ∙ inserted h.control.cursors key (end_number h) ∙ ap Some (sym end)
+
+  pub new_starts : (key : ℕ) → Legal is_clone (view_of h) call.NewReceiver (reply.NewReceiver (Ok key))
+      → let made = next h call.NewReceiver (reply.NewReceiver (Ok key)) in cursor_of made.control key ≡ Some (end_number made)
+  new_starts key legal =
+      put_at_end call.NewReceiver (reply.NewReceiver (Ok key)) key legal refl (cursors-next h call.NewReceiver (reply.NewReceiver (Ok key)))
+
+  pub activated_starts : (key : ℕ) → Legal is_clone (view_of h) call.Activate (reply.Activate (Ok key))
+      → let made = next h call.Activate (reply.Activate (Ok key)) in cursor_of made.control key ≡ Some (end_number made)
+  activated_starts key legal =
+      put_at_end call.Activate (reply.Activate (Ok key)) key legal refl (cursors-next h call.Activate (reply.Activate (Ok key)))
+
+  module _ (key was : ℕ) (there : cursor_of h.control key ≡ Some was) where
+    -- a clone reads on where its original does, which stays there
+    pub cloned_starts : (new : ℕ) → let made = next h (call.CloneReceiver key) (reply.CloneReceiver (Ok new)) in
+        (cursor_of made.control key ≡ Some was) × (cursor_of made.control new ≡ Some was)
+    cloned_starts new =
+        let put : (next h (call.CloneReceiver key) (reply.CloneReceiver (Ok new))).control.cursors ≡ insert h.control.cursors new was =
+        cursors-next h (call.CloneReceiver key) (reply.CloneReceiver (Ok new)) ∙ ap (λ o. (clone_receiver h.control o (Some new)).cursors) there in (
+          ap (λ (cursors : Cursors). get cursors key) put ∙ beside h.control.cursors key new was there,
+          ap (λ (cursors : Cursors). get cursors new) put ∙ inserted h.control.cursors new was,
+        )
+
+    pub not_cloned : (error : HandleError) → cursor_of (next h (call.CloneReceiver key) (reply.CloneReceiver (Err error))).control key ≡ Some was
+    not_cloned error =
+        ap (λ (cursors : Cursors). get cursors key) (cursors-next h (call.CloneReceiver key) (reply.CloneReceiver (Err error))
+        ∙ ap (λ o. (clone_receiver h.control o None).cursors) there) ∙ there
+
+    -- it stays if it can't be counted as inactive
+    pub not_inactive : (error : HandleError) → Legal is_clone (view_of h) (call.Deactivate key) (reply.Deactivate (Err error))
+        → cursor_of (next h (call.Deactivate key) (reply.Deactivate (Err error))).control key ≡ Some was
+    not_inactive error legal =
+        let told : ◌≡◌ {A = Reply T} (reply.Deactivate (Err error)) (reply.Deactivate (count_reply true h.control.inactive)) =
+        legal ∙ ap (λ o. reply.Deactivate (count_reply (is_some o) h.control.inactive)) there in
+        ap (λ (cursors : Cursors). get cursors key) (cursors-next h (call.Deactivate key) (reply.Deactivate (Err error))
+        ∙ ap (λ o. (deactivate h.control key o).cursors) there ∙ full (has_next h.control.inactive) refl told) ∙ there
+      where
+        full : (b : Bool) → has_next h.control.inactive ≡ b → ◌≡◌ {A = Reply T} (reply.Deactivate (Err error)) (reply.Deactivate (count_reply true h.control.inactive))
+            → (deactivate h.control key (Some was)).cursors ≡ h.control.cursors
+        full true is told = absurd (cc (told ∙ ap (λ b. reply.Deactivate (if b then Ok tt else Err handle.TooMany)) is))
+        full false is told = ap (λ b. (if b then record (without_receiver h.control key) { inactive = h.control.inactive + 1 } else h.control).cursors) is
+
+    -- a call that only reads moves no cursor
+    pub only_read : (n : ℕ) → cursor_of (next h call.Len (reply.Len n)).control key ≡ Some was
+    only_read n = ap (λ (cursors : Cursors). get cursors key) (cursors-next h call.Len (reply.Len n)) ∙ there
+
+    pub not_closed : (r : Reply T) → cursor_of (next h call.Close r).control key ≡ Some was
+    not_closed r = ap (λ (cursors : Cursors). get cursors key) (cursors-next h call.Close r ∙ (stays-close h.control).0) ∙ there

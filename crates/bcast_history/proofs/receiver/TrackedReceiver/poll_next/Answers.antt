@@ -1,0 +1,47 @@
+-- The receiver skips, and then it finds a message, or that it has read all.
+use Rattle.std.proofs.Common.{inl, inr, Some, None, Ok, Err, ap, ◌∙◌}
+use Rattle.futures.specs.declared.task.Poll.TheVariants as poll
+use Rattle.bcast_history.specs.Reader.{Reader}
+use Rattle.bcast_history.proofs.Skipped.{skips, finds_next, errs_next}
+use Rattle.bcast_history.proofs.receiver.TrackedReceiver.poll_next.Goals as goal
+
+pub loop-preserved : goal.loop-preserved
+loop-preserved g c =
+    let polled = c.in_ok-next.ensures in
+    let received = c.in-Err.is ∙ ap Err c.in-Overflowed.is in
+    let found = c.in-Ready.is ∙ ap poll.Ready (c.in-Some-next.is ∙ ap Some received) in (
+      tt,
+      tt,
+      polled.key ∙ c.loop.invariant.2,
+      skips _ _ _ _ _ c.loop.invariant.3 polled.seen _ _ (ap Ok found) polled.takes,
+      λ fact held. polled.kept fact (c.loop.invariant.4 fact held),
+    )
+
+pub returns-in_err-next-clause-takes : goal.returns-in_err-next-clause-takes
+returns-in_err-next-clause-takes g c =
+    let polled = c.in_err-next.ensures in
+    errs_next g.T.Clone.is_clone _ _ c.loop.self.place c.poll_recv.new.self.place c.loop.invariant.3 polled.seen c.from_residual.result c.from_residual.ensures.0
+    (elim polled.refused [ inl same ↦ ap (λ (r : Reader g.row.T.Denot). r.next) same | inr takes ↦ takes.0 ])
+
+pub returns-in_default-clause-takes : goal.returns-in_default-clause-takes
+returns-in_default-clause-takes g c =
+    let polled = c.in_ok-next.ensures in
+    finds_next g.T.Clone.is_clone _ _ c.loop.self.place c.poll_recv.new.self.place c.loop.invariant.3 polled.seen (Ok poll.Pending) (rw c.in_default.is at polled.takes)
+
+pub returns-in_default-next-clause-takes : goal.returns-in_default-next-clause-takes
+returns-in_default-next-clause-takes g c =
+    let polled = c.in_ok-next.ensures in
+    finds_next g.T.Clone.is_clone _ _ c.loop.self.place c.poll_recv.new.self.place c.loop.invariant.3 polled.seen (Ok (poll.Ready None))
+    (rw (c.in-Ready.is, c.in_default-next.is) at polled.takes)
+
+pub returns-in-Ok-clause-takes : goal.returns-in-Ok-clause-takes
+returns-in-Ok-clause-takes g c =
+    let polled = c.in_ok-next.ensures in
+    finds_next g.T.Clone.is_clone _ _ c.loop.self.place c.poll_recv.new.self.place c.loop.invariant.3 polled.seen (Ok (poll.Ready (Some c.in-Ok.msg)))
+    (rw (c.in-Ready.is, c.in-Some-next.is, c.in-Ok.is) at polled.takes)
+
+pub returns-in-Closed-clause-takes : goal.returns-in-Closed-clause-takes
+returns-in-Closed-clause-takes g c =
+    let polled = c.in_ok-next.ensures in
+    finds_next g.T.Clone.is_clone _ _ c.loop.self.place c.poll_recv.new.self.place c.loop.invariant.3 polled.seen (Ok (poll.Ready None))
+    (rw (c.in-Ready.is, c.in-Some-next.is, c.in-Err.is, c.in-Closed.is) at polled.takes)

@@ -1,0 +1,11 @@
+-- What was skipped so far.
+use Rattle.std.proofs.Common.{◌≡◌}
+use Rattle.futures.specs.Task.{Keeps}
+use Rattle.bcast_history.proofs.Skipped.{HasSkipped}
+use Rattle.bcast_history.proofs.receiver.TrackedReceiver.poll_next.Given as goal
+
+abbrev pub invariant-loop : goal.invariant-loop
+invariant-loop g l =
+    (goal.iterator-loop g).can_next l.iterator' × (goal.iterator-loop g).is_finite l.iterator'
+    × (l.self.place.key ≡ l.fn.self.place.key)
+    × HasSkipped g.J.Channel.opening l.fn.self.place l.self.place × Keeps l.fn.cx l.cx

@@ -1,0 +1,15 @@
+-- What was learned is what the receiver takes.
+use Rattle.bcast_history.proofs.Received.{tried}
+use Rattle.bcast_history.proofs.receiver.TrackedReceiver.try_recv.Goals as goal
+
+pub invariant_of-self : goal.invariant_of-self
+invariant_of-self g c =
+    (tried _ c.key.view_is c.key.invariant (g.met.P.HistoryPort.follows _ _ _ _ c.ask.ensures.learned)).still
+
+pub returns-clause-seen : goal.returns-clause-seen
+returns-clause-seen g c =
+    (tried _ c.key.view_is c.key.invariant (g.met.P.HistoryPort.follows _ _ _ _ c.ask.ensures.learned)).seen
+
+pub returns-clause-takes : goal.returns-clause-takes
+returns-clause-takes g c =
+    (tried _ c.key.view_is c.key.invariant (g.met.P.HistoryPort.follows _ _ _ _ c.ask.ensures.learned)).takes

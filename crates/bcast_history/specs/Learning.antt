@@ -1,0 +1,43 @@
+-- What is learned by who makes a call again that had to wait.
+use Rattle.std.specs.Prelude.{◌≡◌, false}
+use Rattle.std.proofs.Common.{List, ◌++◌, append_assoc, sym, ap, ◌∙◌}
+use mathlib.Core.List.{IsPrefix}
+use Rattle.bcast_model.specs.declared.run.Call.{Call}
+use Rattle.bcast_model.specs.declared.run.Reply.{Reply}
+use Rattle.async_broadcast.specs.Ports.{is_answer}
+use Rattle.bcast_history.specs.declared.step.Opening.{Opening}
+use Rattle.bcast_history.specs.History.{end_of}
+use Rattle.bcast_history.specs.Tracker.{Tracker, Learns, next_in}
+
+pub prefix_trans
+    : {X : Type 0} (xs ys zs : List X) → IsPrefix xs ys → IsPrefix ys zs → IsPrefix xs zs
+prefix_trans xs ys zs p q =
+    (p.0 ++ q.0, sym (append_assoc xs p.0 q.0) ∙ (ap (λ w. w ++ q.0) p.1 ∙ q.1))
+
+module _ {T : Type 0} where
+  -- the last call
+  pub again
+      : {is_clone : T → T → Type 0} {o : Opening} {before between after : Tracker T}
+      {call : Call T} {reply last : Reply T} → is_answer reply ≡ false
+      → Learns is_clone o before call reply between → Learns is_clone o between call last after
+      → Learns is_clone o before call last after
+  again {o = o} {before = before} {between = between} waits first second =
+      let one = first.follows in
+      let two = second.follows in
+      let known = prefix_trans one.before between.steps two.before (_, sym one.last) two.begins in
+      record {
+        follows = record {
+          before = two.before;
+          begins = prefix_trans before.steps one.before two.before one.begins known;
+          last = two.last;
+          lawful = two.lawful;
+          valid = two.valid;
+          legal = two.legal;
+          end = two.end;
+        };
+        there = sym (first.waits waits) ∙ second.there
+            ∙ ap (next_in (end_of o two.before).control) first.key;
+        key = second.key ∙ first.key;
+        next = second.next;
+        waits = λ no. second.waits no ∙ first.waits waits;
+      }

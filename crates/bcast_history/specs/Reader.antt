@@ -1,0 +1,87 @@
+-- What a receiver is given, one message after the other.
+use Rattle.std.specs.Prelude.{◌≡◌, ℕ, ◌+◌, ◌<◌, ◌≤◌, true, false, List, Option, Some, None, Result, Ok, Err}
+use Rattle.futures.specs.declared.task.Poll.{Poll}
+use Rattle.futures.specs.declared.task.Poll.TheVariants as poll
+use Rattle.std.specs.declared.alloc.AllocError.{AllocError}
+use Rattle.bcast_model.specs.declared.error.RecvError.{RecvError}
+use Rattle.bcast_model.specs.declared.error.RecvError.TheVariants as unreceived
+use Rattle.bcast_model.specs.declared.error.TryRecvError.{TryRecvError}
+use Rattle.bcast_model.specs.declared.error.TryRecvError.TheVariants as unread
+use Rattle.bcast_model.specs.Words.{History, cursor_of, IsDelivery, end_number}
+use Rattle.bcast_history.specs.declared.step.Opening.{Opening}
+use Rattle.bcast_history.specs.declared.step.Step.{Step}
+use Rattle.bcast_history.specs.History.{end_of}
+
+-- a receiver: its key, the number of the message that it reads next, and what it has seen of the
+-- channel
+pub record Reader (T : Type 0) : Type 0 where
+  pub key : ℕ
+  pub next : ℕ
+  pub steps : List (Step T)
+
+module _ {T : Type 0} where
+  -- it reads next the next message that is accepted
+  abbrev pub StartsAtTheEnd : Opening → Reader T → Type 0
+  StartsAtTheEnd o r = r.next ≡ end_number (end_of o r.steps)
+
+  -- a receiver skips messages, from one number up to another: each of them is gone
+  abbrev pub Skips : History T → ℕ → ℕ → Type 0
+  Skips h from to = (from ≤ to) × ((number : ℕ) → from ≤ number → number < to → number < h.floor)
+
+  -- another receiver has still to read the message of this number, which is kept
+  pub record IsShared (h : History T) (key number : ℕ) : Type 0 where
+    pub other : ℕ
+    pub differs : other ≡ key → ⊥
+    pub cursor : ℕ
+    pub there : cursor_of h.control other ≡ Some cursor
+    pub behind : cursor ≤ number
+    pub kept : number < end_number h
+
+  -- what a `poll_recv` finds, as a `try_recv` returns it: `Pending` is `Empty`, the end `Closed`
+  abbrev pub as_found
+      : Result (Poll (Option (Result T RecvError))) AllocError
+      → Result (Result T TryRecvError) AllocError
+  as_found (Ok (poll.Ready (Some (Ok msg)))) = Ok (Ok msg)
+  as_found (Ok (poll.Ready (Some (Err (unreceived.Overflowed n))))) = Ok (Err (unread.Overflowed n))
+  as_found (Ok (poll.Ready (Some (Err unreceived.Closed)))) = Ok (Err unread.Closed)
+  as_found (Ok (poll.Ready None)) = Ok (Err unread.Closed)
+  as_found (Ok poll.Pending) = Ok (Err unread.Empty)
+  as_found (Err error) = Err error
+
+module _ {T : Type 0} (is_clone : T → T → Type 0) where
+  -- what the receiver `key` finds that read on at `was`, and where it reads on now, on a channel that
+  -- is `h` then: a message is the accepted one of the number `was`, or a clone, and the one behind it
+  -- is next; one that missed some skips them, up to the end at most; else it has read all, or memory
+  -- was refused for the clone of a message that another has still to read
+  abbrev pub Finds : History T → ℕ → ℕ → ℕ → Result (Result T TryRecvError) AllocError → Type 0
+  Finds h key was now (Ok (Ok msg)) = IsDelivery is_clone h was (Some msg) × (now ≡ was + 1)
+  Finds h key was now (Ok (Err (unread.Overflowed n))) =
+      (0 < n) × (now ≡ was + n) × Skips h was now × (now ≤ end_number h)
+  Finds h key was now (Ok (Err unread.Empty)) =
+      (now ≡ was) × (was ≡ end_number h) × (h.control.closed ≡ false)
+  Finds h key was now (Ok (Err unread.Closed)) =
+      (now ≡ was) × (was ≡ end_number h) × (h.control.closed ≡ true)
+  Finds h key was now (Err error) = (now ≡ was) × IsShared h key was
+
+  -- `Finds`, for a receiver before the receive and after it
+  abbrev pub Takes
+      : Opening → Reader T → Reader T → Result (Result T TryRecvError) AllocError → Type 0
+  Takes o old new found = Finds (end_of o new.steps) old.key old.next new.next found
+
+  -- what a receiver finds that isn't told what it missed, and skips it: a message is the accepted
+  -- one of its number, or a clone, and the one behind it is next; else it has read all, or memory
+  -- was refused
+  abbrev pub FindsNext : History T → ℕ → ℕ → Result (Poll (Option T)) AllocError → Type 0
+  FindsNext h was now (Ok (poll.Ready (Some msg))) =
+      (number : ℕ) × Skips h was number × IsDelivery is_clone h number (Some msg)
+      × (now ≡ number + 1)
+  FindsNext h was now (Ok (poll.Ready None)) =
+      Skips h was now × (now ≡ end_number h) × (h.control.closed ≡ true)
+  FindsNext h was now (Ok poll.Pending) =
+      Skips h was now × (now ≡ end_number h) × (h.control.closed ≡ false)
+  FindsNext h was now (Err error) = Skips h was now
+
+  -- `FindsNext`, for a receiver before the poll and after it
+  abbrev pub TakesNext
+      : Opening → Reader T → Reader T → Result (Poll (Option T)) AllocError → Type 0
+  TakesNext o old new found = FindsNext (end_of o new.steps) old.next new.next found

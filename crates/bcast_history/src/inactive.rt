@@ -1,0 +1,59 @@
+//! Receivers that receive nothing, and keep the channel open.
+ghost use Rattle.std.specs.Prelude.{◌≡◌, Ok, Err, IfOk, IfErr};
+ghost use Rattle.bcast_history.specs.Follows.{Follows};
+ghost use Rattle.bcast_history.specs.Reader.{StartsAtTheEnd};
+
+use crate::place::Place;
+use crate::port::HistoryPort;
+use crate::receiver::TrackedReceiver;
+use crate::tracker::{Channel, Seen, Tracker};
+use bcast_core::{AddReceiver, Call, Change, HandleError, Reply};
+
+/// Receives nothing, and can become an active receiver, as `InactiveReceiver` of `async_broadcast`.
+///
+/// Contracts name its `known.steps`, a beginning of the steps on the channel. The drop is a step.
+pub struct TrackedInactiveReceiver<T: Clone, P: HistoryPort<T, J>, J: Channel> {
+    pub(crate) port: P,
+    pub(crate) known: Tracker<T, J>,
+}
+
+impl<T: Clone, P: HistoryPort<T, J>, J: Channel> TrackedInactiveReceiver<T, P, J> {
+    /// What it knows, for other callers.
+    pub fn seen(&self) -> Seen<T, J>
+        ensures { result ≡ self.now.known.steps }
+    {
+        self.known.seen()
+    }
+
+    /// Turns the inactive receiver into an active one, whose first message is the next one that is
+    /// accepted: as `InactiveReceiver::activate`.
+    ///
+    /// # Errors
+    ///
+    /// Each hands the inactive receiver back.
+    ///
+    /// - `Memory`: no memory for its cursor.
+    pub fn activate(self) -> Result<TrackedReceiver<T, P, J>, (Self, HandleError)>
+        ensures made { IfOk result (λ made. Follows T.is_clone J.opening
+            self.known.steps Call.Activate (Reply.Activate (Ok made.place.key)) made.place.steps) }
+        ensures starts { IfOk result (λ made. StartsAtTheEnd J.opening made.place) }
+        ensures refused { IfErr result (λ back. Follows T.is_clone J.opening
+            self.known.steps Call.Activate (Reply.Activate (Err back.1)) back.0.known.steps) }
+    {
+        let TrackedInactiveReceiver { port, mut known } = self;
+        match port.ask(&mut known, AddReceiver::Activate) {
+            Ok(key) => {
+                let place = Place::new(&known, key, known.end());
+                Ok(TrackedReceiver::new(port, place))
+            }
+            Err(error) => Err((TrackedInactiveReceiver { port, known }, error)),
+        }
+    }
+}
+
+impl<T: Clone, P: HistoryPort<T, J>, J: Channel> Drop for TrackedInactiveReceiver<T, P, J> {
+    fn drop(self) {
+        let TrackedInactiveReceiver { port, mut known } = self;
+        port.ask(&mut known, Change::DropInactive);
+    }
+}

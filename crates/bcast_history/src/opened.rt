@@ -1,0 +1,102 @@
+//! A channel that was made, before it has a name, and its first handles.
+ghost use Rattle.std.specs.Prelude.{◌≡◌, ◌<◌, [], IfOk};
+
+use crate::journal::Journal;
+use crate::place::Place;
+use crate::port::History;
+use crate::receiver::TrackedReceiver;
+use crate::sender::TrackedSender;
+use crate::step::{Opening, Step};
+use crate::steps::StepJournal;
+use crate::tracker::{Channel, Tracker};
+use async_broadcast::{Lock, PortFor, Wake};
+use bcast_core::Inner;
+use std::alloc::{AllocError, Allocator, Global};
+use std::marker::Model;
+use std::sync::Wait;
+
+/// A channel on which no call was made, and its journal. They have no name yet. A contract sees
+/// both as what a name has to say of them.
+#[derive(Drop)]
+pub struct Opened<T: Clone, A: Allocator = Global> {
+    inner: Inner<T, Wake, A>,
+    opening: Opening,
+    journal: Journal<Step<T>>,
+}
+
+impl<T: Clone, A: Allocator> Model for Opened<T, A> {
+    ghost use Rattle.bcast_model.specs.Words.{IsValid, Represents};
+    ghost use Rattle.bcast_history.specs.History.{start_of};
+    ghost use Rattle.bcast_history.specs.Opened.{Opened};
+
+    ghost Value = { Opened };
+
+    ghost view = { λ o. record { book = o.journal; opening = o.opening } };
+
+    ghost invariant = { λ o. Represents o.inner (start_of {T = T} o.opening)
+        × IsValid (start_of {T = T} o.opening) };
+}
+
+impl<T: Clone, A: Allocator + Copy> Opened<T, A> {
+    /// A channel that keeps at most `cap` messages at once, as `async_broadcast::broadcast` makes
+    /// it.
+    ///
+    /// # Errors
+    ///
+    /// - `AllocError`: no memory for the channel.
+    pub fn new(alloc: A, cap: usize) -> Result<Self, AllocError>
+        requires { 0 < cap }
+        ensures { IfOk result (λ opened. (opened.opening.capacity ≡ cap)
+            × (opened.opening.first_number ≡ 0)) }
+    {
+        let (inner, first_key) = Inner::new(alloc, cap)?;
+        let opening = Opening {
+            capacity: cap,
+            first_number: 0,
+            first_key,
+        };
+        Ok(Opened {
+            inner,
+            opening,
+            journal: Journal::new(),
+        })
+    }
+}
+
+/// The first sender and the first receiver of a channel.
+pub type FirstHandles<T, P, J> = (TrackedSender<T, P, J>, TrackedReceiver<T, P, J>);
+
+/// Makes the first sender and the first receiver of this channel, whose name is `J`. They know no
+/// step.
+///
+/// # Errors
+///
+/// - `AllocError`: no memory for what the handles share. The channel is dropped.
+pub fn broadcast<T: Clone, R: Wait + Clone, J: Channel, A: Allocator + Copy>(
+    rt: R,
+    alloc: A,
+    opened: Opened<T, A>,
+) -> Result<FirstHandles<T, History<T, R, J, A>, J>, AllocError>
+    requires { (opened.book ≡ J.book) × (opened.opening ≡ J.opening) }
+    ensures sender { IfOk result (λ made. made.0.known.steps ≡ []) }
+    ensures receiver { IfOk result (λ made. made.1.place ≡ record {
+      key = J.opening.first_key;
+      next = J.opening.first_number;
+      steps = [];
+    }) }
+{
+    let Opened {
+        inner,
+        opening,
+        journal,
+    } = opened;
+    let steps = StepJournal::new(journal);
+    let known = Tracker::new(steps.nothing(), opening.first_number);
+    let place = Place::new(&known, opening.first_key, opening.first_number);
+    let port = Lock::with_journal(rt, alloc, inner, steps)?;
+    let other = port.try_clone().ok_or(AllocError)?;
+    Ok((
+        TrackedSender { port, known },
+        TrackedReceiver::new(other, place),
+    ))
+}

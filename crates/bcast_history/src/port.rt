@@ -1,0 +1,57 @@
+//! Ports of a channel whose calls have their places in one history.
+use crate::steps::StepJournal;
+use crate::tracker::{Channel, Tracker};
+use async_broadcast::{CallJournal, Lock, PortFor, TimedPortFor};
+use std::alloc::{Allocator, Global};
+use std::sync::Wait;
+
+/// A port to the channel that `J` names, for its handles. Functions over tracked handles are written
+/// over it: `P: HistoryPort<u64, J>`. `History` is one.
+pub trait HistoryPort<T: Clone, J: Channel>: PortFor<T, Tracker<T, J>> {
+    ghost use Rattle.bcast_model.specs.declared.run.Call.{Call};
+    ghost use Rattle.bcast_model.specs.declared.run.Reply.{Reply};
+    ghost use Rattle.bcast_history.specs.Tracker.{Tracker, Learns};
+
+    // A call adds itself, and those before it, to what its caller knows.
+    ghost follows: { (known after : Tracker T) (call : Call T) (reply : Reply T)
+        → Self.learns known call reply after
+        → Learns T.is_clone J.opening known call reply after };
+}
+
+/// Such a port that can also wait with a limit of time.
+pub trait TimedHistoryPort<T: Clone, J: Channel>: HistoryPort<T, J>
+    + TimedPortFor<T, Tracker<T, J>> {}
+
+impl<T: Clone, J: Channel, P: HistoryPort<T, J> + TimedPortFor<T, Tracker<T, J>>> TimedHistoryPort<
+    T,
+    J,
+> for P {}
+
+/// The journal of a lock whose port is such a port. `StepJournal` is one.
+///
+/// It is a trait of its own, and not `StepJournal` alone, since the checker can't yet give `u64` to
+/// an impl of `HistoryPort` that names `StepJournal<T, J>`.
+pub trait TracksCalls<T: Clone, J: Channel>: CallJournal<T, Caller = Tracker<T, J>> {
+    ghost use Rattle.bcast_model.specs.declared.run.Call.{Call};
+    ghost use Rattle.bcast_model.specs.declared.run.Reply.{Reply};
+    ghost use Rattle.bcast_history.specs.Tracker.{Tracker, Learns};
+
+    ghost follows: { (known after : Tracker T) (call : Call T) (reply : Reply T)
+        → Self.learns known call reply after
+        → Learns T.is_clone J.opening known call reply after };
+}
+
+impl<T: Clone, J: Channel> TracksCalls<T, J> for StepJournal<T, J> {
+    ghost follows = { λ known after call reply learned. learned };
+}
+
+/// The port of a channel that `broadcast` made.
+pub type History<T, R, J, A = Global> = Lock<T, R, A, StepJournal<T, J>>;
+
+impl<T: Clone, R: Wait + Clone, J: Channel, A: Allocator + Copy, K: TracksCalls<T, J>> HistoryPort<
+    T,
+    J,
+> for Lock<T, R, A, K> {
+    ghost follows = { λ known after call reply learned.
+        K.TracksCalls.follows known after call reply learned };
+}
