@@ -13,7 +13,7 @@ pub mod Unowed
 pub mod Entries
 -- what a contract sees of a queue
 pub mod Queues
--- a message that several owe is read
+-- a reader moves on, past messages that others owe too
 pub mod Reading
 -- the first message goes
 pub mod Popped

@@ -1,5 +1,5 @@
 -- How many readers owe each message, when the count of one message changes.
-use Rattle.std.proofs.Common.{◌≡◌, ℕ, zero, suc, ◌+◌, ◌-◌, ◌<◌, ◌≤◌, List, [], ◌∷◌, ◌++◌, length, map, drop, get_or, set, Some, sum, refl, ap, sym, subst, ◌∙◌, arith}
+use Rattle.std.proofs.Common.{◌≡◌, ℕ, zero, suc, ◌+◌, ◌-◌, ◌<◌, ◌≤◌, All, List, [], ◌∷◌, ◌++◌, length, map, drop, get_or, set, Some, sum, refl, ap, sym, subst, ◌∙◌, arith}
 use Rattle.std.proofs.lemmas.Grind.{common_steps}
 use Rattle.std.specs.Prelude.{slice_get}
 use Rattle.std.specs.Option.{ForSome}
@@ -110,19 +110,27 @@ pub reader_of : (t i : ℕ) (ns : List ℕ) → AreCounted t ns → i < length n
 reader_of t zero ns counted within before = counted.owed (omega (arith, within))
 reader_of t (suc i) ns counted within before = somebody_next 0 (suc i) ns within (omega arith) (before (omega arith))
 
-all_back : (low : ℕ) (ns : List ℕ) → 0 < low → RisesFrom low ns → map (λ n. n + 1) (map (λ n. n - 1) ns) ≡ ns
-all_back low [] h r = refl
-all_back low (n ∷ ns) h r = grind (arith, common_steps, all_back n ns (omega (arith, r.0, h)) r.1)
+all_back : (ns : List ℕ) → All (λ n. 1 ≤ n) ns → map (λ n. n + 1) (map (λ n. n - 1) ns) ≡ ns
+all_back [] some = refl
+all_back (n ∷ ns) some = grind (arith, common_steps, some 0 0 (omega arith), all_back ns (λ k d h. some (suc k) d (omega arith)))
 
--- a reader that moves from an index to the next no longer owes the message there
-pub one_moves : (low i : ℕ) (ns : List ℕ) → 0 < low → RisesFrom low ns → one_more_from (suc i) (one_fewer_from i ns) ≡ set ns i (get_or ns i 0 - 1)
-one_moves low zero [] h r = refl
-one_moves low (suc i) [] h r = refl
-one_moves low zero (n ∷ ns) h r = ap (λ xs. (n - 1) ∷ xs) (all_back n ns (omega (arith, r.0, h)) r.1)
-one_moves low (suc i) (n ∷ ns) h r = ap (λ xs. n ∷ xs) (one_moves n i ns (omega (arith, r.0, h)) r.1)
+-- a reader that moves on by no message owes what it owed
+pub one_stays : (i : ℕ) (ns : List ℕ) → All (λ n. 1 ≤ n) ns → one_more_from i (one_fewer_from i ns) ≡ ns
+one_stays zero ns some = all_back ns some
+one_stays (suc i) [] some = refl
+one_stays (suc i) (n ∷ ns) some = ap (λ xs. n ∷ xs) (one_stays i ns (λ k d h. some (suc k) d (omega arith)))
 
--- the first message is still owed if a message that several readers owe is owed by one fewer
-pub first_left : (i : ℕ) (ns : List ℕ) → RisesFrom 1 ns → 1 < get_or ns i 0 → 0 < get_or (set ns i (get_or ns i 0 - 1)) 0 0
-first_left i [] r several = absurd (omega (arith, several))
-first_left zero (n ∷ ns) r several = omega (arith, several)
-first_left (suc i) (n ∷ ns) r several = omega (arith, r.0)
+-- and one that moves on by one message no longer owes that message
+pub one_moves : (i : ℕ) (ns : List ℕ) → All (λ n. 1 ≤ n) ns → one_more_from (suc i) (one_fewer_from i ns) ≡ set ns i (get_or ns i 0 - 1)
+one_moves zero [] some = refl
+one_moves (suc i) [] some = refl
+one_moves zero (n ∷ ns) some = ap (λ xs. (n - 1) ∷ xs) (all_back ns (λ k d h. some (suc k) d (omega arith)))
+one_moves (suc i) (n ∷ ns) some = ap (λ xs. n ∷ xs) (one_moves i ns (λ k d h. some (suc k) d (omega arith)))
+
+-- the first message is still owed if a reader moves on from a message that several readers owe
+pub first_left : (i j : ℕ) (ns : List ℕ) → RisesFrom 1 ns → 1 < get_or ns i 0 → 0 < get_or (one_more_from j (one_fewer_from i ns)) 0 0
+first_left i j [] r several = absurd (omega (arith, several))
+first_left zero zero (n ∷ ns) r several = omega arith
+first_left zero (suc j) (n ∷ ns) r several = omega (arith, several)
+first_left (suc i) zero (n ∷ ns) r several = omega arith
+first_left (suc i) (suc j) (n ∷ ns) r several = omega (arith, r.0)

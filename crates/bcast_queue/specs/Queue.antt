@@ -42,6 +42,10 @@ module _ {X : Type 0} where
   abbrev pub with_reader : ℕ → Queued X → Queued X
   with_reader i q = record q { owed = one_more_from i q.owed }
 
+  -- one reader moves on from the index i, past n messages that others owe too
+  abbrev pub passed : ℕ → ℕ → Queued X → Queued X
+  passed i n q = record q { owed = one_more_from (i + n) (one_fewer_from i q.owed) }
+
   -- `drop` of a `Receiver`: one reader fewer from the index i on; messages no reader owes then go
   abbrev pub without_reader : ℕ → Queued X → Queued X
   without_reader i q =

@@ -1,9 +1,9 @@
-//! The readers that owe messages: they are added, leave, and read.
+//! The readers that owe messages: they are added, move on, leave, and read.
 ghost use Rattle.std.specs.Prelude.{◌≡◌, ◌+◌, ◌-◌, ◌<◌, ◌≤◌, ◌==◌, ◌↔◌, length, Some, slice_get};
 ghost use Rattle.std.specs.Prelude.{slice_index, IfOk, IsOk, OnOk, OnErr, IsTrue};
 ghost use Rattle.std.specs.Option.{ForSome, IsSomeAnd};
 ghost use Rattle.std.specs.Result.{IsOkAnd};
-ghost use Rattle.bcast_queue.specs.Queue.{last_item, with_reader, without_reader, read_at};
+ghost use Rattle.bcast_queue.specs.Queue.{last_item, with_reader, passed, without_reader, read_at};
 
 use crate::counts::{add_readers, change_at, drop_unowed};
 use crate::{Counter, Queue};
@@ -23,6 +23,41 @@ impl<T, A: Allocator> Queue<T, A> {
     {
         self.total += 1;
         add_readers(&mut self.ring, &mut self.total, index, 1, steps);
+    }
+
+    /// Whether more than one reader owes the message at `index`, which some reader reads next.
+    #[inline(always)]
+    pub fn is_shared<C: Counter>(&mut self, index: usize, steps: &mut C) -> bool
+        requires within { index < length self.old.messages }
+        requires owed { 0 < index
+            → slice_index self.old.owed (index - 1) < slice_index self.old.owed index }
+        ensures value { IsTrue result ↔ (1 < slice_index self.old.owed index) }
+        ensures unchanged { self.new ≡ self.old }
+        ensures steps { C.total steps.new ≤ C.total steps.old + 1 }
+    {
+        let next = change_at(&mut self.ring, index, 0, 0, steps);
+        index != 0 || next != 1
+    }
+
+    /// Moves a reader on, from the message at `index` to that at `index + count`, past messages
+    /// that other readers owe too. Allocates nothing.
+    ///
+    /// It changes two counts, however many messages are passed.
+    #[inline(always)]
+    pub fn pass<C: Counter>(&mut self, index: usize, count: usize, steps: &mut C)
+        requires within { index + count ≤ length self.old.messages }
+        requires owed { 0 < index → index < length self.old.messages
+            → slice_index self.old.owed (index - 1) < slice_index self.old.owed index }
+        requires shared { 0 < count → 1 < slice_index self.old.owed index }
+        ensures passed { self.new ≡ passed index count self.old }
+        ensures steps { C.total steps.new ≤ C.total steps.old + 2 }
+    {
+        self.invariant_holds();
+        if count == 0 {
+            return;
+        }
+        change_at(&mut self.ring, index, 0, 1, steps);
+        add_readers(&mut self.ring, &mut self.total, index + count, 1, steps);
     }
 }
 

@@ -1,12 +1,14 @@
 -- The counts stay right when a receiver skips or reads.
-use Rattle.std.proofs.Common.{◌≡◌, inl, inr, ℕ, ◌+◌, ◌-◌, ◌<◌, ◌≤◌, true, false, cond, eqb, length, max, Some, get_or, set, nat_le, refl, sym, ap, ◌∙◌, arith, length-drop, eqb-true}
+use Rattle.std.proofs.Common.{◌≡◌, ℕ, ◌+◌, ◌-◌, ◌<◌, ◌≤◌, true, false, cond, eqb, length, max, Some, get_or, set, nat_le, refl, sym, subst, ap, ◌∙◌, arith, length-drop, eqb-true}
 use Rattle.std.specs.Prelude.{IsSomeAnd}
 use Rattle.std.proofs.lemmas.Grind.{common_steps}
-use Rattle.std.proofs.lemmas.Bool.{cases_lt, cases_eq}
-use Rattle.std.proofs.lemmas.List.{get_or-drop}
+use Rattle.std.proofs.lemmas.Bool.{cases_lt}
+use Rattle.std.proofs.lemmas.List.{get_or-drop, get_or-set_same, get_or-set_other}
 use Rattle.std.specs.FinMap.{get, insert, remove}
 use Rattle.bcast_model.specs.Control.{Cursors}
-use Rattle.bcast_queue.specs.Queue.{Queued, without, read_at}
+use Rattle.bcast_queue.specs.Queue.{Queued, one_fewer_from, passed, without, read_at}
+use Rattle.bcast_queue.proofs.Reading.{passed_one}
+use Rattle.bcast_queue.proofs.Pointwise.{length-one_fewer_from, get_or-one_more_from, get_or-one_fewer_from}
 use Rattle.bcast_store.specs.Stored.{Stored, end_of, with_cursors}
 use Rattle.bcast_store.specs.Sound.{IsSound, store_of, owing_at}
 use Rattle.bcast_store.proofs.Owing.{owing-rises, owing-moved, owing-left, reached, found}
@@ -25,6 +27,26 @@ pub record IsReading {T : Type 0} (q : Queued T) (cursors : Cursors) (key number
 module _ {T : Type 0} where
   pub is_reading : (q : Queued T) (cursors : Cursors) (s : Stored T) (key number front : ℕ) → store_of q cursors ≡ s → front ≡ q.front → IsSomeAnd (get s.cursors key) (λ cursor. number ≡ max cursor s.front) → number < end_of s → IsReading q cursors key number (number - front)
   is_reading q cursors s key number front view front_is at below = grind (arith, common_steps, found)
+
+  -- the number is the receiver's cursor
+  pub is_reading-at : (q : Queued T) (cursors : Cursors) (s : Stored T) (key number front : ℕ) → store_of q cursors ≡ s → front ≡ q.front → get s.cursors key ≡ Some number → s.front ≤ number → number < end_of s → IsReading q cursors key number (number - front)
+  is_reading-at q cursors s key number front view front_is at kept below = grind (arith, common_steps)
+
+  -- a receiver moves past so many messages
+  pub sound_passed : (q : Queued T) (cursors : Cursors) (key cursor number i n : ℕ) → IsSound q cursors → IsCounted q → get cursors key ≡ Some cursor → number ≡ q.front + i → cursor ≤ number → (0 < i → cursor ≡ number) → i + n ≤ length q.messages
+      → IsSound (passed i n q) (insert cursors key (number + n))
+  sound_passed q cursors key cursor number i n s counted at is under meets within =
+      record {
+        owed_by = λ j h.
+            let a = owing-moved cursors key cursor (number + n) (q.front + j) at in
+            let b = s.owed_by j h in
+            let fewer = get_or-one_fewer_from i q.owed j (omega (arith, counted.lengths)) (λ _. owed_at q j counted h) in
+            let more = get_or-one_more_from (i + n) (one_fewer_from i q.owed) j (omega (arith, counted.lengths, length-one_fewer_from i q.owed)) in
+            let t : ◌≡◌ {A = ℕ} (cond (nat_le cursor (q.front + j)) 1 0) (cond (nat_le i j) 1 0) = grind (arith, common_steps, is, under, meets) in
+            let u : ◌≡◌ {A = ℕ} (cond (nat_le (number + n) (q.front + j)) 1 0) (cond (nat_le (i + n) j) 1 0) = grind (arith, common_steps, is) in
+            omega (arith, a, b, fewer, more, t, u);
+        reach = λ other c e. reached (q.front + length q.messages) cursors key (number + n) other c s.reach (omega (arith, is, within)) e;
+      }
 
   -- a skip to the front
   pub sound_skip : (q : Queued T) (cursors : Cursors) (key cursor : ℕ) → IsSound q cursors → get cursors key ≡ Some cursor → cursor < q.front → IsSound q (insert cursors key q.front)
@@ -56,50 +78,29 @@ module _ {T : Type 0} where
     owed_once : IsCounted q → get_or q.owed i 0 ≡ 1 → i ≡ 0
     owed_once n once = grind (arith, common_steps, cases_lt, reading_up, owed_at)
 
-    -- the counts of the message that is read
-    here : owing_at (insert cursors key (number + 1)) (q.front + i) + 1 ≡ get_or q.owed i 0
-    here =
-        let a = owing-moved cursors key r.cursor (number + 1) (q.front + i) r.at in
-        let b = s.owed_by i r.below in
-        let is = r.is in
-        let under = r.under in
-        let t : nat_le r.cursor (q.front + i) ≡ true = grind (arith, common_steps, is, under) in
-        let u : nat_le (number + 1) (q.front + i) ≡ false = grind (arith, common_steps, is) in
-        let w : owing_at (insert cursors key (number + 1)) (q.front + i) + 1 ≡ owing_at cursors (q.front + i) + 0 = rw (t, u) at a in
-        omega (arith, w, b)
+    -- each count but that of the message stays
+    one_passed : IsCounted q → IsSound (record q { owed = set q.owed i (get_or q.owed i 0 - 1) }) (insert cursors key (number + 1))
+    one_passed n = subst (λ p. IsSound p (insert cursors key (number + 1))) (passed_one q i n.owed) (sound_passed q cursors key r.cursor number i 1 s n r.at r.is r.under r.meets (omega (arith, r.below)))
 
-    -- the counts of another message
-    elsewhere : (j : ℕ) → j < length q.messages → (j ≡ i → ⊥) → owing_at (insert cursors key (number + 1)) (q.front + j) ≡ get_or q.owed j 0
-    elsewhere j h other =
-        let a = owing-moved cursors key r.cursor (number + 1) (q.front + j) r.at in
-        let b = s.owed_by j h in
-        let t : ◌≡◌ {A = ℕ} (cond (nat_le r.cursor (q.front + j)) 1 0) (cond (nat_le (number + 1) (q.front + j)) 1 0) = elim (cases_lt j i) [
-          | inl less ↦ (let m = r.meets (omega (arith, less)) in let is = r.is in grind (arith, common_steps, is, m, less))
-          | inr more ↦ (let is = r.is in let under = r.under in grind (arith, common_steps, is, under, more, other))
-        ] in
-        omega (arith, t, a, b)
-
-    read_reach : (other c : ℕ) → get (insert cursors key (number + 1)) other ≡ Some c → c ≤ q.front + length q.messages
-    read_reach other c e = reached (q.front + length q.messages) cursors key (number + 1) other c s.reach (omega (arith, r.is, r.below)) e
+    here : IsCounted q → owing_at (insert cursors key (number + 1)) (q.front + i) + 1 ≡ get_or q.owed i 0
+    here n = omega (arith, (one_passed n).owed_by i r.below, get_or-set_same q.owed i (get_or q.owed i 0 - 1) 0 (omega (arith, n.lengths, r.below)), owed_at q i n r.below)
 
     -- the last reader of the oldest message moves with the front
-    sound_last : i ≡ 0 → IsSound (without 1 q) (insert cursors key (number + 1))
-    sound_last oldest =
+    sound_last : IsCounted q → i ≡ 0 → IsSound (without 1 q) (insert cursors key (number + 1))
+    sound_last n oldest =
         let size = length-drop 1 q.messages in
+        let after = one_passed n in
         record {
           owed_by = λ j h.
-              let e = elsewhere (1 + j) (omega (arith, size)) (λ same. omega arith) in
+              let e = after.owed_by (1 + j) (omega (arith, size)) in
               let f : (q.front + 1) + j ≡ q.front + (1 + j) = omega arith in
-              get_or-drop 1 q.owed j 0 ∙ sym e ∙ ap (owing_at (insert cursors key (number + 1))) (sym f);
-          reach = λ other c e. let l = read_reach other c e in omega (arith, size, r.below);
+              let other = get_or-set_other q.owed i (1 + j) (get_or q.owed i 0 - 1) 0 (λ same. omega arith) in
+              get_or-drop 1 q.owed j 0 ∙ sym other ∙ e ∙ ap (owing_at (insert cursors key (number + 1))) (sym f);
+          reach = λ other c e. let l = after.reach other c e in omega (arith, size, r.below);
         }
 
-    -- the message stays for the other readers
-    sound_more : IsCounted q → IsSound (record q { owed = set q.owed i (get_or q.owed i 0 - 1) }) (insert cursors key (number + 1))
-    sound_more n = grind (arith, common_steps, cases_eq, here, elsewhere, read_reach)
-
     pub sound_read : IsCounted q → IsSound (read_at i q) (insert cursors key (number + 1))
-    sound_read n = grind (arith, common_steps, sound_last, owed_once, eqb-true, sound_more)
+    sound_read n = grind (arith, common_steps, sound_last, owed_once, eqb-true, one_passed)
 
     -- the store after a read
     pub store_read : IsCounted q → IsCounted (read_at i q) → store_of (read_at i q) (insert cursors key (number + 1)) ≡ with_cursors (store_of q cursors) (insert cursors key (number + 1))
@@ -110,7 +111,7 @@ module _ {T : Type 0} where
               let once = eqb-true _ 1 t in
               let oldest = owed_once n once in
               let e : q.front + (1 - 1) ≡ q.front + i = omega arith in
-              let none : owing_at (insert cursors key (number + 1)) (q.front + i) ≡ 0 = omega (arith, here, once) in
+              let none : owing_at (insert cursors key (number + 1)) (q.front + i) ≡ 0 = omega (arith, here n, once) in
               with_cursors-queue q (without 1 q) cursors (insert cursors key (number + 1)) 1 refl refl refl (omega (arith, r.below)) sound counted (λ _. ap (owing_at (insert cursors key (number + 1))) e ∙ none)
           | false ↦ λ t sound counted.
               with_cursors-queue q (record q { owed = set q.owed i (get_or q.owed i 0 - 1) }) cursors (insert cursors key (number + 1)) 0 (omega arith) refl refl (omega arith) sound counted (λ h. absurd (omega arith))

@@ -1,11 +1,13 @@
 //! Receivers are added, leave, and read.
-ghost use Rattle.std.specs.Prelude.{◌≡◌, ◌+◌, ◌<◌, ◌≤◌, None, Some, if◌then◌else◌};
-ghost use Rattle.std.specs.Prelude.{IfOk, IsOk, OnOk, OnErr, IsSomeAnd, max};
+ghost use Rattle.std.specs.Prelude.{◌≡◌, ◌+◌, ◌-◌, ◌<◌, ◌≤◌, ◌↔◌, None, Some, if◌then◌else◌};
+ghost use Rattle.std.specs.Prelude.{IfOk, IsOk, OnOk, OnErr, IsSomeAnd, IsTrue, max};
+ghost use Rattle.std.specs.Prelude.{length, take, drop, vec_len, vec_capacity};
+ghost use Rattle.std.specs.List.{AppendsClones};
 ghost use Rattle.std.specs.FinMap as map;
 ghost use Rattle.bcast_store.specs.Stored.{IsHandedOut, IsOwed, end_of, with_cursors};
 
 use crate::Store;
-use bcast_queue::Uncounted;
+use bcast_queue::{Queue, Uncounted};
 use std::alloc::{AllocError, Allocator};
 
 impl<T: Drop, A: Allocator + Copy> Store<T, A> {
@@ -64,6 +66,20 @@ impl<T: Drop, A: Allocator + Copy> Store<T, A> {
         self.queue.invariant_holds();
         true
     }
+
+    /// Whether another receiver than `key` has still to read the message numbered `number`, which
+    /// `key` reads next.
+    #[inline(always)]
+    pub fn is_shared(&mut self, key: usize, number: u64) -> bool
+        requires at { map.get self.old.cursors key ≡ Some number }
+        requires kept { (self.old.front ≤ number) × (number < end_of self.old) }
+        ensures value { IsTrue result ↔ IsOwed self.old key number }
+        ensures unchanged { self.new ≡ self.old }
+    {
+        self.queue.invariant_holds();
+        let index = (number - self.queue.front()) as usize;
+        self.queue.is_shared(index, &mut Uncounted)
+    }
 }
 
 impl<T: Clone, A: Allocator + Copy> Store<T, A> {
@@ -106,4 +122,73 @@ impl<T: Clone, A: Allocator + Copy> Store<T, A> {
             }
         }
     }
+
+    /// Puts clones of the `count` messages from `number` on, the cursor of the receiver `key`,
+    /// last into `msgs`, which has room for them, and moves the cursor past them. Another receiver
+    /// has to read the first of them too, and so each.
+    ///
+    /// Returns how many they are: fewer than `count` only if memory for a clone was refused.
+    /// Only the clones may allocate memory.
+    #[inline(always)]
+    pub fn read_shared<B: Allocator>(
+        &mut self,
+        key: usize,
+        number: u64,
+        count: usize,
+        msgs: &mut Vec<T, B>,
+    ) -> usize
+        requires at { map.get self.old.cursors key ≡ Some number }
+        requires kept { self.old.front ≤ number }
+        requires within { number + count ≤ end_of self.old }
+        requires owed { 0 < count → IsOwed self.old key number }
+        requires room { vec_len msgs.old + count ≤ vec_capacity msgs.old }
+        ensures at_most { result ≤ count }
+        ensures given { AppendsClones T.is_clone msgs.old.items msgs.new.items
+            (take result (drop (number - self.old.front) self.old.queue)) }
+        ensures passed { self.new ≡ record self.old {
+          cursors = map.insert self.old.cursors key (number + result);
+        } }
+        ensures sure { ((msg : T) → T.is_infallible msg) → result ≡ count }
+
+        ensures len { vec_len msgs.new ≡ vec_len msgs.old + result }
+        ensures capacity { vec_capacity msgs.new ≡ vec_capacity msgs.old }
+    {
+        self.queue.invariant_holds();
+        let index = (number - self.queue.front()) as usize;
+        let given = put_clones(&self.queue, index, count, msgs);
+        self.cursors.replace(key, number + given as u64);
+        self.queue.pass(index, given, &mut Uncounted);
+        given
+    }
+}
+
+// Puts clones of the `count` messages from `index` on last into `msgs`, and returns how many: fewer
+// only if memory for a clone was refused.
+#[inline(never)]
+fn put_clones<T: Clone, A: Allocator, B: Allocator>(
+    queue: &Queue<T, A>,
+    index: usize,
+    count: usize,
+    msgs: &mut Vec<T, B>,
+) -> usize
+    requires within { index + count ≤ length queue.now.messages }
+    requires room { vec_len msgs.old + count ≤ vec_capacity msgs.old }
+    ensures at_most { result ≤ count }
+    ensures given { AppendsClones T.is_clone msgs.old.items msgs.new.items
+        (take result (drop index queue.now.messages)) }
+    ensures sure { ((msg : T) → T.is_infallible msg) → result ≡ count }
+    ensures len { vec_len msgs.new ≡ vec_len msgs.old + result }
+    ensures capacity { vec_capacity msgs.new ≡ vec_capacity msgs.old }
+{
+    queue.invariant_holds();
+    for i in 0..count {
+        let Some(msg) = queue.get(index + i) else {
+            unreachable!()
+        };
+        let Ok(given) = msg.clone() else {
+            return i;
+        };
+        msgs.push_reserved(given);
+    }
+    count
 }

@@ -1,14 +1,15 @@
 -- A message that one reader owes is the first, and leaves; of one that several owe a clone is given.
-use Rattle.std.proofs.Common.{Result, Ok, Err, OnErr, ◌≡◌, ◌<◌, Some, ap, ◌∙◌, sym, get_or, slice_get, map, set, sum, ◌+◌, arith, rules}
+use Rattle.std.proofs.Common.{Result, Ok, Err, OnErr, ◌≡◌, ◌<◌, Some, ap, ◌∙◌, sym, get_or, slice_get, map, set, sum, ◌+◌, refl, arith, rules}
 use Rattle.std.proofs.lemmas.Grind.{common_steps}
 use Rattle.std.specs.Option.{option_copied_mut}
 use Rattle.std.proofs.lemmas.Option.{slice_get_within}
 use Rattle.std.proofs.lemmas.Result.{IfOk-from_err}
-use Rattle.bcast_queue.specs.Queue.{without}
-use Rattle.bcast_queue.specs.Entries.{queue_of, next_of}
-use Rattle.bcast_queue.proofs.Entries.{looked_at, fewer, one_fewer, next_at, same_ring, sound-same, taken}
+use Rattle.bcast_queue.specs.Queue.{one_more_from, without}
+use Rattle.bcast_queue.specs.Entries.{queue_of, next_of, message_of, owed_by}
+use Rattle.bcast_queue.proofs.Entries.{looked_at, fewer, one_fewer, next_at, messages-set, same_ring, sound-same, taken}
+use Rattle.bcast_queue.proofs.Owed.{at_least}
 use Rattle.bcast_queue.proofs.Queues.{IsQueue-seen, reader_at, message_at, owed_first, owed_more}
-use Rattle.bcast_queue.proofs.Reading.{MovesOn, sound-moved, read-moved}
+use Rattle.bcast_queue.proofs.Reading.{MovesOn, sound-moved, seen-moved, passed_one, read_several}
 use Rattle.bcast_queue.proofs.Queue.read.Goals as goal
 use Rattle.bcast_queue.proofs.Queue.read.Goals.{Then-next-eq1, After-clone, After-change, After-add_readers, else-index-eq0-via-then-index-eq0+else-next-eq1, else-index-eq0-via-else-index-eq0}
 
@@ -109,8 +110,19 @@ add_readers-requires-clause-summed g c =
     let counted = taken _ _ _ c.change-next.new.self c.self.invariant.counted (at g here.After-clone) (reader g here.After-clone) in
     counted.summed ∙ ap (λ e. sum (map next_of (set c.self.inside.ring.items c.args.index e)) + 1) (sym (left g here.After-change))
 
-moves : (g : _) (c : After-add_readers g) → 0 < c.change-next.new.self.next → MovesOn c.self.inside.ring c.add_readers.new.ring c.args.index c.add_readers.new.total c.change-next.new.self
-moves g c some = grind (arith, common_steps, at, left)
+moves : (g : _) (c : After-add_readers g) → slice_get c.self.inside.ring.items c.args.index ≡ Some c.change-next.new.self → 0 < c.change-next.new.self.next → c.change.new.self ≡ fewer c.change-next.new.self
+    → MovesOn c.self.inside.ring c.add_readers.new.ring c.self.inside.total c.add_readers.new.total c.args.index (c.args.index + 1)
+moves g c here some is =
+    let items = c.self.inside.ring.items in
+    let entry = c.change-next.new.self in
+    record {
+      between = map next_of (set items c.args.index (fewer entry));
+      left = taken _ _ _ entry c.self.invariant.counted here some;
+      owed = c.add_readers.ensures.owed ∙ ap (λ e. one_more_from (c.args.index + 1) (owed_by 0 (map next_of (set items c.args.index e)))) is;
+      messages = c.add_readers.ensures.messages ∙ ap (λ e. map message_of (set items c.args.index e)) is ∙ messages-set items c.args.index entry (fewer entry) here refl;
+      summed = c.add_readers.ensures.summed;
+      capacity = c.add_readers.ensures.capacity;
+    }
 
 pub returns-clause-moved : goal.returns-clause-moved
 returns-clause-moved g c =
@@ -122,11 +134,13 @@ returns-clause-cloned g c = grind (arith, common_steps, message)
 pub invariant_of-self-2 : goal.invariant_of-self-2
 invariant_of-self-2 g c =
     let here = goal.at.invariant_of-self-2 g c in
-    sound-moved _ _ _ _ c.args.self.now c.self.invariant c.self.view_is c.args.index (several g here.After-clone)
-    _ _ _ (moves g here.After-add_readers (reader g here.After-clone))
+    sound-moved _ _ _ _ c.args.self.now c.self.invariant c.self.view_is _ _ (several g here.After-clone)
+    _ _ (moves g here.After-add_readers (at g here.After-clone) (reader g here.After-clone) (left g here.After-change))
 
 pub returns-clause-ok : goal.returns-clause-ok
 returns-clause-ok g c =
     let here = goal.at.returns-clause-ok g c in
-    read-moved _ _ _ _ c.args.self.now c.self.invariant c.self.view_is c.args.index (several g here.After-clone)
-    _ _ _ (moves g here.After-add_readers (reader g here.After-clone))
+    let is = IsQueue-seen _ _ _ _ c.args.self.now c.self.invariant c.self.view_is in
+    seen-moved _ _ _ _ c.args.self.now c.self.invariant c.self.view_is _ _ 1 refl _ _ (moves g here.After-add_readers (at g here.After-clone) (reader g here.After-clone) (left g here.After-change))
+    ∙ passed_one c.args.self.now c.args.index (at_least 1 _ is.rises)
+    ∙ sym (read_several c.args.self.now c.args.index (several g here.After-clone))
