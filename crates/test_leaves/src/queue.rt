@@ -8,6 +8,7 @@ use std::marker::Brand;
 use std::sync::ledger::{Blank, Ledger};
 use std::test::Fail;
 
+mod passes;
 mod reads;
 
 fn three_messages<L: Ledger>(queue: &mut Queue<u8>, steps: &mut Steps<L>)

@@ -1,6 +1,7 @@
 //! The calls of both stores, each made only if it is allowed.
 use std::alloc::{AllocError, Global};
 
+mod batches;
 mod compared;
 mod fast;
 mod refused;
