@@ -1,6 +1,7 @@
 //! Channels that their program owns, and promises about them: the examples of docs/CONTRACTS.md.
 #![tactic(auto)]
 
+mod both;
 mod closed;
 mod relay;
 mod two_readers;
@@ -14,7 +15,7 @@ fn main(rt: HostRuntime) -> Result<()> {
     show_refusal(&rt, &mut channel)?;
     let got = relay::relay(rt.alloc(), &[3, 1, 4, 1, 5])?;
     println!(rt; "{got:?}")?;
-    Ok(())
+    both::show_both(&rt, rt.alloc())
 }
 
 fn show_refusal(rt: &impl Print, channel: &mut Inner<u64, Silent>) -> Result<()> {

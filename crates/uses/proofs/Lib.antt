@@ -13,5 +13,6 @@ pub mod Looks
 pub mod Hubs
 -- what readers are still to read
 pub mod Logs
+pub mod Added
 pub mod LogCalls
 pub mod Rooms

@@ -15,11 +15,12 @@ use Rattle.bcast_model.specs.Words.{kept_at, Answers, IsValidView}
 use Rattle.bcast_model.proofs.Cases.{receive_is, uncloned}
 use Rattle.bcast_model.proofs.Clones.{answers_exact}
 use Rattle.bcast_core.proofs.Settle.{settle_same}
-use Rattle.uses.specs.Log.{kept_from, unread, record_of, IsReader, IsLog, IsRead, KeepsReaders, KeepsUnread}
+use Rattle.uses.specs.Log.{kept_from, unread, record_of, IsReader, IsFresh, IsLog, IsRead, KeepsReaders, KeepsUnread}
 use Rattle.uses.specs.Reading.{IsTaken}
 use Rattle.uses.proofs.Called.{told, some_of, valid, after, unchanged}
 use Rattle.uses.proofs.Exact.{answered, exact_of, reply_at}
 use Rattle.uses.proofs.Logs.{told_log, ReadsFrom, told_reads, reads_from}
+use Rattle.uses.proofs.Added.{clone_is_fresh}
 
 module _ {T : Type 0} where
   -- ---- `try_recv`
@@ -96,6 +97,7 @@ module _ {T : Type 0} where
     pub added : IfOk result (λ made. unread w made ≡ unread v key)
     pub others : IfOk result (λ made. KeepsUnread v w made)
     pub reader : IfOk result (IsReader w)
+    pub fresh : IfOk result (IsFresh v)
     pub readers : KeepsReaders v w
 
   pub adds : {is_clone : T → T → Type 0} {v w : View T} {key : ℕ} (result : Result ℕ HandleError) → Answers is_clone v (call.CloneReceiver key) (reply.CloneReceiver result) w → IsLog v → Adds v w key result
@@ -105,8 +107,8 @@ module _ {T : Type 0} where
         let at = some_of (cursor_of v.control key) there.0 in
         let s : ReadsFrom v w made at.0 = after a (λ u. ReadsFrom v u made at.0) (λ u s. told_reads v u made at.0 s)
         (subst (λ o. ReadsFrom v (settle v (sets (clone_receiver v.control o (Some made)))) made at.0) (sym at.1) (reads_from v made at.0 log (log.reach key at.0 at.1))) in
-        record { log = s.log; added = s.own ∙ sym (ap (kept_from v) at.1); others = s.others; reader = s.reader; readers = s.readers }
+        record { log = s.log; added = s.own ∙ sym (ap (kept_from v) at.1); others = s.others; reader = s.reader; fresh = clone_is_fresh a; readers = s.readers }
   ]
   adds {v = v} {w = w} {key = key} (Err error) a log =
       let same : w ≡ v = unchanged a (ap (λ c. sets c) (uncloned v.control (cursor_of v.control key))) refl in
-      subst (λ u. Adds v u key (Err error)) (sym same) (record { log = log; added = tt; others = tt; reader = tt; readers = λ other is. is })
+      subst (λ u. Adds v u key (Err error)) (sym same) (record { log = log; added = tt; others = tt; reader = tt; fresh = tt; readers = λ other is. is })

@@ -10,3 +10,5 @@ pub mod Hub
 pub mod Log
 -- sends with room, and reads in order
 pub mod Reading
+-- one more receiver, with as much room as before
+pub mod Added

@@ -20,6 +20,10 @@ module _ {T : Type 0} where
   abbrev pub IsReader : View T → ℕ → Type 0
   IsReader v reader = IsSome (get v.control.cursors reader)
 
+  -- no reader has this key
+  abbrev pub IsFresh : View T → ℕ → Type 0
+  IsFresh v key = (reader : ℕ) → IsReader v reader → reader ≢ key
+
   -- a full log refuses, so nobody misses a record
   pub record IsLog (v : View T) : Type 0 where
     pub overflow : v.control.overflow ≡ false

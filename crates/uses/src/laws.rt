@@ -1,6 +1,7 @@
 //! Laws of what is seen of a channel without overflow, on which callers rely from one call to the
 //! next.
 ghost use Rattle.uses.specs.Reading.{OpensWithRoom, SendsWithRoom, ReadsInOrder};
+ghost use Rattle.uses.specs.Added.{ClonesWithRoom, AddsWithRoom};
 
 /// Law: a new channel has room for as many messages as its capacity, if that is not the greatest
 /// `usize`, and its receiver has none to read.
@@ -17,4 +18,16 @@ pub fn sends_with_room<T>()
 /// Law: if a clone equals its original, each reader is given the messages in the order of sending.
 pub fn reads_in_order<T: Clone>()
     ensures { ReadsInOrder T.is_clone }
+{}
+
+/// Law: a clone of a receiver has a key of its own, and is still to read what its original is. What
+/// the others are still to read stays, and so does the room.
+pub fn clones_with_room<T>()
+    ensures { ClonesWithRoom T }
+{}
+
+/// Law: a new receiver has a key of its own, and nothing to read yet. What the others are still to
+/// read stays, and so does the room.
+pub fn adds_with_room<T>()
+    ensures { AddsWithRoom T }
 {}

@@ -4,7 +4,7 @@ ghost use Rattle.bcast_model.specs.Words.{unsent_message, NoClone, opening, Answ
 ghost use Rattle.bcast_model.specs.declared.run.Call.TheVariants as call;
 ghost use Rattle.bcast_model.specs.declared.run.Reply.TheVariants as reply;
 ghost use Rattle.uses.specs.Sends.{send_answer, send_reply};
-ghost use Rattle.uses.specs.Log.{unread, record_of, IsReader, KeepsReaders, AddsUnread, KeepsUnread, IsRead};
+ghost use Rattle.uses.specs.Log.{unread, record_of, IsReader, IsFresh, KeepsReaders, AddsUnread, KeepsUnread, IsRead};
 
 use bcast_core::{HandleError, Inner, Silent, TryRecvError, TrySendError};
 use std::alloc::{AllocError, Global};
@@ -85,6 +85,7 @@ impl Log {
         ensures added { IfOk result (λ made. unread self.new made ≡ unread self.old reader) }
         ensures others { IfOk result (λ made. KeepsUnread self.old self.new made) }
         ensures reader { IfOk result (IsReader self.new) }
+        ensures fresh { IfOk result (IsFresh self.old) }
         ensures readers { KeepsReaders self.old self.new }
         ensures err { OnErr result (self.new ≡ self.old) }
         ensures gone { IsErrOf result HandleError.Gone ↔ (IsReader self.old reader → ⊥) }

@@ -13,5 +13,8 @@ returns-clause-others c = rw (← c.self.view_is) (adds c.clone_receiver.result 
 pub returns-clause-reader : goal.returns-clause-reader
 returns-clause-reader c = (adds c.clone_receiver.result c.clone_receiver.ensures c.self.invariant).reader
 
+pub returns-clause-fresh : goal.returns-clause-fresh
+returns-clause-fresh c = rw (← c.self.view_is) (adds c.clone_receiver.result c.clone_receiver.ensures c.self.invariant).fresh
+
 pub returns-clause-readers : goal.returns-clause-readers
 returns-clause-readers c = rw (← c.self.view_is) (adds c.clone_receiver.result c.clone_receiver.ensures c.self.invariant).readers
