@@ -1,2 +1,4 @@
 -- tries of one call
 pub mod Trying
+-- receives in a row
+pub mod Batches

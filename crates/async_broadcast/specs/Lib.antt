@@ -17,3 +17,5 @@ pub mod Snapshots
 pub mod Timed
 -- how a view is stored
 pub mod Encodings
+-- several messages in one call
+pub mod Batch

@@ -15,6 +15,11 @@ abbrev pub IsSame : {T P : Type 0} → (P → Call T → Reply T → Type 0) →
 IsSame {T} {P} gave port other =
     (call : Call T) (reply : Reply T) → gave port call reply ↔ gave other call reply
 
+-- the port gave this reply to this call, and that is what its caller learned
+abbrev pub Gives : {T P K : Type 0} → (P → Call T → Reply T → Type 0)
+    → (K → Call T → Reply T → K → Type 0) → P → K → Call T → Reply T → K → Type 0
+Gives gave learns port before call reply after = gave port call reply × learns before call reply after
+
 -- `recv_blocking`: its result, as `try_recv` returns it
 abbrev pub as_try_recv : {T : Type 0} → Result (Result T RecvError) AllocError
     → Result (Result T TryRecvError) AllocError

@@ -1,5 +1,5 @@
--- What calls with a limit of time return, and a loop that blocks.
-use Rattle.std.specs.Prelude.{◌≡◌, ℕ, List, ◌++◌, codes, Option, Some, None, Result, Ok, Err}
+-- What calls with a limit of time return, and what loops over a receiver do.
+use Rattle.std.specs.Prelude.{◌≡◌, ◌⊎◌, ℕ, List, ◌++◌, codes, Option, Some, None, Result, Ok, Err}
 use Rattle.std.specs.Fmt.{decimal}
 use Rattle.std.specs.declared.alloc.AllocError.{AllocError}
 use Rattle.bcast_model.specs.declared.error.RecvError.{RecvError}
@@ -38,6 +38,11 @@ module _ {T : Type 0} where
   -- an item isn't `Closed`, which ends the loop
   abbrev pub IsNoEnd : Result (Result T RecvError) AllocError → Type 0
   IsNoEnd received = received ≡ Ok (Err unreceived.Closed) → ⊥
+
+  -- `try_iter`: the loop ends where `try_recv` finds nothing, or if no turn is left
+  abbrev pub EndsLoop : (Result (Result T TryRecvError) AllocError → Type 0) → ℕ → Type 0
+  EndsLoop Found turns =
+      Found (Ok (Err unread.Empty)) ⊎ Found (Ok (Err unread.Closed)) ⊎ (turns ≡ 0)
 
   -- `SendTimeoutError::into_inner`: the message that was not sent
   abbrev pub unsent_message : SendTimeoutError T → T

@@ -1,6 +1,7 @@
 //! The journal that a lock may keep of the calls on its channel.
 ghost use Rattle.std.specs.Prelude.{◌≡◌, false};
 ghost use Rattle.bcast_model.specs.Words.{Answers, HasPositiveCapacity};
+ghost use Rattle.bcast_core.specs.Batch.{ReceivesEach};
 
 use crate::wake::Wake;
 use bcast_core::{CallOf, Inner};
@@ -59,6 +60,24 @@ pub trait CallJournal<T: Clone>: Sized + Drop {
         ensures records { ∥ records self.new after.now ∥₁ }
         ensures learned { learns caller.old (C.call call.now.value)
             (C.reply call.now.value answer.now) caller.new };
+
+    /// Records `TryRecv`s of the receiver `key` that this caller made, one after the other, each of
+    /// which gave the next of these messages.
+    fn append_receives<A: Allocator + Copy>(
+        &mut self,
+        rt: &impl Wait,
+        caller: &mut Self::Caller,
+        key: usize,
+        msgs: &[T],
+        before: &Snapshot<Inner<T, Wake, A>>,
+        after: &Inner<T, Wake, A>,
+    )
+        requires fits { fits caller.old before.now.value }
+        requires recorded { ∥ records self.old before.now.value ∥₁ }
+        requires received { ReceivesEach (Answers T.is_clone) key
+            before.now.value msgs.now after.now }
+        ensures records { ∥ records self.new after.now ∥₁ }
+        ensures learned { ReceivesEach learns key caller.old msgs.now caller.new };
 }
 
 /// The journal of a channel that `broadcast` made: it records nothing.
@@ -93,6 +112,17 @@ impl<T: Clone> CallJournal<T> for NoJournal {
         _caller: &mut (),
         _call: &Snapshot<C>,
         _answer: &C::Answer,
+        _before: &Snapshot<Inner<T, Wake, A>>,
+        _after: &Inner<T, Wake, A>,
+    ) {}
+
+    #[inline(always)]
+    fn append_receives<A: Allocator + Copy>(
+        &mut self,
+        _rt: &impl Wait,
+        _caller: &mut (),
+        _key: usize,
+        _msgs: &[T],
         _before: &Snapshot<Inner<T, Wake, A>>,
         _after: &Inner<T, Wake, A>,
     ) {}

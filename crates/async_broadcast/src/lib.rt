@@ -19,6 +19,7 @@
 //! ```
 #![tactic(auto)]
 
+mod batch;
 mod future;
 mod handle;
 mod inactive;
@@ -34,6 +35,7 @@ mod text;
 mod timed;
 mod wake;
 
+pub use batch::put_last;
 pub use bcast_core::{
     Call, HandleError, Kind, Messages, NoMemory, RecvError, Reply, SendError, SendPoll, Snapshot,
     TryRecvError, TrySendError, Waiting,
@@ -41,7 +43,7 @@ pub use bcast_core::{
 pub use future::{Recv, Send};
 pub use handle::{Handle, Role};
 pub use inactive::{Inactive, InactiveReceiver};
-pub use iter::Iter;
+pub use iter::{Iter, TryIter};
 pub use journal::{CallJournal, NoJournal};
 pub use lock::{Lock, LockInactiveReceiver, LockReceiver, LockSender, broadcast};
 pub use port::{Ask, Port, PortFor, TimedPort, TimedPortFor};

@@ -196,6 +196,29 @@ impl<T: Clone, R: Wait + Clone, A: Allocator + Copy, J: CallJournal<T>> PortFor<
         answer_of_receive(self.make_until(caller, &Receives { key }, TryRecv(key), &NoLimit))
     }
 
+    // One lock for all of them.
+    #[inline(always)]
+    fn receive_many<B: Allocator>(
+        &self,
+        caller: &mut J::Caller,
+        key: usize,
+        limit: usize,
+        msgs: &mut Vec<T, B>,
+    ) -> usize {
+        let channel = &*self.channel;
+        let mut guard = lock!(channel, &self.rt);
+        let state = &mut *guard;
+        state.journal.check(&self.rt, caller, &state.inner);
+        let before = std::snapshot::Snapshot::of(&state.inner);
+        let start = msgs.len();
+        let count = state.inner.receive_many(key, limit, msgs);
+        state.journal.append_receives(&self.rt, caller, key, &msgs[start..], &before, &state.inner);
+        if let Some(woken) = state.threads.choose_woken(&state.inner) {
+            channel.unlock(guard, woken);
+        }
+        count
+    }
+
     ghost lacks_memory = { λ _. ⊤ };
 
     fn try_clone(&self) -> Option<Self> {

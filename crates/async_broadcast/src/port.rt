@@ -1,15 +1,16 @@
 //! Ports: how a handle calls its channel.
-ghost use Rattle.std.specs.Prelude.{◌≡◌, ◌⊎◌, true, false, IfSome, IfNone, IfOk, IfErr, OnErr};
+ghost use Rattle.std.specs.Prelude.{◌≡◌, ◌≤◌, ◌⊎◌, true, false, IfSome, IfNone, IfOk, IfErr, OnErr};
 ghost use Rattle.futures.specs.Task.{IsArmed, Keeps};
 ghost use Rattle.bcast_model.specs.Words.{must_wait, HasPositiveCapacity};
-ghost use Rattle.async_broadcast.specs.Ports.{IsSame, as_try_recv};
+ghost use Rattle.bcast_core.specs.Batch.{ReceivesInto};
+ghost use Rattle.async_broadcast.specs.Ports.{Gives, IsSame, as_try_recv};
 ghost use Rattle.async_broadcast.specs.Timed.{as_attempt, as_timed_try};
 
 use crate::timed::{RecvTimeoutError, SendTimeoutError};
 use crate::wake::{TaskWaker, Wake};
 use bcast_core::{AtOnce, Call, Change, Polls, RecvError, Reply, SendError, SendPoll};
 use futures::task::Context;
-use std::alloc::AllocError;
+use std::alloc::{AllocError, Allocator};
 use std::time::Duration;
 
 /// The way from a handle to its channel: it makes a call, and returns its reply.
@@ -105,6 +106,23 @@ pub trait PortFor<T: Clone, K: Drop>: Ask<T, K> {
             (Reply.TryRecv (as_try_recv result)) }
         ensures learned { Self.learns caller.old (Call.TryRecv key)
             (Reply.TryRecv (as_try_recv result)) caller.new };
+
+    /// Receives those messages that are there for the receiver `key`, at most `limit`, by a `TryRecv`
+    /// for each: puts them last into `msgs`, and returns how many they are. A port that can't make
+    /// several calls at once receives none.
+    fn receive_many<B: Allocator>(
+        &self,
+        caller: &mut K,
+        key: usize,
+        limit: usize,
+        msgs: &mut Vec<T, B>,
+    ) -> usize
+        ensures at_most { result ≤ limit }
+        ensures received { ReceivesInto (Gives Self.gave Self.learns self.now) key
+            caller.old msgs.old.items result msgs.new.items caller.new }
+    {
+        0
+    }
 
     // Holds of a port that may be out of memory for another one.
     ghost lacks_memory: { Self → Type 0 };

@@ -14,3 +14,6 @@ pub mod Untold
 pub mod Tail
 pub mod ReceivePolls
 pub mod SendPolls
+pub mod Batches
+pub mod SharedReceives
+pub mod OwnReceives

@@ -12,3 +12,5 @@ pub mod Telling
 pub mod Kinds
 -- which call each value of a type of calls is
 pub mod Calls
+-- receives in a row
+pub mod Batch

@@ -9,6 +9,7 @@ use bcast_waiting::{Event, SendList};
 use std::alloc::{Allocator, Global};
 use std::marker::Model;
 
+mod batch;
 mod handles;
 mod leaving;
 mod listeners;

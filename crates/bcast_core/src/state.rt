@@ -11,6 +11,7 @@ use bcast_waiting::notice::Notice;
 use std::alloc::{AllocError, Allocator, Global};
 use std::marker::Model;
 
+mod batch;
 mod handles;
 mod poll;
 mod receive;

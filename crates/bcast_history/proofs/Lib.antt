@@ -12,6 +12,8 @@ pub mod Polls
 pub mod Polled
 pub mod Received
 pub mod Skipped
+-- several messages in one call
+pub mod Batches
 -- where a receiver starts
 pub mod Started
 pub mod Making

@@ -13,5 +13,7 @@ pub mod Laws
 pub mod Reader
 pub mod Log
 pub mod Closed
+-- several messages in one call
+pub mod Batch
 -- a channel before it has a name
 pub mod Opened

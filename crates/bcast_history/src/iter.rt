@@ -1,14 +1,14 @@
-//! A loop over the messages of a tracked receiver, which blocks the thread.
-ghost use Rattle.std.specs.Prelude.{◌≡◌, IfSome};
+//! Loops over the messages of a tracked receiver: one that blocks the thread, and one that doesn't.
+ghost use Rattle.std.specs.Prelude.{◌≡◌, ◌-◌, IfSome, IfNone};
 ghost use Rattle.std.specs.Iterator.{at_most};
 ghost use Rattle.std.specs.Sync.Forever.{forever_left};
 ghost use Rattle.async_broadcast.specs.Ports.{as_try_recv};
-ghost use Rattle.async_broadcast.specs.Timed.{as_received, IsNoEnd};
+ghost use Rattle.async_broadcast.specs.Timed.{as_received, IsNoEnd, EndsLoop};
 
 use crate::port::HistoryPort;
 use crate::receiver::TrackedReceiver;
 use crate::tracker::Channel;
-use async_broadcast::RecvError;
+use async_broadcast::{RecvError, TryRecvError};
 use std::alloc::AllocError;
 use std::sync::{Forever, Wait};
 
@@ -33,6 +33,19 @@ impl<T: Clone, P: HistoryPort<T, J>, J: Channel> TrackedReceiver<T, P, J> {
             turns: rt.forever(),
         }
     }
+
+    /// Receives in a loop what is there now, and never waits for a message: as
+    /// `Receiver::try_iter`.
+    pub fn try_iter(&mut self) -> TrackedTryIter<'_, T, P, J>
+        ensures lent { result.receiver.now ≡ self.old }
+        ensures same { result.receiver.ghost_name ≡ self.entry.ghost_name }
+        ensures turns { result.turns ≡ u64.MAX }
+    {
+        TrackedTryIter {
+            receiver: self,
+            turns: u64::MAX,
+        }
+    }
 }
 
 impl<T: Clone, P: HistoryPort<T, J>, J: Channel, R: Wait> Iterator for TrackedIter<'_, T, P, J, R> {
@@ -54,6 +67,44 @@ impl<T: Clone, P: HistoryPort<T, J>, J: Channel, R: Wait> Iterator for TrackedIt
         match self.receiver.recv_blocking() {
             Ok(Err(RecvError::Closed)) => None,
             received => Some(received),
+        }
+    }
+}
+
+/// What a tracked receiver finds, for a loop that never waits for a message: as `TryIter` of
+/// `async_broadcast`. Each item is what `try_recv` returns; at `Empty` and at `Closed` it ends.
+#[derive(Drop)]
+pub struct TrackedTryIter<'a, T: Clone, P: HistoryPort<T, J>, J: Channel> {
+    receiver: &'a mut TrackedReceiver<T, P, J>,
+    // How many turns of the loop are left, so that a proof about it has an end.
+    turns: u64,
+}
+
+impl<T: Clone, P: HistoryPort<T, J>, J: Channel> Iterator for TrackedTryIter<'_, T, P, J> {
+    type Item = Result<Result<T, RecvError>, AllocError>;
+
+    ghost use mathlib.Core.List.{IsPrefix};
+    ghost use Rattle.bcast_history.specs.Reader.{Takes};
+
+    ghost next_gives = { λ old item new.
+        (new.receiver.now.place.key ≡ old.receiver.now.place.key)
+        × IsPrefix old.receiver.now.place.steps new.receiver.now.place.steps
+        × (new.turns ≡ old.turns - 1)
+        × IfSome item (λ received. IsNoEnd received × Takes T.is_clone J.opening
+        old.receiver.now.place new.receiver.now.place (as_try_recv received))
+        × IfNone item (EndsLoop (Takes T.is_clone J.opening
+        old.receiver.now.place new.receiver.now.place) old.turns)
+        × (old.turns ≡ 0 → new.receiver.now.place ≡ old.receiver.now.place) };
+
+    ghost remaining = { λ iter. at_most iter.turns };
+
+    fn next(&mut self) -> Option<Result<Result<T, RecvError>, AllocError>> {
+        self.turns = self.turns.checked_sub(1)?;
+        match self.receiver.try_recv() {
+            Ok(Ok(msg)) => Some(Ok(Ok(msg))),
+            Ok(Err(TryRecvError::Overflowed(n))) => Some(Ok(Err(RecvError::Overflowed(n)))),
+            Ok(Err(TryRecvError::Empty | TryRecvError::Closed)) => None,
+            Err(error) => Some(Err(error)),
         }
     }
 }

@@ -21,6 +21,7 @@ use bcast_core::{
 use std::alloc::AllocError;
 use std::time::Duration;
 
+mod batch;
 mod polling;
 
 /// Receives each message that a channel with a history accepts, from the receiver's start on, or the

@@ -1,6 +1,8 @@
 //! The journal of such a channel: the steps on it.
-ghost use Rattle.std.specs.Prelude.{◌≡◌, [], false};
+ghost use Rattle.std.specs.Prelude.{◌≡◌, ◌<◌, ◌++◌, [], length, map, false};
+ghost use mathlib.Core.List.{IsPrefix};
 ghost use Rattle.bcast_model.specs.Words.{IsValid};
+ghost use Rattle.bcast_history.specs.Batch.{received};
 ghost use Rattle.bcast_history.specs.History.{start_of, end_of};
 
 use crate::journal::{Journal, Notes, Writer, wait_forever};
@@ -66,6 +68,37 @@ impl<'a, T, C: CallOf<T>> Notes<Step<T>> for ShownStep<'a, T, C> {
     } };
 }
 
+// A receive that gave this message, as a step.
+#[derive(Drop)]
+struct ShownReceive<'a, T> {
+    key: usize,
+    msg: &'a T,
+}
+
+impl<'a, T> Notes<Step<T>> for ShownReceive<'a, T> {
+    ghost use Rattle.bcast_history.specs.Batch.{received};
+
+    ghost note = { λ shown. received shown.key shown.msg.now };
+}
+
+// Appends a receive by this receiver for each of these messages, in their order.
+fn append_each<T: Clone, J: Channel>(
+    writer: &mut Writer<Step<T>, J>,
+    rt: &impl Wait,
+    known: &mut Seen<T, J>,
+    key: usize,
+    msgs: &[T],
+)
+    ensures appended { writer.new ≡ writer.old ++ map (received key) msgs.now }
+    ensures before { 0 < length msgs.now → IsPrefix known.old writer.old }
+    ensures knows { 0 < length msgs.now → known.new ≡ writer.new }
+    ensures same { length msgs.now ≡ 0 → known.new ≡ known.old }
+{
+    for msg in msgs {
+        writer.append(rt, known, &ShownReceive { key, msg });
+    }
+}
+
 impl<T: Clone, J: Channel> CallJournal<T> for StepJournal<T, J> {
     ghost use Rattle.bcast_model.specs.Words.{Represents};
     ghost use Rattle.bcast_history.specs.History.{end_of};
@@ -116,5 +149,24 @@ impl<T: Clone, J: Channel> CallJournal<T> for StepJournal<T, J> {
         caller.closed = after.is_closed();
         let next = next_in(after, caller.key);
         caller.next = next;
+    }
+
+    fn append_receives<A: Allocator + Copy>(
+        &mut self,
+        rt: &impl Wait,
+        caller: &mut Tracker<T, J>,
+        key: usize,
+        msgs: &[T],
+        _before: &Snapshot<Inner<T, Wake, A>>,
+        after: &Inner<T, Wake, A>,
+    ) {
+        if msgs.is_empty() {
+            return;
+        }
+        append_each(&mut self.writer, rt, &mut caller.seen, key, msgs);
+        caller.end = after.end_number();
+        caller.closed = after.is_closed();
+        let behind = next_in(after, caller.key);
+        caller.next = behind;
     }
 }

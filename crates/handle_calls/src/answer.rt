@@ -24,6 +24,8 @@ pub enum Answer {
     /// The time of a send is over.
     NotInTime(u64),
     Message(u64),
+    /// How many messages a batch has, and its first four, with 0 for each that it lacks.
+    Messages(usize, [u64; 4]),
     Overflowed(u64),
     Empty,
     /// The time of a receive is over.
@@ -42,7 +44,8 @@ pub enum Answer {
     Is(bool),
     /// What all handles see.
     All(Seen),
-    /// The handles of the channel don't all see the same.
+    /// The handles of the channel don't all see the same, or a batch counts not as many messages as
+    /// it gave.
     Differs,
     Done,
 }
@@ -112,6 +115,53 @@ impl Answer {
             Ok(Err(RecvTimeoutError::Closed)) => Answer::Ended,
             Err(_) => Answer::NoMemory,
         }
+    }
+
+    /// What `try_recv_many` returned, with what it put into an empty list.
+    pub fn of_try_recv_many(
+        answer: Result<Result<usize, TryRecvError>, AllocError>,
+        msgs: &[u64],
+    ) -> Self {
+        match answer {
+            Ok(Ok(count)) => Answer::of_batch(count, msgs),
+            Ok(Err(error)) => Answer::of_try_recv(Ok(Err(error))),
+            Err(refused) => Answer::of_try_recv(Err(refused)),
+        }
+    }
+
+    /// What `recv_many_blocking` returned, with what it put into an empty list.
+    pub fn of_recv_many(
+        answer: Result<Result<usize, RecvError>, AllocError>,
+        msgs: &[u64],
+    ) -> Self {
+        match answer {
+            Ok(Ok(count)) => Answer::of_batch(count, msgs),
+            Ok(Err(error)) => Answer::of_recv(Err(error)),
+            Err(_) => Answer::NoMemory,
+        }
+    }
+
+    /// What `recv_many_timeout` returned, with what it put into an empty list.
+    pub fn of_timed_recv_many(
+        answer: Result<Result<usize, RecvTimeoutError>, AllocError>,
+        msgs: &[u64],
+    ) -> Self {
+        match answer {
+            Ok(Ok(count)) => Answer::of_batch(count, msgs),
+            Ok(Err(error)) => Answer::of_timed_recv(Ok(Err(error))),
+            Err(refused) => Answer::of_timed_recv(Err(refused)),
+        }
+    }
+
+    fn of_batch(count: usize, msgs: &[u64]) -> Self {
+        if count != msgs.len() {
+            return Answer::Differs;
+        }
+        let mut first = [0; 4];
+        for (slot, msg) in first.iter_mut().zip(msgs) {
+            *slot = *msg;
+        }
+        Answer::Messages(count, first)
     }
 
     /// What a receive that may wait returned.

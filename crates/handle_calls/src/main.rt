@@ -12,7 +12,9 @@
 //! Every other line is `SUBJECT INDEX METHOD`, or has an argument as well. The subjects `sender`,
 //! `receiver` and `inactive` are numbered in the order of making; `send` and `recv` are the held
 //! futures; `task` is one of four that poll; `handles` writes what all handles see, and `port` sets
-//! how recording ports reply. A line that begins with `#` is written back.
+//! how recording ports reply. The argument of `try_recv_many`, `recv_many_blocking` and
+//! `recv_many_timeout`, whose time is over at once, is the limit of the batch. A line that begins
+//! with `#` is written back.
 #![tactic(auto)]
 
 mod answer;

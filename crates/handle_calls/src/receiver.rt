@@ -8,11 +8,12 @@ use bcast_text::input::Fault;
 use futures::StreamExt;
 use futures::task::Poll;
 use futures::test::MockTask;
-use std::alloc::Allocator;
+use std::alloc::{Allocator, Global};
 use std::time::Duration;
 
 /// Makes a call on a receiver: one of its own, or one that every handle has.
 fn answer<P: TimedPort<u64>, A: Allocator + Copy>(
+    alloc: Global,
     receiver: &mut Receiver<u64, P, A>,
     method: &str,
     argument: Option<u64>,
@@ -24,6 +25,9 @@ fn answer<P: TimedPort<u64>, A: Allocator + Copy>(
             let received = receiver.recv_timeout(Duration::from_nanos(nanoseconds));
             Some(Answer::of_timed_recv(received))
         }
+        ("try_recv_many", Some(limit)) => Some(tried_many(alloc, receiver, limit as usize)),
+        ("recv_many_blocking", Some(limit)) => Some(received_many(alloc, receiver, limit as usize)),
+        ("recv_many_timeout", Some(limit)) => Some(timed_many(alloc, receiver, limit as usize)),
         ("is_terminated", None) => Some(Answer::Is(receiver.is_terminated())),
         _ => Some(by_handle(receiver, setting_of(method, argument)?)),
     }
@@ -34,6 +38,37 @@ fn received<P: TimedPort<u64>, A: Allocator + Copy>(receiver: &mut Receiver<u64,
         Ok(answer) => Answer::of_recv(answer),
         Err(_) => Answer::NoMemory,
     }
+}
+
+fn tried_many<P: TimedPort<u64>, A: Allocator + Copy>(
+    alloc: Global,
+    receiver: &mut Receiver<u64, P, A>,
+    limit: usize,
+) -> Answer {
+    let mut msgs = Vec::new(alloc);
+    let answer = receiver.try_recv_many(limit, &mut msgs);
+    Answer::of_try_recv_many(answer, msgs.as_slice())
+}
+
+fn received_many<P: TimedPort<u64>, A: Allocator + Copy>(
+    alloc: Global,
+    receiver: &mut Receiver<u64, P, A>,
+    limit: usize,
+) -> Answer {
+    let mut msgs = Vec::new(alloc);
+    let answer = receiver.recv_many_blocking(limit, &mut msgs);
+    Answer::of_recv_many(answer, msgs.as_slice())
+}
+
+// The time is over at once.
+fn timed_many<P: TimedPort<u64>, A: Allocator + Copy>(
+    alloc: Global,
+    receiver: &mut Receiver<u64, P, A>,
+    limit: usize,
+) -> Answer {
+    let mut msgs = Vec::new(alloc);
+    let answer = receiver.recv_many_timeout(limit, &mut msgs, Duration::from_nanos(0));
+    Answer::of_timed_recv_many(answer, msgs.as_slice())
 }
 
 fn poll_recv<P: TimedPort<u64>, A: Allocator + Copy>(
@@ -69,9 +104,10 @@ fn poll_future<P: TimedPort<u64>, A: Allocator + Copy>(
 }
 
 impl<P: TimedPort<u64>, A: Allocator + Copy> Handles<P, A> {
-    /// Makes a call on the receiver of this number.
+    /// Makes a call on the receiver of this number. Batches are put into lists from `alloc`.
     pub fn by_receiver(
         &mut self,
+        alloc: Global,
         index: usize,
         method: &str,
         argument: Option<u64>,
@@ -94,7 +130,7 @@ impl<P: TimedPort<u64>, A: Allocator + Copy> Handles<P, A> {
             }
             "deactivate" => self.deactivate(index),
             "drop" => self.drop_receiver(index),
-            _ => answer(receiver, method, argument).ok_or(Fault::NotACall),
+            _ => answer(alloc, receiver, method, argument).ok_or(Fault::NotACall),
         }
     }
 

@@ -48,6 +48,7 @@ impl Ports for Recorder {
 /// The handles of one channel, and the tasks that poll.
 #[derive(Drop)]
 pub struct Session<P: TimedPort<u64>, A: Allocator> {
+    alloc: Global,
     pub tasks: Vec<MockTask>,
     pub handles: Handles<P, A>,
 }
@@ -56,6 +57,7 @@ impl<P: TimedPort<u64>, A: Allocator + Copy> Session<P, A> {
     /// No handles yet, and the tasks.
     pub fn new(alloc: Global, tasks: Vec<MockTask>) -> Self {
         Session {
+            alloc,
             tasks,
             handles: Handles::new(alloc),
         }
@@ -88,7 +90,9 @@ impl<P: TimedPort<u64>, A: Allocator + Copy> Session<P, A> {
             Subject::Sender => self.handles.by_sender(index, method, argument),
             Subject::Inactive => self.handles.by_inactive(index, method, argument),
             Subject::Receiver if method.starts_with("poll_") => self.poll_receiver(request),
-            Subject::Receiver => self.handles.by_receiver(index, method, argument),
+            Subject::Receiver => self
+                .handles
+                .by_receiver(self.alloc, index, method, argument),
             Subject::Task => match self.tasks.get(index) {
                 Some(task) => Ok(Answer::Is(task.is_woken())),
                 None => Err(Fault::NotACall),

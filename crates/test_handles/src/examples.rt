@@ -12,6 +12,7 @@ use std::sync::Wait;
 use std::test::Fail;
 
 mod arena;
+mod batch;
 mod broadcast_and_errors;
 mod in_tasks;
 mod inactive;
@@ -38,12 +39,14 @@ enum Borrows {
     PollRecv,
     ReceiverClone,
     ReceiverNewReceiver,
+    TryIter,
     TryBroadcastAll,
     SenderNewReceiver,
     Modes,
     IsClosed,
     SetCapacity,
     SetOverflow,
+    TryRecvMany,
 }
 
 /// Examples of senders that drop a handle.
@@ -68,6 +71,7 @@ enum Receives {
     Stream,
     TryRecv,
     RecvBlocking,
+    RecvManyBlocking,
     IsTerminated,
     NewSender,
     Deactivate,
@@ -90,12 +94,15 @@ const EXAMPLES: &[(usize, Example)] = &[
     (1, Example::Receives(Receives::Stream)),
     (1, Example::Receives(Receives::TryRecv)),
     (1, Example::Receives(Receives::RecvBlocking)),
+    (3, Example::Borrows(Borrows::TryRecvMany)),
+    (2, Example::Receives(Receives::RecvManyBlocking)),
     (1, Example::Receives(Receives::IsTerminated)),
     (1, Example::Borrows(Borrows::ReceiverClone)),
     (2, Example::Borrows(Borrows::ReceiverNewReceiver)),
     (1, Example::Receives(Receives::NewSender)),
     (1, Example::Receives(Receives::Deactivate)),
     (2, Example::Receives(Receives::Iter)),
+    (2, Example::Borrows(Borrows::TryIter)),
     (1, Example::Sends(Sends::TryBroadcast)),
     (3, Example::Borrows(Borrows::TryBroadcastAll)),
     (1, Example::Sends(Sends::BroadcastBlocking)),
@@ -145,12 +152,14 @@ fn play_borrowing<R: Abort + Wait + RandomSource + AllocGlobal, P: Port<u64>>(
         Borrows::PollRecv => in_tasks::polls(rt, sender, receiver)?,
         Borrows::ReceiverClone => receiver::clones(rt, sender, receiver)?,
         Borrows::ReceiverNewReceiver => receiver::adds_a_receiver(rt, sender, receiver)?,
+        Borrows::TryIter => receiver::loops_over_what_is_there(rt, sender, receiver)?,
         Borrows::TryBroadcastAll => sender::sends_a_list(rt, sender, receiver)?,
         Borrows::SenderNewReceiver => sender::adds_a_receiver(rt, sender, receiver)?,
         Borrows::Modes => sender_settings::changes_modes(rt, sender),
         Borrows::IsClosed => sender_settings::sees_the_end(rt, sender, receiver),
         Borrows::SetCapacity => sender_settings::shrinks(rt, sender, receiver)?,
         Borrows::SetOverflow => sender_settings::overflows(rt, sender, receiver),
+        Borrows::TryRecvMany => batch::tries(rt, rt.alloc(), sender, receiver)?,
     }
     Ok(())
 }
@@ -187,6 +196,7 @@ fn play_receives<R: Abort + Wait + RandomSource + AllocGlobal, P: Port<u64>>(
         Receives::Stream => receiver::streams(rt, sender, receiver)?,
         Receives::TryRecv => receiver::tries(rt, sender, receiver),
         Receives::RecvBlocking => receiver::blocks(rt, sender, receiver),
+        Receives::RecvManyBlocking => batch::blocks(rt, rt.alloc(), sender, receiver)?,
         Receives::IsTerminated => receiver::sees_the_end(rt, sender, receiver),
         Receives::NewSender => receiver::adds_a_sender(rt, sender, receiver)?,
         Receives::Deactivate => receiver::pauses(rt, sender, receiver)?,

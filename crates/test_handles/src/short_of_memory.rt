@@ -95,6 +95,7 @@ where
     );
     assert!(rt; matches!(one.recv_blocking(), Err(AllocError)));
     assert!(rt; matches!(one.iter(rt).next(), Some(Err(AllocError))));
+    assert!(rt; matches!(one.try_iter().next(), Some(Err(AllocError))));
     drop(taken);
     let later = task.poll(&mut one.next());
     assert!(rt; gives(&later, msg), "the message, later");

@@ -241,10 +241,14 @@ where
     assert!(rt; receiver.unread() == 2 && receiver.missed() == 0);
     assert!(rt; of_try_recv(receiver.try_recv()) == Answer::Message(2));
     assert!(rt; receiver.unread() == 1 && receiver.missed() == 0);
+    let mut found = receiver.try_iter();
+    assert!(rt; found.next().map(of_recv) == Some(Answer::Message(3)));
+    assert!(rt; found.next().is_none());
+    send(rt, sender, 4);
     drop(sender.close());
     let mut count = 0u64;
     for received in receiver.iter(rt) {
-        assert!(rt; of_recv(received) == Answer::Message(3));
+        assert!(rt; of_recv(received) == Answer::Message(4));
         count = count.wrapping_add(1);
     }
     assert!(rt; count == 1 && receiver.unread() == 0);

@@ -64,6 +64,24 @@ pub fn loops<R: Abort + Wait, P: Port<u64>>(
     Ok(())
 }
 
+// Of `try_iter`.
+pub fn loops_over_what_is_there<P: Port<u64>>(
+    rt: &impl Abort,
+    sender: &Sender<u64, P>,
+    receiver: &mut Receiver<u64, P>,
+) -> Result<(), Fail> {
+    assert!(rt; sender.try_broadcast(1).is_ok());
+    assert!(rt; sender.try_broadcast(2).is_ok());
+    let mut count = 0u64;
+    for received in receiver.try_iter() {
+        count = count.wrapping_add(1);
+        assert!(rt; received? == Ok(count));
+    }
+    assert!(rt; count == 2);
+    assert!(rt; receiver.try_iter().next().is_none());
+    Ok(())
+}
+
 // Of `is_terminated`.
 pub fn sees_the_end<P: Port<u64>>(
     rt: &impl Abort,

@@ -1,4 +1,4 @@
-//! Of `timed.rt`, whose calls ask a clock.
+//! Of `timed.rt`, and one of `batch.rt`, whose calls ask a clock.
 use async_broadcast::{RecvTimeoutError, SendTimeoutError, broadcast};
 use std::test::Fail;
 use std::time::Duration;
@@ -29,5 +29,23 @@ fn receives_in_time(rt: HostRuntime) -> Result<(), Fail> {
     assert!(&rt; matches!(receiver.recv_timeout(limit), Ok(Ok(7))));
     let ended = receiver.recv_timeout(limit);
     assert!(&rt; matches!(ended, Ok(Err(RecvTimeoutError::Closed))));
+    Ok(())
+}
+
+// Of `recv_many_timeout`.
+#[test]
+fn receives_many_in_time(rt: HostRuntime) -> Result<(), Fail> {
+    let (sender, mut receiver) = broadcast(rt, rt.alloc(), 2)?;
+    let time = Duration::from_millis(1);
+    let mut msgs = Vec::new(rt.alloc());
+    let received = receiver.recv_many_timeout(16, &mut msgs, time)?;
+    assert!(&rt; received == Err(RecvTimeoutError::Timeout));
+    assert!(&rt; sender.try_broadcast(7).is_ok());
+    assert!(&rt; sender.try_broadcast(8).is_ok());
+    drop(sender);
+    assert!(&rt; receiver.recv_many_timeout(16, &mut msgs, time)? == Ok(2));
+    assert!(&rt; msgs.as_slice() == [7, 8].as_slice());
+    let ended = receiver.recv_many_timeout(16, &mut msgs, time)?;
+    assert!(&rt; ended == Err(RecvTimeoutError::Closed));
     Ok(())
 }

@@ -1,0 +1,80 @@
+//! Receiving several messages at once.
+ghost use Rattle.std.specs.Prelude.{◌≡◌, ◌<◌, ◌≤◌, vec_len, vec_capacity};
+ghost use Rattle.std.specs.Prelude.{IfOk, IfSome, IfNone, OnErr};
+ghost use mathlib.Core.List.{IsPrefix};
+ghost use Rattle.async_broadcast.specs.Ports.{as_try_recv};
+ghost use Rattle.bcast_history.specs.Batch.{TakesInto, TakesMany};
+
+use super::TrackedReceiver;
+use crate::place::Place;
+use crate::port::HistoryPort;
+use crate::tracker::Channel;
+use async_broadcast::put_last;
+use bcast_core::{RecvError, TryRecvError};
+use std::alloc::{AllocError, Allocator};
+
+impl<T: Clone, P: HistoryPort<T, J>, J: Channel> TrackedReceiver<T, P, J> {
+    /// Receives the messages that are there, at most `limit`, puts them last into `msgs`, and returns
+    /// how many they are: as `Receiver::try_recv_many`, with its errors. Each is a step.
+    pub fn try_recv_many<B: Allocator>(
+        &mut self,
+        limit: usize,
+        msgs: &mut Vec<T, B>,
+    ) -> Result<Result<usize, TryRecvError>, AllocError>
+        ensures key { self.new.place.key ≡ self.old.place.key }
+        ensures seen { IsPrefix self.old.place.steps self.new.place.steps }
+        ensures takes { TakesMany T.is_clone J.opening (λ tried. tried) limit self.old.place
+            msgs.old.items result msgs.new.items self.new.place }
+    {
+        match self.receive_kept(limit, msgs)? {
+            Some(count) => Ok(Ok(count)),
+            None => put_last(self.try_recv(), msgs),
+        }
+    }
+
+    /// Receives the messages that are there. If there are none, it blocks the thread until there is
+    /// one, or the channel is closed: as `Receiver::recv_many_blocking`, with its errors. Each try is
+    /// a step.
+    pub fn recv_many_blocking<B: Allocator>(
+        &mut self,
+        limit: usize,
+        msgs: &mut Vec<T, B>,
+    ) -> Result<Result<usize, RecvError>, AllocError>
+        ensures key { self.new.place.key ≡ self.old.place.key }
+        ensures seen { IsPrefix self.old.place.steps self.new.place.steps }
+        ensures takes { TakesMany T.is_clone J.opening as_try_recv limit self.old.place
+            msgs.old.items result msgs.new.items self.new.place }
+    {
+        match self.receive_kept(limit, msgs)? {
+            Some(count) => Ok(Ok(count)),
+            None => put_last(self.recv_blocking(), msgs),
+        }
+    }
+
+    // Receives the messages that are there, at most `limit`, and returns how many they are. `None`:
+    // there are none, and `msgs` has room for one.
+    fn receive_kept<B: Allocator>(
+        &mut self,
+        limit: usize,
+        msgs: &mut Vec<T, B>,
+    ) -> Result<Option<usize>, AllocError>
+        ensures key { self.new.place.key ≡ self.old.place.key }
+        ensures seen { IsPrefix self.old.place.steps self.new.place.steps }
+        ensures some { IfOk result (λ kept. IfSome kept (λ count. (count ≤ limit)
+            × (0 < limit → 0 < count) × TakesInto T.is_clone J.opening self.old.place
+            msgs.old.items count msgs.new.items self.new.place)) }
+        ensures none { IfOk result (λ kept. IfNone kept ((0 < limit)
+            × (self.new.place ≡ self.old.place) × (msgs.new.items ≡ msgs.old.items)
+            × (vec_len msgs.new < vec_capacity msgs.new))) }
+        ensures err { OnErr result ((self.new.place ≡ self.old.place)
+            × (msgs.new.items ≡ msgs.old.items)) }
+    {
+        let Place { key, tracker } = &mut self.place;
+        let count = self.port.receive_many(tracker, *key, limit, msgs);
+        if count > 0 || limit == 0 {
+            return Ok(Some(count));
+        }
+        msgs.reserve(1)?;
+        Ok(None)
+    }
+}

@@ -1,0 +1,146 @@
+//! Batches of messages, each beside as many single receives on another channel.
+ghost use Rattle.bcast_model.specs.Next.{HasPositiveCapacity};
+
+use bcast_core::{Call, Inner, Reply, SendPoll, Silent, TryRecvError, step};
+use futures::task::Poll;
+use rows::{Answer, Asked, ROWS, Row};
+use std::alloc::{AllocError, Global};
+use std::process::Abort;
+use std::test::Fail;
+
+mod refused;
+mod rows;
+
+type Channel = Inner<u64, Silent>;
+
+fn call_of(asked: Asked) -> Call<u64>
+    ensures { HasPositiveCapacity result }
+{
+    match asked {
+        Asked::SetOverflow => Call::SetOverflow(true),
+        Asked::CloneReceiver => Call::CloneReceiver(0),
+        Asked::DropReceiver(key) => Call::DropReceiver(key),
+        Asked::TryBroadcast(msg) => Call::TryBroadcast(msg),
+        Asked::BeginSend => Call::BeginSend,
+        Asked::PollSend(place, msg) => Call::PollSend(place, msg),
+        Asked::PollRecv(key) => Call::PollRecv(key),
+        Asked::TryRecv(key) => Call::TryRecv(key),
+        Asked::Close => Call::Close,
+    }
+}
+
+fn answer_of(reply: &Reply<u64>) -> Answer {
+    match reply {
+        Reply::SetOverflow | Reply::DropReceiver | Reply::Close(true) => Answer::Done,
+        Reply::CloneReceiver(Ok(key)) => Answer::Made(*key),
+        Reply::BeginSend(Ok(place)) => Answer::Made(*place),
+        Reply::TryBroadcast(Ok(None)) | Reply::PollSend(SendPoll::Ready(Ok(None))) => Answer::Sent,
+        Reply::TryBroadcast(Ok(Some(oldest))) => Answer::Dropped(*oldest),
+        Reply::TryBroadcast(Err(_)) => Answer::NotSent,
+        Reply::PollSend(SendPoll::Wait(_)) | Reply::PollRecv(Ok(Poll::Pending)) => Answer::Waits,
+        Reply::TryRecv(Ok(Ok(msg))) => Answer::Message(*msg),
+        Reply::TryRecv(Ok(Err(TryRecvError::Overflowed(missed)))) => Answer::Missed(*missed),
+        Reply::TryRecv(Ok(Err(TryRecvError::Empty))) => Answer::Empty,
+        Reply::TryRecv(Ok(Err(TryRecvError::Closed))) => Answer::Ended,
+        _ => Answer::Other,
+    }
+}
+
+fn ask(inner: &mut Channel, asked: Asked) -> Answer {
+    answer_of(&step(inner, call_of(asked), Silent))
+}
+
+/// Whether a batch gives these messages, behind one that is there before.
+fn gives(
+    alloc: Global,
+    inner: &mut Channel,
+    key: usize,
+    limit: usize,
+    msgs: &[u64],
+) -> Result<bool, AllocError> {
+    let mut given = Vec::from_slice(alloc, &[99])?;
+    let count = inner.receive_many(key, limit, &mut given);
+    let Some((first, given)) = given.as_slice().split_first() else {
+        return Ok(false);
+    };
+    Ok(*first == 99 && given == msgs && count == msgs.len())
+}
+
+/// Whether these messages are given one by one.
+fn gives_each(inner: &mut Channel, key: usize, msgs: &[u64]) -> bool {
+    let mut gives = true;
+    for msg in msgs {
+        gives &= ask(inner, Asked::TryRecv(key)) == Answer::Message(*msg);
+    }
+    gives
+}
+
+/// What `waiting_sends` of a snapshot says is told.
+fn told_sends(alloc: Global, inner: &Channel) -> Result<usize, AllocError> {
+    Ok(inner.snapshot(alloc)?.waiting_sends.told)
+}
+
+/// Whether a row holds on both channels: on the first by batches, and on the other one by single
+/// receives.
+fn holds(
+    alloc: Global,
+    batches: &mut Channel,
+    singles: &mut Channel,
+    row: Row,
+) -> Result<bool, AllocError> {
+    match row {
+        Row::Call(asked, answer) => {
+            Ok(ask(batches, asked) == answer && ask(singles, asked) == answer)
+        }
+        Row::Batch(key, limit, msgs) => {
+            Ok(gives(alloc, batches, key, limit, msgs)? && gives_each(singles, key, msgs))
+        }
+        Row::ToldSends(told) => Ok(told_sends(alloc, batches)? == told),
+    }
+}
+
+/// What the accessors say of a channel, and of the receivers 0 and 1.
+fn seen(inner: &Channel) -> ([usize; 3], [u64; 2], [Option<u64>; 2], [bool; 5]) {
+    (
+        [inner.len(), inner.unread(0), inner.unread(1)],
+        [inner.missed(0), inner.missed(1)],
+        [inner.cursor(0), inner.cursor(1)],
+        [
+            inner.is_empty(),
+            inner.is_full(),
+            inner.is_closed(),
+            inner.is_terminated(),
+            inner.sends_are_ready(),
+        ],
+    )
+}
+
+/// Whether two channels are the same by all that can be seen of them.
+fn are_alike(alloc: Global, left: &Channel, right: &Channel) -> Result<bool, Fail> {
+    let left_text = format!(in alloc; "{:?}", left.snapshot(alloc)?)?;
+    let right_text = format!(in alloc; "{:?}", right.snapshot(alloc)?)?;
+    Ok(seen(left) == seen(right) && left_text == right_text)
+}
+
+fn play(rt: &impl Abort, alloc: Global, name: &str, rows: &[Row]) -> Result<(), Fail> {
+    let (mut batches, first) = Inner::new(alloc, 3)?;
+    let (mut singles, other) = Inner::new(alloc, 3)?;
+    assert!(rt; [first, other] == [0, 0]);
+    for (index, row) in rows.iter().enumerate() {
+        let is_so = holds(alloc, &mut batches, &mut singles, *row)?;
+        assert!(rt; is_so, "{name}, row {index}");
+        assert!(rt;
+            are_alike(alloc, &batches, &singles)?,
+            "{name}, after row {index}"
+        );
+    }
+    Ok(())
+}
+
+#[test]
+fn a_batch_is_as_many_single_receives(rt: HostRuntime) -> Result<(), Fail> {
+    for (name, rows) in ROWS {
+        play(&rt, rt.alloc(), name, rows)?;
+    }
+    Ok(())
+}

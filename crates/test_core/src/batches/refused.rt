@@ -1,0 +1,134 @@
+//! Batches for which there is too little memory.
+use bcast_core::{Inner, Silent};
+use linked_list_allocator::LocalHeap;
+use std::alloc::{AllocError, Allocator, Global};
+use std::process::Abort;
+use std::test::Fail;
+
+/// How many messages are sent.
+const MESSAGES: usize = 3;
+
+/// How many bytes of the heap a clone takes.
+const BLOCK: usize = 64;
+
+/// A message whose clones each take memory of the heap.
+#[derive(Drop)]
+struct Heavy<'a> {
+    number: u64,
+    heap: &'a LocalHeap,
+    block: Vec<u8, &'a LocalHeap>,
+}
+
+impl<'a> Heavy<'a> {
+    /// A message that takes none itself.
+    fn new(number: u64, heap: &'a LocalHeap) -> Self {
+        let block = Vec::new(heap);
+        Heavy {
+            number,
+            heap,
+            block,
+        }
+    }
+}
+
+impl<'a> Clone for Heavy<'a> {
+    fn clone(&self) -> Result<Heavy<'a>, AllocError> {
+        let block = Vec::with_capacity(self.heap, BLOCK)?;
+        Ok(Heavy {
+            number: self.number,
+            heap: self.heap,
+            block,
+        })
+    }
+}
+
+/// Sends the messages 0, 1 and 2 on a channel that has a second receiver, which reads none.
+fn send_all(alloc: Global, heap: &LocalHeap) -> Result<Inner<Heavy<'_>, Silent>, Fail> {
+    let (mut inner, first) = Inner::new(alloc, MESSAGES)?;
+    inner.clone_receiver(first).ok().ok_or("no receiver")?;
+    for number in 0..MESSAGES as u64 {
+        let sent = inner.try_broadcast(Heavy::new(number, heap));
+        sent.ok().ok_or("not sent")?;
+    }
+    Ok(inner)
+}
+
+/// Whether these are the messages from this one on.
+fn begin_with(msgs: &[Heavy<'_>], first: usize) -> bool {
+    let mut are = true;
+    for (index, msg) in msgs.iter().enumerate() {
+        are &= msg.number == (first as u64).wrapping_add(index as u64);
+    }
+    are
+}
+
+/// Takes batches of all three messages, of which so many clones fit in the heap at once, and drops
+/// each batch before the next one. Returns how many messages the first one gave.
+fn take_all(rt: &impl Abort, alloc: Global, inner: &mut Inner<Heavy<'_>, Silent>) -> usize {
+    let mut first = None;
+    let mut taken = 0usize;
+    for _ in 0..MESSAGES {
+        let mut msgs = Vec::new(alloc);
+        let count = inner.receive_many(0, MESSAGES, &mut msgs);
+        assert!(rt; msgs.len() == count && begin_with(msgs.as_slice(), taken));
+        taken = taken.wrapping_add(count);
+        assert!(rt; inner.cursor(0) == Some(taken as u64));
+        assert!(rt; (inner.unread(1), inner.len()) == (MESSAGES, MESSAGES));
+        if count == 0 && taken < MESSAGES {
+            assert!(rt; inner.try_recv(0).is_err());
+        }
+        if first.is_none() {
+            first = Some(count);
+        }
+    }
+    let first = first.unwrap_or(0);
+    assert!(rt; taken == if first == 0 { 0 } else { MESSAGES });
+    first
+}
+
+#[test]
+fn a_batch_ends_before_a_refused_clone(rt: HostRuntime) -> Result<(), Fail> {
+    let mut has_given = [false; MESSAGES + 1];
+    for size in 0..64 {
+        let heap = LocalHeap::new(rt.alloc(), size * 16)?;
+        let mut inner = send_all(rt.alloc(), &heap)?;
+        let count = take_all(&rt, rt.alloc(), &mut inner);
+        if let Some(given) = has_given.get_mut(count) {
+            *given = true;
+        }
+    }
+    assert!(rt; has_given == [true; MESSAGES + 1], "{has_given:?}");
+    Ok(())
+}
+
+/// Whether a batch of three numbers was given into a list in this memory. If not, nothing changed.
+fn is_given<A: Allocator>(rt: &impl Abort, alloc: Global, memory: A) -> Result<bool, Fail> {
+    let (mut inner, key) = Inner::<u64, Silent>::new(alloc, MESSAGES)?;
+    for number in 0..MESSAGES as u64 {
+        inner.try_broadcast(number).ok().ok_or("not sent")?;
+    }
+    let before = format!(in alloc; "{:?}", inner.snapshot(alloc)?)?;
+    let mut msgs = Vec::new(memory);
+    let count = inner.receive_many(key, MESSAGES, &mut msgs);
+    if count == 0 {
+        let after = format!(in alloc; "{:?}", inner.snapshot(alloc)?)?;
+        assert!(rt; after == before && msgs.is_empty());
+        return Ok(false);
+    }
+    assert!(rt; count == MESSAGES && msgs.as_slice() == [0, 1, 2].as_slice());
+    Ok(true)
+}
+
+#[test]
+fn a_batch_without_room_in_the_list_changes_nothing(rt: HostRuntime) -> Result<(), Fail> {
+    let mut last = false;
+    let mut is_refused = false;
+    for size in 0..64 {
+        let heap = LocalHeap::new(rt.alloc(), size * 16)?;
+        last = is_given(&rt, rt.alloc(), &heap)?;
+        is_refused |= !last;
+    }
+    assert!(rt; is_refused, "a list was refused");
+    assert!(rt; last);
+    Ok(())
+}

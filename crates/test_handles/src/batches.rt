@@ -1,0 +1,131 @@
+//! Batches that one receiver takes, beside another one that receives one by one.
+use async_broadcast::{Lock, Port, PortFor, Receiver, Sender, TryRecvError, broadcast};
+use bcast_core::Inner;
+use one_by_one::OneByOne;
+use std::alloc::{AllocError, Global};
+use std::process::Abort;
+use std::test::Fail;
+
+mod one_by_one;
+
+/// What a receiver of batches is given.
+type Given = Result<&'static [u64], TryRecvError>;
+
+/// A name, the messages that are sent first, whether the channel is closed then, the limit of a
+/// batch, and what the batch gives.
+type Row = (&'static str, &'static [u64], bool, usize, Given);
+
+/// Rows on a channel of capacity 3 in overflow mode.
+const ROWS: &[Row] = &[
+    ("nothing is there", &[], false, 2, Err(TryRecvError::Empty)),
+    ("two of three", &[1, 2, 3], false, 2, Ok(&[1, 2])),
+    ("none", &[], false, 0, Ok(&[])),
+    ("one of a limit of two", &[], false, 2, Ok(&[3])),
+    ("all was read", &[], false, 2, Err(TryRecvError::Empty)),
+    (
+        "two were dropped",
+        &[4, 5, 6, 7, 8],
+        false,
+        2,
+        Err(TryRecvError::Overflowed(2)),
+    ),
+    ("those after them", &[], false, usize::MAX, Ok(&[6, 7, 8])),
+    ("what is left is given", &[9], true, 1, Ok(&[9])),
+    ("closed", &[], false, 1, Err(TryRecvError::Closed)),
+];
+
+/// Whether a batch gives this, behind a message that is there before.
+fn gives<P: Port<u64>>(
+    alloc: Global,
+    receiver: &mut Receiver<u64, P>,
+    limit: usize,
+    wanted: Given,
+) -> Result<bool, AllocError> {
+    let mut msgs = Vec::from_slice(alloc, &[99])?;
+    let answer = receiver.try_recv_many(limit, &mut msgs)?;
+    let Some((first, given)) = msgs.as_slice().split_first() else {
+        return Ok(false);
+    };
+    let is_wanted = match (answer, wanted) {
+        (Ok(count), Ok(wanted)) => given == wanted && count == wanted.len(),
+        (Err(error), Err(wanted)) => error == wanted && given.is_empty(),
+        _ => false,
+    };
+    Ok(*first == 99 && is_wanted)
+}
+
+/// Whether single receives give this.
+fn gives_each<P: Port<u64>>(
+    receiver: &mut Receiver<u64, P>,
+    wanted: Given,
+) -> Result<bool, AllocError> {
+    match wanted {
+        Err(wanted) => Ok(receiver.try_recv()? == Err(wanted)),
+        Ok(wanted) => {
+            let mut gives = true;
+            for msg in wanted {
+                gives &= receiver.try_recv()? == Ok(*msg);
+            }
+            Ok(gives)
+        }
+    }
+}
+
+fn plays<P: Port<u64>>(
+    rt: &impl Abort,
+    alloc: Global,
+    sender: &mut Sender<u64, P>,
+    batches: &mut Receiver<u64, P>,
+    singles: &mut Receiver<u64, P>,
+) -> Result<(), Fail> {
+    sender.set_overflow(true);
+    for (name, sent, closes, limit, wanted) in ROWS {
+        for msg in *sent {
+            assert!(rt; sender.try_broadcast(*msg).is_ok(), "{name}");
+        }
+        if *closes {
+            assert!(rt; sender.close(), "{name}");
+        }
+        assert!(rt; gives(alloc, batches, *limit, *wanted)?, "{name}");
+        assert!(rt; gives_each(singles, *wanted)?, "{name}, one by one");
+    }
+    Ok(())
+}
+
+#[test]
+fn batches_give_what_single_receives_give(rt: HostRuntime) -> Result<(), Fail> {
+    let (mut sender, mut batches) = broadcast(&rt, rt.alloc(), 3)?;
+    let mut singles = batches.clone().ok().ok_or("no handle")?;
+    plays(&rt, rt.alloc(), &mut sender, &mut batches, &mut singles)
+}
+
+/// Takes three messages by batches over a port that can't make several calls at once.
+fn gives_one_a_call<P: Port<u64>>(
+    rt: &impl Abort,
+    alloc: Global,
+    sender: &Sender<u64, P>,
+    receiver: &mut Receiver<u64, P>,
+) -> Result<(), Fail> {
+    for msg in [7, 8, 9] {
+        assert!(rt; sender.try_broadcast(msg).is_ok());
+    }
+    let mut msgs = Vec::new(alloc);
+    assert!(rt; receiver.try_recv_many(0, &mut msgs)? == Ok(0));
+    assert!(rt; receiver.try_recv_many(3, &mut msgs)? == Ok(1));
+    assert!(rt; receiver.recv_many_blocking(3, &mut msgs)? == Ok(1));
+    assert!(rt; receiver.try_recv_many(3, &mut msgs)? == Ok(1));
+    assert!(rt; receiver.try_recv_many(3, &mut msgs)? == Err(TryRecvError::Empty));
+    assert!(rt; msgs.as_slice() == [7, 8, 9].as_slice());
+    Ok(())
+}
+
+#[test]
+fn a_port_without_batches_gives_one_a_call(rt: HostRuntime) -> Result<(), Fail> {
+    let (inner, key) = Inner::new(rt.alloc(), 3)?;
+    let port = Lock::new(&rt, rt.alloc(), inner)?;
+    let port = OneByOne { port };
+    let other = port.try_clone().ok_or("no memory")?;
+    let sender = Sender::from_port(port, rt.alloc());
+    let mut receiver = Receiver::from_port(other, key, rt.alloc());
+    gives_one_a_call(&rt, rt.alloc(), &sender, &mut receiver)
+}

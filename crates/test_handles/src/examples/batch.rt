@@ -1,0 +1,40 @@
+//! Of `batch.rt`, without a clock.
+use async_broadcast::{Port, Receiver, RecvError, Sender, TryRecvError};
+use std::alloc::Global;
+use std::process::Abort;
+use std::test::Fail;
+
+// Of `try_recv_many`.
+pub fn tries<P: Port<u64>>(
+    rt: &impl Abort,
+    alloc: Global,
+    sender: &Sender<u64, P>,
+    receiver: &mut Receiver<u64, P>,
+) -> Result<(), Fail> {
+    for msg in 1..4 {
+        assert!(rt; sender.try_broadcast(msg).is_ok());
+    }
+    let mut msgs = Vec::new(alloc);
+    assert!(rt; receiver.try_recv_many(2, &mut msgs)? == Ok(2));
+    assert!(rt; msgs.as_slice() == [1, 2].as_slice());
+    assert!(rt; receiver.try_recv_many(2, &mut msgs)? == Ok(1));
+    assert!(rt; receiver.try_recv_many(2, &mut msgs)? == Err(TryRecvError::Empty));
+    assert!(rt; msgs.as_slice() == [1, 2, 3].as_slice());
+    Ok(())
+}
+
+// Of `recv_many_blocking`.
+pub fn blocks<P: Port<u64>>(
+    rt: &impl Abort,
+    alloc: Global,
+    sender: Sender<u64, P>,
+    mut receiver: Receiver<u64, P>,
+) -> Result<(), Fail> {
+    assert!(rt; sender.try_broadcast(1).is_ok());
+    assert!(rt; sender.try_broadcast(2).is_ok());
+    drop(sender);
+    let mut msgs = Vec::new(alloc);
+    assert!(rt; receiver.recv_many_blocking(16, &mut msgs)? == Ok(2));
+    assert!(rt; receiver.recv_many_blocking(16, &mut msgs)? == Err(RecvError::Closed));
+    Ok(())
+}

@@ -1,0 +1,163 @@
+//! Threads that take batches of what another one sends.
+use crate::steps::{Receiving, Sending, pause, wait_for};
+use async_broadcast::{Port, RecvError, broadcast};
+use std::alloc::Global;
+use std::process::Abort;
+use std::sync::atomic::{AtomicU64, Ordering};
+use std::sync::{Arc, Wait};
+use std::test::Fail;
+use std::thread;
+use std::thread::{JoinHandle, Threads};
+
+/// How many messages are sent.
+const MESSAGES: u64 = 1000;
+
+/// The most messages of a batch.
+const LIMIT: usize = 5;
+
+/// A name, whether overflow mode is on, how many messages are sent before the threads start, and
+/// the least and the most that each receiver may miss.
+type Row = (&'static str, bool, u64, (u64, u64));
+
+/// Rows on a channel of capacity 16. In overflow mode its last 16 messages are never dropped.
+const ROWS: &[Row] = &[
+    ("sends wait for both receivers", false, 0, (0, 0)),
+    ("the oldest are dropped", true, 100, (84, 984)),
+];
+
+/// Sends the messages of these numbers.
+fn send<P: Port<u64>>(rt: &impl Abort, sender: &Sending<P>, first: u64, end: u64) {
+    for msg in first..end {
+        assert!(rt; sender.broadcast_blocking(msg).is_ok());
+    }
+}
+
+/// Whether these are the next numbers. They are counted.
+fn are_next(msgs: &[u64], next: &mut u64) -> bool {
+    let mut are = true;
+    for msg in msgs {
+        are &= *msg == *next;
+        *next = (*next).wrapping_add(1);
+    }
+    are
+}
+
+/// Takes batches until the channel is closed. A message's number is how many came before it or were
+/// missed. Returns how many were missed.
+fn take_all<P: Port<u64>>(
+    rt: &impl Abort,
+    alloc: Global,
+    name: &str,
+    mut receiver: Receiving<P>,
+) -> u64 {
+    let (mut next, mut missed) = (0u64, 0u64);
+    let mut msgs = Vec::new(alloc);
+    for _ in 0..=MESSAGES {
+        match receiver.recv_many_blocking(LIMIT, &mut msgs) {
+            Ok(Ok(count)) => {
+                assert!(rt;
+                    0 < count && count <= LIMIT && count == msgs.len(),
+                    "{name}"
+                );
+                assert!(rt; are_next(msgs.as_slice(), &mut next), "{name}");
+                msgs.clear();
+            }
+            Ok(Err(RecvError::Overflowed(dropped))) => {
+                next = next.wrapping_add(dropped);
+                missed = missed.wrapping_add(dropped);
+            }
+            Ok(Err(RecvError::Closed)) => break,
+            Err(_) => panic!(rt; "{name}: no memory"),
+        }
+    }
+    assert!(rt; next == MESSAGES, "{name}: all numbers are given or missed");
+    missed
+}
+
+/// Starts a thread that takes all messages, and counts it when it is finished.
+fn start<R, P>(
+    rt: R,
+    alloc: Global,
+    receiver: Receiving<P>,
+    finished: &Arc<AtomicU64>,
+    row: Row,
+) -> Result<JoinHandle<()>, Fail>
+where
+    R: Threads + Wait + Abort + Copy + Send + Drop + 'static,
+    P: Port<u64> + Send + 'static,
+{
+    let own = Arc::try_clone(finished)?;
+    let (name, _, _, (least, most)) = row;
+    Ok(thread::spawn(&rt, move || {
+        let missed = take_all(&rt, alloc, name, receiver);
+        assert!(&rt; least <= missed && missed <= most, "{name}");
+        own.fetch_add(1, Ordering::SeqCst);
+    })?)
+}
+
+/// Has two threads take what this one sends.
+fn play<R, P>(
+    rt: R,
+    alloc: Global,
+    (mut sender, receiver): (Sending<P>, Receiving<P>),
+    row: Row,
+) -> Result<(), Fail>
+where
+    R: Threads + Wait + Abort + Copy + Send + Drop + 'static,
+    P: Port<u64> + Send + 'static,
+{
+    let (name, overflows, before, _) = row;
+    let other = receiver.clone()?;
+    sender.set_overflow(overflows);
+    send(&rt, &sender, 0, before);
+    let finished = Arc::new(alloc, AtomicU64::new(0))?;
+    let first = start(rt, alloc, receiver, &finished, row)?;
+    let second = start(rt, alloc, other, &finished, row)?;
+    send(&rt, &sender, before, MESSAGES);
+    drop(sender);
+    wait_for(&rt, &finished, 2, name);
+    first.join(&rt);
+    second.join(&rt);
+    Ok(())
+}
+
+#[test]
+fn batches_of_threads_have_all_messages_in_order(rt: HostRuntime) -> Result<(), Fail> {
+    for row in ROWS {
+        play(rt, rt.alloc(), broadcast(rt, rt.alloc(), 16)?, *row)?;
+    }
+    Ok(())
+}
+
+/// Fills a channel of capacity 2, so that a thread sleeps in its send, and takes one batch.
+fn wakes_by_a_batch<R, P>(
+    rt: R,
+    alloc: Global,
+    (sender, mut receiver): (Sending<P>, Receiving<P>),
+) -> Result<(), Fail>
+where
+    R: Threads + Wait + Abort + Copy + Send + Drop + 'static,
+    P: Port<u64> + Send + 'static,
+{
+    send(&rt, &sender, 0, 2);
+    let steps = Arc::new(alloc, AtomicU64::new(0))?;
+    let own = Arc::try_clone(&steps)?;
+    let thread = thread::spawn(&rt, move || {
+        own.fetch_add(1, Ordering::SeqCst);
+        send(&rt, &sender, 2, 3);
+        own.fetch_add(1, Ordering::SeqCst);
+    })?;
+    wait_for(&rt, &steps, 1, "it begins");
+    pause();
+    assert!(&rt; steps.load(Ordering::SeqCst) == 1, "it waits");
+    let mut msgs = Vec::new(alloc);
+    assert!(&rt; receiver.try_recv_many(2, &mut msgs)? == Ok(2));
+    wait_for(&rt, &steps, 2, "the message is sent");
+    thread.join(&rt);
+    Ok(())
+}
+
+#[test]
+fn a_batch_wakes_a_sender_that_sleeps(rt: HostRuntime) -> Result<(), Fail> {
+    wakes_by_a_batch(rt, rt.alloc(), broadcast(rt, rt.alloc(), 2)?)
+}
