@@ -1,4 +1,4 @@
-//! Four programs over handles, one after another, or the one that is named: `rt try -- event_hub`.
+//! Five programs over handles, one after another, or the one that is named: `rt try -- event_hub`.
 //! Each is a module; the `main` of a program of its own would call its `run`, as the one here does.
 #![tactic(auto)]
 
@@ -14,6 +14,7 @@ mod config_watcher;
 mod event_hub;
 mod log_fan_out;
 mod shutdown;
+mod tasks;
 
 fn main(rt: HostRuntime) -> Result<()> {
     let Some(name) = env::args(&rt)?.nth(1) else {
@@ -24,6 +25,7 @@ fn main(rt: HostRuntime) -> Result<()> {
         "config_watcher" => config_watcher::run(&rt),
         "log_fan_out" => log_fan_out::run(rt),
         "shutdown" => shutdown::run(rt),
+        "tasks" => tasks::run(rt),
         _ => bail!("no example has this name"),
     }
 }
@@ -39,5 +41,7 @@ where
     println!(&rt; "# log_fan_out")?;
     log_fan_out::run(rt)?;
     println!(&rt; "# shutdown")?;
-    shutdown::run(rt)
+    shutdown::run(rt)?;
+    println!(&rt; "# tasks")?;
+    tasks::run(rt)
 }
