@@ -14,7 +14,7 @@ use std::time::Duration;
 
 impl<T: Clone, P: Port<T>, A: Allocator + Copy> Receiver<T, P, A> {
     /// Receives the messages that are there, at most `limit`, puts them last into `msgs`, and returns
-    /// how many they are: at least one, if `limit` isn't 0.
+    /// how many they are: at least one, or 0 if `limit` is 0, on a closed channel too.
     ///
     /// It is as many `try_recv` in a row, behind one lock, so that each message takes less time. The
     /// same `msgs` can be used again once it was read and cleared: then it takes no memory.
@@ -61,7 +61,7 @@ impl<T: Clone, P: Port<T>, A: Allocator + Copy> Receiver<T, P, A> {
     }
 
     /// Receives the messages that are there, as `try_recv_many` does. If there are none, it blocks
-    /// the thread until there is one, or the channel is closed.
+    /// the thread until there is one, which it returns alone, or until the channel is closed.
     ///
     /// # Errors
     ///

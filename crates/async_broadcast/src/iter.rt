@@ -110,8 +110,8 @@ impl<T: Clone, P: Port<T>, R: Wait, A: Allocator + Copy> Iterator for Iter<'_, T
 
 /// What a receiver finds, for a loop that never waits for a message.
 ///
-/// Each item is what `try_recv` returns. The loop ends when every message was read, also if the
-/// channel is open. `next` may then be called again, and finds what came meanwhile.
+/// Each item has the type that `recv_blocking` returns. The loop ends when every message was read,
+/// also if the channel is open. `next` may then be called again, and finds what came meanwhile.
 #[derive(Drop)]
 pub struct TryIter<'a, T: Clone, P: Port<T>, A: Allocator = Global> {
     receiver: &'a mut Receiver<T, P, A>,

@@ -72,7 +72,7 @@ impl<T: Clone, P: HistoryPort<T, J>, J: Channel, R: Wait> Iterator for TrackedIt
 }
 
 /// What a tracked receiver finds, for a loop that never waits for a message: as `TryIter` of
-/// `async_broadcast`. Each item is what `try_recv` returns; at `Empty` and at `Closed` it ends.
+/// `async_broadcast`. Each item has the type that `recv_blocking` returns.
 #[derive(Drop)]
 pub struct TrackedTryIter<'a, T: Clone, P: HistoryPort<T, J>, J: Channel> {
     receiver: &'a mut TrackedReceiver<T, P, J>,
