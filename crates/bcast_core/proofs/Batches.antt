@@ -1,48 +1,146 @@
--- Receives in a row: one list of them after another.
-use Rattle.std.proofs.Common.{◌≡◌, ℕ, zero, suc, take, drop, slice_get, Some, ◌+◌, List, [], ◌∷◌, ◌++◌, Ok, refl, sym, ap, ◌∙◌, subst, arith, append_assoc, append-nil, length-append}
-use Rattle.std.specs.List.{AllZip}
-use Rattle.bcast_model.specs.declared.run.Call.{Call}
+-- Receives in a row: what they give, and where they lead.
+use Rattle.std.proofs.Common.{◌≡◌, inl, inr, ℕ, suc, ◌+◌, ◌-◌, ◌<◌, ◌≤◌, true, max, List, [], ◌∷◌, length, slice_get, Some, Ok, refl, sym, ap, ◌∙◌, subst, arith}
+use Rattle.std.specs.Prelude.{IsSomeAnd}
+use Rattle.std.specs.Option.{option_map_or}
+use Rattle.std.proofs.lemmas.Grind.{common_steps}
+use Rattle.std.proofs.lemmas.Option.{same_Some}
 use Rattle.bcast_model.specs.declared.run.Call.TheVariants as call
-use Rattle.bcast_model.specs.declared.run.Reply.{Reply}
 use Rattle.bcast_model.specs.declared.run.Reply.TheVariants as reply
-use Rattle.bcast_model.specs.Words.{Answers, IsShown, View}
+use Rattle.bcast_model.specs.Words.{Answers, IsReceivedBy, IsShown, View, cursor_of, kept_at, sets, settle, tell_a_sender, tell_if_ready, try_recv_reply, unread}
 use Rattle.bcast_model.proofs.Answers.{shown_after}
+use Rattle.bcast_model.proofs.DeliveryMaps.{inserted, inserted_other}
+use Rattle.bcast_store.proofs.Least.{insert_there}
+use Rattle.bcast_store.proofs.Owing.{found}
 use Rattle.bcast_core.specs.Batch.{ReceivesEach, ReceivesInto}
+use Rattle.bcast_core.specs.Parts.{AreHandedOut, IsHandedOut}
+use Rattle.bcast_core.proofs.Moves.{moved, after, after_twice, told_is, front_reached, kept_moved}
+use Rattle.bcast_core.proofs.Receives.{receive_one}
+use Rattle.bcast_core.proofs.Settle.{settle_same}
+use Rattle.bcast_core.proofs.Tail.{ends, told_valid, valid_shown}
 
--- ---- one list after another
-module _ {S T : Type 0} (Makes : S → Call T → Reply T → S → Type 0) (key : ℕ) where
-  each_append : (old mid new : S) (xs ys : List T) → ReceivesEach Makes key old xs mid → ReceivesEach Makes key mid ys new → ReceivesEach Makes key old (xs ++ ys) new
-  each_append old mid new [] ys one two = subst (λ s. ReceivesEach Makes key s ys new) one two
-  each_append old mid new (x ∷ xs) ys one two = (one.0, one.1, each_append one.0 mid new xs ys one.2 two)
+-- the receiver `key` reads next the message of this number, and missed none
+pub record StandsAt {T : Type 0} (v : View T) (key cursor : ℕ) : Type 0 where
+  pub there : cursor_of v.control key ≡ Some cursor
+  pub reached : v.front ≤ cursor
 
-module _ {S T : Type 0} {Makes : S → Call T → Reply T → S → Type 0} {key : ℕ} where
-  pub into_none : (s : S) (before : List T) → ReceivesInto Makes key s before 0 before s
-  into_none s before = record { given = []; counted = refl; put = sym (append-nil before); each = refl }
+module _ {T : Type 0} where
+  -- a message that is there is what `try_recv` finds
+  finds : (v : View T) (cursor : ℕ) (msg : T) → v.front ≤ cursor → kept_at v cursor ≡ Some msg → try_recv_reply v (Some cursor) ≡ Ok msg
+  finds v cursor msg reached kept = grind (arith, common_steps)
 
-  pub into_append : {old mid new : S} {before between after : List T} {m n : ℕ} → ReceivesInto Makes key old before m between mid → ReceivesInto Makes key mid between n after new → ReceivesInto Makes key old before (m + n) after new
-  into_append {old = old} {mid = mid} {new = new} {before = before} one two = record {
-    given = one.given ++ two.given;
-    counted = let n = length-append one.given two.given in omega (arith, n, one.counted, two.counted);
-    put = two.put ∙ ap (λ w. w ++ two.given) one.put ∙ append_assoc before one.given two.given;
-    each = each_append Makes key old mid new one.given two.given one.each two.each;
-  }
+  stands_moved : (v : View T) (key to : ℕ) → v.front ≤ to → StandsAt (after v key to) key to
+  stands_moved v key to reached =
+      let there = inserted v.control.cursors key to in
+      let low = front_reached v key to reached in
+      told_is (λ w. StandsAt w key to) (moved v key to) (record { there = there; reached = low }) (record { there = there; reached = low })
 
-  pub into_more : {old mid new : S} {before between after : List T} {m : ℕ} {msg : T} → ReceivesInto Makes key old before m between mid → Makes mid (call.TryRecv key) (reply.TryRecv (Ok (Ok msg))) new → after ≡ between ++ msg ∷ [] → ReceivesInto Makes key old before (m + 1) after new
-  into_more {new = new} {msg = msg} one makes put = into_append one (record { given = msg ∷ []; counted = refl; put = put; each = (new, makes, refl) })
+  end_moved : (v : View T) (key to : ℕ) → (after v key to).end ≡ v.end
+  end_moved v key to = told_is (λ w. w.end ≡ v.end) (moved v key to) (omega arith) (omega arith)
 
--- what receives in a row lead to is shown, too
-each_shown : {T : Type 0} (is_clone : T → T → Type 0) (key : ℕ) (old new : View T) (given : List T) → IsShown old → ReceivesEach (Answers is_clone) key old given new → IsShown new
-each_shown is_clone key old new [] shown each = subst IsShown (sym each) shown
-each_shown is_clone key old new (msg ∷ given) shown each = each_shown is_clone key each.0 new given (shown_after each.1) each.2
+module _ {T : Type 0} (is_clone : T → T → Type 0) where
+  -- ---- one message
+  legal_given : (v : View T) (key cursor : ℕ) (given : T) → v.front ≤ cursor → IsHandedOut is_clone v key cursor given → IsReceivedBy is_clone v key (Some cursor) reply.TryRecv (λ answer. answer) (reply.TryRecv (Ok (Ok given)))
+  legal_given v key cursor given reached (inl kept) = inl (ap (λ a. reply.TryRecv (Ok a)) (sym (finds v cursor given reached kept)))
+  legal_given v key cursor given reached (inr owed) =
+      let msg = found (kept_at v cursor) (λ msg. is_clone msg given) owed.1 in
+      inr (owed.0, inl (msg.0, given, finds v cursor msg.0 reached msg.1, msg.2, refl))
+
+  answers_given : (v : View T) (key cursor : ℕ) (given : T) → IsShown v → StandsAt v key cursor → cursor < v.end → IsHandedOut is_clone v key cursor given → Answers is_clone v (call.TryRecv key) (reply.TryRecv (Ok (Ok given))) (after v key (cursor + 1))
+  answers_given v key cursor given shown at below handed =
+      ends refl shown tt (record {
+        legal = subst (λ o. IsReceivedBy is_clone v key o reply.TryRecv (λ answer. answer) (reply.TryRecv (Ok (Ok given)))) (sym at.there) (legal_given v key cursor given at.reached handed);
+        effect = ap (λ c. settle v (sets c)) (sym (receive_one v key (cursor_of v.control key) cursor at.there at.reached below));
+      }) refl
+
+  -- ---- the messages behind it
+  handed_moved : (v : View T) (key to number : ℕ) (given : T) → v.front ≤ to → to ≤ number → IsHandedOut is_clone v key number given → IsHandedOut is_clone (moved v key to) key number given
+  handed_moved v key to number given reached from (inl kept) = inl (kept_moved v key to number given reached from kept)
+  handed_moved v key to number given reached from (inr owed) =
+      let o = owed.0 in
+      let here : number ≡ o.number = same_Some number o.number o.at in
+      let low = front_reached v key to reached in
+      let msg = found (kept_at v number) (λ msg. is_clone msg given) owed.1 in
+      inr (
+        record {
+          number = number;
+          at = refl;
+          kept = (omega (arith, low, from), omega (arith, here, o.kept.1));
+          other = o.other;
+          differs = o.differs;
+          behind = o.behind;
+          owes = (inserted_other v.control.cursors key to o.other o.differs ∙ o.owes.0, omega (arith, here, o.owes.1));
+        },
+        rw (kept_moved v key to number msg.0 reached from msg.1) msg.2,
+      )
+
+  handed_after : (v : View T) (key to number : ℕ) (given : T) → v.front ≤ to → to ≤ number → IsHandedOut is_clone v key number given → IsHandedOut is_clone (after v key to) key number given
+  handed_after v key to number given reached from handed =
+      let now = handed_moved v key to number given reached from handed in
+      told_is (λ w. IsHandedOut is_clone w key number given) (moved v key to) (as_told now) now
+    where
+      as_told : IsHandedOut is_clone (moved v key to) key number given → IsHandedOut is_clone (record (moved v key to) { control = tell_a_sender (moved v key to).control }) key number given
+      as_told (inl kept) = inl kept
+      as_told (inr owed) = inr owed
+
+  -- ---- all of them
+  -- what a receiver is given, one after the other, is so many receives
+  each_given : (v : View T) (key cursor : ℕ) (given : List T) → IsShown v → StandsAt v key cursor → cursor + length given ≤ v.end → ((i : ℕ) (msg : T) → slice_get given i ≡ Some msg → IsHandedOut is_clone v key (cursor + i) msg)
+      → ReceivesEach (Answers is_clone) key v given (after v key (cursor + length given))
+  each_given v key cursor [] shown at within each =
+      let none : cursor + 0 ≡ cursor = omega arith in
+      ap (after v key) none
+      ∙ ap (λ m. tell_if_ready true (settle v (sets (record v.control { cursors = m })))) (insert_there v.control.cursors key cursor at.there)
+      ∙ ap (tell_if_ready true) (settle_same v (valid_shown shown)) ∙ told_valid v (valid_shown shown)
+  each_given v key cursor (msg ∷ given) shown at within each =
+      let none : cursor + 0 ≡ cursor = omega arith in
+      let here = subst (λ n. IsHandedOut is_clone v key n msg) none (each 0 msg refl) in
+      let first = answers_given v key cursor msg shown at (omega (arith, within)) here in
+      let mid = after v key (cursor + 1) in
+      let reached : v.front ≤ cursor + 1 = omega (arith, at.reached) in
+      let end = end_moved v key (cursor + 1) in
+      let behind : (i : ℕ) (next : T) → slice_get given i ≡ Some next → IsHandedOut is_clone mid key (cursor + 1 + i) next = λ i next is.
+      (let number : cursor + suc i ≡ cursor + 1 + i = omega arith in
+      subst (λ n. IsHandedOut is_clone mid key n next) number (handed_after v key (cursor + 1) (cursor + suc i) next reached (omega arith) (each (suc i) next is))) in
+      let rest = each_given mid key (cursor + 1) given (shown_after first) (stands_moved v key (cursor + 1) reached) (omega (arith, within, end)) behind in
+      let to : cursor + 1 + length given ≡ cursor + length (msg ∷ given) = omega arith in
+      let last = after_twice v key (cursor + 1) (cursor + 1 + length given) (valid_shown shown).fits (omega arith) ∙ ap (after v key) to in
+      (mid, first, subst (ReceivesEach (Answers is_clone) key mid given) last rest)
+
+  each_shown : (key : ℕ) (old new : View T) (given : List T) → IsShown old → ReceivesEach (Answers is_clone) key old given new → IsShown new
+  each_shown key old new [] shown each = subst IsShown (sym each) shown
+  each_shown key old new (msg ∷ given) shown each = each_shown key each.0 new given (shown_after each.1) each.2
 
 module _ {T : Type 0} {is_clone : T → T → Type 0} where
   pub into_shown : {key n : ℕ} {old new : View T} {before after : List T} → IsShown old → ReceivesInto (Answers is_clone) key old before n after new → IsShown new
   into_shown {key = key} {old = old} {new = new} shown r = each_shown is_clone key old new r.given shown r.each
 
--- the first of some clones is that of the message at this index, and the others are those behind it
-pub first_clone : {X : Type 0} (is_clone : X → X → Type 0) (queue : List X) (i n : ℕ) (given : X) (rest : List X) → AllZip is_clone (take (suc n) (drop i queue)) (given ∷ rest)
-    → (msg : X) × (slice_get queue i ≡ Some msg) × is_clone msg given × AllZip is_clone (take n (drop (suc i) queue)) rest
-first_clone is_clone [] zero n given rest clones = absurd clones
-first_clone is_clone [] (suc i) n given rest clones = absurd clones
-first_clone is_clone (msg ∷ queue) zero n given rest clones = (msg, refl, clones.0, clones.1)
-first_clone is_clone (msg ∷ queue) (suc i) n given rest clones = first_clone is_clone queue i n given rest clones
+  pub into_given : {was v new : View T} {key cursor n : ℕ} {before put : List T} → was ≡ v → IsShown was → StandsAt was key cursor → cursor + n ≤ was.end → AreHandedOut is_clone was key cursor before n put → new ≡ after was key (cursor + n)
+      → ReceivesInto (Answers is_clone) key v before n put new
+  into_given {was = was} {new = new} {key = key} {cursor = cursor} {n = n} {before = before} {put = put} same shown at within handed new_is =
+      let each = each_given is_clone was key cursor handed.given shown at (omega (arith, within, handed.counted)) handed.each in
+      subst (λ (w : View T). ReceivesInto (Answers is_clone) key w before n put new) same (record {
+        given = handed.given;
+        counted = handed.counted;
+        put = handed.put;
+        each = subst (ReceivesEach (Answers is_clone) key was handed.given) (ap (λ k. after was key (cursor + k)) handed.counted ∙ sym new_is) each;
+      })
+
+module _ {T : Type 0} {was : View T} {key cursor : ℕ} (at : StandsAt was key cursor) where
+  -- how much it has still to read
+  pub unread_is : {v : View T} → was ≡ v → unread v key ≡ was.end - cursor
+  unread_is same =
+      ap (λ (w : View T). unread w key) (sym same)
+      ∙ ap (λ o. option_map_or (λ c. was.end - max c was.front) o 0) at.there
+      ∙ (let reached = at.reached in omega (arith, reached))
+
+  -- a message that it wasn't given is its next one
+  pub next_refused : {new : View T} (P : T → Type 0) (n : ℕ) → IsSomeAnd (kept_at was (cursor + n)) P → new ≡ after was key (cursor + n) → IsSomeAnd (cursor_of new.control key) (λ c. IsSomeAnd (kept_at new c) P)
+  next_refused P n refused new_is =
+      let to = cursor + n in
+      let reached : was.front ≤ to = (let r = at.reached in omega (arith, r)) in
+      let msg = found (kept_at was to) P refused in
+      let kept = kept_moved was key to to msg.0 reached (omega arith) msg.1 in
+      let now = told_is (λ w. kept_at w to ≡ Some msg.0) (moved was key to) kept kept in
+      let stands = stands_moved was key to reached in
+      subst (λ (w : View T). IsSomeAnd (cursor_of w.control key) (λ c. IsSomeAnd (kept_at w c) P)) (sym new_is)
+      (subst (λ o. IsSomeAnd o (λ c. IsSomeAnd (kept_at (after was key to) c) P)) (sym stands.there) (subst (λ o. IsSomeAnd o P) (sym now) msg.2))

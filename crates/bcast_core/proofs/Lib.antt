@@ -14,6 +14,5 @@ pub mod Untold
 pub mod Tail
 pub mod ReceivePolls
 pub mod SendPolls
+pub mod Moves
 pub mod Batches
-pub mod SharedReceives
-pub mod OwnReceives

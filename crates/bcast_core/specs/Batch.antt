@@ -1,6 +1,6 @@
 -- Receives in a row, and what they give.
-use Rattle.std.specs.Prelude.{◌≡◌, ℕ, ◌≤◌, List, [], ◌∷◌, ◌++◌, length, Some, Ok}
-use Rattle.bcast_model.specs.Words.{View, cursor_of}
+use Rattle.std.specs.Prelude.{◌≡◌, ℕ, List, [], ◌∷◌, ◌++◌, length, Ok, IsSomeAnd}
+use Rattle.bcast_model.specs.Words.{View, cursor_of, kept_at}
 use Rattle.bcast_model.specs.declared.run.Call.{Call}
 use Rattle.bcast_model.specs.declared.run.Call.TheVariants as call
 use Rattle.bcast_model.specs.declared.run.Reply.{Reply}
@@ -24,7 +24,8 @@ module _ {S T : Type 0} (Makes : S → Call T → Reply T → S → Type 0) (key
     pub put : after ≡ before ++ given
     pub each : ReceivesEach old given new
 
--- the receiver `key` reads next the message of this number, and missed none
-pub record StandsAt {T : Type 0} (v : View T) (key cursor : ℕ) : Type 0 where
-  pub there : cursor_of v.control key ≡ Some cursor
-  pub reached : v.front ≤ cursor
+-- the next message of the receiver `key` is there, and memory for its clone may be refused
+abbrev pub MayBeRefused : {T : Type 0} → (T → Type 0) → View T → ℕ → Type 0
+MayBeRefused is_infallible v key =
+    IsSomeAnd (cursor_of v.control key)
+    (λ cursor. IsSomeAnd (kept_at v cursor) (λ msg. is_infallible msg → ⊥))

@@ -1,10 +1,11 @@
 -- How the state of a channel is put together. No public clause cites this module.
-use Rattle.std.specs.Prelude.{◌≡◌, ℕ, ◌+◌, ◌*◌, ◌<◌, Bool, true, false, is_some, Result, Ok, Err}
+use Rattle.std.specs.Prelude.{◌≡◌, ℕ, ◌+◌, ◌*◌, ◌<◌, ◌⊎◌, Bool, true, false, is_some, Result, Ok, Err}
+use Rattle.std.specs.Prelude.{List, ◌++◌, length, slice_get, Some, IsSomeAnd}
 use Rattle.std.specs.declared.alloc.AllocError.{AllocError}
 use Rattle.std.specs.FinMap.{get}
 use Rattle.std.specs.FinSet as set
 use Rattle.bcast_model.specs.Words.{no_listeners, Control, Cursors, View, Legal, effect, settle}
-use Rattle.bcast_model.specs.Words.{Pair, is_empty_reply}
+use Rattle.bcast_model.specs.Words.{Pair, is_empty_reply, kept_at, IsOwed}
 use Rattle.bcast_model.specs.declared.error.TryRecvError.{TryRecvError}
 use Rattle.bcast_model.specs.declared.listener.Kind.{Kind}
 use Rattle.bcast_model.specs.declared.listener.Kind.TheVariants as kind
@@ -65,3 +66,19 @@ tries_by kind.Future c pair = 1
 abbrev pub finds_nothing : {T : Type 0} → Result (Result T TryRecvError) AllocError → Bool
 finds_nothing (Ok answer) = is_empty_reply answer
 finds_nothing (Err e) = false
+
+-- the message of this number itself or, if another receiver owes it too, a clone of it
+abbrev pub IsHandedOut : {T : Type 0} → (T → T → Type 0) → View T → ℕ → ℕ → T → Type 0
+IsHandedOut is_clone v key number given =
+    (kept_at v number ≡ Some given)
+    ⊎ (IsOwed v key (Some number) × IsSomeAnd (kept_at v number) (λ msg. is_clone msg given))
+
+-- what a receiver is given for `count` messages, from this number on: it was put last into a list
+pub record AreHandedOut
+    {T : Type 0} (is_clone : T → T → Type 0) (v : View T) (key cursor : ℕ) (before : List T)
+    (count : ℕ) (after : List T) : Type 0 where
+  pub given : List T
+  pub put : after ≡ before ++ given
+  pub counted : length given ≡ count
+  pub each : (i : ℕ) (msg : T) → slice_get given i ≡ Some msg
+      → IsHandedOut is_clone v key (cursor + i) msg

@@ -9,12 +9,10 @@ use bcast_waiting::{Event, SendList};
 use std::alloc::{Allocator, Global};
 use std::marker::Model;
 
-mod batch;
 mod handles;
-mod leaving;
 mod listeners;
-mod making;
 mod receive;
+mod receivers;
 mod send;
 mod snapshot;
 

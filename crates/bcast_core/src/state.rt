@@ -2,8 +2,11 @@
 ghost use Rattle.std.specs.Prelude.{◌≡◌, ◌==◌, ◌&&◌, ◌^◌, ◌+◌, ◌<◌, length, IfOk};
 ghost use Rattle.std.specs.FinMap.{len};
 ghost use Rattle.bcast_model.specs.History.{opening};
+ghost use Rattle.bcast_model.specs.Words.{cursor_of, unread, missed};
+ghost use Rattle.bcast_core.specs.Snapshot.{Shows};
 
 use crate::parts::Parts;
+use crate::snapshot::Snapshot;
 use bcast_model::listener::Kind;
 use bcast_store::Store;
 use bcast_waiting::Event;
@@ -11,14 +14,11 @@ use bcast_waiting::notice::Notice;
 use std::alloc::{AllocError, Allocator, Global};
 use std::marker::Model;
 
-mod batch;
 mod handles;
 mod poll;
 mod receive;
 mod send;
 mod settings;
-mod snapshot;
-mod unread;
 
 /// The state of a broadcast channel: its messages, the receivers' cursors, the counts of senders
 /// and inactive receivers, the settings, and the listeners that wait.
@@ -83,6 +83,8 @@ impl<T: Drop, N: Notice, A: Allocator + Copy> Inner<T, N, A> {
         ensures opened { IfOk result (λ made. Represents made.0 (opening cap first made.1)) }
         ensures valid { IfOk result (λ made. IsValid {T = T} (opening cap first made.1)) }
     {
+        // A program that isn't proved stops here.
+        prove!(cap > 0);
         let mut store = Store::new(alloc, first, cap)?;
         let key = store.add(first)?;
         let mut receives = Event::new(alloc);
@@ -185,10 +187,67 @@ impl<T: Drop, N: Notice, A: Allocator + Copy> Inner<T, N, A> {
         self.parts.end()
     }
 
+    /// The number of the message that the receiver `key` reads next, which may have been dropped;
+    /// `None` if there is no such receiver.
+    ///
+    /// Source: `Receiver::pos` of async-broadcast 0.7.2, which is private.
+    #[inline(always)]
+    pub fn cursor(&self, key: usize) -> Option<u64>
+        ensures { result ≡ cursor_of self.now.control key }
+    {
+        self.parts.cursor(key)
+    }
+
+    /// How many of the kept messages the receiver `key` has still to read; 0 if there is no such
+    /// receiver.
+    ///
+    /// As many `try_recv` in a row give it a message, after one that says what it missed, if it
+    /// missed any.
+    ///
+    /// Source: this crate's own.
+    pub fn unread(&self, key: usize) -> usize
+        ensures { result ≡ unread self.now key }
+    {
+        let Some(cursor) = self.parts.cursor(key) else {
+            return 0;
+        };
+        let at = cursor.max(self.parts.front());
+        self.parts.end().saturating_sub(at) as usize
+    }
+
+    /// How many messages were dropped before the receiver `key` read them, and not yet counted as
+    /// missed: if that isn't 0, its next `try_recv` returns `Overflowed` with it. 0 if there is no
+    /// such receiver.
+    ///
+    /// Source: this crate's own.
+    pub fn missed(&self, key: usize) -> u64
+        ensures { result ≡ missed self.now key }
+    {
+        let Some(cursor) = self.parts.cursor(key) else {
+            return 0;
+        };
+        self.parts.front().saturating_sub(cursor)
+    }
+
     /// Proves that some valid history shows the state. Does nothing.
     pub fn invariant_holds(&self)
         ensures { IsShown self.now }
     {
         let _ = &self.parts;
+    }
+}
+
+impl<T: Clone, N: Notice, A: Allocator + Copy> Inner<T, N, A> {
+    /// The view of the channel, as a value of its own: each kept message is cloned.
+    ///
+    /// Changes nothing. Allocates the lists from `alloc`; clones may allocate too.
+    ///
+    /// # Errors
+    ///
+    /// `AllocError`: memory for the lists, or for the clone of a message, was refused.
+    pub fn snapshot<B: Allocator + Copy>(&self, alloc: B) -> Result<Snapshot<T, B>, AllocError>
+        ensures { IfOk result (λ snapshot. Shows T.is_clone snapshot self.now) }
+    {
+        self.parts.snapshot(alloc)
     }
 }

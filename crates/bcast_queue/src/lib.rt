@@ -27,8 +27,6 @@ mod steps;
 ///
 /// A reader is counted once, at the message that it reads next. So one reader more or fewer
 /// changes one count, however many messages there are.
-///
-/// Source: `Inner::queue` and `Inner::head_pos` of async-broadcast 0.7.2.
 #[derive(Drop)]
 pub struct Queue<T, A: Allocator = Global> {
     ring: HeapCircularBuffer<Entry<T>, A>,
@@ -59,12 +57,6 @@ impl<T, A: Allocator> Queue<T, A> {
     ///
     /// `first` is the number of its first message, and `room` how many messages fit. Allocates
     /// memory for all of them.
-    ///
-    /// # Errors
-    ///
-    /// - `AllocError`: memory is refused for `room` messages.
-    ///
-    /// Source: the queue that `broadcast` of async-broadcast makes.
     #[inline(always)]
     pub fn new(alloc: A, first: u64, room: usize) -> Result<Queue<T, A>, AllocError>
         requires { 0 < room }
@@ -91,8 +83,6 @@ impl<T, A: Allocator> Queue<T, A> {
     }
 
     /// How many messages there are.
-    ///
-    /// Source: `queue.len()` of async-broadcast.
     pub fn len(&self) -> usize
         ensures { result ≡ length self.now.messages }
     {
@@ -100,8 +90,6 @@ impl<T, A: Allocator> Queue<T, A> {
     }
 
     /// Whether there is no message.
-    ///
-    /// Source: `queue.is_empty()` of async-broadcast.
     pub fn is_empty(&self) -> bool
         ensures { IsTrue result ↔ (self.now.messages ≡ []) }
     {
@@ -109,8 +97,6 @@ impl<T, A: Allocator> Queue<T, A> {
     }
 
     /// The number of the first message, or of the next one if there is none.
-    ///
-    /// Source: `head_pos` of async-broadcast.
     pub fn front(&self) -> u64
         ensures { result ≡ self.now.front }
     {
@@ -118,8 +104,6 @@ impl<T, A: Allocator> Queue<T, A> {
     }
 
     /// The number that the next message gets.
-    ///
-    /// Source: `head_pos + queue.len()` of async-broadcast.
     pub fn end(&self) -> u64
         ensures { result ≡ self.now.front + length self.now.messages }
     {
@@ -127,8 +111,6 @@ impl<T, A: Allocator> Queue<T, A> {
     }
 
     /// How many messages fit.
-    ///
-    /// Source: `queue.capacity()` of async-broadcast.
     pub fn room(&self) -> usize
         ensures { result ≡ self.now.room }
     {
@@ -149,12 +131,6 @@ impl<T, A: Allocator> Queue<T, A> {
     ///
     /// Allocates memory for `room` messages, or for twice as many as there was memory for if that
     /// is more, so that messages are seldom moved. If the larger is refused, `room` is tried.
-    ///
-    /// # Errors
-    ///
-    /// - `AllocError`: memory is refused for `room` messages. The queue is unchanged.
-    ///
-    /// Source: `queue.reserve` in `set_capacity` of async-broadcast.
     pub fn grow(&mut self, room: usize) -> Result<(), AllocError>
     where
         A: Clone,
@@ -168,8 +144,6 @@ impl<T, A: Allocator> Queue<T, A> {
     }
 
     /// Appends `msg`, which `owing` readers have to read, and returns its number. Never allocates.
-    ///
-    /// Source: `queue.push_back` in `try_broadcast` of async-broadcast.
     #[inline(always)]
     pub fn push(&mut self, msg: T, owing: usize) -> u64
         requires fits { length self.old.messages < self.old.room }
@@ -196,8 +170,6 @@ impl<T, A: Allocator> Queue<T, A> {
     }
 
     /// Takes the first message out, even if readers owe it; returns `None` if there is none.
-    ///
-    /// Source: `queue.pop_front` in `try_broadcast` of async-broadcast.
     #[inline(always)]
     pub fn pop<C: Counter>(&mut self, steps: &mut C) -> Option<T>
         ensures value { result ≡ slice_get self.old.messages 0 }

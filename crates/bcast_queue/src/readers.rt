@@ -1,9 +1,10 @@
 //! The readers that owe messages: they are added, move on, leave, and read.
-ghost use Rattle.std.specs.Prelude.{◌≡◌, ◌+◌, ◌-◌, ◌<◌, ◌≤◌, ◌==◌, ◌↔◌, length, Some, slice_get};
+ghost use Rattle.std.specs.Prelude.{◌≡◌, ◌+◌, ◌-◌, ◌*◌, ◌<◌, ◌≤◌, ◌==◌, ◌↔◌, ◌++◌, length, take};
+ghost use Rattle.std.specs.Prelude.{Some, slice_get, vec_len, vec_capacity};
 ghost use Rattle.std.specs.Prelude.{slice_index, IfOk, IsOk, OnOk, OnErr, IsTrue};
 ghost use Rattle.std.specs.Option.{ForSome, IsSomeAnd};
 ghost use Rattle.std.specs.Result.{IsOkAnd};
-ghost use Rattle.bcast_queue.specs.Queue.{last_item, with_reader, passed, without_reader, read_at};
+ghost use Rattle.bcast_queue.specs.Queue.{last_item, with_reader, passed, without, without_reader, read_at};
 
 use crate::counts::{add_readers, change_at, drop_unowed};
 use crate::{Counter, Queue};
@@ -13,8 +14,6 @@ impl<T, A: Allocator> Queue<T, A> {
     /// Adds a reader of the message at `index` and of those behind it. Allocates nothing.
     ///
     /// At an `index` that is the length it changes nothing.
-    ///
-    /// Source: the loop over `queue` in `Receiver::clone` of async-broadcast.
     pub fn share<C: Counter>(&mut self, index: usize, steps: &mut C)
         requires within { index ≤ length self.old.messages }
         requires fits { ForSome (last_item self.old.owed) (λ n. n < usize.MAX) }
@@ -23,20 +22,6 @@ impl<T, A: Allocator> Queue<T, A> {
     {
         self.total += 1;
         add_readers(&mut self.ring, &mut self.total, index, 1, steps);
-    }
-
-    /// Whether more than one reader owes the message at `index`, which some reader reads next.
-    #[inline(always)]
-    pub fn is_shared<C: Counter>(&mut self, index: usize, steps: &mut C) -> bool
-        requires within { index < length self.old.messages }
-        requires owed { 0 < index
-            → slice_index self.old.owed (index - 1) < slice_index self.old.owed index }
-        ensures value { IsTrue result ↔ (1 < slice_index self.old.owed index) }
-        ensures unchanged { self.new ≡ self.old }
-        ensures steps { C.total steps.new ≤ C.total steps.old + 1 }
-    {
-        let next = change_at(&mut self.ring, index, 0, 0, steps);
-        index != 0 || next != 1
     }
 
     /// Moves a reader on, from the message at `index` to that at `index + count`, past messages
@@ -59,6 +44,62 @@ impl<T, A: Allocator> Queue<T, A> {
         change_at(&mut self.ring, index, 0, 1, steps);
         add_readers(&mut self.ring, &mut self.total, index + count, 1, steps);
     }
+
+    /// Takes out those of the `count` messages from `index` on that one reader alone owes, puts them
+    /// last into `msgs`, which has room for them, and returns how many they are.
+    ///
+    /// They are the first ones. At an `index` above 0 there are none, since who owes the message
+    /// before it owes these, too.
+    #[inline(always)]
+    pub fn take_own<B: Allocator, C: Counter>(
+        &mut self,
+        index: usize,
+        count: usize,
+        msgs: &mut Vec<T, B>,
+        steps: &mut C,
+    ) -> usize
+        requires within { index + count ≤ length self.old.messages }
+        requires owed { 0 < index → index < length self.old.messages
+            → slice_index self.old.owed (index - 1) < slice_index self.old.owed index }
+        requires room { vec_len msgs.old + count ≤ vec_capacity msgs.old }
+        ensures at_most { result ≤ count }
+        ensures taken { msgs.new.items ≡ msgs.old.items ++ take result self.old.messages }
+        ensures rest { self.new ≡ without result self.old }
+        ensures first { 0 < result → index ≡ 0 }
+        // The last of them has one reader, and so each.
+        ensures own { 0 < result → slice_index self.old.owed (result - 1) ≡ 1 }
+        ensures shared { result < count → 1 < slice_index self.old.owed (index + result) }
+        ensures steps { C.total steps.new ≤ C.total steps.old + 2 * result + 1 }
+
+        ensures len { vec_len msgs.new ≡ vec_len msgs.old + result }
+        ensures capacity { vec_capacity msgs.new ≡ vec_capacity msgs.old }
+    {
+        self.invariant_holds();
+        if index > 0 {
+            return 0;
+        }
+        for taken in 0..count {
+            if self.is_first_shared(steps) {
+                return taken;
+            }
+            let Some(msg) = self.pop(steps) else {
+                unreachable!()
+            };
+            msgs.push_reserved(msg);
+        }
+        count
+    }
+
+    // Whether more than one reader owes the first message.
+    #[inline(always)]
+    fn is_first_shared<C: Counter>(&mut self, steps: &mut C) -> bool
+        requires some { 0 < length self.old.messages }
+        ensures value { IsTrue result ↔ (1 < slice_index self.old.owed 0) }
+        ensures unchanged { self.new ≡ self.old }
+        ensures steps { C.total steps.new ≤ C.total steps.old + 1 }
+    {
+        change_at(&mut self.ring, 0, 0, 0, steps) != 1
+    }
 }
 
 impl<T: Drop, A: Allocator> Queue<T, A> {
@@ -66,8 +107,6 @@ impl<T: Drop, A: Allocator> Queue<T, A> {
     /// reader owes then are dropped, and the front moves past them.
     ///
     /// At an `index` that is the length it changes nothing.
-    ///
-    /// Source: the reads in `drop` of a `Receiver` of async-broadcast.
     #[inline(always)]
     pub fn leave<C: Counter>(&mut self, index: usize, steps: &mut C)
         requires within { index ≤ length self.old.messages }
@@ -93,13 +132,6 @@ impl<T: Clone, A: Allocator> Queue<T, A> {
     /// other reader owes it. It is the first message then, and the front moves past it.
     ///
     /// Only the clone may allocate memory. The messages that stay are unchanged.
-    ///
-    /// # Errors
-    ///
-    /// - `AllocError`: another reader owes the message too, and memory is refused for a clone. The
-    ///   queue is unchanged.
-    ///
-    /// Source: `Inner::try_recv_at` of async-broadcast.
     #[inline(always)]
     pub fn read<C: Counter>(&mut self, index: usize, steps: &mut C) -> Result<T, AllocError>
         requires within { index < length self.old.messages }

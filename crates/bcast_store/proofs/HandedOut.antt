@@ -1,5 +1,5 @@
 -- What a read gives, by the count of its message.
-use Rattle.std.proofs.Common.{◌≡◌, ℕ, ◌+◌, ◌<◌, Some, get_or, slice_get, arith, rules}
+use Rattle.std.proofs.Common.{◌≡◌, ℕ, ◌<◌, Some, get_or, slice_get, arith, rules}
 use Rattle.std.proofs.lemmas.Grind.{common_steps}
 use Rattle.std.specs.Prelude.{IsSomeAnd}
 use Rattle.std.proofs.lemmas.Bool.{cases_lt}
@@ -7,7 +7,7 @@ use Rattle.bcast_model.specs.Control.{Cursors}
 use Rattle.bcast_queue.specs.Queue.{Queued}
 use Rattle.bcast_store.specs.Stored.{IsOwed, IsHandedOut}
 use Rattle.bcast_store.specs.Sound.{IsSound, store_of}
-use Rattle.bcast_store.proofs.Owing.{another, two_owe}
+use Rattle.bcast_store.proofs.Owing.{another}
 use Rattle.bcast_store.proofs.Counted.{IsCounted, owed_at}
 use Rattle.bcast_store.proofs.Reading.{IsReading}
 
@@ -15,13 +15,6 @@ module _ {T : Type 0} (q : Queued T) (cursors : Cursors) (key number i : ℕ) (s
   -- a message that is owed more than once is owed by another receiver
   pub owed_by_another : 1 < get_or q.owed i 0 → IsOwed (store_of q cursors) key number
   owed_by_another more = search (rules, another)
-
-  -- and one that another receiver owes, more than once
-  pub owed_more : IsOwed (store_of q cursors) key number → 1 < get_or q.owed i 0
-  owed_more owed =
-      let same : number ≡ owed.number = cc owed.at in
-      let two = two_owe cursors (q.front + i) key r.cursor owed.other owed.behind r.at (omega (arith, r.is, r.under)) owed.differs owed.owes.0 (omega (arith, r.is, same, owed.owes.1)) in
-      omega (arith, two, s.owed_by i r.below)
 
   pub handed_out : (is_clone : T → T → Type 0) (given : T) → IsCounted q → (get_or q.owed i 0 ≡ 1 → slice_get q.messages i ≡ Some given) → (1 < get_or q.owed i 0 → IsSomeAnd (slice_get q.messages i) (λ msg. is_clone msg given))
       → IsHandedOut is_clone (store_of q cursors) key number given

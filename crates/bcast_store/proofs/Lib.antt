@@ -12,4 +12,5 @@ pub mod Messages
 pub mod Dropping
 pub mod Reading
 pub mod HandedOut
+pub mod ReadingMany
 pub mod Leaving

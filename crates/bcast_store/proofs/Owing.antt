@@ -120,7 +120,7 @@ len_joined m k c none = len-insert nat_cmp_total m k c ∙ ap (λ o. cond (is_so
 pub remove-absent : (m : Cursors) (k : ℕ) → get m k ≡ None → remove m k ≡ m
 remove-absent m k none = grind (arith, common_steps, cases_eq, removed_same, removed_other, cursors_ext)
 
--- the cursor that a fact is of
-pub found : (o : Option ℕ) (P : ℕ → Type 0) → IsSomeAnd o P → (c : ℕ) × (o ≡ Some c) × P c
+-- the value that a fact is of
+pub found : {A : Type 0} (o : Option A) (P : A → Type 0) → IsSomeAnd o P → (x : A) × (o ≡ Some x) × P x
 found None P h = absurd h
-found (Some c) P h = (c, refl, h)
+found (Some x) P h = (x, refl, h)

@@ -28,10 +28,6 @@ module _ {T : Type 0} where
   pub is_reading : (q : Queued T) (cursors : Cursors) (s : Stored T) (key number front : ℕ) → store_of q cursors ≡ s → front ≡ q.front → IsSomeAnd (get s.cursors key) (λ cursor. number ≡ max cursor s.front) → number < end_of s → IsReading q cursors key number (number - front)
   is_reading q cursors s key number front view front_is at below = grind (arith, common_steps, found)
 
-  -- the number is the receiver's cursor
-  pub is_reading-at : (q : Queued T) (cursors : Cursors) (s : Stored T) (key number front : ℕ) → store_of q cursors ≡ s → front ≡ q.front → get s.cursors key ≡ Some number → s.front ≤ number → number < end_of s → IsReading q cursors key number (number - front)
-  is_reading-at q cursors s key number front view front_is at kept below = grind (arith, common_steps)
-
   -- a receiver moves past so many messages
   pub sound_passed : (q : Queued T) (cursors : Cursors) (key cursor number i n : ℕ) → IsSound q cursors → IsCounted q → get cursors key ≡ Some cursor → number ≡ q.front + i → cursor ≤ number → (0 < i → cursor ≡ number) → i + n ≤ length q.messages
       → IsSound (passed i n q) (insert cursors key (number + n))

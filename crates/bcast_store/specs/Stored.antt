@@ -1,5 +1,5 @@
 -- What a contract sees of a `Store`: the kept messages, and the receivers that are to read them.
-use Rattle.std.specs.Prelude.{◌≡◌, ℕ, ◌+◌, ◌-◌, ◌^◌, ◌<◌, ◌≤◌, ◌⊎◌, List, length, max, drop, slice_get, Some, IsSomeAnd, refl}
+use Rattle.std.specs.Prelude.{◌≡◌, ℕ, ◌+◌, ◌-◌, ◌^◌, ◌<◌, ◌≤◌, ◌⊎◌, List, ◌++◌, length, max, drop, slice_get, Some, IsSomeAnd, refl}
 use Rattle.std.specs.Coded.{Coded, code_by, coded×, coded_ℕ, coded_list}
 use Rattle.std.specs.FinMap.{get, len, values, code}
 use Rattle.bcast_model.specs.Words.{least, Cursors, IsUnreadByAnother}
@@ -43,6 +43,16 @@ module _ {T : Type 0} where
       (slice_get s.queue (number - s.front) ≡ Some given)
       ⊎ (IsOwed s key number
       × IsSomeAnd (slice_get s.queue (number - s.front)) (λ msg. is_clone msg given))
+
+  -- what a receiver is given for `count` messages, from this number on: it was put last into a list
+  pub record AreHandedOut
+      (is_clone : T → T → Type 0) (s : Stored T) (key number : ℕ) (before : List T) (count : ℕ)
+      (after : List T) : Type 0 where
+    pub given : List T
+    pub put : after ≡ before ++ given
+    pub counted : length given ≡ count
+    pub each : (i : ℕ) (msg : T) → slice_get given i ≡ Some msg
+        → IsHandedOut is_clone s key (number + i) msg
 
 -- what always holds: some receiver is to read each kept message, and no cursor is past the end
 pub record IsSettled {T : Type 0} (s : Stored T) : Type 0 where

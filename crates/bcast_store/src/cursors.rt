@@ -43,10 +43,6 @@ impl<A: Allocator> Cursors<A> {
 
     /// Adds a receiver that reads `number` next, under a key that no receiver has. A key that was
     /// removed may be given again.
-    ///
-    /// # Errors
-    ///
-    /// `AllocError`: memory for the receiver was refused, and nothing changed.
     #[inline(always)]
     pub fn add(&mut self, number: u64) -> Result<usize, AllocError>
         ensures fresh { IfOk result (λ key. map.get self.old key ≡ None) }
@@ -102,10 +98,6 @@ impl<A: Allocator> Cursors<A> {
     /// The keys in rising order, each with the number that its receiver reads next.
     ///
     /// Allocates the list from `alloc`.
-    ///
-    /// # Errors
-    ///
-    /// `AllocError`: memory for the list was refused.
     pub fn entries<B: Allocator>(&self, alloc: B) -> Result<Vec<(usize, u64), B>, AllocError>
         ensures { IfOk result (λ entries. entries.items ≡ map.entries self.now) }
     {

@@ -22,8 +22,6 @@ mod readers;
 /// A message number counts all messages that were ever accepted, and an index the kept ones from
 /// the front. A cursor is the number of the message that a receiver reads next. A message leaves
 /// the queue once every receiver has read it. `room` is how many messages fit.
-///
-/// Source: `Inner::queue` and `Receiver::pos` of async-broadcast 0.7.2.
 #[derive(Drop)]
 pub struct Store<T, A: Allocator = Global> {
     // Each message with the number of receivers that are still to read it.
@@ -50,12 +48,6 @@ impl<T: Drop, A: Allocator + Copy> Store<T, A> {
     ///
     /// `first` is the number of the first message, and `room` how many messages fit. Allocates
     /// memory for all of them.
-    ///
-    /// # Errors
-    ///
-    /// - `AllocError`: memory is refused for `room` messages.
-    ///
-    /// Source: the queue that `broadcast` of async-broadcast makes.
     #[inline(always)]
     pub fn new(alloc: A, first: u64, room: usize) -> Result<Self, AllocError>
         requires { 0 < room }
@@ -82,8 +74,6 @@ impl<T: Drop, A: Allocator + Copy> Store<T, A> {
     }
 
     /// The number of the first message, or of the next one if there is none.
-    ///
-    /// Source: `head_pos` of async-broadcast.
     pub fn front(&self) -> u64
         ensures { result ≡ self.now.front }
     {
@@ -91,8 +81,6 @@ impl<T: Drop, A: Allocator + Copy> Store<T, A> {
     }
 
     /// The number that the next message gets.
-    ///
-    /// Source: `head_pos + queue.len()` of async-broadcast.
     pub fn end(&self) -> u64
         ensures { result ≡ end_of self.now }
     {
@@ -100,8 +88,6 @@ impl<T: Drop, A: Allocator + Copy> Store<T, A> {
     }
 
     /// How many messages there are.
-    ///
-    /// Source: `queue.len()` of async-broadcast.
     pub fn len(&self) -> usize
         ensures { result ≡ length self.now.queue }
     {
@@ -109,8 +95,6 @@ impl<T: Drop, A: Allocator + Copy> Store<T, A> {
     }
 
     /// Whether there is no message.
-    ///
-    /// Source: `queue.is_empty()` of async-broadcast.
     pub fn is_empty(&self) -> bool
         ensures { result ≡ (length self.now.queue == 0) }
     {
@@ -118,8 +102,6 @@ impl<T: Drop, A: Allocator + Copy> Store<T, A> {
     }
 
     /// How many messages fit.
-    ///
-    /// Source: `queue.capacity()` of async-broadcast.
     pub fn room(&self) -> usize
         ensures { result ≡ self.now.room }
     {
@@ -127,8 +109,6 @@ impl<T: Drop, A: Allocator + Copy> Store<T, A> {
     }
 
     /// How many receivers there are.
-    ///
-    /// Source: `Inner::receiver_count` of async-broadcast.
     pub fn receivers(&self) -> usize
         ensures { result ≡ len self.now.cursors }
     {
@@ -136,8 +116,6 @@ impl<T: Drop, A: Allocator + Copy> Store<T, A> {
     }
 
     /// Whether there is no receiver.
-    ///
-    /// Source: `receiver_count == 0` of async-broadcast.
     pub fn has_no_receiver(&self) -> bool
         ensures { result ≡ (len self.now.cursors == 0) }
     {
@@ -145,8 +123,6 @@ impl<T: Drop, A: Allocator + Copy> Store<T, A> {
     }
 
     /// The cursor of the receiver `key`, or `None` if there is no such receiver.
-    ///
-    /// Source: `Receiver::pos` of async-broadcast.
     pub fn cursor(&self, key: usize) -> Option<u64>
         ensures { result ≡ get self.now.cursors key }
     {
@@ -162,10 +138,6 @@ impl<T: Drop, A: Allocator + Copy> Store<T, A> {
     }
 
     /// The receivers' keys in rising order, each with its cursor. Allocates the list.
-    ///
-    /// # Errors
-    ///
-    /// - `AllocError`: memory is refused for the list.
     pub fn cursors<B: Allocator>(&self, alloc: B) -> Result<Vec<(usize, u64), B>, AllocError>
         ensures { IfOk result (λ cursors. cursors.items ≡ entries self.now.cursors) }
     {
@@ -173,8 +145,6 @@ impl<T: Drop, A: Allocator + Copy> Store<T, A> {
     }
 
     /// Appends `msg`, for every receiver, and returns its number. Allocates nothing.
-    ///
-    /// Source: `queue.push_back` in `try_broadcast` of async-broadcast.
     #[inline(always)]
     pub fn push(&mut self, msg: T) -> u64
         requires someone { 0 < len self.old.cursors }
@@ -201,8 +171,6 @@ impl<T: Drop, A: Allocator + Copy> Store<T, A> {
 
     /// Takes the first message out, even if receivers have still to read it; returns `None` if
     /// there is none.
-    ///
-    /// Source: `queue.pop_front` in `try_broadcast` of async-broadcast.
     pub fn pop(&mut self) -> Option<T>
         ensures oldest { IfSome result (λ msg. self.old.queue ≡ msg ∷ self.new.queue) }
         ensures rest { OnSome result (self.new ≡ record self.old {
@@ -218,8 +186,6 @@ impl<T: Drop, A: Allocator + Copy> Store<T, A> {
     }
 
     /// Drops the first `count` messages, even if receivers have still to read them.
-    ///
-    /// Source: the loop in `set_capacity` of async-broadcast.
     pub fn drop_first(&mut self, count: usize)
         requires { count ≤ length self.old.queue }
         ensures { self.new ≡ record self.old {
@@ -233,12 +199,6 @@ impl<T: Drop, A: Allocator + Copy> Store<T, A> {
     }
 
     /// Makes room for `room` messages in all. May allocate memory; the messages stay.
-    ///
-    /// # Errors
-    ///
-    /// - `AllocError`: memory is refused for `room` messages. The store is unchanged.
-    ///
-    /// Source: `queue.reserve` in `set_capacity` of async-broadcast.
     pub fn grow(&mut self, room: usize) -> Result<(), AllocError>
         requires { self.old.room ≤ room }
         ensures ok { OnOk result (self.new ≡ record self.old { room = room }) }

@@ -1,10 +1,10 @@
 //! Receivers are added, leave, and read.
 ghost use Rattle.std.specs.Prelude.{◌≡◌, ◌+◌, ◌-◌, ◌<◌, ◌≤◌, ◌↔◌, None, Some, if◌then◌else◌};
-ghost use Rattle.std.specs.Prelude.{IfOk, IsOk, OnOk, OnErr, IsSomeAnd, IsTrue, max};
-ghost use Rattle.std.specs.Prelude.{length, take, drop, vec_len, vec_capacity};
+ghost use Rattle.std.specs.Prelude.{IfOk, IsOk, OnOk, OnErr, IsSomeAnd, max};
+ghost use Rattle.std.specs.Prelude.{length, take, drop, slice_get, vec_len, vec_capacity};
 ghost use Rattle.std.specs.List.{AppendsClones};
 ghost use Rattle.std.specs.FinMap as map;
-ghost use Rattle.bcast_store.specs.Stored.{IsHandedOut, IsOwed, end_of, with_cursors};
+ghost use Rattle.bcast_store.specs.Stored.{AreHandedOut, IsHandedOut, IsOwed, end_of, with_cursors};
 
 use crate::Store;
 use bcast_queue::{Queue, Uncounted};
@@ -12,8 +12,6 @@ use std::alloc::{AllocError, Allocator};
 
 impl<T: Drop, A: Allocator + Copy> Store<T, A> {
     /// Moves the cursor of the receiver `key`, which lags, to the front. Allocates nothing.
-    ///
-    /// Source: `Inner::try_recv_at` of async-broadcast when it overflowed.
     pub fn skip(&mut self, key: usize)
         requires lags { IsSomeAnd (map.get self.old.cursors key) (λ c. c < self.old.front) }
         ensures { self.new ≡ record self.old {
@@ -24,12 +22,6 @@ impl<T: Drop, A: Allocator + Copy> Store<T, A> {
     }
 
     /// Adds a receiver with this cursor, and returns its key, which no other receiver has.
-    ///
-    /// # Errors
-    ///
-    /// - `AllocError`: memory is refused for one more receiver. The store is unchanged.
-    ///
-    /// Source: `Receiver::clone` and `new_receiver` of async-broadcast.
     #[inline(always)]
     pub fn add(&mut self, cursor: u64) -> Result<usize, AllocError>
         requires { cursor ≤ end_of self.old }
@@ -48,8 +40,6 @@ impl<T: Drop, A: Allocator + Copy> Store<T, A> {
 
     /// Removes the receiver `key`, drops the messages that no receiver has to read any more, and
     /// returns whether there was such a receiver. Allocates nothing.
-    ///
-    /// Source: `drop` of a `Receiver` of async-broadcast.
     #[inline(always)]
     pub fn remove(&mut self, key: usize) -> bool
         ensures found { result ≡ map.contains_key self.old.cursors key }
@@ -66,20 +56,6 @@ impl<T: Drop, A: Allocator + Copy> Store<T, A> {
         self.queue.invariant_holds();
         true
     }
-
-    /// Whether another receiver than `key` has still to read the message numbered `number`, which
-    /// `key` reads next.
-    #[inline(always)]
-    pub fn is_shared(&mut self, key: usize, number: u64) -> bool
-        requires at { map.get self.old.cursors key ≡ Some number }
-        requires kept { (self.old.front ≤ number) × (number < end_of self.old) }
-        ensures value { IsTrue result ↔ IsOwed self.old key number }
-        ensures unchanged { self.new ≡ self.old }
-    {
-        self.queue.invariant_holds();
-        let index = (number - self.queue.front()) as usize;
-        self.queue.is_shared(index, &mut Uncounted)
-    }
 }
 
 impl<T: Clone, A: Allocator + Copy> Store<T, A> {
@@ -88,13 +64,6 @@ impl<T: Clone, A: Allocator + Copy> Store<T, A> {
     /// `number` is the receiver's cursor, or the front if it lags. If this receiver is the last to
     /// read the message, the message itself is given, and leaves the queue; else a clone is given.
     /// Only the clone may allocate memory.
-    ///
-    /// # Errors
-    ///
-    /// - `AllocError`: another receiver has to read the message too, and memory is refused for a
-    ///   clone. The store is unchanged.
-    ///
-    /// Source: `Inner::try_recv_at` of async-broadcast.
     #[inline(always)]
     pub fn read(&mut self, key: usize, number: u64) -> Result<T, AllocError>
         requires at { IsSomeAnd (map.get self.old.cursors key)
@@ -123,14 +92,15 @@ impl<T: Clone, A: Allocator + Copy> Store<T, A> {
         }
     }
 
-    /// Puts clones of the `count` messages from `number` on, the cursor of the receiver `key`,
-    /// last into `msgs`, which has room for them, and moves the cursor past them. Another receiver
-    /// has to read the first of them too, and so each.
+    /// Gives the receiver `key` the `count` messages from its cursor, `number`, on: puts them last
+    /// into `msgs`, which has room for them, moves its cursor past them, and returns how many they
+    /// are.
     ///
-    /// Returns how many they are: fewer than `count` only if memory for a clone was refused.
-    /// Only the clones may allocate memory.
+    /// Those that it is the last to read are moved out of the queue, and of the others clones are
+    /// given. They are fewer than `count` only if memory for a clone was refused. Only the clones
+    /// may allocate memory.
     #[inline(always)]
-    pub fn read_shared<B: Allocator>(
+    pub fn read_many<B: Allocator>(
         &mut self,
         key: usize,
         number: u64,
@@ -140,25 +110,24 @@ impl<T: Clone, A: Allocator + Copy> Store<T, A> {
         requires at { map.get self.old.cursors key ≡ Some number }
         requires kept { self.old.front ≤ number }
         requires within { number + count ≤ end_of self.old }
-        requires owed { 0 < count → IsOwed self.old key number }
         requires room { vec_len msgs.old + count ≤ vec_capacity msgs.old }
         ensures at_most { result ≤ count }
-        ensures given { AppendsClones T.is_clone msgs.old.items msgs.new.items
-            (take result (drop (number - self.old.front) self.old.queue)) }
-        ensures passed { self.new ≡ record self.old {
-          cursors = map.insert self.old.cursors key (number + result);
-        } }
-        ensures sure { ((msg : T) → T.is_infallible msg) → result ≡ count }
-
-        ensures len { vec_len msgs.new ≡ vec_len msgs.old + result }
-        ensures capacity { vec_capacity msgs.new ≡ vec_capacity msgs.old }
+        ensures given { AreHandedOut T.is_clone self.old key number
+            msgs.old.items result msgs.new.items }
+        ensures passed { self.new
+            ≡ with_cursors self.old (map.insert self.old.cursors key (number + result)) }
+        ensures refused { result < count → IsSomeAnd
+            (slice_get self.old.queue (number + result - self.old.front))
+            (λ msg. T.is_infallible msg → ⊥) }
     {
         self.queue.invariant_holds();
         let index = (number - self.queue.front()) as usize;
-        let given = put_clones(&self.queue, index, count, msgs);
-        self.cursors.replace(key, number + given as u64);
-        self.queue.pass(index, given, &mut Uncounted);
-        given
+        let own = self.queue.take_own(index, count, msgs, &mut Uncounted);
+        let shared = put_clones(&self.queue, index, count - own, msgs);
+        self.queue.pass(index, shared, &mut Uncounted);
+        self.cursors.replace(key, number + (own + shared) as u64);
+        self.queue.invariant_holds();
+        own + shared
     }
 }
 
@@ -176,7 +145,8 @@ fn put_clones<T: Clone, A: Allocator, B: Allocator>(
     ensures at_most { result ≤ count }
     ensures given { AppendsClones T.is_clone msgs.old.items msgs.new.items
         (take result (drop index queue.now.messages)) }
-    ensures sure { ((msg : T) → T.is_infallible msg) → result ≡ count }
+    ensures refused { result < count → IsSomeAnd
+        (slice_get queue.now.messages (index + result)) (λ msg. T.is_infallible msg → ⊥) }
     ensures len { vec_len msgs.new ≡ vec_len msgs.old + result }
     ensures capacity { vec_capacity msgs.new ≡ vec_capacity msgs.old }
 {

@@ -1,100 +1,140 @@
-//! Receivers, and the counts of senders and inactive receivers.
-ghost use Rattle.std.specs.Prelude.{◌≡◌, ◌+◌, ◌-◌, ◌^◌, ◌<◌, ◌≤◌, true, None, IfOk, IfErr, OnErr, is_some};
-ghost use Rattle.std.specs.FinMap.{len, remove};
+//! The calls that make or drop a handle, except that they tell no sender.
+ghost use Rattle.std.specs.Prelude.{◌^◌, ◌<◌};
+ghost use Rattle.std.specs.FinMap.{len};
+ghost use Rattle.bcast_model.specs.Words.{NoClone, IsValidView};
+ghost use Rattle.bcast_core.specs.Parts.{Does};
+ghost use Rattle.bcast_model.specs.declared.run.Call.TheVariants as call;
+ghost use Rattle.bcast_model.specs.declared.run.Reply.TheVariants as reply;
 
 use super::Parts;
 use bcast_model::error::HandleError;
-use bcast_model::listener::Kind;
 use bcast_waiting::notice::Notice;
 use std::alloc::Allocator;
 
 impl<T: Drop, N: Notice, A: Allocator + Copy> Parts<T, N, A> {
-    ghost use Rattle.bcast_model.specs.Words.{IsValidView, with_cursor, without_receiver, settle};
-    ghost use Rattle.bcast_model.specs.Words.{sets, cursor_of, pair_ended, stream_of, future_of};
-
-    /// Adds a receiver that reads the message of this number next, under a key that none has.
     #[inline(always)]
-    pub fn add_receiver(&mut self, cursor: u64) -> Result<usize, HandleError>
-        requires valid { IsValidView self.old }
-        requires reach { cursor ≤ self.old.end }
-        ensures free { IfOk result (λ key. cursor_of self.old.control key ≡ None) }
-        ensures ok { IfOk result (λ key. self.new
-            ≡ settle self.old (sets (with_cursor self.old.control key cursor))) }
-        ensures fits { IfOk result
-            (λ key. len (with_cursor self.old.control key cursor).cursors < 2 ^ 64) }
-        ensures memory { IfErr result (λ error. error ≡ HandleError.Memory) }
-        ensures err { OnErr result (self.new ≡ self.old) }
+    pub fn new_sender(&mut self) -> Result<(), HandleError>
+        requires { IsValidView self.old }
+        ensures { Does NoClone self.old call.NewSender (reply.NewSender result) self.new }
     {
-        let Ok(key) = self.store.add(cursor) else {
-            return Err(HandleError::Memory);
-        };
-        let Ok(()) = self.receives.reserve_for((key, Kind::Future)) else {
-            self.store.remove(key);
-            return Err(HandleError::Memory);
-        };
-        self.store.invariant_holds();
-        Ok(key)
-    }
-
-    // Removes a receiver's cursor, and drops the messages that no receiver has to read any more.
-    #[inline(always)]
-    fn remove_cursor(&mut self, key: usize)
-        requires { is_some (cursor_of self.old.control key) ≡ true }
-        ensures { self.new ≡ settle self.old
-            (sets (record self.old.control { cursors = remove self.old.control.cursors key })) }
-    {
-        self.store.remove(key);
-    }
-
-    /// Removes a receiver: its stream is dropped, then its future, then its cursor.
-    #[inline(always)]
-    pub fn remove_receiver(&mut self, key: usize)
-        requires valid { IsValidView self.old }
-        requires there { is_some (cursor_of self.old.control key) ≡ true }
-        ensures { self.new ≡ settle self.old (sets (without_receiver self.old.control key)) }
-    {
-        if !self.receives.is_empty() {
-            self.end_listeners(key);
+        if self.senders() == usize::MAX {
+            return Err(HandleError::TooMany);
         }
-        self.remove_cursor(key);
+        self.set_senders(self.senders() + 1);
+        Ok(())
     }
 
-    // In a function of its own, so that a receiver that leaves while none waits costs one test.
-    #[inline(never)]
-    fn end_listeners(&mut self, key: usize)
-        ensures { self.new ≡ record self.old {
-          control = pair_ended (pair_ended self.old.control (stream_of key)) (future_of key);
-        } }
+    pub fn clone_inactive(&mut self) -> Result<(), HandleError>
+        requires { IsValidView self.old }
+        ensures { Does NoClone self.old call.CloneInactive (reply.CloneInactive result) self.new }
     {
-        let _ = self.pair_ended(key, Kind::Stream);
-        let _ = self.pair_ended(key, Kind::Future);
+        if self.inactive() == 0 {
+            return Err(HandleError::Gone);
+        }
+        if self.inactive() == usize::MAX {
+            return Err(HandleError::TooMany);
+        }
+        self.set_inactive(self.inactive() + 1);
+        Ok(())
     }
 
-    pub fn set_senders(&mut self, senders: usize)
-        ensures { self.new
-            ≡ record self.old { control = record self.old.control { senders = senders } } }
+    #[inline(always)]
+    pub fn new_receiver(&mut self) -> Result<usize, HandleError>
+        requires { IsValidView self.old }
+        ensures does { Does NoClone self.old call.NewReceiver (reply.NewReceiver result) self.new }
+        ensures fits { len self.new.control.cursors < 2 ^ 64 }
     {
-        self.senders = senders;
+        self.add_receiver(self.end())
     }
 
-    pub fn set_inactive(&mut self, inactive: usize)
-        ensures { self.new
-            ≡ record self.old { control = record self.old.control { inactive = inactive } } }
+    pub fn activate(&mut self) -> Result<usize, HandleError>
+        requires { IsValidView self.old }
+        ensures does { Does NoClone self.old call.Activate (reply.Activate result) self.new }
+        ensures fits { len self.new.control.cursors < 2 ^ 64 }
     {
-        self.inactive = inactive;
+        if self.inactive() == 0 {
+            return Err(HandleError::Gone);
+        }
+        let inactive = self.inactive() - 1;
+        match self.add_receiver(self.end()) {
+            Ok(key) => {
+                self.set_inactive(inactive);
+                Ok(key)
+            }
+            Err(refused) => Err(refused),
+        }
     }
 
-    pub fn set_overflow(&mut self, on: bool)
-        ensures { self.new
-            ≡ record self.old { control = record self.old.control { overflow = on } } }
+    pub fn activate_cloned(&mut self) -> Result<usize, HandleError>
+        requires { IsValidView self.old }
+        ensures does { Does NoClone self.old call.ActivateCloned (reply.ActivateCloned result)
+            self.new }
+        ensures fits { len self.new.control.cursors < 2 ^ 64 }
     {
-        self.overflow = on;
+        if self.inactive() == 0 {
+            return Err(HandleError::Gone);
+        }
+        self.add_receiver(self.end())
     }
 
-    pub fn set_await_active(&mut self, on: bool)
-        ensures { self.new
-            ≡ record self.old { control = record self.old.control { await_active = on } } }
+    #[inline(always)]
+    pub fn clone_receiver(&mut self, key: usize) -> Result<usize, HandleError>
+        requires { IsValidView self.old }
+        ensures does { Does NoClone self.old (call.CloneReceiver key) (reply.CloneReceiver result)
+            self.new }
+        ensures fits { len self.new.control.cursors < 2 ^ 64 }
     {
-        self.await_active = on;
+        let Some(cursor) = self.cursor(key) else {
+            return Err(HandleError::Gone);
+        };
+        self.add_receiver(cursor)
+    }
+
+    pub fn deactivate(&mut self, key: usize) -> Result<(), HandleError>
+        requires { IsValidView self.old }
+        ensures { Does NoClone self.old (call.Deactivate key) (reply.Deactivate result) self.new }
+    {
+        let Some(_) = self.cursor(key) else {
+            return Err(HandleError::Gone);
+        };
+        let inactive = self.inactive();
+        if inactive == usize::MAX {
+            return Err(HandleError::TooMany);
+        }
+        self.remove_receiver(key);
+        self.set_inactive(inactive + 1);
+        Ok(())
+    }
+
+    #[inline(always)]
+    pub fn drop_sender(&mut self)
+        requires { IsValidView self.old }
+        ensures { Does NoClone self.old call.DropSender reply.DropSender self.new }
+    {
+        if self.senders() > 0 {
+            self.set_senders(self.senders() - 1);
+            self.close_if_deserted();
+        }
+    }
+
+    pub fn drop_inactive(&mut self)
+        requires { IsValidView self.old }
+        ensures { Does NoClone self.old call.DropInactive reply.DropInactive self.new }
+    {
+        if self.inactive() > 0 {
+            self.set_inactive(self.inactive() - 1);
+            self.close_if_deserted();
+        }
+    }
+
+    #[inline(always)]
+    pub fn drop_receiver(&mut self, key: usize)
+        requires { IsValidView self.old }
+        ensures { Does NoClone self.old (call.DropReceiver key) reply.DropReceiver self.new }
+    {
+        if self.cursor(key).is_some() {
+            self.remove_receiver(key);
+            self.close_if_deserted();
+        }
     }
 }

@@ -1,5 +1,6 @@
 //! Receiving.
-ghost use Rattle.std.specs.Prelude.{◌≡◌, ◌⊎◌, ◌+◌, ◌<◌, true, false, max, Some, Ok, Err, IfOk, OnOk, OnErr, IsOk, IsSomeAnd, alloc_error};
+ghost use Rattle.std.specs.Prelude.{vec_len, vec_capacity, ◌≡◌, ◌⊎◌, ◌+◌, ◌<◌, ◌≤◌, true, false, max};
+ghost use Rattle.std.specs.Prelude.{Some, Ok, Err, IfOk, OnOk, OnErr, IsOk, IsSomeAnd, alloc_error};
 ghost use Rattle.bcast_model.specs.Receiving.{is_empty_reply};
 
 use super::Parts;
@@ -15,9 +16,7 @@ impl<T: Clone, N: Notice, A: Allocator + Copy> Parts<T, N, A> {
     ghost use Rattle.bcast_model.specs.Words.{skipped_to, settle, sets, cursor_of};
     ghost use Rattle.bcast_model.specs.Words.{kept_at, try_recv_reply, IsOwed, with_cursor};
     ghost use Rattle.bcast_model.specs.Words.{pair_answered, tell_if_ready};
-    ghost use Rattle.bcast_core.specs.Parts.{Does};
-    ghost use Rattle.bcast_core.specs.Parts.{tries_by};
-    ghost use Rattle.bcast_core.specs.Parts.{finds_nothing};
+    ghost use Rattle.bcast_core.specs.Parts.{AreHandedOut, Does, tries_by, finds_nothing};
     ghost use Rattle.bcast_core.specs.Polls.{reads_at, skips_of};
     ghost use Rattle.bcast_model.specs.declared.run.Call.TheVariants as call;
     ghost use Rattle.bcast_model.specs.declared.run.Reply.TheVariants as reply;
@@ -77,6 +76,30 @@ impl<T: Clone, N: Notice, A: Allocator + Copy> Parts<T, N, A> {
         } else {
             Ok(Err(TryRecvError::Empty))
         }
+    }
+
+    /// Gives the receiver `key` the `count` messages from its cursor on: puts them last into `msgs`,
+    /// and returns how many they are. They are fewer only if memory for a clone was refused.
+    #[inline(always)]
+    pub fn read_many<B: Allocator>(
+        &mut self,
+        key: usize,
+        cursor: u64,
+        count: usize,
+        msgs: &mut Vec<T, B>,
+    ) -> usize
+        requires at { cursor_of self.old.control key ≡ Some cursor }
+        requires kept { (self.old.front ≤ cursor) × (cursor + count ≤ self.old.end) }
+        requires room { vec_len msgs.old + count ≤ vec_capacity msgs.old }
+        ensures at_most { result ≤ count }
+        ensures given { AreHandedOut T.is_clone self.old key cursor msgs.old.items result
+            msgs.new.items }
+        ensures passed { self.new
+            ≡ settle self.old (sets (with_cursor self.old.control key (cursor + result))) }
+        ensures refused { result < count → IsSomeAnd (kept_at self.old (cursor + result))
+            (λ msg. T.is_infallible msg → ⊥) }
+    {
+        self.store.read_many(key, cursor, count, msgs)
     }
 
     /// Where a receive that waits reads: at the receiver's cursor, or, if it skips what was missed,

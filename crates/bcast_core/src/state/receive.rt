@@ -1,8 +1,10 @@
-//! Receiving at once.
-ghost use Rattle.std.specs.Prelude.{◌≡◌, IsOk};
+//! Receiving at once: one message, or all that are there.
+ghost use Rattle.std.specs.Prelude.{vec_len, vec_capacity, ◌≡◌, ◌⊎◌, ◌+◌, ◌≤◌, min, IsOk};
 ghost use Rattle.bcast_model.specs.Answers.{Answers};
+ghost use Rattle.bcast_model.specs.Words.{missed, unread};
 ghost use Rattle.bcast_model.specs.declared.run.Call.TheVariants as call;
 ghost use Rattle.bcast_model.specs.declared.run.Reply.TheVariants as reply;
+ghost use Rattle.bcast_core.specs.Batch.{MayBeRefused, ReceivesInto};
 
 use super::Inner;
 use bcast_model::error::TryRecvError;
@@ -39,5 +41,42 @@ impl<T: Clone, N: Notice, A: Allocator + Copy> Inner<T, N, A> {
             self.parts.tell_a_sender();
         }
         received
+    }
+    /// Gives the receiver of this key those of its next messages that are there, at most `limit`:
+    /// puts them last into `msgs`, and returns how many they are.
+    ///
+    /// It is as many `try_recv` in a row. If the receiver missed messages, or there is none for it,
+    /// it gives none, and `try_recv` says why. Memory in `msgs` for those that are there is taken
+    /// first: if it is refused, none is given. If memory for the clone of one is refused, those
+    /// before it are given.
+    ///
+    /// Source: this crate's own.
+    pub fn receive_many<B: Allocator>(
+        &mut self,
+        key: usize,
+        limit: usize,
+        msgs: &mut Vec<T, B>,
+    ) -> usize
+        ensures at_most { result ≤ limit }
+        ensures received { ReceivesInto (Answers T.is_clone) key
+            self.old msgs.old.items result msgs.new.items self.new }
+        // If `msgs` has room, all that are there are given, or those up to one whose clone may fail.
+        ensures sure { missed self.old key ≡ 0
+            → vec_len msgs.old + limit ≤ vec_capacity msgs.old
+            → (result ≡ min limit (unread self.old key)) ⊎ MayBeRefused T.is_infallible self.new key }
+    {
+        let Some(cursor) = self.parts.cursor(key) else {
+            return 0;
+        };
+        if cursor < self.parts.front() {
+            return 0;
+        }
+        let count = ((self.parts.end() - cursor) as usize).min(limit);
+        if count == 0 || msgs.reserve(count).is_err() {
+            return 0;
+        }
+        let given = self.parts.read_many(key, cursor, count, msgs);
+        self.parts.tell_a_sender();
+        given
     }
 }

@@ -38,6 +38,8 @@ impl<T: Drop, N: Notice, A: Allocator + Copy> Inner<T, N, A> {
         ensures { Answers NoClone self.old (call.SetCapacity n) (reply.SetCapacity result)
             self.new }
     {
+        // A program that isn't proved stops here.
+        prove!(n > 0);
         let set = self.parts.set_capacity(n);
         self.parts.tell_a_sender();
         set

@@ -1,5 +1,6 @@
-//! Rows of three readers, one of which passes messages that the others owe too.
-ghost use Rattle.std.specs.Prelude.{◌≡◌, ◌+◌, ◌≤◌, ◌<◌, [], ◌∷◌, true, false};
+//! Rows of three readers, one of which passes messages that the others owe too, and of messages that
+//! one reader alone owes.
+ghost use Rattle.std.specs.Prelude.{◌≡◌, ◌+◌, ◌≤◌, ◌<◌, [], ◌∷◌};
 ghost use Rattle.bcast_queue.specs.Queue.{queue_with};
 
 use super::has;
@@ -18,37 +19,12 @@ fn three_are_pushed(queue: &mut Queue<u8>)
     queue.push(b'c', 3);
 }
 
-fn two_owe_the_first<L: Ledger>(queue: &mut Queue<u8>, steps: &mut Steps<L>) -> bool
-    requires { queue.old ≡ queue_with 0 (97 ∷ 98 ∷ 99 ∷ []) (2 ∷ 2 ∷ 3 ∷ []) 4 }
-    ensures answer { result ≡ true }
-    ensures unchanged { queue.new ≡ queue.old }
-    ensures steps { steps.new ≤ steps.old + 1 }
-{
-    queue.is_shared(0, steps)
-}
-
 fn one_passes_two<L: Ledger>(queue: &mut Queue<u8>, steps: &mut Steps<L>)
     requires { queue.old ≡ queue_with 0 (97 ∷ 98 ∷ 99 ∷ []) (2 ∷ 2 ∷ 3 ∷ []) 4 }
     ensures owed { queue.new ≡ queue_with 0 (97 ∷ 98 ∷ 99 ∷ []) (1 ∷ 1 ∷ 3 ∷ []) 4 }
     ensures steps { steps.new ≤ steps.old + 2 }
 {
     queue.pass(0, 2, steps);
-}
-
-fn one_owes_the_first(queue: &mut Queue<u8>) -> bool
-    requires { queue.old ≡ queue_with 0 (97 ∷ 98 ∷ 99 ∷ []) (1 ∷ 1 ∷ 3 ∷ []) 4 }
-    ensures answer { result ≡ false }
-    ensures unchanged { queue.new ≡ queue.old }
-{
-    queue.is_shared(0, &mut Uncounted)
-}
-
-fn three_owe_the_last(queue: &mut Queue<u8>) -> bool
-    requires { queue.old ≡ queue_with 0 (97 ∷ 98 ∷ 99 ∷ []) (1 ∷ 1 ∷ 3 ∷ []) 4 }
-    ensures answer { result ≡ true }
-    ensures unchanged { queue.new ≡ queue.old }
-{
-    queue.is_shared(2, &mut Uncounted)
 }
 
 fn it_passes_the_last<L: Ledger>(queue: &mut Queue<u8>, steps: &mut Steps<L>)
@@ -83,18 +59,14 @@ fn make_rows<L: Ledger>(alloc: Global, blank: Blank) -> Result<bool, AllocError>
     let mut steps = Steps::<L>::new(blank);
     let mut queue = Queue::new(alloc, 0, 4)?;
     three_are_pushed(&mut queue);
-    let mut is = two_owe_the_first(&mut queue, &mut steps);
-    is &= has(&queue, 0, b"abc");
+    let mut is = has(&queue, 0, b"abc");
     one_passes_two(&mut queue, &mut steps);
     is &= has(&queue, 0, b"abc");
-    is &= !one_owes_the_first(&mut queue);
-    is &= three_owe_the_last(&mut queue);
     it_passes_the_last(&mut queue, &mut steps);
     it_passes_none_at_the_end(&mut queue, &mut steps);
     is &= has(&queue, 0, b"abc");
     the_slow_one_leaves(&mut queue);
     is &= has(&queue, 2, b"c");
-    is &= !queue.is_shared(0, &mut steps);
     queue.leave(0, &mut steps);
     is &= has(&queue, 3, b"");
     Ok(is)
@@ -103,5 +75,42 @@ fn make_rows<L: Ledger>(alloc: Global, blank: Blank) -> Result<bool, AllocError>
 #[test]
 fn a_reader_passes_what_others_owe(rt: HostRuntime) -> Result<(), Fail> {
     assert!(rt; make_rows::<Brand>(rt.alloc(), Blank::new(1))?);
+    Ok(())
+}
+
+fn one_owes_the_first_two(queue: &mut Queue<u8>)
+    requires { queue.old ≡ queue_with 0 [] [] 4 }
+{
+    queue.push(b'a', 1);
+    queue.push(b'b', 1);
+    queue.push(b'c', 3);
+}
+
+// What is taken out of the first so many messages.
+fn taken(queue: &mut Queue<u8>, alloc: Global, count: usize) -> Result<Vec<u8>, AllocError> {
+    let mut msgs = Vec::with_capacity(alloc, count)?;
+    if count <= queue.len() {
+        queue.take_own(0, count, &mut msgs, &mut Uncounted);
+    }
+    Ok(msgs)
+}
+
+// Whether what one reader alone owes is taken out, and nothing else.
+fn take_rows(alloc: Global) -> Result<bool, AllocError> {
+    let mut queue = Queue::new(alloc, 0, 4)?;
+    one_owes_the_first_two(&mut queue);
+    let mut is = taken(&mut queue, alloc, 0)?.is_empty() && has(&queue, 0, b"abc");
+    is &= taken(&mut queue, alloc, 1)?.as_slice() == b"a".as_slice() && has(&queue, 1, b"bc");
+    is &= taken(&mut queue, alloc, 2)?.as_slice() == b"b".as_slice() && has(&queue, 2, b"c");
+    is &= taken(&mut queue, alloc, 1)?.is_empty() && has(&queue, 2, b"c");
+    let mut other = Queue::new(alloc, 0, 4)?;
+    three_are_pushed(&mut other);
+    is &= taken(&mut other, alloc, 3)?.is_empty() && has(&other, 0, b"abc");
+    Ok(is)
+}
+
+#[test]
+fn what_one_reader_owes_is_taken_out(rt: HostRuntime) -> Result<(), Fail> {
+    assert!(rt; take_rows(rt.alloc())?);
     Ok(())
 }

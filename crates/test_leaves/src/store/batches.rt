@@ -1,4 +1,4 @@
-//! Rows of two receivers that are given clones of several messages at once.
+//! Rows of two receivers that are given several messages at once, themselves or as clones.
 use bcast_store::Store;
 use std::alloc::{AllocError, Global};
 use std::test::Fail;
@@ -22,59 +22,76 @@ impl Clone for Letter {
     }
 }
 
-// The name of a row, the receiver, how many messages it asks for, and then what it is given, if
-// that is allowed, and the cursors of both receivers.
-type Row = (&'static str, usize, usize, Option<&'static [u8]>, [u64; 2]);
+// The name of a row, the receiver, how many messages it asks for; then the letters that it is given,
+// themselves and as clones, the cursors of both receivers, and the front.
+type Row = (
+    &'static str,
+    usize,
+    usize,
+    &'static [u8],
+    &'static [u8],
+    [u64; 2],
+    u64,
+);
 
-const ALL_CLONED: &[Row] = &[
-    ("none", 0, 0, Some(b""), [7, 7]),
-    ("two", 0, 2, Some(b"ab"), [9, 7]),
-    ("not past the end", 0, 3, None, [9, 7]),
-    ("the others", 0, 2, Some(b"cd"), [11, 7]),
-    ("none at the end", 0, 0, Some(b""), [11, 7]),
-    ("not what it alone has to read", 1, 1, None, [11, 7]),
+const ALL_GIVEN: &[Row] = &[
+    ("none", 0, 0, b"", b"", [7, 7], 7),
+    ("two clones", 0, 2, b"", b"ab", [9, 7], 7),
+    ("not past the end", 0, 3, b"", b"", [9, 7], 7),
+    (
+        "two of its own, then two clones",
+        1,
+        4,
+        b"ab",
+        b"cd",
+        [9, 11],
+        9,
+    ),
+    ("none at the end", 1, 0, b"", b"", [9, 11], 9),
+    ("one of its own", 0, 1, b"c", b"", [10, 11], 10),
+    ("the last", 0, 1, b"d", b"", [11, 11], 11),
 ];
 
 const ONE_REFUSED: &[Row] = &[
-    ("those before it", 1, 4, Some(b"ab"), [7, 9]),
-    ("none", 1, 2, Some(b""), [7, 9]),
-    ("not what it alone has to read", 0, 2, None, [7, 9]),
+    ("the clones before it", 1, 4, b"", b"ab", [7, 9], 7),
+    ("none", 1, 2, b"", b"", [7, 9], 7),
+    ("its own before it", 0, 4, b"ab", b"", [9, 9], 9),
+    ("none, and it stays", 0, 2, b"", b"", [9, 9], 9),
 ];
 
-// What a receiver is given, if it may be given clones of so many messages at its cursor.
+// What a receiver is given for so many messages at its cursor: none if there are not so many.
 fn given(
     store: &mut Store<Letter>,
     alloc: Global,
     key: usize,
     count: usize,
-) -> Result<Option<Vec<Letter>>, AllocError> {
+) -> Result<Vec<Letter>, AllocError> {
+    let mut msgs = Vec::with_capacity(alloc, count)?;
     let Some(number) = store.cursor(key) else {
-        return Ok(None);
+        return Ok(msgs);
     };
     if number < store.front() || number > store.end() || count as u64 > store.end() - number {
-        return Ok(None);
+        return Ok(msgs);
     }
-    if count > 0 && !store.is_shared(key, number) {
-        return Ok(None);
-    }
-    let mut msgs = Vec::with_capacity(alloc, count)?;
-    let len = store.read_shared(key, number, count, &mut msgs);
-    Ok((len == msgs.len()).then_some(msgs))
+    store.read_many(key, number, count, &mut msgs);
+    Ok(msgs)
 }
 
-// Whether these are clones of these letters.
-fn are_clones(msgs: &[Letter], letters: &[u8]) -> bool {
-    let mut are = msgs.len() == letters.len();
-    for (msg, letter) in msgs.iter().zip(letters) {
-        are &= msg.letter == *letter && msg.is_clone;
+// Whether these are the messages of the first letters, and then clones of the others.
+fn are(msgs: &[Letter], own: &[u8], cloned: &[u8]) -> bool {
+    let mut are = msgs.len() == own.len() + cloned.len();
+    for (index, (msg, letter)) in msgs.iter().zip(own.iter().chain(cloned.iter())).enumerate() {
+        are &= msg.letter == *letter && msg.is_clone == (index >= own.len());
     }
     are
 }
 
-// Whether a store has these messages themselves, from 7 on.
-fn has(store: &Store<Letter>, letters: &[u8]) -> bool {
-    let mut has = store.front() == 7 && store.len() == letters.len();
-    for (index, letter) in letters.iter().enumerate() {
+// Whether a store has the messages themselves from this number on, of those whose first has the
+// number 7.
+fn has(store: &Store<Letter>, letters: &[u8], front: u64) -> bool {
+    let gone = front.saturating_sub(7) as usize;
+    let mut has = store.front() == front && store.len() == letters.len().saturating_sub(gone);
+    for (index, letter) in letters.iter().skip(gone).enumerate() {
         has &= store
             .get(index)
             .is_some_and(|msg| msg.letter == *letter && !msg.is_clone);
@@ -99,15 +116,10 @@ fn first_wrong(
             });
         }
     }
-    for (name, receiver, count, answer, cursors) in rows {
+    for (name, receiver, count, own, cloned, cursors, front) in rows {
         let given = given(&mut store, alloc, keys[*receiver % 2], *count)?;
-        let is_given = match (given, answer) {
-            (Some(msgs), Some(letters)) => are_clones(&msgs, letters),
-            (None, None) => true,
-            _ => false,
-        };
-        let are = keys.map(|key| store.cursor(key)) == [Some(cursors[0]), Some(cursors[1])];
-        if !is_given || !are || !has(&store, letters) {
+        let stand = keys.map(|key| store.cursor(key)) == [Some(cursors[0]), Some(cursors[1])];
+        if !are(&given, own, cloned) || !stand || !has(&store, letters, *front) {
             return Ok(Some(*name));
         }
     }
@@ -115,8 +127,8 @@ fn first_wrong(
 }
 
 #[test]
-fn a_batch_is_cloned_until_a_clone_is_refused(rt: HostRuntime) -> Result<(), Fail> {
-    for (letters, rows) in [(b"abcd", ALL_CLONED), (b"abxd", ONE_REFUSED)] {
+fn a_batch_gives_what_is_there_until_a_clone_is_refused(rt: HostRuntime) -> Result<(), Fail> {
+    for (letters, rows) in [(b"abcd", ALL_GIVEN), (b"abxd", ONE_REFUSED)] {
         assert_eq!(rt; first_wrong(rt.alloc(), letters, rows)?, None);
     }
     Ok(())

@@ -1,14 +1,13 @@
 -- A receiver reads, and its cursor moves; if its read is refused, the cursor is put back.
-use Rattle.std.proofs.Common.{◌≡◌, ℕ, Bool, true, false, cond, Some, ◌+◌, ◌-◌, refl, ap, sym, ◌∙◌, subst, eqb-true, arith, rules}
+use Rattle.std.proofs.Common.{◌≡◌, ℕ, Some, ◌+◌, ◌-◌, ap, ◌∙◌, subst, arith, rules}
 use Rattle.std.proofs.lemmas.Grind.{common_steps}
-use Rattle.std.specs.Ordering.{nat_cmp, eq_by_cmp}
-use Rattle.std.specs.Cmp.{nat_cmp_total, unsigned_tied}
-use Rattle.std.specs.FinMap.{nat_cmp-IsAntisymmetric, get, insert, get-insert, same_map}
+use Rattle.std.specs.FinMap.{get, insert}
 use Rattle.bcast_model.specs.Control.{Cursors}
 use Rattle.bcast_model.proofs.DeliveryMaps.{inserted}
 use Rattle.bcast_queue.specs.Queue.{read_at}
 use Rattle.bcast_store.specs.Stored.{Stored, with_cursors, IsOwed, IsHandedOut}
 use Rattle.bcast_store.proofs.Counted.{IsCounted}
+use Rattle.bcast_store.proofs.Least.{insert_twice, insert_there}
 use Rattle.bcast_store.proofs.Messages.{same_sound, same_store}
 use Rattle.bcast_store.proofs.Reading.{is_reading, reading_up, sound_read, store_read}
 use Rattle.bcast_store.proofs.HandedOut.{owed_by_another, handed_out}
@@ -16,15 +15,7 @@ use Rattle.bcast_store.proofs.Store.read.Goals as goal
 
 -- a cursor that is put back
 put_back : (m : Cursors) (key cursor other : ℕ) → get m key ≡ Some cursor → insert (insert m key other) key cursor ≡ m
-put_back m key cursor other at =
-    same_map nat_cmp_total nat_cmp-IsAntisymmetric _ _ (λ q.
-    get-insert nat_cmp_total (insert m key other) key cursor q
-    ∙ ap (λ o. cond (eq_by_cmp nat_cmp q key) (Some cursor) o) (get-insert nat_cmp_total m key other q)
-    ∙ by_key q (eq_by_cmp nat_cmp q key) refl)
-  where
-    by_key : (q : ℕ) (b : Bool) → eq_by_cmp nat_cmp q key ≡ b → cond b (Some cursor) (cond b (Some other) (get m q)) ≡ get m q
-    by_key q true e = sym (ap (get m) (eqb-true q key (sym (unsigned_tied q key) ∙ e)) ∙ at)
-    by_key q false e = refl
+put_back m key cursor other at = insert_twice m key other cursor ∙ insert_there m key cursor at
 
 -- what callers rely on, before what the code itself needs
 pub returns-in-Ok-clause-given : goal.returns-in-Ok-clause-given

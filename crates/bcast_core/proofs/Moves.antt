@@ -1,0 +1,118 @@
+-- What is seen once a receiver has moved on, and a send was told.
+use Rattle.std.proofs.Common.{◌≡◌, inl, inr, ℕ, ◌+◌, ◌-◌, ◌≤◌, ◌==◌, true, false, cond, not, ◌&&◌, ◌||◌, [], ◌++◌, length, max, min, drop, Some, slice_get, List, refl, sym, ap, ◌∙◌, arith, append-nil, length-drop}
+use Rattle.std.proofs.lemmas.Bool.{cases_eq}
+use Rattle.std.proofs.lemmas.Grind.{common_steps}
+use Rattle.std.proofs.lemmas.List.{drop-drop, get_or-drop}
+use Rattle.std.proofs.lemmas.Option.{same_Some, slice_get_within, slice_get_read, get_or_from_slice_get}
+use Rattle.std.specs.FinMap.{get, insert, len, values}
+use Rattle.bcast_model.specs.Words.{Cursors, Listeners, View, cursor_of, kept_at, least, sends_are_ready, sets, settle, tell, tell_a_sender, tell_if_ready, with_cursor}
+use Rattle.bcast_model.proofs.Cases.{test_is}
+use Rattle.bcast_model.proofs.DeliveryMaps.{inserted, inserted_other}
+use Rattle.bcast_model.proofs.Least.{least-le-cursor, least-le-limit, least-greatest, len_insert, len_some}
+use Rattle.bcast_store.proofs.Least.{insert_twice}
+use Rattle.bcast_core.proofs.Settle.{settle_to}
+
+positive : (n : ℕ) → 1 ≤ n → (n == 0) ≡ false
+positive n some = grind (arith, common_steps, some)
+
+-- the least cursor rises with each
+least_moved : (end : ℕ) (m : Cursors) (key from to : ℕ) → from ≤ to → least end (values (insert m key from)) ≤ least end (values (insert m key to))
+least_moved end m key from to rises =
+    let was = insert m key from in
+    let own = least-le-cursor end was key from (inserted m key from) in
+    least-greatest (least end (values was)) end (insert m key to) (least-le-limit end (values was)) (λ q c is. elim (cases_eq q key) [
+      | inl same ↦ let e : to ≡ c = same_Some to c (sym (inserted m key to) ∙ ap (λ k. get (insert m key to) k) (sym same) ∙ is) in omega (arith, own, rises, e)
+      | inr differs ↦ least-le-cursor end was q c (inserted_other m key from q differs ∙ sym (inserted_other m key to q differs) ∙ is)
+    ])
+
+-- a send that was told is not told again
+tell_twice : {A : Type 0} (l : Listeners A) → tell 1 (tell 1 l) ≡ tell 1 l
+tell_twice l = let told : max (max l.told (min 1 (length l.ids))) (min 1 (length l.ids)) ≡ max l.told (min 1 (length l.ids)) = omega arith in ap (λ n. record l { told = n }) told
+
+module _ {T : Type 0} where
+  -- the receiver `key` has moved on to this number
+  abbrev pub moved : View T → ℕ → ℕ → View T
+  moved v key to = settle v (sets (with_cursor v.control key to))
+
+  -- and one send was told, if sends are ready
+  abbrev pub after : View T → ℕ → ℕ → View T
+  after v key to = tell_if_ready true (moved v key to)
+
+  front_moved : (v : View T) (key from to : ℕ) → from ≤ to → (moved (moved v key from) key to).front ≡ (moved v key to).front
+  front_moved v key from to rises =
+      let w = moved v key from in
+      let end : w.end + 0 ≡ v.end + 0 = omega arith in
+      let low = least_moved (v.end + 0) v.control.cursors key from to rises in
+      ap (λ e. max (max w.front 0) (least e (values (insert w.control.cursors key to)))) end
+      ∙ ap (λ m. max (max w.front 0) (least (v.end + 0) (values m))) (insert_twice v.control.cursors key from to)
+      ∙ omega (arith, low)
+
+  moved_twice : (v : View T) (key from to : ℕ) → from ≤ to → moved (moved v key from) key to ≡ moved v key to
+  moved_twice v key from to rises =
+      let w = moved v key from in
+      let new = moved v key to in
+      let low = least_moved (v.end + 0) v.control.cursors key from to rises in
+      let dropped : w.front - v.front + (new.front - w.front) ≡ new.front - v.front = omega (arith, low) in
+      let end : w.end + 0 ≡ new.end = omega arith in
+      settle_to w (sets (with_cursor w.control key to)) new (front_moved v key from to rises)
+      (ap (drop (new.front - w.front)) (append-nil w.queue) ∙ drop-drop (new.front - w.front) (w.front - v.front) (v.queue ++ []) ∙ ap (λ n. drop n (v.queue ++ [])) dropped)
+      end (ap (λ m. record v.control { cursors = m }) (insert_twice v.control.cursors key from to))
+
+  -- ---- readiness
+  full_before : (v : View T) (key to : ℕ) → length v.queue ≤ v.control.capacity → (length (moved v key to).queue == v.control.capacity) ≡ true → (length v.queue == v.control.capacity) ≡ true
+  full_before v key to fits full =
+      let kept = length-drop ((moved v key to).front - v.front) (v.queue ++ []) in
+      let all = ap length (append-nil v.queue) in
+      grind (arith, common_steps, kept, all, fits, full)
+
+  -- sends that are ready stay so
+  ready_moved : (v : View T) (key cursor to : ℕ) → cursor_of v.control key ≡ Some cursor → length v.queue ≤ v.control.capacity → sends_are_ready v ≡ true → sends_are_ready (moved v key to) ≡ true
+  ready_moved v key cursor to there fits ready =
+      let now = positive (len (insert v.control.cursors key to)) (len_insert v.control.cursors key to) in
+      let was = positive (len v.control.cursors) (len_some v.control.cursors key cursor there) in
+      elim (length (moved v key to).queue == v.control.capacity) as (λ b. (length (moved v key to).queue == v.control.capacity) ≡ b → (v.control.closed || (not (len (insert v.control.cursors key to) == 0) && (v.control.overflow || not b)) || ((len (insert v.control.cursors key to) == 0) && not v.control.await_active)) ≡ true) [
+        | true ↦ λ full. (let before = full_before v key to fits full in grind (arith, common_steps, now, was, before, ready))
+        | false ↦ λ full. grind (arith, common_steps, now)
+      ] refl
+
+  -- ---- a send is told once
+  told_moved : (w : View T) (key to : ℕ) → (sends_are_ready w ≡ true → sends_are_ready (moved w key to) ≡ true) → after (tell_if_ready true w) key to ≡ after w key to
+  told_moved w key to stays =
+      elim (sends_are_ready w) as (λ b. sends_are_ready w ≡ b → tell_if_ready true (moved (cond b (record w { control = tell_a_sender w.control }) w) key to) ≡ tell_if_ready true (moved w key to)) [
+        | true ↦ λ ready.
+            let r = stays ready in
+            let told = moved (record w { control = tell_a_sender w.control }) key to in
+            ap (λ b. cond b (record told { control = tell_a_sender told.control }) told) r
+            ∙ ap (λ l. record (moved w key to) { control = record (moved w key to).control { waiting_sends = l } }) (tell_twice w.control.waiting_sends)
+            ∙ sym (ap (λ b. cond b (record (moved w key to) { control = tell_a_sender (moved w key to).control }) (moved w key to)) r)
+        | false ↦ λ _. refl
+      ] refl
+
+  pub after_twice : (v : View T) (key from to : ℕ) → length v.queue ≤ v.control.capacity → from ≤ to → after (after v key from) key to ≡ after v key to
+  after_twice v key from to fits rises =
+      let w = moved v key from in
+      let kept = length-drop (w.front - v.front) (v.queue ++ []) in
+      let all = ap length (append-nil v.queue) in
+      told_moved w key to (ready_moved w key from to (inserted v.control.cursors key from) (omega (arith, kept, all, fits)))
+      ∙ ap (tell_if_ready true) (moved_twice v key from to rises)
+
+  -- ---- what stays
+  -- what telling doesn't change
+  pub told_is : (P : View T → Type 0) (w : View T) → P (record w { control = tell_a_sender w.control }) → P w → P (tell_if_ready true w)
+  told_is P w told same = test_is P (sends_are_ready w) (record w { control = tell_a_sender w.control }) w (λ _. told) (λ _. same)
+
+  pub front_reached : (v : View T) (key to : ℕ) → v.front ≤ to → (moved v key to).front ≤ to
+  front_reached v key to reached = let own = least-le-cursor (v.end + 0) (insert v.control.cursors key to) key to (inserted v.control.cursors key to) in omega (arith, own, reached)
+
+  left_at : (items : List T) (from i : ℕ) (msg : T) → slice_get items (from + i) ≡ Some msg → slice_get (drop from items) i ≡ Some msg
+  left_at items from i msg at =
+      slice_get_read (drop from items) (length (drop from items)) i msg refl (omega (arith, slice_get_within items (from + i) msg at, length-drop from items))
+      (sym (get_or_from_slice_get items (from + i) msg msg at) ∙ sym (get_or-drop from items i msg))
+
+  -- the messages from there on are kept
+  pub kept_moved : (v : View T) (key to number : ℕ) (msg : T) → v.front ≤ to → to ≤ number → kept_at v number ≡ Some msg → kept_at (moved v key to) number ≡ Some msg
+  kept_moved v key to number msg reached from at =
+      let w = moved v key to in
+      let low = front_reached v key to reached in
+      let index : w.front - v.front + (number - w.front) ≡ number - v.front = omega (arith, low, from) in
+      left_at (v.queue ++ []) (w.front - v.front) (number - w.front) msg (ap (λ items. slice_get items (w.front - v.front + (number - w.front))) (append-nil v.queue) ∙ ap (slice_get v.queue) index ∙ at)

@@ -1,0 +1,100 @@
+//! Receivers, and the counts of senders and inactive receivers.
+ghost use Rattle.std.specs.Prelude.{◌≡◌, ◌+◌, ◌-◌, ◌^◌, ◌<◌, ◌≤◌, true, None, IfOk, IfErr, OnErr, is_some};
+ghost use Rattle.std.specs.FinMap.{len, remove};
+
+use super::Parts;
+use bcast_model::error::HandleError;
+use bcast_model::listener::Kind;
+use bcast_waiting::notice::Notice;
+use std::alloc::Allocator;
+
+impl<T: Drop, N: Notice, A: Allocator + Copy> Parts<T, N, A> {
+    ghost use Rattle.bcast_model.specs.Words.{IsValidView, with_cursor, without_receiver, settle};
+    ghost use Rattle.bcast_model.specs.Words.{sets, cursor_of, pair_ended, stream_of, future_of};
+
+    /// Adds a receiver that reads the message of this number next, under a key that none has.
+    #[inline(always)]
+    pub fn add_receiver(&mut self, cursor: u64) -> Result<usize, HandleError>
+        requires valid { IsValidView self.old }
+        requires reach { cursor ≤ self.old.end }
+        ensures free { IfOk result (λ key. cursor_of self.old.control key ≡ None) }
+        ensures ok { IfOk result (λ key. self.new
+            ≡ settle self.old (sets (with_cursor self.old.control key cursor))) }
+        ensures fits { IfOk result
+            (λ key. len (with_cursor self.old.control key cursor).cursors < 2 ^ 64) }
+        ensures memory { IfErr result (λ error. error ≡ HandleError.Memory) }
+        ensures err { OnErr result (self.new ≡ self.old) }
+    {
+        let Ok(key) = self.store.add(cursor) else {
+            return Err(HandleError::Memory);
+        };
+        let Ok(()) = self.receives.reserve_for((key, Kind::Future)) else {
+            self.store.remove(key);
+            return Err(HandleError::Memory);
+        };
+        self.store.invariant_holds();
+        Ok(key)
+    }
+
+    // Removes a receiver's cursor, and drops the messages that no receiver has to read any more.
+    #[inline(always)]
+    fn remove_cursor(&mut self, key: usize)
+        requires { is_some (cursor_of self.old.control key) ≡ true }
+        ensures { self.new ≡ settle self.old
+            (sets (record self.old.control { cursors = remove self.old.control.cursors key })) }
+    {
+        self.store.remove(key);
+    }
+
+    /// Removes a receiver: its stream is dropped, then its future, then its cursor.
+    #[inline(always)]
+    pub fn remove_receiver(&mut self, key: usize)
+        requires valid { IsValidView self.old }
+        requires there { is_some (cursor_of self.old.control key) ≡ true }
+        ensures { self.new ≡ settle self.old (sets (without_receiver self.old.control key)) }
+    {
+        if !self.receives.is_empty() {
+            self.end_listeners(key);
+        }
+        self.remove_cursor(key);
+    }
+
+    // In a function of its own, so that a receiver that leaves while none waits costs one test.
+    #[inline(never)]
+    fn end_listeners(&mut self, key: usize)
+        ensures { self.new ≡ record self.old {
+          control = pair_ended (pair_ended self.old.control (stream_of key)) (future_of key);
+        } }
+    {
+        let _ = self.pair_ended(key, Kind::Stream);
+        let _ = self.pair_ended(key, Kind::Future);
+    }
+
+    pub fn set_senders(&mut self, senders: usize)
+        ensures { self.new
+            ≡ record self.old { control = record self.old.control { senders = senders } } }
+    {
+        self.senders = senders;
+    }
+
+    pub fn set_inactive(&mut self, inactive: usize)
+        ensures { self.new
+            ≡ record self.old { control = record self.old.control { inactive = inactive } } }
+    {
+        self.inactive = inactive;
+    }
+
+    pub fn set_overflow(&mut self, on: bool)
+        ensures { self.new
+            ≡ record self.old { control = record self.old.control { overflow = on } } }
+    {
+        self.overflow = on;
+    }
+
+    pub fn set_await_active(&mut self, on: bool)
+        ensures { self.new
+            ≡ record self.old { control = record self.old.control { await_active = on } } }
+    {
+        self.await_active = on;
+    }
+}
