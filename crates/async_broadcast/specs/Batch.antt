@@ -1,6 +1,9 @@
 -- Several messages in one call.
-use Rattle.std.specs.Prelude.{◌≡◌, ℕ, ◌<◌, ◌≤◌, List, [], ◌∷◌, ◌++◌, Result, Ok, Err}
+use Rattle.std.specs.Prelude.{◌≡◌, ◌⊎◌, ℕ, ◌<◌, ◌≤◌, List, [], ◌∷◌, ◌++◌, Option, Some, None, Result, Ok, Err}
 use Rattle.std.specs.declared.alloc.AllocError.{AllocError}
+use Rattle.futures.specs.declared.task.Poll.{Poll}
+use Rattle.futures.specs.declared.task.Poll.TheVariants as poll
+use Rattle.bcast_model.specs.declared.error.RecvError.{RecvError}
 use Rattle.bcast_model.specs.declared.error.TryRecvError.{TryRecvError}
 use Rattle.bcast_model.specs.declared.run.Call.{Call}
 use Rattle.bcast_model.specs.declared.run.Call.TheVariants as call
@@ -28,6 +31,24 @@ module _
   ReceivesMany before (Ok (Err error)) after =
       (after ≡ before) × gave (call.TryRecv key) (reply.TryRecv (as_tried (Ok (Err error))))
   ReceivesMany before (Err error) after = after ≡ before
+
+module _ {T : Type 0} (gave : Call T → Reply T → Type 0) (key limit : ℕ) where
+  -- `poll_recv_many`, with the list before and after it: messages as `try_recv_many` gives them; or
+  -- what one `poll_recv` returned, whose message was put last into the list; or memory was refused
+  abbrev pub PollsMany
+      : List T → Result (Poll (Option (Result ℕ RecvError))) AllocError → List T → Type 0
+  PollsMany before (Ok (poll.Ready (Some (Ok count)))) after =
+      ((count ≤ limit) × (0 < limit → 0 < count) × Receives gave key before count after)
+      ⊎ ((count ≡ 1) × (msg : T) × (after ≡ before ++ msg ∷ [])
+      × gave (call.PollRecv key) (reply.PollRecv (Ok (poll.Ready (Some (Ok msg))))))
+  PollsMany before (Ok (poll.Ready (Some (Err error)))) after =
+      (after ≡ before)
+      × gave (call.PollRecv key) (reply.PollRecv (Ok (poll.Ready (Some (Err error)))))
+  PollsMany before (Ok (poll.Ready None)) after =
+      (after ≡ before) × gave (call.PollRecv key) (reply.PollRecv (Ok (poll.Ready None)))
+  PollsMany before (Ok poll.Pending) after =
+      (after ≡ before) × gave (call.PollRecv key) (reply.PollRecv (Ok poll.Pending))
+  PollsMany before (Err error) after = after ≡ before
 
 -- a single receive's message is put last into a list
 abbrev pub PutsLast : {T E : Type 0} → Result (Result T E) AllocError → List T

@@ -1,7 +1,9 @@
 //! Receiving several messages at once.
 ghost use Rattle.std.specs.Prelude.{◌≡◌, ◌<◌, ◌≤◌, vec_len, vec_capacity};
 ghost use Rattle.std.specs.Prelude.{IfOk, IfSome, IfNone, OnErr};
-ghost use Rattle.async_broadcast.specs.Batch.{Receives, ReceivesMany, PutsLast};
+ghost use Rattle.futures.specs.Task.{IsArmed, Keeps};
+ghost use Rattle.futures.specs.Poll.{OnPending};
+ghost use Rattle.async_broadcast.specs.Batch.{PollsMany, Receives, ReceivesMany, PutsLast};
 ghost use Rattle.async_broadcast.specs.Ports.{as_try_recv};
 ghost use Rattle.async_broadcast.specs.Timed.{as_timed_try};
 
@@ -9,6 +11,7 @@ use crate::port::{Port, TimedPort};
 use crate::receiver::Receiver;
 use crate::timed::RecvTimeoutError;
 use bcast_core::{RecvError, TryRecvError};
+use futures::task::{Context, Poll};
 use std::alloc::{AllocError, Allocator};
 use std::time::Duration;
 
@@ -90,6 +93,59 @@ impl<T: Clone, P: Port<T>, A: Allocator + Copy> Receiver<T, P, A> {
         match receive_kept(&self.port, self.role.key, limit, msgs)? {
             Some(count) => Ok(Ok(count)),
             None => put_last(self.recv_blocking(), msgs),
+        }
+    }
+
+    /// Receives the messages that are there, as `try_recv_many` does. If there are none, it leaves the
+    /// task waiting for one, as `poll_recv` does.
+    ///
+    /// `Ready(None)`: every message was read, and the channel is closed. With `poll_fn` of `futures`
+    /// it is a future.
+    ///
+    /// # Errors
+    ///
+    /// As `try_recv_many`, but for `Empty` and `Closed`; and `AllocError` also if there is no memory
+    /// for a notice.
+    ///
+    /// ```rust
+    /// let (sender, mut receiver) = broadcast(&rt, rt.alloc(), 2)?;
+    /// let task = MockTask::new(&rt)?;
+    /// let mut msgs = Vec::new(rt.alloc());
+    /// let polled = task.enter(|cx| receiver.poll_recv_many(cx, 16, &mut msgs));
+    /// assert!(rt; matches!(polled, Ok(Poll::Pending)));
+    /// assert!(rt; sender.try_broadcast(1).is_ok());
+    /// assert!(rt; sender.try_broadcast(2).is_ok());
+    /// assert!(rt; task.is_woken());
+    /// let polled = task.enter(|cx| receiver.poll_recv_many(cx, 16, &mut msgs));
+    /// assert!(rt; matches!(polled, Ok(Poll::Ready(Some(Ok(2))))));
+    /// assert!(rt; msgs.as_slice() == [1, 2].as_slice());
+    /// ```
+    ///
+    /// Source: this crate's own.
+    pub fn poll_recv_many<B: Allocator>(
+        &mut self,
+        cx: &mut Context<'_>,
+        limit: usize,
+        msgs: &mut Vec<T, B>,
+    ) -> Result<Poll<Option<Result<usize, RecvError>>>, AllocError>
+        ensures received { PollsMany (P.gave self.old.port) self.old.role.key limit
+            msgs.old.items result msgs.new.items }
+        ensures same { (self.new.port ≡ self.old.port)
+            × (self.new.role.key ≡ self.old.role.key) }
+        ensures registered { IfOk result (λ poll. OnPending poll (IsArmed cx.new)) }
+        ensures kept { Keeps cx.old cx.new }
+    {
+        if let Some(count) = receive_kept(&self.port, self.role.key, limit, msgs)? {
+            return Ok(Poll::Ready(Some(Ok(count))));
+        }
+        match self.poll_recv(cx)? {
+            Poll::Ready(Some(Ok(msg))) => {
+                msgs.push_reserved(msg);
+                Ok(Poll::Ready(Some(Ok(1))))
+            }
+            Poll::Ready(Some(Err(error))) => Ok(Poll::Ready(Some(Err(error)))),
+            Poll::Ready(None) => Ok(Poll::Ready(None)),
+            Poll::Pending => Ok(Poll::Pending),
         }
     }
 }

@@ -1,9 +1,12 @@
 //! Batches that one receiver takes, beside another one that receives one by one.
-use async_broadcast::{Lock, Port, PortFor, Receiver, Sender, TryRecvError, broadcast};
+use async_broadcast::{Lock, Port, PortFor, Receiver, RecvError, Sender, TryRecvError, broadcast};
 use bcast_core::Inner;
+use futures::task::Poll;
+use futures::test::MockTask;
 use one_by_one::OneByOne;
-use std::alloc::{AllocError, Global};
+use std::alloc::{AllocError, AllocGlobal, Global};
 use std::process::Abort;
+use std::random::RandomSource;
 use std::test::Fail;
 
 mod one_by_one;
@@ -128,4 +131,37 @@ fn a_port_without_batches_gives_one_a_call(rt: HostRuntime) -> Result<(), Fail> 
     let sender = Sender::from_port(port, rt.alloc());
     let mut receiver = Receiver::from_port(other, key, rt.alloc());
     gives_one_a_call(&rt, rt.alloc(), &sender, &mut receiver)
+}
+
+/// Polls for batches until the channel, of capacity 3, is closed and empty.
+fn polls_to_the_end<R: Abort + RandomSource + AllocGlobal, P: Port<u64>>(
+    rt: &R,
+    sender: &mut Sender<u64, P>,
+    receiver: &mut Receiver<u64, P>,
+) -> Result<(), Fail> {
+    sender.set_overflow(true);
+    let task = MockTask::new(&rt)?;
+    let mut msgs = Vec::new(rt.alloc());
+    let none = task.enter(|cx| receiver.poll_recv_many(cx, 0, &mut msgs));
+    assert!(rt; matches!(none, Ok(Poll::Ready(Some(Ok(0))))));
+    for msg in 1..5 {
+        assert!(rt; sender.try_broadcast(msg).is_ok());
+    }
+    let missed = task.enter(|cx| receiver.poll_recv_many(cx, 2, &mut msgs));
+    assert!(rt; matches!(missed, Ok(Poll::Ready(Some(Err(RecvError::Overflowed(1)))))));
+    let two = task.enter(|cx| receiver.poll_recv_many(cx, 2, &mut msgs));
+    assert!(rt; matches!(two, Ok(Poll::Ready(Some(Ok(2))))));
+    assert!(rt; sender.close());
+    let last = task.enter(|cx| receiver.poll_recv_many(cx, 2, &mut msgs));
+    assert!(rt; matches!(last, Ok(Poll::Ready(Some(Ok(1))))));
+    let end = task.enter(|cx| receiver.poll_recv_many(cx, 2, &mut msgs));
+    assert!(rt; matches!(end, Ok(Poll::Ready(None))));
+    assert!(rt; msgs.as_slice() == [2, 3, 4].as_slice());
+    Ok(())
+}
+
+#[test]
+fn a_task_polls_for_batches(rt: HostRuntime) -> Result<(), Fail> {
+    let (mut sender, mut receiver) = broadcast(&rt, rt.alloc(), 3)?;
+    polls_to_the_end(&rt, &mut sender, &mut receiver)
 }

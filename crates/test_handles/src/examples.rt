@@ -47,6 +47,7 @@ enum Borrows {
     SetCapacity,
     SetOverflow,
     TryRecvMany,
+    PollRecvMany,
 }
 
 /// Examples of senders that drop a handle.
@@ -96,6 +97,7 @@ const EXAMPLES: &[(usize, Example)] = &[
     (1, Example::Receives(Receives::RecvBlocking)),
     (3, Example::Borrows(Borrows::TryRecvMany)),
     (2, Example::Receives(Receives::RecvManyBlocking)),
+    (2, Example::Borrows(Borrows::PollRecvMany)),
     (1, Example::Receives(Receives::IsTerminated)),
     (1, Example::Borrows(Borrows::ReceiverClone)),
     (2, Example::Borrows(Borrows::ReceiverNewReceiver)),
@@ -160,6 +162,7 @@ fn play_borrowing<R: Abort + Wait + RandomSource + AllocGlobal, P: Port<u64>>(
         Borrows::SetCapacity => sender_settings::shrinks(rt, sender, receiver)?,
         Borrows::SetOverflow => sender_settings::overflows(rt, sender, receiver),
         Borrows::TryRecvMany => batch::tries(rt, rt.alloc(), sender, receiver)?,
+        Borrows::PollRecvMany => batch::polls(rt, sender, receiver)?,
     }
     Ok(())
 }

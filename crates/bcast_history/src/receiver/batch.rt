@@ -2,16 +2,22 @@
 ghost use Rattle.std.specs.Prelude.{◌≡◌, ◌<◌, ◌≤◌, vec_len, vec_capacity};
 ghost use Rattle.std.specs.Prelude.{IfOk, IfSome, IfNone, OnErr};
 ghost use mathlib.Core.List.{IsPrefix};
+ghost use Rattle.futures.specs.Task.{IsArmed, Keeps};
+ghost use Rattle.futures.specs.Poll.{OnPending};
 ghost use Rattle.async_broadcast.specs.Ports.{as_try_recv};
+ghost use Rattle.async_broadcast.specs.Timed.{as_timed_try};
 ghost use Rattle.bcast_history.specs.Batch.{TakesInto, TakesMany};
+ghost use Rattle.bcast_history.specs.Reader.{as_found};
 
 use super::TrackedReceiver;
 use crate::place::Place;
-use crate::port::HistoryPort;
+use crate::port::{HistoryPort, TimedHistoryPort};
 use crate::tracker::Channel;
-use async_broadcast::put_last;
+use async_broadcast::{RecvTimeoutError, put_last};
 use bcast_core::{RecvError, TryRecvError};
+use futures::task::{Context, Poll};
 use std::alloc::{AllocError, Allocator};
+use std::time::Duration;
 
 impl<T: Clone, P: HistoryPort<T, J>, J: Channel> TrackedReceiver<T, P, J> {
     /// Receives the messages that are there, at most `limit`, puts them last into `msgs`, and returns
@@ -51,6 +57,35 @@ impl<T: Clone, P: HistoryPort<T, J>, J: Channel> TrackedReceiver<T, P, J> {
         }
     }
 
+    /// Receives the messages that are there, or leaves the task waiting for one: as
+    /// `Receiver::poll_recv_many`, with its errors. Each is a step.
+    pub fn poll_recv_many<B: Allocator>(
+        &mut self,
+        cx: &mut Context<'_>,
+        limit: usize,
+        msgs: &mut Vec<T, B>,
+    ) -> Result<Poll<Option<Result<usize, RecvError>>>, AllocError>
+        ensures key { self.new.place.key ≡ self.old.place.key }
+        ensures seen { IsPrefix self.old.place.steps self.new.place.steps }
+        ensures takes { TakesMany T.is_clone J.opening (λ tried. tried) limit self.old.place
+            msgs.old.items (as_found result) msgs.new.items self.new.place }
+        ensures registered { IfOk result (λ poll. OnPending poll (IsArmed cx.new)) }
+        ensures kept { Keeps cx.old cx.new }
+    {
+        if let Some(count) = self.receive_kept(limit, msgs)? {
+            return Ok(Poll::Ready(Some(Ok(count))));
+        }
+        match self.poll_recv(cx)? {
+            Poll::Ready(Some(Ok(msg))) => {
+                msgs.push_reserved(msg);
+                Ok(Poll::Ready(Some(Ok(1))))
+            }
+            Poll::Ready(Some(Err(error))) => Ok(Poll::Ready(Some(Err(error)))),
+            Poll::Ready(None) => Ok(Poll::Ready(None)),
+            Poll::Pending => Ok(Poll::Pending),
+        }
+    }
+
     // Receives the messages that are there, at most `limit`, and returns how many they are. `None`:
     // there are none, and `msgs` has room for one.
     fn receive_kept<B: Allocator>(
@@ -76,5 +111,26 @@ impl<T: Clone, P: HistoryPort<T, J>, J: Channel> TrackedReceiver<T, P, J> {
         }
         msgs.reserve(1)?;
         Ok(None)
+    }
+}
+
+impl<T: Clone, P: TimedHistoryPort<T, J>, J: Channel> TrackedReceiver<T, P, J> {
+    /// Receives the messages that are there, as `recv_many_blocking` does, and gives up once `time`
+    /// has passed and there is none: as `Receiver::recv_many_timeout`, with its errors.
+    pub fn recv_many_timeout<B: Allocator>(
+        &mut self,
+        limit: usize,
+        msgs: &mut Vec<T, B>,
+        time: Duration,
+    ) -> Result<Result<usize, RecvTimeoutError>, AllocError>
+        ensures key { self.new.place.key ≡ self.old.place.key }
+        ensures seen { IsPrefix self.old.place.steps self.new.place.steps }
+        ensures takes { TakesMany T.is_clone J.opening as_timed_try limit self.old.place
+            msgs.old.items result msgs.new.items self.new.place }
+    {
+        match self.receive_kept(limit, msgs)? {
+            Some(count) => Ok(Ok(count)),
+            None => put_last(self.recv_timeout(time), msgs),
+        }
     }
 }

@@ -1,7 +1,10 @@
 //! Of `batch.rt`, without a clock.
 use async_broadcast::{Port, Receiver, RecvError, Sender, TryRecvError};
-use std::alloc::Global;
+use futures::task::Poll;
+use futures::test::MockTask;
+use std::alloc::{AllocGlobal, Global};
 use std::process::Abort;
+use std::random::RandomSource;
 use std::test::Fail;
 
 // Of `try_recv_many`.
@@ -36,5 +39,24 @@ pub fn blocks<P: Port<u64>>(
     let mut msgs = Vec::new(alloc);
     assert!(rt; receiver.recv_many_blocking(16, &mut msgs)? == Ok(2));
     assert!(rt; receiver.recv_many_blocking(16, &mut msgs)? == Err(RecvError::Closed));
+    Ok(())
+}
+
+// Of `poll_recv_many`.
+pub fn polls<R: Abort + RandomSource + AllocGlobal, P: Port<u64>>(
+    rt: &R,
+    sender: &Sender<u64, P>,
+    receiver: &mut Receiver<u64, P>,
+) -> Result<(), Fail> {
+    let task = MockTask::new(&rt)?;
+    let mut msgs = Vec::new(rt.alloc());
+    let polled = task.enter(|cx| receiver.poll_recv_many(cx, 16, &mut msgs));
+    assert!(rt; matches!(polled, Ok(Poll::Pending)));
+    assert!(rt; sender.try_broadcast(1).is_ok());
+    assert!(rt; sender.try_broadcast(2).is_ok());
+    assert!(rt; task.is_woken());
+    let polled = task.enter(|cx| receiver.poll_recv_many(cx, 16, &mut msgs));
+    assert!(rt; matches!(polled, Ok(Poll::Ready(Some(Ok(2))))));
+    assert!(rt; msgs.as_slice() == [1, 2].as_slice());
     Ok(())
 }
