@@ -1,4 +1,4 @@
--- A log with one more message, and a whole one.
+-- A log with more messages, and a whole one.
 use Rattle.std.proofs.Common.{◌≡◌, inl, inr, ℕ, zero, suc, ◌+◌, ◌-◌, false, cond, List, [], ◌∷◌, ◌++◌, length, slice_get, nat_lt, Option, Some, None, Ok, Err, refl, sym, ap, ◌∙◌, subst, arith, length-append}
 use Rattle.std.proofs.lemmas.Grind.{common_steps}
 use Rattle.std.proofs.lemmas.Option.{none-some, same_Some}
@@ -12,6 +12,7 @@ use Rattle.bcast_history.specs.History.{calls_of, replies_of, start_of, end_of}
 use Rattle.bcast_history.proofs.Prefixes.{prefix_shorter, prefix_whole}
 use Rattle.bcast_history.specs.Laws.{MessagesStay}
 use Rattle.bcast_history.specs.Log.{AreFrom, IsLog, IsWholeLog, LogsAreAccepted}
+use Rattle.bcast_history.specs.Batch.{AreDeliveries, TakesInto}
 use Rattle.bcast_history.specs.Reader.{Reader, Takes}
 use Rattle.bcast_history.proofs.Sent.{messages_stay, accepted_grows}
 
@@ -21,25 +22,33 @@ module _ {T : Type 0} where
   is_there (Some a) msg (inr same) = ap Some (sym same)
   is_there None msg there = absurd there
 
-  one_more : (h : History T) (start : ℕ) (log : List T) (msg : T) → AreFrom h start log → numbered h (start + length log) ≡ Some msg
-      → AreFrom h start (log ++ msg ∷ [])
-  one_more h start [] msg all is = (subst (λ n. numbered h n ≡ Some msg) (omega arith) is, tt)
-  one_more h start (first ∷ log) msg (here, rest) is =
-      (here, one_more h (start + 1) log msg rest (subst (λ n. numbered h n ≡ Some msg) (omega arith) is))
+  -- messages that are given are accepted ones
+  delivered : (h : History T) (number : ℕ) (given : List T) → AreDeliveries (λ x y. y ≡ x) h number given → AreFrom h number given
+  delivered h number [] are = tt
+  delivered h number (msg ∷ given) (here, rest) = (is_there _ msg here, delivered h (number + 1) given rest)
+
+  in_a_row : (h : History T) (start : ℕ) (log more : List T) → AreFrom h start log → AreFrom h (start + length log) more → AreFrom h start (log ++ more)
+  in_a_row h start [] more all are = subst (λ n. AreFrom h n more) (omega arith) are
+  in_a_row h start (first ∷ log) more (here, rest) are =
+      let on : start + length (first ∷ log) ≡ start + 1 + length log = omega arith in
+      (here, in_a_row h (start + 1) log more rest (subst (λ n. AreFrom h n more) on are))
 
   stay : (h later : History T) (start : ℕ) (log : List T) → ((number : ℕ) (msg : T) → numbered h number ≡ Some msg → numbered later number ≡ Some msg)
       → AreFrom h start log → AreFrom later start log
   stay h later start [] keeps all = tt
   stay h later start (msg ∷ log) keeps (here, rest) = (keeps start msg here, stay h later (start + 1) log keeps rest)
 
-  pub longer : {o : Opening} {start : ℕ} {log : List T} {old new : Reader T} (msg : T) → MessagesStay T → IsLog o start log old
-      → IsPrefix old.steps new.steps → Takes (λ x y. y ≡ x) o old new (Ok (Ok msg)) → IsLog o start (log ++ msg ∷ []) new
-  longer {o = o} {start = start} {log = log} {old = old} {new = new} msg law so_far begins (given, on) =
-      let kept = stay (end_of o old.steps) (end_of o new.steps) start log (λ number m. law o old.steps new.steps number m begins) so_far.messages in
-      let there = subst (λ n. numbered (end_of o new.steps) n ≡ Some msg) so_far.next (is_there _ msg given) in
-      let next = so_far.next in
-      let size = length-append log (msg ∷ []) in
-      record { messages = one_more (end_of o new.steps) start log msg kept there; next = omega (arith, on, next, size) }
+  pub longer : {o : Opening} {start count : ℕ} {log more : List T} {old new : Reader T} → MessagesStay T → IsLog o start log old
+      → IsPrefix old.steps new.steps → TakesInto (λ x y. y ≡ x) o old log count more new → IsLog o start more new
+  longer {o = o} {start = start} {log = log} {more = more} {old = old} {new = new} law so_far begins takes =
+      let h = end_of o new.steps in
+      let kept = stay (end_of o old.steps) h start log (λ number m. law o old.steps new.steps number m begins) so_far.messages in
+      let given = delivered h (start + length log) takes.given (subst (λ n. AreDeliveries (λ x y. y ≡ x) h n takes.given) so_far.next takes.messages) in
+      let size = ap length takes.put ∙ length-append log takes.given in
+      record {
+        messages = subst (AreFrom h start) (sym takes.put) (in_a_row h start log takes.given kept given);
+        next = omega (arith, so_far.next, takes.next, takes.counted, size);
+      }
 
   pub whole : {o : Opening} {start : ℕ} {log : List T} {old new : Reader T} → MessagesStay T → IsLog o start log old
       → IsPrefix old.steps new.steps → Takes (λ x y. y ≡ x) o old new (Ok (Err unread.Closed)) → IsWholeLog o start log new

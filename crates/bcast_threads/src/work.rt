@@ -104,8 +104,8 @@ fn received<J: Channel, P: HistoryPort<u64, J>, A: Allocator>(
     messages_stay::<u64>();
     let mut list = Vec::with_capacity(alloc, count)?;
     for _ in rt.forever() {
-        match receiver.recv_blocking()? {
-            Ok(msg) => list.push(msg)?,
+        match receiver.recv_many_blocking(usize::MAX, &mut list)? {
+            Ok(_) => {}
             Err(RecvError::Closed) => return Ok(list),
             Err(RecvError::Overflowed(_)) => return Err(Fault::Missed),
         }

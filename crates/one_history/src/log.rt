@@ -24,8 +24,8 @@ pub fn receive_all<J: Channel, P: HistoryPort<u64, J>>(
     messages_stay::<u64>();
     let mut log = Vec::new(rt.alloc());
     for _ in rt.forever() {
-        match receiver.recv_blocking()? {
-            Ok(msg) => log.push(msg)?,
+        match receiver.recv_many_blocking(usize::MAX, &mut log)? {
+            Ok(_) => {}
             Err(RecvError::Closed) => return Ok(log),
             Err(RecvError::Overflowed(missed)) => bail!("missed {missed}"),
         }

@@ -4,12 +4,12 @@ use Rattle.one_history.proofs.log.receive_all.Goals as goal
 
 pub loop-preserved : goal.loop-preserved
 loop-preserved g c =
-    let received = c.in_ok-msg.ensures in
-    let log = longer c.in-Ok.msg c.messages_stay.ensures c.loop.invariant.2 received.seen (rw c.in-Ok.is at received.takes) in
-    (tt, tt, rw c.in_ok-push-in-Ok.ensures.items log)
+    let received = c.in_ok-recv_many_blocking.ensures in
+    let takes = rw c.in-Ok.is at received.takes in
+    (tt, tt, longer c.messages_stay.ensures c.loop.invariant.2 received.seen takes.2)
 
 pub returns-in-Err-Closed : goal.returns-in-Err-Closed
 returns-in-Err-Closed g c =
-    let received = c.in_ok-msg.ensures in
-    whole c.messages_stay.ensures c.loop.invariant.2 received.seen
-    (rw (c.in-Err-Closed.is, c.in-Err-Closed.field-0-is) at received.takes)
+    let received = c.in_ok-recv_many_blocking.ensures in
+    let takes = rw (c.in-Err-Closed.is, c.in-Err-Closed.field-0-is) at received.takes in
+    rw takes.0 (whole c.messages_stay.ensures c.loop.invariant.2 received.seen takes.1)
