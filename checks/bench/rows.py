@@ -1,4 +1,4 @@
-"""The rows of ./measure, and the programs that have them."""
+"""The rows of bin/measure, and the programs that have them."""
 import pathlib
 import subprocess
 

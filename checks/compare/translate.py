@@ -8,7 +8,7 @@ from reader import read_folder, variants_of
 
 KINDS = {'stream': ('Stream',), 'future': ('Future',)}
 CLONE = 1000
-HERE = Path(__file__).resolve().parent.parent
+HERE = Path(__file__).resolve().parents[2]
 
 
 def load(crate=None):

@@ -4,7 +4,7 @@ import sys
 from pathlib import Path
 
 sys.dont_write_bytecode = True
-sys.path.insert(0, str(Path(__file__).resolve().parents[2] / "compare"))
+sys.path.insert(0, str(Path(__file__).resolve().parents[1] / "compare"))
 import machine
 from answers import answer_of_item, answer_of_received, answer_of_sent, answer_of_value
 from channel import Channel

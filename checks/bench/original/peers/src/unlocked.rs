@@ -1,5 +1,5 @@
 //! The port's channel without a lock: loops of calls in a static library of its own, which is linked
-//! in place of a crate (bench/crates/workloads).
+//! in place of a crate (checks/bench/crates/workloads).
 
 use crate::rows::{self, Row};
 use crate::titles;
