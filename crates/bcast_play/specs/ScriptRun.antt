@@ -1,16 +1,20 @@
 -- What a script does: its channel, and the answer to each line.
-use Rattle.std.specs.Prelude.{◌≡◌, ◌≢◌, ◌<◌, ◌⊎◌, ℕ, List, [], ◌∷◌, ◌++◌, Option, Some, None, codes}
+use Rattle.std.specs.Prelude.{◌≡◌, ◌≢◌, ◌<◌, ◌⊎◌, ℕ, min, List, [], ◌∷◌, ◌++◌, length, Option, Some, None, Ok, Err, codes}
 use Rattle.std.specs.Fmt.{decimal}
 use Rattle.std.specs.Map.{update}
 use Rattle.std.specs.Str.{bytes_eq}
+use Rattle.bcast_model.specs.declared.error.TryRecvError.{TryRecvError}
 use Rattle.bcast_model.specs.declared.run.Call.{Call}
+use Rattle.bcast_model.specs.declared.run.Call.TheVariants as call
 use Rattle.bcast_model.specs.declared.run.Reply.{Reply}
-use Rattle.bcast_model.specs.Words.{View, opening, Answers, Represents, NoClone}
+use Rattle.bcast_model.specs.declared.run.Reply.TheVariants as reply
+use Rattle.bcast_model.specs.Words.{View, opening, unread, Answers, Represents, NoClone}
+use Rattle.bcast_core.specs.Batch.{ReceivesEach}
 use Rattle.bcast_text.specs.declared.script.line.Line.{Line}
 use Rattle.bcast_text.specs.declared.script.line.Line.TheVariants.{Cap}
 use Rattle.bcast_text.specs.ScriptLine.{text_of, IsInForm}
-use Rattle.bcast_text.specs.ScriptCall.{call_of, names_after}
-use Rattle.bcast_text.specs.ScriptAnswer.{answer_of}
+use Rattle.bcast_text.specs.ScriptCall.{call_of, batch_of, names_after}
+use Rattle.bcast_text.specs.ScriptAnswer.{answer_of, batch_text}
 
 -- a channel whose receivers have names: what is seen of it, and the key of each name
 pub record Named : Type 0 where
@@ -18,7 +22,7 @@ pub record Named : Type 0 where
   pub key_of : List ℕ → Option ℕ
 
 -- a line's call is made, and its reply is written
-pub record IsMade (old : Named) (line : Line) (answer : List ℕ) (new : Named) : Type 0 where
+pub record IsCalled (old : Named) (line : Line) (answer : List ℕ) (new : Named) : Type 0 where
   pub call : Call ℕ
   pub asked : call_of old.key_of line ≡ Some call
   pub reply : Reply ℕ
@@ -27,6 +31,34 @@ pub record IsMade (old : Named) (line : Line) (answer : List ℕ) (new : Named) 
   pub text : List ℕ
   pub spelt : answer_of reply ≡ Some text
   pub ended : answer ≡ text ++ 10 ∷ []
+
+-- the messages that the receiver `key` has to read are received, at most so many, and written
+pub record AreGiven (old : View ℕ) (key limit : ℕ) (text : List ℕ) (new : View ℕ) : Type 0 where
+  pub msgs : List ℕ
+  pub some : 0 < length msgs
+  pub all : length msgs ≡ min limit (unread old key)
+  pub each : ReceivesEach (Answers NoClone) key old msgs new
+  pub spelt : text ≡ batch_text msgs
+
+-- it is given none, and what `try_recv` says of that is written
+pub record IsGivenNone (old : View ℕ) (key : ℕ) (text : List ℕ) (new : View ℕ) : Type 0 where
+  pub error : TryRecvError
+  pub answers : Answers NoClone old (call.TryRecv key) (reply.TryRecv (Ok (Err error))) new
+  pub spelt : answer_of (reply.TryRecv (Ok (Err error))) ≡ Some text
+
+-- a line's batch is received
+pub record IsReceived (old : Named) (line : Line) (answer : List ℕ) (new : Named) : Type 0 where
+  pub key : ℕ
+  pub limit : ℕ
+  pub asked : batch_of old.key_of line ≡ Some (key, limit)
+  pub text : List ℕ
+  pub given : AreGiven old.view key limit text new.view ⊎ IsGivenNone old.view key text new.view
+  pub names : (name : List ℕ) → new.key_of name ≡ old.key_of name
+  pub ended : answer ≡ text ++ 10 ∷ []
+
+-- what a line asks for is done
+abbrev pub IsMade : Named → Line → List ℕ → Named → Type 0
+IsMade old line answer new = IsCalled old line answer new ⊎ IsReceived old line answer new
 
 -- a new channel of this capacity, whose one receiver is named r1
 pub record IsNew (new : Named) (capacity : ℕ) : Type 0 where
@@ -56,10 +88,12 @@ abbrev pub opened_by : Line → Option ℕ
 opened_by (Cap capacity) = Some capacity
 opened_by line = None
 
--- a line in form that makes no channel, before line 1, or whose names ask for no call, after it
+-- a line in form that makes no channel, before line 1, or that asks for no call and no batch, after
+-- it
 abbrev pub AsksForNone : Option Named → Line → Type 0
 AsksForNone None asked = opened_by asked ≡ None
-AsksForNone (Some old) asked = call_of old.key_of asked ≡ None
+AsksForNone (Some old) asked =
+    (call_of old.key_of asked ≡ None) × (batch_of old.key_of asked ≡ None)
 
 -- the line is not a call: no line in form has its text, or one that asks for none
 abbrev pub IsNoScriptLine : Option Named → List ℕ → Type 0

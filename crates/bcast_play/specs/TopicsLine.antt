@@ -3,7 +3,7 @@ use Rattle.std.specs.Prelude.{ℕ, List, ◌++◌, ◌∷◌, codes}
 use Rattle.std.specs.Fmt.{decimal}
 use Rattle.topics.specs.Name as topic_name
 use Rattle.bcast_text.specs.Name as follower_name
-use Rattle.bcast_text.specs.Words.{IsU64, IsCapacity}
+use Rattle.bcast_text.specs.Words.{IsU64, IsPositive}
 use Rattle.bcast_play.specs.declared.hub.line.Line.{Line}
 use Rattle.bcast_play.specs.declared.hub.line.Line.TheVariants.{Open, Follow, Publish, Receive, Leave, Close}
 
@@ -32,7 +32,7 @@ text_of line = word_of line ++ 32 ∷ arguments_of line
 -- the names of topics and followers are valid, numbers are such as a line can have, and a capacity
 -- is positive
 abbrev pub IsInForm : Line → Type 0
-IsInForm (Open topic n) = topic_name.IsName topic.now × IsCapacity n
+IsInForm (Open topic n) = topic_name.IsName topic.now × IsPositive n
 IsInForm (Follow topic new) = topic_name.IsName topic.now × follower_name.IsName new.now
 IsInForm (Publish topic msg) = topic_name.IsName topic.now × IsU64 msg
 IsInForm (Receive name) = follower_name.IsName name.now

@@ -1,15 +1,14 @@
 //! The channel of a script, with its receivers' names.
-ghost use Rattle.std.specs.Prelude.{◌≡◌, ◌<◌, ◌⊎◌, ℕ, List, None, Err, IfOk, OnOk};
+ghost use Rattle.std.specs.Prelude.{◌≡◌, ◌≢◌, ◌<◌, ◌⊎◌, ℕ, List, [], ◌∷◌, ◌++◌, None, Some, Err, IfOk, OnOk};
 ghost use Rattle.std.specs.Io.KnownBytes.{Appends};
 ghost use Rattle.bcast_text.specs.ScriptLine.{IsInForm};
-ghost use Rattle.bcast_text.specs.ScriptCall.{call_of};
-ghost use Rattle.bcast_play.specs.ScriptRun.{IsMade, IsNew};
+ghost use Rattle.bcast_play.specs.ScriptRun.{AreGiven, AsksForNone, IsGivenNone, IsMade, IsNew};
 ghost use Rattle.bcast_play.specs.Channels.{named_of};
 
-use bcast_core::{Inner, Silent, step};
+use bcast_core::{Inner, Reply, Silent, step};
 use bcast_text::input::Fault;
-use bcast_text::script::answer::answer;
-use bcast_text::script::call::{Names, call_by, record};
+use bcast_text::script::answer::{answer, answer_batch};
+use bcast_text::script::call::{Names, batch_by, call_by, record};
 use bcast_text::script::line::Line;
 use std::alloc::{AllocError, Allocator};
 use std::io::Write;
@@ -39,13 +38,13 @@ impl<A: Allocator + Copy> Channel<A> {
         }
     }
 
-    /// Makes the call that `line` asks for, and writes its answer.
+    /// Does what `line` asks for, and writes the answer.
     ///
     /// # Errors
     ///
-    /// - `NotACall`: the line asks for no call, since it makes a channel, or because of its names.
+    /// - `NotACall`: the line asks for nothing, since it makes a channel, or because of its names.
     ///   Nothing was done.
-    /// - `NoMemory`: there was no memory for the call or a new name. Nothing was written.
+    /// - `NoMemory`: there was no memory for the call, a batch or a new name. Nothing was written.
     /// - `OutputFailed`: a write failed.
     pub fn run<W: Write>(&mut self, alloc: A, line: &Line<'_>, output: &mut W) -> Result<(), Fault>
         requires { IsInForm line.now }
@@ -55,11 +54,41 @@ impl<A: Allocator + Copy> Channel<A> {
         ensures unwritten { (result ≡ Err Fault.NotACall) ⊎ (result ≡ Err Fault.NoMemory)
             → output.new ≡ output.old }
         ensures refused { result ≡ Err Fault.NotACall
-            → call_of (named_of self.old).key_of line.now ≡ None }
+            → AsksForNone (Some (named_of self.old)) line.now }
     {
+        if let Some((key, limit)) = batch_by(&self.names, line) {
+            return self.receive_many(alloc, key, limit, output);
+        }
         let call = call_by(&self.names, line)?.ok_or(Fault::NotACall)?;
         let reply = step(&mut self.inner, call, Silent);
         record(alloc, &mut self.names, line, &reply)?;
+        answer(&reply, output)
+    }
+
+    // Receives the messages that are there, at most `limit`, and writes them, or why there is none.
+    fn receive_many<W: Write>(
+        &mut self,
+        alloc: A,
+        key: usize,
+        limit: usize,
+        output: &mut W,
+    ) -> Result<(), Fault>
+        requires { 0 < limit }
+        ensures ok { OnOk result ((text : List ℕ)
+            × (AreGiven self.old.inner key limit text self.new.inner
+            ⊎ IsGivenNone self.old.inner key text self.new.inner)
+            × Appends (W.contents output.old) (W.contents output.new) (text ++ 10 ∷ [])) }
+        ensures names { self.new.names ≡ self.old.names }
+        ensures unwritten { result ≡ Err Fault.NoMemory → output.new ≡ output.old }
+        ensures is_asked { result ≢ Err Fault.NotACall }
+    {
+        let limit = limit.min(self.inner.unread(key));
+        let mut msgs = Vec::new(alloc);
+        msgs.reserve(limit)?;
+        if self.inner.receive_many(key, limit, &mut msgs) > 0 {
+            return answer_batch(msgs.as_slice(), output);
+        }
+        let reply = Reply::TryRecv(self.inner.try_recv(key));
         answer(&reply, output)
     }
 }

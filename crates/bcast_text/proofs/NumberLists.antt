@@ -1,5 +1,5 @@
 -- Texts of several numbers.
-use Rattle.std.proofs.Common.{◌≡◌, ◌≢◌, ◌<◌, ◌^◌, ℕ, List, [], ◌∷◌, ◌++◌, Option, Some, Bor, sym, arith}
+use Rattle.std.proofs.Common.{◌≡◌, ◌≢◌, ◌<◌, ◌^◌, ℕ, List, [], ◌∷◌, ◌++◌, Option, Some, Bor, refl, sym, ap, ◌∙◌, append_assoc, arith}
 use Rattle.std.proofs.lemmas.Grind.{common_steps}
 use Rattle.std.specs.Fmt.{decimal}
 use Rattle.std.specs.List.{AllByRecursion}
@@ -45,3 +45,9 @@ none_if text msgs rest word refused first read all fits spelt = stop (read.only 
     stop : (more : List ℕ) × (all ≡ msgs ++ more) × AllByRecursion IsU64 more × (numbers_text more ≡ Some rest) → ⊥
     stop ([], same, fits, spelt) = absurd (none-some rest spelt)
     stop (m ∷ more, same, fits, spelt) = refused m fits.0 (first m (numbers_text more) (Lacks-decimal 32 m (omega arith) fits.0) (sym (same_Some _ _ spelt)))
+
+-- one more number is spelt after a space
+pub spelt_more : (word numbers : List ℕ) (n : ℕ) → spaced word (numbers_text (numbers ++ n ∷ [])) ≡ spaced word (numbers_text numbers) ++ 32 ∷ decimal n
+spelt_more word [] n = refl
+spelt_more word (m ∷ numbers) n =
+    ap (λ text. word ++ 32 ∷ text) (spelt_more (decimal m) numbers n) ∙ sym (append_assoc word (32 ∷ spaced (decimal m) (numbers_text numbers)) (32 ∷ decimal n))

@@ -6,7 +6,7 @@ use Rattle.bcast_model.specs.declared.error.TryRecvError.TheVariants as receive
 use Rattle.bcast_model.specs.declared.error.HandleError.TheVariants as handle
 use Rattle.bcast_model.specs.declared.run.Reply.{Reply}
 use Rattle.bcast_model.specs.declared.run.Reply.TheVariants as reply
-use Rattle.bcast_text.specs.Words.{bool_text}
+use Rattle.bcast_text.specs.Words.{bool_text, numbers_text, spaced}
 
 -- the line that answers a reply, its LF aside; none if there was no memory for the call
 abbrev pub answer_of : Reply ℕ → Option (List ℕ)
@@ -41,6 +41,10 @@ answer_of (reply.NewReceiver (Ok key)) = Some (codes "ok")
 answer_of (reply.Activate (Ok key)) = Some (codes "ok")
 answer_of (reply.Activate (Err handle.Gone)) = Some (codes "gone")
 answer_of r = None
+
+-- the line that answers a batch of these messages, its LF aside
+abbrev pub batch_text : List ℕ → List ℕ
+batch_text msgs = spaced (codes "got") (numbers_text msgs)
 
 -- words, and the number that follows them
 abbrev pub words_text : List ℕ → Option ℕ → List ℕ

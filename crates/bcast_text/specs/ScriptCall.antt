@@ -13,12 +13,14 @@ use Rattle.bcast_text.specs.declared.script.line.Line.TheVariants as line
 abbrev pub unless_used : (List ℕ → Option ℕ) → List ℕ → Option (Call ℕ) → Option (Call ℕ)
 unless_used key_of new asked = if is_some (key_of new) then None else asked
 
--- the call of a line; none if a name must be in use and is not, or must not be and is
+-- the call of a line; none if a name must be in use and is not, or must not be and is, or if the
+-- line asks for a batch
 abbrev pub call_of : (List ℕ → Option ℕ) → Line → Option (Call ℕ)
 call_of key_of (line.Cap n) = None
 call_of key_of (line.Send msg) = Some (call.TryBroadcast msg)
 call_of key_of (line.SendAll msgs) = Some (call.TryBroadcastAll msgs)
 call_of key_of (line.Recv name) = option_map call.TryRecv (key_of name.now)
+call_of key_of (line.RecvMany name limit) = None
 call_of key_of (line.Clone name new) =
     unless_used key_of new.now (option_map call.CloneReceiver (key_of name.now))
 call_of key_of (line.New new) = unless_used key_of new.now (Some call.NewReceiver)
@@ -33,6 +35,12 @@ call_of key_of (line.Deactivate name) = option_map call.Deactivate (key_of name.
 call_of key_of (line.Activate new) = unless_used key_of new.now (Some call.Activate)
 call_of key_of line.DropInactive = Some call.DropInactive
 call_of key_of line.Len = Some call.Len
+
+-- the receiver of a batch that a line asks for, and the batch's limit; none if the name is not in
+-- use, or if the line asks for a call
+abbrev pub batch_of : (List ℕ → Option ℕ) → Line → Option (ℕ × ℕ)
+batch_of key_of (line.RecvMany name limit) = option_map (λ key. (key, limit)) (key_of name.now)
+batch_of key_of asked = None
 
 -- the key of each name after the reply to a line's call: a receiver that was made has the new name,
 -- and the name of one that left is free

@@ -3,9 +3,9 @@ use Rattle.std.specs.Prelude.{ℕ, ◌<◌, List, length, Option, Some, None, Bo
 use Rattle.std.specs.List.{AllByRecursion}
 use Rattle.std.specs.Fmt.{decimal}
 use Rattle.bcast_text.specs.Name.{IsName}
-use Rattle.bcast_text.specs.Words.{spaced, numbers_text, IsU64, IsCapacity}
+use Rattle.bcast_text.specs.Words.{spaced, numbers_text, IsU64, IsPositive}
 use Rattle.bcast_text.specs.declared.script.line.Line.{Line}
-use Rattle.bcast_text.specs.declared.script.line.Line.TheVariants.{Cap, Send, SendAll, Recv, Clone, New, Drop, NewSender, DropSender, Close, Capacity, Overflow, Await, Deactivate, Activate, DropInactive, Len}
+use Rattle.bcast_text.specs.declared.script.line.Line.TheVariants.{Cap, Send, SendAll, Recv, RecvMany, Clone, New, Drop, NewSender, DropSender, Close, Capacity, Overflow, Await, Deactivate, Activate, DropInactive, Len}
 
 -- how a setting is spelled
 abbrev pub flag_text : Bool → List ℕ
@@ -18,6 +18,7 @@ word_of (Cap n) = codes "cap"
 word_of (Send msg) = codes "send"
 word_of (SendAll msgs) = codes "sendall"
 word_of (Recv name) = codes "recv"
+word_of (RecvMany name limit) = codes "recvmany"
 word_of (Clone name new) = codes "clone"
 word_of (New new) = codes "new"
 word_of (Drop name) = codes "drop"
@@ -46,6 +47,7 @@ abbrev pub arguments_of : Line → Option (List ℕ)
 arguments_of (Cap n) = Some (decimal n)
 arguments_of (Send msg) = Some (decimal msg)
 arguments_of (SendAll msgs) = numbers_text msgs
+arguments_of (RecvMany name limit) = Some (name.now ++ codes " " ++ decimal limit)
 arguments_of (Clone name new) = Some (name.now ++ codes " " ++ new.now)
 arguments_of (Capacity n) = Some (decimal n)
 arguments_of (Overflow on) = Some (flag_text on)
@@ -56,12 +58,13 @@ arguments_of line = name_in line
 abbrev pub text_of : Line → List ℕ
 text_of line = spaced (word_of line) (arguments_of line)
 
--- numbers are such as a line can have, a list has at least one, a capacity is positive, and names
--- are valid
+-- numbers are such as a line can have, a list has at least one, a capacity and a limit are
+-- positive, and names are valid
 abbrev pub IsInForm : Line → Type 0
-IsInForm (Cap n) = IsCapacity n
+IsInForm (Cap n) = IsPositive n
 IsInForm (Send msg) = IsU64 msg
 IsInForm (SendAll msgs) = (0 < length msgs) × AllByRecursion IsU64 msgs
-IsInForm (Capacity n) = IsCapacity n
+IsInForm (Capacity n) = IsPositive n
+IsInForm (RecvMany name limit) = IsName name.now × IsPositive limit
 IsInForm (Clone name new) = IsName name.now × IsName new.now
 IsInForm line = IfSome (name_in line) IsName

@@ -16,9 +16,9 @@ bool_text false = codes "false"
 abbrev pub IsU64 : ℕ → Type 0
 IsU64 n = n < 2 ^ 64
 
--- a capacity that a line can have
-abbrev pub IsCapacity : ℕ → Type 0
-IsCapacity n = (0 < n) × IsU64 n
+-- a positive number that a line can have
+abbrev pub IsPositive : ℕ → Type 0
+IsPositive n = (0 < n) × IsU64 n
 
 -- numbers, with one space between two of them; none if there is no number
 abbrev pub numbers_text : List ℕ → Option (List ℕ)

@@ -1,4 +1,5 @@
-//! A log: producers write records from threads of their own, and each consumer reads all of them.
+//! A log: producers write records from threads of their own, and each consumer reads all of them,
+//! one by one or all that are there at once.
 use anyhow::Result;
 use async_broadcast::{Port, Receiver, RecvError, Sender, broadcast};
 use std::alloc::{AllocError, AllocGlobal};
@@ -48,6 +49,27 @@ fn consume<T: Clone, P: Port<T>>(
     Ok(seen)
 }
 
+/// Reads as `consume` does, but all records that are there at once.
+fn consume_batches<T: Clone, P: Port<T>>(
+    rt: &(impl Wait + AllocGlobal),
+    mut log: Receiver<T, P>,
+) -> Result<Seen, AllocError> {
+    let mut seen = Seen {
+        records: 0,
+        missed: 0,
+    };
+    let mut records = Vec::new(rt.alloc());
+    for _ in rt.forever() {
+        match log.recv_many_blocking(usize::MAX, &mut records)? {
+            Ok(count) => seen.records = seen.records.saturating_add(count as u64),
+            Err(RecvError::Overflowed(n)) => seen.missed = seen.missed.saturating_add(n),
+            Err(RecvError::Closed) => break,
+        }
+        records.clear();
+    }
+    Ok(seen)
+}
+
 pub fn run<R>(rt: R) -> Result<()>
 where
     R: Threads + Wait + AllocGlobal + Print + Copy + Send + Drop + 'static,
@@ -60,7 +82,7 @@ where
 
     let first = thread::spawn(&rt, move || produce(log, 0))?;
     let second = thread::spawn(&rt, move || produce(other, RECORDS))?;
-    let reading = thread::spawn(&rt, move || consume(&rt, one))?;
+    let reading = thread::spawn(&rt, move || consume_batches(&rt, one))?;
     let seen = consume(&rt, two)?;
     println!(rt;
         "one consumer: {} records, {} missed",

@@ -29,13 +29,9 @@ where
             Either::Right(_) => break,
         }
     }
-    for _ in 0..u64::MAX {
-        if jobs.try_recv()?.is_err() {
-            break;
-        }
-        done = done.saturating_add(1);
-    }
-    Ok(done)
+    let mut left = Vec::new(rt.alloc());
+    let count = jobs.try_recv_many(usize::MAX, &mut left)?.unwrap_or(0);
+    Ok(done.saturating_add(count as u64))
 }
 
 pub fn run<R>(rt: R) -> Result<()>

@@ -1,7 +1,7 @@
 //! The answers of a script, as text.
-ghost use Rattle.std.specs.Prelude.{◌≡◌, ◌≢◌, ◌↔◌, Some, Err, OnOk, IsNone, IsSome, IfSome, ◌++◌, ◌∷◌, []};
+ghost use Rattle.std.specs.Prelude.{◌≡◌, ◌≢◌, ◌↔◌, Some, Err, OnOk, IfErr, IsNone, IsSome, IfSome, ◌++◌, ◌∷◌, []};
 ghost use Rattle.std.specs.Io.KnownBytes.{Appends};
-ghost use Rattle.bcast_text.specs.ScriptAnswer.{answer_of, words_text};
+ghost use Rattle.bcast_text.specs.ScriptAnswer.{answer_of, batch_text, words_text};
 
 use crate::input::Fault;
 use bcast_model::error::{HandleError, TryRecvError, TrySendError};
@@ -27,6 +27,24 @@ pub fn answer<W: Write>(reply: &Reply<u64>, output: &mut W) -> Result<(), Fault>
         Some((words, Some(number))) => writeln!(output, "{words}{number}")?,
         None => return Err(Fault::NoMemory),
     }
+    Ok(())
+}
+
+/// Writes the line that answers a batch of these messages.
+///
+/// # Errors
+///
+/// - `OutputFailed`: a write failed.
+pub fn answer_batch<W: Write>(msgs: &[u64], output: &mut W) -> Result<(), Fault>
+    ensures text { OnOk result (Appends (W.contents output.old) (W.contents output.new)
+        (batch_text msgs.now ++ 10 ∷ [])) }
+    ensures output_failed { IfErr result (λ fault. fault ≡ Fault.OutputFailed) }
+{
+    output.write_all(b"got")?;
+    for msg in msgs {
+        write!(output, " {msg}")?;
+    }
+    output.write_all(b"\n")?;
     Ok(())
 }
 

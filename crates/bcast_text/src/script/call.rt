@@ -1,11 +1,11 @@
 //! The calls that lines ask for, and what their replies do to the names of receivers.
-ghost use Rattle.std.specs.Prelude.{◌≡◌, ℕ, List, Some, None, OnOk, IfOk, IfSome};
+ghost use Rattle.std.specs.Prelude.{◌≡◌, ◌<◌, ℕ, List, Some, None, OnOk, IfOk, IfSome};
 ghost use Rattle.std.specs.Map.{update};
 ghost use Rattle.std.specs.Str.{bytes_eq};
 ghost use Rattle.std.specs.BTreeMap.{get_by_text};
 ghost use Rattle.bcast_model.specs.Next.{HasPositiveCapacity};
 ghost use Rattle.bcast_text.specs.ScriptLine.{IsInForm};
-ghost use Rattle.bcast_text.specs.ScriptCall.{call_of, names_after, unless_used};
+ghost use Rattle.bcast_text.specs.ScriptCall.{call_of, batch_of, names_after, unless_used};
 
 use crate::script::line::Line;
 use bcast_model::run::{Call, Reply};
@@ -29,8 +29,8 @@ fn under<A: Allocator>(names: &Names<A>, new: &str, call: Option<Call<u64>>) -> 
     if names.contains_key(new) { None } else { call }
 }
 
-/// The call that `line` asks for. None: it makes a channel, a name in it must be in use and is not,
-/// or the new name is in use already.
+/// The call that `line` asks for. None: it makes a channel or asks for a batch, a name in it must be
+/// in use and is not, or the new name is in use already.
 ///
 /// # Errors
 ///
@@ -44,7 +44,7 @@ pub fn call_by<A: Allocator>(
     ensures positive { IfOk result (λ call. IfSome call HasPositiveCapacity) }
 {
     Ok(match line {
-        Line::Cap(_) => None,
+        Line::Cap(_) | Line::RecvMany(..) => None,
         Line::Send(msg) => Some(Call::TryBroadcast(*msg)),
         Line::SendAll(msgs) => Some(Call::TryBroadcastAll(msgs.copied()?)),
         Line::Recv(name) => key_by(names, name).map(Call::TryRecv),
@@ -65,6 +65,19 @@ pub fn call_by<A: Allocator>(
         Line::DropInactive => Some(Call::DropInactive),
         Line::Len => Some(Call::Len),
     })
+}
+
+/// The receiver of the batch that `line` asks for, and its limit. None: it asks for none, or the name
+/// in it is not in use.
+pub fn batch_by<A: Allocator>(names: &Names<A>, line: &Line<'_>) -> Option<(usize, usize)>
+    requires { IsInForm line.now }
+    ensures batch { result ≡ batch_of (get_by_text names.now) line.now }
+    ensures positive { IfSome result (λ batch. 0 < batch.1) }
+{
+    match line {
+        Line::RecvMany(name, limit) => Some((key_by(names, name)?, *limit as usize)),
+        _ => None,
+    }
 }
 
 /// Gives the receiver with this key a new name.

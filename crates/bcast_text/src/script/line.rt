@@ -1,7 +1,8 @@
 //! What a line of a script says.
 ghost use Rattle.std.specs.Prelude.{◌≡◌, ◌≢◌, ℕ, List, Bool, Some, None, IfOk, IfSome, IsNone, ◌++◌, ◌∷◌, codes};
 ghost use Rattle.std.specs.List.{AllByRecursion};
-ghost use Rattle.bcast_text.specs.Words.{numbers_text, IsU64};
+ghost use Rattle.std.specs.Fmt.{decimal};
+ghost use Rattle.bcast_text.specs.Words.{numbers_text, IsU64, IsPositive};
 ghost use Rattle.bcast_text.specs.Name.{IsName};
 ghost use Rattle.bcast_text.specs.ScriptLine.{flag_text, word_of, name_in, arguments_of, text_of, IsInForm};
 ghost use Rattle.bcast_text.specs.declared.script.line.Line.{Line};
@@ -22,6 +23,8 @@ pub enum Line<'a> {
     SendAll(Messages<u64>),
     /// `recv R`
     Recv(&'a str),
+    /// `recvmany R N`: at most N messages, in one step.
+    RecvMany(&'a str, u64),
     /// `clone R Q`: Q becomes the name of a clone of R.
     Clone(&'a str, &'a str),
     /// `new Q`
@@ -115,6 +118,7 @@ fn with_arguments<'a>(first: &str, rest: &'a str) -> Option<Line<'a>>
         "overflow" => Some(Line::Overflow(flag(rest)?)),
         "await" => Some(Line::Await(flag(rest)?)),
         "clone" => two_names(rest),
+        "recvmany" => name_and_limit(rest),
         _ if is_name(rest) => with_name(first, rest),
         _ => None,
     }
@@ -148,6 +152,21 @@ fn two_names(names: &str) -> Option<Line<'_>>
     let (name, new) = names.split_once(' ')?;
     if is_name(name) && is_name(new) {
         Some(Line::Clone(name, new))
+    } else {
+        None
+    }
+}
+
+/// The arguments of `recvmany`.
+fn name_and_limit(arguments: &str) -> Option<Line<'_>>
+    ensures text { IfSome result (λ line. codes "recvmany " ++ arguments.now ≡ text_of line) }
+    ensures form { IfSome result IsInForm }
+    ensures none { IsNone result → (name : List ℕ) (limit : ℕ) → IsName name → IsPositive limit
+        → arguments.now ≢ name ++ codes " " ++ decimal limit }
+{
+    let (name, limit) = arguments.split_once(' ')?;
+    if is_name(name) {
+        Some(Line::RecvMany(name, positive(limit)?))
     } else {
         None
     }

@@ -1,5 +1,5 @@
 -- The reply of the line's call is answered.
-use Rattle.std.proofs.Common.{rules, ◌++◌, ◌∷◌, [], refl}
+use Rattle.std.proofs.Common.{rules, ◌++◌, ◌∷◌, [], refl, inl}
 use Rattle.bcast_model.proofs.Clones.{answers_exact}
 use Rattle.bcast_text.specs.ScriptAnswer.{answer_of}
 use Rattle.bcast_play.proofs.Answered.{answered}
@@ -9,7 +9,7 @@ pub returns-clause-ok : goal.returns-clause-ok
 returns-clause-ok g c =
     answered c.answer.result (answer_of c.step-reply.result) _ _ c.answer.ensures.text c.answer.ensures.answered (λ text spelt written. (
       text ++ 10 ∷ [],
-      record {
+      inl (record {
         call = c.in_ok-call.call;
         asked = search rules;
         reply = c.step-reply.result;
@@ -18,6 +18,6 @@ returns-clause-ok g c =
         text = text;
         spelt = spelt;
         ended = refl;
-      },
+      }),
       written,
     ))
