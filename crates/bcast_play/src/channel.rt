@@ -8,8 +8,9 @@ ghost use Rattle.bcast_play.specs.Channels.{named_of};
 use bcast_core::{Inner, Reply, Silent, step};
 use bcast_text::input::Fault;
 use bcast_text::script::answer::{answer, answer_batch};
-use bcast_text::script::call::{Names, batch_by, call_by, record};
+use bcast_text::script::call::{Keys, batch_by, call_by, record};
 use bcast_text::script::line::Line;
+use bcast_text::script::name::give_name;
 use std::alloc::{AllocError, Allocator};
 use std::io::Write;
 
@@ -17,7 +18,7 @@ use std::io::Write;
 #[derive(Drop)]
 pub struct Channel<A: Allocator> {
     inner: Inner<u64, Silent, A>,
-    names: Names<A>,
+    names: Keys<A>,
 }
 
 impl<A: Allocator + Copy> Channel<A> {
@@ -31,11 +32,9 @@ impl<A: Allocator + Copy> Channel<A> {
         ensures { IfOk result (λ channel. IsNew (named_of channel) capacity) }
     {
         let (inner, key) = Inner::new(alloc, capacity)?;
-        let mut names = Names::new(alloc);
-        match names.insert(String::from_str(alloc, "r1")?, key) {
-            Ok(_) => Ok(Channel { inner, names }),
-            Err(_) => Err(AllocError),
-        }
+        let mut names = Keys::new(alloc);
+        give_name(alloc, &mut names, "r1", key)?;
+        Ok(Channel { inner, names })
     }
 
     /// Does what `line` asks for, and writes the answer.

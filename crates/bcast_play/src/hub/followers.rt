@@ -10,8 +10,8 @@ ghost use Rattle.bcast_play.specs.TopicsShown.{follower_of};
 use super::line::Line;
 use bcast_core::Reply;
 use bcast_text::input::Fault;
+use bcast_text::script::name::{Names, free_name, give_name};
 use std::alloc::{AllocError, Allocator};
-use std::collections::BTreeMap;
 use topics::{Answer, Request};
 
 /// A follower: its topic's name, and the key of its receiver there.
@@ -22,7 +22,7 @@ pub struct Follower<A: Allocator> {
 }
 
 /// The follower of each name.
-pub type Followers<A> = BTreeMap<String<A>, Follower<A>, A>;
+pub type Followers<A> = Names<Follower<A>, A>;
 
 /// The request that `line` asks for.
 ///
@@ -105,7 +105,7 @@ pub fn record<A: Allocator + Copy>(
             name_follower(alloc, followers, new, topic, *key)
         }
         (Line::Leave(name), _) => {
-            free(followers, name);
+            free_name(followers, name);
             Ok(())
         }
         _ => Ok(()),
@@ -125,17 +125,5 @@ fn name_follower<A: Allocator + Copy>(
         (Some (record { topic = topic.now; key = key })) name) }
 {
     let topic = String::from_str(alloc, topic)?;
-    let name = String::from_str(alloc, new)?;
-    let Ok(_) = followers.insert(name, Follower { topic, key }) else {
-        return Err(AllocError);
-    };
-    Ok(())
-}
-
-/// Frees a name.
-fn free<A: Allocator>(followers: &mut Followers<A>, name: &str)
-    ensures { (other : List ℕ) → follower_of followers.new other
-        ≡ update bytes_eq (follower_of followers.old) name.now None other }
-{
-    followers.remove(name);
+    give_name(alloc, followers, new, Follower { topic, key })
 }

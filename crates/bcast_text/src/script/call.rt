@@ -1,29 +1,27 @@
 //! The calls that lines ask for, and what their replies do to the names of receivers.
 ghost use Rattle.std.specs.Prelude.{◌≡◌, ◌<◌, ℕ, List, Some, None, OnOk, IfOk, IfSome};
-ghost use Rattle.std.specs.Map.{update};
-ghost use Rattle.std.specs.Str.{bytes_eq};
 ghost use Rattle.std.specs.BTreeMap.{get_by_text};
 ghost use Rattle.bcast_model.specs.Next.{HasPositiveCapacity};
 ghost use Rattle.bcast_text.specs.ScriptLine.{IsInForm};
 ghost use Rattle.bcast_text.specs.ScriptCall.{call_of, batch_of, names_after, unless_used};
 
 use crate::script::line::Line;
+use crate::script::name::{Names, free_name, give_name};
 use bcast_model::run::{Call, Reply};
 use std::alloc::{AllocError, Allocator};
-use std::collections::BTreeMap;
 
 /// The key of each receiver, by its name.
-pub type Names<A> = BTreeMap<String<A>, usize, A>;
+pub type Keys<A> = Names<usize, A>;
 
 /// The key of the receiver with this name.
-fn key_by<A: Allocator>(names: &Names<A>, name: &str) -> Option<usize>
+fn key_by<A: Allocator>(names: &Keys<A>, name: &str) -> Option<usize>
     ensures { result ≡ get_by_text names.now name.now }
 {
     names.get(name).copied()
 }
 
 /// `call`, which makes a receiver under a new name: none if the name is in use.
-fn under<A: Allocator>(names: &Names<A>, new: &str, call: Option<Call<u64>>) -> Option<Call<u64>>
+fn under<A: Allocator>(names: &Keys<A>, new: &str, call: Option<Call<u64>>) -> Option<Call<u64>>
     ensures { result ≡ unless_used (get_by_text names.now) new.now call }
 {
     if names.contains_key(new) { None } else { call }
@@ -36,7 +34,7 @@ fn under<A: Allocator>(names: &Names<A>, new: &str, call: Option<Call<u64>>) -> 
 ///
 /// - `AllocError`: there is no memory for the messages of a `sendall`. Other lines take no memory.
 pub fn call_by<A: Allocator>(
-    names: &Names<A>,
+    names: &Keys<A>,
     line: &Line<'_>,
 ) -> Result<Option<Call<u64>>, AllocError>
     requires { IsInForm line.now }
@@ -69,7 +67,7 @@ pub fn call_by<A: Allocator>(
 
 /// The receiver of the batch that `line` asks for, and its limit. None: it asks for none, or the name
 /// in it is not in use.
-pub fn batch_by<A: Allocator>(names: &Names<A>, line: &Line<'_>) -> Option<(usize, usize)>
+pub fn batch_by<A: Allocator>(names: &Keys<A>, line: &Line<'_>) -> Option<(usize, usize)>
     requires { IsInForm line.now }
     ensures batch { result ≡ batch_of (get_by_text names.now) line.now }
     ensures positive { IfSome result (λ batch. 0 < batch.1) }
@@ -78,31 +76,6 @@ pub fn batch_by<A: Allocator>(names: &Names<A>, line: &Line<'_>) -> Option<(usiz
         Line::RecvMany(name, limit) => Some((key_by(names, name)?, *limit as usize)),
         _ => None,
     }
-}
-
-/// Gives the receiver with this key a new name.
-fn name_receiver<A: Allocator + Copy>(
-    alloc: A,
-    names: &mut Names<A>,
-    new: &str,
-    key: usize,
-) -> Result<(), AllocError>
-    ensures ok { OnOk result ((name : List ℕ) → get_by_text names.new name
-        ≡ update bytes_eq (get_by_text names.old) new.now (Some key) name) }
-{
-    let text = String::from_str(alloc, new)?;
-    let Ok(_) = names.insert(text, key) else {
-        return Err(AllocError);
-    };
-    Ok(())
-}
-
-/// Frees a name.
-fn free<A: Allocator>(names: &mut Names<A>, name: &str)
-    ensures { (other : List ℕ) → get_by_text names.new other
-        ≡ update bytes_eq (get_by_text names.old) name.now None other }
-{
-    names.remove(name);
 }
 
 /// Gives the receiver that `reply` made its name, or frees the name of the one that left.
@@ -114,7 +87,7 @@ fn free<A: Allocator>(names: &mut Names<A>, name: &str)
 /// - `AllocError`: there is no memory for the name.
 pub fn record<A: Allocator + Copy>(
     alloc: A,
-    names: &mut Names<A>,
+    names: &mut Keys<A>,
     line: &Line<'_>,
     reply: &Reply<u64>,
 ) -> Result<(), AllocError>
@@ -125,10 +98,10 @@ pub fn record<A: Allocator + Copy>(
         (Line::Clone(_, new), Reply::CloneReceiver(Ok(key)))
         | (Line::New(new), Reply::NewReceiver(Ok(key)))
         | (Line::Activate(new), Reply::Activate(Ok(key))) => {
-            return name_receiver(alloc, names, new, *key);
+            return give_name(alloc, names, new, *key);
         }
         (Line::Drop(name), _) | (Line::Deactivate(name), Reply::Deactivate(Ok(()))) => {
-            free(names, name)
+            free_name(names, name)
         }
         _ => {}
     }

@@ -24,7 +24,8 @@ all g c none =
 pub returns-then-receive_many-gt0-clause-ok : goal.returns-then-receive_many-gt0-clause-ok
 returns-then-receive_many-gt0-clause-ok g c =
     let r = c.receive_many.ensures.received in
-    let given : c.as_slice.result.now ≡ r.given = c.as_slice.ensures.value ∙ r.put ∙ ap (λ before. before ++ r.given) (c.reserve.ensures.items ∙ c.new-msgs.ensures.items) in
+    let before = c.reserve.ensures.items ∙ c.new-msgs.ensures.items in
+    let given : c.as_slice.result.now ≡ r.given = c.as_slice.ensures.value ∙ r.put ∙ ap (λ items. items ++ r.given) before in
     let some : 0 < length r.given = omega (arith, r.counted, c.if-receive_many-gt0.true) in
     let each = each_exact (λ msg copy e. e) c.args.key _ _ r.given r.each in
     let here = (goal.at.returns-then-receive_many-gt0-clause-ok g c).After-receive_many in
