@@ -8,7 +8,9 @@ BASE = "original"
 
 # Senders, receivers, and messages of each sender.
 THREADS = ("1 1 20000", "2 3 4000", "4 4 1000", "16 16 50", "64 64 10")
-THREADS_HEADING = "Threads, of which tokio's senders don't wait"
+# What is timed with them, and its heading: a channel of 16 messages, or one that keeps all, as tokio's does in both.
+KINDS = {"threads": "Threads, of which tokio's senders don't wait",
+         "room": "Threads, with room for all messages: no sender waits"}
 
 
 class Row:

@@ -1,5 +1,5 @@
 -- What a channel had accepted when it was closed: nothing comes after it.
-use Rattle.std.proofs.Common.{◌≡◌, ◌⊎◌, inl, inr, ℕ, true, List, [], ◌∷◌, Err, length, refl, sym, ◌∙◌, subst, arith}
+use Rattle.std.proofs.Common.{◌≡◌, ◌⊎◌, inl, inr, ℕ, true, List, [], ◌∷◌, length, sym, ◌∙◌, subst, arith}
 use Rattle.std.proofs.lemmas.Bool.{cases_lt}
 use Rattle.std.proofs.lemmas.List.Elements.{All-nil, All-head}
 use Rattle.std.specs.Prelude.{All}
@@ -7,11 +7,10 @@ use Rattle.std.proofs.Math.Logic.{∥∥₁_elim}
 use base.Stored.{Coded-set, coded_ℕ, coded_list}
 use mathlib.Core.List.{IsPrefix}
 use Rattle.bcast_text.specs.Order.{HoldsEachOnce}
-use Rattle.bcast_model.specs.Words.{end_number}
 use Rattle.bcast_history.specs.declared.step.Opening.{Opening}
 use Rattle.bcast_history.specs.declared.step.Step.{Step}
-use Rattle.bcast_history.specs.History.{IsHistory, start_of, end_of}
-use Rattle.bcast_history.proofs.Prefixes.{prefix_trans, prefix_shorter, prefix_whole}
+use Rattle.bcast_history.specs.History.{IsHistory, end_of}
+use Rattle.bcast_history.proofs.Prefixes.{prefix_trans, prefix_shorter}
 use Rattle.bcast_history.specs.History.{accepted_by}
 use Rattle.bcast_history.proofs.Closed.{closed_keeps}
 use Rattle.bcast_threads.specs.Lists.{HasAll, IsOneList}

@@ -1,5 +1,5 @@
 //! The lists of a run: what each receiver received.
-ghost use Rattle.std.specs.Prelude.{◌≡◌, ◌*◌, IfOk, All, length};
+ghost use Rattle.std.specs.Prelude.{◌≡◌, ◌<◌, ◌*◌, IfOk, All, length};
 ghost use Rattle.std.specs.Bool.{OnTrue};
 ghost use mathlib.Core.List.{IsPrefix};
 ghost use Rattle.bcast_threads.specs.Lists.{AreLists};
@@ -17,9 +17,6 @@ use std::marker::Brand;
 use std::sync::Wait;
 use std::thread::Threads;
 
-/// How many messages the channel keeps at once.
-const CAPACITY: usize = 16;
-
 /// Runs the plan's threads to their end, and returns what each receiver received: all that the
 /// channel accepted, so all lists are the same. Each number that was to be sent is there once.
 ///
@@ -36,9 +33,10 @@ pub fn lists_of<R: Threads + Wait + Clone + Send + 'static>(
     alloc: Global,
     plan: Plan,
 ) -> Result<Vec<Vec<u64>>, Fault>
+    requires { 0 < plan.capacity }
     ensures { IfOk result (λ lists. AreLists plan (λ list. list.items) lists.items) }
 {
-    let opened = Opened::new(alloc, CAPACITY)?;
+    let opened = Opened::new(alloc, plan.capacity)?;
     lists_over::<Brand, R>(rt, alloc, plan, opened)
 }
 

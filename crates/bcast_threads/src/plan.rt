@@ -13,6 +13,9 @@ use std::io::Write;
 use std::sync::Wait;
 use std::thread::Threads;
 
+/// How many messages the channel of `threads` keeps.
+const CAPACITY: usize = 16;
+
 /// The bytes of each thread's stack.
 const STACK: usize = 1 << 18;
 
@@ -25,6 +28,8 @@ pub struct Plan {
     pub receivers: u64,
     /// How many messages each sender sends.
     pub messages: u64,
+    /// How many messages the channel keeps.
+    pub capacity: usize,
     /// The bytes of the stack of each thread that sends.
     pub sender_stack: usize,
     /// The bytes of the stack of each thread that receives.
@@ -60,6 +65,7 @@ pub fn threads<R: Threads + Wait + Clone + Send + 'static, W: Write>(
         senders: s,
         receivers: r,
         messages: m,
+        capacity: CAPACITY,
         sender_stack: STACK,
         receiver_stack: STACK,
     };
@@ -73,7 +79,8 @@ pub fn run<R: Threads + Wait + Clone + Send + 'static, W: Write>(
     plan: Plan,
     output: &mut W,
 ) -> Ending
-    requires { plan.senders * plan.messages ≤ 6400000 }
+    requires total { plan.senders * plan.messages ≤ 6400000 }
+    requires capacity { 0 < plan.capacity }
     ensures ending { IsEnding result }
     ensures text { result ≢ Ending.OutputFailed → Appends (W.contents output.old)
         (W.contents output.new)

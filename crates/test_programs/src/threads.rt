@@ -68,6 +68,7 @@ fn no_thread<R: Threads + Wait + Clone + Send + 'static, W: Write>(
             senders: 2,
             receivers: 2,
             messages: 10,
+            capacity: 16,
             sender_stack,
             receiver_stack,
         };

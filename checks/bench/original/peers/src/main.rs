@@ -3,9 +3,9 @@
 //! `peers CHANNEL time` prints, for each row of that channel, the nanoseconds of one operation, and
 //! `peers CHANNEL time TITLE` for the row of that title alone. `peers CHANNEL repeat N TITLE` repeats
 //! that row N times, so that another program may count its instructions. `peers CHANNEL threads S R M`
-//! sends from threads to threads. `peers CHANNEL titles` prints the titles. With no word after it
-//! each row that is not large is repeated three times, and its checksum printed, which is the same
-//! in every run.
+//! sends from threads to threads, and `peers CHANNEL room S R M` so that no sender waits. `peers
+//! CHANNEL titles` prints the titles. With no word after it each row that is not large is repeated
+//! three times, and its checksum printed, which is the same in every run.
 //!
 //! CHANNEL is `original`, `tokio`, `crossbeam` or, with the feature of that name, `unlocked`.
 
@@ -46,8 +46,8 @@ fn main() {
     let [channel, rest @ ..] = words.as_slice() else {
         usage()
     };
-    if let ["threads", sizes @ ..] = rest {
-        return threads_of(channel, sizes);
+    if let [kind @ ("threads" | "room"), sizes @ ..] = rest {
+        return threads_of(channel, sizes, *kind == "room");
     }
     let rows = rows::of(channel).unwrap_or_else(|| usage());
     match rest {
@@ -74,11 +74,17 @@ fn print_sum(row: &Row, times: u64) {
     println!("{}: {}", row.title, (row.run)(times));
 }
 
-fn threads_of(channel: &str, sizes: &[&str]) {
+fn threads_of(channel: &str, sizes: &[&str], has_room: bool) {
     let sizes: Option<Vec<u64>> = sizes.iter().map(|word| word.parse().ok()).collect();
     match sizes.as_deref() {
         Some(&[senders, receivers, messages]) if senders > 0 && receivers > 0 => {
-            let line = threads::line(channel, senders, receivers, messages);
+            let sizes = threads::Sizes {
+                senders,
+                receivers,
+                messages,
+                has_room,
+            };
+            let line = threads::line(channel, sizes);
             println!("{}", line.unwrap_or_else(|| usage()));
         }
         _ => usage(),
@@ -86,7 +92,7 @@ fn threads_of(channel: &str, sizes: &[&str]) {
 }
 
 fn usage() -> ! {
-    eprintln!("usage: peers CHANNEL [titles | time [TITLE] | repeat N TITLE | threads S R M]");
+    eprintln!("usage: peers CHANNEL [titles | time [TITLE] | repeat N TITLE | threads S R M | room S R M]");
     eprintln!("CHANNEL: original, tokio, crossbeam, or unlocked if it was built with that");
     exit(2)
 }

@@ -10,7 +10,7 @@ use std::sync::{Arc, Mutex};
 use std::task::{Context, Poll, Wake, Waker};
 use std::thread::{self, Thread};
 
-/// How many messages the channels keep.
+/// How many messages the channels keep, if they don't keep all.
 const CAPACITY: usize = 16;
 
 /// A channel whose ends wait.
@@ -18,8 +18,8 @@ trait Waits {
     type Sender: Clone + Send + 'static;
     type Receiver: Send + 'static;
 
-    /// A new channel, in which so many messages will be sent.
-    fn make(receivers: usize, messages: usize) -> (Self::Sender, Vec<Self::Receiver>);
+    /// A new channel that keeps so many messages, of so many that will be sent.
+    fn make(receivers: usize, kept: usize, messages: usize) -> (Self::Sender, Vec<Self::Receiver>);
     fn send(sender: &Self::Sender, message: u64);
     /// The next message; none where the channel is closed and empty.
     fn receive(receiver: &mut Self::Receiver) -> Option<u64>;
@@ -29,8 +29,12 @@ impl Waits for Original {
     type Sender = async_broadcast::Sender<u64>;
     type Receiver = async_broadcast::Receiver<u64>;
 
-    fn make(receivers: usize, _messages: usize) -> (Self::Sender, Vec<Self::Receiver>) {
-        <Original as Channel<u64>>::make(CAPACITY, receivers)
+    fn make(
+        receivers: usize,
+        kept: usize,
+        _messages: usize,
+    ) -> (Self::Sender, Vec<Self::Receiver>) {
+        <Original as Channel<u64>>::make(kept, receivers)
     }
     fn send(sender: &Self::Sender, message: u64) {
         sender
@@ -47,7 +51,11 @@ impl Waits for Tokio {
     type Sender = tokio::sync::broadcast::Sender<u64>;
     type Receiver = tokio::sync::broadcast::Receiver<u64>;
 
-    fn make(receivers: usize, messages: usize) -> (Self::Sender, Vec<Self::Receiver>) {
+    fn make(
+        receivers: usize,
+        _kept: usize,
+        messages: usize,
+    ) -> (Self::Sender, Vec<Self::Receiver>) {
         <Tokio as Channel<u64>>::make(messages.max(1), receivers)
     }
     fn send(sender: &Self::Sender, message: u64) {
@@ -63,8 +71,12 @@ impl Waits for FanOut {
     type Sender = Arc<Mutex<Vec<crossbeam_channel::Sender<u64>>>>;
     type Receiver = crossbeam_channel::Receiver<u64>;
 
-    fn make(receivers: usize, _messages: usize) -> (Self::Sender, Vec<Self::Receiver>) {
-        let (senders, receivers) = <FanOut as Channel<u64>>::make(CAPACITY, receivers);
+    fn make(
+        receivers: usize,
+        kept: usize,
+        _messages: usize,
+    ) -> (Self::Sender, Vec<Self::Receiver>) {
+        let (senders, receivers) = <FanOut as Channel<u64>>::make(kept, receivers);
         (Arc::new(Mutex::new(senders)), receivers)
     }
     fn send(senders: &Self::Sender, message: u64) {
@@ -101,15 +113,31 @@ fn wait<F: Future>(future: F) -> F::Output {
     })
 }
 
-/// Sends `messages` messages from each sender's thread to each receiver's, on that channel. Answers
-/// the line that `bcast threads` prints, or none where there is no such channel.
-pub fn line(channel: &str, senders: u64, receivers: u64, messages: u64) -> Option<String> {
+/// How many threads, and how many messages each sender sends.
+#[derive(Clone, Copy)]
+pub struct Sizes {
+    pub senders: u64,
+    pub receivers: u64,
+    pub messages: u64,
+    /// Whether the channel keeps all messages.
+    pub has_room: bool,
+}
+
+/// Sends messages from each sender's thread to each receiver's, on that channel. Answers the line
+/// that `bcast threads` prints, or none where there is no such channel.
+pub fn line(channel: &str, sizes: Sizes) -> Option<String> {
     let lists = match channel {
-        "original" => received::<Original>(senders, receivers, messages),
-        "tokio" => received::<Tokio>(senders, receivers, messages),
-        "crossbeam" => received::<FanOut>(senders, receivers, messages),
+        "original" => received::<Original>(sizes),
+        "tokio" => received::<Tokio>(sizes),
+        "crossbeam" => received::<FanOut>(sizes),
         _ => return None,
     };
+    let Sizes {
+        senders,
+        receivers,
+        messages,
+        ..
+    } = sizes;
     let all = senders * messages;
     let mut sorted = lists[0].clone();
     sorted.sort_unstable();
@@ -123,8 +151,16 @@ pub fn line(channel: &str, senders: u64, receivers: u64, messages: u64) -> Optio
 }
 
 /// What each receiver received.
-fn received<W: Waits>(senders: u64, receivers: u64, messages: u64) -> Vec<Vec<u64>> {
-    let (sender, all) = W::make(receivers as usize, (senders * messages) as usize);
+fn received<W: Waits>(sizes: Sizes) -> Vec<Vec<u64>> {
+    let Sizes {
+        senders,
+        receivers,
+        messages,
+        has_room,
+    } = sizes;
+    let total = (senders * messages) as usize;
+    let kept = if has_room { total.max(1) } else { CAPACITY };
+    let (sender, all) = W::make(receivers as usize, kept, total);
     let readers: Vec<_> = all
         .into_iter()
         .map(|mut receiver| {

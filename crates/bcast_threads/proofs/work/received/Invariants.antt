@@ -1,5 +1,4 @@
 -- What was received so far is a log.
-use Rattle.std.proofs.Common.{◌≡◌}
 use Rattle.bcast_history.specs.Log.{IsLog}
 use Rattle.bcast_threads.proofs.work.received.Given as goal
 
