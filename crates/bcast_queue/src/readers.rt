@@ -14,14 +14,17 @@ impl<T, A: Allocator> Queue<T, A> {
     /// Adds a reader of the message at `index` and of those behind it. Allocates nothing.
     ///
     /// At an `index` that is the length it changes nothing.
+    #[inline(always)]
     pub fn share<C: Counter>(&mut self, index: usize, steps: &mut C)
         requires within { index ≤ length self.old.messages }
         requires fits { ForSome (last_item self.old.owed) (λ n. n < usize.MAX) }
         ensures shared { self.new ≡ with_reader index self.old }
         ensures steps { C.total steps.new ≤ C.total steps.old + 1 }
     {
-        self.total += 1;
-        add_readers(&mut self.ring, &mut self.total, index, 1, steps);
+        if index < self.ring.len() {
+            self.total += 1;
+            add_readers(&mut self.ring, &mut self.total, index, 1, steps);
+        }
     }
 
     /// Moves a reader on, from the message at `index` to that at `index + count`, past messages

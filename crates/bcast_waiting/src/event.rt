@@ -114,8 +114,11 @@ impl<I: Copy + Eq + Indexed, N: Notice, A: Allocator> Event<I, N, A> {
         ensures listeners { self.new.listeners ≡ self.old.listeners }
         ensures room { self.old.room ≤ self.new.room }
     {
-        let _room = self.slots.room();
-        let Some(room) = id.index().checked_add(1) else {
+        let index = id.index();
+        if index < self.slots.room() {
+            return Ok(());
+        }
+        let Some(room) = index.checked_add(1) else {
             return Err(AllocError);
         };
         self.slots.reserve(room)

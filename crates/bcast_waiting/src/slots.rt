@@ -89,8 +89,9 @@ impl<I: Copy + Eq + Indexed, N: Notice, A: Allocator> Slots<I, N, A> {
     }
 
     // Allocates memory for the positions of all ids whose numbers are below `room`, and for twice
-    // as many slots.
-    #[inline(always)]
+    // as many slots. In a function of its own, so that a receiver for which there is room costs one
+    // test.
+    #[inline(never)]
     pub fn reserve(&mut self, room: usize) -> Result<(), AllocError>
         ensures ok { OnOk result (room ≤ self.new.room) }
         ensures succeeds { room ≤ self.old.room → IsOk result }
