@@ -1,20 +1,23 @@
 -- The last step of a call, which tells listeners. The proofs of state calls take their lemmas
 -- from here.
-use Rattle.std.proofs.Common.{◌≡◌, ℕ, ◌+◌, ◌≤◌, ◌==◌, Bool, true, false, not, cond, refl, sym, ap, ◌∙◌, subst, arith}
+use Rattle.std.proofs.Common.{◌≡◌, ℕ, ◌+◌, ◌-◌, ◌≤◌, ◌==◌, Bool, true, false, not, cond, refl, sym, ap, ◌∙◌, subst, arith}
 use Rattle.std.proofs.lemmas.Grind.{common_steps}
-use Rattle.std.specs.FinMap.{len}
+use Rattle.std.specs.FinMap.{len, values}
 use Rattle.bcast_model.specs.declared.run.Call.{Call}
 use Rattle.bcast_model.specs.declared.run.Reply.{Reply}
-use Rattle.bcast_model.specs.Words.{no_listeners, Pair, Cursors}
+use Rattle.bcast_model.specs.declared.run.Call.TheVariants as call
+use Rattle.bcast_model.specs.Words.{no_listeners, Pair, Cursors, Control, closing, close, close_if_deserted, has_next, least, sets, NoClone}
 use Rattle.bcast_model.specs.Words.{tell_a_sender, pair_waits, effect, HasRange, IsValidView}
 use Rattle.bcast_model.specs.Words.{may_tell, tell_if_ready, Steps}
 use Rattle.bcast_model.specs.Words.{settle, View, sends_are_ready, Answers, IsShown}
 pub use Rattle.bcast_model.proofs.Answers.{answers_as, shown_after}
 use Rattle.bcast_model.proofs.Calls.{keeps_valid}
+use Rattle.bcast_model.proofs.Cases.{deserted_is}
 use Rattle.bcast_model.proofs.WaitingSends.{OneIsTold}
 use Rattle.bcast_core.specs.Telling.{NobodyWaits}
 use Rattle.bcast_core.specs.Parts.{Does}
 use Rattle.bcast_core.specs.Telling.{tell_news}
+use Rattle.bcast_core.proofs.Settle.{settle_stays}
 pub use Rattle.bcast_core.proofs.Does.{valid_shown, does_begin, does_resize, does_sets}
 
 module _ {T : Type 0} where
@@ -34,6 +37,34 @@ module _ {T : Type 0} where
   -- no further send is told once a receiver waits in a valid state
   pub told_waiting : (v : View T) (pair : Pair) → IsValidView v → tell_if_ready true (record v { control = pair_waits v.control pair }) ≡ record v { control = pair_waits v.control pair }
   told_waiting v pair valid = tell_once false (record v { control = pair_waits v.control pair }) (λ _. valid.wake_ups.sends)
+
+  -- nor once the senders are counted anew
+  pub told_senders : (v : View T) (n : ℕ) → IsValidView v → tell_if_ready true (settle v (sets (record v.control { senders = n }))) ≡ settle v (sets (record v.control { senders = n }))
+  told_senders v n valid =
+      let w : View T = record v { control = record v.control { senders = n } } in
+      subst (λ (x : View T). tell_if_ready true x ≡ x) (sym (settle_stays v (record v.control { senders = n }) valid.low)) (tell_once false w (λ _. valid.wake_ups.sends))
+
+  -- nor once the channel is closed, since all sends are told
+  closed_told : (v : View T) (c : Control) → least v.end (values c.cursors) ≤ v.front → tell_if_ready true (settle v (sets (closing c))) ≡ settle v (sets (closing c))
+  closed_told v c low =
+      subst (λ (x : View T). tell_if_ready true x ≡ x) (sym (settle_stays v (closing c) low)) (tell_once false (record v { control = closing c }) (λ _ _ some. some))
+
+  -- so a sender that is made or dropped leaves no one to tell
+  pub told_new_sender : {v mid : View T} {r : Reply T} → IsValidView v → Does NoClone v call.NewSender r mid → tell_if_ready true mid ≡ mid
+  told_new_sender {v = v} valid does =
+      subst (λ (x : View T). tell_if_ready true x ≡ x) (sym does.effect)
+      (elim (has_next v.control.senders) as (λ b. tell_if_ready true (settle v (sets (cond b (record v.control { senders = v.control.senders + 1 }) v.control))) ≡ settle v (sets (cond b (record v.control { senders = v.control.senders + 1 }) v.control)))
+      [ true ↦ told_senders v (v.control.senders + 1) valid | false ↦ told_senders v v.control.senders valid ])
+
+  pub told_drop_sender : {v mid : View T} {r : Reply T} → IsValidView v → Does NoClone v call.DropSender r mid → tell_if_ready true mid ≡ mid
+  told_drop_sender {v = v} valid does =
+      let left : Control = record v.control { senders = v.control.senders - 1 } in
+      let Told : Control → Type 0 = λ c. tell_if_ready true (settle v (sets c)) ≡ settle v (sets c) in
+      let counted = told_senders v (v.control.senders - 1) valid in
+      let closed : Told (close left) = elim v.control.closed as (λ b. Told (cond b left (closing left))) [ true ↦ counted | false ↦ closed_told v left valid.low ] in
+      subst (λ (x : View T). tell_if_ready true x ≡ x) (sym does.effect)
+      (elim (v.control.senders == 0) as (λ b. Told (cond b v.control (close_if_deserted left)))
+      [ true ↦ told_senders v v.control.senders valid | false ↦ deserted_is Told left closed (λ _. counted) ])
 
   pub told_last : {is_clone : T → T → Type 0} {old mid new : View T} {c : Call T} {r : Reply T} → IsValidView old → HasRange c (len mid.control.cursors) → Does is_clone old c r mid → new ≡ tell_if_ready true mid → Steps is_clone old c r new
   told_last {is_clone = is_clone} {old = old} {c = c} {r = r} valid range does new_is =

@@ -17,3 +17,11 @@ module _ {T : Type 0} where
       ap (λ x. seen_of x (control_of x sends receives senders inactive closed overflow await_active capacity)) is
       ∙ sym (settle-with_cursors s (control_of s sends receives senders inactive closed overflow await_active capacity) (record (control_of s sends receives senders inactive closed overflow await_active capacity) { cursors = cursors }))
       ∙ ap (λ (x : View T). settle x (sets (record x.control { cursors = cursors }))) seen
+
+  -- and no change of the cursors to the view as it was
+  pub view-same : (s now : Stored T) (sends : Sends) (receives : Event Pair) (senders inactive : ℕ) (closed overflow await_active : Bool) (capacity : ℕ) (v : View T)
+      → now ≡ s
+      → seen_of s (control_of s sends receives senders inactive closed overflow await_active capacity) ≡ v
+      → seen_of now (control_of now sends receives senders inactive closed overflow await_active capacity) ≡ v
+  view-same s now sends receives senders inactive closed overflow await_active capacity v is seen =
+      ap (λ x. seen_of x (control_of x sends receives senders inactive closed overflow await_active capacity)) is ∙ seen

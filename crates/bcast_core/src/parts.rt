@@ -190,6 +190,9 @@ impl<T: Drop, N: Notice, A: Allocator + Copy> Parts<T, N, A> {
 
     /// The last step of a call: tells the first send that waits, if sends are ready now and none is
     /// told already.
+    ///
+    /// Calls that are made often ask `no_send_waits` before: after each call of a function that may
+    /// wait, as the drop of a notice may, the compiler adds a test.
     #[inline(always)]
     pub fn tell_a_sender(&mut self)
         ensures { self.new ≡ tell_if_ready true self.old }

@@ -132,8 +132,7 @@ impl<T: Drop, N: Notice, A: Allocator + Copy> Parts<T, N, A> {
         requires { IsValidView self.old }
         ensures { Does NoClone self.old (call.DropReceiver key) reply.DropReceiver self.new }
     {
-        if self.cursor(key).is_some() {
-            self.remove_receiver(key);
+        if self.remove_receiver(key) {
             self.close_if_deserted();
         }
     }

@@ -1,5 +1,5 @@
 //! Receivers, and the counts of senders and inactive receivers.
-ghost use Rattle.std.specs.Prelude.{◌≡◌, ◌+◌, ◌-◌, ◌^◌, ◌<◌, ◌≤◌, true, None, IfOk, IfErr, OnErr, is_some};
+ghost use Rattle.std.specs.Prelude.{◌≡◌, ◌+◌, ◌-◌, ◌^◌, ◌<◌, ◌≤◌, true, false, None, IfOk, IfErr, OnErr, is_some};
 ghost use Rattle.std.specs.FinMap.{len, remove};
 
 use super::Parts;
@@ -36,27 +36,35 @@ impl<T: Drop, N: Notice, A: Allocator + Copy> Parts<T, N, A> {
         Ok(key)
     }
 
-    // Removes a receiver's cursor, and drops the messages that no receiver has to read any more.
+    // Removes a receiver's cursor, if there is one, and drops the messages that no receiver has to
+    // read any more. Returns whether there was one.
     #[inline(always)]
-    fn remove_cursor(&mut self, key: usize)
-        requires { is_some (cursor_of self.old.control key) ≡ true }
-        ensures { self.new ≡ settle self.old
+    fn remove_cursor(&mut self, key: usize) -> bool
+        ensures found { result ≡ is_some (cursor_of self.old.control key) }
+        ensures removed { result ≡ true → self.new ≡ settle self.old
             (sets (record self.old.control { cursors = remove self.old.control.cursors key })) }
+        ensures same { result ≡ false → self.new ≡ self.old }
     {
-        self.store.remove(key);
+        self.store.remove(key)
     }
 
-    /// Removes a receiver: its stream is dropped, then its future, then its cursor.
+    /// Removes a receiver, if there is one, with its stream and its future. Returns whether there
+    /// was one.
     #[inline(always)]
-    pub fn remove_receiver(&mut self, key: usize)
+    pub fn remove_receiver(&mut self, key: usize) -> bool
         requires valid { IsValidView self.old }
-        requires there { is_some (cursor_of self.old.control key) ≡ true }
-        ensures { self.new ≡ settle self.old (sets (without_receiver self.old.control key)) }
+        ensures found { result ≡ is_some (cursor_of self.old.control key) }
+        ensures removed { result ≡ true
+            → self.new ≡ settle self.old (sets (without_receiver self.old.control key)) }
+        ensures same { result ≡ false → self.new ≡ self.old }
     {
+        if !self.remove_cursor(key) {
+            return false;
+        }
         if !self.receives.is_empty() {
             self.end_listeners(key);
         }
-        self.remove_cursor(key);
+        true
     }
 
     // In a function of its own, so that a receiver that leaves while none waits costs one test.

@@ -21,9 +21,7 @@ impl<T: Drop, N: Notice, A: Allocator + Copy> Inner<T, N, A> {
     pub fn new_sender(&mut self) -> Result<(), HandleError>
         ensures { Answers NoClone self.old call.NewSender (reply.NewSender result) self.new }
     {
-        let made = self.parts.new_sender();
-        self.parts.tell_a_sender();
-        made
+        self.parts.new_sender()
     }
 
     /// Counts one more inactive receiver.
@@ -75,7 +73,9 @@ impl<T: Drop, N: Notice, A: Allocator + Copy> Inner<T, N, A> {
         ensures { Answers NoClone self.old call.NewReceiver (reply.NewReceiver result) self.new }
     {
         let made = self.parts.new_receiver();
-        self.parts.tell_a_sender();
+        if !self.parts.no_send_waits() {
+            self.parts.tell_a_sender();
+        }
         made
     }
 
@@ -129,7 +129,9 @@ impl<T: Drop, N: Notice, A: Allocator + Copy> Inner<T, N, A> {
             self.new }
     {
         let made = self.parts.clone_receiver(key);
-        self.parts.tell_a_sender();
+        if !self.parts.no_send_waits() {
+            self.parts.tell_a_sender();
+        }
         made
     }
 
@@ -142,7 +144,6 @@ impl<T: Drop, N: Notice, A: Allocator + Copy> Inner<T, N, A> {
         ensures { Answers NoClone self.old call.DropSender reply.DropSender self.new }
     {
         self.parts.drop_sender();
-        self.parts.tell_a_sender();
     }
 
     /// Counts one inactive receiver fewer. If neither an inactive nor an active one is left then,
@@ -166,6 +167,8 @@ impl<T: Drop, N: Notice, A: Allocator + Copy> Inner<T, N, A> {
         ensures { Answers NoClone self.old (call.DropReceiver key) reply.DropReceiver self.new }
     {
         self.parts.drop_receiver(key);
-        self.parts.tell_a_sender();
+        if !self.parts.no_send_waits() {
+            self.parts.tell_a_sender();
+        }
     }
 }

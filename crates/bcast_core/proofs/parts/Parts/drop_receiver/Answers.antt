@@ -4,7 +4,7 @@ use Rattle.bcast_core.proofs.Does.{does_nothing}
 use Rattle.bcast_core.proofs.Making.{is_gone}
 use Rattle.bcast_core.proofs.parts.Parts.drop_receiver.Goals as goal
 
-pub returns-else-is_some : goal.returns-else-is_some
-returns-else-is_some g c =
-    let none = sym c.cursor.ensures ∙ is_gone c.cursor.result (sym c.is_some.ensures ∙ c.if-is_some.false) in
-    does_nothing c.requires refl (ap (λ o. sets (drop_receiver c.args.self.now.control c.args.key o)) none) refl
+pub returns-else-remove_receiver : goal.returns-else-remove_receiver
+returns-else-remove_receiver g c =
+    let none = is_gone _ (sym c.remove_receiver.ensures.found ∙ c.if-remove_receiver.false) in
+    does_nothing c.requires refl (ap (λ o. sets (drop_receiver c.args.self.now.control c.args.key o)) none) (c.remove_receiver.ensures.same c.if-remove_receiver.false)
