@@ -1,11 +1,10 @@
 //! The type of all handles.
-ghost use Rattle.std.specs.Prelude.{◌≡◌};
+ghost use Rattle.std.specs.Prelude.{◌≡◌, ◌⊎◌, Ok, Err, IfOk, IfErr};
 ghost use Rattle.bcast_core.specs.Calls.{change_call, change_reply};
 ghost use Rattle.bcast_core.specs.Calls.{receiver_call, receiver_reply};
-ghost use Rattle.async_broadcast.specs.Handles.{MakesHandle};
+ghost use Rattle.async_broadcast.specs.Ports.{IsSame};
 
 use crate::port::{Ask, Port};
-use crate::receiver::Receiver;
 use bcast_core::{AddReceiver, Change, HandleError};
 use std::alloc::{Allocator, Global};
 use std::marker::PhantomData;
@@ -60,15 +59,22 @@ impl<T: Clone, P: Ask<T, ()>, H: Role, A: Allocator> Handle<T, P, H, A> {
 }
 
 impl<T: Clone, P: Port<T>, H: Role, A: Allocator + Copy> Handle<T, P, H, A> {
-    /// Makes a receiver by this call. No call is made if there is no memory for the handle.
+    /// Another port of the channel, and the key of the receiver that this call adds. The call isn't
+    /// made if there is no memory for the port.
+    ///
+    /// The handle is made of both by the caller: a handle in a `Result` would be copied once more.
     #[inline(always)]
-    pub(crate) fn make_receiver(&self, call: AddReceiver) -> Result<Receiver<T, P, A>, HandleError>
-        ensures { MakesHandle P.gave P.lacks_memory self.now.port (receiver_call call)
-            (receiver_reply call) (λ made. made.role.key) result }
+    pub(crate) fn add_receiver(&self, call: AddReceiver) -> Result<(P, usize), HandleError>
+        ensures channel { IfOk result (λ made. IsSame P.gave made.0 self.now.port) }
+        ensures made { IfOk result (λ made. P.gave self.now.port (receiver_call call)
+            (receiver_reply call (Ok made.1))) }
+        ensures refused { IfErr result (λ error.
+            ((error ≡ HandleError.Memory) × P.lacks_memory self.now.port)
+            ⊎ P.gave self.now.port (receiver_call call) (receiver_reply call (Err error))) }
     {
         let port = self.port.try_clone().ok_or(HandleError::Memory)?;
         let key = self.port.ask(&mut (), call)?;
-        Ok(Receiver::from_port(port, key, self.alloc))
+        Ok((port, key))
     }
 }
 

@@ -82,7 +82,8 @@ impl<T: Clone, P: Port<T>, A: Allocator + Copy> InactiveReceiver<T, P, A> {
         ensures { MakesHandle P.gave P.lacks_memory self.now.port
             Call.ActivateCloned Reply.ActivateCloned (λ made. made.role.key) result }
     {
-        self.make_receiver(AddReceiver::ActivateCloned)
+        let (port, key) = self.add_receiver(AddReceiver::ActivateCloned)?;
+        Ok(Receiver::from_port(port, key, self.alloc))
     }
 
     /// Makes another inactive receiver of the channel.

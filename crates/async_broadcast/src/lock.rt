@@ -222,8 +222,8 @@ impl<T: Clone, R: Wait + Clone, A: Allocator + Copy, J: CallJournal<T>> PortFor<
     ghost lacks_memory = { λ _. ⊤ };
 
     fn try_clone(&self) -> Option<Self> {
-        let channel = Arc::try_clone(&self.channel).ok()?;
         let rt = self.rt.clone().ok()?;
+        let channel = Arc::try_clone(&self.channel).ok()?;
         Some(Lock { channel, rt })
     }
 }

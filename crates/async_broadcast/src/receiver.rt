@@ -163,12 +163,14 @@ impl<T: Clone, P: Port<T>, A: Allocator + Copy> Receiver<T, P, A> {
     /// ```
     ///
     /// Source: `Receiver::clone` of async-broadcast 0.7.2, which never refuses.
+    #[inline(always)]
     pub fn clone(&self) -> Result<Self, HandleError>
         ensures { MakesHandle P.gave P.lacks_memory self.now.port
             (Call.CloneReceiver self.now.role.key) Reply.CloneReceiver (λ made. made.role.key)
             result }
     {
-        self.make_receiver(AddReceiver::Clone(self.role.key))
+        let (port, key) = self.add_receiver(AddReceiver::Clone(self.role.key))?;
+        Ok(Receiver::from_port(port, key, self.alloc))
     }
 
     /// Makes an active receiver, whose first message is the next one that is accepted.
@@ -192,7 +194,8 @@ impl<T: Clone, P: Port<T>, A: Allocator + Copy> Receiver<T, P, A> {
         ensures { MakesHandle P.gave P.lacks_memory self.now.port
             Call.NewReceiver Reply.NewReceiver (λ made. made.role.key) result }
     {
-        self.make_receiver(AddReceiver::New)
+        let (port, key) = self.add_receiver(AddReceiver::New)?;
+        Ok(Receiver::from_port(port, key, self.alloc))
     }
 
     /// Makes a sender of the channel. It doesn't open a closed one.

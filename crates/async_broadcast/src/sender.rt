@@ -180,7 +180,8 @@ impl<T: Clone, P: Port<T>, A: Allocator + Copy> Sender<T, P, A> {
         ensures { MakesHandle P.gave P.lacks_memory self.now.port
             Call.NewReceiver Reply.NewReceiver (λ made. made.role.key) result }
     {
-        self.make_receiver(AddReceiver::New)
+        let (port, key) = self.add_receiver(AddReceiver::New)?;
+        Ok(Receiver::from_port(port, key, self.alloc))
     }
 }
 
