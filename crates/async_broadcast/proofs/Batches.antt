@@ -1,5 +1,5 @@
 -- Receives in a row, through a port.
-use Rattle.std.proofs.Common.{◌≡◌, ℕ, List, [], ◌∷◌, ◌++◌, length, drop, refl, sym, ap, ◌∙◌, subst}
+use Rattle.std.proofs.Common.{◌≡◌, ℕ, List, [], ◌∷◌, length, drop, refl, ap, ◌∙◌, subst}
 use Rattle.std.specs.Prelude.{⊤}
 use Rattle.std.proofs.Math.Seq.{drop-append_seam}
 use Rattle.bcast_model.specs.declared.run.Call.{Call}

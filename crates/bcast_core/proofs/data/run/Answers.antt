@@ -1,9 +1,8 @@
 use Rattle.std.proofs.Common.{◌≡◌, false, [], ◌∷◌, ◌++◌, length, append_assoc, refl, sym, ap, subst, ◌∙◌, arith}
-use Rattle.std.proofs.lemmas.Grind.{common_steps}
 use Rattle.std.specs.Vec.Iter.{into_iter_items}
 use Rattle.std.specs.List.{All, AllByRecursion}
 use Rattle.std.proofs.lemmas.List.Elements.{All-append, All-cons, All-nil}
-use Rattle.bcast_model.specs.Words.{Legal, NoClone, HasPositiveCapacity, opening, IsValid}
+use Rattle.bcast_model.specs.Words.{Legal, HasPositiveCapacity, opening}
 use Rattle.bcast_model.specs.Words.{Represents, IsRun, end_of_run}
 use Rattle.bcast_model.proofs.Lists.{all_right}
 use Rattle.bcast_model.proofs.Clones.{run_exact}
@@ -11,6 +10,7 @@ use Rattle.bcast_model.proofs.DeliveryLemmas.{deliveries_exact}
 use Rattle.bcast_model.proofs.MissedLemmas.{dropped_rise, misses_dropped}
 use Rattle.bcast_model.specs.Replies.{is_receive_refused}
 use Rattle.bcast_core.proofs.Runs.{all_made, run_more, end_more, AreValid, valid_more, valid_end, polls_wait, polls_rest}
+use Rattle.bcast_core.proofs.data.run.Given.{Over}
 use Rattle.bcast_core.proofs.data.run.Goals as goal
 
 pub step-requires : goal.step-requires
@@ -43,23 +43,6 @@ loop-call-preserved g c =
           (valid_more g.T.Clone.is_clone (opening c.args.cap c.args.first c.in-Ok-starting_at.first_key) c.loop-call.yielded c.loop-call.replies.items c.in-Some.call c.step.result i.run i.valid (a.valid _ valid i.represents));
     }
 
-pub returns-clause-deliveries : goal.returns-clause-deliveries
-returns-clause-deliveries g c = grind (arith, common_steps, all_made, deliveries_exact)
-
-pub returns-clause-dropped : goal.returns-clause-dropped
-returns-clause-dropped g c =
-    let i = c.loop-call.invariant in
-    let all = all_made c.loop-call.yielded (into_iter_items c.loop-call.call-iterator) c.args.calls.items (omega (arith, c.in-None.ensures.steps.0, c.loop-call.call-iterator.rest.ok)) i.rest in
-    dropped_rise g.T.Clone.is_clone (opening c.args.cap c.args.first c.in-Ok-starting_at.first_key) c.args.calls.items c.loop-call.replies.items c.in-Ok-starting_at.ensures.valid c.requires.positive
-    (subst (λ calls. IsRun g.T.Clone.is_clone (opening c.args.cap c.args.first c.in-Ok-starting_at.first_key) calls c.loop-call.replies.items) all i.run)
-
-pub returns-clause-exact : goal.returns-clause-exact
-returns-clause-exact g c = λ equal.
-    let i = c.loop-call.invariant in
-    subst (λ calls. IsRun NoClone (opening c.args.cap c.args.first c.in-Ok-starting_at.first_key) calls c.loop-call.replies.items)
-    (all_made c.loop-call.yielded (into_iter_items c.loop-call.call-iterator) c.args.calls.items (omega (arith, c.in-None.ensures.steps.0, c.loop-call.call-iterator.rest.ok)) i.rest)
-    (run_exact g.T.Clone.is_clone (opening c.args.cap c.args.first c.in-Ok-starting_at.first_key) c.loop-call.yielded c.loop-call.replies.items equal i.run)
-
 pub loop-call-init : goal.loop-call-init
 loop-call-init g c =
     let n = ap length c.into_iter-call-iterator.ensures.into_iter_gives.0 in
@@ -74,22 +57,52 @@ loop-call-init g c =
       valid = c.in-Ok-starting_at.ensures.valid;
     }
 
+-- no call is left
+every_call : (g : Over) (c : goal.After-drop-call-iterator g) → c.loop-call.yielded ≡ c.args.calls.items
+every_call g c =
+    all_made c.loop-call.yielded (into_iter_items c.loop-call.call-iterator) c.args.calls.items
+    (omega (arith, c.in-None.ensures.steps.0, c.loop-call.call-iterator.rest.ok))
+    c.loop-call.invariant.rest
+
+pub returns-clause-replies : goal.returns-clause-replies
+returns-clause-replies g c = rw (← every_call g c) c.loop-call.invariant.run
+
+pub returns-clause-end : goal.returns-clause-end
+returns-clause-end g c = rw (← every_call g c) c.loop-call.invariant.represents
+
 pub returns-clause-valid : goal.returns-clause-valid
 returns-clause-valid g c =
     let i = c.loop-call.invariant in
-    subst (λ calls. IsValid (end_of_run (opening c.args.cap c.args.first c.in-Ok-starting_at.first_key) calls c.loop-call.replies.items))
-    (all_made c.loop-call.yielded (into_iter_items c.loop-call.call-iterator) c.args.calls.items (omega (arith, c.in-None.ensures.steps.0, c.loop-call.call-iterator.rest.ok)) i.rest)
-    (valid_end g.T.Clone.is_clone (opening c.args.cap c.args.first c.in-Ok-starting_at.first_key) c.loop-call.yielded c.loop-call.replies.items i.run i.valid)
+    rw (← every_call g c) (valid_end g.T.Clone.is_clone _ _ _ i.run i.valid)
+
+pub returns-clause-deliveries : goal.returns-clause-deliveries
+returns-clause-deliveries g c =
+    deliveries_exact g.T.Clone.is_clone _ _ _ c.in-Ok-starting_at.ensures.valid
+    (returns-clause-replies g c)
+
+pub returns-clause-dropped : goal.returns-clause-dropped
+returns-clause-dropped g c =
+    dropped_rise g.T.Clone.is_clone _ _ _ c.in-Ok-starting_at.ensures.valid c.requires.positive
+    (returns-clause-replies g c)
 
 pub returns-clause-missed : goal.returns-clause-missed
 returns-clause-missed g c =
-    let i = c.loop-call.invariant in
-    let all = all_made c.loop-call.yielded (into_iter_items c.loop-call.call-iterator) c.args.calls.items (omega (arith, c.in-None.ensures.steps.0, c.loop-call.call-iterator.rest.ok)) i.rest in
-    misses_dropped g.T.Clone.is_clone (opening c.args.cap c.args.first c.in-Ok-starting_at.first_key) c.args.calls.items c.loop-call.replies.items c.in-Ok-starting_at.ensures.valid refl c.requires.positive
-    (subst (λ calls. IsRun g.T.Clone.is_clone (opening c.args.cap c.args.first c.in-Ok-starting_at.first_key) calls c.loop-call.replies.items) all i.run)
+    misses_dropped g.T.Clone.is_clone _ _ _ c.in-Ok-starting_at.ensures.valid refl
+    c.requires.positive (returns-clause-replies g c)
 
 pub returns-clause-polls : goal.returns-clause-polls
-returns-clause-polls g c = grind (arith, common_steps, all_made, polls_wait)
+returns-clause-polls g c =
+    let i = c.loop-call.invariant in
+    rw (← every_call g c) (polls_wait g.T.Clone.is_clone _ _ _ i.run i.valid)
 
 pub returns-clause-rest : goal.returns-clause-rest
-returns-clause-rest g c = grind (arith, common_steps, all_made, polls_rest)
+returns-clause-rest g c =
+    let i = c.loop-call.invariant in
+    rw (← every_call g c) (polls_rest g.T.Clone.is_clone _ _ _ i.run i.valid)
+
+pub returns-clause-exact : goal.returns-clause-exact
+returns-clause-exact g c equal =
+    run_exact g.T.Clone.is_clone _ _ _ equal (returns-clause-replies g c)
+
+pub returns-clause-sure : goal.returns-clause-sure
+returns-clause-sure g c = c.loop-call.invariant.sure

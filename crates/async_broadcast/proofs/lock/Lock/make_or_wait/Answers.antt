@@ -4,12 +4,20 @@ use Rattle.bcast_model.proofs.Answers.{possible}
 use Rattle.async_broadcast.specs.Ports.{is_answer}
 use Rattle.async_broadcast.proofs.lock.Lock.make_or_wait.Goals as goal
 
+pub append-requires-clause-answers : goal.append-requires-clause-answers
+append-requires-clause-answers g c =
+    rw (c.of-before.ensures, c.of-made.ensures) c.make-answer.ensures
+
 pub returns-then-not-waits-clause-reply : goal.returns-then-not-waits-clause-reply
 returns-then-not-waits-clause-reply g c = possible refl c.make-answer.ensures
 
 pub again-call-requires-clause-reply : goal.again-call-requires-clause-reply
 again-call-requires-clause-reply g c =
     rw c.of-made.ensures (possible {is_clone = g.T.Clone.is_clone} refl c.make-answer.ensures)
+
+pub append-requires-2-clause-answers : goal.append-requires-2-clause-answers
+append-requires-2-clause-answers g c =
+    rw (c.of-before-2.ensures, ← c.again-call.ensures) c.make-answer-2.ensures
 
 pub returns-clause-reply : goal.returns-clause-reply
 returns-clause-reply g c =

@@ -1,7 +1,7 @@
 -- One more message is cloned.
-use Rattle.std.proofs.Common.{◌≡◌, ◌+◌, ◌≤◌, [], ◌∷◌, ◌++◌, take, Some, sym, ap, ◌∙◌, subst}
+use Rattle.std.proofs.Common.{◌≡◌, ◌+◌, ◌≤◌, [], ◌∷◌, ◌++◌, take, Some, sym, ap, ◌∙◌, subst, arith}
 use Rattle.std.specs.List.{slice_get}
-use Rattle.std.proofs.lemmas.List.{take_more}
+use Rattle.std.proofs.lemmas.List.{take_all, take_more}
 use Rattle.std.proofs.lemmas.List.Elements.{AllZip-push}
 use Rattle.std.proofs.lemmas.Option.{get_or_from_slice_get, slice_get_within}
 use Rattle.bcast_core.proofs.parts.snapshot.clones_of.Goals as goal
@@ -21,3 +21,8 @@ loop-index-preserved g c =
       end = at.invariant.end;
       clones = rw (more, c.push_reserved.ensures.items) cloned;
     }
+
+pub returns : goal.returns
+returns g c =
+    rw (take_all c.loop-index.index c.args.store.now.queue (omega arith))
+    at c.loop-index.invariant.clones

@@ -6,6 +6,10 @@ use Rattle.bcast_model.specs.Words.{must_wait}
 use Rattle.bcast_model.proofs.Answers.{possible}
 use Rattle.async_broadcast.proofs.lock.asking.LockAskCaller.poll.Goals as goal
 
+pub append-requires-clause-answers : goal.append-requires-clause-answers
+append-requires-clause-answers g c =
+    rw (c.of-before.ensures, c.of-asked.ensures) c.in_ok-answer.ensures.answers
+
 pub returns-clause-gave : goal.returns-clause-gave
 returns-clause-gave g c = possible refl c.in_ok-answer.ensures.answers
 
