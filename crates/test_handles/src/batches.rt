@@ -79,8 +79,8 @@ fn plays<P: Port<u64>>(
     alloc: Global,
     sender: &mut Sender<u64, P>,
     batches: &mut Receiver<u64, P>,
-    singles: &mut Receiver<u64, P>,
 ) -> Result<(), Fail> {
+    let mut singles = batches.clone().ok().ok_or("no handle")?;
     sender.set_overflow(true);
     for (name, sent, closes, limit, wanted) in ROWS {
         for msg in *sent {
@@ -90,7 +90,7 @@ fn plays<P: Port<u64>>(
             assert!(rt; sender.close(), "{name}");
         }
         assert!(rt; gives(alloc, batches, *limit, *wanted)?, "{name}");
-        assert!(rt; gives_each(singles, *wanted)?, "{name}, one by one");
+        assert!(rt; gives_each(&mut singles, *wanted)?, "{name}, one by one");
     }
     Ok(())
 }
@@ -98,11 +98,10 @@ fn plays<P: Port<u64>>(
 #[test]
 fn batches_give_what_single_receives_give(rt: HostRuntime) -> Result<(), Fail> {
     let (mut sender, mut batches) = broadcast(&rt, rt.alloc(), 3)?;
-    let mut singles = batches.clone().ok().ok_or("no handle")?;
-    plays(&rt, rt.alloc(), &mut sender, &mut batches, &mut singles)
+    plays(&rt, rt.alloc(), &mut sender, &mut batches)
 }
 
-/// Takes three messages by batches over a port that can't make several calls at once.
+/// Takes three messages by batches, of which each gives one.
 fn gives_one_a_call<P: Port<u64>>(
     rt: &impl Abort,
     alloc: Global,
@@ -122,15 +121,35 @@ fn gives_one_a_call<P: Port<u64>>(
     Ok(())
 }
 
+/// Makes handles over a port that can't make several calls at once. `port` is that of a new channel.
+fn plays_one_by_one<P: Port<u64>>(
+    rt: &impl Abort,
+    alloc: Global,
+    port: P,
+    key: usize,
+) -> Result<(), Fail> {
+    let port = OneByOne { port };
+    let other = port.try_clone().ok_or("no memory")?;
+    let sender = Sender::from_port(port, alloc);
+    let mut receiver = Receiver::from_port(other, key, alloc);
+    gives_one_a_call(rt, alloc, &sender, &mut receiver)
+}
+
 #[test]
 fn a_port_without_batches_gives_one_a_call(rt: HostRuntime) -> Result<(), Fail> {
     let (inner, key) = Inner::new(rt.alloc(), 3)?;
     let port = Lock::new(&rt, rt.alloc(), inner)?;
-    let port = OneByOne { port };
-    let other = port.try_clone().ok_or("no memory")?;
-    let sender = Sender::from_port(port, rt.alloc());
-    let mut receiver = Receiver::from_port(other, key, rt.alloc());
-    gives_one_a_call(&rt, rt.alloc(), &sender, &mut receiver)
+    plays_one_by_one(&rt, rt.alloc(), port, key)
+}
+
+/// Polls for a batch in a task.
+fn polled<P: Port<u64>>(
+    task: &MockTask,
+    receiver: &mut Receiver<u64, P>,
+    limit: usize,
+    msgs: &mut Vec<u64>,
+) -> Result<Poll<Option<Result<usize, RecvError>>>, AllocError> {
+    task.enter(|cx| receiver.poll_recv_many(cx, limit, msgs))
 }
 
 /// Polls for batches until the channel, of capacity 3, is closed and empty.
@@ -142,19 +161,19 @@ fn polls_to_the_end<R: Abort + RandomSource + AllocGlobal, P: Port<u64>>(
     sender.set_overflow(true);
     let task = MockTask::new(&rt)?;
     let mut msgs = Vec::new(rt.alloc());
-    let none = task.enter(|cx| receiver.poll_recv_many(cx, 0, &mut msgs));
+    let none = polled(&task, receiver, 0, &mut msgs);
     assert!(rt; matches!(none, Ok(Poll::Ready(Some(Ok(0))))));
     for msg in 1..5 {
         assert!(rt; sender.try_broadcast(msg).is_ok());
     }
-    let missed = task.enter(|cx| receiver.poll_recv_many(cx, 2, &mut msgs));
+    let missed = polled(&task, receiver, 2, &mut msgs);
     assert!(rt; matches!(missed, Ok(Poll::Ready(Some(Err(RecvError::Overflowed(1)))))));
-    let two = task.enter(|cx| receiver.poll_recv_many(cx, 2, &mut msgs));
+    let two = polled(&task, receiver, 2, &mut msgs);
     assert!(rt; matches!(two, Ok(Poll::Ready(Some(Ok(2))))));
     assert!(rt; sender.close());
-    let last = task.enter(|cx| receiver.poll_recv_many(cx, 2, &mut msgs));
+    let last = polled(&task, receiver, 2, &mut msgs);
     assert!(rt; matches!(last, Ok(Poll::Ready(Some(Ok(1))))));
-    let end = task.enter(|cx| receiver.poll_recv_many(cx, 2, &mut msgs));
+    let end = polled(&task, receiver, 2, &mut msgs);
     assert!(rt; matches!(end, Ok(Poll::Ready(None))));
     assert!(rt; msgs.as_slice() == [2, 3, 4].as_slice());
     Ok(())

@@ -1,9 +1,22 @@
 //! What each handle sees of its channel.
-use async_broadcast::{Snapshot, broadcast};
+use async_broadcast::{Handle, Lock, Role, Snapshot, broadcast};
 use futures::task::Poll;
 use futures::test::MockTask;
+use std::alloc::{AllocError, Allocator};
 use std::process::Abort;
+use std::sync::Wait;
 use std::test::Fail;
+
+/// A handle that sees its channel. Functions with this bound name no lock.
+pub trait Sees<A: Allocator> {
+    fn see(&self) -> Result<Snapshot<u64, A>, AllocError>;
+}
+
+impl<R: Wait + Clone, A: Allocator + Copy, H: Role> Sees<A> for Handle<u64, Lock<u64, R, A>, H, A> {
+    fn see(&self) -> Result<Snapshot<u64, A>, AllocError> {
+        self.snapshot()
+    }
+}
 
 /// What is printed of a channel of capacity 2 that waits for one of its receivers: 7 and 8 are
 /// kept, the receiver of key 0 has read both, that of key 1 none, and a send waits.

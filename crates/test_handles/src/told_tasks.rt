@@ -1,4 +1,5 @@
 //! Tasks that all wait for one channel: how many polls follow after a call tells some of them.
+use crate::snapshots::Sees;
 use async_broadcast::{Port, Receiver, Send, Sender, Snapshot, broadcast};
 use futures::executor::{LocalPool, LocalSpawner};
 use futures::task::{Context, Poll, Source, Waker};
@@ -175,25 +176,40 @@ fn waiting(seen: &Snapshot<u64>) -> (u64, u64) {
     (listeners as u64, told as u64)
 }
 
-fn play<R: Wait + Clone + AllocGlobal + RandomSource>(
+/// Plays a row on a channel of its own.
+fn play<R: Wait + AllocGlobal + RandomSource>(
     rt: &R,
     alloc: Global,
     row: &Row,
 ) -> Result<Seen, Fail> {
-    let (_, streams, sends, asks, _) = *row;
-    let (sender, mut reader) = broadcast(rt.clone()?, alloc, 1)?;
-    if sends > 0 {
+    let (sender, mut reader) = broadcast(rt, alloc, 1)?;
+    play_on(rt, &sender, &mut reader, row)
+}
+
+/// Plays a row over any port. The channel is new, and its capacity is 1.
+fn play_on<R, P>(
+    rt: &R,
+    sender: &Sender<u64, P>,
+    reader: &mut Receiver<u64, P>,
+    (_, streams, sends, asks, _): &Row,
+) -> Result<Seen, Fail>
+where
+    R: Wait + AllocGlobal + RandomSource,
+    P: Port<u64>,
+    Sender<u64, P>: Sees<Global>,
+{
+    if *sends > 0 {
         sender.try_broadcast(0).ok().ok_or("no message")?;
     }
     let polls = AtomicU64::new(0);
     let mut pool = LocalPool::new(rt)?;
-    add_tasks(&pool.spawner()?, (streams, sends), &sender, &reader, &polls)?;
+    add_tasks(&pool.spawner()?, (*streams, *sends), sender, reader, &polls)?;
     pool.run_until_stalled(MANY);
-    let (listeners, _) = waiting(&sender.snapshot()?);
+    let (listeners, _) = waiting(&sender.see()?);
     polls.store(0, Ordering::SeqCst);
-    make_all(asks, &sender, &mut reader)?;
+    make_all(asks, sender, reader)?;
     pool.run_until_stalled(MANY);
-    let (_, told) = waiting(&sender.snapshot()?);
+    let (_, told) = waiting(&sender.see()?);
     Ok(Seen {
         listeners,
         polls: polls.load(Ordering::SeqCst),
@@ -202,12 +218,11 @@ fn play<R: Wait + Clone + AllocGlobal + RandomSource>(
 }
 
 /// Whether a task is woken by the drop of receives, each of which it polls once.
-fn is_woken_by_drops<R: Wait + Clone + AllocGlobal + RandomSource>(
-    rt: &R,
-    alloc: Global,
+fn is_woken_by_drops<P: Port<u64>>(
+    rt: &(impl AllocGlobal + RandomSource),
+    receiver: &mut Receiver<u64, P>,
     receives: u64,
 ) -> Result<bool, Fail> {
-    let (_sender, mut receiver) = broadcast::<u64, R, Global>(rt.clone()?, alloc, 1)?;
     let task = MockTask::new(rt)?;
     for _ in 0..receives {
         let mut receive = receiver.recv_direct();
@@ -241,7 +256,8 @@ fn told_tasks_come_to_rest(rt: HostRuntime) -> Result<(), Fail> {
 #[test]
 fn dropped_receives_wake_no_task(rt: HostRuntime) -> Result<(), Fail> {
     for receives in [1, 2, 3] {
-        let is_woken = is_woken_by_drops(&rt, rt.alloc(), receives)?;
+        let (_sender, mut receiver) = broadcast(&rt, rt.alloc(), 1)?;
+        let is_woken = is_woken_by_drops(&rt, &mut receiver, receives)?;
         assert!(rt; !is_woken, "{receives} receives");
     }
     Ok(())
