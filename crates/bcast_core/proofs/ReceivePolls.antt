@@ -1,5 +1,5 @@
 -- A receive poll, which is answered or waits.
-use Rattle.std.proofs.Common.{◌≡◌, ℕ, Bool, true, false, Option, Result, Ok, Err, OnOk, OnErr, refl, sym, ap, subst, ◌∙◌, arith}
+use Rattle.std.proofs.Common.{◌≡◌, ℕ, true, false, Option, Result, Ok, Err, OnOk, OnErr, refl, sym, ap, subst, ◌∙◌, arith}
 use Rattle.std.proofs.lemmas.Grind.{common_steps}
 use Rattle.std.specs.Prelude.{alloc_error}
 use Rattle.std.specs.Result.{result_map_both}
@@ -107,7 +107,3 @@ module _ {T : Type 0} where
   -- it must wait where nothing was found
   pub reply_waits : (poll : ReceivePoll) (r : Received T) → must_wait (reply_of poll r) ≡ finds_nothing r.found
   reply_waits poll r = waits_as poll r.skips r.found
-
-  -- `reply_waits`, if the reply has another name
-  pub found_as : (poll : ReceivePoll) (r : Received T) {spelt : Reply T} {waits : Bool} → spelt ≡ reply_of poll r → must_wait spelt ≡ waits → finds_nothing r.found ≡ waits
-  found_as poll r is waits = sym (reply_waits poll r) ∙ ap must_wait (sym is) ∙ waits
