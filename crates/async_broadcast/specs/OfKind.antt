@@ -68,8 +68,6 @@ module _ {T : Type 0} where
 
   legal : (is_clone : T → T → Type 0) (v : View T) (c : Call T) (r : Reply T)
       → Legal is_clone v c r → IsOfKind c r
-  legal is_clone v (call.TryBroadcast msg) r l = (_, l)
-  legal is_clone v (call.TryBroadcastAll msgs) r l = (_, l)
   legal is_clone v (call.AttemptSend msg) r l = (_, l, attempt_send-back v msg)
   legal is_clone v call.BeginSend r (inl given) = (_, given.1)
   legal is_clone v call.BeginSend r (inr none) = (_, none)
@@ -87,14 +85,10 @@ module _ {T : Type 0} where
       let cursor = cursor_of v.control key in
       received is_clone v key (skipped_to v.front cursor)
       reply.PollNext (next_reply (skipped_count v.front cursor)) r l
-  legal is_clone v call.Close r l = (_, l)
   legal is_clone v (call.SetCapacity n) r (inl given) = (_, given)
   legal is_clone v (call.SetCapacity n) r (inr none) = (_, none.0)
   legal is_clone v (call.SetOverflow on) r l = l
   legal is_clone v (call.SetAwaitActive on) r l = l
-  legal is_clone v call.NewSender r l = (_, l)
-  legal is_clone v call.CloneInactive r l = (_, l)
-  legal is_clone v (call.Deactivate key) r l = (_, l)
   legal is_clone v call.NewReceiver r l = made _ reply.NewReceiver r l
   legal is_clone v call.Activate r l = made_from _ _ reply.Activate r l
   legal is_clone v call.ActivateCloned r l = made_from _ _ reply.ActivateCloned r l
@@ -102,18 +96,7 @@ module _ {T : Type 0} where
   legal is_clone v call.DropSender r l = l
   legal is_clone v call.DropInactive r l = l
   legal is_clone v (call.DropReceiver key) r l = l
-  legal is_clone v call.Overflow r l = (_, l)
-  legal is_clone v call.AwaitActive r l = (_, l)
-  legal is_clone v call.IsEmpty r l = (_, l)
-  legal is_clone v call.IsFull r l = (_, l)
-  legal is_clone v call.IsClosed r l = (_, l)
-  legal is_clone v call.IsTerminated r l = (_, l)
-  legal is_clone v call.Capacity r l = (_, l)
-  legal is_clone v call.Len r l = (_, l)
-  legal is_clone v call.ReceiverCount r l = (_, l)
-  legal is_clone v call.InactiveReceiverCount r l = (_, l)
-  legal is_clone v call.SenderCount r l = (_, l)
-  legal is_clone v call.EndNumber r l = (_, l)
+  legal is_clone v c r l = (_, l)
 
   pub possible : (is_clone : T → T → Type 0) (c : Call T) (r : Reply T)
       → IsPossible is_clone c r → IsOfKind c r

@@ -1,12 +1,11 @@
 -- Calls that only read, and calls under another name.
 use Rattle.std.proofs.Common.{◌≡◌, refl, not, sym, ap, ◌∙◌, subst}
-use Rattle.std.specs.Prelude.{Result, Ok, Err, IfOk}
 use Rattle.bcast_model.specs.declared.run.Call.{Call}
 use Rattle.bcast_model.specs.declared.run.Reply.{Reply}
 use Rattle.bcast_model.specs.Words.{may_tell, tell_if_ready, HasRange, View, sends_are_ready}
-use Rattle.bcast_model.specs.Words.{IsShown, Answers, IsPossible, Legal, effect, sets, settle}
+use Rattle.bcast_model.specs.Words.{IsShown, Answers, Legal, effect, sets, settle}
 use Rattle.std.specs.FinMap.{len}
-use Rattle.bcast_model.proofs.Answers.{answers, possible}
+use Rattle.bcast_model.proofs.Answers.{answers}
 use Rattle.bcast_core.proofs.Settle.{settle_same, told_nobody}
 use Rattle.bcast_core.proofs.Does.{valid_shown}
 
@@ -23,8 +22,3 @@ module _ {T : Type 0} where
   -- a call has its answer under another name, too
   pub named : {is_clone : T → T → Type 0} {old new : View T} {c made : Call T} {r : Reply T} → c ≡ made → Answers is_clone old made r new → Answers is_clone old c r new
   named {is_clone = is_clone} {old = old} {new = new} {r = r} is a = subst (λ x. Answers is_clone old x r new) (sym is) a
-
-  -- what a call returns is possible, unless the call is handed back
-  pub possible_if_made : (is_clone : T → T → Type 0) (old new : View T) (c : Call T) {E : Type 0} (made : Result (Reply T) E) → IfOk made (λ r. Answers is_clone old c r new) → IfOk made (IsPossible is_clone c)
-  possible_if_made is_clone old new c (Ok r) a = possible refl a
-  possible_if_made is_clone old new c (Err e) a = tt

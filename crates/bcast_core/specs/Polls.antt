@@ -1,6 +1,5 @@
--- The four polls, and what the three receives among them differ in. No public clause cites this
--- module.
-use Rattle.std.specs.Prelude.{ℕ, Bool, true, false, Option}
+-- What the three receives that wait differ in. No public clause cites this module.
+use Rattle.std.specs.Prelude.{ℕ, Option}
 use Rattle.std.specs.Result.{result_map_both}
 use Rattle.bcast_model.specs.declared.listener.Kind.{Kind}
 use Rattle.bcast_model.specs.declared.listener.Kind.TheVariants as kind
@@ -21,18 +20,7 @@ kind_of poll.Recv = kind.Stream
 kind_of poll.Next = kind.Stream
 
 module _ {T : Type 0} where
-  -- one of the three receives that wait
-  abbrev pub is_receive_poll : Call T → Bool
-  is_receive_poll (call.PollFuture key) = true
-  is_receive_poll (call.PollRecv key) = true
-  is_receive_poll (call.PollNext key) = true
-  is_receive_poll other = false
-
-  -- one of the four polls, which alone may leave a notice
-  abbrev pub is_poll_call : Call T → Bool
-  is_poll_call (call.PollSend place msg) = true
-  is_poll_call other = is_receive_poll other
-
+  -- which call it is
   abbrev pub call_of : ReceivePoll → ℕ → Call T
   call_of poll.Future key = call.PollFuture key
   call_of poll.Recv key = call.PollRecv key

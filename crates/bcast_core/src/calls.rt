@@ -10,6 +10,7 @@
 //! | `PollSend`, `PollFuture`, `PollRecv`, `PollNext` | the four polls | as these |
 ghost use Rattle.std.specs.Prelude.{◌≡◌, true, false, IfOk, IfErr, OnErr};
 ghost use Rattle.bcast_model.specs.Words.{HasPositiveCapacity, Answers, must_wait};
+ghost use Rattle.bcast_model.specs.Replies.{is_receive_refused};
 ghost use Rattle.bcast_core.specs.Kinds.{IsOfKind};
 
 use crate::state::Inner;
@@ -61,8 +62,11 @@ pub trait AtOnce<T: Clone>: CallOf<T> {
     /// Makes the call.
     fn make<N: Notice, A: Allocator + Copy>(self, inner: &mut Inner<T, N, A>) -> Self::Answer
         requires { HasPositiveCapacity (Self.call self) }
-        ensures { Answers T.is_clone inner.old (Self.call self) (Self.reply self result)
-            inner.new };
+        ensures answers { Answers T.is_clone inner.old (Self.call self) (Self.reply self result)
+            inner.new }
+        // If no clone fails, no receive is refused.
+        ensures sure { ((msg : T) → T.is_infallible msg)
+            → is_receive_refused (Self.reply self result) ≡ false };
 }
 
 /// A call that may have to wait, and leaves a notice then.
@@ -80,6 +84,10 @@ pub trait Polls<T: Clone>: CallOf<T> {
         requires { HasPositiveCapacity (Self.call self) }
         ensures answers { IfOk result (λ answer. Answers T.is_clone inner.old (Self.call self)
             (Self.reply self answer) inner.new) }
+        // If no clone fails, no receive is refused.
+        ensures sure { ((msg : T) → T.is_infallible msg)
+            → IfOk result (λ answer. is_receive_refused (Self.reply self answer) ≡ false) }
+
         ensures made { IfOk result (λ answer. must_wait (Self.reply self answer) ≡ true
             → M.made maker.old maker.new) }
         ensures idle { IfOk result (λ answer. must_wait (Self.reply self answer) ≡ false

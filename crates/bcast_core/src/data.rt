@@ -1,20 +1,21 @@
 //! Calls as data: one at a time, and a whole list.
-ghost use Rattle.std.specs.Prelude.{◌≡◌, ◌+◌, ◌^◌, ◌<◌, false, true, [], IfOk, IfErr, OnErr};
+ghost use Rattle.std.specs.Prelude.{◌≡◌, ◌+◌, ◌^◌, ◌<◌, false, [], IfOk, IfErr};
 ghost use Rattle.std.specs.List.{All, AllByRecursion};
 ghost use Rattle.bcast_model.specs.Words.{HasPositiveCapacity, Answers, IsPossible, Represents};
 ghost use Rattle.bcast_model.specs.Words.{opening, IsRun, end_of_run, IsValid, NoClone};
 ghost use Rattle.bcast_model.specs.Words.{ClonesEqual, dropped_in, MissesWhatWasDropped};
 ghost use Rattle.bcast_model.specs.Words.{AtEachPoint, AreAllExact, WaitsAsItsTry, ComesToRest};
-ghost use Rattle.bcast_model.specs.Words.{must_wait};
 ghost use Rattle.std.specs.List.Sorted.{IsStrictlyIncreasing};
 ghost use Rattle.bcast_model.specs.Replies.{is_receive_refused};
-ghost use Rattle.bcast_core.specs.Polls.{is_poll_call};
 
-use crate::calls::{CallOf, Polls, RepliesTo};
-use crate::receive_poll::ReceivePoll;
+use crate::calls::changes::{Change, Close, SetCapacity};
+use crate::calls::handles::{AddHandle, AddReceiver};
+use crate::calls::messages::{AttemptSend, BeginSend, TryBroadcast, TryBroadcastAll, TryRecv};
+use crate::calls::reads::{Count, EndNumber, Test};
+use crate::calls::waiting::{PollFuture, PollNext, PollRecv, PollSend};
+use crate::calls::{AtOnce, CallOf, Polls, RepliesTo};
 use crate::state::Inner;
 use bcast_model::run::{Call, Reply};
-use bcast_queue::Uncounted;
 use bcast_waiting::notice::{MakesNotice, Notice, OwnedNotice, Silent};
 use std::alloc::{Allocator, Global};
 
@@ -36,51 +37,9 @@ pub fn step<T: Clone, N: Notice, A: Allocator + Copy>(
     // If a clone equals its original, receives give the messages themselves.
     ensures exact { ClonesEqual T.is_clone → Answers NoClone inner.old call result inner.new }
 {
-    match poll(inner, call, &mut OwnedNotice::new(notice)) {
+    match call.make_for(inner, &mut OwnedNotice::new(notice)) {
         Ok(reply) => reply,
         Err(_) => unreachable!(),
-    }
-}
-
-/// Makes a call as `step` does, with what makes the notice: `maker` is called where this is one of
-/// the four polls and must wait, and by no other call.
-///
-/// # Errors
-///
-/// The call is returned: no notice was made, and nothing changed.
-#[inline(always)]
-pub fn poll<T: Clone, N: Notice, A: Allocator + Copy, M: MakesNotice<N>>(
-    inner: &mut Inner<T, N, A>,
-    call: Call<T>,
-    maker: &mut M,
-) -> Result<Reply<T>, Call<T>>
-    requires { HasPositiveCapacity call }
-    ensures answers { IfOk result (λ reply. Answers T.is_clone inner.old call reply inner.new) }
-    ensures possible { IfOk result (IsPossible T.is_clone call) }
-    // If no clone fails, no receive is refused.
-    ensures sure { ((msg : T) → T.is_infallible msg)
-        → IfOk result (λ reply. is_receive_refused reply ≡ false) }
-
-    ensures made { IfOk result (λ reply. must_wait reply ≡ true → M.made maker.old maker.new) }
-    ensures idle { IfOk result (λ reply. must_wait reply ≡ false → maker.new ≡ maker.old) }
-    ensures back { IfErr result (λ back. back ≡ call) }
-    ensures same { OnErr result (inner.new ≡ inner.old) }
-    ensures refused { OnErr result (M.refused maker.old maker.new) }
-{
-    // A caller that knows which call it makes has only that part compiled into it. All 37 calls
-    // would be too much for that: those that leave no notice are in a function of their own.
-    match ReceivePoll::of(call) {
-        Ok((poll, key)) => match inner.poll_receive(poll, key, maker, &mut Uncounted) {
-            Ok(received) => Ok(received.reply(poll)),
-            Err(_) => Err(poll.call(key)),
-        },
-        Err(call) => match call {
-            Call::PollSend(place, msg) => inner
-                .poll_send_by(place, msg, maker)
-                .map(|sent| Reply::PollSend(sent))
-                .map_err(|msg| Call::PollSend(place, msg)),
-            call => Ok(make_at_once(inner, call)),
-        },
     }
 }
 
@@ -97,88 +56,93 @@ impl<T: Drop> CallOf<T> for Call<T> {
 }
 
 impl<T: Clone> Polls<T> for Call<T> {
-    #[inline(always)]
     fn make_for<N: Notice, A: Allocator + Copy, M: MakesNotice<N>>(
         self,
         inner: &mut Inner<T, N, A>,
         maker: &mut M,
     ) -> Result<Reply<T>, Self> {
-        poll(inner, self, maker)
-    }
-}
-
-// All other calls: they leave no notice.
-#[tactic(auto, using(crate::proofs::Accessors::named, crate::proofs::Accessors::answers_read, bcast_model::proofs::Clones::answers_any))]
-#[inline(never)]
-fn make_at_once<T: Clone, N: Notice, A: Allocator + Copy>(
-    inner: &mut Inner<T, N, A>,
-    call: Call<T>,
-) -> Reply<T>
-    requires capacity { HasPositiveCapacity call }
-    requires at_once { is_poll_call call ≡ false }
-    ensures answers { Answers T.is_clone inner.old call result inner.new }
-    ensures sure { ((msg : T) → T.is_infallible msg) → is_receive_refused result ≡ false }
-    ensures at_once { must_wait result ≡ false }
-{
-    inner.invariant_holds();
-    match call {
-        Call::TryBroadcast(msg) => Reply::TryBroadcast(inner.try_broadcast(msg)),
-        Call::TryBroadcastAll(msgs) => Reply::TryBroadcastAll(inner.offer_all(msgs)),
-        Call::AttemptSend(msg) => Reply::AttemptSend(inner.attempt_send(msg)),
-        Call::TryRecv(key) => Reply::TryRecv(inner.try_recv(key)),
-        Call::BeginSend => Reply::BeginSend(inner.begin_send()),
-        Call::EndSend(place) => {
-            inner.end_send(place);
-            Reply::EndSend
+        match self {
+            Call::TryBroadcast(msg) => Ok(Reply::TryBroadcast(TryBroadcast(msg).make(inner))),
+            Call::TryBroadcastAll(msgs) => {
+                Ok(Reply::TryBroadcastAll(TryBroadcastAll(msgs).make(inner)))
+            }
+            Call::AttemptSend(msg) => Ok(Reply::AttemptSend(AttemptSend(msg).make(inner))),
+            Call::BeginSend => Ok(Reply::BeginSend(BeginSend.make(inner))),
+            Call::PollSend(place, msg) => match PollSend(place, msg).make_for(inner, maker) {
+                Ok(answer) => Ok(Reply::PollSend(answer)),
+                Err(PollSend(place, msg)) => Err(Call::PollSend(place, msg)),
+            },
+            Call::EndSend(place) => {
+                Change::EndSend(place).make(inner);
+                Ok(Reply::EndSend)
+            }
+            Call::TryRecv(key) => Ok(Reply::TryRecv(TryRecv(key).make(inner))),
+            Call::PollFuture(key) => match PollFuture(key).make_for(inner, maker) {
+                Ok(answer) => Ok(Reply::PollFuture(answer)),
+                Err(PollFuture(key)) => Err(Call::PollFuture(key)),
+            },
+            Call::EndFuture(key) => {
+                Change::EndFuture(key).make(inner);
+                Ok(Reply::EndFuture)
+            }
+            Call::PollRecv(key) => match PollRecv(key).make_for(inner, maker) {
+                Ok(answer) => Ok(Reply::PollRecv(answer)),
+                Err(PollRecv(key)) => Err(Call::PollRecv(key)),
+            },
+            Call::PollNext(key) => match PollNext(key).make_for(inner, maker) {
+                Ok(answer) => Ok(Reply::PollNext(answer)),
+                Err(PollNext(key)) => Err(Call::PollNext(key)),
+            },
+            Call::Close => Ok(Reply::Close(Close.make(inner))),
+            Call::SetCapacity(n) => Ok(Reply::SetCapacity(SetCapacity(n).make(inner))),
+            Call::SetOverflow(on) => {
+                Change::SetOverflow(on).make(inner);
+                Ok(Reply::SetOverflow)
+            }
+            Call::SetAwaitActive(on) => {
+                Change::SetAwaitActive(on).make(inner);
+                Ok(Reply::SetAwaitActive)
+            }
+            Call::NewSender => Ok(Reply::NewSender(AddHandle::Sender.make(inner))),
+            Call::CloneInactive => Ok(Reply::CloneInactive(AddHandle::Inactive.make(inner))),
+            Call::Deactivate(key) => {
+                Ok(Reply::Deactivate(AddHandle::Deactivated(key).make(inner)))
+            }
+            Call::NewReceiver => Ok(Reply::NewReceiver(AddReceiver::New.make(inner))),
+            Call::Activate => Ok(Reply::Activate(AddReceiver::Activate.make(inner))),
+            Call::ActivateCloned => {
+                Ok(Reply::ActivateCloned(AddReceiver::ActivateCloned.make(inner)))
+            }
+            Call::CloneReceiver(key) => {
+                Ok(Reply::CloneReceiver(AddReceiver::Clone(key).make(inner)))
+            }
+            Call::DropSender => {
+                Change::DropSender.make(inner);
+                Ok(Reply::DropSender)
+            }
+            Call::DropInactive => {
+                Change::DropInactive.make(inner);
+                Ok(Reply::DropInactive)
+            }
+            Call::DropReceiver(key) => {
+                Change::DropReceiver(key).make(inner);
+                Ok(Reply::DropReceiver)
+            }
+            Call::Overflow => Ok(Reply::Overflow(Test::Overflow.make(inner))),
+            Call::AwaitActive => Ok(Reply::AwaitActive(Test::AwaitActive.make(inner))),
+            Call::IsEmpty => Ok(Reply::IsEmpty(Test::IsEmpty.make(inner))),
+            Call::IsFull => Ok(Reply::IsFull(Test::IsFull.make(inner))),
+            Call::IsClosed => Ok(Reply::IsClosed(Test::IsClosed.make(inner))),
+            Call::IsTerminated => Ok(Reply::IsTerminated(Test::IsTerminated.make(inner))),
+            Call::Capacity => Ok(Reply::Capacity(Count::Capacity.make(inner))),
+            Call::Len => Ok(Reply::Len(Count::Len.make(inner))),
+            Call::ReceiverCount => Ok(Reply::ReceiverCount(Count::ReceiverCount.make(inner))),
+            Call::InactiveReceiverCount => {
+                Ok(Reply::InactiveReceiverCount(Count::InactiveReceiverCount.make(inner)))
+            }
+            Call::SenderCount => Ok(Reply::SenderCount(Count::SenderCount.make(inner))),
+            Call::EndNumber => Ok(Reply::EndNumber(EndNumber.make(inner))),
         }
-        Call::EndFuture(key) => {
-            inner.end_future(key);
-            Reply::EndFuture
-        }
-        Call::Close => Reply::Close(inner.close()),
-        Call::SetCapacity(n) => Reply::SetCapacity(inner.set_capacity(n)),
-        Call::SetOverflow(on) => {
-            inner.set_overflow(on);
-            Reply::SetOverflow
-        }
-        Call::SetAwaitActive(on) => {
-            inner.set_await_active(on);
-            Reply::SetAwaitActive
-        }
-        Call::NewSender => Reply::NewSender(inner.new_sender()),
-        Call::CloneInactive => Reply::CloneInactive(inner.clone_inactive()),
-        Call::Deactivate(key) => Reply::Deactivate(inner.deactivate(key)),
-        Call::NewReceiver => Reply::NewReceiver(inner.new_receiver()),
-        Call::Activate => Reply::Activate(inner.activate()),
-        Call::ActivateCloned => Reply::ActivateCloned(inner.activate_cloned()),
-        Call::CloneReceiver(key) => Reply::CloneReceiver(inner.clone_receiver(key)),
-        Call::DropSender => {
-            inner.drop_sender();
-            Reply::DropSender
-        }
-        Call::DropInactive => {
-            inner.drop_inactive();
-            Reply::DropInactive
-        }
-        Call::DropReceiver(key) => {
-            inner.drop_receiver(key);
-            Reply::DropReceiver
-        }
-        Call::Overflow => Reply::Overflow(inner.overflow()),
-        Call::AwaitActive => Reply::AwaitActive(inner.await_active()),
-        Call::IsEmpty => Reply::IsEmpty(inner.is_empty()),
-        Call::IsFull => Reply::IsFull(inner.is_full()),
-        Call::IsClosed => Reply::IsClosed(inner.is_closed()),
-        Call::IsTerminated => Reply::IsTerminated(inner.is_terminated()),
-        Call::Capacity => Reply::Capacity(inner.capacity()),
-        Call::Len => Reply::Len(inner.len()),
-        Call::ReceiverCount => Reply::ReceiverCount(inner.receiver_count()),
-        Call::InactiveReceiverCount => Reply::InactiveReceiverCount(
-            inner.inactive_receiver_count(),
-        ),
-        Call::SenderCount => Reply::SenderCount(inner.sender_count()),
-        Call::EndNumber => Reply::EndNumber(inner.end_number()),
-        _ => unreachable!(),
     }
 }
 

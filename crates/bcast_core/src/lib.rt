@@ -27,6 +27,6 @@ pub use calls::messages::{AttemptSend, BeginSend, TryBroadcast, TryBroadcastAll,
 pub use calls::reads::{Count, EndNumber, Test};
 pub use calls::waiting::{PollFuture, PollNext, PollRecv, PollSend};
 pub use calls::{AtOnce, CallOf, Polls, RepliesTo};
-pub use data::{Ran, poll, run, step};
+pub use data::{Ran, run, step};
 pub use snapshot::{Snapshot, Waiting};
 pub use state::Inner;

@@ -1,12 +1,11 @@
 //! The three receives that wait: what they differ in, and how each returns what was found.
-ghost use Rattle.std.specs.Prelude.{◌≡◌, false, IfOk, IfErr};
-ghost use Rattle.bcast_core.specs.Polls.{kind_of, call_of, reply_of, is_receive_poll};
+ghost use Rattle.std.specs.Prelude.{◌≡◌};
+ghost use Rattle.bcast_core.specs.Polls.{kind_of, reply_of};
 ghost use Rattle.bcast_core.specs.declared.receive_poll.ReceivePoll.TheVariants as poll;
 ghost use Rattle.bcast_model.specs.declared.run.Reply.TheVariants as reply;
 
 use bcast_model::error::{RecvError, TryRecvError};
 use bcast_model::listener::Kind;
-use bcast_model::run::{Call, Reply};
 use futures::task::Poll;
 use std::alloc::AllocError;
 
@@ -33,36 +32,6 @@ impl ReceivePoll {
             ReceivePoll::Next => Kind::Stream,
         }
     }
-
-    /// Which of the three this call is, and the key of its receiver.
-    ///
-    /// # Errors
-    ///
-    /// The call is returned if it is none of them.
-    #[inline(always)]
-    pub fn of<T>(call: Call<T>) -> Result<(ReceivePoll, usize), Call<T>>
-        ensures of { IfOk result (λ of. call ≡ call_of of.0 of.1) }
-        ensures other { IfErr result (λ back. (back ≡ call) × (is_receive_poll call ≡ false)) }
-    {
-        match call {
-            Call::PollFuture(key) => Ok((ReceivePoll::Future, key)),
-            Call::PollRecv(key) => Ok((ReceivePoll::Recv, key)),
-            Call::PollNext(key) => Ok((ReceivePoll::Next, key)),
-            call => Err(call),
-        }
-    }
-
-    /// The call for the receiver of this key.
-    #[inline(always)]
-    pub fn call<T>(self, key: usize) -> Call<T>
-        ensures { result ≡ call_of self key }
-    {
-        match self {
-            ReceivePoll::Future => Call::PollFuture(key),
-            ReceivePoll::Recv => Call::PollRecv(key),
-            ReceivePoll::Next => Call::PollNext(key),
-        }
-    }
 }
 
 /// What a receive found, as `try_recv` returns it, and how many messages it skipped before.
@@ -75,18 +44,6 @@ pub struct Received<T> {
 }
 
 impl<T: Drop> Received<T> {
-    /// The reply of the call that it is.
-    #[inline(always)]
-    pub fn reply(self, poll: ReceivePoll) -> Reply<T>
-        ensures { result ≡ reply_of poll self }
-    {
-        match poll {
-            ReceivePoll::Future => Reply::PollFuture(self.of_future()),
-            ReceivePoll::Recv => Reply::PollRecv(self.of_recv()),
-            ReceivePoll::Next => Reply::PollNext(self.of_next()),
-        }
-    }
-
     /// What `poll_future` returns.
     #[inline(always)]
     pub fn of_future(self) -> Result<Poll<Result<T, RecvError>>, AllocError>

@@ -6,22 +6,22 @@ use Rattle.async_broadcast.proofs.lock.Lock.make_or_wait.Goals as goal
 
 pub append-requires-clause-answers : goal.append-requires-clause-answers
 append-requires-clause-answers g c =
-    rw (c.of-before.ensures, c.of-made.ensures) c.make-answer.ensures
+    rw (c.of-before.ensures, c.of-made.ensures) c.make-answer.ensures.answers
 
 pub returns-then-not-waits-clause-reply : goal.returns-then-not-waits-clause-reply
-returns-then-not-waits-clause-reply g c = possible refl c.make-answer.ensures
+returns-then-not-waits-clause-reply g c = possible refl c.make-answer.ensures.answers
 
 pub again-call-requires-clause-reply : goal.again-call-requires-clause-reply
 again-call-requires-clause-reply g c =
-    rw c.of-made.ensures (possible {is_clone = g.T.Clone.is_clone} refl c.make-answer.ensures)
+    rw c.of-made.ensures (possible {is_clone = g.T.Clone.is_clone} refl c.make-answer.ensures.answers)
 
 pub append-requires-2-clause-answers : goal.append-requires-2-clause-answers
 append-requires-2-clause-answers g c =
-    rw (c.of-before-2.ensures, ← c.again-call.ensures) c.make-answer-2.ensures
+    rw (c.of-before-2.ensures, ← c.again-call.ensures) c.make-answer-2.ensures.answers
 
 pub returns-clause-reply : goal.returns-clause-reply
 returns-clause-reply g c =
-    let last = possible {is_clone = g.T.Clone.is_clone} refl c.make-answer-2.ensures in
+    let last = possible {is_clone = g.T.Clone.is_clone} refl c.make-answer-2.ensures.answers in
     rw (c.again-call.ensures ∙ c.of-made.ensures) at last
 
 pub returns-clause-learned : goal.returns-clause-learned

@@ -5,14 +5,14 @@ use Rattle.bcast_model.specs.declared.run.Reply.TheVariants as reply
 use Rattle.bcast_core.proofs.Accessors.{answers_read}
 use Rattle.bcast_core.proofs.calls.reads.TestAtOnce.make.Goals as goal
 
-pub returns-in-IsEmpty : goal.returns-in-IsEmpty
-returns-in-IsEmpty g c =
+pub returns-in-IsEmpty-clause-answers : goal.returns-in-IsEmpty-clause-answers
+returns-in-IsEmpty-clause-answers g c =
     rw c.in-IsEmpty.is (answers_read {c = call.IsEmpty} c.invariant_holds.ensures (ap reply.IsEmpty c.is_empty.ensures) refl refl tt)
 
-pub returns-in-IsFull : goal.returns-in-IsFull
-returns-in-IsFull g c =
+pub returns-in-IsFull-clause-answers : goal.returns-in-IsFull-clause-answers
+returns-in-IsFull-clause-answers g c =
     rw c.in-IsFull.is (answers_read {c = call.IsFull} c.invariant_holds.ensures (ap reply.IsFull c.is_full.ensures) refl refl tt)
 
-pub returns-in-IsTerminated : goal.returns-in-IsTerminated
-returns-in-IsTerminated g c =
+pub returns-in-IsTerminated-clause-answers : goal.returns-in-IsTerminated-clause-answers
+returns-in-IsTerminated-clause-answers g c =
     rw c.in-IsTerminated.is (answers_read {c = call.IsTerminated} c.invariant_holds.ensures (ap reply.IsTerminated c.is_terminated.ensures) refl refl tt)
