@@ -1,5 +1,5 @@
 -- The reply to the last try, which was of the call that was given. Who makes it again learns of it.
-use Rattle.std.proofs.Common.{rules, ◌≡◌, false, refl, ◌∙◌}
+use Rattle.std.proofs.Common.{◌≡◌, false, refl, ◌∙◌}
 use Rattle.bcast_model.proofs.Answers.{possible}
 use Rattle.async_broadcast.specs.Ports.{is_answer}
 use Rattle.async_broadcast.proofs.lock.Lock.make_or_wait.Goals as goal
@@ -26,6 +26,6 @@ returns-clause-reply g c =
 
 pub returns-clause-learned : goal.returns-clause-learned
 returns-clause-learned g c =
-    let waits : is_answer (g.C.CallOf.reply c.args.call c.make-answer.result) ≡ false = search rules in
+    let waits : is_answer (g.C.CallOf.reply c.args.call c.make-answer.result) ≡ false = c.if-not-must_wait.ensures c.args.call in
     g.J.CallJournal.again _ _ _ _ _ _ waits (rw c.of-made.ensures at c.append.ensures.learned)
     (rw c.of-made.ensures at c.append-2.ensures.learned)
