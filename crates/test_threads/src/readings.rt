@@ -4,6 +4,7 @@ ghost use Rattle.std.specs.Prelude.{◌≡◌};
 use crate::answers::{
     Answer, of_poll_recv, of_recv, of_recv_timeout, of_send_timeout, of_try_recv,
 };
+use batches::take_batches;
 use bcast_history::{Channel, Opened, TimedHistoryPort, TrackedReceiver, TrackedSender, broadcast};
 use futures::task::{Context, Poll};
 use futures::test::MockTask;
@@ -16,6 +17,7 @@ use std::sync::Wait;
 use std::test::Fail;
 use std::time::{Clock, Duration, Instant};
 
+mod batches;
 mod settings;
 
 fn recv_in<J: Channel, P: TimedHistoryPort<u64, J>>(
@@ -50,6 +52,7 @@ fn poll_next<J: Channel, P: TimedHistoryPort<u64, J>>(
 #[derive(Clone, Copy)]
 enum Row {
     Take,
+    Batches,
     Start,
     Room,
     Count,
@@ -61,6 +64,12 @@ enum Row {
 #[test]
 fn a_receiver_is_given_each_message_in_turn(rt: HostRuntime) -> Result<(), Fail> {
     run(rt, Row::Take)
+}
+
+// A batch is all that is there, at most its limit; if there is nothing, it waits as one receive does.
+#[test]
+fn a_batch_is_all_that_is_there(rt: HostRuntime) -> Result<(), Fail> {
+    run(rt, Row::Batches)
 }
 
 // A new receiver and an activated one start at the end, a clone where its original reads on.
@@ -111,6 +120,7 @@ where
     let (mut sender, mut receiver) = broadcast::<u64, R, J, _>(rt, rt.alloc(), opened)?;
     match row {
         Row::Take => take_each(&rt, &mut sender, &mut receiver),
+        Row::Batches => take_batches(&rt, &mut sender, &mut receiver),
         Row::Start => start_each(&rt, &mut sender, &mut receiver),
         Row::Room => make_each(&rt, &mut sender, &mut receiver),
         Row::Count => count_each(&rt, &mut sender, &mut receiver),
