@@ -6,6 +6,7 @@ pub mod Receives
 pub mod Rooms
 pub mod Does
 pub mod Making
+pub mod Receivers
 pub mod Respelt
 pub mod Accessors
 pub mod Runs

@@ -1,13 +1,13 @@
--- What the calls that make a handle do to the view.
-use Rattle.std.proofs.Common.{◌≡◌, inl, inr, ℕ, ◌^◌, ◌<◌, ◌==◌, true, false, Option, Some, None, Result, Ok, Err, IfOk, IfErr, OnErr, is_some, refl, sym, ap, ◌∙◌, subst, arith}
+-- What the calls that make or drop a handle do to the view, by their cases.
+use Rattle.std.proofs.Common.{◌≡◌, inl, inr, ℕ, ◌+◌, ◌-◌, ◌<◌, ◌≤◌, ◌==◌, true, false, Option, Some, None, Ok, Err, is_some, refl, arith}
 use Rattle.std.proofs.lemmas.Grind.{common_steps}
-use Rattle.std.specs.FinMap.{get, len}
-use Rattle.bcast_model.specs.declared.error.HandleError.{HandleError}
 use Rattle.bcast_model.specs.declared.error.HandleError.TheVariants as handle
-use Rattle.bcast_model.specs.declared.run.Reply.{Reply}
-use Rattle.bcast_model.specs.Words.{Control, Cursors, with_cursor, has_next, IsMade, View}
-use Rattle.bcast_model.specs.Words.{IsValidView, sets, settle}
-use Rattle.bcast_core.proofs.Settle.{settle_same}
+use Rattle.bcast_model.specs.declared.run.Call.TheVariants as call
+use Rattle.bcast_model.specs.declared.run.Reply.TheVariants as reply
+use Rattle.bcast_model.specs.Words.{has_next, NoClone, View, IsValidView, close_if_deserted}
+use Rattle.bcast_core.specs.Parts.{Does}
+use Rattle.bcast_core.proofs.Does.{does_sets, does_nothing}
+use Rattle.bcast_core.proofs.Settle.{low_close_if_deserted}
 
 pub none_left : (n : ℕ) → n ≡ 0 → (n == 0) ≡ true
 none_left n e = grind (arith, common_steps, e)
@@ -34,20 +34,54 @@ is_gone None e = refl
 is_gone (Some x) e = cc
 
 module _ {T : Type 0} where
-  -- a receiver that is made, under a key that is free, or not
-  pub is_made : (cursors : Cursors) (spelt : Result ℕ HandleError → Reply T) (r : Result ℕ HandleError) → IfOk r (λ key. get cursors key ≡ None) → IfErr r (λ e. e ≡ handle.Memory) → IsMade cursors spelt (spelt r)
-  is_made cursors spelt (Ok key) free memory = inl (key, refl, free)
-  is_made cursors spelt (Err e) free memory = inr (ap (λ x. spelt (Err x)) memory)
+  -- ---- one more
+  pub full_senders : {v : View T} → IsValidView v → v.control.senders ≡ 18446744073709551615 → Does NoClone v call.NewSender (reply.NewSender (Err handle.TooMany)) v
+  full_senders {v = v} valid e =
+      let most = at_most v.control.senders e in
+      does_nothing valid (rw most refl) (rw most refl) refl
 
-  -- what follows from it for the state
-  pub made_effect : (v new : View T) (effect_of : Result ℕ HandleError → Control) (cursor : ℕ) (r : Result ℕ HandleError) → IsValidView v
-      → ((key : ℕ) → effect_of (Ok key) ≡ with_cursor v.control key cursor) → ((e : HandleError) → effect_of (Err e) ≡ v.control)
-      → IfOk r (λ key. new ≡ settle v (sets (with_cursor v.control key cursor))) → OnErr r (new ≡ v) → new ≡ settle v (sets (effect_of r))
-  made_effect v new effect_of cursor (Ok key) valid is idle ok err = ok ∙ ap (λ c. settle v (sets c)) (sym (is key))
-  made_effect v new effect_of cursor (Err e) valid is idle ok err = err ∙ sym (settle_same v valid) ∙ ap (λ c. settle v (sets c)) (sym (idle e))
+  pub more_senders : {v : View T} → IsValidView v → (v.control.senders ≡ 18446744073709551615 → ⊥) → Does NoClone v call.NewSender (reply.NewSender (Ok tt)) (record v { control = record v.control { senders = v.control.senders + 1 } })
+  more_senders {v = v} valid e =
+      let below = below_most v.control.senders valid.control.senders_fit e in
+      does_sets (record v.control { senders = v.control.senders + 1 }) (rw below refl) (rw below refl) valid.low refl
 
-  -- the count of receivers after it
-  pub made_fits : (v new : View T) (cursor : ℕ) (r : Result ℕ HandleError) → IsValidView v → IfOk r (λ key. new ≡ settle v (sets (with_cursor v.control key cursor))) → IfOk r (λ key. len (with_cursor v.control key cursor).cursors < 2 ^ 64) → OnErr r (new ≡ v)
-      → len new.control.cursors < 2 ^ 64
-  made_fits v new cursor (Ok key) valid ok fits err = subst (λ (x : View T). len x.control.cursors < 2 ^ 64) (sym ok) fits
-  made_fits v new cursor (Err e) valid ok fits err = subst (λ (x : View T). len x.control.cursors < 2 ^ 64) (sym err) valid.control.receivers_fit
+  pub no_inactive : {v : View T} → IsValidView v → v.control.inactive ≡ 0 → Does NoClone v call.CloneInactive (reply.CloneInactive (Err handle.Gone)) v
+  no_inactive {v = v} valid e =
+      let none = none_left v.control.inactive e in
+      does_nothing valid (rw none refl) (rw none refl) refl
+
+  pub full_inactive : {v : View T} → IsValidView v → (v.control.inactive ≡ 0 → ⊥) → v.control.inactive ≡ 18446744073709551615 → Does NoClone v call.CloneInactive (reply.CloneInactive (Err handle.TooMany)) v
+  full_inactive {v = v} valid is e =
+      let some = some_left v.control.inactive is in
+      let most = at_most v.control.inactive e in
+      does_nothing valid (rw (some, most) refl) (rw (some, most) refl) refl
+
+  pub more_inactive : {v : View T} → IsValidView v → (v.control.inactive ≡ 0 → ⊥) → (v.control.inactive ≡ 18446744073709551615 → ⊥)
+      → Does NoClone v call.CloneInactive (reply.CloneInactive (Ok tt)) (record v { control = record v.control { inactive = v.control.inactive + 1 } })
+  more_inactive {v = v} valid is e =
+      let some = some_left v.control.inactive is in
+      let below = below_most v.control.inactive valid.control.inactive_fit e in
+      does_sets (record v.control { inactive = v.control.inactive + 1 }) (rw (some, below) refl) (rw (some, below) refl) valid.low refl
+
+  -- ---- one fewer
+  pub fewer_senders : {v : View T} → IsValidView v → 0 < v.control.senders → Does NoClone v call.DropSender reply.DropSender (record v { control = close_if_deserted (record v.control { senders = v.control.senders - 1 }) })
+  fewer_senders {v = v} valid is =
+      let some = some_left v.control.senders (λ e. omega (arith, is, e)) in
+      let left = record v.control { senders = v.control.senders - 1 } in
+      does_sets (close_if_deserted left) refl (rw some refl) (low_close_if_deserted v left valid.low) refl
+
+  pub no_senders : {v : View T} → IsValidView v → v.control.senders ≤ 0 → Does NoClone v call.DropSender reply.DropSender v
+  no_senders {v = v} valid is =
+      let none = none_left v.control.senders (omega (arith, is)) in
+      does_nothing valid refl (rw none refl) refl
+
+  pub fewer_inactive : {v : View T} → IsValidView v → 0 < v.control.inactive → Does NoClone v call.DropInactive reply.DropInactive (record v { control = close_if_deserted (record v.control { inactive = v.control.inactive - 1 }) })
+  fewer_inactive {v = v} valid is =
+      let some = some_left v.control.inactive (λ e. omega (arith, is, e)) in
+      let left = record v.control { inactive = v.control.inactive - 1 } in
+      does_sets (close_if_deserted left) refl (rw some refl) (low_close_if_deserted v left valid.low) refl
+
+  pub none_inactive : {v : View T} → IsValidView v → v.control.inactive ≤ 0 → Does NoClone v call.DropInactive reply.DropInactive v
+  none_inactive {v = v} valid is =
+      let none = none_left v.control.inactive (omega (arith, is)) in
+      does_nothing valid refl (rw none refl) refl

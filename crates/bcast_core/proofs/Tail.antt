@@ -2,23 +2,21 @@
 -- from here.
 use Rattle.std.proofs.Common.{◌≡◌, ℕ, ◌+◌, ◌-◌, ◌≤◌, ◌==◌, Bool, true, false, not, cond, refl, sym, ap, ◌∙◌, subst, arith}
 use Rattle.std.proofs.lemmas.Grind.{common_steps}
-use Rattle.std.specs.FinMap.{len, values}
+use Rattle.std.specs.FinMap.{len}
 use Rattle.bcast_model.specs.declared.run.Call.{Call}
 use Rattle.bcast_model.specs.declared.run.Reply.{Reply}
-use Rattle.bcast_model.specs.declared.run.Call.TheVariants as call
-use Rattle.bcast_model.specs.Words.{no_listeners, Pair, Cursors, Control, closing, close, close_if_deserted, has_next, least, sets, NoClone}
+use Rattle.bcast_model.specs.Words.{no_listeners, Pair, Cursors, Control, closing, close_if_deserted}
 use Rattle.bcast_model.specs.Words.{tell_a_sender, pair_waits, effect, HasRange, IsValidView}
 use Rattle.bcast_model.specs.Words.{may_tell, tell_if_ready, Steps}
 use Rattle.bcast_model.specs.Words.{settle, View, sends_are_ready, Answers, IsShown}
 pub use Rattle.bcast_model.proofs.Answers.{answers_as, shown_after}
 use Rattle.bcast_model.proofs.Calls.{keeps_valid}
-use Rattle.bcast_model.proofs.Cases.{deserted_is}
+use Rattle.bcast_model.proofs.Cases.{close_is, deserted_is}
 use Rattle.bcast_model.proofs.WaitingSends.{OneIsTold}
 use Rattle.bcast_core.specs.Telling.{NobodyWaits}
 use Rattle.bcast_core.specs.Parts.{Does}
 use Rattle.bcast_core.specs.Telling.{tell_news}
-use Rattle.bcast_core.proofs.Settle.{settle_stays}
-pub use Rattle.bcast_core.proofs.Does.{valid_shown, does_begin, does_resize, does_sets}
+pub use Rattle.bcast_core.proofs.Does.{valid_shown, does_begin, does_resize, does_sets, does_nothing}
 
 module _ {T : Type 0} where
   -- no send is told if none waits
@@ -38,33 +36,18 @@ module _ {T : Type 0} where
   pub told_waiting : (v : View T) (pair : Pair) → IsValidView v → tell_if_ready true (record v { control = pair_waits v.control pair }) ≡ record v { control = pair_waits v.control pair }
   told_waiting v pair valid = tell_once false (record v { control = pair_waits v.control pair }) (λ _. valid.wake_ups.sends)
 
-  -- nor once the senders are counted anew
-  pub told_senders : (v : View T) (n : ℕ) → IsValidView v → tell_if_ready true (settle v (sets (record v.control { senders = n }))) ≡ settle v (sets (record v.control { senders = n }))
-  told_senders v n valid =
-      let w : View T = record v { control = record v.control { senders = n } } in
-      subst (λ (x : View T). tell_if_ready true x ≡ x) (sym (settle_stays v (record v.control { senders = n }) valid.low)) (tell_once false w (λ _. valid.wake_ups.sends))
+  -- nor once the senders and inactive receivers are counted anew
+  pub told_counted : (v : View T) (senders inactive : ℕ) → IsValidView v → tell_if_ready true (record v { control = record v.control { senders = senders; inactive = inactive } }) ≡ record v { control = record v.control { senders = senders; inactive = inactive } }
+  told_counted v senders inactive valid = tell_once false (record v { control = record v.control { senders = senders; inactive = inactive } }) (λ _. valid.wake_ups.sends)
 
-  -- nor once the channel is closed, since all sends are told
-  closed_told : (v : View T) (c : Control) → least v.end (values c.cursors) ≤ v.front → tell_if_ready true (settle v (sets (closing c))) ≡ settle v (sets (closing c))
-  closed_told v c low =
-      subst (λ (x : View T). tell_if_ready true x ≡ x) (sym (settle_stays v (closing c) low)) (tell_once false (record v { control = closing c }) (λ _ _ some. some))
-
-  -- so a sender that is made or dropped leaves no one to tell
-  pub told_new_sender : {v mid : View T} {r : Reply T} → IsValidView v → Does NoClone v call.NewSender r mid → tell_if_ready true mid ≡ mid
-  told_new_sender {v = v} valid does =
-      subst (λ (x : View T). tell_if_ready true x ≡ x) (sym does.effect)
-      (elim (has_next v.control.senders) as (λ b. tell_if_ready true (settle v (sets (cond b (record v.control { senders = v.control.senders + 1 }) v.control))) ≡ settle v (sets (cond b (record v.control { senders = v.control.senders + 1 }) v.control)))
-      [ true ↦ told_senders v (v.control.senders + 1) valid | false ↦ told_senders v v.control.senders valid ])
-
-  pub told_drop_sender : {v mid : View T} {r : Reply T} → IsValidView v → Does NoClone v call.DropSender r mid → tell_if_ready true mid ≡ mid
-  told_drop_sender {v = v} valid does =
-      let left : Control = record v.control { senders = v.control.senders - 1 } in
-      let Told : Control → Type 0 = λ c. tell_if_ready true (settle v (sets c)) ≡ settle v (sets c) in
-      let counted = told_senders v (v.control.senders - 1) valid in
-      let closed : Told (close left) = elim v.control.closed as (λ b. Told (cond b left (closing left))) [ true ↦ counted | false ↦ closed_told v left valid.low ] in
-      subst (λ (x : View T). tell_if_ready true x ≡ x) (sym does.effect)
-      (elim (v.control.senders == 0) as (λ b. Told (cond b v.control (close_if_deserted left)))
-      [ true ↦ told_senders v v.control.senders valid | false ↦ deserted_is Told left closed (λ _. counted) ])
+  -- nor if the channel is closed then, since all sends are told
+  pub told_left : (v : View T) (senders inactive : ℕ) → IsValidView v → tell_if_ready true (record v { control = close_if_deserted (record v.control { senders = senders; inactive = inactive }) }) ≡ record v { control = close_if_deserted (record v.control { senders = senders; inactive = inactive }) }
+  told_left v senders inactive valid =
+      let left : Control = record v.control { senders = senders; inactive = inactive } in
+      let Told : Control → Type 0 = λ c. tell_if_ready true (record v { control = c }) ≡ record v { control = c } in
+      let counted = told_counted v senders inactive valid in
+      let closed : Told (closing left) = tell_once false (record v { control = closing left }) (λ _ _ some. some) in
+      deserted_is Told left (close_is Told left (λ _. counted) (λ _. closed)) (λ _. counted)
 
   pub told_last : {is_clone : T → T → Type 0} {old mid new : View T} {c : Call T} {r : Reply T} → IsValidView old → HasRange c (len mid.control.cursors) → Does is_clone old c r mid → new ≡ tell_if_ready true mid → Steps is_clone old c r new
   told_last {is_clone = is_clone} {old = old} {c = c} {r = r} valid range does new_is =
@@ -82,6 +65,11 @@ module _ {T : Type 0} where
   ends {mid = mid} {c = c} same shown range does new_is =
       let fits = subst (λ (cursors : Cursors). HasRange c (len cursors)) (sym (ap (λ (v : View T). v.control.cursors) new_is ∙ cursors_told mid)) range in
       answers_as same fits shown (told_last (valid_shown shown) range does new_is)
+
+  -- a call that changes nothing
+  pub unchanged : {is_clone : T → T → Type 0} {was old new : View T} {c : Call T} {r : Reply T} → was ≡ old → IsShown was → new ≡ was → HasRange c (len was.control.cursors) → Does is_clone was c r was → Answers is_clone old c r new
+  unchanged {is_clone = is_clone} {was = was} {old = old} {c = c} {r = r} same shown new_is range does =
+      subst (λ v. Answers is_clone old c r v) (sym new_is) (ends same shown range does (sym (told_valid was (valid_shown shown))))
 
   -- if no one waits, no one is told of a message
   pub news_nobody : (news : Bool) (v : View T) → NobodyWaits v.control → tell_news news v ≡ v

@@ -1,11 +1,13 @@
 -- How the state of a channel is put together. No public clause cites this module.
-use Rattle.std.specs.Prelude.{◌≡◌, ℕ, ◌+◌, ◌*◌, ◌<◌, ◌⊎◌, Bool, true, false, is_some, Result, Ok, Err}
+use Rattle.std.specs.Prelude.{◌≡◌, ℕ, ◌+◌, ◌*◌, ◌^◌, ◌<◌, ◌⊎◌, Bool, true, false, is_some, None, Result, Ok, Err}
 use Rattle.std.specs.Prelude.{List, ◌++◌, length, slice_get, Some, IsSomeAnd}
 use Rattle.std.specs.declared.alloc.AllocError.{AllocError}
-use Rattle.std.specs.FinMap.{get}
+use Rattle.std.specs.FinMap.{get, len}
 use Rattle.std.specs.FinSet as set
 use Rattle.bcast_model.specs.Words.{no_listeners, Control, Cursors, View, Legal, effect, settle}
-use Rattle.bcast_model.specs.Words.{Pair, is_empty_reply, kept_at, IsOwed}
+use Rattle.bcast_model.specs.Words.{Pair, is_empty_reply, kept_at, IsOwed, cursor_of, with_cursor, sets}
+use Rattle.bcast_model.specs.declared.error.HandleError.{HandleError}
+use Rattle.bcast_model.specs.declared.error.HandleError.TheVariants as handle
 use Rattle.bcast_model.specs.declared.error.TryRecvError.{TryRecvError}
 use Rattle.bcast_model.specs.declared.listener.Kind.{Kind}
 use Rattle.bcast_model.specs.declared.listener.Kind.TheVariants as kind
@@ -56,6 +58,14 @@ pub record Does
     (new : View T) : Type 0 where
   pub legal : Legal is_clone old c r
   pub effect : new ≡ settle old (effect old c r)
+
+-- a receiver that reads the message of this number next is added under a key that none has; or
+-- memory for it was refused
+abbrev pub Adds : {T : Type 0} → View T → ℕ → Result ℕ HandleError → View T → Type 0
+Adds v cursor (Ok key) new =
+    let c = with_cursor v.control key cursor in
+    (cursor_of v.control key ≡ None) × (new ≡ settle v (sets c)) × (len c.cursors < 2 ^ 64)
+Adds v cursor (Err error) new = (error ≡ handle.Memory) × (new ≡ v)
 
 -- how often a receive poll looks for a message: a future's always once
 abbrev pub tries_by : Kind → Control → Pair → ℕ

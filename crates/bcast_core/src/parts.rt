@@ -9,7 +9,6 @@ use bcast_waiting::{Event, SendList};
 use std::alloc::{Allocator, Global};
 use std::marker::Model;
 
-mod handles;
 mod listeners;
 mod receive;
 mod receivers;
@@ -21,15 +20,15 @@ pub use send::is_accepted;
 /// The state of a channel between the steps of a call. It need not be a valid state.
 #[derive(Drop)]
 pub struct Parts<T, N: Notice, A: Allocator = Global> {
-    store: Store<T, A>,
-    sends: SendList<N, A>,
-    receives: Event<(usize, Kind), N, A>,
-    senders: usize,
-    inactive: usize,
-    closed: bool,
-    overflow: bool,
-    await_active: bool,
-    capacity: usize,
+    pub(crate) store: Store<T, A>,
+    pub(crate) sends: SendList<N, A>,
+    pub(crate) receives: Event<(usize, Kind), N, A>,
+    pub(crate) senders: usize,
+    pub(crate) inactive: usize,
+    pub(crate) closed: bool,
+    pub(crate) overflow: bool,
+    pub(crate) await_active: bool,
+    pub(crate) capacity: usize,
 }
 
 impl<T, N: Notice, A: Allocator> Model for Parts<T, N, A> {
@@ -79,57 +78,6 @@ impl<T: Drop, N: Notice, A: Allocator + Copy> Parts<T, N, A> {
             await_active: true,
             capacity: cap,
         }
-    }
-
-    /// Whether the channel is closed.
-    pub fn is_closed(&self) -> bool
-        ensures { result ≡ self.now.control.closed }
-    {
-        self.closed
-    }
-
-    /// Whether a full channel drops its oldest message.
-    pub fn overflow(&self) -> bool
-        ensures { result ≡ self.now.control.overflow }
-    {
-        self.overflow
-    }
-
-    /// Whether sends await an active receiver.
-    pub fn await_active(&self) -> bool
-        ensures { result ≡ self.now.control.await_active }
-    {
-        self.await_active
-    }
-
-    pub fn capacity(&self) -> usize
-        ensures { result ≡ self.now.control.capacity }
-    {
-        self.capacity
-    }
-
-    pub fn senders(&self) -> usize
-        ensures { result ≡ self.now.control.senders }
-    {
-        self.senders
-    }
-
-    pub fn inactive(&self) -> usize
-        ensures { result ≡ self.now.control.inactive }
-    {
-        self.inactive
-    }
-
-    pub fn receivers(&self) -> usize
-        ensures { result ≡ len self.now.control.cursors }
-    {
-        self.store.receivers()
-    }
-
-    pub fn len(&self) -> usize
-        ensures { result ≡ length self.now.queue }
-    {
-        self.store.len()
     }
 
     pub fn front(&self) -> u64

@@ -98,35 +98,35 @@ impl<T: Drop, N: Notice, A: Allocator + Copy> Inner<T, N, A> {
     pub fn capacity(&self) -> usize
         ensures { result ≡ self.now.control.capacity }
     {
-        self.parts.capacity()
+        self.parts.capacity
     }
 
     /// Whether a full channel drops its oldest message for a new one.
     pub fn overflow(&self) -> bool
         ensures { result ≡ self.now.control.overflow }
     {
-        self.parts.overflow()
+        self.parts.overflow
     }
 
     /// Whether sends wait while there is no active receiver.
     pub fn await_active(&self) -> bool
         ensures { result ≡ self.now.control.await_active }
     {
-        self.parts.await_active()
+        self.parts.await_active
     }
 
     /// How many messages are kept.
     pub fn len(&self) -> usize
         ensures { result ≡ length self.now.queue }
     {
-        self.parts.len()
+        self.parts.store.len()
     }
 
     /// Whether no message is kept.
     pub fn is_empty(&self) -> bool
         ensures { result ≡ (length self.now.queue == 0) }
     {
-        self.parts.len() == 0
+        self.parts.store.len() == 0
     }
 
     /// Whether as many messages are kept as the capacity allows.
@@ -140,7 +140,7 @@ impl<T: Drop, N: Notice, A: Allocator + Copy> Inner<T, N, A> {
     pub fn is_closed(&self) -> bool
         ensures { result ≡ self.now.control.closed }
     {
-        self.parts.is_closed()
+        self.parts.closed
     }
 
     /// Whether a send would be answered without waiting: there is room for it, or it is refused.
@@ -156,28 +156,28 @@ impl<T: Drop, N: Notice, A: Allocator + Copy> Inner<T, N, A> {
     pub fn is_terminated(&self) -> bool
         ensures { result ≡ self.now.control.closed && (length self.now.queue == 0) }
     {
-        self.parts.is_closed() && self.parts.len() == 0
+        self.parts.closed && self.parts.store.len() == 0
     }
 
     /// How many active receivers there are.
     pub fn receiver_count(&self) -> usize
         ensures { result ≡ len self.now.control.cursors }
     {
-        self.parts.receivers()
+        self.parts.store.receivers()
     }
 
     /// How many inactive receivers there are.
     pub fn inactive_receiver_count(&self) -> usize
         ensures { result ≡ self.now.control.inactive }
     {
-        self.parts.inactive()
+        self.parts.inactive
     }
 
     /// How many senders there are.
     pub fn sender_count(&self) -> usize
         ensures { result ≡ self.now.control.senders }
     {
-        self.parts.senders()
+        self.parts.senders
     }
 
     /// The number that the next accepted message gets.

@@ -1,6 +1,6 @@
-//! Receivers, and the counts of senders and inactive receivers.
-ghost use Rattle.std.specs.Prelude.{◌≡◌, ◌+◌, ◌-◌, ◌^◌, ◌<◌, ◌≤◌, true, false, None, IfOk, IfErr, OnErr, is_some};
-ghost use Rattle.std.specs.FinMap.{len, remove};
+//! Receivers that are added and removed.
+ghost use Rattle.std.specs.Prelude.{◌≡◌, ◌+◌, ◌≤◌, true, false, is_some};
+ghost use Rattle.std.specs.FinMap.{remove};
 
 use super::Parts;
 use bcast_model::error::HandleError;
@@ -9,21 +9,16 @@ use bcast_waiting::notice::Notice;
 use std::alloc::Allocator;
 
 impl<T: Drop, N: Notice, A: Allocator + Copy> Parts<T, N, A> {
-    ghost use Rattle.bcast_model.specs.Words.{IsValidView, with_cursor, without_receiver, settle};
-    ghost use Rattle.bcast_model.specs.Words.{sets, cursor_of, pair_ended, stream_of, future_of};
+    ghost use Rattle.bcast_model.specs.Words.{IsValidView, without_receiver, settle, sets};
+    ghost use Rattle.bcast_model.specs.Words.{cursor_of, pair_ended, stream_of, future_of};
+    ghost use Rattle.bcast_core.specs.Parts.{Adds};
 
     /// Adds a receiver that reads the message of this number next, under a key that none has.
     #[inline(always)]
     pub fn add_receiver(&mut self, cursor: u64) -> Result<usize, HandleError>
         requires valid { IsValidView self.old }
         requires reach { cursor ≤ self.old.end }
-        ensures free { IfOk result (λ key. cursor_of self.old.control key ≡ None) }
-        ensures ok { IfOk result (λ key. self.new
-            ≡ settle self.old (sets (with_cursor self.old.control key cursor))) }
-        ensures fits { IfOk result
-            (λ key. len (with_cursor self.old.control key cursor).cursors < 2 ^ 64) }
-        ensures memory { IfErr result (λ error. error ≡ HandleError.Memory) }
-        ensures err { OnErr result (self.new ≡ self.old) }
+        ensures { Adds self.old cursor result self.new }
     {
         let Ok(key) = self.store.add(cursor) else {
             return Err(HandleError::Memory);
@@ -52,7 +47,7 @@ impl<T: Drop, N: Notice, A: Allocator + Copy> Parts<T, N, A> {
     /// was one.
     #[inline(always)]
     pub fn remove_receiver(&mut self, key: usize) -> bool
-        requires valid { IsValidView self.old }
+        requires { IsValidView self.old }
         ensures found { result ≡ is_some (cursor_of self.old.control key) }
         ensures removed { result ≡ true
             → self.new ≡ settle self.old (sets (without_receiver self.old.control key)) }
@@ -76,33 +71,5 @@ impl<T: Drop, N: Notice, A: Allocator + Copy> Parts<T, N, A> {
     {
         let _ = self.pair_ended(key, Kind::Stream);
         let _ = self.pair_ended(key, Kind::Future);
-    }
-
-    pub fn set_senders(&mut self, senders: usize)
-        ensures { self.new
-            ≡ record self.old { control = record self.old.control { senders = senders } } }
-    {
-        self.senders = senders;
-    }
-
-    pub fn set_inactive(&mut self, inactive: usize)
-        ensures { self.new
-            ≡ record self.old { control = record self.old.control { inactive = inactive } } }
-    {
-        self.inactive = inactive;
-    }
-
-    pub fn set_overflow(&mut self, on: bool)
-        ensures { self.new
-            ≡ record self.old { control = record self.old.control { overflow = on } } }
-    {
-        self.overflow = on;
-    }
-
-    pub fn set_await_active(&mut self, on: bool)
-        ensures { self.new
-            ≡ record self.old { control = record self.old.control { await_active = on } } }
-    {
-        self.await_active = on;
     }
 }

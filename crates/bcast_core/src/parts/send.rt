@@ -84,7 +84,7 @@ impl<T: Drop, N: Notice, A: Allocator + Copy> Parts<T, N, A> {
         ensures effect { tell_news (not (self.new.end == self.old.end)) self.new
             ≡ settle self.old (offer_all self.old msgs) }
     {
-        if self.is_closed() {
+        if self.closed {
             return Err(TrySendError::Closed(msgs));
         }
         if self.has_no_receiver() {
@@ -100,42 +100,6 @@ impl<T: Drop, N: Notice, A: Allocator + Copy> Parts<T, N, A> {
         Ok(())
     }
 
-    // Makes room for a message that is to be accepted, and returns it with the oldest message if
-    // that was dropped; or hands it back with the reason.
-    #[inline(always)]
-    fn admit(&mut self, msg: T) -> Result<(T, Option<T>), TrySendError<T>>
-        requires { IsValidView self.old }
-        ensures same { IfOk result (λ admitted. admitted.0 ≡ msg) }
-        ensures reply { IfOk result (λ admitted. try_broadcast_reply self.old msg ≡ Ok admitted.1) }
-        ensures effect { OnOk result (settle self.old (offer self.old msg)
-            ≡ with_message self.new msg) }
-
-        ensures control { self.new.control ≡ self.old.control }
-        ensures is_open { OnOk result (self.new.control.closed ≡ false) }
-        ensures someone { OnOk result (0 < len self.new.control.cursors) }
-        ensures room { OnOk result (length self.new.queue < self.new.control.room) }
-        ensures number { OnOk result (self.new.end + 1 < 2 ^ 64) }
-
-        ensures refused { IfErr result (λ error. try_broadcast_reply self.old msg ≡ Err error) }
-        ensures err { OnErr result (self.new ≡ self.old) }
-        ensures nothing { OnErr result (settle self.old (offer self.old msg) ≡ self.old) }
-    {
-        if self.closed {
-            return Err(TrySendError::Closed(msg));
-        }
-        if self.store.has_no_receiver() {
-            return Err(TrySendError::Inactive(msg));
-        }
-        if self.store.len() != self.capacity {
-            return Ok((msg, None));
-        }
-        if !self.overflow {
-            return Err(TrySendError::Full(msg));
-        }
-        let oldest = self.drop_oldest();
-        Ok((msg, Some(oldest)))
-    }
-
     /// Accepts a message, or hands it back with the reason. No one is told: the caller has to do
     /// that, if it was accepted.
     #[inline(always)]
@@ -144,7 +108,20 @@ impl<T: Drop, N: Notice, A: Allocator + Copy> Parts<T, N, A> {
         ensures reply { result ≡ try_broadcast_reply self.old msg }
         ensures effect { tell_news (is_ok result) self.new ≡ settle self.old (offer self.old msg) }
     {
-        let (msg, oldest) = self.admit(msg)?;
+        if self.closed {
+            return Err(TrySendError::Closed(msg));
+        }
+        if self.store.has_no_receiver() {
+            return Err(TrySendError::Inactive(msg));
+        }
+        let oldest = if self.store.len() == self.capacity {
+            if !self.overflow {
+                return Err(TrySendError::Full(msg));
+            }
+            Some(self.drop_oldest())
+        } else {
+            None
+        };
         self.accept(msg);
         Ok(oldest)
     }
@@ -157,8 +134,7 @@ impl<T: Drop, N: Notice, A: Allocator + Copy> Parts<T, N, A> {
         ensures effect { tell_news (is_accepted result) self.new
             ≡ settle self.old (offer self.old msg) }
     {
-        let await_active = self.await_active();
-        attempted(await_active, self.offer(msg))
+        attempted(self.await_active, self.offer(msg))
     }
 
     /// A poll of a pending send, whose notice is made if it must wait. If it is answered its place

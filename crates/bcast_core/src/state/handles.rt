@@ -21,7 +21,11 @@ impl<T: Drop, N: Notice, A: Allocator + Copy> Inner<T, N, A> {
     pub fn new_sender(&mut self) -> Result<(), HandleError>
         ensures { Answers NoClone self.old call.NewSender (reply.NewSender result) self.new }
     {
-        self.parts.new_sender()
+        if self.parts.senders == usize::MAX {
+            return Err(HandleError::TooMany);
+        }
+        self.parts.senders += 1;
+        Ok(())
     }
 
     /// Counts one more inactive receiver.
@@ -37,9 +41,14 @@ impl<T: Drop, N: Notice, A: Allocator + Copy> Inner<T, N, A> {
         ensures { Answers NoClone self.old call.CloneInactive (reply.CloneInactive result)
             self.new }
     {
-        let made = self.parts.clone_inactive();
-        self.parts.tell_a_sender();
-        made
+        if self.parts.inactive == 0 {
+            return Err(HandleError::Gone);
+        }
+        if self.parts.inactive == usize::MAX {
+            return Err(HandleError::TooMany);
+        }
+        self.parts.inactive += 1;
+        Ok(())
     }
 
     /// Makes the receiver of this key inactive, in one step: an open channel stays open. Its cursor
@@ -56,9 +65,16 @@ impl<T: Drop, N: Notice, A: Allocator + Copy> Inner<T, N, A> {
         ensures { Answers NoClone self.old (call.Deactivate key) (reply.Deactivate result)
             self.new }
     {
-        let made = self.parts.deactivate(key);
+        let Some(_) = self.parts.cursor(key) else {
+            return Err(HandleError::Gone);
+        };
+        if self.parts.inactive == usize::MAX {
+            return Err(HandleError::TooMany);
+        }
+        self.parts.remove_receiver(key);
+        self.parts.inactive += 1;
         self.parts.tell_a_sender();
-        made
+        Ok(())
     }
 
     /// Adds a receiver that reads the messages sent from now on, and returns its key.
@@ -72,7 +88,8 @@ impl<T: Drop, N: Notice, A: Allocator + Copy> Inner<T, N, A> {
     pub fn new_receiver(&mut self) -> Result<usize, HandleError>
         ensures { Answers NoClone self.old call.NewReceiver (reply.NewReceiver result) self.new }
     {
-        let made = self.parts.new_receiver();
+        let end = self.parts.end();
+        let made = self.parts.add_receiver(end);
         if !self.parts.no_send_waits() {
             self.parts.tell_a_sender();
         }
@@ -91,9 +108,16 @@ impl<T: Drop, N: Notice, A: Allocator + Copy> Inner<T, N, A> {
     pub fn activate(&mut self) -> Result<usize, HandleError>
         ensures { Answers NoClone self.old call.Activate (reply.Activate result) self.new }
     {
-        let made = self.parts.activate();
+        if self.parts.inactive == 0 {
+            return Err(HandleError::Gone);
+        }
+        let end = self.parts.end();
+        let activated = self.parts.add_receiver(end);
+        if activated.is_ok() {
+            self.parts.inactive -= 1;
+        }
         self.parts.tell_a_sender();
-        made
+        activated
     }
 
     /// Adds a receiver that reads the messages sent from now on, and keeps the inactive one.
@@ -109,9 +133,13 @@ impl<T: Drop, N: Notice, A: Allocator + Copy> Inner<T, N, A> {
         ensures { Answers NoClone self.old call.ActivateCloned (reply.ActivateCloned result)
             self.new }
     {
-        let made = self.parts.activate_cloned();
+        if self.parts.inactive == 0 {
+            return Err(HandleError::Gone);
+        }
+        let end = self.parts.end();
+        let cloned = self.parts.add_receiver(end);
         self.parts.tell_a_sender();
-        made
+        cloned
     }
 
     /// Adds a receiver that has the same messages to read as the receiver of this key.
@@ -128,7 +156,10 @@ impl<T: Drop, N: Notice, A: Allocator + Copy> Inner<T, N, A> {
         ensures { Answers NoClone self.old (call.CloneReceiver key) (reply.CloneReceiver result)
             self.new }
     {
-        let made = self.parts.clone_receiver(key);
+        let Some(cursor) = self.parts.cursor(key) else {
+            return Err(HandleError::Gone);
+        };
+        let made = self.parts.add_receiver(cursor);
         if !self.parts.no_send_waits() {
             self.parts.tell_a_sender();
         }
@@ -143,7 +174,10 @@ impl<T: Drop, N: Notice, A: Allocator + Copy> Inner<T, N, A> {
     pub fn drop_sender(&mut self)
         ensures { Answers NoClone self.old call.DropSender reply.DropSender self.new }
     {
-        self.parts.drop_sender();
+        if self.parts.senders > 0 {
+            self.parts.senders -= 1;
+            self.parts.close_if_deserted();
+        }
     }
 
     /// Counts one inactive receiver fewer. If neither an inactive nor an active one is left then,
@@ -153,8 +187,10 @@ impl<T: Drop, N: Notice, A: Allocator + Copy> Inner<T, N, A> {
     pub fn drop_inactive(&mut self)
         ensures { Answers NoClone self.old call.DropInactive reply.DropInactive self.new }
     {
-        self.parts.drop_inactive();
-        self.parts.tell_a_sender();
+        if self.parts.inactive > 0 {
+            self.parts.inactive -= 1;
+            self.parts.close_if_deserted();
+        }
     }
 
     /// Removes the receiver of this key: its stream and its future wait no more, and the messages
@@ -166,7 +202,10 @@ impl<T: Drop, N: Notice, A: Allocator + Copy> Inner<T, N, A> {
     pub fn drop_receiver(&mut self, key: usize)
         ensures { Answers NoClone self.old (call.DropReceiver key) reply.DropReceiver self.new }
     {
-        self.parts.drop_receiver(key);
+        if !self.parts.remove_receiver(key) {
+            return;
+        }
+        self.parts.close_if_deserted();
         if !self.parts.no_send_waits() {
             self.parts.tell_a_sender();
         }

@@ -17,7 +17,7 @@ impl<T: Drop, N: Notice, A: Allocator + Copy> Inner<T, N, A> {
     pub fn close(&mut self) -> bool
         ensures { Answers NoClone self.old call.Close (reply.Close result) self.new }
     {
-        let was_open = !self.parts.is_closed();
+        let was_open = !self.parts.closed;
         self.parts.close();
         self.parts.tell_a_sender();
         was_open
@@ -51,7 +51,7 @@ impl<T: Drop, N: Notice, A: Allocator + Copy> Inner<T, N, A> {
     pub fn set_overflow(&mut self, on: bool)
         ensures { Answers NoClone self.old (call.SetOverflow on) reply.SetOverflow self.new }
     {
-        self.parts.set_overflow(on);
+        self.parts.overflow = on;
         self.parts.tell_a_sender();
     }
 
@@ -61,7 +61,7 @@ impl<T: Drop, N: Notice, A: Allocator + Copy> Inner<T, N, A> {
     pub fn set_await_active(&mut self, on: bool)
         ensures { Answers NoClone self.old (call.SetAwaitActive on) reply.SetAwaitActive self.new }
     {
-        self.parts.set_await_active(on);
+        self.parts.await_active = on;
         self.parts.tell_a_sender();
     }
 }

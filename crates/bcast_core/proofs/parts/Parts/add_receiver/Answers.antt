@@ -1,5 +1,5 @@
 -- A receiver stays if there is room for its listeners, and else is removed at once.
-use Rattle.std.proofs.Common.{◌≡◌, sym, ◌∙◌, subst, arith}
+use Rattle.std.proofs.Common.{rules, ◌≡◌, refl, sym, ◌∙◌, subst, arith}
 use Rattle.std.proofs.lemmas.Grind.{common_steps}
 use Rattle.bcast_store.specs.Stored.{Stored}
 use Rattle.bcast_core.specs.Parts.{HaveRoom, control_of, seen_of}
@@ -23,8 +23,13 @@ invariant_of-self-in_default-reserve_for g c =
     subst (λ (s : Stored g.row.T.Denot). HaveRoom s.cursors c.reserve_for.new.self.room) (sym (store_is g (goal.at.invariant_of-self-in_default-reserve_for g c).After-remove))
     (room_raised c.self.inside.store.cursors c.self.inside.receives.room c.reserve_for.new.self.room c.reserve_for.ensures.room c.self.invariant)
 
-pub returns-in_default-reserve_for-clause-err : goal.returns-in_default-reserve_for-clause-err
-returns-in_default-reserve_for-clause-err g c =
-    (λ i. seen_of (store_is g (goal.at.returns-in_default-reserve_for-clause-err g c).After-remove i)
-    (control_of (store_is g (goal.at.returns-in_default-reserve_for-clause-err g c).After-remove i) c.self.inside.sends (record c.reserve_for.new.self { listeners = c.reserve_for.ensures.listeners i }) c.self.inside.senders c.self.inside.inactive c.self.inside.closed c.self.inside.overflow c.self.inside.await_active c.self.inside.capacity))
-    ∙ c.self.view_is
+pub returns-in_default-reserve_for : goal.returns-in_default-reserve_for
+returns-in_default-reserve_for g c = (
+  refl,
+  (λ i. seen_of (store_is g (goal.at.returns-in_default-reserve_for g c).After-remove i)
+      (control_of (store_is g (goal.at.returns-in_default-reserve_for g c).After-remove i) c.self.inside.sends (record c.reserve_for.new.self { listeners = c.reserve_for.ensures.listeners i }) c.self.inside.senders c.self.inside.inactive c.self.inside.closed c.self.inside.overflow c.self.inside.await_active c.self.inside.capacity))
+      ∙ c.self.view_is,
+)
+
+pub returns : goal.returns
+returns g c = (grind (arith, common_steps), search rules, grind (arith, common_steps))

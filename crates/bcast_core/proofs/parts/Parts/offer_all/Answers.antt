@@ -4,8 +4,8 @@ use Rattle.bcast_core.proofs.Offers.{not_zero, offer_all_accepted, offer_all_not
 use Rattle.bcast_core.proofs.Tail.{no_news, some_news}
 use Rattle.bcast_core.proofs.parts.Parts.offer_all.Goals as goal
 
-pub returns-then-is_closed-clause-effect : goal.returns-then-is_closed-clause-effect
-returns-then-is_closed-clause-effect g c = grind (arith, common_steps, no_news, offer_all_refused)
+pub returns-then-self-clause-effect : goal.returns-then-self-clause-effect
+returns-then-self-clause-effect g c = grind (arith, common_steps, no_news, offer_all_refused)
 
 pub returns-then-has_no_receiver-clause-effect : goal.returns-then-has_no_receiver-clause-effect
 returns-then-has_no_receiver-clause-effect g c = grind (arith, common_steps, no_news, offer_all_refused)

@@ -1,11 +1,22 @@
-use Rattle.bcast_core.proofs.Tail.{ends, shown_after, valid_shown}
+use Rattle.std.proofs.Common.{◌≡◌, sym, ap, ◌∙◌}
+use Rattle.bcast_core.proofs.Receivers.{added_fits, cloned_activated, not_activated}
+use Rattle.bcast_core.proofs.Tail.{ends, shown_after, unchanged, valid_shown}
 use Rattle.bcast_core.proofs.state.Inner.activate_cloned.Goals as goal
 
-pub activate_cloned-made-requires : goal.activate_cloned-made-requires
-activate_cloned-made-requires g c = valid_shown c.self.invariant
+pub returns-then-self-eq0 : goal.returns-then-self-eq0
+returns-then-self-eq0 g c =
+    let valid = valid_shown c.self.invariant in
+    let none = sym (ap (λ inside. inside.parts.control.inactive) c.self-inside.view_is) ∙ c.if-self-eq0.true in
+    unchanged c.self.view_is c.self.invariant (sym c.self.view_is) valid.control.receivers_fit (not_activated valid none).1
+
+pub add_receiver-cloned-requires-clause-valid : goal.add_receiver-cloned-requires-clause-valid
+add_receiver-cloned-requires-clause-valid g c = valid_shown c.self.invariant
 
 pub returns : goal.returns
-returns g c = ends c.self.view_is c.self.invariant c.activate_cloned-made.ensures.fits c.activate_cloned-made.ensures.does c.tell_a_sender.ensures
+returns g c =
+    let valid = valid_shown c.self.invariant in
+    let some : c.self.inside.parts.control.inactive ≡ 0 → ⊥ = λ e. c.if-self-eq0.false (ap (λ inside. inside.parts.control.inactive) c.self-inside.view_is ∙ e) in
+    ends c.self.view_is c.self.invariant (added_fits _ _ _ valid c.add_receiver-cloned.ensures) (cloned_activated _ _ valid some c.end-end.ensures c.add_receiver-cloned.ensures) c.tell_a_sender.ensures
 
 pub invariant_of-self : goal.invariant_of-self
 invariant_of-self g c = shown_after (returns g c)

@@ -1,17 +1,28 @@
-use Rattle.std.proofs.Common.{true, sym}
-use Rattle.bcast_core.proofs.Tail.{ends, shown_after, told_none, valid_shown}
+use Rattle.std.proofs.Common.{true, sym, ◌∙◌}
+use Rattle.bcast_core.proofs.Making.{not_some}
+use Rattle.bcast_core.proofs.Receivers.{added_fits, clone_added, not_cloned}
+use Rattle.bcast_core.proofs.Tail.{ends, shown_after, told_none, unchanged, valid_shown}
 use Rattle.bcast_core.proofs.state.Inner.clone_receiver.Goals as goal
 
-pub clone_receiver-made-requires : goal.clone_receiver-made-requires
-clone_receiver-made-requires g c = valid_shown c.self.invariant
+pub returns-in_default : goal.returns-in_default
+returns-in_default g c =
+    let valid = valid_shown c.self.invariant in
+    let none = sym c.cursor.ensures ∙ not_some c.cursor.result c.in_default.not-Some in
+    unchanged c.self.view_is c.self.invariant (sym c.self.view_is) valid.control.receivers_fit (not_cloned c.args.key valid none)
+
+pub add_receiver-made-requires-clause-valid : goal.add_receiver-made-requires-clause-valid
+add_receiver-made-requires-clause-valid g c = valid_shown c.self.invariant
 
 pub returns-then-not-no_send_waits : goal.returns-then-not-no_send_waits
-returns-then-not-no_send_waits g c = ends c.self.view_is c.self.invariant c.clone_receiver-made.ensures.fits c.clone_receiver-made.ensures.does c.tell_a_sender.ensures
+returns-then-not-no_send_waits g c =
+    let valid = valid_shown c.self.invariant in
+    ends c.self.view_is c.self.invariant (added_fits _ _ _ valid c.add_receiver-made.ensures) (clone_added _ _ _ valid (sym c.cursor.ensures ∙ c.in-Some.is) c.add_receiver-made.ensures) c.tell_a_sender.ensures
 
 pub returns-else-not-no_send_waits : goal.returns-else-not-no_send_waits
 returns-else-not-no_send_waits g c =
-    ends c.self.view_is c.self.invariant c.clone_receiver-made.ensures.fits c.clone_receiver-made.ensures.does
-    (sym (told_none c.clone_receiver-made.new.self true (c.no_send_waits.ensures c.if-not-no_send_waits.false)))
+    let valid = valid_shown c.self.invariant in
+    ends c.self.view_is c.self.invariant (added_fits _ _ _ valid c.add_receiver-made.ensures) (clone_added _ _ _ valid (sym c.cursor.ensures ∙ c.in-Some.is) c.add_receiver-made.ensures)
+    (sym (told_none c.add_receiver-made.new.self true (c.no_send_waits.ensures c.if-not-no_send_waits.false)))
 
 pub invariant_of-self : goal.invariant_of-self
 invariant_of-self g c = shown_after (returns-then-not-no_send_waits g c)

@@ -6,7 +6,9 @@ use Rattle.bcast_core.proofs.Tail.{does_sets, ends, shown_after, valid_shown}
 use Rattle.bcast_core.proofs.state.Inner.close.Goals as goal
 
 pub returns : goal.returns
-returns g c = ends c.self.view_is c.self.invariant tt (does_sets (close c.self.inside.parts.control) (ap (λ b. reply.Close (not b)) c.is_closed-was_open.ensures) refl (low_close c.self.inside.parts (valid_shown c.self.invariant).low) c.close.ensures) c.tell_a_sender.ensures
+returns g c =
+    let was_open = ap (λ inside. reply.Close (not inside.parts.control.closed)) c.self-inside.view_is in
+    ends c.self.view_is c.self.invariant tt (does_sets (close c.self.inside.parts.control) was_open refl (low_close c.self.inside.parts (valid_shown c.self.invariant).low) c.close.ensures) c.tell_a_sender.ensures
 
 pub invariant_of-self : goal.invariant_of-self
 invariant_of-self g c = shown_after (returns g c)

@@ -1,20 +1,34 @@
-use Rattle.std.proofs.Common.{true, sym}
-use Rattle.bcast_core.proofs.Tail.{ends, shown_after, told_none, valid_shown}
+use Rattle.std.proofs.Common.{true, sym, ap, ◌∙◌}
+use Rattle.bcast_model.specs.Words.{tell_if_ready}
+use Rattle.bcast_core.proofs.Receivers.{receiver_left, no_receiver_left}
+use Rattle.bcast_core.proofs.Tail.{ends, shown_after, told_none, unchanged, valid_shown}
 use Rattle.bcast_core.proofs.state.Inner.drop_receiver.Goals as goal
 
-pub drop_receiver-requires : goal.drop_receiver-requires
-drop_receiver-requires g c = valid_shown c.self.invariant
+pub remove_receiver-requires : goal.remove_receiver-requires
+remove_receiver-requires g c = valid_shown c.self.invariant
+
+pub returns-then-not-remove_receiver : goal.returns-then-not-remove_receiver
+returns-then-not-remove_receiver g c =
+    let gone = sym c.remove_receiver.ensures.found ∙ c.if-not-remove_receiver.true in
+    unchanged c.self.view_is c.self.invariant (c.remove_receiver.ensures.same c.if-not-remove_receiver.true) tt (no_receiver_left c.args.key (valid_shown c.self.invariant) gone)
+
+pub invariant_of-self : goal.invariant_of-self
+invariant_of-self g c = shown_after (returns-then-not-remove_receiver g c)
 
 pub returns-then-not-no_send_waits : goal.returns-then-not-no_send_waits
-returns-then-not-no_send_waits g c = ends c.self.view_is c.self.invariant tt c.drop_receiver.ensures c.tell_a_sender.ensures
+returns-then-not-no_send_waits g c =
+    let found = sym c.remove_receiver.ensures.found ∙ c.if-not-remove_receiver.false in
+    ends c.self.view_is c.self.invariant tt (receiver_left c.args.key found (c.remove_receiver.ensures.removed c.if-not-remove_receiver.false))
+    (c.tell_a_sender.ensures ∙ ap (tell_if_ready true) c.close_if_deserted.ensures)
 
 pub returns-else-not-no_send_waits : goal.returns-else-not-no_send_waits
 returns-else-not-no_send_waits g c =
-    ends c.self.view_is c.self.invariant tt c.drop_receiver.ensures
-    (sym (told_none c.drop_receiver.new.self true (c.no_send_waits.ensures c.if-not-no_send_waits.false)))
+    let found = sym c.remove_receiver.ensures.found ∙ c.if-not-remove_receiver.false in
+    ends c.self.view_is c.self.invariant tt (receiver_left c.args.key found (c.remove_receiver.ensures.removed c.if-not-remove_receiver.false))
+    (sym (told_none c.close_if_deserted.new.self true (c.no_send_waits.ensures c.if-not-no_send_waits.false)) ∙ ap (tell_if_ready true) c.close_if_deserted.ensures)
 
-pub invariant_of-self : goal.invariant_of-self
-invariant_of-self g c = shown_after (returns-then-not-no_send_waits g c)
+pub invariant_of-self-then-not-no_send_waits : goal.invariant_of-self-then-not-no_send_waits
+invariant_of-self-then-not-no_send_waits g c = shown_after (returns-then-not-no_send_waits g c)
 
 pub invariant_of-self-else-not-no_send_waits : goal.invariant_of-self-else-not-no_send_waits
 invariant_of-self-else-not-no_send_waits g c = shown_after (returns-else-not-no_send_waits g c)
