@@ -45,7 +45,6 @@ pub trait CallJournal<T: Clone>: Sized + Drop {
     /// Records a call that this caller made, and that led from one state of the channel to another.
     fn append<C: CallOf<T>, A: Allocator + Copy>(
         &mut self,
-        rt: &impl Wait,
         caller: &mut Self::Caller,
         call: &Snapshot<C>,
         answer: &C::Answer,
@@ -65,7 +64,6 @@ pub trait CallJournal<T: Clone>: Sized + Drop {
     /// which gave the next of these messages.
     fn append_receives<A: Allocator + Copy>(
         &mut self,
-        rt: &impl Wait,
         caller: &mut Self::Caller,
         key: usize,
         msgs: &[T],
@@ -108,7 +106,6 @@ impl<T: Clone> CallJournal<T> for NoJournal {
     #[inline(always)]
     fn append<C: CallOf<T>, A: Allocator + Copy>(
         &mut self,
-        _rt: &impl Wait,
         _caller: &mut (),
         _call: &Snapshot<C>,
         _answer: &C::Answer,
@@ -119,7 +116,6 @@ impl<T: Clone> CallJournal<T> for NoJournal {
     #[inline(always)]
     fn append_receives<A: Allocator + Copy>(
         &mut self,
-        _rt: &impl Wait,
         _caller: &mut (),
         _key: usize,
         _msgs: &[T],

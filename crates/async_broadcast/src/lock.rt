@@ -212,7 +212,9 @@ impl<T: Clone, R: Wait + Clone, A: Allocator + Copy, J: CallJournal<T>> PortFor<
         let before = std::snapshot::Snapshot::of(&state.inner);
         let start = msgs.len();
         let count = state.inner.receive_many(key, limit, msgs);
-        state.journal.append_receives(&self.rt, caller, key, &msgs[start..], &before, &state.inner);
+        state
+            .journal
+            .append_receives(caller, key, &msgs[start..], &before, &state.inner);
         if let Some(woken) = state.threads.choose_woken(&state.inner) {
             channel.unlock(guard, woken);
         }

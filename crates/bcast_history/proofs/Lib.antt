@@ -1,6 +1,6 @@
 -- the journal
 pub mod Prefixes
-pub mod Adding
+pub mod Chains
 -- runs that go on
 pub mod Appends
 pub mod Waits

@@ -1,25 +1,30 @@
 //! A journal: a list of notes that only grows, so that what is known of a beginning stays true.
 //!
-//! Its word is the number of notes. A note is one exchange of that number for the next one.
-ghost use Rattle.std.specs.Prelude.{◌≡◌, ◌+◌, ◌≤◌, ◌++◌, ◌∷◌, [], length, IfSome};
+//! The notes stand in the log of a book of `logbook`, and exist in proofs alone. Only 0 is written to
+//! the book's word, by exchanges of 0 for 0 whose results are not used: each is a step in which the
+//! log may grow. A note is added with a cell that only the writer can bring home, and names the cell
+//! of the next note, so the notes are a chain that only the writer makes longer. So a note comes right
+//! after those that the writer knows, whatever else came to the log, and `append` can neither fail nor
+//! wait.
+ghost use Rattle.std.specs.Prelude.{◌≡◌, ◌++◌, ◌∷◌, []};
 ghost use mathlib.Core.List.{IsPrefix};
+ghost use Rattle.logbook.specs.Pages.{may_write};
 ghost use Rattle.bcast_history.specs.Book.{head_of};
 
-use crate::rule::{Adding, Counting, NoGain};
-use logbook::{Offer, Seen, Start, Word};
+use crate::rule::{Added, Adding, AtHome, Entry, Making, NoGain};
+use logbook::{Offer, Pen, Seen, Start, Word};
 use std::marker::{Brand, Model, PhantomData};
-use std::sync::Wait;
 
 /// Names a journal in the types of all that belongs to it. A program picks the name, by `Brand`, at
 /// the call of a function over it.
 pub trait Named {
-    ghost use Rattle.logbook.specs.Pages.{Book};
+    ghost use Rattle.bcast_history.specs.Book.{Chain};
 
-    ghost book: { Book };
+    ghost book: { Chain };
 }
 
 impl Named for Brand {
-    ghost book = { record { number = 0; log_name = 0; cells_name = 0 } };
+    ghost book = { record { book = record { number = 0; log_name = 0; cells_name = 0 }; first = 0 } };
 }
 
 /// What a value shows as a note. Each type says it for its values.
@@ -27,35 +32,52 @@ pub trait Notes<X> {
     ghost note: { Self → X };
 }
 
-/// A journal without notes, which has no name yet. A contract sees its book.
+/// A journal without notes, which has no name yet. A contract sees which it is.
 #[derive(Drop)]
 pub struct Journal<X> {
-    head: Word<X, u64, Counting>,
-    seen: Seen<X, u64, Counting>,
+    head: Word<Entry<X>, u64, AtHome>,
+    pen: Pen,
+    seen: Seen<Entry<X>, u64, AtHome>,
 }
 
 impl<X> Model for Journal<X> {
     ghost use Rattle.std.specs.Prelude.{◌≡◌, []};
-    ghost use Rattle.logbook.specs.Pages.{Book, book_coded};
-    ghost use Rattle.bcast_history.specs.Book.{head_of};
+    ghost use Rattle.logbook.specs.Pages.{may_write};
+    ghost use Rattle.bcast_history.specs.Book.{Chain, chain_coded, head_of};
 
-    ghost Value = { Book };
+    ghost Value = { Chain };
 
-    ghost coded = { book_coded };
+    ghost coded = { chain_coded };
 
-    ghost view = { λ j. j.seen.book };
+    ghost view = { λ j. record { book = j.seen.book; first = j.pen.nib.key } };
 
-    ghost invariant = { λ j. (j.seen.log ≡ []) × (j.head ≡ head_of j.seen.book) };
+    ghost invariant = { λ j. (j.head ≡ head_of j.seen.book)
+        × (j.pen.book ≡ j.seen.book)
+        × (j.pen.nib.right ≡ may_write)
+        × (j.seen.log ≡ []) };
+}
+
+// The pen of a new cell, which is away. The exchange adds the cell, and no entry.
+#[inline(always)]
+fn new_pen<X>(head: &Word<Entry<X>, u64, AtHome>, seen: &Seen<Entry<X>, u64, AtHome>) -> Pen
+    requires { head.now ≡ head_of seen.now.book }
+    ensures { (result.book ≡ seen.now.book) × (result.nib.right ≡ may_write) }
+{
+    let mut seen = seen.again();
+    let mut offer: Offer<Entry<X>, u64, AtHome, NoGain> = seen.plain::<NoGain, (), Making>(&());
+    let mut pen = seen.no_pen();
+    head.compare_exchange::<Making, NoGain>(0, 0, &mut seen, &mut offer, &mut pen);
+    let _cell: Word<Entry<X>, u64, AtHome> = Word::tracked(0, &mut pen);
+    pen
 }
 
 impl<X> Journal<X> {
     /// A new journal. Allocates nothing.
     pub fn new() -> Journal<X> {
         let (seen, mut first, _second) = Seen::open(Start::alone(), 0, 0);
-        Journal {
-            head: Word::tracked(0, &mut first),
-            seen,
-        }
+        let head = Word::tracked(0, &mut first);
+        let pen = new_pen(&head, &seen);
+        Journal { head, pen, seen }
     }
 
     /// The journal's writer, under the journal's name. It has no note yet.
@@ -63,16 +85,16 @@ impl<X> Journal<X> {
         requires { self ≡ J.book }
         ensures { result ≡ [] }
     {
-        let Journal { head, seen } = self;
-        let all = Prefix {
-            seen,
+        let Journal { head, pen, seen } = self;
+        let none = Prefix {
+            seen: seen.again(),
             of: PhantomData,
         };
         Writer {
             head,
-            count: 0,
-            none: all.same(),
-            all,
+            pen,
+            seen,
+            none,
         }
     }
 }
@@ -80,18 +102,19 @@ impl<X> Journal<X> {
 /// A beginning of a journal, which has no bytes. A contract sees its notes.
 #[derive(Drop)]
 pub struct Prefix<X, J: Named> {
-    seen: Seen<X, u64, Counting>,
+    seen: Seen<Entry<X>, u64, AtHome>,
     of: PhantomData<J>,
 }
 
 impl<X, J: Named> Model for Prefix<X, J> {
     ghost use Rattle.std.specs.Prelude.{◌≡◌, List};
+    ghost use Rattle.bcast_history.specs.Book.{notes_of};
 
     ghost Value = { List X };
 
-    ghost view = { λ p. p.seen.log };
+    ghost view = { λ p. notes_of J.book.first p.seen.log };
 
-    ghost invariant = { λ p. p.seen.book ≡ J.book };
+    ghost invariant = { λ p. p.seen.book ≡ J.book.book };
 }
 
 impl<X, J: Named> Prefix<X, J> {
@@ -115,60 +138,31 @@ impl<X, J: Named> Prefix<X, J> {
     {
         self.seen.learn(&other.seen);
     }
-
-    // Adds a note to these, and returns how many there are then, if these are `count` notes and
-    // all that there are.
-    #[inline(always)]
-    fn add<Y: Notes<X>>(
-        &mut self,
-        head: &Word<X, u64, Counting>,
-        count: u64,
-        about: &Y,
-    ) -> Option<u64>
-        requires head { head.now ≡ head_of J.book }
-        requires count { count ≤ length self.old }
-        ensures added { IfSome result (λ next. self.new ≡ self.old ++ Y.note about.now ∷ []) }
-        ensures all { IfSome result (λ next. length self.old ≡ count) }
-        ensures next { IfSome result (λ next. next ≡ count + 1) }
-    {
-        let next = count.checked_add(1)?;
-        let mut offer: Offer<X, u64, Counting, NoGain> = self
-            .seen
-            .plain::<NoGain, Y, Adding>(about);
-        let mut pen = self.seen.no_pen();
-        let found = head.compare_exchange::<Adding, NoGain>(
-            count,
-            next,
-            &mut self.seen,
-            &mut offer,
-            &mut pen,
-        );
-        if found != count {
-            return None;
-        }
-        Some(next)
-    }
 }
 
 /// Writes a journal: only it adds notes. A contract sees all notes so far.
 #[derive(Drop)]
 pub struct Writer<X, J: Named> {
-    head: Word<X, u64, Counting>,
-    count: u64,
-    all: Prefix<X, J>,
+    head: Word<Entry<X>, u64, AtHome>,
+    pen: Pen,
+    seen: Seen<Entry<X>, u64, AtHome>,
     none: Prefix<X, J>,
 }
 
 impl<X, J: Named> Model for Writer<X, J> {
-    ghost use Rattle.std.specs.Prelude.{◌≡◌, List, [], length};
-    ghost use Rattle.bcast_history.specs.Book.{head_of};
+    ghost use Rattle.std.specs.Prelude.{◌≡◌, List, []};
+    ghost use Rattle.logbook.specs.Pages.{may_write};
+    ghost use Rattle.bcast_history.specs.Book.{head_of, notes_of, turn_of};
 
     ghost Value = { List X };
 
-    ghost view = { λ w. w.all };
+    ghost view = { λ w. notes_of J.book.first w.seen.log };
 
-    ghost invariant = { λ w. (w.head ≡ head_of J.book)
-        × (w.count ≡ length w.all)
+    ghost invariant = { λ w. (w.head ≡ head_of J.book.book)
+        × (w.seen.book ≡ J.book.book)
+        × (w.pen.book ≡ J.book.book)
+        × (w.pen.nib.right ≡ may_write)
+        × (w.pen.nib.key ≡ turn_of J.book.first w.seen.log)
         × (w.none ≡ []) };
 }
 
@@ -176,23 +170,30 @@ impl<X, J: Named> Writer<X, J> {
     /// Appends what `about` shows to all notes so far, which `known` knows afterwards. What it knew
     /// before is a beginning of them.
     ///
-    /// It never waits: only the writer adds notes, so there are as many as it counted, and fewer
-    /// than 2^64. No clause says so.
+    /// It costs two exchanges: one adds the cell of the next note, and one adds this note.
     #[inline(always)]
-    pub fn append<Y: Notes<X>>(&mut self, rt: &impl Wait, known: &mut Prefix<X, J>, about: &Y)
+    pub fn append<Y: Notes<X>>(&mut self, known: &mut Prefix<X, J>, about: &Y)
         ensures appended { self.new ≡ self.old ++ Y.note about.now ∷ [] }
         ensures knows { known.new ≡ self.new }
         ensures before { IsPrefix known.old self.old }
     {
-        let mut all = self.all.same();
-        all.learn(known);
-        let Some(count) = all.add(&self.head, self.count, about) else {
-            wait_forever(rt);
-            unreachable!()
-        };
-        self.count = count;
-        *known = all.same();
-        self.all = all;
+        let next = new_pen(&self.head, &self.seen);
+        let mut seen = self.seen.again();
+        seen.learn(&known.seen);
+        let mut offer: Offer<Entry<X>, u64, AtHome, NoGain> = seen.plain::<
+            NoGain,
+            Added<Y>,
+            Adding,
+        >(&Added {
+            about,
+            turn: &self.pen,
+            next: &next,
+        });
+        self.head
+            .compare_exchange::<Adding, NoGain>(0, 0, &mut seen, &mut offer, &mut self.pen);
+        self.pen = next;
+        known.seen = seen.again();
+        self.seen = seen;
     }
 
     /// All notes so far, as a beginning of the journal.
@@ -200,7 +201,10 @@ impl<X, J: Named> Writer<X, J> {
     pub fn prefix(&self) -> Prefix<X, J>
         ensures { result ≡ self.now }
     {
-        self.all.same()
+        Prefix {
+            seen: self.seen.again(),
+            of: PhantomData,
+        }
     }
 
     /// The beginning without a note.
@@ -210,14 +214,4 @@ impl<X, J: Named> Writer<X, J> {
     {
         self.none.same()
     }
-}
-
-// Doesn't return.
-#[cold]
-#[inline(never)]
-pub(crate) fn wait_forever(rt: &impl Wait)
-    ensures { ⊥ }
-{
-    for _ in rt.forever() {}
-    unreachable!()
 }

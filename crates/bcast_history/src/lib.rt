@@ -14,7 +14,7 @@
 //! start on, or told how many it missed (`Takes`). A clone starts where its original reads on, a new
 //! receiver at the end.
 //!
-//! No step is stored: the journal is a word, the number of notes, and what contracts know of them.
+//! No step is stored: the journal is a word, which stays 0, and what contracts know of its notes.
 //! One `Writer` knows them all, and lies behind the lock; a `Prefix` has no bytes, and knows a
 //! beginning.
 //!

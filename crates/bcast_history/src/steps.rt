@@ -5,7 +5,7 @@ ghost use Rattle.bcast_model.specs.Words.{IsValid};
 ghost use Rattle.bcast_history.specs.Batch.{received};
 ghost use Rattle.bcast_history.specs.History.{start_of, end_of};
 
-use crate::journal::{Journal, Notes, Writer, wait_forever};
+use crate::journal::{Journal, Notes, Writer};
 use crate::step::Step;
 use crate::tracker::{Channel, Seen, Tracker, next_in};
 use async_broadcast::{CallJournal, Wake};
@@ -84,7 +84,6 @@ impl<'a, T> Notes<Step<T>> for ShownReceive<'a, T> {
 // Appends a receive by this receiver for each of these messages, in their order.
 fn append_each<T: Clone, J: Channel>(
     writer: &mut Writer<Step<T>, J>,
-    rt: &impl Wait,
     known: &mut Seen<T, J>,
     key: usize,
     msgs: &[T],
@@ -95,7 +94,7 @@ fn append_each<T: Clone, J: Channel>(
     ensures same { length msgs.now ≡ 0 → known.new ≡ known.old }
 {
     for msg in msgs {
-        writer.append(rt, known, &ShownReceive { key, msg });
+        writer.append(known, &ShownReceive { key, msg });
     }
 }
 
@@ -132,7 +131,6 @@ impl<T: Clone, J: Channel> CallJournal<T> for StepJournal<T, J> {
     #[inline(always)]
     fn append<C: CallOf<T>, A: Allocator + Copy>(
         &mut self,
-        rt: &impl Wait,
         caller: &mut Tracker<T, J>,
         call: &Snapshot<C>,
         answer: &C::Answer,
@@ -144,7 +142,7 @@ impl<T: Clone, J: Channel> CallJournal<T> for StepJournal<T, J> {
             answer,
             messages: PhantomData,
         };
-        self.writer.append(rt, &mut caller.seen, &step);
+        self.writer.append(&mut caller.seen, &step);
         caller.end = after.end_number();
         caller.closed = after.is_closed();
         let next = next_in(after, caller.key);
@@ -153,7 +151,6 @@ impl<T: Clone, J: Channel> CallJournal<T> for StepJournal<T, J> {
 
     fn append_receives<A: Allocator + Copy>(
         &mut self,
-        rt: &impl Wait,
         caller: &mut Tracker<T, J>,
         key: usize,
         msgs: &[T],
@@ -163,10 +160,20 @@ impl<T: Clone, J: Channel> CallJournal<T> for StepJournal<T, J> {
         if msgs.is_empty() {
             return;
         }
-        append_each(&mut self.writer, rt, &mut caller.seen, key, msgs);
+        append_each(&mut self.writer, &mut caller.seen, key, msgs);
         caller.end = after.end_number();
         caller.closed = after.is_closed();
         let behind = next_in(after, caller.key);
         caller.next = behind;
     }
+}
+
+// Doesn't return.
+#[cold]
+#[inline(never)]
+fn wait_forever(rt: &impl Wait)
+    ensures { ⊥ }
+{
+    for _ in rt.forever() {}
+    unreachable!()
 }

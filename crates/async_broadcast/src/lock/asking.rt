@@ -62,7 +62,7 @@ impl<T: Clone, R: Wait + Clone, A: Allocator + Copy, J: CallJournal<T>> Ask<T, J
         let answer = call.make(&mut state.inner);
         state
             .journal
-            .append(&self.rt, caller, &asked, &answer, &before, &state.inner);
+            .append(caller, &asked, &answer, &before, &state.inner);
         if let Some(woken) = state.threads.choose_woken(&state.inner) {
             channel.unlock(guard, woken);
         }
@@ -104,7 +104,7 @@ impl<T: Clone, R: Wait + Clone, A: Allocator + Copy, J: CallJournal<T>> Ask<T, J
         let answer = poll_for(&mut state.inner, call, task, cx)?;
         state
             .journal
-            .append(&self.rt, caller, &asked, &answer, &before, &state.inner);
+            .append(caller, &asked, &answer, &before, &state.inner);
         if let Some(woken) = state.threads.choose_woken(&state.inner) {
             channel.unlock(guard, woken);
         }
@@ -127,7 +127,7 @@ impl<T: Clone, R: Wait + Clone, A: Allocator + Copy, J: CallJournal<T>> Ask<T, J
         let notice = state.inner.take_future(key);
         state
             .journal
-            .append(&self.rt, caller, &asked, &(), &before, &state.inner);
+            .append(caller, &asked, &(), &before, &state.inner);
         // The lock is released before the notice is handed on.
         match state.threads.choose_woken(&state.inner) {
             Some(woken) => channel.unlock(guard, woken),

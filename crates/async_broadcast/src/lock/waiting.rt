@@ -74,7 +74,7 @@ impl<T: Clone, R: Wait + Clone, A: Allocator + Copy, J: CallJournal<T>> Lock<T, 
         let answer = call.make(&mut state.inner);
         state
             .journal
-            .append(&self.rt, caller, &made, &answer, &before, &state.inner);
+            .append(caller, &made, &answer, &before, &state.inner);
         if !waits || !attempt.must_wait(&answer) {
             if let Some(woken) = state.threads.choose_woken(&state.inner) {
                 channel.unlock(guard, woken);
@@ -92,7 +92,7 @@ impl<T: Clone, R: Wait + Clone, A: Allocator + Copy, J: CallJournal<T>> Lock<T, 
         let answer = call.make(&mut state.inner);
         state
             .journal
-            .append(&self.rt, caller, &made, &answer, &before, &state.inner);
+            .append(caller, &made, &answer, &before, &state.inner);
         attempt.end(&mut state.threads, waiting, &answer);
         if let Some(woken) = state.threads.choose_woken(&state.inner) {
             channel.unlock(guard, woken);

@@ -1,0 +1,114 @@
+-- The two steps keep the rule of the book, and what an entry does to the chains of its log.
+use Rattle.std.proofs.Common.{◌≡◌, ◌≢◌, ℕ, zero, suc, ◌<◌, ◌==◌, Bool, true, false, Option, None, Some, List, [], ◌∷◌, ◌++◌, length, slice_set, refl, ap, sym, ◌∙◌, subst, arith, inl}
+use Rattle.std.specs.List.{All, cons_option}
+use Rattle.std.proofs.lemmas.List.{append-nil, length-set, get_or-set_same, get_or_append_left}
+use Rattle.std.proofs.lemmas.List.Elements.{All-append, All-cons, All-nil, All-head, All-tail}
+use Rattle.std.proofs.lemmas.Bool.Decides.{nat_tests}
+use mathlib.Core.List.{IsPrefix}
+use prog.Atomic.{either}
+use Rattle.logbook.specs.Pages.{Cell, cell, Nib, no_nib, may_write, step, gives, adds, Moves}
+use Rattle.bcast_history.specs.declared.rule.Entry.{Entry}
+use Rattle.bcast_history.specs.Book.{IsHome, notes_of, turn_of, IsKept, Lacks, Makes, Adds}
+
+-- what is at home is among the cells, and stays at home
+home_in : (cells : List Cell) (key : ℕ) → IsHome cells key → key < length cells
+home_in [] key home = absurd (cc home)
+home_in (c ∷ cs) zero home = omega arith
+home_in (c ∷ cs) (suc key) home = let rest = home_in cs key home in omega arith
+
+home_stays : (cells : List Cell) (set n key : ℕ) → IsHome cells key → IsHome (slice_set cells set (n, true)) key
+home_stays [] set n key home = home
+home_stays (c ∷ cs) zero n zero home = refl
+home_stays (c ∷ cs) zero n (suc key) home = home
+home_stays (c ∷ cs) (suc set) n zero home = home
+home_stays (c ∷ cs) (suc set) n (suc key) home = home_stays cs set n key home
+
+home_more : (cells : List Cell) (new : Cell) (key : ℕ) → IsHome cells key → IsHome (cells ++ new ∷ []) key
+home_more cells new key home = ap (λ (c : Cell). c.1) (get_or_append_left cells (new ∷ []) (0, false) key (home_in cells key home)) ∙ home
+
+module _ {X : Type 0} where
+  abbrev Home : List Cell → Entry X → Type 0
+  Home cells e = IsHome cells e.key
+
+  abbrev Other : ℕ → Entry X → Type 0
+  Other key e = e.key ≢ key
+
+  abbrev shown : List (Entry X) → List (Entry X)
+  shown log = []
+
+  abbrev moved : List (Entry X) → List (Entry X) → ℕ → Type 0
+  moved before after answer = Unit {0}
+
+  -- the step that adds a cell
+  pub makes_moves : (seen : List (Entry X)) (ask : Entry X)
+      → Moves IsKept shown moved 0 (seen, (no_nib, None)) (λ n. either (n == 0) 0 n) (Makes (step 0 0 0 ask) (seen, (no_nib, None)))
+  makes_moves seen ask cells log kept before away =
+      let found = (cell cells 0).0 in
+      let now = either (found == 0) 0 found in
+      let set = slice_set cells 0 (now, true) in
+      let stays : (key : ℕ) → IsHome cells key → IsHome (set ++ (0, false) ∷ []) key = λ key home. home_more set (0, false) key (home_stays cells 0 now key home) in
+      let all : All (Home (set ++ (0, false) ∷ [])) log = λ k d less. stays _ (kept.1 k d less) in
+      (home_in cells 0 kept.0, kept.0, (adds, [], None, tt, (stays 0 kept.0, rw (append-nil log) all), inl (refl, refl), refl))
+
+  -- the step that adds an entry: the cell that the pen brings home was away, so no entry had brought it home
+  pub adds_moves : (seen : List (Entry X)) (pen : Nib) (ask : Entry X) → pen.right ≡ may_write → ask.key ≡ pen.key
+      → Moves IsKept shown moved 0 (seen, (pen, None)) (λ n. either (n == 0) 0 n) (Adds (step 0 0 0 ask) (seen, (pen, None)))
+  adds_moves seen pen ask right same cells log kept before away =
+      let found = (cell cells 0).0 in
+      let now = either (found == 0) 0 found in
+      let set = slice_set cells 0 (now, true) in
+      let all = slice_set set pen.key (pen.value, true) in
+      let here = away right in
+      let stays : (key : ℕ) → IsHome cells key → IsHome all key = λ key home. home_stays set pen.key pen.value key (home_stays cells 0 now key home) in
+      let own : IsHome all ask.key = rw same (ap (λ (c : Cell). c.1) (get_or-set_same set pen.key (pen.value, true) (0, false) (omega (arith, here.0, length-set cells 0 (now, true))))) in
+      let each = All-append (Home all) log (ask ∷ []) (λ k d less. stays _ (kept.1 k d less)) (All-cons (Home all) ask [] own (All-nil (Home all))) in
+      let lacks : Lacks ask.key log = λ k d less at. let home = subst (IsHome cells) (at ∙ same) (kept.1 k d less) in absurd (cc (home, here.1)) in
+      (home_in cells 0 kept.0, kept.0, (gives, ask ∷ [], None, right, (stays 0 kept.0, each), inl (refl, refl), (log, before, lacks, refl)))
+
+  -- a chain goes on in the entries that come after a log
+  abbrev GoesOn : ℕ → List (Entry X) → List (Entry X) → Type 0
+  GoesOn key log more = (notes_of key (log ++ more) ≡ notes_of key log ++ notes_of (turn_of key log) more) × (turn_of key (log ++ more) ≡ turn_of (turn_of key log) more)
+
+  cons_more : (note : Option X) (xs ys : List X) → cons_option note (xs ++ ys) ≡ cons_option note xs ++ ys
+  cons_more None xs ys = refl
+  cons_more (Some n) xs ys = refl
+
+  goes_at : (key : ℕ) (e : Entry X) (es more : List (Entry X)) → GoesOn e.next es more → GoesOn key es more → (b : Bool) → (e.key == key) ≡ b → GoesOn key (e ∷ es) more
+  goes_at key e es more there here true is = rw is (ap (λ ns. cons_option e.note ns) there.0 ∙ cons_more e.note (notes_of e.next es) (notes_of (turn_of e.next es) more), there.1)
+  goes_at key e es more there here false is = rw is here
+
+  goes_on : (key : ℕ) (log more : List (Entry X)) → GoesOn key log more
+  goes_on key [] more = (refl, refl)
+  goes_on key (e ∷ es) more = goes_at key e es more (goes_on e.next es more) (goes_on key es more) (e.key == key) refl
+
+  -- so of two logs of which one begins the other the notes do, too
+  pub notes_begin : (first : ℕ) (log longer : List (Entry X)) → IsPrefix log longer → IsPrefix (notes_of first log) (notes_of first longer)
+  notes_begin first log longer p = (notes_of (turn_of first log) p.0, sym (goes_on first log p.0).0 ∙ ap (λ es. notes_of first es) p.1)
+
+  -- while no entry brings home the cell whose turn it is, nothing comes to the chain
+  lacks_chain : (key : ℕ) (log : List (Entry X)) → Lacks key log → (notes_of key log ≡ []) × (turn_of key log ≡ key)
+  lacks_chain key [] lacks = (refl, refl)
+  lacks_chain key (e ∷ es) lacks =
+      let other : e.key ≢ key = All-head (Other key) e es lacks in
+      let is : (e.key == key) ≡ false = grind (arith, nat_tests) in
+      rw is (lacks_chain key es (All-tail (Other key) e es lacks))
+
+  lacks_after : (key : ℕ) (log more : List (Entry X)) → Lacks key (log ++ more) → Lacks key more
+  lacks_after key [] more lacks = lacks
+  lacks_after key (e ∷ es) more lacks = lacks_after key es more (All-tail (Other key) e (es ++ more) lacks)
+
+  pub as_it_was : (first : ℕ) (log longer : List (Entry X)) → IsPrefix log longer → Lacks (turn_of first log) longer
+      → (notes_of first longer ≡ notes_of first log) × (turn_of first longer ≡ turn_of first log)
+  as_it_was first log longer p lacks =
+      let on = goes_on first log p.0 in
+      let none = lacks_chain (turn_of first log) p.0 (lacks_after (turn_of first log) log p.0 (subst (Lacks (turn_of first log)) (sym p.1) lacks)) in
+      rw (← p.1) (on.0 ∙ (ap (λ ns. notes_of first log ++ ns) none.0 ∙ append-nil (notes_of first log)), on.1 ∙ none.1)
+
+  -- an entry that brings it home adds its note, and names the next one
+  pub one_more : (first : ℕ) (log longer after : List (Entry X)) (e : Entry X) → IsPrefix log longer → Lacks e.key longer → e.key ≡ turn_of first log → after ≡ longer ++ e ∷ []
+      → (notes_of first after ≡ notes_of first log ++ cons_option e.note []) × (turn_of first after ≡ e.next)
+  one_more first log longer after e p lacks turn is =
+      let was = as_it_was first log longer p (subst (λ key. Lacks key longer) turn lacks) in
+      let here : (e.key == turn_of first longer) ≡ true = grind (arith, nat_tests) in
+      let on = goes_on first longer (e ∷ []) in
+      rw is (on.0 ∙ rw (here, was.0) refl, on.1 ∙ rw here refl)
