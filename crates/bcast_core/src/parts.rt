@@ -1,6 +1,5 @@
 //! The parts of a channel's state, and the steps that its calls are made of.
-ghost use Rattle.std.specs.Prelude.{◌≡◌, ◌==◌, ◌↔◌, false, true, length};
-ghost use Rattle.std.specs.FinMap.{len};
+ghost use Rattle.std.specs.Prelude.{◌≡◌, ◌==◌, false, true};
 
 use bcast_model::listener::Kind;
 use bcast_store::Store;

@@ -47,6 +47,7 @@ impl<T: Drop> CallOf<T> for Count {
 
 impl<T: Clone> AtOnce<T> for Count {
     #[inline(always)]
+    #[tactic(auto, using(crate::proofs::Accessors::answers_read))]
     fn make<N: Notice, A: Allocator + Copy>(self, inner: &mut Inner<T, N, A>) -> usize {
         inner.invariant_holds();
         match self {

@@ -1,5 +1,5 @@
-//! Sending, and the settings that make room.
-ghost use Rattle.std.specs.Prelude.{◌≡◌, ◌==◌, ◌^◌, ◌+◌, ◌<◌, ◌≤◌, [], ◌∷◌, ◌++◌, false, length, if◌then◌else◌};
+//! Sending, and the capacity, which may make room.
+ghost use Rattle.std.specs.Prelude.{◌≡◌, ◌==◌, ◌^◌, ◌+◌, ◌<◌, ◌≤◌, ◌∷◌, false, length, if◌then◌else◌};
 ghost use Rattle.std.specs.Prelude.{Ok, Err, IfOk, IfErr, OnOk, OnErr, Option, is_ok, not, true};
 ghost use Rattle.std.specs.FinMap.{len};
 ghost use Rattle.bcast_model.specs.declared.error.TrySendError.{TrySendError};
@@ -14,7 +14,7 @@ use bcast_waiting::notice::{MakesNotice, Notice};
 use std::alloc::{AllocError, Allocator};
 
 impl<T: Drop, N: Notice, A: Allocator + Copy> Parts<T, N, A> {
-    ghost use Rattle.bcast_model.specs.Words.{has_place, place_answered, last_end, tell_if_ready};
+    ghost use Rattle.bcast_model.specs.Words.{has_place, place_answered, tell_if_ready};
     ghost use Rattle.bcast_model.specs.Words.{must_wait, IsValidView, settle, with_message};
     ghost use Rattle.bcast_model.specs.Words.{with_messages, try_broadcast_reply, offer};
     ghost use Rattle.bcast_model.specs.Words.{attempt_send_reply, poll_send, free_room};
