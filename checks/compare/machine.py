@@ -76,7 +76,7 @@ def step(channel, call, choice):
     value = CHANGES[name](after, choice, *call[1:])
     if value is None and takes_id(name):
         return None
-    # 'Telling sends': sends may be ready that were not before.
+    # 'Who waits': sends may be ready that were not before.
     if name != 'PollSend' and after.sends_are_ready() and not were_ready:
         after.sends.tell_first()
     return ((name,) if value is None else (name, value)), after
