@@ -23,10 +23,6 @@ pub struct Channel<A: Allocator> {
 
 impl<A: Allocator + Copy> Channel<A> {
     /// A new channel of this capacity, whose one receiver is named `r1`.
-    ///
-    /// # Errors
-    ///
-    /// - `AllocError`: there is no memory for it.
     pub fn open(alloc: A, capacity: usize) -> Result<Self, AllocError>
         requires { 0 < capacity }
         ensures { IfOk result (λ channel. IsNew (named_of channel) capacity) }
@@ -38,13 +34,6 @@ impl<A: Allocator + Copy> Channel<A> {
     }
 
     /// Does what `line` asks for, and writes the answer.
-    ///
-    /// # Errors
-    ///
-    /// - `NotACall`: the line asks for nothing, since it makes a channel, or because of its names.
-    ///   Nothing was done.
-    /// - `NoMemory`: there was no memory for the call, a batch or a new name. Nothing was written.
-    /// - `OutputFailed`: a write failed.
     pub fn run<W: Write>(&mut self, alloc: A, line: &Line<'_>, output: &mut W) -> Result<(), Fault>
         requires { IsInForm line.now }
         ensures ok { OnOk result ((answer : List ℕ)

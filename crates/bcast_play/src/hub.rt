@@ -33,13 +33,6 @@ struct HubSession<A: Allocator, S: BuildHasher> {
 
 impl<A: Allocator + Copy, S: BuildHasher> HubSession<A, S> {
     /// Makes the request that `line` asks for, and writes its answer.
-    ///
-    /// # Errors
-    ///
-    /// - `NotACall`: the line asks for no request, because of its followers' names, or its topic's
-    ///   name is not valid. Nothing was done.
-    /// - `NoMemory`: there was no memory for the request or a new name. Nothing was written.
-    /// - `OutputFailed`: a write failed.
     fn run<W: Write>(&mut self, line: Line<'_>, output: &mut W) -> Result<(), Fault>
         requires { IsInForm line }
         ensures ok { OnOk result ((text : List ℕ)

@@ -17,10 +17,6 @@ pub(crate) struct Spares<T> {
 
 impl<T: Copy> Spares<T> {
     /// The copies that are needed for this call.
-    ///
-    /// # Errors
-    ///
-    /// - `AllocError`: no memory for a copy of the call's list.
     pub(crate) fn of(call: &Call<T>) -> Result<Spares<T>, AllocError>
         ensures stored { IfOk result (λ spares. spares.stored ≡ call.now) }
         ensures given { IfOk result (λ spares. spares.given ≡ call.now) }

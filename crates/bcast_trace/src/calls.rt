@@ -25,10 +25,6 @@ impl<A: Allocator + Copy> Calls<A> {
     }
 
     /// Puts `call`, whose text is `text`, last.
-    ///
-    /// # Errors
-    ///
-    /// - `AllocError`: there is no memory for them.
     pub fn push(&mut self, alloc: A, text: &str, call: Call<u64>) -> Result<(), AllocError>
         requires { HasPositiveCapacity call }
     {

@@ -4,11 +4,10 @@ use crate::input::{TakeLine, take_lines};
 use crate::line::{Line, read_line};
 use crate::opening::{Opening, read_opening};
 use crate::reply::write_answer;
-use bcast_core::{Reply, run};
+use bcast_core::run;
 use bcast_text::ending::Ending;
 use bcast_text::input::Fault;
 use std::alloc::{Allocator, Global};
-use std::io;
 use std::io::{Read, Write};
 
 /// The channel of a trace, and its calls, of which none is made yet.
@@ -22,23 +21,8 @@ struct Collector<A: Allocator> {
 }
 
 impl<A: Allocator + Copy> Collector<A> {
-    /// A collector before line 1.
-    fn new(alloc: A, heap: Global) -> Self {
-        Collector {
-            alloc,
-            heap,
-            opening: None,
-            calls: Calls::new(alloc),
-        }
-    }
-
-    /// Makes the calls as one list, and writes line 1 and each call with its reply.
-    ///
-    /// # Errors
-    ///
-    /// - `NotACall`: line 1 was not read.
-    /// - `NoMemory`: there is no memory for the channel or for the replies. No call was made.
-    /// - `OutputFailed`: a write failed.
+    /// Makes the calls as one list, and writes line 1 and each call with its reply. `NotACall`: line
+    /// 1 was not read.
     fn play<W: Write>(self, output: &mut W) -> Result<(), Fault> {
         let opening = self.opening.ok_or(Fault::NotACall)?;
         let Calls { list, texts } = self.calls;
@@ -46,7 +30,10 @@ impl<A: Allocator + Copy> Collector<A> {
             return Err(Fault::NoMemory);
         };
         writeln!(output, "open {} {}", opening.capacity, opening.first)?;
-        Ok(write_answers(texts.as_slice(), made.replies.as_slice(), output)?)
+        for (text, reply) in texts.as_slice().iter().zip(made.replies.as_slice()) {
+            write_answer(text.as_str(), reply, output)?;
+        }
+        Ok(())
     }
 }
 
@@ -64,18 +51,6 @@ impl<A: Allocator + Copy> TakeLine for Collector<A> {
     }
 }
 
-/// Writes the line of each call.
-fn write_answers<B: Allocator, W: Write>(
-    texts: &[String<B>],
-    replies: &[Reply<u64>],
-    output: &mut W,
-) -> io::Result<()> {
-    for (text, reply) in texts.iter().zip(replies) {
-        write_answer(text.as_str(), reply, output)?;
-    }
-    Ok(())
-}
-
 /// Plays the calls of the trace that `input` holds as one list, after all of it is read, and writes
 /// line 1 and each call with the reply that `run` gives. Nothing is written if a line is out of
 /// form.
@@ -88,7 +63,12 @@ pub fn list<A: Allocator + Copy, R: Read + Drop, W: Write>(
     input: R,
     output: &mut W,
 ) -> Ending {
-    let mut collector = Collector::new(alloc, heap);
+    let mut collector = Collector {
+        alloc,
+        heap,
+        opening: None,
+        calls: Calls::new(alloc),
+    };
     let ending = take_lines(alloc, input, output, &mut collector);
     if ending != Ending::Done {
         return ending;

@@ -31,17 +31,9 @@ pub fn read_line(alloc: Global, line: &str) -> Result<Option<Line<'_>>, AllocErr
     if line.starts_with('=') {
         return Ok(Some(Line::View));
     }
-    let text = before_arrow(line);
+    let text = line.split_once(" -> ").map_or(line, |(text, _)| text);
     match read_call(alloc, text)? {
         Some(call) => Ok(Some(Line::Call(text, call))),
         None => Ok(None),
-    }
-}
-
-/// The line up to ` -> `, or the whole of it.
-fn before_arrow(line: &str) -> &str {
-    match line.split_once(" -> ") {
-        Some((text, _)) => text,
-        None => line,
     }
 }

@@ -17,18 +17,10 @@ pub struct Opening {
 /// The channel that `line` opens. None: it is not `open CAP FIRST` of a possible channel.
 pub fn read_opening(line: &str) -> Option<Opening> {
     let (word, arguments) = line.split_once(' ')?;
-    match word {
-        "open" => channel(arguments),
-        _ => None,
-    }
-}
-
-/// The arguments of `open`: the capacity, and the number of the first message.
-fn channel(arguments: &str) -> Option<Opening> {
     let (capacity, first) = arguments.split_once(' ')?;
     let capacity = positive(capacity)? as usize;
     let first = number(first)?;
-    if first == u64::MAX {
+    if word != "open" || first == u64::MAX {
         return None;
     }
     Some(Opening { capacity, first })

@@ -5,10 +5,6 @@ use std::io;
 use std::io::Write;
 
 /// Writes the view line of what `seen` holds.
-///
-/// # Errors
-///
-/// - The error of a write that failed.
 pub fn write_view<B: Allocator, W: Write>(
     seen: &Snapshot<u64, B>,
     output: &mut W,
@@ -27,7 +23,9 @@ fn write_messages<B: Allocator, W: Write>(
     output: &mut W,
 ) -> io::Result<()> {
     write!(output, "= front={} end={} queue=[", seen.front, seen.end)?;
-    write_queue(seen.queue.as_slice(), output)?;
+    for (index, msg) in seen.queue.as_slice().iter().enumerate() {
+        write!(output, "{}{msg}", comma(index))?;
+    }
     output.write_all(b"]")
 }
 
@@ -37,7 +35,9 @@ fn write_handles<B: Allocator, W: Write>(
     output: &mut W,
 ) -> io::Result<()> {
     output.write_all(b" C={")?;
-    write_cursors(seen.cursors.as_slice(), output)?;
+    for (index, (key, cursor)) in seen.cursors.as_slice().iter().enumerate() {
+        write!(output, "{}{key}:{cursor}", comma(index))?;
+    }
     write!(
         output,
         "}} senders={} inactive={}",
@@ -62,14 +62,18 @@ fn write_settings<B: Allocator, W: Write>(
 /// The places of pending sends.
 fn write_places<B: Allocator, W: Write>(seen: &Snapshot<u64, B>, output: &mut W) -> io::Result<()> {
     output.write_all(b" S={")?;
-    write_list(seen.places.as_slice(), output)?;
+    for (index, place) in seen.places.as_slice().iter().enumerate() {
+        write!(output, "{}{place}", comma(index))?;
+    }
     output.write_all(b"}")
 }
 
 /// The sends that wait.
 fn write_sends<B: Allocator, W: Write>(seen: &Snapshot<u64, B>, output: &mut W) -> io::Result<()> {
     output.write_all(b" WS=[")?;
-    write_list(seen.waiting_sends.ids.as_slice(), output)?;
+    for (index, place) in seen.waiting_sends.ids.as_slice().iter().enumerate() {
+        write!(output, "{}{place}", comma(index))?;
+    }
     write!(output, "]/{}", seen.waiting_sends.told)
 }
 
@@ -79,56 +83,15 @@ fn write_receives<B: Allocator, W: Write>(
     output: &mut W,
 ) -> io::Result<()> {
     output.write_all(b" WR=[")?;
-    write_pairs(seen.waiting_receives.ids.as_slice(), output)?;
+    for (index, (key, kind)) in seen.waiting_receives.ids.as_slice().iter().enumerate() {
+        write!(output, "{}{key}{}", comma(index), letter(*kind))?;
+    }
     writeln!(output, "]/{}", seen.waiting_receives.told)
 }
 
-/// The messages, with a comma between two of them.
-fn write_queue<W: Write>(numbers: &[u64], output: &mut W) -> io::Result<()> {
-    let Some((first, others)) = numbers.split_first() else {
-        return Ok(());
-    };
-    write!(output, "{first}")?;
-    for number in others {
-        write!(output, ",{number}")?;
-    }
-    Ok(())
-}
-
-/// The places of a list, with a comma between two of them.
-fn write_list<W: Write>(numbers: &[usize], output: &mut W) -> io::Result<()> {
-    let Some((first, others)) = numbers.split_first() else {
-        return Ok(());
-    };
-    write!(output, "{first}")?;
-    for number in others {
-        write!(output, ",{number}")?;
-    }
-    Ok(())
-}
-
-/// Each receiver's key and cursor.
-fn write_cursors<W: Write>(cursors: &[(usize, u64)], output: &mut W) -> io::Result<()> {
-    let Some(((key, cursor), others)) = cursors.split_first() else {
-        return Ok(());
-    };
-    write!(output, "{key}:{cursor}")?;
-    for (key, cursor) in others {
-        write!(output, ",{key}:{cursor}")?;
-    }
-    Ok(())
-}
-
-/// Each receiver's key, and the letter of its kind.
-fn write_pairs<W: Write>(pairs: &[(usize, Kind)], output: &mut W) -> io::Result<()> {
-    let Some(((key, kind), others)) = pairs.split_first() else {
-        return Ok(());
-    };
-    write!(output, "{key}{}", letter(*kind))?;
-    for (key, kind) in others {
-        write!(output, ",{key}{}", letter(*kind))?;
-    }
-    Ok(())
+/// A comma, but before the first of a list.
+fn comma(index: usize) -> &'static str {
+    if index == 0 { "" } else { "," }
 }
 
 /// The letter of a stream, or of a future.

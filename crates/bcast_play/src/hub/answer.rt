@@ -9,12 +9,6 @@ use std::io::Write;
 use topics::Answer;
 
 /// Writes the line that answers a request to which the hub gave this answer.
-///
-/// # Errors
-///
-/// - `NotACall`: the request's name is not valid.
-/// - `NoMemory`: there was no memory for a topic, or for the call on it.
-/// - `OutputFailed`: a write failed.
 pub fn answer<W: Write>(answered: &Answer<u64>, output: &mut W) -> Result<(), Fault>
     ensures text { OnOk result (IfSome (answer_of answered.now) (λ text.
         Appends (W.contents output.old) (W.contents output.new) (text ++ 10 ∷ []))) }

@@ -87,10 +87,6 @@ fn known<A: Allocator + Copy>(
 /// Gives a new follower its name, or frees the name of the one that left.
 ///
 /// Takes memory for a new name.
-///
-/// # Errors
-///
-/// - `AllocError`: there is no memory for the name.
 pub fn record<A: Allocator + Copy>(
     alloc: A,
     followers: &mut Followers<A>,
