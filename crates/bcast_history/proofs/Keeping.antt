@@ -1,5 +1,5 @@
 -- One more step is kept.
-use Rattle.std.proofs.Common.{◌≡◌, ℕ, Bool, Option, Some, None, refl, List, [], ◌∷◌, ◌++◌, sym, ◌∙◌, ap, subst}
+use Rattle.std.proofs.Common.{◌≡◌, ℕ, Option, Some, None, refl, List, [], ◌∷◌, ◌++◌, sym, ◌∙◌, ap, subst}
 use Rattle.std.proofs.Math.Logic.{∥∥₁_elim}
 use Rattle.std.specs.Coded.{Coded}
 use Rattle.std.specs.FinMap.{get}
@@ -71,16 +71,14 @@ module _ {T : Type 0} {is_clone : T → T → Type 0} {o : Opening} where
       }
 
   -- who knows all steps knows what the channel shows
-  pub knows : {longer known : List (Step T)} {shown : View T} {end : ℕ} {closed : Bool} (key : Option ℕ) {next : Option ℕ}
+  pub knows : {longer known : List (Step T)} {shown : View T} {end : ℕ} (key : Option ℕ) {next : Option ℕ}
       → known ≡ longer → IsLawful is_clone o longer → Represents shown (end_of o longer)
-      → end ≡ shown.end → closed ≡ shown.control.closed → next ≡ next_in shown.control key
-      → IsLawful is_clone o known × (end ≡ end_number (end_of o known)) × (closed ≡ (end_of o known).control.closed)
-      × (next ≡ next_in (end_of o known).control key)
-  knows {known = known} {shown = shown} key same lawful shows end closed next =
+      → end ≡ shown.end → next ≡ next_in shown.control key
+      → IsLawful is_clone o known × (end ≡ end_number (end_of o known)) × (next ≡ next_in (end_of o known).control key)
+  knows {known = known} {shown = shown} key same lawful shows end next =
       let shows_it : shown ≡ view_of (end_of o known) = shows ∙ sym (ap (λ ss. view_of (end_of o ss)) same) in (
         subst (IsLawful is_clone o) (sym same) lawful,
         end ∙ ap (λ v. v.end) shows_it,
-        closed ∙ ap (λ v. v.control.closed) shows_it,
         next ∙ ap (λ v. next_in v.control key) shows_it,
       )
 

@@ -15,7 +15,7 @@ use Rattle.bcast_history.specs.Tracker.{Tracker, Learns}
 use Rattle.bcast_model.proofs.Cases.{close_is}
 use Rattle.bcast_history.proofs.Told.{closed_after}
 use Rattle.bcast_history.proofs.Received.{reader, number, IsOf, Stays, stays, read_there}
-use Rattle.bcast_history.proofs.Started.{new_starts, activated_starts, cloned_starts, not_cloned, not_inactive, not_closed, only_read}
+use Rattle.bcast_history.proofs.Started.{new_starts, activated_starts, cloned_starts, not_inactive, not_closed, only_read}
 
 module _ {T : Type 0} {is_clone : T → T → Type 0} {o : Opening} where
   -- a new receiver starts at the end
@@ -53,15 +53,11 @@ module _ {T : Type 0} {is_clone : T → T → Type 0} {o : Opening} where
         (cloned_starts is_clone (end_of o f.before) key (number known.next) (read_there its learned) new).1
         ∙ ap (λ (old : Reader T). Some old.next) is_old
 
-    -- a receiver stays where it is that makes another, that isn't cloned, that doesn't leave,
-    -- that closes the channel, and that counts
+    -- a receiver stays where it is that makes another, that doesn't leave, that closes the channel,
+    -- and that counts
     pub cloned_stays : {new : ℕ} → Learns is_clone o known (call.CloneReceiver key) (reply.CloneReceiver (Ok new)) after → Stays key old after
     cloned_stays {new = new} learned =
         stays is_clone is_old its learned (cloned_starts is_clone (end_of o learned.follows.before) key (number known.next) (read_there its learned) new).0
-
-    pub uncloned_stays : {error : HandleError} → Learns is_clone o known (call.CloneReceiver key) (reply.CloneReceiver (Err error)) after → Stays key old after
-    uncloned_stays {error = error} learned =
-        stays is_clone is_old its learned (not_cloned is_clone (end_of o learned.follows.before) key (number known.next) (read_there its learned) error)
 
     pub active_stays : {error : HandleError} → Learns is_clone o known (call.Deactivate key) (reply.Deactivate (Err error)) after → Stays key old after
     active_stays {error = error} learned =

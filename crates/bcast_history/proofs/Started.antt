@@ -1,5 +1,5 @@
 -- Where a receiver starts that was made.
-use Rattle.std.proofs.Common.{◌≡◌, inl, inr, ℕ, ◌+◌, Bool, true, false, if◌then◌else◌, List, [], length, Some, None, Ok, Err, refl, sym, ap, ◌∙◌, subst}
+use Rattle.std.proofs.Common.{◌≡◌, inl, inr, ℕ, ◌+◌, Bool, true, false, if◌then◌else◌, List, [], length, Some, Ok, Err, refl, sym, ap, ◌∙◌, subst}
 use Rattle.std.proofs.lemmas.Bool.{cases_eq}
 use Rattle.std.specs.Prelude.{is_some}
 use Rattle.std.specs.FinMap.{get, insert}
@@ -63,11 +63,6 @@ module _ {T : Type 0} (is_clone : T → T → Type 0) (h : History T) where
           ap (λ (cursors : Cursors). get cursors key) put ∙ beside h.control.cursors key new was there,
           ap (λ (cursors : Cursors). get cursors new) put ∙ inserted h.control.cursors new was,
         )
-
-    pub not_cloned : (error : HandleError) → cursor_of (next h (call.CloneReceiver key) (reply.CloneReceiver (Err error))).control key ≡ Some was
-    not_cloned error =
-        ap (λ (cursors : Cursors). get cursors key) (cursors-next h (call.CloneReceiver key) (reply.CloneReceiver (Err error))
-        ∙ ap (λ o. (clone_receiver h.control o None).cursors) there) ∙ there
 
     -- it stays if it can't be counted as inactive
     pub not_inactive : (error : HandleError) → Legal is_clone (view_of h) (call.Deactivate key) (reply.Deactivate (Err error))

@@ -23,7 +23,8 @@
 //! `Opened`. The caller's `Invariants.antt` says that `J` names this channel:
 //!
 //! ```text
-//! ghosts-work g a = record { book = a.opened.book; opening = a.opened.opening }
+//! ghosts-work-J-Channel g a = record { opening = a.opened.opening }
+//! ghosts-work-J-Named g a = record { book = a.opened.book }
 //! ```
 #![tactic(auto)]
 

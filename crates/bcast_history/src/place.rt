@@ -38,7 +38,7 @@ impl<T: Clone, J: Channel> Place<T, J> {
     {
         Place {
             key,
-            tracker: known.at(key, next),
+            tracker: known.of(Some(key), Some(next)),
         }
     }
 

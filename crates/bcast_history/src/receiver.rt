@@ -80,6 +80,8 @@ impl<T: Clone, P: HistoryPort<T, J>, J: Channel> TrackedReceiver<T, P, J> {
         ensures key { self.new.place.key ≡ self.old.place.key }
         ensures seen { IsPrefix self.old.place.steps self.new.place.steps }
         ensures takes { Takes T.is_clone J.opening self.old.place self.new.place result }
+        ensures follows { Follows T.is_clone J.opening self.old.place.steps
+            (Call.TryRecv self.old.place.key) (Reply.TryRecv result) self.new.place.steps }
     {
         let Place { key, tracker } = &mut self.place;
         self.port.ask(tracker, TryRecv(*key))
@@ -92,6 +94,9 @@ impl<T: Clone, P: HistoryPort<T, J>, J: Channel> TrackedReceiver<T, P, J> {
         ensures seen { IsPrefix self.old.place.steps self.new.place.steps }
         ensures takes { Takes T.is_clone J.opening self.old.place self.new.place
             (as_try_recv result) }
+        ensures follows { Follows T.is_clone J.opening self.old.place.steps
+            (Call.TryRecv self.old.place.key) (Reply.TryRecv (as_try_recv result))
+            self.new.place.steps }
     {
         let Place { key, tracker } = &mut self.place;
         self.port.receive_waiting(tracker, *key)
@@ -145,7 +150,7 @@ impl<T: Clone, P: HistoryPort<T, J>, J: Channel> TrackedReceiver<T, P, J> {
         } = self;
         match port.ask(&mut place.tracker, AddHandle::Deactivated(place.key)) {
             Ok(()) => {
-                let known = place.tracker.elsewhere();
+                let known = place.tracker.of(None, None);
                 Ok(TrackedInactiveReceiver { port, known })
             }
             Err(error) => Err((TrackedReceiver::new(port, place), error)),
@@ -229,6 +234,9 @@ impl<T: Clone, P: TimedHistoryPort<T, J>, J: Channel> TrackedReceiver<T, P, J> {
         ensures seen { IsPrefix self.old.place.steps self.new.place.steps }
         ensures takes { Takes T.is_clone J.opening self.old.place self.new.place
             (as_timed_try result) }
+        ensures follows { Follows T.is_clone J.opening self.old.place.steps
+            (Call.TryRecv self.old.place.key) (Reply.TryRecv (as_timed_try result))
+            self.new.place.steps }
     {
         let Place { key, tracker } = &mut self.place;
         self.port.receive_within(tracker, *key, limit)

@@ -1,5 +1,5 @@
 //! The sending side.
-ghost use Rattle.std.specs.Prelude.{◌≡◌, true, ◌⊎◌, [], Ok, Err, IfOk, IfErr, OnOk};
+ghost use Rattle.std.specs.Prelude.{◌≡◌, true, Ok, IfOk, IfErr};
 ghost use Rattle.bcast_model.specs.Encodings.{in_lists};
 ghost use Rattle.bcast_model.specs.Words.{HasPositiveCapacity, end_number};
 ghost use Rattle.async_broadcast.specs.Timed.{as_attempt};
@@ -117,7 +117,7 @@ impl<T: Clone, P: HistoryPort<T, J>, J: Channel> TrackedSender<T, P, J> {
         self.ask(AddHandle::Sender)?;
         Ok(TrackedSender {
             port,
-            known: self.known.elsewhere(),
+            known: self.known.of(None, None),
         })
     }
 

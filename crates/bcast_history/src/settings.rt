@@ -1,5 +1,5 @@
 //! The settings and counts of a channel with a history, through a sender.
-ghost use Rattle.std.specs.Prelude.{◌≡◌, ◌<◌};
+ghost use Rattle.std.specs.Prelude.{◌<◌};
 ghost use Rattle.bcast_history.specs.Follows.{Follows};
 
 use crate::port::{History, HistoryPort};

@@ -1,5 +1,5 @@
 //! The journal of such a channel: the steps on it.
-ghost use Rattle.std.specs.Prelude.{◌≡◌, ◌<◌, ◌++◌, [], length, map, false};
+ghost use Rattle.std.specs.Prelude.{◌≡◌, ◌<◌, ◌++◌, [], length, map};
 ghost use mathlib.Core.List.{IsPrefix};
 ghost use Rattle.bcast_model.specs.Words.{IsValid};
 ghost use Rattle.bcast_history.specs.Batch.{received};
@@ -144,7 +144,6 @@ impl<T: Clone, J: Channel> CallJournal<T> for StepJournal<T, J> {
         };
         self.writer.append(&mut caller.seen, &step);
         caller.end = after.end_number();
-        caller.closed = after.is_closed();
         let next = next_in(after, caller.key);
         caller.next = next;
     }
@@ -162,7 +161,6 @@ impl<T: Clone, J: Channel> CallJournal<T> for StepJournal<T, J> {
         }
         append_each(&mut self.writer, &mut caller.seen, key, msgs);
         caller.end = after.end_number();
-        caller.closed = after.is_closed();
         let behind = next_in(after, caller.key);
         caller.next = behind;
     }

@@ -1,7 +1,7 @@
 //! Who makes calls on a channel with a history.
-ghost use Rattle.std.specs.Prelude.{◌≡◌, false, None, Some};
+ghost use Rattle.std.specs.Prelude.{◌≡◌, None};
 ghost use Rattle.std.specs.Bool.{OnTrue};
-ghost use Rattle.bcast_model.specs.Words.{cursor_of, end_number};
+ghost use Rattle.bcast_model.specs.Words.{end_number};
 ghost use Rattle.bcast_history.specs.History.{IsLawful, end_of};
 ghost use Rattle.bcast_history.specs.Tracker.{next_in};
 
@@ -34,10 +34,8 @@ pub type Seen<T, J> = Prefix<Step<T>, J>;
 #[derive(Drop)]
 pub struct Tracker<T: Clone, J: Channel> {
     pub(crate) seen: Seen<T, J>,
-    // The number of the message that comes next after these steps, and whether the channel is
-    // closed then.
+    // The number of the message that comes next after these steps.
     pub(crate) end: u64,
-    pub(crate) closed: bool,
     pub(crate) key: Option<usize>,
     pub(crate) next: Option<u64>,
 }
@@ -54,7 +52,6 @@ impl<T: Clone, J: Channel> Model for Tracker<T, J> {
 
     ghost invariant = { λ t. IsLawful T.is_clone J.opening t.seen
         × (t.end ≡ end_number (end_of J.opening t.seen))
-        × (t.closed ≡ (end_of J.opening t.seen).control.closed)
         × (t.next ≡ next_in (end_of J.opening t.seen).control t.key) };
 }
 
@@ -63,42 +60,26 @@ impl<T: Clone, J: Channel> Tracker<T, J> {
     pub(crate) fn new(seen: Seen<T, J>, end: u64) -> Self
         requires lawful { IsLawful T.is_clone J.opening seen }
         requires end { end ≡ end_number (end_of J.opening seen) }
-        requires open { (end_of J.opening seen).control.closed ≡ false }
         ensures { result ≡ record { steps = seen; key = None; next = None } }
     {
         Tracker {
             seen,
             end,
-            closed: false,
             key: None,
             next: None,
         }
     }
 
-    /// Of the receiver of this key, which reads on there.
-    pub(crate) fn at(&self, key: usize, next: u64) -> Self
-        requires { cursor_of (end_of J.opening self.now.steps).control key ≡ Some next }
-        ensures { result ≡ record { steps = self.now.steps; key = Some key; next = Some next } }
+    /// Of the receiver of this key, which reads on there; or of none.
+    pub(crate) fn of(&self, key: Option<usize>, next: Option<u64>) -> Self
+        requires { next ≡ next_in (end_of J.opening self.now.steps).control key }
+        ensures { result ≡ record { steps = self.now.steps; key = key; next = next } }
     {
         Tracker {
             seen: self.seen.same(),
             end: self.end,
-            closed: self.closed,
-            key: Some(key),
-            next: Some(next),
-        }
-    }
-
-    /// Of no receiver.
-    pub(crate) fn elsewhere(&self) -> Self
-        ensures { result ≡ record { steps = self.now.steps; key = None; next = None } }
-    {
-        Tracker {
-            seen: self.seen.same(),
-            end: self.end,
-            closed: self.closed,
-            key: None,
-            next: None,
+            key,
+            next,
         }
     }
 
@@ -115,14 +96,6 @@ impl<T: Clone, J: Channel> Tracker<T, J> {
         ensures { result ≡ end_number (end_of J.opening self.now.steps) }
     {
         self.end
-    }
-
-    /// Whether the channel is closed.
-    #[inline(always)]
-    pub(crate) fn is_closed(&self) -> bool
-        ensures { result ≡ (end_of J.opening self.now.steps).control.closed }
-    {
-        self.closed
     }
 
     /// Proves that what is known is lawful. Does nothing.

@@ -8,7 +8,7 @@ invariant_of-place g c = (active_stays c.place.view_is c.place.invariant (g.met.
 
 pub returns-in-Ok-clause-made : goal.returns-in-Ok-clause-made
 returns-in-Ok-clause-made g c =
-    rw c.elsewhere-known.ensures (follows c.place.view_is c.place.invariant call.Deactivate (g.met.P.HistoryPort.follows _ _ _ _ c.in-Ok.ensures.learned))
+    rw c.of-known.ensures (follows c.place.view_is c.place.invariant call.Deactivate (g.met.P.HistoryPort.follows _ _ _ _ c.in-Ok.ensures.learned))
 
 pub returns-in-Err-clause-refused : goal.returns-in-Err-clause-refused
 returns-in-Err-clause-refused g c =

@@ -1,4 +1,6 @@
 -- What was learned is what the receiver takes.
+use Rattle.bcast_model.specs.declared.run.Call.TheVariants as call
+use Rattle.bcast_history.proofs.Making.{follows}
 use Rattle.bcast_history.proofs.Received.{tried}
 use Rattle.bcast_history.proofs.receiver.TrackedReceiver.recv_blocking.Goals as goal
 
@@ -13,3 +15,7 @@ returns-clause-seen g c =
 pub returns-clause-takes : goal.returns-clause-takes
 returns-clause-takes g c =
     (tried _ c.key.view_is c.key.invariant (g.met.P.HistoryPort.follows _ _ _ _ c.receive_waiting.ensures.learned)).takes
+
+pub returns-clause-follows : goal.returns-clause-follows
+returns-clause-follows g c =
+    follows c.key.view_is c.key.invariant call.TryRecv (g.met.P.HistoryPort.follows _ _ _ _ c.receive_waiting.ensures.learned)

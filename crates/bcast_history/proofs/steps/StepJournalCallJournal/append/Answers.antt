@@ -13,7 +13,7 @@ invariant_of-caller g c =
     let old = replays _ _ g.row.T.coded c.self.view_is c.requires.recorded c.self.invariant in
     let new = replays_longer c.append.ensures.appended old c.requires.answers in
     let lawful = lawful_longer _ _ c.append.ensures.appended c.requires.capacity c.self.invariant new in
-    knows c.caller.inside.key c.append.ensures.knows lawful new.end c.end_number-caller-inside.ensures c.is_closed-caller-inside.ensures c.next_in-next.ensures
+    knows c.caller.inside.key c.append.ensures.knows lawful new.end c.end_number-caller-inside.ensures c.next_in-next.ensures
 
 pub returns-clause-records : goal.returns-clause-records
 returns-clause-records g c =
@@ -25,6 +25,6 @@ returns-clause-learned g c =
     let old = replays _ _ g.row.T.coded c.self.view_is c.requires.recorded c.self.invariant in
     let new = replays_longer c.append.ensures.appended old c.requires.answers in
     let lawful = lawful_longer _ _ c.append.ensures.appended c.requires.capacity c.self.invariant new in
-    let so = knows c.caller.inside.key c.append.ensures.knows lawful new.end c.end_number-caller-inside.ensures c.is_closed-caller-inside.ensures c.next_in-next.ensures in
+    let so = knows c.caller.inside.key c.append.ensures.knows lawful new.end c.end_number-caller-inside.ensures c.next_in-next.ensures in
     learned c.caller.view_is c.append.ensures.knows c.append.ensures.appended c.append.ensures.before old c.requires.answers.legal lawful
-    c.requires.fits refl so.3
+    c.requires.fits refl so.2

@@ -15,7 +15,7 @@ invariant_of-caller g c =
     let old = replays _ _ g.row.T.coded c.self.view_is c.requires.recorded c.self.invariant in
     let new = kept_each c.args.key c.args.after.now c.args.msgs.now c.append_each.ensures.appended c.self.invariant old c.requires.received in
     let some : 0 < length c.args.msgs.now = grind (arith, common_steps) in
-    knows c.caller.inside.key (c.append_each.ensures.knows some) new.1 new.0.end c.end_number-caller-inside.ensures c.is_closed-caller-inside.ensures c.next_in-behind.ensures
+    knows c.caller.inside.key (c.append_each.ensures.knows some) new.1 new.0.end c.end_number-caller-inside.ensures c.next_in-behind.ensures
 
 pub returns-clause-records : goal.returns-clause-records
 returns-clause-records g c =
@@ -27,5 +27,5 @@ returns-clause-learned g c =
     let old = replays _ _ g.row.T.coded c.self.view_is c.requires.recorded c.self.invariant in
     let new = kept_each c.args.key c.args.after.now c.args.msgs.now c.append_each.ensures.appended c.self.invariant old c.requires.received in
     let some : 0 < length c.args.msgs.now = grind (arith, common_steps) in
-    let so = knows c.caller.inside.key (c.append_each.ensures.knows some) new.1 new.0.end c.end_number-caller-inside.ensures c.is_closed-caller-inside.ensures c.next_in-behind.ensures in
-    told_each c.args.key c.args.after.now c.args.msgs.now c.append_each.ensures.appended c.self.invariant old c.requires.received c.caller.view_is some (c.append_each.ensures.before some) c.requires.fits (c.append_each.ensures.knows some) refl so.3
+    let so = knows c.caller.inside.key (c.append_each.ensures.knows some) new.1 new.0.end c.end_number-caller-inside.ensures c.next_in-behind.ensures in
+    told_each c.args.key c.args.after.now c.args.msgs.now c.append_each.ensures.appended c.self.invariant old c.requires.received c.caller.view_is some (c.append_each.ensures.before some) c.requires.fits (c.append_each.ensures.knows some) refl so.2
