@@ -45,8 +45,6 @@ impl<T: Clone, P: Port<T>, A: Allocator + Copy> Receiver<T, P, A> {
     /// assert!(rt; receiver.try_recv_many(2, &mut msgs)? == Err(TryRecvError::Empty));
     /// assert!(rt; msgs.as_slice() == [1, 2, 3].as_slice());
     /// ```
-    ///
-    /// Source: this crate's own.
     #[inline(always)]
     pub fn try_recv_many<B: Allocator>(
         &mut self,
@@ -79,8 +77,6 @@ impl<T: Clone, P: Port<T>, A: Allocator + Copy> Receiver<T, P, A> {
     /// assert!(rt; receiver.recv_many_blocking(16, &mut msgs)? == Ok(2));
     /// assert!(rt; receiver.recv_many_blocking(16, &mut msgs)? == Err(RecvError::Closed));
     /// ```
-    ///
-    /// Source: this crate's own.
     pub fn recv_many_blocking<B: Allocator>(
         &mut self,
         limit: usize,
@@ -99,8 +95,7 @@ impl<T: Clone, P: Port<T>, A: Allocator + Copy> Receiver<T, P, A> {
     /// Receives the messages that are there, as `try_recv_many` does. If there are none, it leaves the
     /// task waiting for one, as `poll_recv` does.
     ///
-    /// `Ready(None)`: every message was read, and the channel is closed. With `poll_fn` of `futures`
-    /// it is a future.
+    /// `Ready(None)`: every message was read, and the channel is closed.
     ///
     /// # Errors
     ///
@@ -120,8 +115,6 @@ impl<T: Clone, P: Port<T>, A: Allocator + Copy> Receiver<T, P, A> {
     /// assert!(rt; matches!(polled, Ok(Poll::Ready(Some(Ok(2))))));
     /// assert!(rt; msgs.as_slice() == [1, 2].as_slice());
     /// ```
-    ///
-    /// Source: this crate's own.
     pub fn poll_recv_many<B: Allocator>(
         &mut self,
         cx: &mut Context<'_>,
@@ -173,8 +166,6 @@ impl<T: Clone, P: TimedPort<T>, A: Allocator + Copy> Receiver<T, P, A> {
     /// let ended = receiver.recv_many_timeout(16, &mut msgs, time)?;
     /// assert!(&rt; ended == Err(RecvTimeoutError::Closed));
     /// ```
-    ///
-    /// Source: this crate's own.
     pub fn recv_many_timeout<B: Allocator>(
         &mut self,
         limit: usize,
@@ -219,8 +210,6 @@ fn receive_kept<T: Clone, P: Port<T>, B: Allocator>(
 /// Puts a message that was received last into `msgs`, which has room for it, and returns how many
 /// messages these are: 1, or what the receive returned in place of a message. It is for receivers
 /// over ports, as `TrackedReceiver` of `bcast_history`.
-///
-/// Source: this crate's own.
 pub fn put_last<T, E, B: Allocator>(
     received: Result<Result<T, E>, AllocError>,
     msgs: &mut Vec<T, B>,

@@ -42,8 +42,6 @@ impl<T: Clone, P: Port<T>, A: Allocator + Copy> Receiver<T, P, A> {
     /// }
     /// assert!(rt; count == 2);
     /// ```
-    ///
-    /// Source: this crate's own.
     pub fn iter<'a, R: Wait>(&'a mut self, rt: &'a R) -> Iter<'a, T, P, R, A>
         ensures lent { result.receiver.now ≡ self.old }
         ensures same { result.receiver.ghost_name ≡ self.entry.ghost_name }
@@ -72,8 +70,6 @@ impl<T: Clone, P: Port<T>, A: Allocator + Copy> Receiver<T, P, A> {
     /// assert!(rt; count == 2);
     /// assert!(rt; receiver.try_iter().next().is_none());
     /// ```
-    ///
-    /// Source: this crate's own.
     pub fn try_iter(&mut self) -> TryIter<'_, T, P, A>
         ensures lent { result.receiver.now ≡ self.old }
         ensures same { result.receiver.ghost_name ≡ self.entry.ghost_name }

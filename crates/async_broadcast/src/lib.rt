@@ -30,7 +30,6 @@ mod port;
 mod receiver;
 mod sender;
 mod settings;
-mod snapshot;
 mod text;
 mod timed;
 mod wake;

@@ -1,6 +1,5 @@
 //! The channel of several handles, behind one lock.
 ghost use Rattle.std.specs.Prelude.{◌≡◌, ◌<◌, IfOk};
-ghost use Rattle.bcast_model.specs.Words.{View, IsShown, unread, missed};
 ghost use Rattle.async_broadcast.specs.Snapshots.{ShowsSomeState};
 
 use crate::inactive::InactiveReceiver;
@@ -23,7 +22,7 @@ mod asking;
 mod attempt;
 mod channel;
 pub(crate) mod limit;
-mod state;
+mod snapshot;
 mod threads;
 mod waiting;
 
@@ -117,8 +116,6 @@ impl<T: Clone, R: Wait + Clone, A: Allocator + Copy> Lock<T, R, A> {
     /// assert!(rt; matches!(receiver.try_recv(), Ok(Ok(7))));
     /// assert!(rt; sender.snapshot()?.end == 101);
     /// ```
-    ///
-    /// Source: this crate's own.
     pub fn new(rt: R, alloc: A, inner: Inner<T, Wake, A>) -> Result<Self, AllocError> {
         Lock::with_journal(rt, alloc, inner, NoJournal)
     }
@@ -131,8 +128,6 @@ impl<T: Clone, R: Wait + Clone, A: Allocator + Copy, J: CallJournal<T>> Lock<T, 
     /// # Errors
     ///
     /// - `AllocError`: no memory for what the ports share. The channel is dropped.
-    ///
-    /// Source: this crate's own.
     pub fn with_journal(
         rt: R,
         alloc: A,
@@ -150,33 +145,10 @@ impl<T: Clone, R: Wait + Clone, A: Allocator + Copy, J: CallJournal<T>> Lock<T, 
     /// # Errors
     ///
     /// - `AllocError`: no memory for the lists, or for the clone of a message. Nothing changed.
-    ///
-    /// Source: this crate's own.
     pub fn snapshot(&self, alloc: A) -> Result<Snapshot<T, A>, AllocError>
         ensures { IfOk result (λ snapshot. ShowsSomeState T.is_clone snapshot) }
     {
-        with_channel!(self, |inner| {
-            inner.invariant_holds();
-            inner.snapshot(alloc)
-        })
-    }
-
-    pub(crate) fn unread(&self, key: usize) -> usize
-        ensures { (v : View T) × IsShown v × (result ≡ unread v key) }
-    {
-        with_channel!(self, |inner| {
-            inner.invariant_holds();
-            inner.unread(key)
-        })
-    }
-
-    pub(crate) fn missed(&self, key: usize) -> u64
-        ensures { (v : View T) × IsShown v × (result ≡ missed v key) }
-    {
-        with_channel!(self, |inner| {
-            inner.invariant_holds();
-            inner.missed(key)
-        })
+        with_channel!(self, |inner| inner.snapshot(alloc))
     }
 }
 

@@ -173,31 +173,6 @@ impl<T: Clone, P: Port<T>, A: Allocator + Copy> Receiver<T, P, A> {
         Ok(Receiver::from_port(port, key, self.alloc))
     }
 
-    /// Makes an active receiver, whose first message is the next one that is accepted.
-    ///
-    /// On a closed channel it receives nothing, and doesn't open it.
-    ///
-    /// # Errors
-    ///
-    /// - `Memory`: no memory for the handle.
-    ///
-    /// ```rust
-    /// let (sender, one) = broadcast(&rt, rt.alloc(), 2)?;
-    /// assert!(rt; sender.try_broadcast(1).is_ok());
-    /// let mut two = one.new_receiver()?;
-    /// assert!(rt; sender.try_broadcast(2).is_ok());
-    /// assert!(rt; matches!(two.try_recv(), Ok(Ok(2))));
-    /// ```
-    ///
-    /// Source: `Receiver::new_receiver` of async-broadcast 0.7.2, which never refuses.
-    pub fn new_receiver(&self) -> Result<Self, HandleError>
-        ensures { MakesHandle P.gave P.lacks_memory self.now.port
-            Call.NewReceiver Reply.NewReceiver (λ made. made.role.key) result }
-    {
-        let (port, key) = self.add_receiver(AddReceiver::New)?;
-        Ok(Receiver::from_port(port, key, self.alloc))
-    }
-
     /// Makes a sender of the channel. It doesn't open a closed one.
     ///
     /// # Errors
@@ -254,6 +229,35 @@ impl<T: Clone, P: Port<T>, A: Allocator + Copy> Receiver<T, P, A> {
             Ok(()) => Ok(self.with_role(Inactive)),
             Err(error) => Err((self, error)),
         }
+    }
+}
+
+impl<T: Clone, P: Port<T>, H: Role, A: Allocator + Copy> Handle<T, P, H, A> {
+    /// Makes an active receiver, whose first message is the next one that is accepted.
+    ///
+    /// On a closed channel it receives nothing, and doesn't open it.
+    ///
+    /// # Errors
+    ///
+    /// - `Memory`: no memory for the handle.
+    ///
+    /// ```rust
+    /// let (sender, mut one) = broadcast(&rt, rt.alloc(), 2)?;
+    /// assert!(rt; sender.try_broadcast(1).is_ok());
+    /// let mut two = sender.new_receiver()?;
+    /// assert!(rt; sender.try_broadcast(2).is_ok());
+    /// assert!(rt; matches!(one.try_recv(), Ok(Ok(1))));
+    /// assert!(rt; matches!(two.try_recv(), Ok(Ok(2))));
+    /// ```
+    ///
+    /// Source: `Sender::new_receiver` and `Receiver::new_receiver` of async-broadcast 0.7.2, which
+    /// never refuse.
+    pub fn new_receiver(&self) -> Result<Receiver<T, P, A>, HandleError>
+        ensures { MakesHandle P.gave P.lacks_memory self.now.port
+            Call.NewReceiver Reply.NewReceiver (λ made. made.role.key) result }
+    {
+        let (port, key) = self.add_receiver(AddReceiver::New)?;
+        Ok(Receiver::from_port(port, key, self.alloc))
     }
 }
 

@@ -5,10 +5,9 @@ ghost use Rattle.async_broadcast.specs.Handles.{MakesHandle};
 
 use crate::handle::{Handle, Role};
 use crate::port::Port;
-use crate::receiver::Receiver;
 use bcast_core::{
-    AddHandle, AddReceiver, Call, Change, HandleError, Messages, Reply, SendError, SendPoll,
-    TryBroadcast, TryBroadcastAll, TrySendError, in_vec,
+    AddHandle, Call, Change, HandleError, Messages, Reply, SendError, SendPoll, TryBroadcast,
+    TryBroadcastAll, TrySendError, in_vec,
 };
 use std::alloc::{Allocator, Global};
 
@@ -92,8 +91,6 @@ impl<T: Clone, P: Port<T>, A: Allocator + Copy> Sender<T, P, A> {
     /// assert!(rt; matches!(receiver.try_recv(), Ok(Ok(2))));
     /// assert!(rt; matches!(receiver.try_recv(), Ok(Ok(3))));
     /// ```
-    ///
-    /// Source: this crate's own.
     pub fn try_broadcast_all(&self, msgs: Vec<T>) -> Result<(), TrySendError<Vec<T>>>
         ensures { P.gave self.now.port (Call.TryBroadcastAll msgs.items)
             (Reply.TryBroadcastAll (in_lists result)) }
@@ -156,32 +153,6 @@ impl<T: Clone, P: Port<T>, A: Allocator + Copy> Sender<T, P, A> {
         let port = self.port.try_clone().ok_or(HandleError::Memory)?;
         self.port.ask(&mut (), AddHandle::Sender)?;
         Ok(Sender::from_port(port, self.alloc))
-    }
-
-    /// Makes an active receiver, whose first message is the next one that is accepted.
-    ///
-    /// On a closed channel it receives nothing, and doesn't open it.
-    ///
-    /// # Errors
-    ///
-    /// - `Memory`: no memory for the handle.
-    ///
-    /// ```rust
-    /// let (sender, mut one) = broadcast(&rt, rt.alloc(), 2)?;
-    /// assert!(rt; sender.try_broadcast(1).is_ok());
-    /// let mut two = sender.new_receiver()?;
-    /// assert!(rt; sender.try_broadcast(2).is_ok());
-    /// assert!(rt; matches!(one.try_recv(), Ok(Ok(1))));
-    /// assert!(rt; matches!(two.try_recv(), Ok(Ok(2))));
-    /// ```
-    ///
-    /// Source: `Sender::new_receiver` of async-broadcast 0.7.2, which never refuses.
-    pub fn new_receiver(&self) -> Result<Receiver<T, P, A>, HandleError>
-        ensures { MakesHandle P.gave P.lacks_memory self.now.port
-            Call.NewReceiver Reply.NewReceiver (λ made. made.role.key) result }
-    {
-        let (port, key) = self.add_receiver(AddReceiver::New)?;
-        Ok(Receiver::from_port(port, key, self.alloc))
     }
 }
 

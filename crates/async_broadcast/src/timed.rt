@@ -38,8 +38,6 @@ impl<T: Clone, P: TimedPort<T>, A: Allocator + Copy> Sender<T, P, A> {
     /// let refused = sender.broadcast_timeout(9, limit);
     /// assert!(&rt; matches!(refused, Err(SendTimeoutError::Refused(9))));
     /// ```
-    ///
-    /// Source: this crate's own.
     pub fn broadcast_timeout(
         &self,
         msg: T,
@@ -79,8 +77,6 @@ impl<T: Clone, P: TimedPort<T>, A: Allocator + Copy> Receiver<T, P, A> {
     /// let ended = receiver.recv_timeout(limit);
     /// assert!(&rt; matches!(ended, Ok(Err(RecvTimeoutError::Closed))));
     /// ```
-    ///
-    /// Source: this crate's own.
     pub fn recv_timeout(
         &mut self,
         limit: Duration,
@@ -129,8 +125,6 @@ impl<T> SendTimeoutError<T> {
 
     /// Whether this is `Timeout`. If not, the channel is closed, or it has no active receiver and
     /// `await_active` is off.
-    ///
-    /// Source: this crate's own.
     pub fn is_timeout(&self) -> bool
         ensures { IsTrue result ↔ (self.now ≡ SendTimeoutError.Timeout (unsent_message self.now)) }
     {

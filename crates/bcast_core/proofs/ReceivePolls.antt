@@ -14,16 +14,14 @@ use Rattle.bcast_model.specs.declared.run.Reply.{Reply}
 use Rattle.bcast_model.specs.declared.run.Reply.TheVariants as reply
 use Rattle.bcast_model.specs.Words.{Pair, pair_waits}
 use Rattle.bcast_model.specs.Words.{pair_answered, sets, effect, HasRange, IsValidView, IsReceived}
-use Rattle.bcast_model.specs.Words.{Legal, tell_if_ready, must_wait, IsOwed, cursor_of}
+use Rattle.bcast_model.specs.Words.{Legal, tell_if_ready, IsOwed, cursor_of}
 use Rattle.bcast_model.specs.Words.{is_empty_reply, receive, receive_poll}
 use Rattle.bcast_model.specs.Words.{try_recv_reply, Steps, settle, View, skipped_to, skipped_count}
 use Rattle.bcast_model.specs.Words.{future_reply, stream_reply, next_reply}
-use Rattle.bcast_model.proofs.Polls.{future_waits, stream_waits, next_waits}
 use Rattle.bcast_core.specs.declared.receive_poll.ReceivePoll.{ReceivePoll}
 use Rattle.bcast_core.specs.declared.receive_poll.ReceivePoll.TheVariants as poll
 use Rattle.bcast_core.specs.declared.receive_poll.Received.{Received}
 use Rattle.bcast_core.specs.Telling.{NobodyWaits}
-use Rattle.bcast_core.specs.Parts.{finds_nothing}
 use Rattle.bcast_core.specs.Polls.{kind_of, call_of, reads_at, skips_of, reply_of}
 use Rattle.bcast_core.proofs.Tail.{told_none, told_last, told_valid, told_waiting}
 use Rattle.bcast_core.proofs.Receives.{poll_waits, settle_empty}
@@ -94,16 +92,3 @@ module _ {T : Type 0} where
   receive_range poll.Future key v = tt
   receive_range poll.Recv key v = tt
   receive_range poll.Next key v = tt
-
-  -- ---- its reply
-  waits_as : (poll : ReceivePoll) (skips : ℕ) (found : Result (Result T TryRecvError) AllocError) → must_wait (reply_of poll (record { found = found; skips = skips })) ≡ finds_nothing found
-  waits_as poll.Future skips (Ok answer) = future_waits answer
-  waits_as poll.Future skips (Err e) = refl
-  waits_as poll.Recv skips (Ok answer) = stream_waits answer
-  waits_as poll.Recv skips (Err e) = refl
-  waits_as poll.Next skips (Ok answer) = next_waits skips answer
-  waits_as poll.Next skips (Err e) = refl
-
-  -- it must wait where nothing was found
-  pub reply_waits : (poll : ReceivePoll) (r : Received T) → must_wait (reply_of poll r) ≡ finds_nothing r.found
-  reply_waits poll r = waits_as poll r.skips r.found

@@ -12,7 +12,6 @@ mod listeners;
 mod receive;
 mod receivers;
 mod send;
-mod snapshot;
 
 pub use send::is_accepted;
 
@@ -49,7 +48,7 @@ impl<T, N: Notice, A: Allocator> Model for Parts<T, N, A> {
 }
 
 impl<T: Drop, N: Notice, A: Allocator + Copy> Parts<T, N, A> {
-    ghost use Rattle.bcast_model.specs.Words.{has_no_receiver, is_deserted, close};
+    ghost use Rattle.bcast_model.specs.Words.{has_no_receiver, close};
     ghost use Rattle.bcast_model.specs.Words.{close_if_deserted, is_full, sends_are_ready};
     ghost use Rattle.bcast_model.specs.Words.{cursor_of, tell_if_ready, no_listeners};
     ghost use Rattle.bcast_core.specs.Parts.{HaveRoom, new_with};
@@ -205,20 +204,12 @@ impl<T: Drop, N: Notice, A: Allocator + Copy> Parts<T, N, A> {
         }
     }
 
-    /// Whether there is no sender, or no receiver, active or inactive.
-    #[inline(always)]
-    pub fn is_deserted(&self) -> bool
-        ensures { result ≡ is_deserted self.now.control }
-    {
-        self.senders == 0 || (self.has_no_receiver() && self.inactive == 0)
-    }
-
     /// Closes the channel if one side has no handle left.
     #[inline(always)]
     pub fn close_if_deserted(&mut self)
         ensures { self.new ≡ record self.old { control = close_if_deserted self.old.control } }
     {
-        if self.is_deserted() {
+        if self.senders == 0 || (self.has_no_receiver() && self.inactive == 0) {
             self.close();
         }
     }

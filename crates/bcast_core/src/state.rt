@@ -15,7 +15,6 @@ use std::alloc::{AllocError, Allocator, Global};
 use std::marker::Model;
 
 mod handles;
-mod poll;
 mod receive;
 mod send;
 mod settings;
@@ -144,8 +143,6 @@ impl<T: Drop, N: Notice, A: Allocator + Copy> Inner<T, N, A> {
     }
 
     /// Whether a send would be answered without waiting: there is room for it, or it is refused.
-    ///
-    /// Source: this crate's own.
     pub fn sends_are_ready(&self) -> bool
         ensures { result ≡ sends_are_ready self.now }
     {
@@ -203,8 +200,6 @@ impl<T: Drop, N: Notice, A: Allocator + Copy> Inner<T, N, A> {
     ///
     /// As many `try_recv` in a row give it a message, after one that says what it missed, if it
     /// missed any.
-    ///
-    /// Source: this crate's own.
     pub fn unread(&self, key: usize) -> usize
         ensures { result ≡ unread self.now key }
     {
@@ -218,8 +213,6 @@ impl<T: Drop, N: Notice, A: Allocator + Copy> Inner<T, N, A> {
     /// How many messages were dropped before the receiver `key` read them, and not yet counted as
     /// missed: if that isn't 0, its next `try_recv` returns `Overflowed` with it. 0 if there is no
     /// such receiver.
-    ///
-    /// Source: this crate's own.
     pub fn missed(&self, key: usize) -> u64
         ensures { result ≡ missed self.now key }
     {

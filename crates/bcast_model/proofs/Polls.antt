@@ -54,15 +54,15 @@ module _ {T : Type 0} where
       received_is (λ r. is_out_of_memory r ≡ false → must_wait r ≡ is_empty_reply exact) is_clone owed spelt refused exact r legal (λ _. waits exact)
       (λ _ msg given was _ _. waits (Ok given) ∙ sym (ap is_empty_reply was)) (λ _ e. absurd (false≢true (sym e ∙ none))) memory
 
-  pub future_waits : (answer : Result T TryRecvError) → must_wait (reply.PollFuture (Ok (future_reply answer))) ≡ is_empty_reply answer
+  future_waits : (answer : Result T TryRecvError) → must_wait (reply.PollFuture (Ok (future_reply answer))) ≡ is_empty_reply answer
   future_waits (Err (unread.Overflowed n)) = refl
   future_waits answer = refl
 
-  pub stream_waits : (answer : Result T TryRecvError) → must_wait (reply.PollRecv (Ok (stream_reply answer))) ≡ is_empty_reply answer
+  stream_waits : (answer : Result T TryRecvError) → must_wait (reply.PollRecv (Ok (stream_reply answer))) ≡ is_empty_reply answer
   stream_waits (Err (unread.Overflowed n)) = refl
   stream_waits answer = refl
 
-  pub next_waits : (skips : ℕ) (answer : Result T TryRecvError) → must_wait (reply.PollNext (Ok (next_reply skips answer))) ≡ is_empty_reply answer
+  next_waits : (skips : ℕ) (answer : Result T TryRecvError) → must_wait (reply.PollNext (Ok (next_reply skips answer))) ≡ is_empty_reply answer
   next_waits skips (Err (unread.Overflowed n)) = refl
   next_waits skips answer = refl
 

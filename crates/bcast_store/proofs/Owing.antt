@@ -98,14 +98,6 @@ another m n k c e two =
     let ne : r.0 ≢ k = λ s. none-some r.1 (sym (removed_same m k r.0 s) ∙ r.2) in
     (r.0, r.1, ne, sym (removed_other m k r.0 ne) ∙ r.2, r.3)
 
--- a message that another receiver owes too is owed more than once
-pub two_owe : (m : Cursors) (n k c q d : ℕ) → get m k ≡ Some c → c ≤ n → q ≢ k → get m q ≡ Some d → d ≤ n → 2 ≤ owing_at m n
-two_owe m n k c q d e l ne f h =
-    let a = owing-left m k c n e in
-    let t : nat_le c n ≡ true = grind (arith, common_steps, l) in
-    let b : owing_at (remove m k) n + 1 ≡ owing_at m n = rw t at a in
-    omega (arith, b, owes_counts (remove m k) n q d (removed_other m k q ne ∙ f) h)
-
 -- a cursor that is written is no greater than the end
 pub reached : (end : ℕ) (m : Cursors) (k to q d : ℕ) → ((r e : ℕ) → get m r ≡ Some e → e ≤ end) → to ≤ end → get (insert m k to) q ≡ Some d → d ≤ end
 reached end m k to q d old high f = let a = get-insert nat_cmp_total m k to q in grind (arith, common_steps, old q d, high, a, f)

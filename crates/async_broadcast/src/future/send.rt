@@ -57,7 +57,13 @@ impl<T: Clone, P: Ask<T, ()>, A: Allocator + Copy> Sender<T, P, A> {
         match self.broadcast_direct(msg) {
             Ok(send) => match Box::new(self.alloc, send) {
                 Ok(boxed) => Ok(boxed),
-                Err(refused) => Err(NoMemory(refused.value.cancel())),
+                Err(refused) => {
+                    let mut given_up = refused.value;
+                    let Some(msg) = given_up.msg.take() else {
+                        unreachable!()
+                    };
+                    Err(NoMemory(msg))
+                }
             },
             Err(error) => Err(error),
         }
@@ -98,45 +104,14 @@ impl<T: Clone, P: Ask<T, ()>, A: Allocator + Copy> Sender<T, P, A> {
     }
 }
 
-impl<T: Clone, P: Ask<T, ()>, A: Allocator> Send<'_, T, P, A> {
-    // Gives up a send that was never polled.
-    fn cancel(self) -> T
-        requires { IsSome self.msg }
-        ensures back { Some result ≡ self.entry.msg }
-        ensures ended { IfSome self.entry.place (λ place.
-            P.gave self.entry.sender.now.port (Call.EndSend place) Reply.EndSend) }
-    {
-        let Send {
-            sender,
-            place,
-            msg,
-            waker: _,
-        } = self;
-        sender.end_send(place);
-        match msg {
-            Some(msg) => msg,
-            None => unreachable!(),
-        }
-    }
-}
-
-impl<T: Clone, P: Ask<T, ()>, A: Allocator> Sender<T, P, A> {
-    // Gives up the place of a send, if it still has one.
-    fn end_send(&self, place: Option<usize>)
-        ensures { IfSome place (λ place. P.gave self.now.port (Call.EndSend place) Reply.EndSend) }
-    {
-        if let Some(place) = place {
-            self.port.ask(&mut (), Change::EndSend(place));
-        }
-    }
-}
-
 impl<T: Clone, P: Ask<T, ()>, A: Allocator> Drop for Send<'_, T, P, A> {
     fn drop(self)
         ensures { IfSome self.entry.place (λ place.
             P.gave self.entry.sender.now.port (Call.EndSend place) Reply.EndSend) }
     {
-        self.sender.end_send(self.place);
+        if let Some(place) = self.place {
+            self.sender.port.ask(&mut (), Change::EndSend(place));
+        }
         let Send {
             sender: _,
             place: _,
@@ -151,10 +126,7 @@ impl<T: Clone, P: Ask<T, ()>, A: Allocator + Copy> Future for Send<'_, T, P, A> 
 
     ghost gives = { λ s out. GivesSent P.gave s.sender.now.port s.place s.msg out };
 
-    fn poll(
-        &mut self,
-        cx: &mut Context<'_>,
-    ) -> Poll<Result<Result<Option<T>, SendError<T>>, NoMemory<T>>>
+    fn poll(&mut self, cx: &mut Context<'_>) -> Poll<Self::Output>
         ensures value { IfReady result
             (GivesSent P.gave self.old.sender.now.port self.old.place self.old.msg) }
         ensures again { OnPending result ⊤ }

@@ -1,14 +1,12 @@
-//! The lock, and the condition variables that threads wait on.
-ghost use Rattle.std.specs.Prelude.{◌≡◌, false};
+//! The lock, what it guards, and the condition variables that threads wait on.
+ghost use Rattle.async_broadcast.specs.Woken.{KnowsTail, HasWokenSender, HasWokenReceiver};
 
-use super::limit::Limit;
-use super::state::State;
-use super::threads::Woken;
+use super::threads::{Threads, Woken};
 use crate::journal::CallJournal;
 use crate::wake::Wake;
 use bcast_core::Inner;
 use std::alloc::Allocator;
-use std::sync::{Condvar, Mutex, MutexGuard, Wait};
+use std::sync::{Condvar, Mutex, MutexGuard};
 
 /// A channel behind its lock.
 #[derive(Drop)]
@@ -20,6 +18,19 @@ pub(super) struct Channel<T: Clone, A: Allocator, J: CallJournal<T>> {
     pub(super) message_ready: Condvar,
 }
 
+/// What the lock guards: the channel, the journal of its calls, and the threads that wait for it.
+/// Once the lock is taken, it was chosen for every earlier call which threads it has to wake.
+#[derive(Drop)]
+pub(crate) struct State<T: Clone, A: Allocator, J: CallJournal<T>> {
+    pub(super) inner: Inner<T, Wake, A>,
+    pub(super) journal: J,
+    pub(super) threads: Threads,
+    ghost records: { ∥ J.records journal inner ∥₁ },
+    ghost knows: { KnowsTail inner threads },
+    ghost sends: { HasWokenSender inner threads },
+    ghost receives: { HasWokenReceiver threads },
+}
+
 /// The state, while the lock is held.
 pub(super) type Locked<'a, T, A, J> = MutexGuard<'a, State<T, A, J>>;
 
@@ -27,8 +38,13 @@ impl<T: Clone, A: Allocator + Copy, J: CallJournal<T>> Channel<T, A, J> {
     pub(super) fn new(inner: Inner<T, Wake, A>, journal: J) -> Self
         requires { ∥ J.records journal inner ∥₁ }
     {
+        let threads = Threads::none();
         Channel {
-            state: Mutex::new(State::new(inner, journal)),
+            state: Mutex::new(State {
+                inner,
+                journal,
+                threads,
+            }),
             send_ready: Condvar::new(),
             message_ready: Condvar::new(),
         }
@@ -40,24 +56,6 @@ impl<T: Clone, A: Allocator + Copy, J: CallJournal<T>> Channel<T, A, J> {
     pub(super) fn unlock(&self, state: Locked<'_, T, A, J>, woken: Woken) {
         drop(state);
         woken.wake(&self.send_ready, &self.message_ready);
-    }
-
-    /// Wakes these threads, and releases the lock until the condition is notified or the time is
-    /// over. Returns whether it is over.
-    pub(super) fn wait<'a, R: Wait, L: Limit<R>>(
-        &'a self,
-        rt: &R,
-        condition: &Condvar,
-        state: Locked<'a, T, A, J>,
-        woken: Option<Woken>,
-        limit: &L,
-    ) -> (Locked<'a, T, A, J>, bool)
-        ensures { L.is_endless → result.1 ≡ false }
-    {
-        if let Some(woken) = woken {
-            woken.wake(&self.send_ready, &self.message_ready);
-        }
-        limit.wait(rt, condition, state)
     }
 }
 
@@ -78,6 +76,7 @@ macro_rules! with_channel {
     ($port:expr, |$inner:ident| $read:expr) => {{
         let state = lock!($port.channel, &$port.rt);
         let $inner = &state.inner;
+        $inner.invariant_holds();
         $read
     }};
 }

@@ -83,9 +83,11 @@ impl<T: Clone, R: Wait + Clone, A: Allocator + Copy, J: CallJournal<T>> Lock<T, 
         }
         let call = attempt.again(&made, answer);
         let waiting = attempt.begin(&mut state.threads, &state.inner);
-        let woken = state.threads.choose_woken(&state.inner);
+        if let Some(woken) = state.threads.choose_woken(&state.inner) {
+            woken.wake(&channel.send_ready, &channel.message_ready);
+        }
         let condition = attempt.condition(channel);
-        let (mut guard, is_over) = channel.wait(&self.rt, condition, guard, woken, limit);
+        let (mut guard, is_over) = limit.wait(&self.rt, condition, guard);
         let state = &mut *guard;
         state.journal.check(&self.rt, caller, &state.inner);
         let before = Snapshot::of(&state.inner);

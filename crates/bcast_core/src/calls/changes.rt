@@ -71,7 +71,7 @@ impl<T: Drop> CallOf<T> for Close {
 
     ghost reply = { λ _. reply.Close };
 
-    fn answered_by<R: RepliesTo<T>>(self, port: &R) -> bool {
+    fn answered_by<R: RepliesTo<T>>(self, port: &R) -> Self::Answer {
         match port.reply_to(Call::Close) {
             Reply::Close(answer) => answer,
             _ => unreachable!(),
@@ -81,7 +81,7 @@ impl<T: Drop> CallOf<T> for Close {
 
 impl<T: Clone> AtOnce<T> for Close {
     #[inline(always)]
-    fn make<N: Notice, A: Allocator + Copy>(self, inner: &mut Inner<T, N, A>) -> bool {
+    fn make<N: Notice, A: Allocator + Copy>(self, inner: &mut Inner<T, N, A>) -> Self::Answer {
         inner.close()
     }
 }
@@ -97,7 +97,7 @@ impl<T: Drop> CallOf<T> for SetCapacity {
 
     ghost reply = { λ _. reply.SetCapacity };
 
-    fn answered_by<R: RepliesTo<T>>(self, port: &R) -> Result<(), AllocError> {
+    fn answered_by<R: RepliesTo<T>>(self, port: &R) -> Self::Answer {
         match port.reply_to(Call::SetCapacity(self.0)) {
             Reply::SetCapacity(answer) => answer,
             _ => unreachable!(),
@@ -107,10 +107,7 @@ impl<T: Drop> CallOf<T> for SetCapacity {
 
 impl<T: Clone> AtOnce<T> for SetCapacity {
     #[inline(always)]
-    fn make<N: Notice, A: Allocator + Copy>(
-        self,
-        inner: &mut Inner<T, N, A>,
-    ) -> Result<(), AllocError> {
+    fn make<N: Notice, A: Allocator + Copy>(self, inner: &mut Inner<T, N, A>) -> Self::Answer {
         inner.set_capacity(self.0)
     }
 }

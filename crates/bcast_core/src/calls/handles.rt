@@ -28,7 +28,7 @@ impl<T: Drop> CallOf<T> for AddReceiver {
 
     ghost reply = { receiver_reply };
 
-    fn answered_by<R: RepliesTo<T>>(self, port: &R) -> Result<usize, HandleError> {
+    fn answered_by<R: RepliesTo<T>>(self, port: &R) -> Self::Answer {
         let call = match self {
             AddReceiver::New => Call::NewReceiver,
             AddReceiver::Activate => Call::Activate,
@@ -47,10 +47,7 @@ impl<T: Drop> CallOf<T> for AddReceiver {
 
 impl<T: Clone> AtOnce<T> for AddReceiver {
     #[inline(always)]
-    fn make<N: Notice, A: Allocator + Copy>(
-        self,
-        inner: &mut Inner<T, N, A>,
-    ) -> Result<usize, HandleError> {
+    fn make<N: Notice, A: Allocator + Copy>(self, inner: &mut Inner<T, N, A>) -> Self::Answer {
         match self {
             AddReceiver::New => inner.new_receiver(),
             AddReceiver::Activate => inner.activate(),
@@ -78,7 +75,7 @@ impl<T: Drop> CallOf<T> for AddHandle {
 
     ghost reply = { handle_reply };
 
-    fn answered_by<R: RepliesTo<T>>(self, port: &R) -> Result<(), HandleError> {
+    fn answered_by<R: RepliesTo<T>>(self, port: &R) -> Self::Answer {
         let call = match self {
             AddHandle::Sender => Call::NewSender,
             AddHandle::Inactive => Call::CloneInactive,
@@ -95,10 +92,7 @@ impl<T: Drop> CallOf<T> for AddHandle {
 
 impl<T: Clone> AtOnce<T> for AddHandle {
     #[inline(always)]
-    fn make<N: Notice, A: Allocator + Copy>(
-        self,
-        inner: &mut Inner<T, N, A>,
-    ) -> Result<(), HandleError> {
+    fn make<N: Notice, A: Allocator + Copy>(self, inner: &mut Inner<T, N, A>) -> Self::Answer {
         match self {
             AddHandle::Sender => inner.new_sender(),
             AddHandle::Inactive => inner.clone_inactive(),

@@ -21,7 +21,7 @@ impl<T: Drop> CallOf<T> for TryBroadcast<T> {
 
     ghost reply = { λ _. reply.TryBroadcast };
 
-    fn answered_by<R: RepliesTo<T>>(self, port: &R) -> Result<Option<T>, TrySendError<T>> {
+    fn answered_by<R: RepliesTo<T>>(self, port: &R) -> Self::Answer {
         match port.reply_to(Call::TryBroadcast(self.0)) {
             Reply::TryBroadcast(answer) => answer,
             _ => unreachable!(),
@@ -31,10 +31,7 @@ impl<T: Drop> CallOf<T> for TryBroadcast<T> {
 
 impl<T: Clone> AtOnce<T> for TryBroadcast<T> {
     #[inline(always)]
-    fn make<N: Notice, A: Allocator + Copy>(
-        self,
-        inner: &mut Inner<T, N, A>,
-    ) -> Result<Option<T>, TrySendError<T>> {
+    fn make<N: Notice, A: Allocator + Copy>(self, inner: &mut Inner<T, N, A>) -> Self::Answer {
         inner.try_broadcast(self.0)
     }
 }
@@ -50,7 +47,7 @@ impl<T: Drop> CallOf<T> for TryBroadcastAll<T> {
 
     ghost reply = { λ _. reply.TryBroadcastAll };
 
-    fn answered_by<R: RepliesTo<T>>(self, port: &R) -> Result<(), TrySendError<Messages<T>>> {
+    fn answered_by<R: RepliesTo<T>>(self, port: &R) -> Self::Answer {
         match port.reply_to(Call::TryBroadcastAll(self.0)) {
             Reply::TryBroadcastAll(answer) => answer,
             _ => unreachable!(),
@@ -60,10 +57,7 @@ impl<T: Drop> CallOf<T> for TryBroadcastAll<T> {
 
 impl<T: Clone> AtOnce<T> for TryBroadcastAll<T> {
     #[inline(always)]
-    fn make<N: Notice, A: Allocator + Copy>(
-        self,
-        inner: &mut Inner<T, N, A>,
-    ) -> Result<(), TrySendError<Messages<T>>> {
+    fn make<N: Notice, A: Allocator + Copy>(self, inner: &mut Inner<T, N, A>) -> Self::Answer {
         inner.offer_all(self.0)
     }
 }
@@ -79,7 +73,7 @@ impl<T: Drop> CallOf<T> for AttemptSend<T> {
 
     ghost reply = { λ _. reply.AttemptSend };
 
-    fn answered_by<R: RepliesTo<T>>(self, port: &R) -> SendPoll<T> {
+    fn answered_by<R: RepliesTo<T>>(self, port: &R) -> Self::Answer {
         match port.reply_to(Call::AttemptSend(self.0)) {
             Reply::AttemptSend(answer) => answer,
             _ => unreachable!(),
@@ -89,7 +83,7 @@ impl<T: Drop> CallOf<T> for AttemptSend<T> {
 
 impl<T: Clone> AtOnce<T> for AttemptSend<T> {
     #[inline(always)]
-    fn make<N: Notice, A: Allocator + Copy>(self, inner: &mut Inner<T, N, A>) -> SendPoll<T> {
+    fn make<N: Notice, A: Allocator + Copy>(self, inner: &mut Inner<T, N, A>) -> Self::Answer {
         inner.attempt_send(self.0)
     }
 }
@@ -105,7 +99,7 @@ impl<T: Drop> CallOf<T> for BeginSend {
 
     ghost reply = { λ _. reply.BeginSend };
 
-    fn answered_by<R: RepliesTo<T>>(self, port: &R) -> Result<usize, AllocError> {
+    fn answered_by<R: RepliesTo<T>>(self, port: &R) -> Self::Answer {
         match port.reply_to(Call::BeginSend) {
             Reply::BeginSend(answer) => answer,
             _ => unreachable!(),
@@ -115,10 +109,7 @@ impl<T: Drop> CallOf<T> for BeginSend {
 
 impl<T: Clone> AtOnce<T> for BeginSend {
     #[inline(always)]
-    fn make<N: Notice, A: Allocator + Copy>(
-        self,
-        inner: &mut Inner<T, N, A>,
-    ) -> Result<usize, AllocError> {
+    fn make<N: Notice, A: Allocator + Copy>(self, inner: &mut Inner<T, N, A>) -> Self::Answer {
         inner.begin_send()
     }
 }
@@ -134,7 +125,7 @@ impl<T: Drop> CallOf<T> for TryRecv {
 
     ghost reply = { λ _. reply.TryRecv };
 
-    fn answered_by<R: RepliesTo<T>>(self, port: &R) -> Result<Result<T, TryRecvError>, AllocError> {
+    fn answered_by<R: RepliesTo<T>>(self, port: &R) -> Self::Answer {
         match port.reply_to(Call::TryRecv(self.0)) {
             Reply::TryRecv(answer) => answer,
             _ => unreachable!(),
@@ -144,10 +135,7 @@ impl<T: Drop> CallOf<T> for TryRecv {
 
 impl<T: Clone> AtOnce<T> for TryRecv {
     #[inline(always)]
-    fn make<N: Notice, A: Allocator + Copy>(
-        self,
-        inner: &mut Inner<T, N, A>,
-    ) -> Result<Result<T, TryRecvError>, AllocError> {
+    fn make<N: Notice, A: Allocator + Copy>(self, inner: &mut Inner<T, N, A>) -> Self::Answer {
         inner.try_recv(self.0)
     }
 }

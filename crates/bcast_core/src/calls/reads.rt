@@ -26,7 +26,7 @@ impl<T: Drop> CallOf<T> for Count {
 
     ghost reply = { count_reply };
 
-    fn answered_by<R: RepliesTo<T>>(self, port: &R) -> usize {
+    fn answered_by<R: RepliesTo<T>>(self, port: &R) -> Self::Answer {
         let call = match self {
             Count::Capacity => Call::Capacity,
             Count::Len => Call::Len,
@@ -48,7 +48,7 @@ impl<T: Drop> CallOf<T> for Count {
 impl<T: Clone> AtOnce<T> for Count {
     #[inline(always)]
     #[tactic(auto, using(crate::proofs::Accessors::answers_read))]
-    fn make<N: Notice, A: Allocator + Copy>(self, inner: &mut Inner<T, N, A>) -> usize {
+    fn make<N: Notice, A: Allocator + Copy>(self, inner: &mut Inner<T, N, A>) -> Self::Answer {
         inner.invariant_holds();
         match self {
             Count::Capacity => inner.capacity(),
@@ -78,7 +78,7 @@ impl<T: Drop> CallOf<T> for Test {
 
     ghost reply = { test_reply };
 
-    fn answered_by<R: RepliesTo<T>>(self, port: &R) -> bool {
+    fn answered_by<R: RepliesTo<T>>(self, port: &R) -> Self::Answer {
         let call = match self {
             Test::Overflow => Call::Overflow,
             Test::AwaitActive => Call::AwaitActive,
@@ -102,7 +102,7 @@ impl<T: Drop> CallOf<T> for Test {
 impl<T: Clone> AtOnce<T> for Test {
     #[tactic(auto, using(crate::proofs::Accessors::named, crate::proofs::Accessors::answers_read))]
     #[inline(always)]
-    fn make<N: Notice, A: Allocator + Copy>(self, inner: &mut Inner<T, N, A>) -> bool {
+    fn make<N: Notice, A: Allocator + Copy>(self, inner: &mut Inner<T, N, A>) -> Self::Answer {
         inner.invariant_holds();
         match self {
             Test::Overflow => inner.overflow(),
@@ -126,7 +126,7 @@ impl<T: Drop> CallOf<T> for EndNumber {
 
     ghost reply = { λ _. reply.EndNumber };
 
-    fn answered_by<R: RepliesTo<T>>(self, port: &R) -> u64 {
+    fn answered_by<R: RepliesTo<T>>(self, port: &R) -> Self::Answer {
         match port.reply_to(Call::EndNumber) {
             Reply::EndNumber(answer) => answer,
             _ => unreachable!(),
@@ -136,7 +136,7 @@ impl<T: Drop> CallOf<T> for EndNumber {
 
 impl<T: Clone> AtOnce<T> for EndNumber {
     #[inline(always)]
-    fn make<N: Notice, A: Allocator + Copy>(self, inner: &mut Inner<T, N, A>) -> u64 {
+    fn make<N: Notice, A: Allocator + Copy>(self, inner: &mut Inner<T, N, A>) -> Self::Answer {
         inner.invariant_holds();
         inner.end_number()
     }

@@ -23,7 +23,7 @@ impl<T: Drop> CallOf<T> for PollSend<T> {
 
     ghost reply = { λ _. reply.PollSend };
 
-    fn answered_by<R: RepliesTo<T>>(self, port: &R) -> SendPoll<T> {
+    fn answered_by<R: RepliesTo<T>>(self, port: &R) -> Self::Answer {
         match port.reply_to(Call::PollSend(self.0, self.1)) {
             Reply::PollSend(answer) => answer,
             _ => unreachable!(),
@@ -37,7 +37,7 @@ impl<T: Clone> Polls<T> for PollSend<T> {
         self,
         inner: &mut Inner<T, N, A>,
         maker: &mut M,
-    ) -> Result<SendPoll<T>, Self> {
+    ) -> Result<Self::Answer, Self> {
         let PollSend(place, msg) = self;
         inner
             .poll_send_by(place, msg, maker)
@@ -56,10 +56,7 @@ impl<T: Drop> CallOf<T> for PollFuture {
 
     ghost reply = { λ _. reply.PollFuture };
 
-    fn answered_by<R: RepliesTo<T>>(
-        self,
-        port: &R,
-    ) -> Result<Poll<Result<T, RecvError>>, AllocError> {
+    fn answered_by<R: RepliesTo<T>>(self, port: &R) -> Self::Answer {
         match port.reply_to(Call::PollFuture(self.0)) {
             Reply::PollFuture(answer) => answer,
             _ => unreachable!(),
@@ -73,7 +70,7 @@ impl<T: Clone> Polls<T> for PollFuture {
         self,
         inner: &mut Inner<T, N, A>,
         maker: &mut M,
-    ) -> Result<Result<Poll<Result<T, RecvError>>, AllocError>, Self> {
+    ) -> Result<Self::Answer, Self> {
         match inner.poll_receive(ReceivePoll::Future, self.0, maker, &mut Uncounted) {
             Ok(received) => Ok(received.of_future()),
             Err(_) => Err(self),
@@ -92,10 +89,7 @@ impl<T: Drop> CallOf<T> for PollRecv {
 
     ghost reply = { λ _. reply.PollRecv };
 
-    fn answered_by<R: RepliesTo<T>>(
-        self,
-        port: &R,
-    ) -> Result<Poll<Option<Result<T, RecvError>>>, AllocError> {
+    fn answered_by<R: RepliesTo<T>>(self, port: &R) -> Self::Answer {
         match port.reply_to(Call::PollRecv(self.0)) {
             Reply::PollRecv(answer) => answer,
             _ => unreachable!(),
@@ -109,7 +103,7 @@ impl<T: Clone> Polls<T> for PollRecv {
         self,
         inner: &mut Inner<T, N, A>,
         maker: &mut M,
-    ) -> Result<Result<Poll<Option<Result<T, RecvError>>>, AllocError>, Self> {
+    ) -> Result<Self::Answer, Self> {
         match inner.poll_receive(ReceivePoll::Recv, self.0, maker, &mut Uncounted) {
             Ok(received) => Ok(received.of_recv()),
             Err(_) => Err(self),
@@ -128,7 +122,7 @@ impl<T: Drop> CallOf<T> for PollNext {
 
     ghost reply = { λ _. reply.PollNext };
 
-    fn answered_by<R: RepliesTo<T>>(self, port: &R) -> Result<Poll<Option<(T, u64)>>, AllocError> {
+    fn answered_by<R: RepliesTo<T>>(self, port: &R) -> Self::Answer {
         match port.reply_to(Call::PollNext(self.0)) {
             Reply::PollNext(answer) => answer,
             _ => unreachable!(),
@@ -142,7 +136,7 @@ impl<T: Clone> Polls<T> for PollNext {
         self,
         inner: &mut Inner<T, N, A>,
         maker: &mut M,
-    ) -> Result<Result<Poll<Option<(T, u64)>>, AllocError>, Self> {
+    ) -> Result<Self::Answer, Self> {
         match inner.poll_receive(ReceivePoll::Next, self.0, maker, &mut Uncounted) {
             Ok(received) => Ok(received.of_next()),
             Err(_) => Err(self),

@@ -1,16 +1,24 @@
-//! Receiving at once: one message, or all that are there.
-ghost use Rattle.std.specs.Prelude.{vec_len, vec_capacity, ◌≡◌, ◌⊎◌, ◌+◌, ◌≤◌, min, IsOk};
-ghost use Rattle.bcast_model.specs.Answers.{Answers};
-ghost use Rattle.bcast_model.specs.Words.{missed, unread};
+//! Receiving: one message, or all that are there, at once, or by a future or a stream, which wait
+//! if there is nothing.
+ghost use Rattle.std.specs.Prelude.{vec_len, vec_capacity, ◌≡◌, ◌⊎◌, ◌+◌, ◌≤◌, min};
+ghost use Rattle.std.specs.Prelude.{true, false, IfOk, OnErr, IsOk};
+ghost use Rattle.bcast_model.specs.Words.{NoClone, Answers, missed, stream_of, unread};
 ghost use Rattle.bcast_model.specs.declared.run.Call.TheVariants as call;
 ghost use Rattle.bcast_model.specs.declared.run.Reply.TheVariants as reply;
 ghost use Rattle.bcast_core.specs.Batch.{MayBeRefused, ReceivesInto};
+ghost use Rattle.bcast_core.specs.Parts.{finds_nothing, tries_by};
+ghost use Rattle.bcast_core.specs.Polls.{kind_of, call_of, reply_of};
+ghost use Rattle.bcast_core.specs.Tries.{tries_of};
 
 use super::Inner;
-use bcast_model::error::TryRecvError;
-use bcast_queue::Uncounted;
-use bcast_waiting::notice::Notice;
+use crate::receive_poll::{ReceivePoll, Received};
+use bcast_model::error::{RecvError, TryRecvError};
+use bcast_model::listener::Kind;
+use bcast_queue::{Counter, Steps, Uncounted};
+use bcast_waiting::notice::{MakesNotice, NoNotice, Notice, OwnedNotice};
+use futures::task::Poll;
 use std::alloc::{AllocError, Allocator};
+use std::sync::ledger::Ledger;
 
 impl<T: Clone, N: Notice, A: Allocator + Copy> Inner<T, N, A> {
     /// Gives the receiver of this key its next message: the message itself, or a clone of it if
@@ -42,6 +50,7 @@ impl<T: Clone, N: Notice, A: Allocator + Copy> Inner<T, N, A> {
         }
         received
     }
+
     /// Gives the receiver of this key those of its next messages that are there, at most `limit`:
     /// puts them last into `msgs`, and returns how many they are.
     ///
@@ -49,8 +58,6 @@ impl<T: Clone, N: Notice, A: Allocator + Copy> Inner<T, N, A> {
     /// it gives none, and `try_recv` says why. Memory in `msgs` for those that are there is taken
     /// first: if it is refused, none is given. If memory for the clone of one is refused, those
     /// before it are given.
-    ///
-    /// Source: this crate's own.
     pub fn receive_many<B: Allocator>(
         &mut self,
         key: usize,
@@ -78,5 +85,138 @@ impl<T: Clone, N: Notice, A: Allocator + Copy> Inner<T, N, A> {
         let given = self.parts.read_many(key, cursor, count, msgs);
         self.parts.tell_a_sender();
         given
+    }
+
+    /// Receives as `try_recv` does, by a future. If there is nothing it waits: `notice` is told
+    /// once it is to be polled again.
+    ///
+    /// # Errors
+    ///
+    /// `AllocError` as for `try_recv`; nothing changed.
+    ///
+    /// Source: the poll of `Recv` of async-broadcast.
+    #[inline(always)]
+    pub fn poll_future<L: Ledger>(
+        &mut self,
+        key: usize,
+        notice: N,
+        steps: &mut Steps<L>,
+    ) -> Result<Poll<Result<T, RecvError>>, AllocError>
+        ensures answers { Answers T.is_clone self.old (call.PollFuture key)
+            (reply.PollFuture result) self.new }
+        ensures sure { ((msg : T) → T.is_infallible msg) → IsOk result }
+        ensures steps { steps.new ≡ steps.old + 1 }
+    {
+        match self.poll_receive(
+            ReceivePoll::Future,
+            key,
+            &mut OwnedNotice::new(notice),
+            steps,
+        ) {
+            Ok(received) => received.of_future(),
+            Err(_) => unreachable!(),
+        }
+    }
+
+    /// Receives as `try_recv` does, by the stream. `Ready(None)` says that everything was read and
+    /// the channel is closed. If there is nothing it waits, as `poll_future` does. A stream that
+    /// waits and was not told doesn't look for a message, since there is none.
+    ///
+    /// # Errors
+    ///
+    /// `AllocError` as for `try_recv`; nothing changed.
+    ///
+    /// Source: `Receiver::poll_recv` of async-broadcast.
+    pub fn poll_recv<L: Ledger>(
+        &mut self,
+        key: usize,
+        notice: N,
+        steps: &mut Steps<L>,
+    ) -> Result<Poll<Option<Result<T, RecvError>>>, AllocError>
+        ensures answers { Answers T.is_clone self.old (call.PollRecv key) (reply.PollRecv result)
+            self.new }
+        ensures sure { ((msg : T) → T.is_infallible msg) → IsOk result }
+        ensures steps { steps.new ≡ steps.old + tries_of self.old.control (stream_of key) }
+    {
+        match self.poll_receive(ReceivePoll::Recv, key, &mut OwnedNotice::new(notice), steps) {
+            Ok(received) => received.of_recv(),
+            Err(_) => unreachable!(),
+        }
+    }
+
+    /// Receives as `poll_recv` does, but skips what the receiver missed. The number beside the
+    /// message is how many messages it skipped.
+    ///
+    /// # Errors
+    ///
+    /// `AllocError` as for `try_recv`; nothing changed, and nothing was skipped.
+    ///
+    /// Source: the `Stream` of async-broadcast's `Receiver`; the number is this crate's own.
+    pub fn poll_next<L: Ledger>(
+        &mut self,
+        key: usize,
+        notice: N,
+        steps: &mut Steps<L>,
+    ) -> Result<Poll<Option<(T, u64)>>, AllocError>
+        ensures answers { Answers T.is_clone self.old (call.PollNext key) (reply.PollNext result)
+            self.new }
+        ensures sure { ((msg : T) → T.is_infallible msg) → IsOk result }
+        ensures steps { steps.new ≡ steps.old + tries_of self.old.control (stream_of key) }
+    {
+        match self.poll_receive(ReceivePoll::Next, key, &mut OwnedNotice::new(notice), steps) {
+            Ok(received) => received.of_next(),
+            Err(_) => unreachable!(),
+        }
+    }
+
+    /// Any of the three receives that wait, with what makes the notice if it must wait.
+    #[inline(always)]
+    pub(crate) fn poll_receive<C: Counter, M: MakesNotice<N>>(
+        &mut self,
+        poll: ReceivePoll,
+        key: usize,
+        maker: &mut M,
+        steps: &mut C,
+    ) -> Result<Received<T>, NoNotice>
+        ensures answers { IfOk result (λ received. Answers T.is_clone self.old (call_of poll key)
+            (reply_of poll received) self.new) }
+        ensures sure { ((msg : T) → T.is_infallible msg)
+            → IfOk result (λ received. IsOk received.found) }
+
+        ensures made { IfOk result (λ received. finds_nothing received.found ≡ true
+            → M.made maker.old maker.new) }
+        ensures idle { IfOk result (λ received. finds_nothing received.found ≡ false
+            → maker.new ≡ maker.old) }
+        ensures same { OnErr result (self.new ≡ self.old) }
+        ensures refused { OnErr result (M.refused maker.old maker.new) }
+
+        ensures steps { C.counts ≡ true → C.total steps.new ≡ C.total steps.old
+            + tries_by (kind_of poll) self.old.control (key, kind_of poll) }
+    {
+        let (at, skips) = self.parts.reads_at(poll, key);
+        let found = self.parts.poll(key, poll.kind(), at, maker, steps)?;
+        Ok(Received { found, skips })
+    }
+}
+
+impl<T: Drop, N: Notice, A: Allocator + Copy> Inner<T, N, A> {
+    /// Gives up the future of the receiver of this key. If it was told, the first listener that is
+    /// left is told in its place, unless it is told already. If it doesn't wait, nothing changes.
+    ///
+    /// Source: the drop of `Recv` of async-broadcast.
+    pub fn end_future(&mut self, key: usize)
+        ensures { Answers NoClone self.old (call.EndFuture key) reply.EndFuture self.new }
+    {
+        let _ = self.take_future(key);
+    }
+
+    /// Gives up the future of the receiver of this key, as `end_future` does, and returns its
+    /// notice if it waited.
+    pub fn take_future(&mut self, key: usize) -> Option<N>
+        ensures { Answers NoClone self.old (call.EndFuture key) reply.EndFuture self.new }
+    {
+        let notice = self.parts.pair_ended(key, Kind::Future);
+        self.parts.tell_a_sender();
+        notice
     }
 }

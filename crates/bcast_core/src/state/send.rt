@@ -52,8 +52,6 @@ impl<T: Drop, N: Notice, A: Allocator + Copy> Inner<T, N, A> {
     /// - `Inactive`: there is no active receiver.
     /// - `Full`: there are more messages than the capacity has room for, or than there are numbers
     ///   below `u64::MAX`.
-    ///
-    /// Source: this crate's own.
     pub fn try_broadcast_all(&mut self, msgs: Vec<T>) -> Result<(), TrySendError<Vec<T>>>
         ensures { Answers NoClone self.old (call.TryBroadcastAll msgs.items)
             (reply.TryBroadcastAll (in_lists result)) self.new }

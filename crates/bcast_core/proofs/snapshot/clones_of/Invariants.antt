@@ -1,7 +1,7 @@
 -- The messages before the index are cloned, and there is room for the others.
 use Rattle.std.proofs.Common.{◌≡◌, ◌≤◌, length, take, vec_len, vec_capacity}
 use Rattle.std.specs.List.{AllZip}
-use Rattle.bcast_core.proofs.parts.snapshot.clones_of.Given as goal
+use Rattle.bcast_core.proofs.snapshot.clones_of.Given as goal
 
 abbrev pub invariant-loop-index : goal.invariant-loop-index
 invariant-loop-index g l = record {

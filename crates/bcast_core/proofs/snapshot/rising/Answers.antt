@@ -10,7 +10,7 @@ use Rattle.std.specs.FinMap.{nat_cmp-IsAntisymmetric}
 use Rattle.std.proofs.lemmas.List.Filters.{dedup_is}
 use Rattle.std.proofs.lemmas.List.Sorted.{list_any-IsPermutation}
 use Rattle.std.proofs.lemmas.Map.Keys.{IsStrictlyIncreasing-dedup}
-use Rattle.bcast_core.proofs.parts.snapshot.rising.Goals as goal
+use Rattle.bcast_core.proofs.snapshot.rising.Goals as goal
 
 twice : (a b : Bool) → (a || b) ≡ (a || (a || b))
 twice true b = refl

@@ -4,8 +4,9 @@ ghost use Rattle.std.specs.Prelude.{◌≡◌, IfOk};
 ghost use Rattle.bcast_model.specs.Words.{View, IsShown, unread, missed};
 ghost use Rattle.async_broadcast.specs.Snapshots.{ShowsSomeState};
 
+use super::channel::{lock, with_channel};
+use super::{Lock, LockReceiver};
 use crate::handle::{Handle, Role};
-use crate::lock::{Lock, LockReceiver};
 use bcast_core::Snapshot;
 use std::alloc::{AllocError, Allocator};
 use std::sync::Wait;
@@ -49,18 +50,16 @@ impl<T: Clone, R: Wait + Clone, A: Allocator + Copy> LockReceiver<T, R, A> {
     pub fn unread(&self) -> usize
         ensures { (v : View T) × IsShown v × (result ≡ unread v self.now.role.key) }
     {
-        self.port.unread(self.role.key)
+        with_channel!(self.port, |inner| inner.unread(self.role.key))
     }
 
     /// How many messages were dropped before this receiver read them, and were not yet counted as
     /// missed: if that isn't 0, the next receive says so.
     ///
     /// Waits for the lock, and changes nothing. The example is that of `unread`.
-    ///
-    /// Source: this crate's own.
     pub fn missed(&self) -> u64
         ensures { (v : View T) × IsShown v × (result ≡ missed v self.now.role.key) }
     {
-        self.port.missed(self.role.key)
+        with_channel!(self.port, |inner| inner.missed(self.role.key))
     }
 }
