@@ -8,7 +8,7 @@ use mathlib.Core.List.{IsPrefix}
 use prog.Atomic.{either}
 use Rattle.logbook.specs.Pages.{Cell, cell, Nib, no_nib, may_write, step, gives, adds, Moves}
 use Rattle.bcast_history.specs.declared.rule.Entry.{Entry}
-use Rattle.bcast_history.specs.Book.{IsHome, notes_of, turn_of, IsKept, Lacks, Makes, Adds}
+use Rattle.bcast_history.specs.Book.{IsHome, notes_of, turn_of, IsKept, IsEnded, HasEachOnce, Lacks, Makes, Adds}
 
 -- what is at home is among the cells, and stays at home
 home_in : (cells : List Cell) (key : ℕ) → IsHome cells key → key < length cells
@@ -47,8 +47,18 @@ module _ {X : Type 0} where
       let now = either (found == 0) 0 found in
       let set = slice_set cells 0 (now, true) in
       let stays : (key : ℕ) → IsHome cells key → IsHome (set ++ (0, false) ∷ []) key = λ key home. home_more set (0, false) key (home_stays cells 0 now key home) in
-      let all : All (Home (set ++ (0, false) ∷ [])) log = λ k d less. stays _ (kept.1 k d less) in
-      (home_in cells 0 kept.0, kept.0, (adds, [], None, tt, (stays 0 kept.0, rw (append-nil log) all), inl (refl, refl), refl))
+      let all : All (Home (set ++ (0, false) ∷ [])) log = λ k d less. stays _ (kept.entries k d less) in
+      let still : IsKept (set ++ (0, false) ∷ []) (log ++ []) = record { word = stays 0 kept.word; entries = rw (append-nil log) all; once = rw (append-nil log) kept.once } in
+      (home_in cells 0 kept.word, kept.word, (adds, [], None, tt, still, inl (refl, refl), refl))
+
+  -- an entry with a cell that no entry has brought home
+  once_more : (log : List (Entry X)) (e : Entry X) → HasEachOnce log → Lacks e.key log → HasEachOnce (log ++ e ∷ [])
+  once_more [] e once lacks = (All-nil (Other e.key), tt)
+  once_more (x ∷ xs) e once lacks =
+      let other : e.key ≢ x.key = λ same. All-head (Other e.key) x xs lacks (sym same) in (
+        All-append (Other x.key) xs (e ∷ []) once.0 (All-cons (Other x.key) e [] other (All-nil (Other x.key))),
+        once_more xs e once.1 (All-tail (Other e.key) x xs lacks),
+      )
 
   -- the step that adds an entry: the cell that the pen brings home was away, so no entry had brought it home
   pub adds_moves : (seen : List (Entry X)) (pen : Nib) (ask : Entry X) → pen.right ≡ may_write → ask.key ≡ pen.key
@@ -61,9 +71,10 @@ module _ {X : Type 0} where
       let here = away right in
       let stays : (key : ℕ) → IsHome cells key → IsHome all key = λ key home. home_stays set pen.key pen.value key (home_stays cells 0 now key home) in
       let own : IsHome all ask.key = rw same (ap (λ (c : Cell). c.1) (get_or-set_same set pen.key (pen.value, true) (0, false) (omega (arith, here.0, length-set cells 0 (now, true))))) in
-      let each = All-append (Home all) log (ask ∷ []) (λ k d less. stays _ (kept.1 k d less)) (All-cons (Home all) ask [] own (All-nil (Home all))) in
-      let lacks : Lacks ask.key log = λ k d less at. let home = subst (IsHome cells) (at ∙ same) (kept.1 k d less) in absurd (cc (home, here.1)) in
-      (home_in cells 0 kept.0, kept.0, (gives, ask ∷ [], None, right, (stays 0 kept.0, each), inl (refl, refl), (log, before, lacks, refl)))
+      let each = All-append (Home all) log (ask ∷ []) (λ k d less. stays _ (kept.entries k d less)) (All-cons (Home all) ask [] own (All-nil (Home all))) in
+      let lacks : Lacks ask.key log = λ k d less at. let home = subst (IsHome cells) (at ∙ same) (kept.entries k d less) in absurd (cc (home, here.1)) in
+      let still : IsKept all (log ++ ask ∷ []) = record { word = stays 0 kept.word; entries = each; once = once_more log ask kept.once lacks } in
+      (home_in cells 0 kept.word, kept.word, (gives, ask ∷ [], None, right, still, inl (refl, refl), (log, before, lacks, refl)))
 
   -- a chain goes on in the entries that come after a log
   abbrev GoesOn : ℕ → List (Entry X) → List (Entry X) → Type 0
@@ -112,3 +123,24 @@ module _ {X : Type 0} where
       let here : (e.key == turn_of first longer) ≡ true = grind (arith, nat_tests) in
       let on = goes_on first longer (e ∷ []) in
       rw is (on.0 ∙ rw (here, was.0) refl, on.1 ∙ rw here refl)
+
+  -- one that names its own cell, and has no note, ends the chain
+  pub ends : (first : ℕ) (log longer after : List (Entry X)) (e : Entry X) → IsPrefix log longer → Lacks e.key longer → e.key ≡ turn_of first log → e.note ≡ None → e.next ≡ e.key
+      → after ≡ longer ++ e ∷ [] → (notes_of first after ≡ notes_of first log) × IsEnded first after
+  ends first log longer after e p lacks turn none own is =
+      let more = one_more first log longer after e p lacks turn is in (
+        more.0 ∙ ap (λ note. notes_of first log ++ cons_option note []) none ∙ append-nil (notes_of first log),
+        (longer, e, is, sym (more.1 ∙ own)),
+      )
+
+  last_once : (before : List (Entry X)) (e : Entry X) (more : List (Entry X)) → HasEachOnce ((before ++ e ∷ []) ++ more) → Lacks e.key more
+  last_once [] e more once = once.0
+  last_once (b ∷ bs) e more once = last_once bs e more once.1
+
+  -- so no entry of the chain comes after it
+  pub as_it_ended : (first : ℕ) (log longer : List (Entry X)) → IsEnded first log → IsPrefix log longer → HasEachOnce longer → notes_of first longer ≡ notes_of first log
+  as_it_ended first log longer ended p once =
+      let all : HasEachOnce ((ended.0 ++ ended.1 ∷ []) ++ p.0) = subst (λ es. HasEachOnce (es ++ p.0)) ended.2 (subst HasEachOnce (sym p.1) once) in
+      let lacks = subst (λ key. Lacks key p.0) ended.3 (last_once ended.0 ended.1 p.0 all) in
+      let none = lacks_chain (turn_of first log) p.0 lacks in
+      rw (← p.1) ((goes_on first log p.0).0 ∙ (ap (λ ns. notes_of first log ++ ns) none.0 ∙ append-nil (notes_of first log)))

@@ -35,13 +35,26 @@ module _ {X : Type 0} where
   turn_of key [] = key
   turn_of key (e ∷ es) = if e.key == key then turn_of e.next es else turn_of key es
 
-  -- the word is at home, and each entry's cell is
-  abbrev pub IsKept : List Cell → List (Entry X) → Type 0
-  IsKept cells log = IsHome cells 0 × All (λ (e : Entry X). IsHome cells e.key) log
-
   -- no entry brought this cell home
   abbrev pub Lacks : ℕ → List (Entry X) → Type 0
   Lacks key log = All (λ (e : Entry X). e.key ≢ key) log
+
+  -- each entry brought a cell of its own home
+  abbrev pub HasEachOnce : List (Entry X) → Type 0
+  HasEachOnce [] = Unit {0}
+  HasEachOnce (e ∷ es) = Lacks e.key es × HasEachOnce es
+
+  -- the word is at home, and each entry's cell is
+  pub record IsKept (cells : List Cell) (log : List (Entry X)) : Type 0 where
+    pub word : IsHome cells 0
+    pub entries : All (λ (e : Entry X). IsHome cells e.key) log
+    pub once : HasEachOnce log
+
+  -- the last entry names its own cell, so no entry of the chain comes after it
+  abbrev pub IsEnded : ℕ → List (Entry X) → Type 0
+  IsEnded key log =
+      (before : List (Entry X)) × (last : Entry X) × (log ≡ before ++ last ∷ [])
+      × (last.key ≡ turn_of key log)
 
   -- the step added a cell, which its pen can make
   abbrev pub Makes : Step (Entry X) → View (Entry X) ℕ → ℕ → View (Entry X) ℕ → Type 0

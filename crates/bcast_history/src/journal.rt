@@ -86,15 +86,11 @@ impl<X> Journal<X> {
         ensures { result ≡ [] }
     {
         let Journal { head, pen, seen } = self;
-        let none = Prefix {
-            seen: seen.again(),
-            of: PhantomData,
-        };
         Writer {
             head,
             pen,
             seen,
-            none,
+            of: PhantomData,
         }
     }
 }
@@ -146,11 +142,11 @@ pub struct Writer<X, J: Named> {
     head: Word<Entry<X>, u64, AtHome>,
     pen: Pen,
     seen: Seen<Entry<X>, u64, AtHome>,
-    none: Prefix<X, J>,
+    of: PhantomData<J>,
 }
 
 impl<X, J: Named> Model for Writer<X, J> {
-    ghost use Rattle.std.specs.Prelude.{◌≡◌, List, []};
+    ghost use Rattle.std.specs.Prelude.{◌≡◌, List};
     ghost use Rattle.logbook.specs.Pages.{may_write};
     ghost use Rattle.bcast_history.specs.Book.{head_of, notes_of, turn_of};
 
@@ -162,8 +158,7 @@ impl<X, J: Named> Model for Writer<X, J> {
         × (w.seen.book ≡ J.book.book)
         × (w.pen.book ≡ J.book.book)
         × (w.pen.nib.right ≡ may_write)
-        × (w.pen.nib.key ≡ turn_of J.book.first w.seen.log)
-        × (w.none ≡ []) };
+        × (w.pen.nib.key ≡ turn_of J.book.first w.seen.log) };
 }
 
 impl<X, J: Named> Writer<X, J> {
@@ -207,11 +202,48 @@ impl<X, J: Named> Writer<X, J> {
         }
     }
 
-    /// The beginning without a note.
-    #[inline(always)]
-    pub fn nothing(&self) -> Prefix<X, J>
-        ensures { result ≡ [] }
+    /// Ends the journal: no note comes after these.
+    pub fn end(self) -> Whole<X, J>
+        ensures { result ≡ self }
     {
-        self.none.same()
+        let Writer {
+            head,
+            mut pen,
+            mut seen,
+            of,
+        } = self;
+        let mut offer: Offer<Entry<X>, u64, AtHome, NoGain> = seen.plain::<NoGain, Pen, Adding>(
+            &pen,
+        );
+        head.compare_exchange::<Adding, NoGain>(0, 0, &mut seen, &mut offer, &mut pen);
+        Whole { seen, of }
+    }
+}
+
+/// A journal that has ended, which has no bytes. A contract sees its notes.
+#[derive(Drop)]
+pub struct Whole<X, J: Named> {
+    seen: Seen<Entry<X>, u64, AtHome>,
+    of: PhantomData<J>,
+}
+
+impl<X, J: Named> Model for Whole<X, J> {
+    ghost use Rattle.std.specs.Prelude.{◌≡◌, List};
+    ghost use Rattle.bcast_history.specs.Book.{notes_of, IsEnded};
+
+    ghost Value = { List X };
+
+    ghost view = { λ w. notes_of J.book.first w.seen.log };
+
+    ghost invariant = { λ w. (w.seen.book ≡ J.book.book) × IsEnded J.book.first w.seen.log };
+}
+
+impl<X, J: Named> Whole<X, J> {
+    /// Compares the journal with a beginning of it, whose notes it has at the same places.
+    pub fn compare(&self, beginning: &Prefix<X, J>)
+        ensures { IsPrefix beginning.now self.now }
+    {
+        let mut both = self.seen.again();
+        both.learn(&beginning.seen);
     }
 }

@@ -45,7 +45,7 @@ mod tracker;
 
 pub use inactive::TrackedInactiveReceiver;
 pub use iter::{TrackedIter, TrackedTryIter};
-pub use journal::{Journal, Named, Notes, Prefix, Writer};
+pub use journal::{Journal, Named, Notes, Prefix, Whole, Writer};
 pub use laws::{
     closed_is_last, end_is_last, logs_are_accepted, messages_stay, receivers_read_on,
     sends_stand_last,

@@ -91,7 +91,7 @@ pub fn broadcast<T: Clone, R: Wait + Clone, J: Channel, A: Allocator + Copy>(
         journal,
     } = opened;
     let steps = StepJournal::new(journal);
-    let known = Tracker::new(steps.nothing(), opening.first_number);
+    let known = Tracker::new(steps.seen(), opening.first_number);
     let place = Place::new(&known, opening.first_key, opening.first_number);
     let port = Lock::with_journal(rt, alloc, inner, steps)?;
     let other = port.try_clone().ok_or(AllocError)?;

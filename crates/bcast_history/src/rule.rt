@@ -3,14 +3,14 @@
 //! A book has a log and cells. A cell is away at first, and one `Pen` has the right to bring it home,
 //! where it stays. Each entry of the log is added in the step that brings its cell home, and by the
 //! rule the cells of all entries are at home. So while a cell is away there is no entry with it, and
-//! only its pen can add one.
+//! only its pen can add one: each cell was brought home by one entry.
 
 use crate::journal::Notes;
 use logbook::{Gain, Pen, Plain, Play, Rule};
 
 /// An entry of the log. Contracts see it; no value of it is made.
 pub struct Entry<X> {
-    /// Its note. Only what a step asks that adds no entry has none.
+    /// Its note. What a step asks that adds no entry has none, and neither has the last entry.
     pub note: Option<X>,
     /// The cell that it brought home.
     pub key: u64,
@@ -88,4 +88,14 @@ impl<'a, X, Y: Notes<X>> Plain<Added<'a, Y>, Entry<X>, u64> for Adding {
     ghost ask = { λ a. record { note = Some (Y.note a.about.now); key = a.turn.now.nib.key; next = a.next.now.nib.key } };
 
     ghost state = { λ a. None };
+}
+
+// The entry that ends a chain has no note, and names its own cell, which no other entry can bring
+// home.
+impl<X> Plain<Pen, Entry<X>, u64> for Adding {
+    ghost use Rattle.std.specs.Prelude.{None};
+
+    ghost ask = { λ pen. record { note = None; key = pen.nib.key; next = pen.nib.key } };
+
+    ghost state = { λ pen. None };
 }

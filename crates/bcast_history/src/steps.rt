@@ -45,11 +45,11 @@ impl<T: Clone, J: Channel> StepJournal<T, J> {
         }
     }
 
-    // Knows no step.
-    pub(crate) fn nothing(&self) -> Seen<T, J>
-        ensures { result ≡ [] }
+    // All steps so far.
+    pub(crate) fn seen(&self) -> Seen<T, J>
+        ensures { result ≡ self.now }
     {
-        self.writer.nothing()
+        self.writer.prefix()
     }
 }
 

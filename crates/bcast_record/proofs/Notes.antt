@@ -1,10 +1,18 @@
 -- What the notes of a journal say of the entries.
 use Rattle.std.proofs.Common.{◌≡◌, ℕ, zero, suc, Some, List, [], ◌∷◌, ◌++◌, slice_get, length, refl, ap}
-use Rattle.std.proofs.lemmas.List.{length-map, map_push}
+use mathlib.Core.List.{IsPrefix}
+use Rattle.std.proofs.lemmas.List.{map_push}
 use Rattle.bcast_record.specs.declared.entry.Entry.{Entry}
 use Rattle.bcast_history.specs.declared.step.Opening.{Opening}
 use Rattle.bcast_record.specs.declared.entry.Note.TheVariants as note
-use Rattle.bcast_record.specs.Content.{notes_of}
+use Rattle.bcast_record.specs.Recording.{notes_of}
+
+-- what a list has at a place, a longer one has there
+pub found_there : {X : Type 0} (xs ys : List X) → IsPrefix xs ys → (place : ℕ) (x : X) → slice_get xs place ≡ Some x → slice_get ys place ≡ Some x
+found_there [] ys p place x at = absurd cc
+found_there (y ∷ xs) [] p place x at = absurd (cc (p.1))
+found_there (y ∷ xs) (z ∷ ys) p zero x at = cc (p.1, at)
+found_there (y ∷ xs) (z ∷ ys) p (suc place) x at = found_there xs ys (p.0, cc (p.1)) place x at
 
 module _ {T : Type 0} where
   -- the entry of a note is one place before it
@@ -24,6 +32,3 @@ module _ {T : Type 0} where
       → slice_get (notes_of opening (entries ++ entry ∷ [])) (suc (length entries)) ≡ Some (note.Answered entry)
   last_note opening [] entry = refl
   last_note opening (e ∷ entries) entry = last_note opening entries entry
-
-  pub length-notes_of : (opening : Opening) (entries : List (Entry T)) → length (notes_of opening entries) ≡ suc (length entries)
-  length-notes_of opening entries = ap suc (length-map entries note.Answered)

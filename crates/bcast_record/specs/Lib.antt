@@ -1,6 +1,3 @@
--- the list that keeps what was noted: what a prefix of it has, and the book behind it
-pub mod Content
-pub mod Book
 -- what a contract sees of a seat and of a recorder
 pub mod Seats
 pub mod Opened

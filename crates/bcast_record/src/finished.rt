@@ -6,38 +6,35 @@ ghost use Rattle.bcast_record.specs.Replay.{calls_of};
 
 use crate::copy::copy_of_call;
 use crate::entry::{Entry, Note};
-use crate::journal::{Named, Prefix};
 use crate::receipt::Receipt;
 use bcast_core::Call;
-use bcast_history::Opening;
+use bcast_history::{Named, Opening, Whole};
 use std::alloc::{AllocError, Allocator, Global};
 use std::marker::Model;
+use std::sync::ledger::Ledger;
 
 /// What a recorder stored. A contract sees the recording.
 #[derive(Drop)]
-pub struct Finished<T, R: Named, A: Allocator = Global> {
+pub struct Finished<T, R: Ledger + Named, A: Allocator = Global> {
     pub(crate) opening: Opening,
     pub(crate) entries: Vec<Entry<T>, A>,
-    // The whole journal.
-    pub(crate) known: Prefix<Note<T>, R>,
+    pub(crate) journal: Whole<Note<T>, R>,
 }
 
-impl<T, R: Named, A: Allocator> Model for Finished<T, R, A> {
+impl<T, R: Ledger + Named, A: Allocator> Model for Finished<T, R, A> {
     ghost use Rattle.std.specs.Prelude.{◌≡◌};
-    ghost use Rattle.bcast_record.specs.Content.{ended};
-    ghost use Rattle.bcast_record.specs.Recording.{Recording, recording};
-    ghost use Rattle.bcast_record.specs.Content.{notes_of};
+    ghost use Rattle.bcast_record.specs.Recording.{Recording, recording, notes_of};
     ghost use Rattle.bcast_record.specs.Replay.{MayRunAgain};
 
     ghost Value = { Recording T };
 
     ghost view = { λ f. recording f.opening f.entries.items };
 
-    ghost invariant = { λ f. (f.known ≡ ended (notes_of f.opening f.entries.items))
+    ghost invariant = { λ f. (f.journal ≡ notes_of f.opening f.entries.items)
         × MayRunAgain (recording f.opening f.entries.items) };
 }
 
-impl<T: Drop, R: Named, A: Allocator> Finished<T, R, A> {
+impl<T: Drop, R: Ledger + Named, A: Allocator> Finished<T, R, A> {
     /// What the recorder's channel was opened with.
     pub fn opening(&self) -> Opening
         ensures same { result ≡ self.now.opening }
@@ -60,12 +57,12 @@ impl<T: Drop, R: Named, A: Allocator> Finished<T, R, A> {
         ensures entry { result.now ≡ receipt.now.entry }
     {
         let place = receipt.place;
-        self.known.compare(&receipt.known);
+        self.journal.compare(&receipt.known);
         &self.entries[place]
     }
 }
 
-impl<T: Copy, R: Named, A: Allocator + Copy> Finished<T, R, A> {
+impl<T: Copy, R: Ledger + Named, A: Allocator + Copy> Finished<T, R, A> {
     /// The calls in order, to make them again: `run` takes them, with the capacity of the opening.
     ///
     /// # Errors

@@ -5,11 +5,11 @@
 //! returns the entries, `Finished::entry_of` the entry of a receipt, and `Finished::calls` the
 //! calls, which `run` can make again.
 //!
-//! All types of one recorder carry a parameter `R` that names it, as those of a ledger of the
-//! standard library do. A program makes, uses and ends a recorder inside a function over `R:
-//! Named`, here `work`, and calls it at `Brand` of `std::marker` with `calls`, a new `Blank` of
-//! `std::sync::ledger`, and `journal`, a new `Journal`. The caller's `Invariants.antt` says that
-//! `R` names those:
+//! All types of one recorder carry a parameter `R: Ledger + Named` that names it, as those of a
+//! ledger of the standard library do. A program makes, uses and ends a recorder inside a function
+//! over `R`, here `work`, and calls it at `Brand` of `std::marker` with `calls`, a new `Blank` of
+//! `std::sync::ledger`, and `journal`, a new `Journal`. The caller's `Invariants.antt` says that `R`
+//! names those:
 //!
 //! ```text
 //! ghosts-work-R-Ledger g a = record { name = a.calls.name; parts = a.calls.parts }
@@ -20,11 +20,9 @@
 mod copy;
 mod entry;
 mod finished;
-mod journal;
 mod log;
 mod receipt;
 mod recorder;
-mod rule;
 mod seat;
 mod spares;
 
@@ -32,11 +30,10 @@ pub use bcast_core::{
     Call, HandleError, Kind, Messages, NoMemory, RecvError, Reply, SendError, SendPoll,
     TryRecvError, TrySendError, Waiting, run,
 };
-pub use bcast_history::Opening;
+pub use bcast_history::{Journal, Named, Opening};
 pub use copy::{copy_of_call, copy_of_reply};
 pub use entry::{Entry, Note};
 pub use finished::Finished;
-pub use journal::{Journal, Named};
 pub use log::Log;
 pub use receipt::Receipt;
 pub use recorder::Recorder;

@@ -2,25 +2,22 @@
 ghost use Rattle.std.specs.Prelude.{◌≡◌, ◌+◌, ◌<◌, ◌≤◌, ◌^◌, [], ◌∷◌, ◌++◌, length, Some, IfOk, IfErr, IfSome, OnOk, vec_len, vec_capacity, slice_get};
 ghost use Rattle.std.specs.List.{sum_by};
 ghost use Rattle.bcast_record.specs.Copies.{list_of};
-ghost use Rattle.bcast_record.specs.Content.{so_far};
 ghost use Rattle.bcast_model.specs.Next.{HasPositiveCapacity};
 ghost use Rattle.bcast_record.specs.declared.entry.Note.TheVariants as note;
-ghost use Rattle.bcast_record.specs.Recording.{new_recording, with_entry};
-ghost use Rattle.bcast_record.specs.Content.{notes_of};
+ghost use Rattle.bcast_record.specs.Recording.{new_recording, notes_of, with_entry};
 ghost use Rattle.bcast_record.specs.Replay.{IsRecordedRun, Replays};
 ghost use Rattle.bcast_record.specs.Seats.{new_seats, answered};
 
 use crate::entry::{Entry, Note};
 use crate::finished::Finished;
-use crate::journal::{Journal, Named, Prefix, Slot, Writer};
 use crate::receipt::Receipt;
 use crate::seat::{Seat, gather, make_seats};
 use crate::spares::Spares;
 use bcast_core::{Call, Inner, NoMemory, Silent, step};
-use bcast_history::Opening;
+use bcast_history::{Journal, Named, Opening, Prefix, Writer};
 use std::alloc::{AllocError, Allocator, Global};
 use std::marker::Model;
-use std::sync::ledger::{Blank, Book, Share};
+use std::sync::ledger::{Blank, Book, Ledger, Share};
 
 // More entries than the memory of a machine has room for.
 const MOST_ENTRIES: usize = 1 << 60;
@@ -29,7 +26,7 @@ const MOST_ENTRIES: usize = 1 << 60;
 ///
 /// A contract sees the recording: what the channel was opened with, and the entries.
 #[derive(Drop)]
-pub struct Log<T: Copy + Clone, R: Named, A: Allocator = Global> {
+pub struct Log<T: Copy + Clone, R: Ledger + Named, A: Allocator = Global> {
     opening: Opening,
     inner: Inner<T, Silent, A>,
     entries: Vec<Entry<T>, A>,
@@ -40,10 +37,9 @@ pub struct Log<T: Copy + Clone, R: Named, A: Allocator = Global> {
     rest: Share<R>,
 }
 
-impl<T: Copy + Clone, R: Named, A: Allocator> Model for Log<T, R, A> {
+impl<T: Copy + Clone, R: Ledger + Named, A: Allocator> Model for Log<T, R, A> {
     ghost use Rattle.std.specs.Prelude.{◌≡◌, vec_len};
-    ghost use Rattle.bcast_record.specs.Recording.{Recording, recording};
-    ghost use Rattle.bcast_record.specs.Content.{notes_of};
+    ghost use Rattle.bcast_record.specs.Recording.{Recording, recording, notes_of};
     ghost use Rattle.bcast_record.specs.Replay.{Replays, MayRunAgain};
 
     ghost Value = { Recording T };
@@ -57,7 +53,7 @@ impl<T: Copy + Clone, R: Named, A: Allocator> Model for Log<T, R, A> {
         × MayRunAgain (recording s.opening s.entries.items) };
 }
 
-impl<T: Copy + Clone, R: Named, A: Allocator + Copy> Log<T, R, A> {
+impl<T: Copy + Clone, R: Ledger + Named, A: Allocator + Copy> Log<T, R, A> {
     /// A new channel of this capacity, the key of its first receiver, and this many seats.
     ///
     /// The channel is as `Inner::new` makes it. The seats are numbered from 0.
@@ -88,11 +84,11 @@ impl<T: Copy + Clone, R: Named, A: Allocator + Copy> Log<T, R, A> {
             first_number: 0,
             first_key,
         };
-        let Some(journal) = opened(journal, opening) else {
-            return Err(AllocError);
-        };
         let (calls, mut rest) = calls.open::<R>();
         let made = make_seats(alloc, &mut rest, seats)?;
+        let mut journal = journal.into_writer::<R>();
+        let mut known = journal.prefix();
+        journal.append(&mut known, &opening);
         let log = Log {
             opening,
             inner,
@@ -130,7 +126,7 @@ impl<T: Copy + Clone, R: Named, A: Allocator + Copy> Log<T, R, A> {
         ensures refused { IfErr result (λ back. (back.0 ≡ call)
             × (self.new ≡ self.old) × (seat.new ≡ seat.old)) }
     {
-        let Some((next, spares)) = room(&mut self.entries, &self.journal, &call) else {
+        let Some(spares) = room(&mut self.entries, &call) else {
             return Err(NoMemory(call));
         };
         let place = self.entries.len();
@@ -138,11 +134,12 @@ impl<T: Copy + Clone, R: Named, A: Allocator + Copy> Log<T, R, A> {
         let (stored, entry) = spares.into_entries(seat.number(), reply);
         seat.add_call(&mut self.calls);
         self.entries.push_reserved(stored);
-        let entry = noted(&mut self.journal, next, entry);
+        let mut known = self.journal.prefix();
+        self.journal.append(&mut known, &entry);
         Ok(Receipt {
             place,
             entry,
-            known: self.journal.prefix(),
+            known,
         })
     }
 
@@ -162,7 +159,7 @@ impl<T: Copy + Clone, R: Named, A: Allocator + Copy> Log<T, R, A> {
 
     // The journal so far.
     pub(crate) fn known(&self) -> Prefix<Note<T>, R>
-        ensures { result ≡ so_far (notes_of self.now.opening self.now.entries) }
+        ensures { result ≡ notes_of self.now.opening self.now.entries }
     {
         self.journal.prefix()
     }
@@ -176,7 +173,7 @@ impl<T: Copy + Clone, R: Named, A: Allocator + Copy> Log<T, R, A> {
         requires { R.parts ≤ vec_len seats + 1 }
         ensures same { result ≡ self }
         ensures opening { (opening : Opening)
-            → slice_get known.now.notes 0 ≡ Some (note.Opened opening) → result.opening ≡ opening }
+            → slice_get known.now 0 ≡ Some (note.Opened opening) → result.opening ≡ opening }
         ensures run { IsRecordedRun T.is_clone result }
         ensures count { length result.entries ≡ sum_by (λ s. s.count) seats.items }
     {
@@ -189,68 +186,29 @@ impl<T: Copy + Clone, R: Named, A: Allocator + Copy> Log<T, R, A> {
             rest,
         } = self;
         calls.audit(&mut gather(rest, seats));
-        let all = journal.end();
-        all.compare(known);
+        let journal = journal.end();
+        journal.compare(known);
         Finished {
             opening,
             entries,
-            known: all,
+            journal,
         }
     }
 }
 
-// The writer of a new recorder's journal, which has noted what the channel was opened with.
-fn opened<T: Copy, R: Named>(
-    journal: Journal<Note<T>>,
-    opening: Opening,
-) -> Option<Writer<Note<T>, R>>
-    requires { journal ≡ R.book }
-    ensures { IfSome result (λ writer. writer ≡ notes_of opening []) }
-{
-    let mut writer = journal.into_writer()?;
-    let next = writer.reserve()?;
-    writer.append(next, Note::Opened(opening));
-    Some(writer)
-}
-
-// Notes an entry in a journal, and returns it.
-fn noted<T: Copy, R: Named>(
-    journal: &mut Writer<Note<T>, R>,
-    next: Slot<R>,
-    entry: Entry<T>,
-) -> Entry<T>
-    requires { next ≡ length journal.old + 1 }
-    ensures noted { journal.new ≡ journal.old ++ note.Answered entry ∷ [] }
-    ensures same { result ≡ entry }
-{
-    match journal.append(next, Note::Answered(entry)) {
-        Note::Answered(entry) => entry,
-        Note::Opened(_) => unreachable!(),
-    }
-}
-
-// Makes room for one more entry. Returns the slot for the note after it, and copies of its call.
-fn room<T: Copy, R: Named, A: Allocator>(
-    entries: &mut Vec<Entry<T>, A>,
-    journal: &Writer<Note<T>, R>,
-    call: &Call<T>,
-) -> Option<(Slot<R>, Spares<T>)>
-    requires { length journal.now ≡ vec_len entries.old + 1 }
+// Makes room for one more entry, and the copies of its call.
+fn room<T: Copy, A: Allocator>(entries: &mut Vec<Entry<T>, A>, call: &Call<T>) -> Option<Spares<T>>
     ensures items { entries.new.items ≡ entries.old.items }
     ensures len { vec_len entries.new ≡ vec_len entries.old }
-    ensures room { IfSome result (λ made. vec_len entries.new < vec_capacity entries.new) }
-    ensures next { IfSome result (λ made. made.0 ≡ length journal.now + 1) }
-    ensures most { IfSome result (λ made. vec_len entries.new < 2 ^ 60) }
-    ensures stored { IfSome result (λ made. made.1.stored ≡ call.now) }
-    ensures given { IfSome result (λ made. made.1.given ≡ call.now) }
-    ensures list { IfSome result (λ made. made.1.list ≡ list_of call.now) }
+    ensures room { IfSome result (λ spares. vec_len entries.new < vec_capacity entries.new) }
+    ensures most { IfSome result (λ spares. vec_len entries.new < 2 ^ 60) }
+    ensures stored { IfSome result (λ spares. spares.stored ≡ call.now) }
+    ensures given { IfSome result (λ spares. spares.given ≡ call.now) }
+    ensures list { IfSome result (λ spares. spares.list ≡ list_of call.now) }
 {
     if entries.len() >= MOST_ENTRIES {
         return None;
     }
     entries.reserve(1).ok()?;
-    let spares = Spares::of(call).ok()?;
-    // Last, since no later call gets a slot if one is reserved and never written.
-    let next = journal.reserve()?;
-    Some((next, spares))
+    Spares::of(call).ok()
 }

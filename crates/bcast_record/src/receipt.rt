@@ -2,19 +2,20 @@
 ghost use Rattle.std.specs.Prelude.{◌≡◌};
 
 use crate::entry::{Entry, Note};
-use crate::journal::{Named, Prefix};
+use bcast_history::{Named, Prefix};
 use std::marker::Model;
+use std::sync::ledger::Ledger;
 
 /// Names an entry of a recorder. A contract sees the entry and its index.
 #[derive(Drop)]
-pub struct Receipt<T, R: Named> {
+pub struct Receipt<T, R: Ledger + Named> {
     pub(crate) place: usize,
     pub(crate) entry: Entry<T>,
     // The recorder's journal up to the entry, at least.
     pub(crate) known: Prefix<Note<T>, R>,
 }
 
-impl<T, R: Named> Model for Receipt<T, R> {
+impl<T, R: Ledger + Named> Model for Receipt<T, R> {
     ghost use Rattle.std.specs.Prelude.{◌≡◌, suc, Some, slice_get};
     ghost use Rattle.bcast_record.specs.declared.entry.Note.TheVariants as note;
     ghost use Rattle.bcast_record.specs.Recording.{Placed};
@@ -23,10 +24,10 @@ impl<T, R: Named> Model for Receipt<T, R> {
 
     ghost view = { λ r. record { place = r.place; entry = r.entry } };
 
-    ghost invariant = { λ r. slice_get r.known.notes (suc r.place) ≡ Some (note.Answered r.entry) };
+    ghost invariant = { λ r. slice_get r.known (suc r.place) ≡ Some (note.Answered r.entry) };
 }
 
-impl<T, R: Named> Receipt<T, R> {
+impl<T, R: Ledger + Named> Receipt<T, R> {
     /// The index of the entry among the recorder's entries.
     pub fn place(&self) -> usize
         ensures { result ≡ self.now.place }

@@ -8,15 +8,14 @@ ghost use Rattle.bcast_record.specs.Seats.{new_seats, answered};
 
 use crate::entry::Note;
 use crate::finished::Finished;
-use crate::journal::{Journal, Named, Prefix};
 use crate::log::Log;
 use crate::receipt::Receipt;
 use crate::seat::Seat;
 use bcast_core::{Call, NoMemory};
-use bcast_history::Opening;
+use bcast_history::{Journal, Named, Opening, Prefix};
 use std::alloc::{AllocError, Allocator, Global};
 use std::marker::Model;
-use std::sync::ledger::Blank;
+use std::sync::ledger::{Blank, Ledger};
 use std::sync::{Mutex, Wait};
 
 /// A channel for many threads, which stores each call that is made on it with its reply.
@@ -24,7 +23,7 @@ use std::sync::{Mutex, Wait};
 /// Whenever its lock is taken, the entries are a run of the channel. A contract sees what the
 /// channel was opened with, and how many seats were made.
 #[derive(Drop)]
-pub struct Recorder<T: Copy + Clone, R: Named, A: Allocator = Global> {
+pub struct Recorder<T: Copy + Clone, R: Ledger + Named, A: Allocator = Global> {
     log: Mutex<Log<T, R, A>>,
     opening: Opening,
     seats: usize,
@@ -32,7 +31,7 @@ pub struct Recorder<T: Copy + Clone, R: Named, A: Allocator = Global> {
     known: Prefix<Note<T>, R>,
 }
 
-impl<T: Copy + Clone, R: Named, A: Allocator> Model for Recorder<T, R, A> {
+impl<T: Copy + Clone, R: Ledger + Named, A: Allocator> Model for Recorder<T, R, A> {
     ghost use Rattle.std.specs.Prelude.{◌≡◌, ◌+◌, Some, slice_get};
     ghost use Rattle.bcast_record.specs.declared.entry.Note.TheVariants as note;
     ghost use Rattle.bcast_record.specs.Opened.{Opened};
@@ -42,10 +41,10 @@ impl<T: Copy + Clone, R: Named, A: Allocator> Model for Recorder<T, R, A> {
     ghost view = { λ s. record { opening = s.opening; seats = s.seats } };
 
     ghost invariant = { λ s. (s.seats + 1 ≡ R.parts)
-        × (slice_get s.known.notes 0 ≡ Some (note.Opened s.opening)) };
+        × (slice_get s.known 0 ≡ Some (note.Opened s.opening)) };
 }
 
-impl<T: Copy + Clone, R: Named, A: Allocator + Copy> Recorder<T, R, A> {
+impl<T: Copy + Clone, R: Ledger + Named, A: Allocator + Copy> Recorder<T, R, A> {
     /// A new channel of this capacity, the key of its first receiver, and this many seats.
     ///
     /// The channel is as `Inner::new` makes it. The seats are numbered from 0.

@@ -7,7 +7,7 @@ use bcast_record::{Journal, Log, Named, Note, Seat};
 use linked_list_allocator::LocalHeap;
 use std::alloc::{AllocError, Allocator, Global};
 use std::marker::Brand;
-use std::sync::ledger::Blank;
+use std::sync::ledger::{Blank, Ledger};
 
 /// Calls on a new log of capacity 2 and two seats, each with the seat's number, and how many calls
 /// were made for each seat then.
@@ -23,7 +23,7 @@ const PLAYS: &[(&[(usize, Step)], [usize; 2])] = &[
 ];
 
 /// Whether the call is replied to as it must be, and its entry is stored at this place.
-fn stores<R: Named, A: Allocator + Copy>(
+fn stores<R: Ledger + Named, A: Allocator + Copy>(
     alloc: Global,
     log: &mut Log<u64, R, A>,
     seat: &mut Seat<R>,
@@ -41,7 +41,7 @@ fn stores<R: Named, A: Allocator + Copy>(
 }
 
 /// Whether a new log stores all calls in order, and their seats count them.
-fn stores_all<R: Named>(
+fn stores_all<R: Ledger + Named>(
     alloc: Global,
     log: &mut Log<u64, R>,
     seats: &mut [Seat<R>],
@@ -58,7 +58,7 @@ fn stores_all<R: Named>(
     Ok(are_stored && seats.iter().map(|seat| seat.count()).eq(play.1))
 }
 
-fn plays<R: Named>(
+fn plays<R: Ledger + Named>(
     alloc: Global,
     play: &(&[(usize, Step)], [usize; 2]),
     calls: Blank,
@@ -80,7 +80,7 @@ fn a_log_stores_each_call_with_its_reply(rt: HostRuntime) -> Result<(), AllocErr
 }
 
 /// Whether the call is handed back, and the log and the seat are as new.
-fn refuses<R: Named, A: Allocator + Copy>(
+fn refuses<R: Ledger + Named, A: Allocator + Copy>(
     alloc: Global,
     log: &mut Log<u64, R, A>,
     seat: &mut Seat<R>,
@@ -94,7 +94,7 @@ fn refuses<R: Named, A: Allocator + Copy>(
 }
 
 /// Whether a new log hands a call back while its heap is full, and makes it when there is memory.
-fn refuses_once<R: Named>(
+fn refuses_once<R: Ledger + Named>(
     alloc: Global,
     heap: &LocalHeap,
     log: &mut Log<u64, R, &LocalHeap>,
@@ -107,7 +107,7 @@ fn refuses_once<R: Named>(
     Ok(is_refused && stores(alloc, log, seat, Step::Send, 0)?)
 }
 
-fn refused_once<R: Named>(
+fn refused_once<R: Ledger + Named>(
     alloc: Global,
     heap: &LocalHeap,
     calls: Blank,
@@ -129,7 +129,7 @@ fn a_refused_call_was_not_made(rt: HostRuntime) -> Result<(), AllocError> {
 
 /// How many of two calls a new log stores before one is refused memory. None: a refused call
 /// changed something, or one was stored wrongly.
-fn stores_until<R: Named>(
+fn stores_until<R: Ledger + Named>(
     alloc: Global,
     log: &mut Log<u64, R, &LocalHeap>,
     seats: &mut [Seat<R>],
@@ -151,7 +151,7 @@ fn stores_until<R: Named>(
 /// # Errors
 ///
 /// - `AllocError`: there is no memory for the log.
-fn stored<R: Named>(
+fn stored<R: Ledger + Named>(
     alloc: Global,
     heap: &LocalHeap,
     calls: Blank,

@@ -6,13 +6,13 @@ use bcast_record::{Finished, Journal, Named, Note, Receipt, Recorder, Seat};
 use std::alloc::{AllocError, Global};
 use std::marker::Brand;
 use std::sync::Wait;
-use std::sync::ledger::Blank;
+use std::sync::ledger::{Blank, Ledger};
 
 /// The calls of a first seat, on a recorder of capacity 2 and two seats.
 const CALLS: &[&[Step]] = &[&[Step::Send, Step::Receive], &[Step::SendAll(&[1, 2])]];
 
 /// Makes the calls for the first seat, and returns their receipts.
-fn ask<R: Named>(
+fn ask<R: Ledger + Named>(
     rt: &impl Wait,
     alloc: Global,
     recorder: &Recorder<u64, R>,
@@ -28,7 +28,7 @@ fn ask<R: Named>(
 }
 
 /// Whether the entries are those of the calls.
-fn has_all<R: Named>(
+fn has_all<R: Ledger + Named>(
     finished: &Finished<u64, R>,
     calls: &[Step],
     receipts: &[Receipt<u64, R>],
@@ -42,7 +42,7 @@ fn has_all<R: Named>(
 }
 
 /// Whether the recorder and one of its two seats are returned, and the entries when both are given.
-fn finishes<R: Named>(
+fn finishes<R: Ledger + Named>(
     recorder: Recorder<u64, R>,
     mut seats: Vec<Seat<R>>,
     calls: &[Step],
@@ -56,7 +56,7 @@ fn finishes<R: Named>(
     Ok(is_first && has_all(&finished, calls, receipts))
 }
 
-fn is_recorded<R: Named>(
+fn is_recorded<R: Ledger + Named>(
     rt: &impl Wait,
     alloc: Global,
     steps: &[Step],

@@ -8,7 +8,7 @@ use linked_list_allocator::LocalHeap;
 use std::alloc::{AllocError, Global};
 use std::marker::Brand;
 use std::sync::Wait;
-use std::sync::ledger::Blank;
+use std::sync::ledger::{Blank, Ledger};
 
 /// The first calls of a recorder of capacity 2 and one seat.
 const CALLS: &[&[Step]] = &[
@@ -30,7 +30,11 @@ const HEAP: usize = 4096;
 
 /// Whether a new recorder is refused memory on the heap. None: it is refused and keeps some, or it
 /// has another receiver or more seats than it must.
-fn is_refused<R: Named>(heap: &LocalHeap, calls: Blank, journal: Journal<Note<u64>>) -> Option<bool>
+fn is_refused<R: Ledger + Named>(
+    heap: &LocalHeap,
+    calls: Blank,
+    journal: Journal<Note<u64>>,
+) -> Option<bool>
     requires calls { (calls.name ≡ R.name) × (calls.parts ≡ R.parts) × (calls.parts ≡ 2) }
     requires journal { journal ≡ R.book }
 {
@@ -80,7 +84,7 @@ impl<'a> Memory<'a> {
 ///
 /// Returns whether it was handed back. None: it was handed back changed or counted, or the reply
 /// was not as it must be.
-fn ask<'a, R: Named>(
+fn ask<'a, R: Ledger + Named>(
     rt: &impl Wait,
     alloc: Global,
     memory: Memory<'a>,
@@ -106,7 +110,7 @@ fn ask<'a, R: Named>(
 }
 
 /// Makes the calls in order. Returns whether one of them was handed back. None: one was wrong.
-fn ask_all<'a, R: Named>(
+fn ask_all<'a, R: Ledger + Named>(
     rt: &impl Wait,
     alloc: Global,
     memory: Memory<'a>,
@@ -125,13 +129,13 @@ fn ask_all<'a, R: Named>(
 }
 
 /// Whether the entries are those of the calls, and no others.
-fn has_all<R: Named>(finished: &Finished<u64, R, &LocalHeap>, calls: &[Step]) -> bool {
+fn has_all<R: Ledger + Named>(finished: &Finished<u64, R, &LocalHeap>, calls: &[Step]) -> bool {
     let mut pairs = finished.entries().iter().zip(calls);
     finished.entries().len() == calls.len() && pairs.all(|(entry, call)| call.is_stored(0, entry))
 }
 
 /// Makes the calls on a new recorder, which must have an entry for each at its end.
-fn records<R: Named>(
+fn records<R: Ledger + Named>(
     rt: &impl Wait,
     alloc: Global,
     memory: Memory<'_>,

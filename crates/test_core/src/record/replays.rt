@@ -7,7 +7,7 @@ use bcast_record::{Finished, Journal, Named, Note, Receipt, Recorder, Seat};
 use std::alloc::{AllocError, Global};
 use std::marker::Brand;
 use std::sync::Wait;
-use std::sync::ledger::Blank;
+use std::sync::ledger::{Blank, Ledger};
 use std::thread::{Threads, map_vec};
 
 /// Which calls the seats make.
@@ -30,7 +30,7 @@ struct Plan {
 
 /// A seat, and the receipts of its calls in order.
 #[derive(Drop)]
-struct Asked<R: Named> {
+struct Asked<R: Ledger + Named> {
     seat: Seat<R>,
     receipts: Vec<Receipt<u64, R>>,
 }
@@ -65,7 +65,7 @@ fn keep_key(made: &mut Vec<usize>, reply: &Reply<u64>) {
 }
 
 /// Makes a seat's calls. A receipt for which there is no memory is missing later.
-fn ask<R: Named>(
+fn ask<R: Ledger + Named>(
     rt: &impl Wait,
     alloc: Global,
     recorder: &Recorder<u64, R>,
@@ -87,7 +87,7 @@ fn ask<R: Named>(
 
 /// Whether there is a receipt for each call of this seat, their places rise, and each names an
 /// entry of the seat.
-fn are_entries<R: Named>(
+fn are_entries<R: Ledger + Named>(
     finished: &Finished<u64, R>,
     seat: usize,
     calls: usize,
@@ -116,7 +116,10 @@ fn is_same(inner: &mut Inner<u64, Silent>, call: Call<u64>, stored: &Reply<u64>)
 }
 
 /// Whether the calls, made again in one thread, get the replies that were stored.
-fn replays<R: Named>(alloc: Global, finished: &Finished<u64, R>) -> Result<bool, AllocError> {
+fn replays<R: Ledger + Named>(
+    alloc: Global,
+    finished: &Finished<u64, R>,
+) -> Result<bool, AllocError> {
     let opening = finished.opening();
     let (mut inner, key) = Inner::new(alloc, opening.capacity)?;
     let mut is_all_same = key == opening.first_key;
@@ -129,7 +132,7 @@ fn replays<R: Named>(alloc: Global, finished: &Finished<u64, R>) -> Result<bool,
 }
 
 /// Whether the entries are those of the receipts, and one thread gets the same replies.
-fn is_whole<R: Named>(
+fn is_whole<R: Ledger + Named>(
     alloc: Global,
     finished: &Finished<u64, R>,
     plan: Plan,
@@ -147,7 +150,7 @@ fn is_whole<R: Named>(
 }
 
 /// The seats, and the receipts of each.
-fn part<R: Named>(alloc: Global, asked: Vec<Asked<R>>) -> Result<Parted<R>, AllocError> {
+fn part<R: Ledger + Named>(alloc: Global, asked: Vec<Asked<R>>) -> Result<Parted<R>, AllocError> {
     let (mut seats, mut lists) = (Vec::new(alloc), Vec::new(alloc));
     for Asked { seat, receipts } in asked {
         seats.push(seat)?;
@@ -157,7 +160,7 @@ fn part<R: Named>(alloc: Global, asked: Vec<Asked<R>>) -> Result<Parted<R>, Allo
 }
 
 /// Threads use one recorder, each with a seat of its own, and one thread makes their calls again.
-fn record<R: Named + Send + Sync>(
+fn record<R: Ledger + Named + Send + Sync>(
     rt: &(impl Threads + Wait + Sync),
     alloc: Global,
     plan: Plan,

@@ -45,7 +45,7 @@ invariant_of-self g c =
     let was = c.self.invariant in
     let next = c.new_pen-next.ensures in
     let book = c.compare_exchange.ensures.0 ∙ c.learn.ensures.0 ∙ ap (λ seen. seen.book) c.again-seen.ensures ∙ was.1 in
-    (was.0, book, next.0 ∙ was.1, next.1, sym (added g c).1, was.5)
+    (was.0, book, next.0 ∙ was.1, next.1, sym (added g c).1)
 
 pub returns-clause-appended : goal.returns-clause-appended
 returns-clause-appended g c = rw (← c.self.view_is) (added g c).0

@@ -1,13 +1,14 @@
 use Rattle.std.proofs.Common.{◌≡◌, Some, slice_get, sym, ap, ◌∙◌, arith}
 use Rattle.bcast_record.specs.declared.entry.Note.TheVariants as note
-use Rattle.bcast_record.specs.Content.{notes_of}
+use Rattle.bcast_record.specs.Recording.{notes_of}
+use Rattle.bcast_record.proofs.Notes.{found_there}
 use Rattle.bcast_record.proofs.log.Log.finish.Goals as goal
 
 pub returns-clause-opening : goal.returns-clause-opening
 returns-clause-opening g c = λ opening at.
     let here = c.self.inside.opening in
-    let all : c.end-all.result.notes ≡ notes_of here c.self.inside.entries.items = ap (λ content. content.notes) c.end-all.ensures ∙ c.self.invariant.1 in
-    let same : Some (note.Opened here) ≡ Some (note.Opened opening) = ap (λ notes. slice_get notes 0) (sym all) ∙ c.compare.ensures 0 (note.Opened opening) at in
+    let all : c.end-journal.result ≡ notes_of here c.self.inside.entries.items = c.end-journal.ensures ∙ c.self.invariant.1 in
+    let same : Some (note.Opened here) ≡ Some (note.Opened opening) = ap (λ notes. slice_get notes 0) (sym all) ∙ found_there _ _ c.compare.ensures 0 (note.Opened opening) at in
     cc same
 
 pub returns-clause-count : goal.returns-clause-count

@@ -1,10 +1,10 @@
 use Rattle.std.proofs.Common.{◌≡◌, [], ◌∷◌, ◌++◌, Some, suc, length, slice_get, refl, sym, ap, subst, ◌∙◌, arith}
 use Rattle.bcast_record.specs.declared.entry.Entry.{Entry}
 use Rattle.bcast_record.specs.declared.entry.Note.TheVariants as note
-use Rattle.bcast_record.specs.Content.{notes_of}
+use Rattle.bcast_record.specs.Recording.{notes_of}
 use Rattle.bcast_record.proofs.Copies.{answered_list, same_entry}
 use Rattle.bcast_record.proofs.Appends.{replays_push, may_run_again_push}
-use Rattle.bcast_record.proofs.Notes.{notes_of-push, last_note, length-notes_of}
+use Rattle.bcast_record.proofs.Notes.{notes_of-push, last_note}
 use Rattle.bcast_record.proofs.log.Log.step.Goals as goal
 
 -- what callers rely on, before what the code itself needs
@@ -17,10 +17,6 @@ returns-clause-run g c =
     (replays_push g.T.Clone.is_clone opening entries c.push_reserved.new.self.items c.self.inside.inner c.step-reply.new.inner entry c.args.call
     (c.push_reserved.ensures.items ∙ (λ i. c.room.ensures.items i ++ stored i ∷ []))
     refl c.self.invariant.0 c.step-reply.ensures.answers).run
-
-pub room-requires : goal.room-requires
-room-requires g c =
-    omega (arith, ap length c.self.invariant.1, length-notes_of c.self.inside.opening c.self.inside.entries.items, c.self.inside.entries.ok)
 
 pub invariant_of-self : goal.invariant_of-self
 invariant_of-self g c =
@@ -44,11 +40,11 @@ invariant_of-result g c =
     let entry : Entry g.row.T.Denot = record { seat = c.number.result; call = c.args.call; reply = c.step-reply.result } in
     let given : c.into_entries-stored.result.1 ≡ entry = same_entry _ c.number.result c.in-Some.spares.given c.args.call c.step-reply.result c.into_entries-stored.ensures.given c.in-Some.ensures.given in
     let place : length entries ≡ c.len-place.result = omega (arith, c.len-place.ensures, c.room.ensures.len, c.self.inside.entries.ok) in
-    let notes : c.prefix.result.notes ≡ notes_of opening (entries ++ entry ∷ []) =
-    ap (λ content. content.notes) c.prefix.ensures ∙ c.noted-entry.ensures.noted ∙ (λ i. c.self.invariant.1 i ++ note.Answered (given i) ∷ [])
+    let notes : c.append.new.known ≡ notes_of opening (entries ++ entry ∷ []) =
+    c.append.ensures.knows ∙ c.append.ensures.appended ∙ (λ i. c.self.invariant.1 i ++ note.Answered (given i) ∷ [])
     ∙ sym (notes_of-push opening entries entry) in
-    subst (λ n. slice_get c.prefix.result.notes (suc n) ≡ Some (note.Answered c.noted-entry.result)) place
-    (ap (λ ns. slice_get ns (suc (length entries))) notes ∙ last_note opening entries entry ∙ ap (λ e. Some (note.Answered e)) (sym (c.noted-entry.ensures.same ∙ given)))
+    subst (λ n. slice_get c.append.new.known (suc n) ≡ Some (note.Answered c.into_entries-stored.result.1)) place
+    (ap (λ ns. slice_get ns (suc (length entries))) notes ∙ last_note opening entries entry ∙ ap (λ e. Some (note.Answered e)) (sym given))
 
 pub invariant_of-self-2 : goal.invariant_of-self-2
 invariant_of-self-2 g c =
@@ -62,7 +58,7 @@ invariant_of-self-2 g c =
     c.push_reserved.ensures.items ∙ (λ i. c.room.ensures.items i ++ stored i ∷ []) in (
       replays_push g.T.Clone.is_clone opening entries c.push_reserved.new.self.items c.self.inside.inner c.step-reply.new.inner entry c.args.call
           pushed refl before.0 c.step-reply.ensures.answers,
-      c.noted-entry.ensures.noted ∙ (λ i. before.1 i ++ note.Answered (given i) ∷ []) ∙ sym (notes_of-push opening entries entry) ∙ ap (notes_of opening) (sym pushed),
+      c.append.ensures.appended ∙ (λ i. before.1 i ++ note.Answered (given i) ∷ []) ∙ sym (notes_of-push opening entries entry) ∙ ap (notes_of opening) (sym pushed),
       omega (arith, c.add_call.ensures.calls, before.2, c.push_reserved.ensures.len, c.room.ensures.len),
       before.3,
       may_run_again_push opening entries c.push_reserved.new.self.items entry pushed before.4 c.requires,
