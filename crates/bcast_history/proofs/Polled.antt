@@ -1,9 +1,12 @@
 -- A poll finds what a try would have found.
-use Rattle.std.proofs.Common.{◌≡◌, inl, inr, ℕ, ◌+◌, ◌-◌, ◌<◌, ◌≤◌, max, if◌then◌else◌, length, Some, None, Result, Ok, Err, nat_lt, refl, sym, ap, ◌∙◌, subst}
+use Rattle.std.proofs.Common.{◌≡◌, inl, inr, ℕ, ◌+◌, ◌-◌, ◌<◌, ◌≤◌, max, if◌then◌else◌, List, length, Some, None, Result, Ok, Err, nat_lt, refl, sym, ap, ◌∙◌, subst}
 use Rattle.std.specs.Prelude.{IsSomeAnd}
 use Rattle.std.specs.FinMap.{get}
 use Rattle.std.specs.List.{slice_get}
 use Rattle.std.specs.declared.alloc.AllocError.{AllocError}
+use Rattle.futures.specs.declared.task.Poll.TheVariants as poll
+use Rattle.bcast_model.specs.declared.error.RecvError.{RecvError}
+use Rattle.bcast_model.specs.declared.error.RecvError.TheVariants as unreceived
 use Rattle.bcast_model.specs.declared.error.TryRecvError.{TryRecvError}
 use Rattle.bcast_model.specs.declared.error.TryRecvError.TheVariants as unread
 use Rattle.bcast_model.specs.declared.run.Call.TheVariants as call
@@ -12,7 +15,9 @@ use Rattle.bcast_model.specs.ListenerId.{stream_of}
 use Rattle.bcast_model.specs.Words.{History, View, view_of, next, IsValid, Legal, IsGiven, Cursors, cursor_of, end_number, numbered}
 use Rattle.bcast_model.specs.Words.{receive, receive_poll, try_recv_reply}
 use Rattle.bcast_laws.proofs.Sends.{nothing_added}
-use Rattle.bcast_history.specs.Reader.{Finds, as_found}
+use Rattle.bcast_history.specs.declared.step.Opening.{Opening}
+use Rattle.bcast_history.specs.Batch.{TakesMany}
+use Rattle.bcast_history.specs.Reader.{Reader, Finds, Takes, as_found}
 use Rattle.bcast_history.proofs.Found.{finds}
 use Rattle.bcast_history.proofs.Polls.{Polled, polled_in, found_back, no_floor, same_cursors, same_closed}
 
@@ -77,3 +82,10 @@ module _ {T : Type 0} (is_clone : T → T → Type 0) where
         ap (λ (cursors : Cursors). get cursors key) cursors ∙ at,
         moved tried polled key was now (as_found p) refl msgs floor cursors (same_closed h key p) found,
       )
+
+-- a poll that gave no message, for a batch
+pub polls_last : {T : Type 0} (is_clone : T → T → Type 0) (o : Opening) {limit : ℕ} {old mid : Reader T} (new : Reader T) {before between : List T} (error : RecvError)
+    → (0 < limit) × (mid ≡ old) × (between ≡ before) → Takes is_clone o mid new (as_found (Ok (poll.Ready (Some (Err error)))))
+    → TakesMany is_clone o (λ tried. tried) limit old before (as_found (Ok (poll.Ready (Some (Err error))))) between new
+polls_last is_clone o new (unreceived.Overflowed n) (some, same, items) takes = (items, subst (λ r. Takes is_clone o r new (Ok (Err (unread.Overflowed n)))) same takes)
+polls_last is_clone o new unreceived.Closed (some, same, items) takes = (items, subst (λ r. Takes is_clone o r new (Ok (Err unread.Closed))) same takes)

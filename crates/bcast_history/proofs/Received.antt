@@ -1,5 +1,5 @@
 -- What the receives of a `TrackedReceiver` take.
-use Rattle.std.proofs.Common.{◌≡◌, ◌⊎◌, inr, ℕ, Option, Some, Result, Ok, Err, refl, sym, ap, ◌∙◌, subst}
+use Rattle.std.proofs.Common.{◌≡◌, ◌⊎◌, inr, ℕ, List, Option, Some, Result, Ok, Err, refl, sym, ap, ◌∙◌, subst}
 use Rattle.std.specs.Prelude.{IfOk, IfErr}
 use Rattle.std.specs.Option.{option_map_or}
 use Rattle.std.specs.declared.alloc.AllocError.{AllocError}
@@ -11,6 +11,8 @@ use Rattle.bcast_model.specs.declared.run.Reply.{Reply}
 use Rattle.bcast_model.specs.declared.run.Reply.TheVariants as reply
 use Rattle.bcast_model.specs.Words.{History, next, cursor_of}
 use Rattle.bcast_history.specs.declared.step.Opening.{Opening}
+use Rattle.bcast_history.specs.declared.step.Step.{Step}
+use Rattle.bcast_history.specs.Follows.{Follows}
 use Rattle.bcast_history.specs.History.{end_of}
 use Rattle.bcast_history.specs.Reader.{Reader, Finds, Takes, as_found}
 use Rattle.bcast_history.specs.Tracker.{Tracker, Learns, next_in}
@@ -54,6 +56,12 @@ module _ {T : Type 0} where
       → Learns is_clone o known c r after → IsPrefix known.steps after.steps
   seen {known = known} {after = after} learned =
       let f = learned.follows in prefix_trans known.steps f.before after.steps f.begins (_, sym f.last)
+
+-- a poll that found something, or that there is nothing yet
+pub ok_step : {T : Type 0} {is_clone : T → T → Type 0} {o : Opening} {known after : List (Step T)} {c : Call T} (p : Polled T)
+    → Follows is_clone o known c (reply.PollRecv p) after → IfOk p (λ poll. Follows is_clone o known c (reply.PollRecv (Ok poll)) after)
+ok_step (Ok poll) made = made
+ok_step (Err error) made = tt
 
 -- a receive that was made
 pub record Received
@@ -102,10 +110,12 @@ module _
   ok_part (Ok poll) got = got.takes
   ok_part (Err error) got = tt
 
-  pub err_part : (p : Polled T) → Received is_clone o key old after (as_found p)
-      → IfErr p (λ error. (reader key after ≡ old) ⊎ Takes is_clone o old (reader key after) (as_found (Err error)))
-  err_part (Ok poll) got = tt
-  err_part (Err error) got = inr got.takes
+  pub err_part : (X : Type 0) (p : Polled T) → Received is_clone o key old after (as_found p)
+      → Follows is_clone o old.steps (call.PollRecv old.key) (reply.PollRecv p) after.steps
+      → IfErr p (λ error. X ⊎ (Takes is_clone o old (reader key after) (as_found (Err error))
+      × Follows is_clone o old.steps (call.PollRecv old.key) (reply.PollRecv (Err error)) after.steps))
+  err_part X (Ok poll) got made = tt
+  err_part X (Err error) got made = inr (got.takes, made)
 
   pub stays : {c : Call T} {r : Reply T} (learned : Learns is_clone o known c r after)
       → cursor_of (next (end_of o learned.follows.before) c r).control key ≡ Some (number known.next) → Stays key old after

@@ -1,7 +1,7 @@
 -- What a receiver skips.
 use Rattle.std.proofs.Common.{◌≡◌, inl, inr, ℕ, ◌≤◌, List, [], ◌∷◌, ◌++◌, Option, Some, None, Result, Ok, Err, refl, ◌∙◌, arith, subst}
 use Rattle.std.proofs.lemmas.Bool.{cases_lt}
-use Rattle.std.specs.Result.{IsErr}
+use Rattle.std.specs.Result.{IsErr, OnErr}
 use Rattle.std.specs.declared.alloc.AllocError.{AllocError}
 use mathlib.Core.List.{IsPrefix}
 use Rattle.futures.specs.declared.task.Poll.{Poll}
@@ -16,6 +16,10 @@ use Rattle.bcast_history.specs.History.{calls_of, replies_of, start_of, end_of}
 use Rattle.bcast_history.proofs.Prefixes.{prefix_trans}
 use Rattle.bcast_history.specs.Reader.{Reader, Skips, Takes, TakesNext, as_found}
 use Rattle.bcast_history.proofs.Polls.{Polled}
+
+pub on_err : {X E P : Type 0} (p : Result X E) → P → OnErr p P
+on_err (Ok found) why = tt
+on_err (Err error) why = why
 
 module _ {T : Type 0} where
   -- what is gone stays so

@@ -24,6 +24,10 @@ module _ {T : Type 0} where
   abbrev pub StartsAtTheEnd : Opening → Reader T → Type 0
   StartsAtTheEnd o r = r.next ≡ end_number (end_of o r.steps)
 
+  -- a receiver makes a call that leaves it where it reads
+  abbrev pub StaysAt : Reader T → Reader T → Type 0
+  StaysAt old new = (new.key ≡ old.key) × (new.next ≡ old.next)
+
   -- a receiver skips messages, from one number up to another: each of them is gone
   abbrev pub Skips : History T → ℕ → ℕ → Type 0
   Skips h from to = (from ≤ to) × ((number : ℕ) → from ≤ number → number < to → number < h.floor)

@@ -7,7 +7,7 @@ ghost use Rattle.async_broadcast.specs.Timed.{as_timed_try};
 ghost use Rattle.bcast_history.specs.Follows.{Follows};
 ghost use Rattle.bcast_history.specs.History.{IsLawful, end_of};
 ghost use Rattle.bcast_history.specs.Makes.{MakesNone};
-ghost use Rattle.bcast_history.specs.Reader.{Takes};
+ghost use Rattle.bcast_history.specs.Reader.{StaysAt, Takes};
 
 use crate::inactive::TrackedInactiveReceiver;
 use crate::place::Place;
@@ -108,8 +108,7 @@ impl<T: Clone, P: HistoryPort<T, J>, J: Channel> TrackedReceiver<T, P, J> {
     ///
     /// - `Memory`: no memory for the handle.
     pub fn clone(&mut self) -> Result<Self, HandleError>
-        ensures same { (self.new.place.key ≡ self.old.place.key)
-            × (self.new.place.next ≡ self.old.place.next) }
+        ensures same { StaysAt self.old.place self.new.place }
         ensures made { IfOk result (λ made. (made.place.steps ≡ self.new.place.steps)
             × Follows T.is_clone J.opening self.old.place.steps
             (Call.CloneReceiver self.old.place.key)
@@ -159,8 +158,7 @@ impl<T: Clone, P: HistoryPort<T, J>, J: Channel> TrackedReceiver<T, P, J> {
 
     /// Closes the channel, and returns whether it was open: as `close` of any handle.
     pub fn close(&mut self) -> bool
-        ensures same { (self.new.place.key ≡ self.old.place.key)
-            × (self.new.place.next ≡ self.old.place.next) }
+        ensures same { StaysAt self.old.place self.new.place }
         ensures follows { Follows T.is_clone J.opening self.old.place.steps Call.Close
             (Reply.Close result) self.new.place.steps }
         ensures closed { (end_of J.opening self.new.place.steps).control.closed ≡ true }
@@ -172,8 +170,7 @@ impl<T: Clone, P: HistoryPort<T, J>, J: Channel> TrackedReceiver<T, P, J> {
     /// How many of the messages that the channel keeps this receiver has still to read: all of
     /// them, or those since its place, whichever are fewer. It is a step.
     pub fn unread(&mut self) -> usize
-        ensures same { (self.new.place.key ≡ self.old.place.key)
-            × (self.new.place.next ≡ self.old.place.next) }
+        ensures same { StaysAt self.old.place self.new.place }
         ensures unread { (len : ℕ) × Follows T.is_clone J.opening self.old.place.steps Call.Len
             (Reply.Len len) self.new.place.steps × (result ≡ min len
             (end_number (end_of J.opening self.new.place.steps) - self.new.place.next)) }
@@ -185,8 +182,7 @@ impl<T: Clone, P: HistoryPort<T, J>, J: Channel> TrackedReceiver<T, P, J> {
     /// How many messages were dropped before this receiver read them, and were not yet counted as
     /// missed: those since its place, but for the ones that the channel keeps. It is a step.
     pub fn missed(&mut self) -> u64
-        ensures same { (self.new.place.key ≡ self.old.place.key)
-            × (self.new.place.next ≡ self.old.place.next) }
+        ensures same { StaysAt self.old.place self.new.place }
         ensures missed { (len : ℕ) × Follows T.is_clone J.opening self.old.place.steps Call.Len
             (Reply.Len len) self.new.place.steps × (result
             ≡ end_number (end_of J.opening self.new.place.steps) - self.new.place.next - len) }
@@ -197,8 +193,7 @@ impl<T: Clone, P: HistoryPort<T, J>, J: Channel> TrackedReceiver<T, P, J> {
 
     /// How many messages the channel keeps. It is a step.
     pub fn len(&mut self) -> usize
-        ensures same { (self.new.place.key ≡ self.old.place.key)
-            × (self.new.place.next ≡ self.old.place.next) }
+        ensures same { StaysAt self.old.place self.new.place }
         ensures follows { Follows T.is_clone J.opening self.old.place.steps Call.Len
             (Reply.Len result) self.new.place.steps }
     {

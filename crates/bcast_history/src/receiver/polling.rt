@@ -1,16 +1,18 @@
 //! Receives in a task.
-ghost use Rattle.std.specs.Prelude.{◌≡◌, ◌⊎◌, IfOk, IfErr};
+ghost use Rattle.std.specs.Prelude.{◌≡◌, ◌⊎◌, true, Ok, Err, IfOk, IfErr, OnErr};
 ghost use mathlib.Core.List.{IsPrefix};
 ghost use Rattle.futures.specs.Task.{IsArmed, Keeps};
 ghost use Rattle.futures.specs.Poll.{OnPending};
-ghost use Rattle.bcast_history.specs.Reader.{Takes, TakesNext, as_found};
+ghost use Rattle.bcast_history.specs.Follows.{Follows};
+ghost use Rattle.bcast_history.specs.History.{end_of};
+ghost use Rattle.bcast_history.specs.Reader.{IsShared, Takes, TakesNext, as_found};
 
 use super::TrackedReceiver;
 use crate::place::Place;
 use crate::port::HistoryPort;
 use crate::tracker::Channel;
 use async_broadcast::RecvError;
-use bcast_core::PollRecv;
+use bcast_core::{Call, PollRecv, Reply};
 use futures::task::{Context, Poll};
 use std::alloc::AllocError;
 use std::sync::Wait;
@@ -33,8 +35,13 @@ impl<T: Clone, P: HistoryPort<T, J>, J: Channel> TrackedReceiver<T, P, J> {
         ensures seen { IsPrefix self.old.place.steps self.new.place.steps }
         ensures takes { IfOk result (λ poll. Takes T.is_clone J.opening self.old.place
             self.new.place (as_found (Ok poll))) }
-        ensures refused { IfErr result (λ error. (self.new.place ≡ self.old.place)
-            ⊎ Takes T.is_clone J.opening self.old.place self.new.place (as_found (Err error))) }
+        ensures follows { IfOk result (λ poll. Follows T.is_clone J.opening self.old.place.steps
+            (Call.PollRecv self.old.place.key) (Reply.PollRecv (Ok poll)) self.new.place.steps) }
+        ensures refused { IfErr result (λ error. ((self.new.place ≡ self.old.place)
+            × (self.new.waker.is_refused ≡ true))
+            ⊎ (Takes T.is_clone J.opening self.old.place self.new.place (as_found (Err error))
+            × Follows T.is_clone J.opening self.old.place.steps (Call.PollRecv self.old.place.key)
+            (Reply.PollRecv (Err error)) self.new.place.steps)) }
         ensures registered { IfOk result (λ poll. OnPending poll (IsArmed cx.new)) }
         ensures kept { Keeps cx.old cx.new }
     {
@@ -62,6 +69,9 @@ impl<T: Clone, P: HistoryPort<T, J>, J: Channel> TrackedReceiver<T, P, J> {
         ensures key { self.new.place.key ≡ self.old.place.key }
         ensures seen { IsPrefix self.old.place.steps self.new.place.steps }
         ensures takes { TakesNext T.is_clone J.opening self.old.place self.new.place result }
+        ensures refused { OnErr result ((self.new.waker.is_refused ≡ true)
+            ⊎ IsShared (end_of J.opening self.new.place.steps) self.new.place.key
+            self.new.place.next) }
         ensures registered { IfOk result (λ poll. OnPending poll (IsArmed cx.new)) }
         ensures kept { Keeps cx.old cx.new }
     {

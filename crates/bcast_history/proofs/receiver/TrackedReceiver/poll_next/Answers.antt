@@ -1,8 +1,9 @@
 -- The receiver skips, and then it finds a message, or that it has read all.
-use Rattle.std.proofs.Common.{inl, inr, Some, None, Ok, Err, ap, ◌∙◌}
+use Rattle.std.proofs.Common.{inl, inr, Some, None, Ok, Err, sym, ap, ◌∙◌, subst}
 use Rattle.futures.specs.declared.task.Poll.TheVariants as poll
-use Rattle.bcast_history.specs.Reader.{Reader}
-use Rattle.bcast_history.proofs.Skipped.{skips, finds_next, errs_next}
+use Rattle.bcast_history.specs.History.{end_of}
+use Rattle.bcast_history.specs.Reader.{Reader, IsShared}
+use Rattle.bcast_history.proofs.Skipped.{on_err, skips, finds_next, errs_next}
 use Rattle.bcast_history.proofs.receiver.TrackedReceiver.poll_next.Goals as goal
 
 pub loop-preserved : goal.loop-preserved
@@ -21,7 +22,16 @@ pub returns-in_err-next-clause-takes : goal.returns-in_err-next-clause-takes
 returns-in_err-next-clause-takes g c =
     let polled = c.in_err-next.ensures in
     errs_next g.T.Clone.is_clone _ _ c.loop.self.place c.poll_recv.new.self.place c.loop.invariant.3 polled.seen c.from_residual.result c.from_residual.ensures.0
-    (elim polled.refused [ inl same ↦ ap (λ (r : Reader g.row.T.Denot). r.next) same | inr takes ↦ takes.0 ])
+    (elim polled.refused [ inl same ↦ ap (λ (r : Reader g.row.T.Denot). r.next) same.0 | inr made ↦ made.0.0 ])
+
+pub returns-in_err-next-clause-refused : goal.returns-in_err-next-clause-refused
+returns-in_err-next-clause-refused g c =
+    let polled = c.in_err-next.ensures in
+    let h = end_of g.J.Channel.opening c.poll_recv.new.self.place.steps in
+    on_err c.from_residual.result (elim polled.refused [
+      | inl same ↦ inl same.1
+      | inr made ↦ inr (subst (λ key. IsShared h key c.poll_recv.new.self.place.next) (sym polled.key) (subst (IsShared h c.loop.self.place.key) (sym made.0.0) made.0.1))
+    ])
 
 pub returns-in_default-clause-takes : goal.returns-in_default-clause-takes
 returns-in_default-clause-takes g c =

@@ -1,6 +1,8 @@
 -- What was learned is what the receiver takes. A poll that wasn't made changes nothing.
 use Rattle.std.proofs.lemmas.Result.{IfOk-weaker}
-use Rattle.bcast_history.proofs.Received.{polled, poll_still, ok_part, err_part}
+use Rattle.bcast_model.specs.declared.run.Call.TheVariants as call
+use Rattle.bcast_history.proofs.Making.{follows}
+use Rattle.bcast_history.proofs.Received.{polled, poll_still, ok_part, ok_step, err_part}
 use Rattle.bcast_history.proofs.receiver.TrackedReceiver.poll_recv.Goals as goal
 
 pub invariant_of-self : goal.invariant_of-self
@@ -17,7 +19,13 @@ returns-in-Ok-clause-takes g c =
     let made = g.met.P.HistoryPort.follows _ _ _ _ c.in-Ok.ensures.learned in
     ok_part _ c.key.view_is c.key.invariant c.in-Ok.polled (polled _ c.key.view_is c.key.invariant made)
 
+pub returns-in-Ok-clause-follows : goal.returns-in-Ok-clause-follows
+returns-in-Ok-clause-follows g c =
+    let made = g.met.P.HistoryPort.follows _ _ _ _ c.in-Ok.ensures.learned in
+    ok_step c.in-Ok.polled (follows c.key.view_is c.key.invariant call.PollRecv made)
+
 pub returns-in-Ok-clause-refused : goal.returns-in-Ok-clause-refused
 returns-in-Ok-clause-refused g c =
     let made = g.met.P.HistoryPort.follows _ _ _ _ c.in-Ok.ensures.learned in
-    err_part _ c.key.view_is c.key.invariant c.in-Ok.polled (polled _ c.key.view_is c.key.invariant made)
+    err_part _ c.key.view_is c.key.invariant _ c.in-Ok.polled (polled _ c.key.view_is c.key.invariant made)
+    (follows c.key.view_is c.key.invariant call.PollRecv made)
