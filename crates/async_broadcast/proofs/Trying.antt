@@ -1,5 +1,6 @@
 -- Tries of one call, each of which had to wait.
-use Rattle.std.proofs.Common.{◌≡◌, ◌⊎◌, inl, inr, false, sym, subst}
+use Rattle.std.proofs.Common.{◌≡◌, ◌⊎◌, inl, inr, ℕ, false, Option, Some, None, sym, subst}
+use Rattle.std.specs.Prelude.{IfSome}
 use Rattle.bcast_model.specs.declared.run.Call.{Call}
 use Rattle.bcast_model.specs.declared.run.Reply.{Reply}
 use Rattle.async_broadcast.specs.Ports.{is_answer}
@@ -24,3 +25,9 @@ module _ {K T : Type 0} (learns : K → Call T → Reply T → K → Type 0) whe
       subst (λ k. learns k call r after) (sym same) learned
   at_last again start now after call r (inr (first, waits, had)) learned =
       again start now after call first r waits had learned
+
+-- the receiver that a call moves is still its caller's own
+pub own_still : {K : Type 0} (moves : K → ℕ → Type 0) (now later : K) (moved : Option ℕ)
+    → ((key : ℕ) → moves now key → moves later key) → IfSome moved (moves now) → IfSome moved (moves later)
+own_still moves now later None still own = tt
+own_still moves now later (Some key) still own = still key own

@@ -1,5 +1,5 @@
 -- How handles use ports and replies.
-use Rattle.std.specs.Prelude.{◌↔◌, Bool, true, false, Result, Ok, Err}
+use Rattle.std.specs.Prelude.{◌↔◌, ℕ, Bool, true, false, Option, Some, None, Result, Ok, Err}
 use Rattle.std.specs.declared.alloc.AllocError.{AllocError}
 use Rattle.bcast_model.specs.declared.error.RecvError.{RecvError}
 use Rattle.bcast_model.specs.declared.error.RecvError.TheVariants as unreceived
@@ -7,6 +7,7 @@ use Rattle.bcast_model.specs.declared.error.TryRecvError.{TryRecvError}
 use Rattle.bcast_model.specs.declared.error.TryRecvError.TheVariants as unread
 use Rattle.bcast_model.specs.declared.run.SendPoll.TheVariants as send
 use Rattle.bcast_model.specs.declared.run.Call.{Call}
+use Rattle.bcast_model.specs.declared.run.Call.TheVariants as call
 use Rattle.bcast_model.specs.declared.run.Reply.{Reply}
 use Rattle.bcast_model.specs.declared.run.Reply.TheVariants as reply
 
@@ -33,3 +34,13 @@ abbrev pub is_answer : {T : Type 0} → Reply T → Bool
 is_answer (reply.AttemptSend (send.Wait msg)) = false
 is_answer (reply.TryRecv (Ok (Err unread.Empty))) = false
 is_answer other = true
+
+-- the receiver that a call moves, or takes from the channel, if it is one that may
+abbrev pub moved_by : {T : Type 0} → Call T → Option ℕ
+moved_by (call.TryRecv key) = Some key
+moved_by (call.PollFuture key) = Some key
+moved_by (call.PollRecv key) = Some key
+moved_by (call.PollNext key) = Some key
+moved_by (call.Deactivate key) = Some key
+moved_by (call.DropReceiver key) = Some key
+moved_by other = None

@@ -180,7 +180,6 @@ impl<T: Clone, R: Wait + Clone, A: Allocator + Copy, J: CallJournal<T>> PortFor<
         let channel = &*self.channel;
         let mut guard = lock!(channel, &self.rt);
         let state = &mut *guard;
-        state.journal.check(&self.rt, caller, &state.inner);
         let before = std::snapshot::Snapshot::of(&state.inner);
         let start = msgs.len();
         let count = state.inner.receive_many(key, limit, msgs);

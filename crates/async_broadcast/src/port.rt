@@ -3,7 +3,7 @@ ghost use Rattle.std.specs.Prelude.{◌≡◌, ◌≤◌, ◌⊎◌, true, false
 ghost use Rattle.futures.specs.Task.{IsArmed, Keeps};
 ghost use Rattle.bcast_model.specs.Words.{must_wait, HasPositiveCapacity};
 ghost use Rattle.bcast_core.specs.Batch.{ReceivesInto};
-ghost use Rattle.async_broadcast.specs.Ports.{Gives, IsSame, as_try_recv};
+ghost use Rattle.async_broadcast.specs.Ports.{Gives, IsSame, as_try_recv, moved_by};
 ghost use Rattle.async_broadcast.specs.Timed.{as_attempt, as_timed_try};
 
 use crate::timed::{RecvTimeoutError, SendTimeoutError};
@@ -13,15 +13,32 @@ use futures::task::Context;
 use std::alloc::{AllocError, Allocator};
 use std::time::Duration;
 
+/// Who makes calls on a channel: what it knows of them, and which receivers are its own.
+///
+/// A call that moves a receiver, or takes it from the channel, is made by the receiver's owner. `()`
+/// may make every call, and knows nothing.
+pub trait Caller: Drop {
+    ghost use Rattle.std.specs.Prelude.{ℕ};
+
+    // Holds of a caller that may move the receiver of this key.
+    ghost moves: { Self → ℕ → Type 0 };
+}
+
+impl Caller for () {
+    ghost use Rattle.std.specs.Prelude.{⊤};
+
+    ghost moves = { λ _ _. ⊤ };
+}
+
 /// The way from a handle to its channel: it makes a call, and returns its reply.
 ///
 /// The contracts of handles and futures hold over every port: what a method returns is the reply
-/// that the port gave to the method's call. `K` is who makes the calls: what a caller knows of those
-/// on the channel. It is lent to each call, which adds itself. `()` knows nothing.
+/// that the port gave to the method's call. `K` is who makes the calls. It is lent to each call, which
+/// adds itself to what the caller knows.
 ///
 /// This is all that the structs of handles and of futures need of a port. It is small, so that
 /// proofs about several futures at once are small too.
-pub trait Ask<T: Clone, K: Drop>: Sized + Drop {
+pub trait Ask<T: Clone, K: Caller>: Sized + Drop {
     ghost use Rattle.bcast_model.specs.declared.run.Call.{Call};
     ghost use Rattle.bcast_model.specs.declared.run.Reply.{Reply};
     ghost use Rattle.bcast_core.specs.Kinds.{IsOfKind};
@@ -34,7 +51,8 @@ pub trait Ask<T: Clone, K: Drop>: Sized + Drop {
 
     /// Makes one call that never waits.
     fn ask<C: AtOnce<T>>(&self, caller: &mut K, call: C) -> C::Answer
-        requires { HasPositiveCapacity (C.call call) }
+        requires capacity { HasPositiveCapacity (C.call call) }
+        requires moves { IfSome (moved_by (C.call call)) (K.moves caller.old) }
         ensures gave { gave self.now (C.call call) (C.reply call result) }
         ensures learned { learns caller.old (C.call call) (C.reply call result) caller.new };
 
@@ -52,7 +70,8 @@ pub trait Ask<T: Clone, K: Drop>: Sized + Drop {
         task: &mut TaskWaker,
         cx: &mut Context<'_>,
     ) -> Result<C::Answer, C>
-        requires { HasPositiveCapacity (C.call call) }
+        requires capacity { HasPositiveCapacity (C.call call) }
+        requires moves { IfSome (moved_by (C.call call)) (K.moves caller.old) }
         ensures gave { IfOk result (λ answer. gave self.now (C.call call) (C.reply call answer)) }
         ensures learned { IfOk result (λ answer. learns caller.old (C.call call)
             (C.reply call answer) caller.new) }
@@ -88,7 +107,7 @@ pub trait Ask<T: Clone, K: Drop>: Sized + Drop {
 
 /// A port that can also wait, and that handles can share, for callers of this type. `Lock` is the
 /// port of a channel that `broadcast` made.
-pub trait PortFor<T: Clone, K: Drop>: Ask<T, K> {
+pub trait PortFor<T: Clone, K: Caller>: Ask<T, K> {
     /// Makes an `AttemptSend` again and again, and waits between, until it needn't wait.
     fn send_waiting(&self, caller: &mut K, msg: T) -> Result<Option<T>, SendError<T>>
         ensures gave { Self.gave self.now (Call.AttemptSend msg)
@@ -102,6 +121,7 @@ pub trait PortFor<T: Clone, K: Drop>: Ask<T, K> {
         caller: &mut K,
         key: usize,
     ) -> Result<Result<T, RecvError>, AllocError>
+        requires moves { K.moves caller.old key }
         ensures gave { Self.gave self.now (Call.TryRecv key)
             (Reply.TryRecv (as_try_recv result)) }
         ensures learned { Self.learns caller.old (Call.TryRecv key)
@@ -117,6 +137,7 @@ pub trait PortFor<T: Clone, K: Drop>: Ask<T, K> {
         limit: usize,
         msgs: &mut Vec<T, B>,
     ) -> usize
+        requires moves { K.moves caller.old key }
         ensures at_most { result ≤ limit }
         ensures received { ReceivesInto (Gives Self.gave Self.learns self.now) key
             caller.old msgs.old.items result msgs.new.items caller.new }
@@ -134,7 +155,7 @@ pub trait PortFor<T: Clone, K: Drop>: Ask<T, K> {
 }
 
 /// A port that can also wait with a limit of time. `Lock` is one if its runtime has a clock.
-pub trait TimedPortFor<T: Clone, K: Drop>: PortFor<T, K> {
+pub trait TimedPortFor<T: Clone, K: Caller>: PortFor<T, K> {
     /// Sends as `send_waiting` does, until `limit` has passed. It tries once more then. If the clock
     /// can't be read, the time counts as over.
     fn send_within(
@@ -156,6 +177,7 @@ pub trait TimedPortFor<T: Clone, K: Drop>: PortFor<T, K> {
         key: usize,
         limit: Duration,
     ) -> Result<Result<T, RecvTimeoutError>, AllocError>
+        requires moves { K.moves caller.old key }
         ensures gave { Self.gave self.now (Call.TryRecv key)
             (Reply.TryRecv (as_timed_try result)) }
         ensures learned { Self.learns caller.old (Call.TryRecv key)

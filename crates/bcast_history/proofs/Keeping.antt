@@ -2,20 +2,27 @@
 use Rattle.std.proofs.Common.{◌≡◌, ℕ, Option, Some, None, refl, List, [], ◌∷◌, ◌++◌, sym, ◌∙◌, ap, subst}
 use Rattle.std.proofs.Math.Logic.{∥∥₁_elim}
 use Rattle.std.specs.Coded.{Coded}
+use Rattle.std.proofs.lemmas.Option.{same_Some}
 use Rattle.std.specs.FinMap.{get}
+use Rattle.std.specs.Prelude.{IfSome}
 use Rattle.std.specs.List.{AllByRecursion}
 use base.Stored.{Coded-set}
 use mathlib.Core.List.{IsPrefix}
 use Rattle.bcast_model.specs.declared.run.Call.{Call}
 use Rattle.bcast_model.specs.declared.run.Reply.{Reply}
-use Rattle.bcast_model.specs.Words.{History, View, view_of, next, Legal, Answers, Represents, HasPositiveCapacity, Control, Cursors, end_number}
+use Rattle.bcast_model.specs.Words.{History, View, view_of, next, Legal, Answers, Represents, HasPositiveCapacity, Control, Cursors, cursor_of, end_number}
 use Rattle.bcast_model.specs.Encodings.{view_code}
 use Rattle.bcast_history.specs.declared.step.Opening.{Opening}
 use Rattle.bcast_history.specs.declared.step.Step.{Step}
 use Rattle.bcast_history.specs.History.{IsLawful, Replays, calls_of, end_of}
 use Rattle.bcast_history.specs.Follows.{Follows}
-use Rattle.bcast_history.specs.Tracker.{Tracker, Learns, next_in}
+use Rattle.bcast_history.specs.Cursors.{AreCursors}
+use Rattle.bcast_history.specs.Tracker.{IsOf, Tracker, Learns, next_of}
+use Rattle.async_broadcast.specs.Ports.{moved_by}
+use Rattle.claims.specs.Claims.{put_changed}
 use Rattle.bcast_history.proofs.Appends.{replays_push, end_of-more, calls_of-more}
+use Rattle.bcast_history.proofs.Claimed.{claims_read_on}
+use Rattle.bcast_history.proofs.Others.{others_stay}
 use Rattle.bcast_history.proofs.Waits.{waits_in_place}
 
 -- all of these, and one more
@@ -23,9 +30,25 @@ all_more : {X : Type 0} (P : X → Type 0) (xs : List X) (x : X) → AllByRecurs
 all_more P [] x all is = (is, tt)
 all_more P (first ∷ xs) x (here, all) is = (here, all_more P xs x all is)
 
-same_place : (one two : Control) (key : Option ℕ) → one.cursors ≡ two.cursors → next_in one key ≡ next_in two key
-same_place one two None same = refl
-same_place one two (Some key) same = ap (λ (cursors : Cursors). get cursors key) same
+same_place : (one two : Control) (key : ℕ) (next : Option ℕ) → one.cursors ≡ two.cursors → next_of one key next ≡ next_of two key next
+same_place one two key None same = refl
+same_place one two key (Some next) same = ap (λ (cursors : Cursors). get cursors key) same
+
+-- a caller that moves a receiver moves its own
+own_moved : {T : Type 0} (known : Tracker T) (moved : Option ℕ) → IfSome moved (λ key. IsOf key known)
+    → (other : ℕ) → IfSome known.next (λ _. other ≡ known.key → ⊥) → moved ≡ Some other → ⊥
+own_moved known None own other differs is = absurd (cc is)
+own_moved known (Some key) own other differs is =
+    let apart : other ≡ known.key → ⊥ = subst (λ next. IfSome next (λ _. other ≡ known.key → ⊥)) own.1 differs in
+    apart (sym (own.0 ∙ same_Some key other is))
+
+-- who knows all steps knows what the channel shows
+pub knows : {T : Type 0} (o : Opening) {longer known : List (Step T)} {shown : View T} {end : ℕ}
+    → known ≡ longer → Represents shown (end_of o longer) → end ≡ shown.end
+    → (end ≡ end_number (end_of o known)) × (shown.control ≡ (end_of o known).control)
+knows o {known = known} {shown = shown} same shows end =
+    let shows_it : shown ≡ view_of (end_of o known) = shows ∙ sym (ap (λ ss. view_of (end_of o ss)) same) in
+    (end ∙ ap (λ v. v.end) shows_it, ap (λ v. v.control) shows_it)
 
 module _ {T : Type 0} {is_clone : T → T → Type 0} {o : Opening} where
   -- the steps that were kept replay to what the channel shows
@@ -70,36 +93,35 @@ module _ {T : Type 0} {is_clone : T → T → Type 0} {o : Opening} where
         end = ap (end_of o) (same ∙ pushed) ∙ end_of-more is_clone o steps (record { call = call; reply = reply }) replays.run;
       }
 
-  -- who knows all steps knows what the channel shows
-  pub knows : {longer known : List (Step T)} {shown : View T} {end : ℕ} (key : Option ℕ) {next : Option ℕ}
-      → known ≡ longer → IsLawful is_clone o longer → Represents shown (end_of o longer)
-      → end ≡ shown.end → next ≡ next_in shown.control key
-      → IsLawful is_clone o known × (end ≡ end_number (end_of o known)) × (next ≡ next_in (end_of o known).control key)
-  knows {known = known} {shown = shown} key same lawful shows end next =
-      let shows_it : shown ≡ view_of (end_of o known) = shows ∙ sym (ap (λ ss. view_of (end_of o ss)) same) in (
-        subst (IsLawful is_clone o) (sym same) lawful,
-        end ∙ ap (λ v. v.end) shows_it,
-        next ∙ ap (λ v. next_in v.control key) shows_it,
-      )
-
-  -- the channel was as the caller knew it
-  there_was : {known now : Tracker T} {steps : List (Step T)} {shown : View T}
-      → known ≡ now → now.next ≡ next_in shown.control now.key → Replays is_clone o steps shown
-      → known.next ≡ next_in (end_of o steps).control known.key
-  there_was {now = now} {steps = steps} is_now fits replays =
-      subst (λ (k : Tracker T). k.next ≡ next_in (end_of o steps).control k.key) (sym is_now)
-      (fits ∙ ap (λ (v : View T). next_in v.control now.key) replays.end)
+  -- after a call each claim is where its receiver reads on
+  pub cursors_kept : (claims : List (Option ℕ)) {known now : Tracker T} {steps longer : List (Step T)} {before after : View T} {call : Call T} {reply : Reply T} {later : List (Option ℕ)} {at : Option ℕ}
+      → known ≡ now → longer ≡ steps ++ record { call = call; reply = reply } ∷ []
+      → Replays is_clone o steps before → Answers is_clone before call reply after
+      → IfSome (moved_by call) (λ key. IsOf key now) → AreCursors (end_of o steps).control claims
+      → later ≡ put_changed claims known.key known.next at → at ≡ next_of after.control known.key known.next
+      → AreCursors (end_of o longer).control later
+  cursors_kept claims {known = known} {steps = steps} {longer = longer} {after = after} {call = call} {reply = reply} is_now pushed run answers own cursors put_so at_is =
+      let step : Step T = record { call = call; reply = reply } in
+      let is_next : end_of o longer ≡ next (end_of o steps) call reply = ap (end_of o) pushed ∙ end_of-more is_clone o steps step run.run in
+      let new : Replays is_clone o longer after = replays_longer pushed run answers in
+      let c = (end_of o longer).control in
+      let at_end = at_is ∙ ap (λ (v : View T). next_of v.control known.key known.next) new.end in
+      let legal = subst (λ v. Legal is_clone v call reply) run.end answers.legal in
+      let its = subst (λ (k : Tracker T). IfSome (moved_by call) (λ key. IsOf key k)) (sym is_now) own in
+      subst (AreCursors c) (sym (put_so ∙ ap (put_changed claims known.key known.next) at_end))
+      (claims_read_on (end_of o steps).control c claims known.key known.next cursors (λ other at differs is.
+      ap (λ (h : History T). cursor_of h.control other) is_next
+      ∙ others_stay is_clone (end_of o steps) call reply other at legal (own_moved known (moved_by call) its other differs) is))
 
   -- who learns of it knows where its receiver reads on
   pub learned : {known now after : Tracker T} {steps longer : List (Step T)} {before : View T} {call : Call T} {reply : Reply T}
       → known ≡ now → after.steps ≡ longer → longer ≡ steps ++ record { call = call; reply = reply } ∷ [] → IsPrefix known.steps steps
       → Replays is_clone o steps before → Legal is_clone before call reply → IsLawful is_clone o longer
-      → now.next ≡ next_in before.control now.key → after.key ≡ known.key
-      → after.next ≡ next_in (end_of o after.steps).control after.key → Learns is_clone o now call reply after
+      → known.next ≡ next_of (end_of o steps).control known.key known.next → after.key ≡ known.key
+      → after.next ≡ next_of (end_of o after.steps).control known.key known.next → Learns is_clone o now call reply after
   unfolding follows
-  learned {known = known} {after = after} {steps = steps} {call = call} {reply = reply} is_now same pushed begins run legal lawful fits key at =
+  learned {known = known} {after = after} {steps = steps} {call = call} {reply = reply} is_now same pushed begins run legal lawful there key at =
       let made = follows same pushed begins run legal lawful in
-      let there = there_was is_now fits run in
       let was = end_of o steps in
       subst (λ k. Learns is_clone o k call reply after) is_now (record {
         follows = made;
@@ -108,6 +130,6 @@ module _ {T : Type 0} {is_clone : T → T → Type 0} {o : Opening} where
         next = at;
         waits = λ waits.
             let stay = waits_in_place is_clone was call reply made.valid made.legal waits in
-            at ∙ ap (next_in (end_of o after.steps).control) key ∙ ap (λ (h : History T). next_in h.control known.key) made.end
-            ∙ same_place (next was call reply).control was.control known.key stay ∙ sym there;
+            at ∙ ap (λ (h : History T). next_of h.control known.key known.next) made.end
+            ∙ same_place (next was call reply).control was.control known.key known.next stay ∙ sym there;
       })

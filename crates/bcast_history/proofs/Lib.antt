@@ -1,8 +1,12 @@
 -- the journal
 pub mod Prefixes
 pub mod Chains
+-- claims: a call moves no receiver but its caller's own
+pub mod Others
+pub mod Claimed
 -- runs that go on
 pub mod Appends
+pub mod Added
 pub mod Waits
 pub mod Keeping
 -- what a receiver finds
@@ -13,6 +17,7 @@ pub mod Polled
 pub mod Received
 pub mod Skipped
 -- several messages in one call
+pub mod KeepingEach
 pub mod Batches
 -- where a receiver starts
 pub mod Started

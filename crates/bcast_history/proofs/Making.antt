@@ -1,5 +1,6 @@
 -- Receivers that are made, that leave, and that stay.
-use Rattle.std.proofs.Common.{◌≡◌, ℕ, true, List, Some, refl, Ok, Err, sym, ap, ◌∙◌, subst}
+use Rattle.std.proofs.Common.{◌≡◌, ℕ, true, List, Some, refl, Result, Ok, Err, sym, ap, ◌∙◌, subst}
+use Rattle.std.specs.Prelude.{IfOk, IfErr}
 use Rattle.bcast_model.specs.declared.error.HandleError.{HandleError}
 use Rattle.bcast_model.specs.declared.run.Call.{Call}
 use Rattle.bcast_model.specs.declared.run.Call.TheVariants as call
@@ -11,11 +12,13 @@ use Rattle.bcast_history.specs.declared.step.Step.{Step}
 use Rattle.bcast_history.specs.History.{end_of}
 use Rattle.bcast_history.specs.Follows.{Follows}
 use Rattle.bcast_history.specs.Reader.{Reader}
-use Rattle.bcast_history.specs.Tracker.{Tracker, Learns}
+use Rattle.bcast_history.specs.Tracker.{Tracker, Begins, IsOf, Learns, number}
+use Rattle.async_broadcast.specs.Ports.{moved_by}
 use Rattle.bcast_model.proofs.Cases.{close_is}
 use Rattle.bcast_history.proofs.Told.{closed_after}
-use Rattle.bcast_history.proofs.Received.{reader, number, IsOf, Stays, stays, read_there}
-use Rattle.bcast_history.proofs.Started.{new_starts, activated_starts, cloned_starts, not_inactive, not_closed, only_read}
+use Rattle.bcast_history.proofs.Received.{reader, Stays, stays, read_there}
+use Rattle.bcast_history.proofs.Others.{others_stay}
+use Rattle.bcast_history.proofs.Started.{new_starts, activated_starts, cloned_starts, not_inactive}
 
 module _ {T : Type 0} {is_clone : T → T → Type 0} {o : Opening} where
   -- a new receiver starts at the end
@@ -50,24 +53,32 @@ module _ {T : Type 0} {is_clone : T → T → Type 0} {o : Opening} where
     cloned_there {new = new} learned =
         let f = learned.follows in
         subst (λ h. cursor_of h.control new ≡ Some (number known.next)) (sym f.end)
-        (cloned_starts is_clone (end_of o f.before) key (number known.next) (read_there its learned) new).1
+        (cloned_starts is_clone (end_of o f.before) key (number known.next) (read_there its learned) new)
         ∙ ap (λ (old : Reader T). Some old.next) is_old
 
-    -- a receiver stays where it is that makes another, that doesn't leave, that closes the channel,
-    -- and that counts
-    pub cloned_stays : {new : ℕ} → Learns is_clone o known (call.CloneReceiver key) (reply.CloneReceiver (Ok new)) after → Stays key old after
-    cloned_stays {new = new} learned =
-        stays is_clone is_old its learned (cloned_starts is_clone (end_of o learned.follows.before) key (number known.next) (read_there its learned) new).0
+    -- a receiver stays where it is whose call moves none, as one that makes another, or is refused
+    pub unmoved : {c : Call T} {r : Reply T} → Learns is_clone o known c r after → (moved_by c ≡ Some key → ⊥) → Stays is_clone o key old after
+    unmoved {c = c} {r = r} learned apart =
+        let f = learned.follows in
+        stays is_clone is_old its learned (others_stay is_clone (end_of o f.before) c r key (number known.next) f.legal apart (read_there its learned))
 
-    pub active_stays : {error : HandleError} → Learns is_clone o known (call.Deactivate key) (reply.Deactivate (Err error)) after → Stays key old after
+    pub adder_stays : {M : Type 0} (p : Result (ℕ × M) HandleError) → IfOk p (λ made. Learns is_clone o known (call.CloneReceiver key) (reply.CloneReceiver (Ok made.0)) after)
+        → IfErr p (λ error. Learns is_clone o known (call.CloneReceiver key) (reply.CloneReceiver (Err error)) after) → Stays is_clone o key old after
+    adder_stays (Ok made) learned refused = unmoved learned (λ none. absurd (cc none))
+    adder_stays (Err error) learned refused = unmoved refused (λ none. absurd (cc none))
+
+    -- and one that can't leave
+    pub active_stays : {error : HandleError} → Learns is_clone o known (call.Deactivate key) (reply.Deactivate (Err error)) after → Stays is_clone o key old after
     active_stays {error = error} learned =
         let f = learned.follows in
         stays is_clone is_old its learned (not_inactive is_clone (end_of o f.before) key (number known.next) (read_there its learned) error f.legal)
 
-    pub closing_stays : {r : Reply T} → Learns is_clone o known call.Close r after → Stays key old after
-    closing_stays {r = r} learned =
-        stays is_clone is_old its learned (not_closed is_clone (end_of o learned.follows.before) key (number known.next) (read_there its learned) r)
+-- ---- who makes the calls of a receiver that was added
+module _ {T : Type 0} {o : Opening} {key : ℕ} {maker made : Tracker T} (begins : Begins o key maker made) where
+  pub begun : {next : ℕ} → cursor_of (end_of o maker.steps).control key ≡ Some next → IsOf key made × (number made.next ≡ next)
+  begun there =
+      let at = begins.next ∙ there in
+      ((begins.key, at ∙ ap (λ next. Some (number next)) (sym at)), ap number at)
 
-    pub counting_stays : {n : ℕ} → Learns is_clone o known call.Len (reply.Len n) after → Stays key old after
-    counting_stays {n = n} learned =
-        stays is_clone is_old its learned (only_read is_clone (end_of o learned.follows.before) key (number known.next) (read_there its learned) n)
+  pub begun_last : cursor_of (end_of o maker.steps).control key ≡ Some (end_number (end_of o maker.steps)) → number made.next ≡ end_number (end_of o made.steps)
+  begun_last there = (begun there).1 ∙ ap (λ steps. end_number (end_of o steps)) (sym begins.steps)

@@ -1,7 +1,6 @@
 -- What the receives of a `TrackedReceiver` take.
 use Rattle.std.proofs.Common.{◌≡◌, ◌⊎◌, inr, ℕ, List, Option, Some, Result, Ok, Err, refl, sym, ap, ◌∙◌, subst}
 use Rattle.std.specs.Prelude.{IfOk, IfErr}
-use Rattle.std.specs.Option.{option_map_or}
 use Rattle.std.specs.declared.alloc.AllocError.{AllocError}
 use mathlib.Core.List.{IsPrefix}
 use Rattle.bcast_model.specs.declared.error.TryRecvError.{TryRecvError}
@@ -13,39 +12,34 @@ use Rattle.bcast_model.specs.Words.{History, next, cursor_of}
 use Rattle.bcast_history.specs.declared.step.Opening.{Opening}
 use Rattle.bcast_history.specs.declared.step.Step.{Step}
 use Rattle.bcast_history.specs.Follows.{Follows}
-use Rattle.bcast_history.specs.History.{end_of}
+use Rattle.bcast_history.specs.History.{IsLawful, end_of}
 use Rattle.bcast_history.specs.Reader.{Reader, Finds, Takes, as_found}
-use Rattle.bcast_history.specs.Tracker.{Tracker, Learns, next_in}
+use Rattle.bcast_history.specs.Tracker.{Tracker, IsOf, Learns, next_of, number}
 use Rattle.bcast_history.proofs.Found.{finds}
 use Rattle.bcast_history.proofs.Polls.{Polled}
 use Rattle.bcast_history.proofs.Polled.{polled_finds}
 use Rattle.bcast_history.proofs.Prefixes.{prefix_trans}
-
-abbrev pub number : Option ℕ → ℕ
-number cursor = option_map_or (λ n. n) cursor 0
 
 module _ {T : Type 0} where
   -- a receiver that makes calls by this tracker
   abbrev pub reader : ℕ → Tracker T → Reader T
   reader key t = record { key = key; next = number t.next; steps = t.steps }
 
-  -- the tracker is of the receiver of this key, and knows where it reads on
-  abbrev pub IsOf : ℕ → Tracker T → Type 0
-  IsOf key t = (t.key ≡ Some key) × (t.next ≡ Some (number t.next))
-
   -- there it read on before a call
   pub read_there : {is_clone : T → T → Type 0} {o : Opening} {key : ℕ} {known after : Tracker T} {c : Call T} {r : Reply T}
       → IsOf key known → (learned : Learns is_clone o known c r after)
       → cursor_of (end_of o learned.follows.before).control key ≡ Some (number known.next)
-  read_there {o = o} its learned =
-      sym (learned.there ∙ ap (next_in (end_of o learned.follows.before).control) its.0) ∙ its.1
+  read_there {o = o} {known = known} its learned =
+      let c = (end_of o learned.follows.before).control in
+      ap (cursor_of c) (sym its.0) ∙ sym (learned.there ∙ ap (next_of c known.key) its.1) ∙ its.1
 
   -- and here it reads on after it
   pub reads_on : {is_clone : T → T → Type 0} {o : Opening} {key now : ℕ} {known after : Tracker T} {c : Call T} {r : Reply T}
       → IsOf key known → (learned : Learns is_clone o known c r after)
       → cursor_of (next (end_of o learned.follows.before) c r).control key ≡ Some now → after.next ≡ Some now
-  reads_on {o = o} {key = key} {after = after} its learned at =
-      learned.next ∙ ap (next_in (end_of o after.steps).control) (learned.key ∙ its.0)
+  reads_on {o = o} {key = key} {known = known} {after = after} its learned at =
+      let c = (end_of o after.steps).control in
+      learned.next ∙ ap (next_of c known.key) its.1 ∙ ap (cursor_of c) its.0
       ∙ ap (λ (h : History T). cursor_of h.control key) learned.follows.end ∙ at
 
   -- so the tracker is still of the receiver
@@ -57,6 +51,10 @@ module _ {T : Type 0} where
   seen {known = known} {after = after} learned =
       let f = learned.follows in prefix_trans known.steps f.before after.steps f.begins (_, sym f.last)
 
+-- the tracker is the receiver's, and what it knows is a run
+abbrev pub IsPlace : {T : Type 0} → (T → T → Type 0) → Opening → ℕ → Tracker T → Type 0
+IsPlace is_clone o key t = IsOf key t × IsLawful is_clone o t.steps
+
 -- a poll that found something, or that there is nothing yet
 pub ok_step : {T : Type 0} {is_clone : T → T → Type 0} {o : Opening} {known after : List (Step T)} {c : Call T} (p : Polled T)
     → Follows is_clone o known c (reply.PollRecv p) after → IfOk p (λ poll. Follows is_clone o known c (reply.PollRecv (Ok poll)) after)
@@ -67,13 +65,14 @@ ok_step (Err error) made = tt
 pub record Received
     {T : Type 0} (is_clone : T → T → Type 0) (o : Opening) (key : ℕ) (old : Reader T) (after : Tracker T)
     (found : Result (Result T TryRecvError) AllocError) : Type 0 where
-  pub still : IsOf key after
+  pub still : IsPlace is_clone o key after
   pub seen : IsPrefix old.steps after.steps
   pub takes : Takes is_clone o old (reader key after) found
 
 -- a call that leaves the receiver where it is
-pub record Stays {T : Type 0} (key : ℕ) (old : Reader T) (after : Tracker T) : Type 0 where
-  pub still : IsOf key after
+pub record Stays
+    {T : Type 0} (is_clone : T → T → Type 0) (o : Opening) (key : ℕ) (old : Reader T) (after : Tracker T) : Type 0 where
+  pub still : IsPlace is_clone o key after
   pub same : (key ≡ old.key) × (number after.next ≡ old.next)
 
 module _
@@ -85,7 +84,7 @@ module _
       → Received is_clone o key old after found
   received found learned (now, at, finds_so) =
       let on = reads_on its learned at in record {
-        still = is_of known after its learned.key on;
+        still = (is_of known after its learned.key on, learned.follows.lawful);
         seen = subst (λ (old : Reader T). IsPrefix old.steps after.steps) is_old (seen learned);
         takes = subst (λ (old : Reader T). Takes is_clone o old (reader key after) found) is_old
             (subst (λ now. Finds is_clone (end_of o after.steps) key (number known.next) now found) (sym (ap number on))
@@ -118,16 +117,16 @@ module _
   err_part X (Err error) got made = inr (got.takes, made)
 
   pub stays : {c : Call T} {r : Reply T} (learned : Learns is_clone o known c r after)
-      → cursor_of (next (end_of o learned.follows.before) c r).control key ≡ Some (number known.next) → Stays key old after
+      → cursor_of (next (end_of o learned.follows.before) c r).control key ≡ Some (number known.next) → Stays is_clone o key old after
   stays learned at =
       let on = reads_on its learned at in record {
-        still = is_of known after its learned.key on;
+        still = (is_of known after its learned.key on, learned.follows.lawful);
         same = (ap (λ (old : Reader T). old.key) is_old, ap number on ∙ ap (λ (old : Reader T). old.next) is_old);
       }
 
 -- a poll that was made or wasn't leaves the tracker the receiver's
 pub poll_still : {T C : Type 0} (is_clone : T → T → Type 0) (o : Opening) {key : ℕ} (known after : Tracker T) (X : C → Type 0) (p : Result (Polled T) C)
-    → IsOf key known → IfOk p (λ answer. Learns is_clone o known (call.PollRecv key) (reply.PollRecv answer) after)
-    → IfErr p (λ back. X back × (after ≡ known)) → IsOf key after
-poll_still is_clone o known after X (Ok answer) its learned back = (polled is_clone {known = known} refl its learned).still
-poll_still is_clone o known after X (Err call) its learned back = subst (IsOf _) (sym back.1) its
+    → IsPlace is_clone o key known → IfOk p (λ answer. Learns is_clone o known (call.PollRecv key) (reply.PollRecv answer) after)
+    → IfErr p (λ back. X back × (after ≡ known)) → IsPlace is_clone o key after
+poll_still is_clone o known after X (Ok answer) its learned back = (polled is_clone {known = known} refl its.0 learned).still
+poll_still is_clone o known after X (Err call) its learned back = subst (IsPlace is_clone o _) (sym back.1) its

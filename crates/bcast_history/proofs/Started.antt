@@ -1,6 +1,5 @@
 -- Where a receiver starts that was made.
-use Rattle.std.proofs.Common.{◌≡◌, inl, inr, ℕ, ◌+◌, Bool, true, false, if◌then◌else◌, List, [], length, Some, Ok, Err, refl, sym, ap, ◌∙◌, subst}
-use Rattle.std.proofs.lemmas.Bool.{cases_eq}
+use Rattle.std.proofs.Common.{◌≡◌, ℕ, ◌+◌, Bool, true, false, if◌then◌else◌, List, [], length, Some, Ok, Err, refl, sym, ap, ◌∙◌, subst, arith}
 use Rattle.std.specs.Prelude.{is_some}
 use Rattle.std.specs.FinMap.{get, insert}
 use Rattle.bcast_model.specs.declared.error.HandleError.{HandleError}
@@ -11,8 +10,7 @@ use Rattle.bcast_model.specs.declared.run.Reply.{Reply}
 use Rattle.bcast_model.specs.declared.run.Reply.TheVariants as reply
 use Rattle.bcast_model.specs.Words.{History, view_of, next, Legal, Cursors, cursor_of, end_number, clone_receiver, deactivate, without_receiver, has_next, count_reply}
 use Rattle.bcast_model.proofs.Answers.{cursors-next}
-use Rattle.bcast_model.proofs.Cases.{stays-close}
-use Rattle.bcast_model.proofs.DeliveryMaps.{inserted, inserted_other}
+use Rattle.bcast_model.proofs.DeliveryMaps.{inserted}
 use Rattle.bcast_laws.specs.Sends.{is_accepted}
 use Rattle.bcast_laws.proofs.Sends.{nothing_added}
 use Rattle.bcast_history.specs.declared.step.Opening.{Opening}
@@ -20,19 +18,16 @@ use Rattle.bcast_history.specs.declared.step.Step.{Step}
 use Rattle.bcast_history.specs.History.{start_of, end_of}
 
 -- the first receiver starts with the first message
-pub first_there : {T : Type 0} {opened named : Opening} {steps : List (Step T)} → opened ≡ named → steps ≡ []
-    → cursor_of (end_of named steps).control opened.first_key ≡ Some opened.first_number
-first_there {T} {opened = o} {named = named} is none =
-    let first : cursor_of (start_of {T = T} o).control o.first_key ≡ Some o.first_number = inserted _ o.first_key o.first_number in
-    subst (λ ss. cursor_of (end_of named ss).control o.first_key ≡ Some o.first_number) (sym none)
-    (subst (λ named. cursor_of (start_of {T = T} named).control o.first_key ≡ Some o.first_number) is first)
+pub first_there : (T : Type 0) (opened : Opening) → cursor_of (start_of {T = T} opened).control opened.first_key ≡ Some opened.first_number
+first_there T opened = inserted _ opened.first_key opened.first_number
 
--- an entry stays if another is made
-beside : (m : Cursors) (key new at : ℕ) → get m key ≡ Some at → get (insert m new at) key ≡ Some at
-beside m key new at is = elim (cases_eq key new) [
-  | inl e ↦ ap (λ k. get (insert m new at) k) e ∙ inserted m new at
-  | inr differs ↦ inserted_other m new at key differs ∙ is
-]
+-- where the channel is that was opened, no step was made
+pub first_tracked : {T : Type 0} {opened named : Opening} {steps : List (Step T)} → opened ≡ named → steps ≡ []
+    → (opened.first_number ≡ end_number (end_of named steps)) × (cursor_of (end_of named steps).control opened.first_key ≡ Some opened.first_number)
+first_tracked {T} {opened = o} {named = named} is none =
+    let Is : Opening → List (Step T) → Type 0 = λ named steps.
+    (o.first_number ≡ end_number (end_of named steps)) × (cursor_of (end_of named steps).control o.first_key ≡ Some o.first_number) in
+    subst (Is named) (sym none) (subst (λ named. Is named []) is (omega arith, first_there T o))
 
 module _ {T : Type 0} (is_clone : T → T → Type 0) (h : History T) where
   -- a receiver that a call puts at the end starts there
@@ -54,15 +49,12 @@ module _ {T : Type 0} (is_clone : T → T → Type 0) (h : History T) where
       put_at_end call.Activate (reply.Activate (Ok key)) key legal refl (cursors-next h call.Activate (reply.Activate (Ok key)))
 
   module _ (key was : ℕ) (there : cursor_of h.control key ≡ Some was) where
-    -- a clone reads on where its original does, which stays there
-    pub cloned_starts : (new : ℕ) → let made = next h (call.CloneReceiver key) (reply.CloneReceiver (Ok new)) in
-        (cursor_of made.control key ≡ Some was) × (cursor_of made.control new ≡ Some was)
+    -- a clone reads on where its original does
+    pub cloned_starts : (new : ℕ) → cursor_of (next h (call.CloneReceiver key) (reply.CloneReceiver (Ok new))).control new ≡ Some was
     cloned_starts new =
         let put : (next h (call.CloneReceiver key) (reply.CloneReceiver (Ok new))).control.cursors ≡ insert h.control.cursors new was =
-        cursors-next h (call.CloneReceiver key) (reply.CloneReceiver (Ok new)) ∙ ap (λ o. (clone_receiver h.control o (Some new)).cursors) there in (
-          ap (λ (cursors : Cursors). get cursors key) put ∙ beside h.control.cursors key new was there,
-          ap (λ (cursors : Cursors). get cursors new) put ∙ inserted h.control.cursors new was,
-        )
+        cursors-next h (call.CloneReceiver key) (reply.CloneReceiver (Ok new)) ∙ ap (λ o. (clone_receiver h.control o (Some new)).cursors) there in
+        ap (λ (cursors : Cursors). get cursors new) put ∙ inserted h.control.cursors new was
 
     -- it stays if it can't be counted as inactive
     pub not_inactive : (error : HandleError) → Legal is_clone (view_of h) (call.Deactivate key) (reply.Deactivate (Err error))
@@ -77,10 +69,3 @@ module _ {T : Type 0} (is_clone : T → T → Type 0) (h : History T) where
             → (deactivate h.control key (Some was)).cursors ≡ h.control.cursors
         full true is told = absurd (cc (told ∙ ap (λ b. reply.Deactivate (if b then Ok tt else Err handle.TooMany)) is))
         full false is told = ap (λ b. (if b then record (without_receiver h.control key) { inactive = h.control.inactive + 1 } else h.control).cursors) is
-
-    -- a call that only reads moves no cursor
-    pub only_read : (n : ℕ) → cursor_of (next h call.Len (reply.Len n)).control key ≡ Some was
-    only_read n = ap (λ (cursors : Cursors). get cursors key) (cursors-next h call.Len (reply.Len n)) ∙ there
-
-    pub not_closed : (r : Reply T) → cursor_of (next h call.Close r).control key ≡ Some was
-    not_closed r = ap (λ (cursors : Cursors). get cursors key) (cursors-next h call.Close r ∙ (stays-close h.control).0) ∙ there

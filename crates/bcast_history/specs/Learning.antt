@@ -1,5 +1,5 @@
--- What is learned by who makes a call again that had to wait.
-use Rattle.std.specs.Prelude.{◌≡◌, false}
+-- What is learned by who makes a call again that had to wait, and that its receiver is still its own.
+use Rattle.std.specs.Prelude.{◌≡◌, ℕ, false, Some}
 use Rattle.std.proofs.Common.{List, ◌++◌, append_assoc, sym, ap, ◌∙◌}
 use mathlib.Core.List.{IsPrefix}
 use Rattle.bcast_model.specs.declared.run.Call.{Call}
@@ -7,7 +7,7 @@ use Rattle.bcast_model.specs.declared.run.Reply.{Reply}
 use Rattle.async_broadcast.specs.Ports.{is_answer}
 use Rattle.bcast_history.specs.declared.step.Opening.{Opening}
 use Rattle.bcast_history.specs.History.{end_of}
-use Rattle.bcast_history.specs.Tracker.{Tracker, Learns, next_in}
+use Rattle.bcast_history.specs.Tracker.{Tracker, IsOf, Learns, next_of, number}
 
 pub prefix_trans
     : {X : Type 0} (xs ys zs : List X) → IsPrefix xs ys → IsPrefix ys zs → IsPrefix xs zs
@@ -21,10 +21,11 @@ module _ {T : Type 0} where
       {call : Call T} {reply last : Reply T} → is_answer reply ≡ false
       → Learns is_clone o before call reply between → Learns is_clone o between call last after
       → Learns is_clone o before call last after
-  again {o = o} {before = before} {between = between} waits first second =
+  again {o = o} {before = before} {between = between} {after = after} waits first second =
       let one = first.follows in
       let two = second.follows in
       let known = prefix_trans one.before between.steps two.before (_, sym one.last) two.begins in
+      let stays = first.waits waits in
       record {
         follows = record {
           before = two.before;
@@ -35,9 +36,21 @@ module _ {T : Type 0} where
           legal = two.legal;
           end = two.end;
         };
-        there = sym (first.waits waits) ∙ second.there
-            ∙ ap (next_in (end_of o two.before).control) first.key;
+        there = sym stays ∙ second.there
+            ∙ ap (λ key. next_of (end_of o two.before).control key between.next) first.key
+            ∙ ap (next_of (end_of o two.before).control before.key) stays;
         key = second.key ∙ first.key;
-        next = second.next;
-        waits = λ no. second.waits no ∙ first.waits waits;
+        next = second.next
+            ∙ ap (λ key. next_of (end_of o after.steps).control key between.next) first.key
+            ∙ ap (next_of (end_of o after.steps).control before.key) stays;
+        waits = λ no. second.waits no ∙ stays;
       }
+
+  -- who has to wait stays where it is
+  pub moves_on
+      : {is_clone : T → T → Type 0} {o : Opening} {key : ℕ} {before between : Tracker T}
+      {call : Call T} {reply : Reply T} → is_answer reply ≡ false
+      → Learns is_clone o before call reply between → IsOf key before → IsOf key between
+  moves_on waits learned its =
+      let stays = learned.waits waits in
+      (learned.key ∙ its.0, stays ∙ its.1 ∙ ap (λ n. Some (number n)) (sym stays))

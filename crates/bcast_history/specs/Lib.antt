@@ -5,6 +5,7 @@ pub mod History
 -- what a call tells its caller, and who calls
 pub mod Follows
 pub mod Tracker
+pub mod Cursors
 pub mod Learning
 -- what follows, and if a handle isn't made
 pub mod Makes

@@ -1,5 +1,6 @@
 -- Who makes calls on a channel with a history: what is known of it.
 use Rattle.std.specs.Prelude.{◌≡◌, ℕ, false, List, Option, Some, None}
+use Rattle.std.specs.Option.{option_map_or}
 use Rattle.bcast_model.specs.declared.run.Call.{Call}
 use Rattle.bcast_model.specs.declared.run.Reply.{Reply}
 use Rattle.bcast_model.specs.Words.{Control, cursor_of}
@@ -10,16 +11,31 @@ use Rattle.bcast_history.specs.Follows.{Follows}
 use Rattle.async_broadcast.specs.Ports.{is_answer}
 
 -- a beginning of the steps; and if a receiver makes the calls, its key, and the number of the
--- message that it reads next
+-- message that it reads next. No receiver does if that is `None`, whatever the key
 pub record Tracker (T : Type 0) : Type 0 where
   pub steps : List (Step T)
-  pub key : Option ℕ
+  pub key : ℕ
   pub next : Option ℕ
 
--- where the receiver of this key reads on, if it is one
-abbrev pub next_in : Control → Option ℕ → Option ℕ
-next_in c None = None
-next_in c (Some key) = cursor_of c key
+-- where the receiver of this key reads on, if a receiver of it did
+abbrev pub next_of : Control → ℕ → Option ℕ → Option ℕ
+next_of c key None = None
+next_of c key (Some before) = cursor_of c key
+
+-- the number, or 0 if there is none
+abbrev pub number : Option ℕ → ℕ
+number next = option_map_or (λ n. n) next 0
+
+module _ {T : Type 0} where
+  -- the receiver of this key makes the calls, and knows where it reads on
+  abbrev pub IsOf : ℕ → Tracker T → Type 0
+  IsOf key t = (t.key ≡ key) × (t.next ≡ Some (number t.next))
+
+  -- who makes the calls of a receiver that was added under this key: it knows as much as who added it
+  pub record Begins (o : Opening) (new : ℕ) (maker made : Tracker T) : Type 0 where
+    pub steps : made.steps ≡ maker.steps
+    pub key : made.key ≡ new
+    pub next : made.next ≡ cursor_of (end_of o maker.steps).control new
 
 -- a call that adds to what is known: the channel was as its caller knew it, and the caller knows
 -- where it reads on then
@@ -27,8 +43,8 @@ pub record Learns
     {T : Type 0} (is_clone : T → T → Type 0) (o : Opening) (known : Tracker T)
     (call : Call T) (reply : Reply T) (after : Tracker T) : Type 0 where
   pub follows : Follows is_clone o known.steps call reply after.steps
-  pub there : known.next ≡ next_in (end_of o follows.before).control known.key
+  pub there : known.next ≡ next_of (end_of o follows.before).control known.key known.next
   pub key : after.key ≡ known.key
-  pub next : after.next ≡ next_in (end_of o after.steps).control after.key
+  pub next : after.next ≡ next_of (end_of o after.steps).control known.key known.next
   -- a call that must wait leaves the receiver where it was
   pub waits : is_answer reply ≡ false → after.next ≡ known.next

@@ -3,10 +3,11 @@ ghost use Rattle.std.specs.Prelude.{◌≡◌, Ok, Err, IfOk, IfErr};
 ghost use Rattle.bcast_history.specs.Follows.{Follows};
 ghost use Rattle.bcast_history.specs.Reader.{StartsAtTheEnd};
 
+use crate::known::Known;
 use crate::place::Place;
 use crate::port::HistoryPort;
 use crate::receiver::TrackedReceiver;
-use crate::tracker::{Channel, Seen, Tracker};
+use crate::tracker::{Channel, Seen};
 use bcast_core::{AddReceiver, Call, Change, HandleError, Reply};
 
 /// Receives nothing, and can become an active receiver, as `InactiveReceiver` of `async_broadcast`.
@@ -14,7 +15,7 @@ use bcast_core::{AddReceiver, Call, Change, HandleError, Reply};
 /// Contracts name its `known.steps`, a beginning of the steps on the channel. The drop is a step.
 pub struct TrackedInactiveReceiver<T: Clone, P: HistoryPort<T, J>, J: Channel> {
     pub(crate) port: P,
-    pub(crate) known: Tracker<T, J>,
+    pub(crate) known: Known<T, J>,
 }
 
 impl<T: Clone, P: HistoryPort<T, J>, J: Channel> TrackedInactiveReceiver<T, P, J> {
@@ -40,20 +41,22 @@ impl<T: Clone, P: HistoryPort<T, J>, J: Channel> TrackedInactiveReceiver<T, P, J
         ensures refused { IfErr result (λ back. Follows T.is_clone J.opening
             self.known.steps Call.Activate (Reply.Activate (Err back.1)) back.0.known.steps) }
     {
-        let TrackedInactiveReceiver { port, mut known } = self;
-        match port.ask(&mut known, AddReceiver::Activate) {
-            Ok(key) => {
-                let place = Place::new(&known, key, known.end());
-                Ok(TrackedReceiver::new(port, place))
+        let TrackedInactiveReceiver { port, known } = self;
+        let Known { mut tracker } = known;
+        match port.add_receiver(&mut tracker, AddReceiver::Activate) {
+            Ok((key, made)) => Ok(TrackedReceiver::new(port, Place::new(key, made))),
+            Err(error) => {
+                let known = Known::new(tracker);
+                Err((TrackedInactiveReceiver { port, known }, error))
             }
-            Err(error) => Err((TrackedInactiveReceiver { port, known }, error)),
         }
     }
 }
 
 impl<T: Clone, P: HistoryPort<T, J>, J: Channel> Drop for TrackedInactiveReceiver<T, P, J> {
     fn drop(self) {
-        let TrackedInactiveReceiver { port, mut known } = self;
-        port.ask(&mut known, Change::DropInactive);
+        let TrackedInactiveReceiver { port, known } = self;
+        let Known { mut tracker } = known;
+        port.ask(&mut tracker, Change::DropInactive);
     }
 }

@@ -16,21 +16,24 @@
 //!
 //! No step is stored: the journal is a word, which stays 0, and what contracts know of its notes.
 //! One `Writer` knows them all, and lies behind the lock; a `Prefix` has no bytes, and knows a
-//! beginning.
+//! beginning. Beside the writer lies a registry, also without bytes, in which each receiver's place is
+//! claimed: so what a handle knows of its receiver is so, and needs no look at the channel.
 //!
 //! The channel's parameter is `J: Channel`, which names it. A program uses the channel inside a
 //! function over `J`, here `work`, and calls it at `Brand` of `std::marker` with `opened`, an
 //! `Opened`. The caller's `Invariants.antt` says that `J` names this channel:
 //!
 //! ```text
-//! ghosts-work-J-Channel g a = record { opening = a.opened.opening }
+//! ghosts-work-J-Channel g a = record { opening = a.opened.opening; registry = a.opened.registry }
 //! ghosts-work-J-Named g a = record { book = a.opened.book }
 //! ```
 #![tactic(auto)]
 
+mod cursor;
 mod inactive;
 mod iter;
 mod journal;
+mod known;
 mod laws;
 mod opened;
 mod place;
@@ -43,9 +46,11 @@ mod step;
 mod steps;
 mod tracker;
 
+pub use cursor::Cursor;
 pub use inactive::TrackedInactiveReceiver;
 pub use iter::{TrackedIter, TrackedTryIter};
 pub use journal::{Journal, Named, Notes, Prefix, Whole, Writer};
+pub use known::Known;
 pub use laws::{
     closed_is_last, end_is_last, logs_are_accepted, messages_stay, receivers_read_on,
     sends_stand_last,

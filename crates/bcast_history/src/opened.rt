@@ -1,7 +1,9 @@
 //! A channel that was made, before it has a name, and its first handles.
 ghost use Rattle.std.specs.Prelude.{◌≡◌, ◌<◌, [], IfOk};
 
+use crate::cursor::Cursor;
 use crate::journal::Journal;
+use crate::known::Known;
 use crate::place::Place;
 use crate::port::History;
 use crate::receiver::TrackedReceiver;
@@ -11,30 +13,37 @@ use crate::steps::StepJournal;
 use crate::tracker::{Channel, Tracker};
 use async_broadcast::{Lock, PortFor, Wake};
 use bcast_core::Inner;
+use claims::Registry;
 use std::alloc::{AllocError, Allocator, Global};
 use std::marker::Model;
 use std::sync::Wait;
 
-/// A channel on which no call was made, and its journal. They have no name yet. A contract sees
-/// both as what a name has to say of them.
+/// A channel on which no call was made, its journal, and the registry in which its receivers' places
+/// are claimed. They have no name yet. A contract sees what a name has to say of them.
 #[derive(Drop)]
 pub struct Opened<T: Clone, A: Allocator = Global> {
     inner: Inner<T, Wake, A>,
     opening: Opening,
     journal: Journal<Step<T>>,
+    registry: Registry,
 }
 
 impl<T: Clone, A: Allocator> Model for Opened<T, A> {
+    ghost use Rattle.std.specs.Prelude.{◌≡◌, []};
     ghost use Rattle.bcast_model.specs.Words.{IsValid, Represents};
     ghost use Rattle.bcast_history.specs.History.{start_of};
     ghost use Rattle.bcast_history.specs.Opened.{Opened};
 
     ghost Value = { Opened };
 
-    ghost view = { λ o. record { book = o.journal; opening = o.opening } };
+    ghost view = { λ o. record {
+      book = o.journal;
+      opening = o.opening;
+      registry = o.registry.name;
+    } };
 
     ghost invariant = { λ o. Represents o.inner (start_of {T = T} o.opening)
-        × IsValid (start_of {T = T} o.opening) };
+        × IsValid (start_of {T = T} o.opening) × (o.registry.claims ≡ []) };
 }
 
 impl<T: Clone, A: Allocator + Copy> Opened<T, A> {
@@ -59,6 +68,7 @@ impl<T: Clone, A: Allocator + Copy> Opened<T, A> {
             inner,
             opening,
             journal: Journal::new(),
+            registry: Registry::new(),
         })
     }
 }
@@ -77,7 +87,8 @@ pub fn broadcast<T: Clone, R: Wait + Clone, J: Channel, A: Allocator + Copy>(
     alloc: A,
     opened: Opened<T, A>,
 ) -> Result<FirstHandles<T, History<T, R, J, A>, J>, AllocError>
-    requires { (opened.book ≡ J.book) × (opened.opening ≡ J.opening) }
+    requires { (opened.book ≡ J.book) × (opened.opening ≡ J.opening)
+        × (opened.registry ≡ J.registry) }
     ensures sender { IfOk result (λ made. made.0.known.steps ≡ []) }
     ensures receiver { IfOk result (λ made. made.1.place ≡ record {
       key = J.opening.first_key;
@@ -89,10 +100,18 @@ pub fn broadcast<T: Clone, R: Wait + Clone, J: Channel, A: Allocator + Copy>(
         inner,
         opening,
         journal,
+        mut registry,
     } = opened;
-    let steps = StepJournal::new(journal);
-    let known = Tracker::new(steps.seen(), opening.first_number);
-    let place = Place::new(&known, opening.first_key, opening.first_number);
+    let key = opening.first_key;
+    let cursor = Cursor::new(&mut registry, key, opening.first_number);
+    let steps = StepJournal::new(journal, registry);
+    let tracker = Tracker {
+        seen: steps.seen(),
+        end: opening.first_number,
+        cursor,
+    };
+    let known = Known::new(tracker.of_none());
+    let place = Place::new(key, tracker);
     let port = Lock::with_journal(rt, alloc, inner, steps)?;
     let other = port.try_clone().ok_or(AllocError)?;
     Ok((

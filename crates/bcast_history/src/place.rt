@@ -1,12 +1,13 @@
 //! Where a receiver reads on.
-ghost use Rattle.std.specs.Prelude.{◌≡◌, Some};
-ghost use Rattle.bcast_model.specs.Words.{cursor_of};
-ghost use Rattle.bcast_history.specs.History.{end_of};
+ghost use Rattle.std.specs.Prelude.{◌≡◌};
+ghost use Rattle.bcast_history.specs.History.{IsLawful};
+ghost use Rattle.bcast_history.specs.Tracker.{IsOf, number};
 
 use crate::tracker::{Channel, Tracker};
 use std::marker::Model;
 
-/// A receiver's key, and what the receiver knows: where it reads on is known, too.
+/// A receiver's key, and what the receiver knows, which is a run of its channel: where it reads on is
+/// known, too.
 #[derive(Drop)]
 pub struct Place<T: Clone, J: Channel> {
     pub(crate) key: usize,
@@ -14,38 +15,40 @@ pub struct Place<T: Clone, J: Channel> {
 }
 
 impl<T: Clone, J: Channel> Model for Place<T, J> {
-    ghost use Rattle.std.specs.Prelude.{◌≡◌, Some};
-    ghost use Rattle.std.specs.Option.{option_map_or};
+    ghost use Rattle.bcast_history.specs.History.{IsLawful};
     ghost use Rattle.bcast_history.specs.Reader.{Reader};
+    ghost use Rattle.bcast_history.specs.Tracker.{IsOf, number};
 
     ghost Value = { Reader T };
 
     ghost view = { λ p. record {
       key = p.key;
-      next = option_map_or (λ next. next) p.tracker.next 0;
+      next = number p.tracker.next;
       steps = p.tracker.steps;
     } };
 
-    ghost invariant = { λ p. (p.tracker.key ≡ Some p.key)
-        × (p.tracker.next ≡ Some (option_map_or (λ next. next) p.tracker.next 0)) };
+    ghost invariant = { λ p. IsOf p.key p.tracker
+        × IsLawful T.is_clone J.opening p.tracker.steps };
 }
 
 impl<T: Clone, J: Channel> Place<T, J> {
-    /// Of the receiver of this key, which reads on at this number.
-    pub(crate) fn new(known: &Tracker<T, J>, key: usize, next: u64) -> Self
-        requires { cursor_of (end_of J.opening known.now.steps).control key ≡ Some next }
-        ensures { result ≡ record { key = key; next = next; steps = known.now.steps } }
+    /// Of the receiver of this key.
+    pub(crate) fn new(key: usize, tracker: Tracker<T, J>) -> Self
+        requires its { IsOf key tracker }
+        requires lawful { IsLawful T.is_clone J.opening tracker.steps }
+        ensures { result ≡ record {
+          key = key;
+          next = number tracker.next;
+          steps = tracker.steps;
+        } }
     {
-        Place {
-            key,
-            tracker: known.of(Some(key), Some(next)),
-        }
+        Place { key, tracker }
     }
 
     /// The number of the message that is read next.
     pub(crate) fn next(&self) -> u64
         ensures { result ≡ self.now.next }
     {
-        self.tracker.next.unwrap_or(0)
+        self.tracker.next().unwrap_or(0)
     }
 }

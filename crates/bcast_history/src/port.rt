@@ -1,7 +1,12 @@
 //! Ports of a channel whose calls have their places in one history.
+ghost use Rattle.std.specs.Prelude.{Ok, Err, IfOk, IfErr};
+ghost use Rattle.bcast_core.specs.Calls.{receiver_call, receiver_reply};
+ghost use Rattle.bcast_history.specs.Tracker.{Begins, Learns};
+
 use crate::steps::StepJournal;
 use crate::tracker::{Channel, Tracker};
 use async_broadcast::{CallJournal, Lock, PortFor, TimedPortFor};
+use bcast_core::{AddReceiver, HandleError};
 use std::alloc::{Allocator, Global};
 use std::sync::Wait;
 
@@ -11,6 +16,19 @@ pub trait HistoryPort<T: Clone, J: Channel>: PortFor<T, Tracker<T, J>> {
     ghost use Rattle.bcast_model.specs.declared.run.Call.{Call};
     ghost use Rattle.bcast_model.specs.declared.run.Reply.{Reply};
     ghost use Rattle.bcast_history.specs.Tracker.{Tracker, Learns};
+
+    /// Adds a receiver by this call, with its errors. Returns the receiver's key, and who makes its
+    /// calls, which knows as much as `known` then.
+    fn add_receiver(
+        &self,
+        known: &mut Tracker<T, J>,
+        call: AddReceiver,
+    ) -> Result<(usize, Tracker<T, J>), HandleError>
+        ensures learned { IfOk result (λ made. Learns T.is_clone J.opening known.old
+            (receiver_call call) (receiver_reply call (Ok made.0)) known.new) }
+        ensures begins { IfOk result (λ made. Begins J.opening made.0 known.new made.1) }
+        ensures refused { IfErr result (λ error. Learns T.is_clone J.opening known.old
+            (receiver_call call) (receiver_reply call (Err error)) known.new) };
 
     // A call adds itself, and those before it, to what its caller knows.
     ghost follows: { (known after : Tracker T) (call : Call T) (reply : Reply T)
@@ -32,17 +50,23 @@ impl<T: Clone, J: Channel, P: HistoryPort<T, J> + TimedPortFor<T, Tracker<T, J>>
 /// It is a trait of its own, and not `StepJournal` alone, since the checker can't yet give `u64` to
 /// an impl of `HistoryPort` that names `StepJournal<T, J>`.
 pub trait TracksCalls<T: Clone, J: Channel>: CallJournal<T, Caller = Tracker<T, J>> {
+    ghost use Rattle.std.specs.Prelude.{ℕ};
     ghost use Rattle.bcast_model.specs.declared.run.Call.{Call};
     ghost use Rattle.bcast_model.specs.declared.run.Reply.{Reply};
-    ghost use Rattle.bcast_history.specs.Tracker.{Tracker, Learns};
+    ghost use Rattle.bcast_history.specs.Tracker.{Tracker, Begins, Learns};
 
     ghost follows: { (known after : Tracker T) (call : Call T) (reply : Reply T)
         → Self.learns known call reply after
         → Learns T.is_clone J.opening known call reply after };
+
+    ghost starts: { (key : ℕ) (maker made : Tracker T)
+        → Self.begins key maker made → Begins J.opening key maker made };
 }
 
 impl<T: Clone, J: Channel> TracksCalls<T, J> for StepJournal<T, J> {
     ghost follows = { λ known after call reply learned. learned };
+
+    ghost starts = { λ key maker made begins. begins };
 }
 
 /// The port of a channel that `broadcast` made.
@@ -54,4 +78,12 @@ impl<T: Clone, R: Wait + Clone, J: Channel, A: Allocator + Copy, K: TracksCalls<
 > for Lock<T, R, A, K> {
     ghost follows = { λ known after call reply learned.
         K.TracksCalls.follows known after call reply learned };
+
+    fn add_receiver(
+        &self,
+        known: &mut Tracker<T, J>,
+        call: AddReceiver,
+    ) -> Result<(usize, Tracker<T, J>), HandleError> {
+        Lock::add_receiver(self, known, call)
+    }
 }

@@ -10,6 +10,7 @@ ghost use Rattle.bcast_history.specs.Makes.{MakesNone};
 ghost use Rattle.bcast_history.specs.Reader.{StaysAt, Takes};
 
 use crate::inactive::TrackedInactiveReceiver;
+use crate::known::Known;
 use crate::place::Place;
 use crate::port::{HistoryPort, TimedHistoryPort};
 use crate::tracker::{Channel, Seen};
@@ -63,7 +64,8 @@ impl<T: Clone, P: HistoryPort<T, J>, J: Channel> TrackedReceiver<T, P, J> {
         ensures there { cursor_of (end_of J.opening self.now.place.steps).control self.now.place.key
             ≡ Some self.now.place.next }
     {
-        self.place.tracker.invariant_holds();
+        let Place { tracker, .. } = &self.place;
+        tracker.invariant_holds();
     }
 
     /// Receives the next message, if there is one: as `Receiver::try_recv`.
@@ -119,11 +121,9 @@ impl<T: Clone, P: HistoryPort<T, J>, J: Channel> TrackedReceiver<T, P, J> {
             self.new.place.steps) }
     {
         let port = self.port.try_clone().ok_or(HandleError::Memory)?;
-        let next = self.next();
         let Place { key, tracker } = &mut self.place;
-        let made = self.port.ask(tracker, AddReceiver::Clone(*key))?;
-        let place = Place::new(tracker, made, next);
-        Ok(TrackedReceiver::new(port, place))
+        let (key, made) = self.port.add_receiver(tracker, AddReceiver::Clone(*key))?;
+        Ok(TrackedReceiver::new(port, Place::new(key, made)))
     }
 
     /// Turns the receiver into an inactive one: as `Receiver::deactivate`.
@@ -144,15 +144,19 @@ impl<T: Clone, P: HistoryPort<T, J>, J: Channel> TrackedReceiver<T, P, J> {
     {
         let TrackedReceiver {
             port,
-            mut place,
+            place,
             waker: _,
         } = self;
-        match port.ask(&mut place.tracker, AddHandle::Deactivated(place.key)) {
+        let Place { key, mut tracker } = place;
+        match port.ask(&mut tracker, AddHandle::Deactivated(key)) {
             Ok(()) => {
-                let known = place.tracker.of(None, None);
+                let known = Known::new(tracker);
                 Ok(TrackedInactiveReceiver { port, known })
             }
-            Err(error) => Err((TrackedReceiver::new(port, place), error)),
+            Err(error) => {
+                let place = Place::new(key, tracker);
+                Err((TrackedReceiver::new(port, place), error))
+            }
         }
     }
 

@@ -1,17 +1,19 @@
 //! The sending side.
-ghost use Rattle.std.specs.Prelude.{◌≡◌, true, Ok, IfOk, IfErr};
+ghost use Rattle.std.specs.Prelude.{◌≡◌, true, None, Ok, IfOk, IfErr};
 ghost use Rattle.bcast_model.specs.Encodings.{in_lists};
 ghost use Rattle.bcast_model.specs.Words.{HasPositiveCapacity, end_number};
+ghost use Rattle.async_broadcast.specs.Ports.{moved_by};
 ghost use Rattle.async_broadcast.specs.Timed.{as_attempt};
 ghost use Rattle.bcast_history.specs.Follows.{Follows};
 ghost use Rattle.bcast_history.specs.History.{IsLawful, end_of};
 ghost use Rattle.bcast_history.specs.Makes.{MakesNone};
 ghost use Rattle.bcast_history.specs.Reader.{StartsAtTheEnd};
 
+use crate::known::Known;
 use crate::place::Place;
 use crate::port::{HistoryPort, TimedHistoryPort};
 use crate::receiver::TrackedReceiver;
-use crate::tracker::{Channel, Seen, Tracker};
+use crate::tracker::{Channel, Seen};
 use async_broadcast::SendTimeoutError;
 use bcast_core::{
     AddHandle, AddReceiver, AtOnce, Call, Change, Close, HandleError, Messages, Reply, SendError,
@@ -26,7 +28,7 @@ use std::time::Duration;
 /// steps that others made meanwhile, and last its own (`Follows`). The drop is a step, too.
 pub struct TrackedSender<T: Clone, P: HistoryPort<T, J>, J: Channel> {
     pub(crate) port: P,
-    pub(crate) known: Tracker<T, J>,
+    pub(crate) known: Known<T, J>,
 }
 
 impl<T: Clone, P: HistoryPort<T, J>, J: Channel> TrackedSender<T, P, J> {
@@ -56,11 +58,13 @@ impl<T: Clone, P: HistoryPort<T, J>, J: Channel> TrackedSender<T, P, J> {
     // Makes a call.
     #[inline(always)]
     pub(crate) fn ask<C: AtOnce<T>>(&mut self, call: C) -> C::Answer
-        requires { HasPositiveCapacity (C.call call) }
+        requires capacity { HasPositiveCapacity (C.call call) }
+        requires moves { moved_by (C.call call) ≡ None }
         ensures { Follows T.is_clone J.opening self.old.known.steps (C.call call)
             (C.reply call result) self.new.known.steps }
     {
-        self.port.ask(&mut self.known, call)
+        let Known { tracker } = &mut self.known;
+        self.port.ask(tracker, call)
     }
 
     /// Sends a message, unless the channel is closed, or has no active receiver, or no room for it:
@@ -88,7 +92,8 @@ impl<T: Clone, P: HistoryPort<T, J>, J: Channel> TrackedSender<T, P, J> {
         ensures { Follows T.is_clone J.opening self.old.known.steps (Call.AttemptSend msg)
             (Reply.AttemptSend (SendPoll.Ready result)) self.new.known.steps }
     {
-        self.port.send_waiting(&mut self.known, msg)
+        let Known { tracker } = &mut self.known;
+        self.port.send_waiting(tracker, msg)
     }
 
     /// Closes the channel, and returns whether it was open: as `close` of any handle.
@@ -117,7 +122,7 @@ impl<T: Clone, P: HistoryPort<T, J>, J: Channel> TrackedSender<T, P, J> {
         self.ask(AddHandle::Sender)?;
         Ok(TrackedSender {
             port,
-            known: self.known.of(None, None),
+            known: self.known.same(),
         })
     }
 
@@ -136,9 +141,9 @@ impl<T: Clone, P: HistoryPort<T, J>, J: Channel> TrackedSender<T, P, J> {
             Reply.NewReceiver self.old.known.steps error self.new.known.steps) }
     {
         let port = self.port.try_clone().ok_or(HandleError::Memory)?;
-        let key = self.ask(AddReceiver::New)?;
-        let place = Place::new(&self.known, key, self.known.end());
-        Ok(TrackedReceiver::new(port, place))
+        let Known { tracker } = &mut self.known;
+        let (key, made) = self.port.add_receiver(tracker, AddReceiver::New)?;
+        Ok(TrackedReceiver::new(port, Place::new(key, made)))
     }
 }
 
@@ -153,13 +158,15 @@ impl<T: Clone, P: TimedHistoryPort<T, J>, J: Channel> TrackedSender<T, P, J> {
         ensures { Follows T.is_clone J.opening self.old.known.steps (Call.AttemptSend msg)
             (Reply.AttemptSend (as_attempt result)) self.new.known.steps }
     {
-        self.port.send_within(&mut self.known, msg, limit)
+        let Known { tracker } = &mut self.known;
+        self.port.send_within(tracker, msg, limit)
     }
 }
 
 impl<T: Clone, P: HistoryPort<T, J>, J: Channel> Drop for TrackedSender<T, P, J> {
     fn drop(self) {
-        let TrackedSender { port, mut known } = self;
-        port.ask(&mut known, Change::DropSender);
+        let TrackedSender { port, known } = self;
+        let Known { mut tracker } = known;
+        port.ask(&mut tracker, Change::DropSender);
     }
 }

@@ -3,45 +3,55 @@ ghost use Rattle.std.specs.Prelude.{◌≡◌, ◌<◌, ◌++◌, [], length, ma
 ghost use mathlib.Core.List.{IsPrefix};
 ghost use Rattle.bcast_model.specs.Words.{IsValid};
 ghost use Rattle.bcast_history.specs.Batch.{received};
-ghost use Rattle.bcast_history.specs.History.{start_of, end_of};
+ghost use Rattle.bcast_history.specs.History.{start_of};
+ghost use Rattle.bcast_history.specs.Cursors.{AreCursors};
 
+use crate::cursor::Cursor;
 use crate::journal::{Journal, Notes, Writer};
 use crate::step::Step;
-use crate::tracker::{Channel, Seen, Tracker, next_in};
+use crate::tracker::{Channel, Seen, Tracker};
 use async_broadcast::{CallJournal, Wake};
-use bcast_core::{CallOf, Inner};
+use bcast_core::{AddReceiver, CallOf, Inner};
+use claims::Registry;
 use std::alloc::Allocator;
 use std::marker::{Model, PhantomData};
 use std::snapshot::Snapshot;
-use std::sync::Wait;
 
 /// The steps on a channel, for contracts. They are a run of it.
 #[derive(Drop)]
 pub struct StepJournal<T: Clone, J: Channel> {
     writer: Writer<Step<T>, J>,
+    // Where each receiver reads on whose place is claimed.
+    registry: Registry,
 }
 
 impl<T: Clone, J: Channel> Model for StepJournal<T, J> {
-    ghost use Rattle.std.specs.Prelude.{List};
+    ghost use Rattle.std.specs.Prelude.{◌≡◌, List};
     ghost use Rattle.bcast_history.specs.declared.step.Step.{Step};
-    ghost use Rattle.bcast_history.specs.History.{IsLawful};
+    ghost use Rattle.bcast_history.specs.History.{IsLawful, end_of};
+    ghost use Rattle.bcast_history.specs.Cursors.{AreCursors};
 
     ghost Value = { List (Step T) };
 
     ghost view = { λ s. s.writer };
 
-    ghost invariant = { λ s. IsLawful T.is_clone J.opening s.writer };
+    ghost invariant = { λ s. IsLawful T.is_clone J.opening s.writer
+        × AreCursors (end_of J.opening s.writer).control s.registry.claims
+        × (s.registry.name ≡ J.registry) };
 }
 
 impl<T: Clone, J: Channel> StepJournal<T, J> {
     // No step was made.
-    pub(crate) fn new(journal: Journal<Step<T>>) -> StepJournal<T, J>
+    pub(crate) fn new(journal: Journal<Step<T>>, registry: Registry) -> StepJournal<T, J>
         requires book { journal ≡ J.book }
         requires valid { IsValid (start_of {T = T} J.opening) }
+        requires cursors { AreCursors (start_of {T = T} J.opening).control registry.claims }
+        requires registry { registry.name ≡ J.registry }
         ensures { result ≡ [] }
     {
         StepJournal {
             writer: journal.into_writer(),
+            registry,
         }
     }
 
@@ -65,6 +75,23 @@ impl<'a, T, C: CallOf<T>> Notes<Step<T>> for ShownStep<'a, T, C> {
     ghost note = { λ shown. record {
       call = C.call shown.call.now.value;
       reply = C.reply shown.call.now.value shown.answer.now;
+    } };
+}
+
+// A receiver that was added, as a step.
+#[derive(Drop)]
+struct ShownReceiver {
+    call: AddReceiver,
+    key: usize,
+}
+
+impl<T> Notes<Step<T>> for ShownReceiver {
+    ghost use Rattle.std.specs.Prelude.{Ok};
+    ghost use Rattle.bcast_core.specs.Calls.{receiver_call, receiver_reply};
+
+    ghost note = { λ shown. record {
+      call = receiver_call shown.call;
+      reply = receiver_reply shown.call (Ok shown.key);
     } };
 }
 
@@ -101,8 +128,8 @@ fn append_each<T: Clone, J: Channel>(
 impl<T: Clone, J: Channel> CallJournal<T> for StepJournal<T, J> {
     ghost use Rattle.bcast_model.specs.Words.{Represents};
     ghost use Rattle.bcast_history.specs.History.{end_of};
-    ghost use Rattle.bcast_history.specs.Tracker.{Learns, next_in};
-    ghost use Rattle.bcast_history.specs.Learning.{again};
+    ghost use Rattle.bcast_history.specs.Tracker.{Begins, Learns};
+    ghost use Rattle.bcast_history.specs.Learning.{again, moves_on};
 
     type Caller = Tracker<T, J>;
 
@@ -111,22 +138,12 @@ impl<T: Clone, J: Channel> CallJournal<T> for StepJournal<T, J> {
     ghost again = { λ before between after call reply last waits first second.
         again waits first second };
 
+    ghost moves_on = { λ before between call reply key waits learned moves.
+        moves_on waits learned moves };
+
+    ghost begins = { Begins J.opening };
+
     ghost records = { λ steps v. Represents v (end_of J.opening steps) };
-
-    ghost fits = { λ caller v. caller.next ≡ next_in v.control caller.key };
-
-    // A handle alone makes calls with its key, so this never waits. No clause says so.
-    #[inline(always)]
-    fn check<A: Allocator + Copy>(
-        &self,
-        rt: &impl Wait,
-        caller: &Tracker<T, J>,
-        inner: &Inner<T, Wake, A>,
-    ) {
-        if !caller.fits(inner) {
-            wait_forever(rt);
-        }
-    }
 
     #[inline(always)]
     fn append<C: CallOf<T>, A: Allocator + Copy>(
@@ -144,8 +161,29 @@ impl<T: Clone, J: Channel> CallJournal<T> for StepJournal<T, J> {
         };
         self.writer.append(&mut caller.seen, &step);
         caller.end = after.end_number();
-        let next = next_in(after, caller.key);
-        caller.next = next;
+        caller.cursor.read_on(&mut self.registry, after);
+    }
+
+    fn append_receiver<A: Allocator + Copy>(
+        &mut self,
+        caller: &mut Tracker<T, J>,
+        call: AddReceiver,
+        key: usize,
+        _before: &Snapshot<Inner<T, Wake, A>>,
+        after: &Inner<T, Wake, A>,
+    ) -> Tracker<T, J> {
+        let added = ShownReceiver { call, key };
+        self.writer.append(&mut caller.seen, &added);
+        caller.end = after.end_number();
+        caller.cursor.read_on(&mut self.registry, after);
+        let Some(next) = after.cursor(key) else {
+            unreachable!()
+        };
+        Tracker {
+            seen: caller.seen.same(),
+            end: caller.end,
+            cursor: Cursor::new(&mut self.registry, key, next),
+        }
     }
 
     fn append_receives<A: Allocator + Copy>(
@@ -161,17 +199,6 @@ impl<T: Clone, J: Channel> CallJournal<T> for StepJournal<T, J> {
         }
         append_each(&mut self.writer, &mut caller.seen, key, msgs);
         caller.end = after.end_number();
-        let behind = next_in(after, caller.key);
-        caller.next = behind;
+        caller.cursor.read_on(&mut self.registry, after);
     }
-}
-
-// Doesn't return.
-#[cold]
-#[inline(never)]
-fn wait_forever(rt: &impl Wait)
-    ensures { ⊥ }
-{
-    for _ in rt.forever() {}
-    unreachable!()
 }

@@ -1,27 +1,30 @@
 //! Who makes calls on a channel with a history.
 ghost use Rattle.std.specs.Prelude.{◌≡◌, None};
-ghost use Rattle.std.specs.Bool.{OnTrue};
 ghost use Rattle.bcast_model.specs.Words.{end_number};
-ghost use Rattle.bcast_history.specs.History.{IsLawful, end_of};
-ghost use Rattle.bcast_history.specs.Tracker.{next_in};
+ghost use Rattle.bcast_history.specs.History.{end_of};
+ghost use Rattle.bcast_history.specs.Tracker.{next_of};
 
+use crate::cursor::Cursor;
 use crate::journal::{Named, Prefix};
 use crate::step::Step;
-use async_broadcast::Wake;
-use bcast_core::Inner;
-use std::alloc::Allocator;
+use async_broadcast::Caller;
 use std::marker::{Brand, Model};
 
-/// Names a channel in the types of all that belongs to it: its journal, and what it was opened
-/// with.
+/// Names a channel in the types of all that belongs to it: its journal, what it was opened with, and
+/// the registry in which its receivers' places are claimed.
 pub trait Channel: Named {
+    ghost use Rattle.std.specs.Prelude.{ℕ};
     ghost use Rattle.bcast_history.specs.declared.step.Opening.{Opening};
 
     ghost opening: { Opening };
+
+    ghost registry: { ℕ };
 }
 
 impl Channel for Brand {
     ghost opening = { record { capacity = 1; first_number = 0; first_key = 0 } };
+
+    ghost registry = { 0 };
 }
 
 /// What is known of the steps on a channel: a beginning of them. A contract sees these steps.
@@ -31,55 +34,47 @@ pub type Seen<T, J> = Prefix<Step<T>, J>;
 
 /// Who makes calls on a channel: what is known of it, and of a receiver its key and where it reads
 /// on. Each handle has one of its own.
+///
+/// That what is known is a run of the channel isn't said here, but by `Known` and `Place`: a type
+/// whose values make calls has no bound on `T`, since the checker can't yet give `u64` to one.
 #[derive(Drop)]
-pub struct Tracker<T: Clone, J: Channel> {
+pub struct Tracker<T, J: Channel> {
     pub(crate) seen: Seen<T, J>,
     // The number of the message that comes next after these steps.
     pub(crate) end: u64,
-    pub(crate) key: Option<usize>,
-    pub(crate) next: Option<u64>,
+    pub(crate) cursor: Cursor,
 }
 
-impl<T: Clone, J: Channel> Model for Tracker<T, J> {
+impl<T, J: Channel> Model for Tracker<T, J> {
     ghost use Rattle.std.specs.Prelude.{◌≡◌};
     ghost use Rattle.bcast_model.specs.Words.{end_number};
-    ghost use Rattle.bcast_history.specs.History.{IsLawful, end_of};
-    ghost use Rattle.bcast_history.specs.Tracker.{Tracker, next_in};
+    ghost use Rattle.bcast_history.specs.History.{end_of};
+    ghost use Rattle.bcast_history.specs.Tracker.{Tracker, next_of};
 
     ghost Value = { Tracker T };
 
-    ghost view = { λ t. record { steps = t.seen; key = t.key; next = t.next } };
+    ghost view = { λ t. record { steps = t.seen; key = t.cursor.key; next = t.cursor.next } };
 
-    ghost invariant = { λ t. IsLawful T.is_clone J.opening t.seen
-        × (t.end ≡ end_number (end_of J.opening t.seen))
-        × (t.next ≡ next_in (end_of J.opening t.seen).control t.key) };
+    ghost invariant = { λ t. (t.end ≡ end_number (end_of J.opening t.seen))
+        × (t.cursor.next ≡ next_of (end_of J.opening t.seen).control t.cursor.key t.cursor.next)
+        × (t.cursor.registry ≡ J.registry) };
 }
 
-impl<T: Clone, J: Channel> Tracker<T, J> {
-    /// Of no receiver, on a channel whose next message has the number `end`.
-    pub(crate) fn new(seen: Seen<T, J>, end: u64) -> Self
-        requires lawful { IsLawful T.is_clone J.opening seen }
-        requires end { end ≡ end_number (end_of J.opening seen) }
-        ensures { result ≡ record { steps = seen; key = None; next = None } }
-    {
-        Tracker {
-            seen,
-            end,
-            key: None,
-            next: None,
-        }
-    }
+impl<T, J: Channel> Caller for Tracker<T, J> {
+    ghost use Rattle.bcast_history.specs.Tracker.{IsOf};
 
-    /// Of the receiver of this key, which reads on there; or of none.
-    pub(crate) fn of(&self, key: Option<usize>, next: Option<u64>) -> Self
-        requires { next ≡ next_in (end_of J.opening self.now.steps).control key }
-        ensures { result ≡ record { steps = self.now.steps; key = key; next = next } }
+    ghost moves = { λ tracker key. IsOf key tracker };
+}
+
+impl<T, J: Channel> Tracker<T, J> {
+    /// Knows as much, and is of no receiver.
+    pub(crate) fn of_none(&self) -> Self
+        ensures { result ≡ record self.now { next = None } }
     {
         Tracker {
             seen: self.seen.same(),
             end: self.end,
-            key,
-            next,
+            cursor: self.cursor.none(),
         }
     }
 
@@ -98,34 +93,19 @@ impl<T: Clone, J: Channel> Tracker<T, J> {
         self.end
     }
 
-    /// Proves that what is known is lawful. Does nothing.
+    /// The number of the message that the receiver reads next. `None`: there is no receiver.
+    #[inline(always)]
+    pub(crate) fn next(&self) -> Option<u64>
+        ensures { result ≡ self.now.next }
+    {
+        self.cursor.next()
+    }
+
+    /// Proves that the receiver is there, if there is one. Does nothing.
     pub(crate) fn invariant_holds(&self)
-        ensures lawful { IsLawful T.is_clone J.opening self.now.steps }
-        ensures there { self.now.next
-            ≡ next_in (end_of J.opening self.now.steps).control self.now.key }
+        ensures { self.now.next ≡ next_of (end_of J.opening self.now.steps).control
+            self.now.key self.now.next }
     {
         let _ = &self.seen;
-    }
-
-    /// Whether the channel is as this knows it.
-    #[inline(always)]
-    pub(crate) fn fits<A: Allocator + Copy>(&self, inner: &Inner<T, Wake, A>) -> bool
-        ensures { OnTrue result (self.now.next ≡ next_in inner.now.control self.now.key) }
-    {
-        self.next == next_in(inner, self.key)
-    }
-}
-
-/// Where the receiver of this key reads on, if it is one.
-#[inline(always)]
-pub(crate) fn next_in<T: Clone, A: Allocator + Copy>(
-    inner: &Inner<T, Wake, A>,
-    key: Option<usize>,
-) -> Option<u64>
-    ensures { result ≡ next_in inner.now.control key }
-{
-    match key {
-        Some(key) => inner.cursor(key),
-        None => None,
     }
 }

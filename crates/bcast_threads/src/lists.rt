@@ -47,7 +47,8 @@ fn lists_over<J: Channel + Send + Sync + 'static, R: Threads + Wait + Clone + Se
     plan: Plan,
     opened: Opened<u64>,
 ) -> Result<Vec<Vec<u64>>, Fault>
-    requires name { (opened.book ≡ J.book) × (opened.opening ≡ J.opening) }
+    requires name { (opened.book ≡ J.book) × (opened.opening ≡ J.opening)
+        × (opened.registry ≡ J.registry) }
     ensures { IfOk result (λ lists. AreLists plan (λ list. list.items) lists.items) }
 {
     let its_rt = rt.clone()?;

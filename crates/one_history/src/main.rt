@@ -25,7 +25,8 @@ fn share<J: Channel + Send + Sync, R: Threads + Wait + Sync + Print + AllocGloba
     rt: &R,
     opened: Opened<u64>,
 ) -> Result<()>
-    requires { (opened.book ≡ J.book) × (opened.opening ≡ J.opening) }
+    requires { (opened.book ≡ J.book) × (opened.opening ≡ J.opening)
+        × (opened.registry ≡ J.registry) }
 {
     let (mut sender, receiver) = broadcast::<u64, _, J, _>(rt, rt.alloc(), opened)?;
     let other = sender.clone()?;

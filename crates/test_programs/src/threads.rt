@@ -155,7 +155,8 @@ fn run_row_over<J: Channel, R: Wait + Clone, W: Write>(
     row: Row,
     output: &mut W,
 ) -> io::Result<()>
-    requires { (opened.book ≡ J.book) × (opened.opening ≡ J.opening) }
+    requires { (opened.book ≡ J.book) × (opened.opening ≡ J.opening)
+        × (opened.registry ≡ J.registry) }
 {
     let (sender, receiver) = broadcast::<u64, R, J, _>(rt.clone()?, alloc, opened)?;
     match row {

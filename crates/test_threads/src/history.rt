@@ -36,7 +36,8 @@ fn run_over<J, R>(rt: R, alloc: Global, number: u64, opened: Opened<u64>) -> Res
 where
     J: Channel + Send + Sync + 'static,
     R: Threads + Wait + Clock + Abort + Copy + Send + Drop + 'static,
-    requires { (opened.book ≡ J.book) × (opened.opening ≡ J.opening) }
+    requires { (opened.book ≡ J.book) × (opened.opening ≡ J.opening)
+        × (opened.registry ≡ J.registry) }
 {
     let (sender, receiver) = broadcast::<u64, R, J, _>(rt, alloc, opened)?;
     run_handles(rt, alloc, number, sender, receiver)
@@ -71,7 +72,8 @@ fn send_and_receive<J, R>(rt: R, alloc: Global, opened: Opened<u64>) -> Result<(
 where
     J: Channel + Send + Sync + 'static,
     R: Threads + Wait + Abort + Copy + Send + Drop + 'static,
-    requires { (opened.book ≡ J.book) × (opened.opening ≡ J.opening) }
+    requires { (opened.book ≡ J.book) × (opened.opening ≡ J.opening)
+        × (opened.registry ≡ J.registry) }
 {
     let (sender, receiver) = broadcast::<u64, R, J, _>(rt, alloc, opened)?;
     run_both(rt, alloc, sender, receiver)

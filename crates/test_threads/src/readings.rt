@@ -115,7 +115,8 @@ fn run_over<J, R>(rt: R, opened: Opened<u64>, row: Row) -> Result<(), Fail>
 where
     J: Channel,
     R: Wait + Clock + Abort + RandomSource + AllocGlobal + Copy + Drop,
-    requires { (opened.book ≡ J.book) × (opened.opening ≡ J.opening) }
+    requires { (opened.book ≡ J.book) × (opened.opening ≡ J.opening)
+        × (opened.registry ≡ J.registry) }
 {
     let (mut sender, mut receiver) = broadcast::<u64, R, J, _>(rt, rt.alloc(), opened)?;
     match row {

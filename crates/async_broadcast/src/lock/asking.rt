@@ -1,14 +1,16 @@
 //! A call on a channel behind its lock, and a poll, whose notice is made under the same lock.
-ghost use Rattle.std.specs.Prelude.{◌≡◌, true, false, IfOk, IfErr, OnErr};
+ghost use Rattle.std.specs.Prelude.{◌≡◌, true, false, Ok, Err, IfSome, IfOk, IfErr, OnErr};
 ghost use Rattle.futures.specs.Task.{IsArmed, Keeps};
 ghost use Rattle.bcast_model.specs.Words.{Answers, HasPositiveCapacity, IsPossible, must_wait};
+ghost use Rattle.bcast_core.specs.Calls.{receiver_call, receiver_reply};
+ghost use Rattle.async_broadcast.specs.Ports.{moved_by};
 
 use super::Lock;
 use super::channel::lock;
 use crate::journal::CallJournal;
 use crate::port::Ask;
 use crate::wake::{ForTask, Registers, TaskWaker, Wake};
-use bcast_core::{AtOnce, Change, Inner, Polls};
+use bcast_core::{AddReceiver, AtOnce, Change, HandleError, Inner, Polls};
 use futures::task::Context;
 use std::alloc::Allocator;
 use std::snapshot::Snapshot;
@@ -41,6 +43,38 @@ fn poll_for<T: Clone, A: Allocator + Copy, P: Polls<T>, C: Registers>(
     call.make_for(inner, &mut maker)
 }
 
+// Records a call that was to add a receiver. Returns the receiver's key, and who makes its calls.
+fn append_added<T: Clone, J: CallJournal<T>, A: Allocator + Copy>(
+    journal: &mut J,
+    caller: &mut J::Caller,
+    call: AddReceiver,
+    added: Result<usize, HandleError>,
+    before: &Snapshot<Inner<T, Wake, A>>,
+    after: &Inner<T, Wake, A>,
+) -> Result<(usize, J::Caller), HandleError>
+    requires recorded { ∥ J.records journal.old before.now.value ∥₁ }
+    requires answers { Answers T.is_clone before.now.value (receiver_call call)
+        (receiver_reply call added) after.now }
+    ensures records { ∥ J.records journal.new after.now ∥₁ }
+    ensures learned { IfOk result (λ made. J.learns caller.old (receiver_call call)
+        (receiver_reply call (Ok made.0)) caller.new) }
+    ensures begins { IfOk result (λ made. J.begins made.0 caller.new made.1) }
+    ensures refused { IfErr result (λ error. J.learns caller.old (receiver_call call)
+        (receiver_reply call (Err error)) caller.new) }
+{
+    match added {
+        Ok(key) => {
+            let made = journal.append_receiver(caller, call, key, before, after);
+            Ok((key, made))
+        }
+        Err(error) => {
+            let asked = Snapshot::of(&call);
+            journal.append(caller, &asked, &Err(error), before, after);
+            Err(error)
+        }
+    }
+}
+
 impl<T: Clone, R: Wait + Clone, A: Allocator + Copy, J: CallJournal<T>> Ask<T, J::Caller>
     for Lock<T, R, A, J> {
     ghost use Rattle.async_broadcast.specs.OfKind.{possible};
@@ -56,7 +90,6 @@ impl<T: Clone, R: Wait + Clone, A: Allocator + Copy, J: CallJournal<T>> Ask<T, J
         let channel = &*self.channel;
         let mut guard = lock!(channel, &self.rt);
         let state = &mut *guard;
-        state.journal.check(&self.rt, caller, &state.inner);
         let asked = Snapshot::of(&call);
         let before = Snapshot::of(&state.inner);
         let answer = call.make(&mut state.inner);
@@ -77,7 +110,8 @@ impl<T: Clone, R: Wait + Clone, A: Allocator + Copy, J: CallJournal<T>> Ask<T, J
         task: &mut TaskWaker,
         cx: &mut Context<'_>,
     ) -> Result<C::Answer, C>
-        requires { HasPositiveCapacity (C.call call) }
+        requires capacity { HasPositiveCapacity (C.call call) }
+        requires moves { IfSome (moved_by (C.call call)) (J.Caller.moves caller.old) }
         ensures gave { IfOk result (λ answer. IsPossible T.is_clone (C.call call)
             (C.reply call answer)) }
         ensures learned { IfOk result (λ answer. J.learns caller.old (C.call call)
@@ -98,7 +132,6 @@ impl<T: Clone, R: Wait + Clone, A: Allocator + Copy, J: CallJournal<T>> Ask<T, J
         let channel = &*self.channel;
         let mut guard = lock!(channel, &self.rt);
         let state = &mut *guard;
-        state.journal.check(&self.rt, caller, &state.inner);
         let asked = Snapshot::of(&call);
         let before = Snapshot::of(&state.inner);
         let answer = poll_for(&mut state.inner, call, task, cx)?;
@@ -121,7 +154,6 @@ impl<T: Clone, R: Wait + Clone, A: Allocator + Copy, J: CallJournal<T>> Ask<T, J
         let channel = &*self.channel;
         let mut guard = lock!(channel, &self.rt);
         let state = &mut *guard;
-        state.journal.check(&self.rt, caller, &state.inner);
         let asked = Snapshot::of(&Change::EndFuture(key));
         let before = Snapshot::of(&state.inner);
         let notice = state.inner.take_future(key);
@@ -134,5 +166,39 @@ impl<T: Clone, R: Wait + Clone, A: Allocator + Copy, J: CallJournal<T>> Ask<T, J
             None => drop(guard),
         }
         notice.unwrap_or(Wake::none())
+    }
+}
+
+impl<T: Clone, R: Wait + Clone, A: Allocator + Copy, J: CallJournal<T>> Lock<T, R, A, J> {
+    /// Adds a receiver, as `ask` does by this call, with its errors. Returns the receiver's key, and
+    /// who makes its calls: both are made while the lock is held, so no other call comes between.
+    pub fn add_receiver(
+        &self,
+        caller: &mut J::Caller,
+        call: AddReceiver,
+    ) -> Result<(usize, J::Caller), HandleError>
+        ensures learned { IfOk result (λ made. J.learns caller.old (receiver_call call)
+            (receiver_reply call (Ok made.0)) caller.new) }
+        ensures begins { IfOk result (λ made. J.begins made.0 caller.new made.1) }
+        ensures refused { IfErr result (λ error. J.learns caller.old (receiver_call call)
+            (receiver_reply call (Err error)) caller.new) }
+    {
+        let channel = &*self.channel;
+        let mut guard = lock!(channel, &self.rt);
+        let state = &mut *guard;
+        let before = Snapshot::of(&state.inner);
+        let added = call.make(&mut state.inner);
+        let made = append_added(
+            &mut state.journal,
+            caller,
+            call,
+            added,
+            &before,
+            &state.inner,
+        );
+        if let Some(woken) = state.threads.choose_woken(&state.inner) {
+            channel.unlock(guard, woken);
+        }
+        made
     }
 }

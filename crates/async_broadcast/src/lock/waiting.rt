@@ -1,7 +1,7 @@
 //! Calls of threads that wait until they are answered, or their time is over.
-ghost use Rattle.std.specs.Prelude.{◌≡◌, true, false};
+ghost use Rattle.std.specs.Prelude.{◌≡◌, true, false, IfSome};
 ghost use Rattle.bcast_model.specs.Words.{HasPositiveCapacity, IsPossible};
-ghost use Rattle.async_broadcast.specs.Ports.{is_answer, as_try_recv};
+ghost use Rattle.async_broadcast.specs.Ports.{is_answer, as_try_recv, moved_by};
 ghost use Rattle.async_broadcast.specs.Timed.{as_attempt, as_timed_try};
 
 use super::Lock;
@@ -27,6 +27,7 @@ impl<T: Clone, R: Wait + Clone, A: Allocator + Copy, J: CallJournal<T>> Lock<T, 
     ) -> C::Answer
         requires makes { B.makes attempt.now call }
         requires capacity { HasPositiveCapacity (C.call call) }
+        requires moves { IfSome (moved_by (C.call call)) (J.Caller.moves caller.old) }
         ensures learned { J.learns caller.old (C.call call) (C.reply call result)
             caller.new }
         ensures reply { IsPossible T.is_clone (C.call call) (C.reply call result) }
@@ -60,6 +61,7 @@ impl<T: Clone, R: Wait + Clone, A: Allocator + Copy, J: CallJournal<T>> Lock<T, 
     ) -> (C::Answer, bool)
         requires makes { B.makes attempt.now call }
         requires capacity { HasPositiveCapacity (C.call call) }
+        requires moves { IfSome (moved_by (C.call call)) (J.Caller.moves caller.old) }
         ensures learned { J.learns caller.old (C.call call) (C.reply call result.0)
             caller.new }
         ensures reply { IsPossible T.is_clone (C.call call) (C.reply call result.0) }
@@ -68,7 +70,6 @@ impl<T: Clone, R: Wait + Clone, A: Allocator + Copy, J: CallJournal<T>> Lock<T, 
         let channel = &*self.channel;
         let mut guard = lock!(channel, &self.rt);
         let state = &mut *guard;
-        state.journal.check(&self.rt, caller, &state.inner);
         let made = Snapshot::of(&call);
         let before = Snapshot::of(&state.inner);
         let answer = call.make(&mut state.inner);
@@ -89,7 +90,6 @@ impl<T: Clone, R: Wait + Clone, A: Allocator + Copy, J: CallJournal<T>> Lock<T, 
         let condition = attempt.condition(channel);
         let (mut guard, is_over) = limit.wait(&self.rt, condition, guard);
         let state = &mut *guard;
-        state.journal.check(&self.rt, caller, &state.inner);
         let before = Snapshot::of(&state.inner);
         let answer = call.make(&mut state.inner);
         state

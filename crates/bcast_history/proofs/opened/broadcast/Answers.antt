@@ -1,8 +1,19 @@
--- The first receiver starts with the first message.
-use Rattle.std.proofs.Common.{ap, ◌∙◌}
-use Rattle.bcast_history.proofs.Started.{first_there}
+-- The first receiver starts with the first message, and its place is claimed.
+use Rattle.std.proofs.Common.{ap, ◌∙◌, refl}
+use Rattle.bcast_history.specs.History.{start_of, end_of}
+use Rattle.bcast_history.proofs.Claimed.{first_claimed, placed}
+use Rattle.bcast_history.proofs.Started.{first_tracked}
 use Rattle.bcast_history.proofs.opened.broadcast.Goals as goal
 
-pub new-place-requires : goal.new-place-requires
-new-place-requires g c =
-    first_there (ap (λ o. o.opening) c.opened.view_is ∙ c.requires.1) (ap (λ t. t.steps) c.new-known.ensures ∙ c.seen.ensures ∙ c.new-steps.ensures)
+pub new-steps-requires-clause-cursors : goal.new-steps-requires-clause-cursors
+new-steps-requires-clause-cursors g c =
+    let is = ap (λ o. o.opening) c.opened.view_is ∙ c.requires.1 in
+    first_claimed (start_of {T = g.row.T.Denot} g.J.Channel.opening).control _ c.opened.invariant.2 c.new-cursor.ensures.registry.1
+    (first_tracked {T = g.row.T.Denot} is refl).1
+
+pub invariant_of-tracker : goal.invariant_of-tracker
+invariant_of-tracker g c =
+    let is = ap (λ o. o.opening) c.opened.view_is ∙ c.requires.1 in
+    let first = first_tracked is (c.seen.ensures ∙ c.new-steps.ensures) in
+    let place = placed (end_of g.J.Channel.opening c.seen.result).control c.new-cursor.ensures.made first.1 (ap (λ o. o.registry) c.opened.view_is ∙ c.requires.2) in
+    (first.0, place.0, place.1)

@@ -2,7 +2,7 @@
 use Rattle.test_programs.proofs.threads.run_row.Given as goal
 
 abbrev pub ghosts-run_row_over-J-Channel : goal.ghosts-run_row_over-J-Channel
-ghosts-run_row_over-J-Channel g a = record { opening = a.opened.opening }
+ghosts-run_row_over-J-Channel g a = record { opening = a.opened.opening; registry = a.opened.registry }
 
 abbrev pub ghosts-run_row_over-J-Named : goal.ghosts-run_row_over-J-Named
 ghosts-run_row_over-J-Named g a = record { book = a.opened.book }

@@ -2,6 +2,7 @@
 use Rattle.std.proofs.Common.{◌≡◌, false, refl, ◌∙◌}
 use Rattle.bcast_model.proofs.Answers.{possible}
 use Rattle.async_broadcast.specs.Ports.{is_answer}
+use Rattle.async_broadcast.proofs.Trying.{own_still}
 use Rattle.async_broadcast.proofs.lock.Lock.make_or_wait.Goals as goal
 
 pub append-requires-clause-answers : goal.append-requires-clause-answers
@@ -18,6 +19,12 @@ again-call-requires-clause-reply g c =
 pub append-requires-2-clause-answers : goal.append-requires-2-clause-answers
 append-requires-2-clause-answers g c =
     rw (c.of-before-2.ensures, ← c.again-call.ensures) c.make-answer-2.ensures.answers
+
+pub append-requires-2-clause-moves : goal.append-requires-2-clause-moves
+append-requires-2-clause-moves g c =
+    let waits : is_answer (g.C.CallOf.reply c.args.call c.make-answer.result) ≡ false = c.if-not-must_wait.ensures c.args.call in
+    rw c.of-made.ensures (own_still g.J.Caller.Caller.moves _ _ _
+    (λ key. g.met.J.CallJournal.moves_on _ _ _ _ key waits (rw c.of-made.ensures at c.append.ensures.learned)) c.requires.moves)
 
 pub returns-clause-reply : goal.returns-clause-reply
 returns-clause-reply g c =

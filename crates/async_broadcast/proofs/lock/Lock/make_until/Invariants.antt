@@ -1,5 +1,7 @@
--- The call that is made again is the one that was given.
+-- The call that is made again is the one that was given, and its caller may still make it.
 use Rattle.std.proofs.Common.{◌≡◌}
+use Rattle.std.specs.Prelude.{IfSome}
+use Rattle.async_broadcast.specs.Ports.{moved_by}
 use Rattle.async_broadcast.proofs.Trying.{Tried}
 use Rattle.async_broadcast.proofs.lock.Lock.make_until.Given as goal
 
@@ -7,4 +9,5 @@ abbrev pub invariant-loop : goal.invariant-loop
 invariant-loop g l =
     (goal.iterator-loop g).can_next l.iterator' × (goal.iterator-loop g).is_finite l.iterator'
     × (l.call ≡ l.fn.call)
+    × IfSome (moved_by (g.C.CallOf.call l.fn.call)) (g.J.Caller.Caller.moves l.caller)
     × Tried g.J.CallJournal.learns l.fn.caller (g.C.CallOf.call l.fn.call) l.caller

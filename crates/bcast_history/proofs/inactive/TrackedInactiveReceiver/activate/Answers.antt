@@ -1,10 +1,15 @@
 -- It starts at the end.
-use Rattle.bcast_history.proofs.Making.{activated_there}
+use Rattle.std.proofs.Common.{sym}
+use Rattle.bcast_history.proofs.Making.{activated_there, begun, begun_last}
 use Rattle.bcast_history.proofs.inactive.TrackedInactiveReceiver.activate.Goals as goal
 
-pub new-place-requires : goal.new-place-requires
-new-place-requires g c = rw c.end.ensures (activated_there (g.met.P.HistoryPort.follows _ _ _ _ c.in-Ok.ensures.learned))
+pub new-requires-clause-its : goal.new-requires-clause-its
+new-requires-clause-its g c = (begun c.in-Ok.ensures.begins (activated_there c.in-Ok.ensures.learned)).0
 
 pub returns-in-Ok-clause-made : goal.returns-in-Ok-clause-made
 returns-in-Ok-clause-made g c =
-    rw (c.new.ensures, c.new-place.ensures) (g.met.P.HistoryPort.follows _ _ _ _ c.in-Ok.ensures.learned).follows
+    rw (c.new-in-Ok.ensures, c.new.ensures, c.in-Ok.ensures.begins.steps, ← c.known.view_is) c.in-Ok.ensures.learned.follows
+
+pub returns-in-Ok-clause-starts : goal.returns-in-Ok-clause-starts
+returns-in-Ok-clause-starts g c =
+    rw (c.new-in-Ok.ensures, c.new.ensures) (begun_last c.in-Ok.ensures.begins (activated_there c.in-Ok.ensures.learned))

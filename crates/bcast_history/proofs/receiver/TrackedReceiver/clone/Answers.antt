@@ -1,22 +1,25 @@
 -- The clone reads on where the receiver does, which stays there.
-use Rattle.std.proofs.Common.{refl}
+use Rattle.std.proofs.Common.{ap, ◌∙◌, subst, sym}
 use Rattle.bcast_model.specs.declared.run.Call.TheVariants as call
-use Rattle.bcast_history.proofs.Making.{cloned_there, cloned_stays, follows}
+use Rattle.bcast_history.proofs.Making.{adder_stays, begun, cloned_there, follows}
 use Rattle.bcast_history.proofs.receiver.TrackedReceiver.clone.Goals as goal
 
-pub new-place-requires : goal.new-place-requires
-new-place-requires g c =
-    rw c.next-next.ensures (cloned_there c.key.view_is c.key.invariant (g.met.P.HistoryPort.follows _ _ _ _ c.in_ok-made.ensures.learned))
+pub new-requires-clause-its : goal.new-requires-clause-its
+new-requires-clause-its g c =
+    (begun c.in_ok-key.ensures.begins (cloned_there c.key.view_is c.key.invariant.0 c.in_ok-key.ensures.learned)).0
 
 pub invariant_of-self : goal.invariant_of-self
 invariant_of-self g c =
-    (cloned_stays c.key.view_is c.key.invariant (g.met.P.HistoryPort.follows _ _ _ _ c.in_ok-made.ensures.learned)).still
+    (adder_stays c.key.view_is c.key.invariant.0 c.add_receiver.result c.add_receiver.ensures.learned c.add_receiver.ensures.refused).still
 
 pub returns-clause-same : goal.returns-clause-same
 returns-clause-same g c =
-    (cloned_stays c.key.view_is c.key.invariant (g.met.P.HistoryPort.follows _ _ _ _ c.in_ok-made.ensures.learned)).same
+    (adder_stays c.key.view_is c.key.invariant.0 c.add_receiver.result c.add_receiver.ensures.learned c.add_receiver.ensures.refused).same
 
 pub returns-clause-made : goal.returns-clause-made
 returns-clause-made g c =
-    rw (c.new.ensures, c.new-place.ensures)
-    (refl, follows c.key.view_is c.key.invariant call.CloneReceiver (g.met.P.HistoryPort.follows _ _ _ _ c.in_ok-made.ensures.learned))
+    rw (c.new-2.ensures, c.new.ensures) (c.in_ok-key.ensures.begins.steps, follows c.key.view_is c.key.invariant.0 call.CloneReceiver c.in_ok-key.ensures.learned)
+
+pub returns-clause-starts : goal.returns-clause-starts
+returns-clause-starts g c =
+    rw (c.new-2.ensures, c.new.ensures) (begun c.in_ok-key.ensures.begins (cloned_there c.key.view_is c.key.invariant.0 c.in_ok-key.ensures.learned)).1

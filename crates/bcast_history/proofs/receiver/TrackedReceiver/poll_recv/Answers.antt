@@ -12,20 +12,20 @@ invariant_of-self g c =
 
 pub returns-in-Ok-clause-seen : goal.returns-in-Ok-clause-seen
 returns-in-Ok-clause-seen g c =
-    (polled _ c.key.view_is c.key.invariant (g.met.P.HistoryPort.follows _ _ _ _ c.in-Ok.ensures.learned)).seen
+    (polled _ c.key.view_is c.key.invariant.0 (g.met.P.HistoryPort.follows _ _ _ _ c.in-Ok.ensures.learned)).seen
 
 pub returns-in-Ok-clause-takes : goal.returns-in-Ok-clause-takes
 returns-in-Ok-clause-takes g c =
     let made = g.met.P.HistoryPort.follows _ _ _ _ c.in-Ok.ensures.learned in
-    ok_part _ c.key.view_is c.key.invariant c.in-Ok.polled (polled _ c.key.view_is c.key.invariant made)
+    ok_part _ c.key.view_is c.key.invariant.0 c.in-Ok.polled (polled _ c.key.view_is c.key.invariant.0 made)
 
 pub returns-in-Ok-clause-follows : goal.returns-in-Ok-clause-follows
 returns-in-Ok-clause-follows g c =
     let made = g.met.P.HistoryPort.follows _ _ _ _ c.in-Ok.ensures.learned in
-    ok_step c.in-Ok.polled (follows c.key.view_is c.key.invariant call.PollRecv made)
+    ok_step c.in-Ok.polled (follows c.key.view_is c.key.invariant.0 call.PollRecv made)
 
 pub returns-in-Ok-clause-refused : goal.returns-in-Ok-clause-refused
 returns-in-Ok-clause-refused g c =
     let made = g.met.P.HistoryPort.follows _ _ _ _ c.in-Ok.ensures.learned in
-    err_part _ c.key.view_is c.key.invariant _ c.in-Ok.polled (polled _ c.key.view_is c.key.invariant made)
-    (follows c.key.view_is c.key.invariant call.PollRecv made)
+    err_part _ c.key.view_is c.key.invariant.0 _ c.in-Ok.polled (polled _ c.key.view_is c.key.invariant.0 made)
+    (follows c.key.view_is c.key.invariant.0 call.PollRecv made)

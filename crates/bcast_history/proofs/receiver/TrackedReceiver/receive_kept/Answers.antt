@@ -18,3 +18,11 @@ returns-then-count-gt0-clause-some g c = (
   grind (arith, common_steps),
   (batched g.T.Clone.is_clone c.key.view_is c.key.invariant (λ k a call reply both. g.met.P.HistoryPort.follows k a call reply both.1) c.receive_many-count.ensures.received).takes,
 )
+
+pub returns-in_err-reserve-clause-seen : goal.returns-in_err-reserve-clause-seen
+returns-in_err-reserve-clause-seen g c =
+    (batched g.T.Clone.is_clone c.key.view_is c.key.invariant (λ k a call reply both. g.met.P.HistoryPort.follows k a call reply both.1) c.receive_many-count.ensures.received).seen
+
+pub returns-clause-seen : goal.returns-clause-seen
+returns-clause-seen g c =
+    (batched g.T.Clone.is_clone c.key.view_is c.key.invariant (λ k a call reply both. g.met.P.HistoryPort.follows k a call reply both.1) c.receive_many-count.ensures.received).seen

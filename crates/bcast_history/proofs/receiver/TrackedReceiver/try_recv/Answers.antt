@@ -6,16 +6,16 @@ use Rattle.bcast_history.proofs.receiver.TrackedReceiver.try_recv.Goals as goal
 
 pub invariant_of-self : goal.invariant_of-self
 invariant_of-self g c =
-    (tried _ c.key.view_is c.key.invariant (g.met.P.HistoryPort.follows _ _ _ _ c.ask.ensures.learned)).still
+    (tried _ c.key.view_is c.key.invariant.0 (g.met.P.HistoryPort.follows _ _ _ _ c.ask.ensures.learned)).still
 
 pub returns-clause-seen : goal.returns-clause-seen
 returns-clause-seen g c =
-    (tried _ c.key.view_is c.key.invariant (g.met.P.HistoryPort.follows _ _ _ _ c.ask.ensures.learned)).seen
+    (tried _ c.key.view_is c.key.invariant.0 (g.met.P.HistoryPort.follows _ _ _ _ c.ask.ensures.learned)).seen
 
 pub returns-clause-takes : goal.returns-clause-takes
 returns-clause-takes g c =
-    (tried _ c.key.view_is c.key.invariant (g.met.P.HistoryPort.follows _ _ _ _ c.ask.ensures.learned)).takes
+    (tried _ c.key.view_is c.key.invariant.0 (g.met.P.HistoryPort.follows _ _ _ _ c.ask.ensures.learned)).takes
 
 pub returns-clause-follows : goal.returns-clause-follows
 returns-clause-follows g c =
-    follows c.key.view_is c.key.invariant call.TryRecv (g.met.P.HistoryPort.follows _ _ _ _ c.ask.ensures.learned)
+    follows c.key.view_is c.key.invariant.0 call.TryRecv (g.met.P.HistoryPort.follows _ _ _ _ c.ask.ensures.learned)

@@ -1,0 +1,4 @@
+-- the numbers with which keys are claimed
+pub mod Claims
+-- what a registry and a claim own
+pub mod Owned
