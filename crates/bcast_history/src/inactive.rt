@@ -44,7 +44,7 @@ impl<T: Clone, P: HistoryPort<T, J>, J: Channel> TrackedInactiveReceiver<T, P, J
         let TrackedInactiveReceiver { port, known } = self;
         let Known { mut tracker } = known;
         match port.add_receiver(&mut tracker, AddReceiver::Activate) {
-            Ok((key, made)) => Ok(TrackedReceiver::new(port, Place::new(key, made))),
+            Ok((key, made)) => Ok(TrackedReceiver::from_parts(port, Place::new(key, made))),
             Err(error) => {
                 let known = Known::new(tracker);
                 Err((TrackedInactiveReceiver { port, known }, error))

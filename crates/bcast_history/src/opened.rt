@@ -116,6 +116,6 @@ pub fn broadcast<T: Clone, R: Wait + Clone, J: Channel, A: Allocator + Copy>(
     let other = port.try_clone().ok_or(AllocError)?;
     Ok((
         TrackedSender { port, known },
-        TrackedReceiver::new(other, place),
+        TrackedReceiver::from_parts(other, place),
     ))
 }

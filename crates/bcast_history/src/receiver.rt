@@ -40,7 +40,8 @@ pub struct TrackedReceiver<T: Clone, P: HistoryPort<T, J>, J: Channel> {
 }
 
 impl<T: Clone, P: HistoryPort<T, J>, J: Channel> TrackedReceiver<T, P, J> {
-    pub(crate) fn new(port: P, place: Place<T, J>) -> Self
+    /// A receiver that makes its calls through this port, from this place on. Makes no call.
+    pub fn from_parts(port: P, place: Place<T, J>) -> Self
         ensures { result.place ≡ place }
     {
         TrackedReceiver {
@@ -48,6 +49,19 @@ impl<T: Clone, P: HistoryPort<T, J>, J: Channel> TrackedReceiver<T, P, J> {
             place,
             waker: TaskWaker::new(),
         }
+    }
+
+    /// The receiver's port and its place, for `from_parts` over another port of the channel. Makes no
+    /// call: the channel keeps what the receiver has still to read.
+    pub fn into_parts(self) -> (P, Place<T, J>)
+        ensures { result.1 ≡ self.place }
+    {
+        let TrackedReceiver {
+            port,
+            place,
+            waker: _,
+        } = self;
+        (port, place)
     }
 
     /// What the receiver knows, for other callers.
@@ -123,7 +137,7 @@ impl<T: Clone, P: HistoryPort<T, J>, J: Channel> TrackedReceiver<T, P, J> {
         let port = self.port.try_clone().ok_or(HandleError::Memory)?;
         let Place { key, tracker } = &mut self.place;
         let (key, made) = self.port.add_receiver(tracker, AddReceiver::Clone(*key))?;
-        Ok(TrackedReceiver::new(port, Place::new(key, made)))
+        Ok(TrackedReceiver::from_parts(port, Place::new(key, made)))
     }
 
     /// Turns the receiver into an inactive one: as `Receiver::deactivate`.
@@ -155,7 +169,7 @@ impl<T: Clone, P: HistoryPort<T, J>, J: Channel> TrackedReceiver<T, P, J> {
             }
             Err(error) => {
                 let place = Place::new(key, tracker);
-                Err((TrackedReceiver::new(port, place), error))
+                Err((TrackedReceiver::from_parts(port, place), error))
             }
         }
     }

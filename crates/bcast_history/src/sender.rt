@@ -32,6 +32,22 @@ pub struct TrackedSender<T: Clone, P: HistoryPort<T, J>, J: Channel> {
 }
 
 impl<T: Clone, P: HistoryPort<T, J>, J: Channel> TrackedSender<T, P, J> {
+    /// A sender that makes its calls through this port. Makes no call.
+    pub fn from_parts(port: P, known: Known<T, J>) -> Self
+        ensures { result.known ≡ known }
+    {
+        TrackedSender { port, known }
+    }
+
+    /// The sender's port and what it knows, for `from_parts` over another port of the channel. Makes
+    /// no call: the channel counts the sender still.
+    pub fn into_parts(self) -> (P, Known<T, J>)
+        ensures { result.1 ≡ self.known }
+    {
+        let TrackedSender { port, known } = self;
+        (port, known)
+    }
+
     /// What the sender knows, for other callers.
     pub fn seen(&self) -> Seen<T, J>
         ensures { result ≡ self.now.known.steps }
@@ -143,7 +159,7 @@ impl<T: Clone, P: HistoryPort<T, J>, J: Channel> TrackedSender<T, P, J> {
         let port = self.port.try_clone().ok_or(HandleError::Memory)?;
         let Known { tracker } = &mut self.known;
         let (key, made) = self.port.add_receiver(tracker, AddReceiver::New)?;
-        Ok(TrackedReceiver::new(port, Place::new(key, made)))
+        Ok(TrackedReceiver::from_parts(port, Place::new(key, made)))
     }
 }
 

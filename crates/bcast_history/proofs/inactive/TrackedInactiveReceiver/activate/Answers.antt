@@ -8,8 +8,8 @@ new-requires-clause-its g c = (begun c.in-Ok.ensures.begins (activated_there c.i
 
 pub returns-in-Ok-clause-made : goal.returns-in-Ok-clause-made
 returns-in-Ok-clause-made g c =
-    rw (c.new-in-Ok.ensures, c.new.ensures, c.in-Ok.ensures.begins.steps, ← c.known.view_is) c.in-Ok.ensures.learned.follows
+    rw (c.from_parts.ensures, c.new.ensures, c.in-Ok.ensures.begins.steps, ← c.known.view_is) c.in-Ok.ensures.learned.follows
 
 pub returns-in-Ok-clause-starts : goal.returns-in-Ok-clause-starts
 returns-in-Ok-clause-starts g c =
-    rw (c.new-in-Ok.ensures, c.new.ensures) (begun_last c.in-Ok.ensures.begins (activated_there c.in-Ok.ensures.learned))
+    rw (c.from_parts.ensures, c.new.ensures) (begun_last c.in-Ok.ensures.begins (activated_there c.in-Ok.ensures.learned))

@@ -18,8 +18,8 @@ returns-clause-same g c =
 
 pub returns-clause-made : goal.returns-clause-made
 returns-clause-made g c =
-    rw (c.new-2.ensures, c.new.ensures) (c.in_ok-key.ensures.begins.steps, follows c.key.view_is c.key.invariant.0 call.CloneReceiver c.in_ok-key.ensures.learned)
+    rw (c.from_parts.ensures, c.new.ensures) (c.in_ok-key.ensures.begins.steps, follows c.key.view_is c.key.invariant.0 call.CloneReceiver c.in_ok-key.ensures.learned)
 
 pub returns-clause-starts : goal.returns-clause-starts
 returns-clause-starts g c =
-    rw (c.new-2.ensures, c.new.ensures) (begun c.in_ok-key.ensures.begins (cloned_there c.key.view_is c.key.invariant.0 c.in_ok-key.ensures.learned)).1
+    rw (c.from_parts.ensures, c.new.ensures) (begun c.in_ok-key.ensures.begins (cloned_there c.key.view_is c.key.invariant.0 c.in_ok-key.ensures.learned)).1

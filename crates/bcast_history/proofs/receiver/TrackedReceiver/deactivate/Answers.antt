@@ -21,4 +21,4 @@ pub returns-in-Err-clause-refused : goal.returns-in-Err-clause-refused
 returns-in-Err-clause-refused g c =
     let learned = g.met.P.HistoryPort.follows _ _ _ _ c.in-Err.ensures.learned in
     let stays = active_stays c.place.view_is c.place.invariant.0 learned in
-    rw (c.new.ensures, c.new-place.ensures) (stays.same.0, stays.same.1, follows c.place.view_is c.place.invariant.0 call.Deactivate learned)
+    rw (c.from_parts.ensures, c.new-place.ensures) (stays.same.0, stays.same.1, follows c.place.view_is c.place.invariant.0 call.Deactivate learned)

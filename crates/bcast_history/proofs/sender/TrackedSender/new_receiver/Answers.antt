@@ -7,4 +7,4 @@ new-requires-clause-its g c = (begun c.in_ok-key.ensures.begins (new_there c.in_
 
 pub returns-clause-starts : goal.returns-clause-starts
 returns-clause-starts g c =
-    rw (c.new-2.ensures, c.new.ensures) (begun_last c.in_ok-key.ensures.begins (new_there c.in_ok-key.ensures.learned.follows))
+    rw (c.from_parts.ensures, c.new.ensures) (begun_last c.in_ok-key.ensures.begins (new_there c.in_ok-key.ensures.learned.follows))
