@@ -1,5 +1,5 @@
 -- Calls that only read, and calls under another name.
-use Rattle.std.proofs.Common.{◌≡◌, refl, not, sym, ap, ◌∙◌, subst}
+use Rattle.std.proofs.Common.{◌≡◌, not, sym, ap, ◌∙◌, subst}
 use Rattle.bcast_model.specs.declared.run.Call.{Call}
 use Rattle.bcast_model.specs.declared.run.Reply.{Reply}
 use Rattle.bcast_model.specs.Words.{may_tell, tell_if_ready, HasRange, View, sends_are_ready}

@@ -1,12 +1,14 @@
 -- What an offered message does to the view.
-use Rattle.std.proofs.Common.{◌≡◌, ℕ, ◌+◌, ◌-◌, ◌<◌, ◌≤◌, ◌==◌, true, false, cond, List, [], ◌∷◌, length, max, refl, sym, ap, ◌∙◌, arith}
+use Rattle.std.proofs.Common.{◌≡◌, ℕ, ◌+◌, ◌-◌, ◌<◌, ◌≤◌, ◌==◌, true, false, cond, List, [], ◌∷◌, length, max, Option, Some, None, refl, sym, ap, ◌∙◌, arith}
 use Rattle.std.proofs.lemmas.Grind.{common_steps}
-use Rattle.std.specs.Prelude.{is_ok}
+use Rattle.std.specs.Prelude.{is_ok, IfSome, OnSome, IfNone}
 use Rattle.std.specs.FinMap.{values}
-use Rattle.bcast_model.specs.Words.{has_no_receiver, accepting, least, View, is_full, IsValidView}
+use Rattle.bcast_store.specs.Stored.{Stored, end_of}
+use Rattle.bcast_model.specs.Words.{Control, has_no_receiver, accepting, least, View, is_full, IsValidView}
 use Rattle.bcast_model.specs.Words.{settle, with_message, with_messages, accept, try_broadcast_reply, sets}
 use Rattle.bcast_model.specs.Words.{offer, try_broadcast_all_reply, accept_all}
 use Rattle.bcast_model.specs.Words.{offer_all}
+use Rattle.bcast_core.specs.Parts.{seen_of}
 use Rattle.bcast_core.proofs.Settle.{settle_to, settle_same, least_raised, cursors-accepting}
 
 -- the test whether two numbers are equal
@@ -52,6 +54,21 @@ module _ {T : Type 0} where
   -- a list that is refused changes nothing
   pub offer_all_refused : (v : View T) (msgs : List T) → IsValidView v → is_ok (try_broadcast_all_reply v msgs) ≡ false → settle v (offer_all v msgs) ≡ v
   offer_all_refused v msgs valid is = ap (λ b. settle v (cond b (accept_all v msgs) (sets v.control))) is ∙ settle_same v valid
+
+  -- what is seen once the oldest message was taken out of the store
+  pub popped : (s now : Stored T) (control : Stored T → Control) (v : View T) (taken : Option T) → ((front : ℕ) (queue : List T) → control (record s { front = front; queue = queue }) ≡ control s) → seen_of s (control s) ≡ v → 0 < length v.queue
+      → IfSome taken (λ oldest. s.queue ≡ oldest ∷ now.queue) → OnSome taken (now ≡ record s { front = s.front + 1; queue = now.queue }) → IfNone taken (s.queue ≡ [])
+      → (oldest : T) × (taken ≡ Some oldest) × (v.queue ≡ oldest ∷ now.queue) × (seen_of now (control now) ≡ record v { front = v.front + 1; queue = now.queue })
+  popped s now control v None same seen some first rest none = let empty = ap length (sym none ∙ ap (λ (x : View T). x.queue) seen) in absurd (omega (arith, some, empty))
+  popped s now control v (Some oldest) same seen some first rest none =
+      let moved : Stored T = record s { front = s.front + 1; queue = now.queue } in
+      let end : end_of moved ≡ end_of s = let more = ap length first in omega (arith, more) in (
+        oldest,
+        refl,
+        sym (ap (λ (x : View T). x.queue) seen) ∙ first,
+        ap (λ x. seen_of x (control x)) rest ∙ (λ i. record { front = moved.front; queue = moved.queue; end = end i; control = same moved.front moved.queue i })
+            ∙ ap (λ (x : View T). record x { front = x.front + 1; queue = now.queue }) seen,
+      )
 
   -- the oldest message makes room for it
   pub offer_dropping : (v w : View T) (msg oldest : T) → IsValidView v → is_ok (try_broadcast_reply v msg) ≡ true → has_no_receiver v.control ≡ false → is_full v ≡ true

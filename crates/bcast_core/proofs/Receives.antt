@@ -23,6 +23,10 @@ module _ {T : Type 0} (v : View T) (key : ℕ) (at : Option ℕ) (cursor : ℕ) 
   receive_one below = grind (arith, common_steps)
 
 module _ {T : Type 0} where
+  -- one that lags goes on at the front
+  pub receive_lagging : (v : View T) (key : ℕ) (at : Option ℕ) (cursor : ℕ) → at ≡ Some cursor → cursor < v.front → receive v key at ≡ with_cursor v.control key v.front
+  receive_lagging v key at cursor is lags = grind (arith, common_steps)
+
   -- whether a receive returns `Empty` doesn't depend on clones
   pub empty_exactly : {is_clone : T → T → Type 0} {owed : Type 0} (exact answer : Result T TryRecvError)
       → IsReceived is_clone owed (λ a. reply.TryRecv (Ok a)) (reply.TryRecv (Err alloc_error)) exact (reply.TryRecv (Ok answer)) → is_empty_reply answer ≡ is_empty_reply exact

@@ -8,20 +8,12 @@ use Rattle.bcast_core.proofs.Stores.{settle-with_cursors}
 
 module _ {T : Type 0} where
   -- other cursors lead to the view that their effect settles to
-  pub view-with_cursors : (s now : Stored T) (sends : Sends) (receives : Event Pair) (senders inactive : ℕ) (closed overflow await_active : Bool) (capacity : ℕ) (cursors : Cursors) (v : View T)
-      → now ≡ with_cursors s cursors
+  pub view-with_cursors : (s now : Stored T) (sends : Sends) (receives : Event Pair) (senders inactive : ℕ) (closed overflow await_active : Bool) (capacity : ℕ) (moves : Cursors → Cursors) (v : View T)
+      → now ≡ with_cursors s (moves s.cursors)
       → seen_of s (control_of s sends receives senders inactive closed overflow await_active capacity) ≡ v
-      → seen_of now (control_of now sends receives senders inactive closed overflow await_active capacity) ≡ settle v (sets (record v.control { cursors = cursors }))
-  view-with_cursors s now sends receives senders inactive closed overflow await_active capacity cursors v is seen =
+      → seen_of now (control_of now sends receives senders inactive closed overflow await_active capacity) ≡ settle v (sets (record v.control { cursors = moves v.control.cursors }))
+  view-with_cursors s now sends receives senders inactive closed overflow await_active capacity moves v is seen =
       let was : Control = control_of s sends receives senders inactive closed overflow await_active capacity in
       ap (λ x. seen_of x (control_of x sends receives senders inactive closed overflow await_active capacity)) is
-      ∙ sym (settle-with_cursors s (control_of s sends receives senders inactive closed overflow await_active capacity) (record (control_of s sends receives senders inactive closed overflow await_active capacity) { cursors = cursors }))
-      ∙ ap (λ (x : View T). settle x (sets (record x.control { cursors = cursors }))) seen
-
-  -- and no change of the cursors to the view as it was
-  pub view-same : (s now : Stored T) (sends : Sends) (receives : Event Pair) (senders inactive : ℕ) (closed overflow await_active : Bool) (capacity : ℕ) (v : View T)
-      → now ≡ s
-      → seen_of s (control_of s sends receives senders inactive closed overflow await_active capacity) ≡ v
-      → seen_of now (control_of now sends receives senders inactive closed overflow await_active capacity) ≡ v
-  view-same s now sends receives senders inactive closed overflow await_active capacity v is seen =
-      ap (λ x. seen_of x (control_of x sends receives senders inactive closed overflow await_active capacity)) is ∙ seen
+      ∙ sym (settle-with_cursors s was (record was { cursors = moves s.cursors }))
+      ∙ ap (λ (x : View T). settle x (sets (record x.control { cursors = moves x.control.cursors }))) seen

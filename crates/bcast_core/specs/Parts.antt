@@ -3,8 +3,7 @@ use Rattle.std.specs.Prelude.{◌≡◌, ℕ, ◌+◌, ◌*◌, ◌^◌, ◌<◌
 use Rattle.std.specs.Prelude.{List, ◌++◌, length, slice_get, Some, IsSomeAnd}
 use Rattle.std.specs.declared.alloc.AllocError.{AllocError}
 use Rattle.std.specs.FinMap.{get, len}
-use Rattle.std.specs.FinSet as set
-use Rattle.bcast_model.specs.Words.{no_listeners, Control, Cursors, View, Legal, effect, settle}
+use Rattle.bcast_model.specs.Words.{Control, Cursors, View, Legal, effect, settle}
 use Rattle.bcast_model.specs.Words.{Pair, is_empty_reply, kept_at, IsOwed, cursor_of, with_cursor, sets}
 use Rattle.bcast_model.specs.declared.error.HandleError.{HandleError}
 use Rattle.bcast_model.specs.declared.error.HandleError.TheVariants as handle
@@ -41,12 +40,6 @@ seen_of store control = record {
   end = end_of store;
   control = control;
 }
-
--- a new channel of this capacity, with these messages and receivers: one sender, and it is open
-abbrev pub new_with : {T : Type 0} → Stored T → Event Pair → ℕ → View T
-new_with store receives capacity =
-    let sends : Sends = record { places = set.empty; waiting = no_listeners } in
-    seen_of store (control_of store sends receives 1 0 false false true capacity)
 
 -- each receiver's stream and future find room among the listeners
 abbrev pub HaveRoom : Cursors → ℕ → Type 0

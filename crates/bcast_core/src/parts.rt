@@ -8,7 +8,6 @@ use bcast_waiting::{Event, SendList};
 use std::alloc::{Allocator, Global};
 use std::marker::Model;
 
-mod listeners;
 mod receive;
 mod receivers;
 mod send;
@@ -48,82 +47,18 @@ impl<T, N: Notice, A: Allocator> Model for Parts<T, N, A> {
 }
 
 impl<T: Drop, N: Notice, A: Allocator + Copy> Parts<T, N, A> {
-    ghost use Rattle.bcast_model.specs.Words.{has_no_receiver, close};
-    ghost use Rattle.bcast_model.specs.Words.{close_if_deserted, is_full, sends_are_ready};
-    ghost use Rattle.bcast_model.specs.Words.{cursor_of, tell_if_ready, no_listeners};
-    ghost use Rattle.bcast_core.specs.Parts.{HaveRoom, new_with};
+    ghost use Rattle.bcast_model.specs.Words.{close, close_if_deserted};
+    ghost use Rattle.bcast_model.specs.Words.{sends_are_ready, tell_if_ready};
     ghost use Rattle.bcast_core.specs.Telling.{tell_news, NobodyWaits};
-
-    /// A new channel with these messages and receivers, and one sender.
-    #[inline(always)]
-    pub fn new(
-        alloc: A,
-        cap: usize,
-        store: Store<T, A>,
-        receives: Event<(usize, Kind), N, A>,
-    ) -> Self
-        requires { HaveRoom store.cursors receives.room }
-        ensures { result ≡ new_with store receives cap }
-    {
-        Parts {
-            store,
-            sends: SendList::new(alloc),
-            receives,
-            senders: 1,
-            inactive: 0,
-            closed: false,
-            overflow: false,
-            await_active: true,
-            capacity: cap,
-        }
-    }
-
-    pub fn front(&self) -> u64
-        ensures { result ≡ self.now.front }
-    {
-        self.store.front()
-    }
-
-    pub fn end(&self) -> u64
-        ensures { result ≡ self.now.end }
-    {
-        self.store.end()
-    }
-
-    pub fn cursor(&self, key: usize) -> Option<u64>
-        ensures { result ≡ cursor_of self.now.control key }
-    {
-        self.store.cursor(key)
-    }
-
-    pub fn is_full(&self) -> bool
-        ensures { result ≡ is_full self.now }
-    {
-        self.store.len() == self.capacity
-    }
-
-    pub fn has_no_receiver(&self) -> bool
-        ensures { result ≡ has_no_receiver self.now.control }
-    {
-        self.store.has_no_receiver()
-    }
 
     /// Whether a send would be answered without waiting.
     pub fn sends_are_ready(&self) -> bool
         ensures { result ≡ sends_are_ready self.now }
     {
-        let nobody = self.has_no_receiver();
+        let nobody = self.store.has_no_receiver();
         self.closed
-            || (!nobody && (self.overflow || !self.is_full()))
+            || (!nobody && (self.overflow || self.store.len() != self.capacity))
             || (nobody && !self.await_active)
-    }
-
-    /// Whether no send waits.
-    #[inline(always)]
-    pub fn no_send_waits(&self) -> bool
-        ensures { result ≡ true → self.now.control.waiting_sends ≡ no_listeners }
-    {
-        self.sends.nobody_waits()
     }
 
     /// Whether no send waits, and no receiver.
@@ -131,19 +66,19 @@ impl<T: Drop, N: Notice, A: Allocator + Copy> Parts<T, N, A> {
     pub fn nobody_waits(&self) -> bool
         ensures { result ≡ true → NobodyWaits self.now.control }
     {
-        self.no_send_waits() && self.receives.is_empty()
+        self.sends.nobody_waits() && self.receives.is_empty()
     }
 
     /// The last step of a call: tells the first send that waits, if sends are ready now and none is
     /// told already.
     ///
-    /// Calls that are made often ask `no_send_waits` before: after each call of a function that may
-    /// wait, as the drop of a notice may, the compiler adds a test.
+    /// Calls that are made often ask before whether a send waits: after each call of a function that
+    /// may wait, as the drop of a notice may, the compiler adds a test.
     #[inline(always)]
     pub fn tell_a_sender(&mut self)
         ensures { self.new ≡ tell_if_ready true self.old }
     {
-        if !self.no_send_waits() {
+        if !self.sends.nobody_waits() {
             self.tell_first_sender();
         }
     }
@@ -209,7 +144,7 @@ impl<T: Drop, N: Notice, A: Allocator + Copy> Parts<T, N, A> {
     pub fn close_if_deserted(&mut self)
         ensures { self.new ≡ record self.old { control = close_if_deserted self.old.control } }
     {
-        if self.senders == 0 || (self.has_no_receiver() && self.inactive == 0) {
+        if self.senders == 0 || (self.store.has_no_receiver() && self.inactive == 0) {
             self.close();
         }
     }

@@ -74,31 +74,14 @@ impl<T: Clone, N: Notice, A: Allocator + Copy> Parts<T, N, A> {
             capacity: self.capacity,
             room: self.store.room(),
             places: rising(self.sends.places(alloc)?),
-            waiting_sends: self.waiting_sends(alloc)?,
-            waiting_receives: self.waiting_receives(alloc)?,
-        })
-    }
-
-    // The pending sends that wait.
-    fn waiting_sends<B: Allocator>(&self, alloc: B) -> Result<Waiting<usize, B>, AllocError>
-        ensures { IfOk result (λ w. listeners_of w ≡ self.now.control.waiting_sends) }
-    {
-        Ok(Waiting {
-            ids: self.sends.ids(alloc)?,
-            told: self.sends.told(),
-        })
-    }
-
-    // The receivers' listeners that wait.
-    fn waiting_receives<B: Allocator>(
-        &self,
-        alloc: B,
-    ) -> Result<Waiting<(usize, Kind), B>, AllocError>
-        ensures { IfOk result (λ w. listeners_of w ≡ self.now.control.waiting_receives) }
-    {
-        Ok(Waiting {
-            ids: self.receives.ids(alloc)?,
-            told: self.receives.told(),
+            waiting_sends: Waiting {
+                ids: self.sends.ids(alloc)?,
+                told: self.sends.told(),
+            },
+            waiting_receives: Waiting {
+                ids: self.receives.ids(alloc)?,
+                told: self.receives.told(),
+            },
         })
     }
 }

@@ -9,8 +9,8 @@ use crate::parts::Parts;
 use crate::snapshot::Snapshot;
 use bcast_model::listener::Kind;
 use bcast_store::Store;
-use bcast_waiting::Event;
 use bcast_waiting::notice::Notice;
+use bcast_waiting::{Event, SendList};
 use std::alloc::{AllocError, Allocator, Global};
 use std::marker::Model;
 
@@ -89,7 +89,17 @@ impl<T: Drop, N: Notice, A: Allocator + Copy> Inner<T, N, A> {
         let mut receives = Event::new(alloc);
         receives.reserve_for((key, Kind::Future))?;
         // Put together last: a larger value would be copied at each step that may be refused.
-        let parts = Parts::new(alloc, cap, store, receives);
+        let parts = Parts {
+            store,
+            sends: SendList::new(alloc),
+            receives,
+            senders: 1,
+            inactive: 0,
+            closed: false,
+            overflow: false,
+            await_active: true,
+            capacity: cap,
+        };
         Ok((Inner { parts }, key))
     }
 
@@ -132,7 +142,7 @@ impl<T: Drop, N: Notice, A: Allocator + Copy> Inner<T, N, A> {
     pub fn is_full(&self) -> bool
         ensures { result ≡ (length self.now.queue == self.now.control.capacity) }
     {
-        self.parts.is_full()
+        self.parts.store.len() == self.parts.capacity
     }
 
     /// Whether the channel is closed. Messages that are kept can still be received.
@@ -181,7 +191,7 @@ impl<T: Drop, N: Notice, A: Allocator + Copy> Inner<T, N, A> {
     pub fn end_number(&self) -> u64
         ensures { result ≡ self.now.end }
     {
-        self.parts.end()
+        self.parts.store.end()
     }
 
     /// The number of the message that the receiver `key` reads next, which may have been dropped;
@@ -192,7 +202,7 @@ impl<T: Drop, N: Notice, A: Allocator + Copy> Inner<T, N, A> {
     pub fn cursor(&self, key: usize) -> Option<u64>
         ensures { result ≡ cursor_of self.now.control key }
     {
-        self.parts.cursor(key)
+        self.parts.store.cursor(key)
     }
 
     /// How many of the kept messages the receiver `key` has still to read; 0 if there is no such
@@ -203,11 +213,11 @@ impl<T: Drop, N: Notice, A: Allocator + Copy> Inner<T, N, A> {
     pub fn unread(&self, key: usize) -> usize
         ensures { result ≡ unread self.now key }
     {
-        let Some(cursor) = self.parts.cursor(key) else {
+        let Some(cursor) = self.parts.store.cursor(key) else {
             return 0;
         };
-        let at = cursor.max(self.parts.front());
-        self.parts.end().saturating_sub(at) as usize
+        let at = cursor.max(self.parts.store.front());
+        self.parts.store.end().saturating_sub(at) as usize
     }
 
     /// How many messages were dropped before the receiver `key` read them, and not yet counted as
@@ -216,10 +226,10 @@ impl<T: Drop, N: Notice, A: Allocator + Copy> Inner<T, N, A> {
     pub fn missed(&self, key: usize) -> u64
         ensures { result ≡ missed self.now key }
     {
-        let Some(cursor) = self.parts.cursor(key) else {
+        let Some(cursor) = self.parts.store.cursor(key) else {
             return 0;
         };
-        self.parts.front().saturating_sub(cursor)
+        self.parts.store.front().saturating_sub(cursor)
     }
 
     /// Proves that some valid history shows the state. Does nothing.

@@ -18,18 +18,8 @@ impl<T: Clone, N: Notice, A: Allocator + Copy> Parts<T, N, A> {
     ghost use Rattle.bcast_model.specs.Words.{pair_answered, tell_if_ready};
     ghost use Rattle.bcast_core.specs.Parts.{AreHandedOut, tries_by, finds_nothing};
     ghost use Rattle.bcast_core.specs.Polls.{reads_at, skips_of};
+    ghost use Rattle.bcast_core.specs.Telling.{is_untold};
     ghost use Rattle.bcast_model.specs.declared.run.Reply.TheVariants as reply;
-
-    // Lets a receiver that lags go on at the front.
-    fn skip(&mut self, key: usize)
-        requires valid { IsValidView self.old }
-        requires lags { IsSomeAnd (cursor_of self.old.control key)
-            (λ cursor. cursor < self.old.front) }
-        ensures { self.new
-            ≡ settle self.old (sets (with_cursor self.old.control key self.old.front)) }
-    {
-        self.store.skip(key);
-    }
 
     /// Looks for a message: gives a receiver that of this number, or says why there is none. Each
     /// receive that looks for one calls this, which counts one step.
@@ -60,7 +50,7 @@ impl<T: Clone, N: Notice, A: Allocator + Copy> Parts<T, N, A> {
         };
         let front = self.store.front();
         if cursor < front {
-            self.skip(key);
+            self.store.skip(key);
             return Ok(Err(TryRecvError::Overflowed(front - cursor)));
         }
         let index = cursor - front;
@@ -77,30 +67,6 @@ impl<T: Clone, N: Notice, A: Allocator + Copy> Parts<T, N, A> {
         }
     }
 
-    /// Gives the receiver `key` the `count` messages from its cursor on: puts them last into `msgs`,
-    /// and returns how many they are. They are fewer only if memory for a clone was refused.
-    #[inline(always)]
-    pub fn read_many<B: Allocator>(
-        &mut self,
-        key: usize,
-        cursor: u64,
-        count: usize,
-        msgs: &mut Vec<T, B>,
-    ) -> usize
-        requires at { cursor_of self.old.control key ≡ Some cursor }
-        requires kept { (self.old.front ≤ cursor) × (cursor + count ≤ self.old.end) }
-        requires room { vec_len msgs.old + count ≤ vec_capacity msgs.old }
-        ensures at_most { result ≤ count }
-        ensures given { AreHandedOut T.is_clone self.old key cursor msgs.old.items result
-            msgs.new.items }
-        ensures passed { self.new
-            ≡ settle self.old (sets (with_cursor self.old.control key (cursor + result))) }
-        ensures refused { result < count → IsSomeAnd (kept_at self.old (cursor + result))
-            (λ msg. T.is_infallible msg → ⊥) }
-    {
-        self.store.read_many(key, cursor, count, msgs)
-    }
-
     /// Where a receive that waits reads: at the receiver's cursor, or, if it skips what was missed,
     /// no lower than the front. Beside it how many messages it skips.
     #[inline(always)]
@@ -108,18 +74,26 @@ impl<T: Clone, N: Notice, A: Allocator + Copy> Parts<T, N, A> {
         ensures at { result.0 ≡ reads_at poll self.now key }
         ensures skips { result.1 ≡ skips_of poll self.now key }
     {
-        let at = self.cursor(key);
+        let at = self.store.cursor(key);
         match poll {
             ReceivePoll::Future => (at, 0),
             ReceivePoll::Recv => (at, 0),
             ReceivePoll::Next => {
-                let front = self.front();
+                let front = self.store.front();
                 match at {
                     Some(cursor) => (Some(cursor.max(front)), front.saturating_sub(cursor)),
                     None => (None, 0),
                 }
             }
         }
+    }
+
+    // Whether a receiver's listener is listed and not told.
+    #[inline(always)]
+    fn is_untold(&self, key: usize, kind: Kind) -> bool
+        ensures { result ≡ is_untold self.now.control (key, kind) }
+    {
+        self.receives.is_untold((key, kind))
     }
 
     // Looks for a message for a listener. If that of a stream is listed and not told there is none,
@@ -190,7 +164,7 @@ impl<T: Clone, N: Notice, A: Allocator + Copy> Parts<T, N, A> {
             Err(refused) => return Ok(Err(refused)),
         };
         if is_empty(&answer) {
-            self.pair_waits(key, kind, maker)?;
+            self.receives.wait_again((key, kind), maker)?;
             return Ok(Ok(answer));
         }
         if self.nobody_waits() {
@@ -206,7 +180,7 @@ impl<T: Clone, N: Notice, A: Allocator + Copy> Parts<T, N, A> {
         ensures { self.new ≡ tell_if_ready true
             (record self.old { control = pair_answered self.old.control (key, kind) }) }
     {
-        self.pair_answered(key, kind);
+        self.receives.consume((key, kind));
         self.tell_a_sender();
     }
 }

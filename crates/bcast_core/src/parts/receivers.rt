@@ -31,18 +31,6 @@ impl<T: Drop, N: Notice, A: Allocator + Copy> Parts<T, N, A> {
         Ok(key)
     }
 
-    // Removes a receiver's cursor, if there is one, and drops the messages that no receiver has to
-    // read any more. Returns whether there was one.
-    #[inline(always)]
-    fn remove_cursor(&mut self, key: usize) -> bool
-        ensures found { result ≡ is_some (cursor_of self.old.control key) }
-        ensures removed { result ≡ true → self.new ≡ settle self.old
-            (sets (record self.old.control { cursors = remove self.old.control.cursors key })) }
-        ensures same { result ≡ false → self.new ≡ self.old }
-    {
-        self.store.remove(key)
-    }
-
     /// Removes a receiver, if there is one, with its stream and its future. Returns whether there
     /// was one.
     #[inline(always)]
@@ -53,13 +41,22 @@ impl<T: Drop, N: Notice, A: Allocator + Copy> Parts<T, N, A> {
             → self.new ≡ settle self.old (sets (without_receiver self.old.control key)) }
         ensures same { result ≡ false → self.new ≡ self.old }
     {
-        if !self.remove_cursor(key) {
+        if !self.store.remove(key) {
             return false;
         }
         if !self.receives.is_empty() {
             self.end_listeners(key);
         }
         true
+    }
+
+    /// A receiver's listener is dropped, and its notice returned. What it was told is passed on.
+    #[inline(always)]
+    pub fn pair_ended(&mut self, key: usize, kind: Kind) -> Option<N>
+        ensures { self.new
+            ≡ record self.old { control = pair_ended self.old.control (key, kind) } }
+    {
+        self.receives.abandon((key, kind))
     }
 
     // In a function of its own, so that a receiver that leaves while none waits costs one test.

@@ -14,7 +14,8 @@ use bcast_waiting::notice::{MakesNotice, Notice};
 use std::alloc::{AllocError, Allocator};
 
 impl<T: Drop, N: Notice, A: Allocator + Copy> Parts<T, N, A> {
-    ghost use Rattle.bcast_model.specs.Words.{has_place, place_answered, tell_if_ready};
+    ghost use Rattle.bcast_model.specs.Words.{has_place, with_place, place_answered, place_ended};
+    ghost use Rattle.bcast_model.specs.Words.{tell_if_ready};
     ghost use Rattle.bcast_model.specs.Words.{must_wait, IsValidView, settle, with_message};
     ghost use Rattle.bcast_model.specs.Words.{with_messages, try_broadcast_reply, offer};
     ghost use Rattle.bcast_model.specs.Words.{attempt_send_reply, poll_send, free_room};
@@ -22,59 +23,6 @@ impl<T: Drop, N: Notice, A: Allocator + Copy> Parts<T, N, A> {
     ghost use Rattle.bcast_model.specs.declared.run.Reply.TheVariants as reply;
     ghost use Rattle.bcast_core.specs.Telling.{tell_news, is_accepted};
     ghost use Rattle.bcast_model.specs.declared.run.SendPoll.TheVariants as send;
-
-    // Takes the oldest message out, even if receivers have still to read it.
-    fn drop_oldest(&mut self) -> T
-        requires { 0 < length self.old.queue }
-        ensures oldest { self.old.queue ≡ result ∷ self.new.queue }
-        ensures rest { self.new ≡ record self.old
-            { front = self.old.front + 1; queue = self.new.queue } }
-    {
-        let Some(oldest) = self.store.pop() else {
-            unreachable!()
-        };
-        oldest
-    }
-
-    // Appends a message, for every receiver. The last number closes the channel. No one is told.
-    #[inline(always)]
-    fn accept(&mut self, msg: T)
-        requires is_open { self.old.control.closed ≡ false }
-        requires someone { 0 < len self.old.control.cursors }
-        requires room { length self.old.queue < self.old.control.room }
-        requires number { self.old.end + 1 < 2 ^ 64 }
-        ensures { tell_news true self.new ≡ with_message self.old msg }
-    {
-        let number = self.store.push(msg);
-        if number + 1 == u64::MAX {
-            self.closed = true;
-        }
-    }
-
-    // Appends messages, in their order, for every receiver. The last number closes the channel.
-    // No one is told.
-    fn accept_all(&mut self, msgs: Messages<T>)
-        requires is_open { self.old.control.closed ≡ false }
-        requires some { 0 < length msgs }
-        requires someone { 0 < len self.old.control.cursors }
-        requires room { length self.old.queue + length msgs ≤ self.old.control.room }
-        requires number { self.old.end + length msgs < 2 ^ 64 }
-        ensures { tell_news true self.new ≡ with_messages self.old msgs }
-    {
-        self.store.push_all(msgs);
-        if self.store.end() == u64::MAX {
-            self.closed = true;
-        }
-    }
-
-    // How many messages can be accepted, by free capacity and by numbers left.
-    fn free_room(&self) -> usize
-        ensures { result ≡ free_room self.now }
-    {
-        let room = self.capacity.saturating_sub(self.store.len());
-        let numbers = (u64::MAX - self.store.end()) as usize;
-        if room < numbers { room } else { numbers }
-    }
 
     /// Accepts a whole list, or hands it back with the reason. No one is told: the caller has to do
     /// that, if the end rose.
@@ -87,16 +35,21 @@ impl<T: Drop, N: Notice, A: Allocator + Copy> Parts<T, N, A> {
         if self.closed {
             return Err(TrySendError::Closed(msgs));
         }
-        if self.has_no_receiver() {
+        if self.store.has_no_receiver() {
             return Err(TrySendError::Inactive(msgs));
         }
         if msgs.is_empty() {
             return Ok(());
         }
-        if self.free_room() < msgs.len() {
+        let room = self.capacity.saturating_sub(self.store.len());
+        let numbers = (u64::MAX - self.store.end()) as usize;
+        if room.min(numbers) < msgs.len() {
             return Err(TrySendError::Full(msgs));
         }
-        self.accept_all(msgs);
+        self.store.push_all(msgs);
+        if self.store.end() == u64::MAX {
+            self.closed = true;
+        }
         Ok(())
     }
 
@@ -118,11 +71,14 @@ impl<T: Drop, N: Notice, A: Allocator + Copy> Parts<T, N, A> {
             if !self.overflow {
                 return Err(TrySendError::Full(msg));
             }
-            Some(self.drop_oldest())
+            self.store.pop()
         } else {
             None
         };
-        self.accept(msg);
+        let number = self.store.push(msg);
+        if number + 1 == u64::MAX {
+            self.closed = true;
+        }
         Ok(oldest)
     }
 
@@ -134,7 +90,38 @@ impl<T: Drop, N: Notice, A: Allocator + Copy> Parts<T, N, A> {
         ensures effect { tell_news (is_accepted result) self.new
             ≡ settle self.old (offer self.old msg) }
     {
-        attempted(self.await_active, self.offer(msg))
+        let await_active = self.await_active;
+        match self.offer(msg) {
+            Ok(back) => SendPoll::Ready(Ok(back)),
+            Err(TrySendError::Closed(msg)) => SendPoll::Ready(Err(SendError(msg))),
+            Err(TrySendError::Full(msg)) => SendPoll::Wait(msg),
+            Err(TrySendError::Inactive(msg)) => {
+                if await_active {
+                    SendPoll::Wait(msg)
+                } else {
+                    SendPoll::Ready(Err(SendError(msg)))
+                }
+            }
+        }
+    }
+
+    /// Gives a place to a send that is to wait.
+    #[inline(always)]
+    pub fn begin_send(&mut self) -> Result<usize, AllocError>
+        ensures free { IfOk result (λ place. has_place self.old.control place ≡ false) }
+        ensures ok { IfOk result (λ place. self.new
+            ≡ record self.old { control = with_place self.old.control place }) }
+        ensures err { OnErr result (self.new ≡ self.old) }
+    {
+        self.sends.begin()
+    }
+
+    /// The send of this place is dropped. What it was told is passed on.
+    #[inline(always)]
+    pub fn place_ended(&mut self, place: usize)
+        ensures { self.new ≡ record self.old { control = place_ended self.old.control place } }
+    {
+        self.sends.ended(place);
     }
 
     /// A poll of a pending send, whose notice is made if it must wait. If it is answered its place
@@ -165,7 +152,7 @@ impl<T: Drop, N: Notice, A: Allocator + Copy> Parts<T, N, A> {
         ensures same { OnErr result (self.new ≡ self.old) }
         ensures refused { OnErr result (M.refused maker.old maker.new) }
     {
-        if !self.has_place(place) {
+        if !self.sends.has(place) {
             let Ok(_) = maker.make() else {
                 return Err(msg);
             };
@@ -174,16 +161,18 @@ impl<T: Drop, N: Notice, A: Allocator + Copy> Parts<T, N, A> {
         match self.attempt(msg) {
             SendPoll::Ready(answer) => {
                 if self.nobody_waits() {
-                    self.place_answered(place);
+                    self.sends.answered(place);
                     return Ok(SendPoll::Ready(answer));
                 }
                 self.tell_of_send(place, answer.is_ok());
                 Ok(SendPoll::Ready(answer))
             }
-            SendPoll::Wait(msg) => match self.place_waits(place, maker) {
-                Ok(()) => Ok(SendPoll::Wait(msg)),
-                Err(_) => Err(msg),
-            },
+            SendPoll::Wait(msg) => {
+                let Ok(()) = self.sends.wait(place, maker) else {
+                    return Err(msg);
+                };
+                Ok(SendPoll::Wait(msg))
+            }
         }
     }
 
@@ -194,7 +183,7 @@ impl<T: Drop, N: Notice, A: Allocator + Copy> Parts<T, N, A> {
             ≡ tell_if_ready true (record told { control = place_answered told.control place }) }
     {
         self.tell_news(news);
-        self.place_answered(place);
+        self.sends.answered(place);
         self.tell_a_sender();
     }
 
@@ -213,25 +202,6 @@ impl<T: Drop, N: Notice, A: Allocator + Copy> Parts<T, N, A> {
         self.store.drop_first(excess);
         self.capacity = n;
         Ok(())
-    }
-}
-
-// What a try returned, as what a send that may wait returns.
-#[inline(always)]
-fn attempted<T: Drop>(await_active: bool, tried: Result<Option<T>, TrySendError<T>>) -> SendPoll<T>
-    ensures { result ≡ reply_to_attempt await_active tried }
-{
-    match tried {
-        Ok(back) => SendPoll::Ready(Ok(back)),
-        Err(TrySendError::Closed(msg)) => SendPoll::Ready(Err(SendError(msg))),
-        Err(TrySendError::Full(msg)) => SendPoll::Wait(msg),
-        Err(TrySendError::Inactive(msg)) => {
-            if await_active {
-                SendPoll::Wait(msg)
-            } else {
-                SendPoll::Ready(Err(SendError(msg)))
-            }
-        }
     }
 }
 

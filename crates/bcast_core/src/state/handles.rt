@@ -65,7 +65,7 @@ impl<T: Drop, N: Notice, A: Allocator + Copy> Inner<T, N, A> {
         ensures { Answers NoClone self.old (call.Deactivate key) (reply.Deactivate result)
             self.new }
     {
-        let Some(_) = self.parts.cursor(key) else {
+        let Some(_) = self.parts.store.cursor(key) else {
             return Err(HandleError::Gone);
         };
         if self.parts.inactive == usize::MAX {
@@ -88,9 +88,9 @@ impl<T: Drop, N: Notice, A: Allocator + Copy> Inner<T, N, A> {
     pub fn new_receiver(&mut self) -> Result<usize, HandleError>
         ensures { Answers NoClone self.old call.NewReceiver (reply.NewReceiver result) self.new }
     {
-        let end = self.parts.end();
+        let end = self.parts.store.end();
         let made = self.parts.add_receiver(end);
-        if !self.parts.no_send_waits() {
+        if !self.parts.sends.nobody_waits() {
             self.parts.tell_a_sender();
         }
         made
@@ -111,7 +111,7 @@ impl<T: Drop, N: Notice, A: Allocator + Copy> Inner<T, N, A> {
         if self.parts.inactive == 0 {
             return Err(HandleError::Gone);
         }
-        let end = self.parts.end();
+        let end = self.parts.store.end();
         let activated = self.parts.add_receiver(end);
         if activated.is_ok() {
             self.parts.inactive -= 1;
@@ -136,7 +136,7 @@ impl<T: Drop, N: Notice, A: Allocator + Copy> Inner<T, N, A> {
         if self.parts.inactive == 0 {
             return Err(HandleError::Gone);
         }
-        let end = self.parts.end();
+        let end = self.parts.store.end();
         let cloned = self.parts.add_receiver(end);
         self.parts.tell_a_sender();
         cloned
@@ -156,11 +156,11 @@ impl<T: Drop, N: Notice, A: Allocator + Copy> Inner<T, N, A> {
         ensures { Answers NoClone self.old (call.CloneReceiver key) (reply.CloneReceiver result)
             self.new }
     {
-        let Some(cursor) = self.parts.cursor(key) else {
+        let Some(cursor) = self.parts.store.cursor(key) else {
             return Err(HandleError::Gone);
         };
         let made = self.parts.add_receiver(cursor);
-        if !self.parts.no_send_waits() {
+        if !self.parts.sends.nobody_waits() {
             self.parts.tell_a_sender();
         }
         made
@@ -206,7 +206,7 @@ impl<T: Drop, N: Notice, A: Allocator + Copy> Inner<T, N, A> {
             return;
         }
         self.parts.close_if_deserted();
-        if !self.parts.no_send_waits() {
+        if !self.parts.sends.nobody_waits() {
             self.parts.tell_a_sender();
         }
     }

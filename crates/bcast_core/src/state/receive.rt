@@ -43,9 +43,9 @@ impl<T: Clone, N: Notice, A: Allocator + Copy> Inner<T, N, A> {
         // If no clone can fail, it isn't out of memory.
         ensures sure { ((msg : T) → T.is_infallible msg) → IsOk result }
     {
-        let at = self.parts.cursor(key);
+        let at = self.parts.store.cursor(key);
         let received = self.parts.receive(key, at, &mut Uncounted);
-        if !self.parts.no_send_waits() {
+        if !self.parts.sends.nobody_waits() {
             self.parts.tell_a_sender();
         }
         received
@@ -72,17 +72,17 @@ impl<T: Clone, N: Notice, A: Allocator + Copy> Inner<T, N, A> {
             → vec_len msgs.old + limit ≤ vec_capacity msgs.old
             → (result ≡ min limit (unread self.old key)) ⊎ MayBeRefused T.is_infallible self.new key }
     {
-        let Some(cursor) = self.parts.cursor(key) else {
+        let Some(cursor) = self.parts.store.cursor(key) else {
             return 0;
         };
-        if cursor < self.parts.front() {
+        if cursor < self.parts.store.front() {
             return 0;
         }
-        let count = ((self.parts.end() - cursor) as usize).min(limit);
+        let count = ((self.parts.store.end() - cursor) as usize).min(limit);
         if count == 0 || msgs.reserve(count).is_err() {
             return 0;
         }
-        let given = self.parts.read_many(key, cursor, count, msgs);
+        let given = self.parts.store.read_many(key, cursor, count, msgs);
         self.parts.tell_a_sender();
         given
     }

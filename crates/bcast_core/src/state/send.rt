@@ -64,9 +64,10 @@ impl<T: Drop, N: Notice, A: Allocator + Copy> Inner<T, N, A> {
         ensures { Answers NoClone self.old (call.TryBroadcastAll msgs)
             (reply.TryBroadcastAll result) self.new }
     {
-        let end = self.parts.end();
+        let end = self.parts.store.end();
         let sent = self.parts.offer_all(msgs);
-        self.parts.tell_of_message(self.parts.end() != end);
+        let has_risen = self.parts.store.end() != end;
+        self.parts.tell_of_message(has_risen);
         sent
     }
 

@@ -1,24 +1,41 @@
 -- A message is accepted where there is room for it, or where the oldest one makes room.
-use Rattle.std.proofs.Common.{◌≡◌, true, false, length, refl, sym, ap, ◌∙◌}
+use Rattle.std.proofs.Common.{◌≡◌, ◌<◌, true, false, length, refl, sym, ap, ◌∙◌, arith}
+use Rattle.std.proofs.lemmas.Grind.{common_steps}
 use Rattle.bcast_model.specs.Words.{has_no_receiver, is_full, offer, settle, View, with_message}
-use Rattle.bcast_core.proofs.Offers.{are_equal, are_unequal, offer_accepted, offer_dropping}
+use Rattle.bcast_core.specs.Parts.{control_of, seen_of}
+use Rattle.bcast_core.specs.Telling.{tell_news}
+use Rattle.bcast_core.proofs.Offers.{are_equal, are_unequal, offer_accepted, offer_dropping, popped}
 use Rattle.bcast_core.proofs.parts.Parts.offer.Goals as goal
-use Rattle.bcast_core.proofs.parts.Parts.offer.Goals.{then-len-self+else-not-self, else-len-self}
+use Rattle.bcast_core.proofs.parts.Parts.offer.Goals.{then-len-self+else-not-self, else-len-self, then-number, else-number}
 
 pub returns-clause-effect : goal.returns-clause-effect
 returns-clause-effect g c =
     let v = c.args.self.now in
     let closed : v.control.closed ≡ false = sym (ap (λ (x : View g.row.T.Denot). x.control.closed) c.self.view_is) ∙ c.if-self.false in
     let nobody : has_no_receiver v.control ≡ false = sym (ap (λ (x : View g.row.T.Denot). has_no_receiver x.control) c.self.view_is) ∙ sym c.has_no_receiver.ensures ∙ c.if-has_no_receiver.false in
-    c.accept.ensures
-    ∙ elim c.if-len-self.branch as (λ _. with_message c.if-len-self.self c.args.msg ≡ settle v (offer v c.args.msg)) [
+    let p = c.self.inside in
+    let q = c.if-len-self.self-inside in
+    let mid : View g.row.T.Denot = seen_of q.store (control_of q.store q.sends q.receives q.senders q.inactive q.closed q.overflow q.await_active q.capacity) in
+    let opened : q.closed ≡ false = elim c.if-len-self.branch as (λ _. q.closed ≡ false) [
+      | then-len-self+else-not-self w ↦ ap (λ inside. inside.closed) w.self-inside-is ∙ c.if-self.false
+      | else-len-self w ↦ ap (λ inside. inside.closed) w.self-inside-is ∙ c.if-self.false
+    ] in
+    let accepted : tell_news true c.if-number.self ≡ with_message mid c.args.msg = elim c.if-number.branch as (λ _. tell_news true c.if-number.self ≡ with_message mid c.args.msg) [
+      | then-number w ↦ grind (arith, common_steps, opened, w.self-is)
+      | else-number w ↦ grind (arith, common_steps, opened, w.self-is)
+    ] in
+    accepted
+    ∙ elim c.if-len-self.branch as (λ _. with_message mid c.args.msg ≡ settle v (offer v c.args.msg)) [
       | then-len-self+else-not-self w ↦
           let full : is_full v ≡ true = sym (ap is_full c.self.view_is) ∙ are_equal (length c.self.inside.store.queue) c.self.inside.capacity (sym c.len.ensures ∙ w.if-len-self.true) in
           let drops : v.control.overflow ≡ true = sym (ap (λ (x : View g.row.T.Denot). x.control.overflow) c.self.view_is) ∙ w.if-not-self.false in
-          ap (λ (x : View g.row.T.Denot). with_message x c.args.msg) w.self-is
-          ∙ sym (offer_dropping v w.drop_oldest.new.self c.args.msg w.drop_oldest.result c.requires (rw (closed, nobody, full, drops) refl) nobody full w.drop_oldest.ensures.oldest w.drop_oldest.ensures.rest)
+          let some : 0 < length v.queue = grind (arith, common_steps, full, c.requires.control.capacity) in
+          let first = popped p.store w.pop-oldest.new.self (λ s. control_of s p.sends p.receives p.senders p.inactive p.closed p.overflow p.await_active p.capacity) v w.pop-oldest.result (λ _ _. refl) c.self.view_is some w.pop-oldest.ensures.oldest w.pop-oldest.ensures.rest w.pop-oldest.ensures.empty in
+          ap (λ inside. with_message (seen_of inside.store (control_of inside.store inside.sends inside.receives inside.senders inside.inactive inside.closed inside.overflow inside.await_active inside.capacity)) c.args.msg) w.self-inside-is
+          ∙ sym (offer_dropping v _ c.args.msg first.0 c.requires (rw (closed, nobody, full, drops) refl) nobody full first.2 first.3)
       | else-len-self w ↦
           let full : is_full v ≡ false = sym (ap is_full c.self.view_is) ∙ are_unequal (length c.self.inside.store.queue) c.self.inside.capacity (λ e. w.if-len-self.false (c.len.ensures ∙ e)) in
-          ap (λ (x : View g.row.T.Denot). with_message x c.args.msg) (w.self-is)
+          ap (λ inside. with_message (seen_of inside.store (control_of inside.store inside.sends inside.receives inside.senders inside.inactive inside.closed inside.overflow inside.await_active inside.capacity)) c.args.msg) w.self-inside-is
+          ∙ ap (λ (x : View g.row.T.Denot). with_message x c.args.msg) c.self.view_is
           ∙ sym (offer_accepted v c.args.msg c.requires (rw (closed, nobody, full) refl) nobody full)
     ]

@@ -13,8 +13,8 @@ returns-then-has_no_receiver-clause-effect g c = grind (arith, common_steps, no_
 pub returns-then-is_empty-clause-effect : goal.returns-then-is_empty-clause-effect
 returns-then-is_empty-clause-effect g c = grind (arith, common_steps, no_news, offer_all_nothing)
 
-pub returns-then-free_room-len-clause-effect : goal.returns-then-free_room-len-clause-effect
-returns-then-free_room-len-clause-effect g c = grind (arith, common_steps, no_news, offer_all_refused)
+pub returns-then-min-len-clause-effect : goal.returns-then-min-len-clause-effect
+returns-then-min-len-clause-effect g c = grind (arith, common_steps, no_news, offer_all_refused)
 
 pub returns-clause-effect : goal.returns-clause-effect
 returns-clause-effect g c = grind (arith, common_steps, not_zero, some_news, offer_all_accepted)

@@ -1,6 +1,8 @@
-use Rattle.std.proofs.Common.{Result, Ok, Err, OnErr, refl, ap, sym, subst, ◌∙◌, is_some}
+use Rattle.std.proofs.Common.{Result, Ok, Err, OnErr, refl, ap, sym, ◌∙◌, is_some, arith}
+use Rattle.std.proofs.lemmas.Grind.{common_steps}
 use Rattle.std.specs.FinMap.{get}
-use Rattle.bcast_model.specs.Laws.{IsValidView}
+use Rattle.bcast_model.specs.Words.{View, pair_waits}
+use Rattle.bcast_core.specs.Parts.{control_of, seen_of}
 use Rattle.bcast_core.proofs.ReceivePolls.{poll_nobody, poll_found, poll_listens}
 use Rattle.bcast_core.proofs.Receives.{empty_exactly, empty_there, settle_empty}
 use Rattle.bcast_core.proofs.parts.Parts.poll.Goals as goal
@@ -9,26 +11,29 @@ on_err : {A B P : Type 0} (r : Result A B) → P → OnErr r P
 on_err (Ok a) p = tt
 on_err (Err e) p = p
 
-pub pair_waits-requires-clause-valid : goal.pair_waits-requires-clause-valid
-pair_waits-requires-clause-valid g c =
+pub wait_again-requires : goal.wait_again-requires
+wait_again-requires g c =
     let empty = sym (empty_exactly _ _ c.in-Ok.ensures.reply) ∙ sym c.is_empty.ensures ∙ c.if-is_empty.true in
-    subst IsValidView (sym (settle_empty c.args.self.now c.look.new.self c.args.key c.args.at c.requires.valid empty c.in-Ok.ensures.ok)) c.requires.valid
+    let there = ap (λ (v : View g.row.T.Denot). is_some (get v.control.cursors c.args.key)) (c.self.view_is ∙ settle_empty c.args.self.now c.look.new.self c.args.key c.args.at c.requires.valid empty c.in-Ok.ensures.ok)
+    ∙ empty_there c.args.self.now c.args.key c.args.at c.requires.valid c.requires.at empty in
+    let room = c.self.invariant c.args.key there in
+    grind (arith, common_steps, room)
 
-pub pair_waits-requires-clause-there : goal.pair_waits-requires-clause-there
-pair_waits-requires-clause-there g c =
+pub returns-in_err-wait_again-clause-same : goal.returns-in_err-wait_again-clause-same
+returns-in_err-wait_again-clause-same g c =
     let empty = sym (empty_exactly _ _ c.in-Ok.ensures.reply) ∙ sym c.is_empty.ensures ∙ c.if-is_empty.true in
-    ap (λ v. is_some (get v.control.cursors c.args.key)) (settle_empty c.args.self.now c.look.new.self c.args.key c.args.at c.requires.valid empty c.in-Ok.ensures.ok)
-    ∙ empty_there c.args.self.now c.args.key c.args.at c.requires.valid c.requires.at empty
-
-pub returns-in_err-pair_waits-clause-same : goal.returns-in_err-pair_waits-clause-same
-returns-in_err-pair_waits-clause-same g c =
-    let empty = sym (empty_exactly _ _ c.in-Ok.ensures.reply) ∙ sym c.is_empty.ensures ∙ c.if-is_empty.true in
-    on_err c.from_residual.result (c.in_err-pair_waits.ensures.same ∙ settle_empty c.args.self.now c.look.new.self c.args.key c.args.at c.requires.valid empty c.in-Ok.ensures.ok)
+    let p = c.self.inside in
+    on_err c.from_residual.result
+    (ap (λ receives. seen_of p.store (control_of p.store p.sends receives p.senders p.inactive p.closed p.overflow p.await_active p.capacity)) c.in_err-wait_again.ensures.same
+    ∙ c.self.view_is ∙ settle_empty c.args.self.now c.look.new.self c.args.key c.args.at c.requires.valid empty c.in-Ok.ensures.ok)
 
 pub returns-then-is_empty-clause-ok : goal.returns-then-is_empty-clause-ok
 returns-then-is_empty-clause-ok g c =
     let empty = sym (empty_exactly _ _ c.in-Ok.ensures.reply) ∙ sym c.is_empty.ensures ∙ c.if-is_empty.true in
-    poll_listens c.args.self.now c.look.new.self c.pair_waits.new.self (c.args.key, c.args.kind) c.args.at c.requires.valid empty c.in-Ok.ensures.ok c.in_ok-pair_waits.ensures.waits
+    let p = c.self.inside in
+    poll_listens c.args.self.now c.look.new.self _ (c.args.key, c.args.kind) c.args.at c.requires.valid empty c.in-Ok.ensures.ok
+    (ap (λ receives. seen_of p.store (control_of p.store p.sends receives p.senders p.inactive p.closed p.overflow p.await_active p.capacity)) c.in_ok-wait_again.ensures.waits
+    ∙ ap (λ (v : View g.row.T.Denot). record v { control = pair_waits v.control (c.args.key, c.args.kind) }) c.self.view_is)
 
 pub returns-then-nobody_waits-clause-ok : goal.returns-then-nobody_waits-clause-ok
 returns-then-nobody_waits-clause-ok g c =

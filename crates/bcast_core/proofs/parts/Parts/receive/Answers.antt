@@ -1,11 +1,14 @@
-use Rattle.std.proofs.Common.{◌+◌, ◌<◌, ◌≤◌, None, Ok, inl, sym, ap, ◌∙◌, is_some, arith}
+use Rattle.std.proofs.Common.{◌+◌, ◌<◌, ◌≤◌, None, Ok, inl, sym, ap, ◌∙◌, is_some, subst, arith}
 use Rattle.std.proofs.lemmas.Grind.{common_steps}
 use Rattle.std.specs.FinMap.{get, insert}
 use Rattle.std.proofs.lemmas.Result.{on_ok_weaker}
-use Rattle.bcast_model.specs.Words.{View, sets, settle, cursor_of, recv_reply}
+use Rattle.bcast_model.specs.Words.{View, sets, settle, cursor_of, with_cursor, recv_reply}
 use Rattle.bcast_model.specs.declared.run.Reply.TheVariants as reply
-use Rattle.bcast_core.proofs.Receives.{lagging, at_end, is_there, receive_one}
-use Rattle.bcast_core.proofs.Rooms.{room_read}
+use Rattle.bcast_core.proofs.Receives.{lagging, at_end, is_there, receive_lagging, receive_one}
+use Rattle.bcast_store.specs.Stored.{Stored}
+use Rattle.bcast_core.specs.Parts.{HaveRoom, control_of, seen_of}
+use Rattle.bcast_core.proofs.Rooms.{room_inserted, room_read}
+use Rattle.bcast_core.proofs.Settle.{low_inserted, settle_stays}
 use Rattle.bcast_core.proofs.Views.{view-with_cursors}
 use Rattle.bcast_core.proofs.parts.Parts.receive.Goals as goal
 use Rattle.bcast_core.proofs.parts.Parts.receive.Goals.{in-Ok, in-Err, then-self, else-self}
@@ -13,8 +16,25 @@ use Rattle.bcast_core.proofs.parts.Parts.receive.Goals.{in-Ok, in-Err, then-self
 pub returns-then-cursor-front-clause-reply : goal.returns-then-cursor-front-clause-reply
 returns-then-cursor-front-clause-reply g c = grind (arith, common_steps, lagging)
 
+pub returns-then-cursor-front-clause-ok : goal.returns-then-cursor-front-clause-ok
+returns-then-cursor-front-clause-ok g c =
+    let v = c.args.self.now in
+    let p = c.self.inside in
+    let lags : c.in-Some.cursor < v.front = omega (arith, c.if-cursor-front.true, c.front-front.ensures, ap (λ (x : View g.row.T.Denot). x.front) c.self.view_is) in
+    ap (λ s. seen_of s (control_of s p.sends p.receives p.senders p.inactive p.closed p.overflow p.await_active p.capacity)) c.skip.ensures
+    ∙ ap (λ (x : View g.row.T.Denot). record x { control = with_cursor x.control c.args.key x.front }) c.self.view_is
+    ∙ sym (settle_stays v (with_cursor v.control c.args.key v.front) (low_inserted v.end v.front v.control.cursors c.args.key v.front (omega arith)))
+    ∙ ap (λ m. settle v (sets m)) (sym (receive_lagging v c.args.key c.args.at c.in-Some.cursor c.in-Some.is lags))
+
 pub invariant_of-self : goal.invariant_of-self
 invariant_of-self g c =
+    let there = is_there c.args.self.now c.args.key (cursor_of c.args.self.now.control c.args.key) c.args.at c.in-Some.cursor c.in-Some.is c.requires.at in
+    let some = ap (λ (v : View g.row.T.Denot). is_some (get v.control.cursors c.args.key)) c.self.view_is ∙ there in
+    subst (λ (s : Stored g.row.T.Denot). HaveRoom s.cursors c.self.inside.receives.room) (sym c.skip.ensures)
+    (room_inserted c.self.inside.store.cursors c.args.key c.self.inside.store.front c.self.inside.receives.room (c.self.invariant c.args.key some) c.self.invariant)
+
+pub invariant_of-self-then-index-len : goal.invariant_of-self-then-index-len
+invariant_of-self-then-index-len g c =
     let there = is_there c.args.self.now c.args.key (cursor_of c.args.self.now.control c.args.key) c.args.at c.in-Some.cursor c.in-Some.is c.requires.at in
     let some = ap (λ (v : View g.row.T.Denot). is_some (get v.control.cursors c.args.key)) c.self.view_is ∙ there in
     room_read c.read.result c.self.inside.store c.read.new.self c.args.key (c.in-Some.cursor + 1) c.self.inside.receives.room some c.read.ensures.ok c.read.ensures.err c.self.invariant
@@ -25,8 +45,7 @@ returns-then-index-len-clause-ok g c =
     let above : v.front ≤ c.in-Some.cursor = omega (arith, c.if-cursor-front.false, c.front-front.ensures, ap (λ (x : View g.row.T.Denot). x.front) c.self.view_is) in
     let below : c.in-Some.cursor < v.end = omega (arith, c.if-index-len.true, c.len.ensures, c.front-front.ensures, ap (λ (x : View g.row.T.Denot). x.end) c.self.view_is) in
     let ok = on_ok_weaker c.read.result
-    (λ is. view-with_cursors c.self.inside.store c.read.new.self _ c.self.inside.receives _ _ _ _ _ _ (insert c.self.inside.store.cursors c.args.key (c.in-Some.cursor + 1)) v is c.self.view_is
-    ∙ ap (λ m. settle v (sets (record v.control { cursors = insert m c.args.key (c.in-Some.cursor + 1) }))) (ap (λ x. x.control.cursors) c.self.view_is)
+    (λ is. view-with_cursors c.self.inside.store c.read.new.self _ c.self.inside.receives _ _ _ _ _ _ (λ m. insert m c.args.key (c.in-Some.cursor + 1)) v is c.self.view_is
     ∙ ap (λ m. settle v (sets m)) (sym (receive_one v c.args.key c.args.at c.in-Some.cursor c.in-Some.is above below)))
     c.read.ensures.ok in
     elim c.match-read.branch [

@@ -21,6 +21,6 @@ returns g c =
       room = c.room.ensures ∙ ap (λ v. v.control.room) is;
       places = c.rising.ensures.same ∙ (c.in_ok-places.ensures ∙ ap (λ v. v.control.places) is);
       rising = c.rising.ensures.rising;
-      waiting_sends = c.in_ok-waiting_sends.ensures;
-      waiting_receives = c.in_ok-waiting_receives.ensures;
+      waiting_sends = (λ i. record { ids = c.in_ok-ids.ensures i; told = c.told.ensures i }) ∙ ap (λ v. v.control.waiting_sends) is;
+      waiting_receives = (λ i. record { ids = c.in_ok-ids-2.ensures i; told = c.told-2.ensures i }) ∙ ap (λ v. v.control.waiting_receives) is;
     }

@@ -31,7 +31,7 @@ returns g c =
       | then-is_ok w ↦
           let at = ap (λ inside. inside.parts) w.self-inside-is in
           let was = ap (λ inside. inside.parts) c.self-inside-2.view_is in
-          subst Ends (sym at) (subst Ends (ap (λ (x : View g.row.T.Denot). record x { control = record x.control { inactive = x.control.inactive - 1 } }) (sym was)) (activated _ _ _ some c.end-end.ensures (sym c.is_ok.ensures.value ∙ w.if-is_ok.true) adds, added_fits _ _ _ valid adds))
+          subst Ends (sym at) (subst Ends (ap (λ (x : View g.row.T.Denot). record x { control = record x.control { inactive = x.control.inactive - 1 } }) (sym was)) (activated _ _ _ some (c.end-end.ensures ∙ ap (λ inside. inside.parts.end) c.self-inside.view_is) (sym c.is_ok.ensures.value ∙ w.if-is_ok.true) adds, added_fits _ _ _ valid adds))
       | else-is_ok w ↦
           let at = ap (λ inside. inside.parts) w.self-inside-is in
           subst Ends (sym at) (not_added _ _ valid some (sym c.is_ok.ensures.value ∙ w.if-is_ok.false) adds, added_fits _ _ _ valid adds)

@@ -16,7 +16,7 @@ pub returns : goal.returns
 returns g c =
     let valid = valid_shown c.self.invariant in
     let some : c.self.inside.parts.control.inactive ≡ 0 → ⊥ = λ e. c.if-self-eq0.false (ap (λ inside. inside.parts.control.inactive) c.self-inside.view_is ∙ e) in
-    ends c.self.view_is c.self.invariant (added_fits _ _ _ valid c.add_receiver-cloned.ensures) (cloned_activated _ _ valid some c.end-end.ensures c.add_receiver-cloned.ensures) c.tell_a_sender.ensures
+    ends c.self.view_is c.self.invariant (added_fits _ _ _ valid c.add_receiver-cloned.ensures) (cloned_activated _ _ valid some (c.end-end.ensures ∙ ap (λ inside. inside.parts.end) c.self-inside.view_is) c.add_receiver-cloned.ensures) c.tell_a_sender.ensures
 
 pub invariant_of-self : goal.invariant_of-self
 invariant_of-self g c = shown_after (returns g c)

@@ -1,4 +1,5 @@
-use Rattle.std.proofs.Common.{true, sym, ◌∙◌}
+use Rattle.std.proofs.Common.{true, sym, ◌∙◌, ap}
+use Rattle.bcast_model.specs.Words.{cursor_of}
 use Rattle.bcast_core.proofs.Making.{not_some}
 use Rattle.bcast_core.proofs.Receivers.{added_fits, clone_added, not_cloned}
 use Rattle.bcast_core.proofs.Tail.{ends, shown_after, told_none, unchanged, valid_shown}
@@ -7,25 +8,25 @@ use Rattle.bcast_core.proofs.state.Inner.clone_receiver.Goals as goal
 pub returns-in_default : goal.returns-in_default
 returns-in_default g c =
     let valid = valid_shown c.self.invariant in
-    let none = sym c.cursor.ensures ∙ not_some c.cursor.result c.in_default.not-Some in
+    let none = sym (c.cursor.ensures ∙ ap (λ inside. cursor_of inside.parts.control c.args.key) c.self-inside.view_is) ∙ not_some c.cursor.result c.in_default.not-Some in
     unchanged c.self.view_is c.self.invariant (sym c.self.view_is) valid.control.receivers_fit (not_cloned c.args.key valid none)
 
 pub add_receiver-made-requires-clause-valid : goal.add_receiver-made-requires-clause-valid
 add_receiver-made-requires-clause-valid g c = valid_shown c.self.invariant
 
-pub returns-then-not-no_send_waits : goal.returns-then-not-no_send_waits
-returns-then-not-no_send_waits g c =
+pub returns-then-not-nobody_waits : goal.returns-then-not-nobody_waits
+returns-then-not-nobody_waits g c =
     let valid = valid_shown c.self.invariant in
-    ends c.self.view_is c.self.invariant (added_fits _ _ _ valid c.add_receiver-made.ensures) (clone_added _ _ _ valid (sym c.cursor.ensures ∙ c.in-Some.is) c.add_receiver-made.ensures) c.tell_a_sender.ensures
+    ends c.self.view_is c.self.invariant (added_fits _ _ _ valid c.add_receiver-made.ensures) (clone_added _ _ _ valid (sym (c.cursor.ensures ∙ ap (λ inside. cursor_of inside.parts.control c.args.key) c.self-inside.view_is) ∙ c.in-Some.is) c.add_receiver-made.ensures) c.tell_a_sender.ensures
 
-pub returns-else-not-no_send_waits : goal.returns-else-not-no_send_waits
-returns-else-not-no_send_waits g c =
+pub returns-else-not-nobody_waits : goal.returns-else-not-nobody_waits
+returns-else-not-nobody_waits g c =
     let valid = valid_shown c.self.invariant in
-    ends c.self.view_is c.self.invariant (added_fits _ _ _ valid c.add_receiver-made.ensures) (clone_added _ _ _ valid (sym c.cursor.ensures ∙ c.in-Some.is) c.add_receiver-made.ensures)
-    (sym (told_none c.add_receiver-made.new.self true (c.no_send_waits.ensures c.if-not-no_send_waits.false)))
+    ends c.self.view_is c.self.invariant (added_fits _ _ _ valid c.add_receiver-made.ensures) (clone_added _ _ _ valid (sym (c.cursor.ensures ∙ ap (λ inside. cursor_of inside.parts.control c.args.key) c.self-inside.view_is) ∙ c.in-Some.is) c.add_receiver-made.ensures)
+    (sym (told_none c.add_receiver-made.new.self true (sym (ap (λ inside. inside.parts.control.waiting_sends) c.self-inside-2.view_is) ∙ c.nobody_waits.ensures.0 c.if-not-nobody_waits.false)))
 
 pub invariant_of-self : goal.invariant_of-self
-invariant_of-self g c = shown_after (returns-then-not-no_send_waits g c)
+invariant_of-self g c = shown_after (returns-then-not-nobody_waits g c)
 
-pub invariant_of-self-else-not-no_send_waits : goal.invariant_of-self-else-not-no_send_waits
-invariant_of-self-else-not-no_send_waits g c = shown_after (returns-else-not-no_send_waits g c)
+pub invariant_of-self-else-not-nobody_waits : goal.invariant_of-self-else-not-nobody_waits
+invariant_of-self-else-not-nobody_waits g c = shown_after (returns-else-not-nobody_waits g c)

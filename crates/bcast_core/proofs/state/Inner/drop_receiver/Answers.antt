@@ -15,20 +15,20 @@ returns-then-not-remove_receiver g c =
 pub invariant_of-self : goal.invariant_of-self
 invariant_of-self g c = shown_after (returns-then-not-remove_receiver g c)
 
-pub returns-then-not-no_send_waits : goal.returns-then-not-no_send_waits
-returns-then-not-no_send_waits g c =
+pub returns-then-not-nobody_waits : goal.returns-then-not-nobody_waits
+returns-then-not-nobody_waits g c =
     let found = sym c.remove_receiver.ensures.found ∙ c.if-not-remove_receiver.false in
     ends c.self.view_is c.self.invariant tt (receiver_left c.args.key found (c.remove_receiver.ensures.removed c.if-not-remove_receiver.false))
     (c.tell_a_sender.ensures ∙ ap (tell_if_ready true) c.close_if_deserted.ensures)
 
-pub returns-else-not-no_send_waits : goal.returns-else-not-no_send_waits
-returns-else-not-no_send_waits g c =
+pub returns-else-not-nobody_waits : goal.returns-else-not-nobody_waits
+returns-else-not-nobody_waits g c =
     let found = sym c.remove_receiver.ensures.found ∙ c.if-not-remove_receiver.false in
     ends c.self.view_is c.self.invariant tt (receiver_left c.args.key found (c.remove_receiver.ensures.removed c.if-not-remove_receiver.false))
-    (sym (told_none c.close_if_deserted.new.self true (c.no_send_waits.ensures c.if-not-no_send_waits.false)) ∙ ap (tell_if_ready true) c.close_if_deserted.ensures)
+    (sym (told_none c.close_if_deserted.new.self true (sym (ap (λ inside. inside.parts.control.waiting_sends) c.self-inside.view_is) ∙ c.nobody_waits.ensures.0 c.if-not-nobody_waits.false)) ∙ ap (tell_if_ready true) c.close_if_deserted.ensures)
 
-pub invariant_of-self-then-not-no_send_waits : goal.invariant_of-self-then-not-no_send_waits
-invariant_of-self-then-not-no_send_waits g c = shown_after (returns-then-not-no_send_waits g c)
+pub invariant_of-self-then-not-nobody_waits : goal.invariant_of-self-then-not-nobody_waits
+invariant_of-self-then-not-nobody_waits g c = shown_after (returns-then-not-nobody_waits g c)
 
-pub invariant_of-self-else-not-no_send_waits : goal.invariant_of-self-else-not-no_send_waits
-invariant_of-self-else-not-no_send_waits g c = shown_after (returns-else-not-no_send_waits g c)
+pub invariant_of-self-else-not-nobody_waits : goal.invariant_of-self-else-not-nobody_waits
+invariant_of-self-else-not-nobody_waits g c = shown_after (returns-else-not-nobody_waits g c)

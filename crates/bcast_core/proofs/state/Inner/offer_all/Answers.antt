@@ -9,7 +9,10 @@ pub offer_all-sent-requires : goal.offer_all-sent-requires
 offer_all-sent-requires g c = valid_shown c.self.invariant
 
 pub returns : goal.returns
-returns g c = ends c.self.view_is c.self.invariant tt (record { legal = ap reply.TryBroadcastAll c.offer_all-sent.ensures.reply; effect = c.offer_all-sent.ensures.effect }) (c.tell_of_message.ensures ∙ (λ i. tell_if_ready true (tell_news (not (c.end.ensures i == c.end-end.ensures i)) c.offer_all-sent.new.self)))
+returns g c =
+    let was = c.end-end.ensures ∙ ap (λ inside. inside.parts.end) c.self-inside.view_is in
+    let now = c.end.ensures ∙ ap (λ inside. inside.parts.end) c.self-inside-2.view_is in
+    ends c.self.view_is c.self.invariant tt (record { legal = ap reply.TryBroadcastAll c.offer_all-sent.ensures.reply; effect = c.offer_all-sent.ensures.effect }) (c.tell_of_message.ensures ∙ (λ i. tell_if_ready true (tell_news (not (now i == was i)) c.offer_all-sent.new.self)))
 
 pub invariant_of-self : goal.invariant_of-self
 invariant_of-self g c = shown_after (returns g c)

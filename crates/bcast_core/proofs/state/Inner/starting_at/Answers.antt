@@ -14,16 +14,15 @@ store_is : (g : _) (c : In_ok-reserve_for g)
     → c.add.new.self ≡ record { front = c.args.first; queue = []; cursors = insert empty c.in_ok-key.key c.args.first; room = c.args.cap }
 store_is g c = c.in_ok-key.ensures.ok ∙ ap (λ (s : Stored g.row.T.Denot). record s { cursors = insert s.cursors c.in_ok-key.key c.args.first }) c.in_ok-store.ensures
 
-pub new-parts-requires : goal.new-parts-requires
-new-parts-requires g c =
-    subst (λ (s : Stored g.row.T.Denot). HaveRoom s.cursors c.reserve_for.new.self.room) (sym (store_is g c))
+pub invariant_of-parts : goal.invariant_of-parts
+invariant_of-parts g c =
+    subst (λ (s : Stored g.row.T.Denot). HaveRoom s.cursors c.reserve_for.new.self.room) (sym (store_is g (goal.at.invariant_of-parts g c).In_ok-reserve_for))
     (room_inserted empty c.in_ok-key.key c.args.first c.reserve_for.new.self.room c.in_ok-reserve_for.ensures.ok (room_empty c.reserve_for.new.self.room))
 
 pub returns-clause-opened : goal.returns-clause-opened
 returns-clause-opened g c =
-    c.new-parts.ensures
-    ∙ opened c.add.new.self c.reserve_for.new.self c.args.first c.in_ok-key.key c.args.cap c.requires.capacity c.ranges.cap.fits c.requires.number (store_is g (goal.at.returns-clause-opened g c).In_ok-reserve_for)
-    (c.reserve_for.ensures.listeners ∙ c.new-receives.ensures)
+    opened c.add.new.self _ c.reserve_for.new.self c.args.first c.in_ok-key.key c.args.cap c.requires.capacity c.ranges.cap.fits c.requires.number (store_is g (goal.at.returns-clause-opened g c).In_ok-reserve_for)
+    c.new-2.ensures (c.reserve_for.ensures.listeners ∙ c.new-receives.ensures)
 
 pub returns-clause-valid : goal.returns-clause-valid
 returns-clause-valid g c = opening_valid c.args.cap c.args.first c.in_ok-key.key c.requires.capacity c.ranges.cap.fits c.requires.number
