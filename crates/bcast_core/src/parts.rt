@@ -1,5 +1,5 @@
 //! The parts of a channel's state, and the steps that its calls are made of.
-ghost use Rattle.std.specs.Prelude.{◌≡◌, ◌==◌, false, true};
+ghost use Rattle.std.specs.Prelude.{◌≡◌, true};
 
 use bcast_model::listener::Kind;
 use bcast_store::Store;

@@ -1,6 +1,5 @@
 //! Receiving.
-ghost use Rattle.std.specs.Prelude.{vec_len, vec_capacity, ◌≡◌, ◌⊎◌, ◌+◌, ◌<◌, ◌≤◌, true, false};
-ghost use Rattle.std.specs.Prelude.{Some, Ok, Err, IfOk, OnOk, OnErr, IsOk, IsSomeAnd};
+ghost use Rattle.std.specs.Prelude.{◌≡◌, ◌⊎◌, ◌+◌, true, false, Ok, Err, IfOk, OnOk, OnErr, IsOk};
 ghost use Rattle.bcast_model.specs.Receiving.{is_empty_reply};
 
 use super::Parts;
@@ -14,9 +13,8 @@ use std::alloc::{AllocError, Allocator};
 impl<T: Clone, N: Notice, A: Allocator + Copy> Parts<T, N, A> {
     ghost use Rattle.bcast_model.specs.Words.{IsValidView, IsReceivedBy, receive, receive_poll};
     ghost use Rattle.bcast_model.specs.Words.{skipped_to, settle, sets, cursor_of};
-    ghost use Rattle.bcast_model.specs.Words.{kept_at, with_cursor};
     ghost use Rattle.bcast_model.specs.Words.{pair_answered, tell_if_ready};
-    ghost use Rattle.bcast_core.specs.Parts.{AreHandedOut, tries_by, finds_nothing};
+    ghost use Rattle.bcast_core.specs.Parts.{tries_by, finds_nothing};
     ghost use Rattle.bcast_core.specs.Polls.{reads_at, skips_of};
     ghost use Rattle.bcast_core.specs.Telling.{is_untold};
     ghost use Rattle.bcast_model.specs.declared.run.Reply.TheVariants as reply;

@@ -1,6 +1,5 @@
 //! Receivers that are added and removed.
-ghost use Rattle.std.specs.Prelude.{◌≡◌, ◌+◌, ◌≤◌, true, false, is_some};
-ghost use Rattle.std.specs.FinMap.{remove};
+ghost use Rattle.std.specs.Prelude.{◌≡◌, ◌≤◌, true, false, is_some};
 
 use super::Parts;
 use bcast_model::error::HandleError;

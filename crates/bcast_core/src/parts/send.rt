@@ -1,9 +1,6 @@
 //! Sending, and the capacity, which may make room.
-ghost use Rattle.std.specs.Prelude.{◌≡◌, ◌==◌, ◌^◌, ◌+◌, ◌<◌, ◌≤◌, ◌∷◌, false, length, if◌then◌else◌};
-ghost use Rattle.std.specs.Prelude.{Ok, Err, IfOk, IfErr, OnOk, OnErr, Option, is_ok, not, true};
-ghost use Rattle.std.specs.FinMap.{len};
-ghost use Rattle.bcast_model.specs.declared.error.TrySendError.{TrySendError};
-ghost use Rattle.bcast_model.specs.Sending.{reply_to_attempt};
+ghost use Rattle.std.specs.Prelude.{◌≡◌, ◌==◌, ◌<◌, ◌≤◌, false, true, if◌then◌else◌, not};
+ghost use Rattle.std.specs.Prelude.{Ok, Err, IfOk, IfErr, OnOk, OnErr, is_ok};
 ghost use Rattle.bcast_core.specs.Telling.{is_accepted};
 
 use super::Parts;
@@ -15,13 +12,11 @@ use std::alloc::{AllocError, Allocator};
 
 impl<T: Drop, N: Notice, A: Allocator + Copy> Parts<T, N, A> {
     ghost use Rattle.bcast_model.specs.Words.{has_place, with_place, place_answered, place_ended};
-    ghost use Rattle.bcast_model.specs.Words.{tell_if_ready};
-    ghost use Rattle.bcast_model.specs.Words.{must_wait, IsValidView, settle, with_message};
-    ghost use Rattle.bcast_model.specs.Words.{with_messages, try_broadcast_reply, offer};
-    ghost use Rattle.bcast_model.specs.Words.{attempt_send_reply, poll_send, free_room};
-    ghost use Rattle.bcast_model.specs.Words.{try_broadcast_all_reply, offer_all, resize};
+    ghost use Rattle.bcast_model.specs.Words.{tell_if_ready, must_wait, IsValidView, settle, resize};
+    ghost use Rattle.bcast_model.specs.Words.{try_broadcast_reply, attempt_send_reply, offer};
+    ghost use Rattle.bcast_model.specs.Words.{try_broadcast_all_reply, offer_all, poll_send};
     ghost use Rattle.bcast_model.specs.declared.run.Reply.TheVariants as reply;
-    ghost use Rattle.bcast_core.specs.Telling.{tell_news, is_accepted};
+    ghost use Rattle.bcast_core.specs.Telling.{tell_news};
     ghost use Rattle.bcast_model.specs.declared.run.SendPoll.TheVariants as send;
 
     /// Accepts a whole list, or hands it back with the reason. No one is told: the caller has to do
