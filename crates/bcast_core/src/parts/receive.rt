@@ -19,11 +19,7 @@ impl<T: Clone, N: Notice, A: Allocator + Copy> Parts<T, N, A> {
     ghost use Rattle.bcast_core.specs.Telling.{is_untold};
     ghost use Rattle.bcast_model.specs.declared.run.Reply.TheVariants as reply;
 
-    /// Looks for a message: gives a receiver that of this number, or says why there is none. Each
-    /// receive that looks for one calls this, which counts one step.
-    ///
-    /// `at` is the receiver's cursor, or the greater of it and the front if what it missed is
-    /// skipped.
+    /// Gives a receiver the message of this number, or says why there is none. Counts one step.
     #[inline(always)]
     pub fn receive<C: Counter>(
         &mut self,
@@ -122,12 +118,7 @@ impl<T: Clone, N: Notice, A: Allocator + Copy> Parts<T, N, A> {
         self.receive(key, at, steps)
     }
 
-    /// Polls a listener, whose notice is made if it must wait. If there is something it waits no
-    /// more, and if sends are ready then the first one that waits is told.
-    ///
-    /// # Errors
-    ///
-    /// `NoNotice`: no notice was made, and nothing changed.
+    /// A poll by a listener, whose notice is made if it must wait.
     #[inline(always)]
     pub fn poll<C: Counter, M: MakesNotice<N>>(
         &mut self,

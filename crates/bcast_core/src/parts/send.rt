@@ -119,12 +119,7 @@ impl<T: Drop, N: Notice, A: Allocator + Copy> Parts<T, N, A> {
         self.sends.ended(place);
     }
 
-    /// A poll of a pending send, whose notice is made if it must wait. If it is answered its place
-    /// is freed, and if sends are still ready the first that waits is told, unless one is already.
-    ///
-    /// # Errors
-    ///
-    /// The message is handed back and nothing changed: no notice was made.
+    /// A poll of a pending send, whose notice is made if it must wait.
     #[inline(always)]
     pub fn poll_send<M: MakesNotice<N>>(
         &mut self,
