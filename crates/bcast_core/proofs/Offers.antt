@@ -55,28 +55,22 @@ module _ {T : Type 0} where
   pub offer_all_refused : (v : View T) (msgs : List T) → IsValidView v → is_ok (try_broadcast_all_reply v msgs) ≡ false → settle v (offer_all v msgs) ≡ v
   offer_all_refused v msgs valid is = ap (λ b. settle v (cond b (accept_all v msgs) (sets v.control))) is ∙ settle_same v valid
 
-  -- what is seen once the oldest message was taken out of the store
-  pub popped : (s now : Stored T) (control : Stored T → Control) (v : View T) (taken : Option T) → ((front : ℕ) (queue : List T) → control (record s { front = front; queue = queue }) ≡ control s) → seen_of s (control s) ≡ v → 0 < length v.queue
-      → IfSome taken (λ oldest. s.queue ≡ oldest ∷ now.queue) → OnSome taken (now ≡ record s { front = s.front + 1; queue = now.queue }) → IfNone taken (s.queue ≡ [])
-      → (oldest : T) × (taken ≡ Some oldest) × (v.queue ≡ oldest ∷ now.queue) × (seen_of now (control now) ≡ record v { front = v.front + 1; queue = now.queue })
-  popped s now control v None same seen some first rest none = let empty = ap length (sym none ∙ ap (λ (x : View T). x.queue) seen) in absurd (omega (arith, some, empty))
-  popped s now control v (Some oldest) same seen some first rest none =
-      let moved : Stored T = record s { front = s.front + 1; queue = now.queue } in
-      let end : end_of moved ≡ end_of s = let more = ap length first in omega (arith, more) in (
-        oldest,
-        refl,
-        sym (ap (λ (x : View T). x.queue) seen) ∙ first,
-        ap (λ x. seen_of x (control x)) rest ∙ (λ i. record { front = moved.front; queue = moved.queue; end = end i; control = same moved.front moved.queue i })
-            ∙ ap (λ (x : View T). record x { front = x.front + 1; queue = now.queue }) seen,
-      )
-
-  -- the oldest message makes room for it
-  pub offer_dropping : (v w : View T) (msg oldest : T) → IsValidView v → is_ok (try_broadcast_reply v msg) ≡ true → has_no_receiver v.control ≡ false → is_full v ≡ true
-      → v.queue ≡ oldest ∷ w.queue → w ≡ record v { front = v.front + 1; queue = w.queue } → settle v (offer v msg) ≡ with_message w msg
-  offer_dropping v w msg oldest valid is some full first rest =
+  -- the oldest message, which was taken out of the store, makes room for it
+  pub offer_dropping : (s now : Stored T) (control : Stored T → Control) (v : View T) (msg : T) (taken : Option T)
+      → ((front : ℕ) (queue : List T) → control (record s { front = front; queue = queue }) ≡ control s) → seen_of s (control s) ≡ v → IsValidView v → is_ok (try_broadcast_reply v msg) ≡ true → has_no_receiver v.control ≡ false → is_full v ≡ true
+      → IfSome taken (λ oldest. s.queue ≡ oldest ∷ now.queue) → OnSome taken (now ≡ record s { front = s.front + 1; queue = now.queue }) → IfNone taken (s.queue ≡ []) → settle v (offer v msg) ≡ with_message (seen_of now (control now)) msg
+  offer_dropping s now control v msg None same seen valid is some full first rest none =
+      let kept : 0 < length v.queue = grind (arith, common_steps, full, valid.control.capacity) in
+      let empty = ap length (sym none ∙ ap (λ (x : View T). x.queue) seen) in
+      absurd (omega (arith, kept, empty))
+  offer_dropping s now control v msg (Some oldest) same seen valid is some full first rest none =
       let low = low_next v 1 valid some in
       let front : max (max v.front (accept v msg).floor) (least (v.end + 1) (values (accepting v.control (v.end + 1)).cursors)) ≡ v.front + 1 = rw (full, cursors-accepting) (omega (arith, low)) in
       let one : (v.front + 1) - v.front ≡ 1 = omega arith in
+      let queue = sym (ap (λ (x : View T). x.queue) seen) ∙ first in
+      let moved : Stored T = record s { front = s.front + 1; queue = now.queue } in
+      let end : end_of moved ≡ end_of s = let more = ap length first in omega (arith, more) in
       ap (λ b. settle v (cond b (accept v msg) (sets v.control))) is
-      ∙ settle_to v (accept v msg) (with_message (record v { front = v.front + 1; queue = w.queue }) msg) front (rw (one, first) refl) refl refl
-      ∙ ap (λ (x : View T). with_message x msg) (sym rest)
+      ∙ settle_to v (accept v msg) (with_message (record v { front = v.front + 1; queue = now.queue }) msg) front (rw (one, queue) refl) refl refl
+      ∙ ap (λ (x : View T). with_message x msg) (sym (ap (λ x. seen_of x (control x)) rest
+      ∙ (λ i. record { front = moved.front; queue = moved.queue; end = end i; control = same moved.front moved.queue i }) ∙ ap (λ (x : View T). record x { front = x.front + 1; queue = now.queue }) seen))
