@@ -24,7 +24,7 @@ proctype sender(byte me) {
           attempt_send(must_wait);
           if
           :: must_wait ->
-             /* `Threads::begin_to_send` */
+             /* `Threads::begin_waiting` */
              senders++;
              choose_woken(sender_, receiver_, all_);
              wake(sender_, receiver_, all_);
@@ -47,7 +47,7 @@ end_asleep:
            :: atomic { sleeps[me] && spurious_left > 0 -> send_ready ?? eval(me); sleeps[me] = false; spurious_left-- }
 #endif
            fi;
-           /* the try after the wait, and `Threads::end_waiting_to_send` */
+           /* the try after the wait, and `Threads::end_waiting` */
            atomic {
              attempt_send(must_wait);
              senders--;
@@ -92,7 +92,7 @@ proctype receiver(byte key) {
           try_recv(key, answer);
           if
           :: answer == EMPTY ->
-             /* `Threads::begin_to_receive` */
+             /* `Threads::begin_waiting` */
              caught_up_receivers++;
 #if PLANT != 6
              known_accepted = accepted;
@@ -128,7 +128,7 @@ end_asleep:
            fi;
            atomic {
              try_recv(key, answer);
-             /* `Threads::end_waiting_to_receive` */
+             /* `Threads::end_waiting` */
              if
              :: round_of[me] == rounds ->
                 is_misled = (answer == EMPTY);

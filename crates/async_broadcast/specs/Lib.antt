@@ -9,7 +9,8 @@ pub mod TaskWakers
 pub mod Futures
 -- the notice of a poll, made for its task
 pub mod Made
--- which waiting threads are woken
+-- how waiting threads are counted, and which of them are woken
+pub mod Counted
 pub mod Woken
 -- snapshots through handles
 pub mod Snapshots

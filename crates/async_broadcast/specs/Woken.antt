@@ -1,26 +1,15 @@
--- Which threads wait for the channel behind a lock, and which of them are woken.
-use Rattle.std.specs.Prelude.{◌≡◌, ℕ, ◌+◌, ◌-◌, ◌%◌, ◌^◌, ◌<◌, ◌||◌, Bool, true, false}
+-- Which of the threads that wait for the channel behind a lock are woken.
+use Rattle.std.specs.Prelude.{◌≡◌, ◌+◌, ◌%◌, ◌^◌, ◌<◌, ◌||◌, Bool, true, false}
 use Rattle.bcast_model.specs.Words.{View, sends_are_ready}
+use Rattle.async_broadcast.specs.Counted.{one_more, tail_of}
 use Rattle.async_broadcast.specs.declared.lock.threads.Threads.{Threads}
 use Rattle.async_broadcast.specs.declared.lock.threads.Woken.{Woken}
 use Rattle.async_broadcast.specs.declared.lock.threads.WokenReceivers.{WokenReceivers}
 use Rattle.async_broadcast.specs.declared.lock.threads.WokenReceivers.TheVariants as receivers
 
--- one more thread, as the lock counts
-abbrev pub one_more : ℕ → ℕ
-one_more count = (count + 1) % 2 ^ 64
-
--- one thread fewer
-abbrev pub one_less : ℕ → ℕ
-one_less count = (count + (2 ^ 64 - 1)) % 2 ^ 64
-
 -- no thread waits
 abbrev pub HasNoThread : Threads → Type 0
 HasNoThread t = (t.senders ≡ 0) × (t.caught_up_receivers ≡ 0) × (t.due_receivers ≡ 0)
-
--- what changes when a receiver that had read everything has something to receive
-abbrev pub tail_of : {T : Type 0} → View T → ℕ × Bool
-tail_of v = (v.end, v.control.closed)
 
 -- threads that wait for a message and have nothing to receive know all that was sent
 abbrev pub KnowsTail : {T : Type 0} → View T → Threads → Type 0
@@ -82,26 +71,3 @@ abbrev pub Chooses : {T : Type 0} → View T → Threads → Threads → Woken �
 Chooses v old new woken =
     (marked moved : Threads) × ChoosesSender v old marked woken.sender
     × MovesReceivers v marked moved × ChoosesReceivers moved new woken.receivers
-
--- a thread that waited to send has tried again
-abbrev pub EndsWaitToSend : Threads → Threads → Type 0
-EndsWaitToSend old new =
-    new ≡ record old { senders = one_less old.senders; is_sender_woken = false }
-
--- a thread that waited for a message has tried again: it was counted among those that know this
--- much, unless a new round has begun since
-abbrev pub EndsWait : ℕ × Bool → ℕ → Bool → Threads → Threads → Type 0
-EndsWait known round is_empty old new =
-    ((old.rounds ≡ round → ⊥) → new ≡ old)
-    × (old.rounds ≡ round → old.known ≡ known
-    → new ≡ record old {
-      caught_up_receivers = one_less old.caught_up_receivers;
-      is_receiver_woken = false;
-      is_misled = is_empty;
-    })
-    × (old.rounds ≡ round → (old.known ≡ known → ⊥)
-    → new ≡ record old {
-      due_receivers = one_less old.due_receivers;
-      is_receiver_woken = false;
-      is_misled = is_empty;
-    })

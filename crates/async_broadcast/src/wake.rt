@@ -111,62 +111,25 @@ impl TaskWaker {
     }
 }
 
-/// A context in which the task of a poll is registered: a `Context`.
-///
-/// If a struct holds a `&mut`, a proof knows the value after it only if the value's type names no
-/// lifetime, and that of a `Context` names one. So `ForTask` takes the type as a parameter, as
-/// does the function that makes one.
-pub(crate) trait Registers {
-    // Holds of a context before and after a task was registered in it.
-    ghost registered: { Self → Self → Type 0 };
-
-    /// Registers a task here, as `TaskWaker::register` does.
-    fn register(&mut self, task: &mut TaskWaker, wake: &mut Wake) -> bool
-        ensures refused { task.new.is_refused ≡ not result }
-        ensures waker { is_some wake.new.waker ≡ result }
-        ensures registered { registered self.old self.new };
-}
-
-impl Registers for Context<'_> {
-    ghost registered = { λ old new. IsArmed new × Keeps old new };
-
-    #[inline(always)]
-    fn register(&mut self, task: &mut TaskWaker, wake: &mut Wake) -> bool {
-        task.register(wake, self)
-    }
-}
-
 /// Makes the notice of a poll by registering the poll's task.
 #[derive(Drop)]
-pub(crate) struct ForTask<'a, C> {
-    task: &'a mut TaskWaker,
-    cx: &'a mut C,
+pub(crate) struct ForTask<'a, 'c> {
+    pub(crate) task: &'a mut TaskWaker,
+    pub(crate) cx: &'a mut Context<'c>,
 }
 
-impl<'a, C> ForTask<'a, C> {
-    #[inline(always)]
-    pub(crate) fn new(task: &'a mut TaskWaker, cx: &'a mut C) -> Self
-        ensures task { result.task.now ≡ task.old }
-        ensures cx { result.cx.now ≡ cx.old }
-        ensures same_task { result.task.ghost_name ≡ task.entry.ghost_name }
-        ensures same_cx { result.cx.ghost_name ≡ cx.entry.ghost_name }
-    {
-        ForTask { task, cx }
-    }
-}
-
-impl<C: Registers> MakesNotice<Wake> for ForTask<'_, C> {
+impl MakesNotice<Wake> for ForTask<'_, '_> {
     ghost use Rattle.async_broadcast.specs.Made.{RegistersTask};
 
-    ghost made = { λ old new. RegistersTask C.registered false old new };
+    ghost made = { RegistersTask false };
 
-    ghost refused = { λ old new. RegistersTask C.registered true old new };
+    ghost refused = { RegistersTask true };
 
     #[inline(always)]
     fn make(&mut self) -> Result<Wake, NoNotice>
         ensures waker { IfOk result (λ wake. is_some wake.waker ≡ true) }
-        ensures made { OnOk result (RegistersTask C.registered false self.old self.new) }
-        ensures refused { OnErr result (RegistersTask C.registered true self.old self.new) }
+        ensures made { OnOk result (RegistersTask false self.old self.new) }
+        ensures refused { OnErr result (RegistersTask true self.old self.new) }
     {
         let mut wake = Wake::none();
         self.renew(&mut wake)?;
@@ -176,10 +139,10 @@ impl<C: Registers> MakesNotice<Wake> for ForTask<'_, C> {
     #[inline(always)]
     fn renew(&mut self, wake: &mut Wake) -> Result<(), NoNotice>
         ensures waker { OnOk result (is_some wake.new.waker ≡ true) }
-        ensures made { OnOk result (RegistersTask C.registered false self.old self.new) }
-        ensures refused { OnErr result (RegistersTask C.registered true self.old self.new) }
+        ensures made { OnOk result (RegistersTask false self.old self.new) }
+        ensures refused { OnErr result (RegistersTask true self.old self.new) }
     {
-        if self.cx.register(self.task, wake) {
+        if self.task.register(wake, self.cx) {
             Ok(())
         } else {
             Err(NoNotice)

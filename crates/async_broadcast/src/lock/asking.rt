@@ -9,39 +9,12 @@ use super::Lock;
 use super::channel::lock;
 use crate::journal::CallJournal;
 use crate::port::Ask;
-use crate::wake::{ForTask, Registers, TaskWaker, Wake};
+use crate::wake::{ForTask, TaskWaker, Wake};
 use bcast_core::{AddReceiver, AtOnce, Change, HandleError, Inner, Polls};
 use futures::task::Context;
 use std::alloc::Allocator;
 use std::snapshot::Snapshot;
 use std::sync::Wait;
-
-// Makes a poll for a task.
-#[inline(always)]
-fn poll_for<T: Clone, A: Allocator + Copy, P: Polls<T>, C: Registers>(
-    inner: &mut Inner<T, Wake, A>,
-    call: P,
-    task: &mut TaskWaker,
-    cx: &mut C,
-) -> Result<P::Answer, P>
-    requires { HasPositiveCapacity (P.call call) }
-    ensures answers { IfOk result (λ answer. Answers T.is_clone inner.old (P.call call)
-        (P.reply call answer) inner.new) }
-    ensures back { IfErr result (λ back. back ≡ call) }
-    ensures same { OnErr result (inner.new ≡ inner.old) }
-
-    ensures notice { IfOk result (λ answer. must_wait (P.reply call answer) ≡ true
-        → task.new.is_refused ≡ false) }
-    ensures refused { OnErr result (task.new.is_refused ≡ true) }
-    ensures registered { IfOk result (λ answer. must_wait (P.reply call answer) ≡ true
-        → C.registered cx.old cx.new) }
-    ensures again { OnErr result (C.registered cx.old cx.new) }
-    ensures answered { IfOk result (λ answer. must_wait (P.reply call answer) ≡ false
-        → (task.new ≡ task.old) × (cx.new ≡ cx.old)) }
-{
-    let mut maker = ForTask::new(task, cx);
-    call.make_for(inner, &mut maker)
-}
 
 // Records a call that was to add a receiver. Returns the receiver's key, and who makes its calls.
 fn append_added<T: Clone, J: CallJournal<T>, A: Allocator + Copy>(
@@ -134,7 +107,7 @@ impl<T: Clone, R: Wait + Clone, A: Allocator + Copy, J: CallJournal<T>> Ask<T, J
         let state = &mut *guard;
         let asked = Snapshot::of(&call);
         let before = Snapshot::of(&state.inner);
-        let answer = poll_for(&mut state.inner, call, task, cx)?;
+        let answer = call.make_for(&mut state.inner, &mut ForTask { task, cx })?;
         state
             .journal
             .append(caller, &asked, &answer, &before, &state.inner);

@@ -1,7 +1,7 @@
 //! The lock, what it guards, and the condition variables that threads wait on.
 ghost use Rattle.async_broadcast.specs.Woken.{KnowsTail, HasWokenSender, HasWokenReceiver};
 
-use super::threads::{Threads, Woken};
+use super::threads::{Side, Threads, Woken, WokenReceivers};
 use crate::journal::CallJournal;
 use crate::wake::Wake;
 use bcast_core::Inner;
@@ -12,10 +12,10 @@ use std::sync::{Condvar, Mutex, MutexGuard};
 #[derive(Drop)]
 pub(super) struct Channel<T: Clone, A: Allocator, J: CallJournal<T>> {
     pub(super) state: Mutex<State<T, A, J>>,
-    /// Notified once a thread that waits to send should try again.
-    pub(super) send_ready: Condvar,
-    /// Notified once a thread that waits for a message should try again.
-    pub(super) message_ready: Condvar,
+    // Notified once a thread that waits to send should try again.
+    send_ready: Condvar,
+    // Notified once a thread that waits for a message should try again.
+    message_ready: Condvar,
 }
 
 /// What the lock guards: the channel, the journal of its calls, and the threads that wait for it.
@@ -55,7 +55,28 @@ impl<T: Clone, A: Allocator + Copy, J: CallJournal<T>> Channel<T, A, J> {
     #[inline(never)]
     pub(super) fn unlock(&self, state: Locked<'_, T, A, J>, woken: Woken) {
         drop(state);
-        woken.wake(&self.send_ready, &self.message_ready);
+        self.wake(woken);
+    }
+
+    /// Wakes these threads. Best called once the lock is free.
+    pub(super) fn wake(&self, woken: Woken) {
+        let Woken { sender, receivers } = woken;
+        if sender {
+            self.send_ready.notify_one();
+        }
+        match receivers {
+            WokenReceivers::Nobody => {}
+            WokenReceivers::One => self.message_ready.notify_one(),
+            WokenReceivers::All => self.message_ready.notify_all(),
+        }
+    }
+
+    /// What a thread of this side waits on.
+    pub(super) fn condition(&self, side: Side) -> &Condvar {
+        match side {
+            Side::Senders => &self.send_ready,
+            Side::Receivers => &self.message_ready,
+        }
     }
 }
 

@@ -4,12 +4,11 @@ ghost use Rattle.async_broadcast.specs.Woken.{HasNoThread, KnowsTail};
 ghost use Rattle.async_broadcast.specs.Woken.{HasWokenSender, HasWokenReceiver};
 ghost use Rattle.async_broadcast.specs.Woken.{AreSenders, Chooses, ChoosesSender};
 ghost use Rattle.async_broadcast.specs.Woken.{ChoosesReceivers, MovesReceivers};
-ghost use Rattle.async_broadcast.specs.Woken.{EndsWait, EndsWaitToSend, tail_of, one_more};
+ghost use Rattle.async_broadcast.specs.Counted.{BeginsWait, EndsWait, tail_of};
 
 use crate::wake::Wake;
 use bcast_core::Inner;
 use std::alloc::Allocator;
-use std::sync::Condvar;
 
 /// The threads that wait, to send or for a message, and which of them to wake.
 ///
@@ -40,9 +39,9 @@ pub(super) struct Threads {
 
 /// Which threads to wake. It can't be dropped, so they have to be woken.
 pub(super) struct Woken {
-    // Whether to wake one that waits to send.
-    sender: bool,
-    receivers: WokenReceivers,
+    /// Whether to wake one that waits to send.
+    pub(super) sender: bool,
+    pub(super) receivers: WokenReceivers,
 }
 
 /// How many of the threads to wake that wait for a message.
@@ -53,35 +52,22 @@ pub(super) enum WokenReceivers {
     All,
 }
 
-impl Woken {
-    /// Wakes them, by the condition variables that those wait on. Best called once the lock is
-    /// free.
-    pub(super) fn wake(self, senders: &Condvar, receivers: &Condvar) {
-        let Woken {
-            sender,
-            receivers: woken,
-        } = self;
-        if sender {
-            senders.notify_one();
-        }
-        match woken {
-            WokenReceivers::Nobody => {}
-            WokenReceivers::One => receivers.notify_one(),
-            WokenReceivers::All => receivers.notify_all(),
-        }
-    }
+/// With whom a thread waits.
+#[derive(Clone, Copy)]
+pub(super) enum Side {
+    /// With those that wait to send.
+    Senders,
+    /// With those that wait for a message.
+    Receivers,
 }
 
-/// A thread that is counted as one that waits to send. It can't be dropped, so it has to be given
-/// to `end_waiting_to_send`. The thread does that after its next try; `choose_woken` then has
-/// another woken if there is something for it.
-pub(super) struct WaitingToSend(());
-
-/// A thread that is counted as one that waits for a message, with what it knew when it began
-/// (`tail`), and in which round. It has to be given to `end_waiting_to_receive`.
-pub(super) struct WaitingToReceive {
-    known: (u64, bool),
-    round: u64,
+/// A thread that is counted as one that waits. It can't be dropped, so it has to be given to
+/// `end_waiting`. The thread does that after its next try; `choose_woken` then has another woken if
+/// there is something for it.
+pub(super) enum WaitingThread {
+    ToSend,
+    /// With what it knew when it began (`tail`), and in which round.
+    ToReceive((u64, bool), u64),
 }
 
 impl Threads {
@@ -186,60 +172,48 @@ impl Threads {
         WokenReceivers::One
     }
 
-    /// A thread is about to wait to send.
-    pub(super) fn begin_to_send(&mut self) -> WaitingToSend
-        ensures { self.new ≡ record self.old { senders = one_more self.old.senders } }
-    {
-        self.senders = self.senders.wrapping_add(1);
-        WaitingToSend(())
-    }
-
-    /// A thread that waited to send has tried again.
-    pub(super) fn end_waiting_to_send(&mut self, waiting: WaitingToSend)
-        ensures { EndsWaitToSend self.old self.new }
-    {
-        let WaitingToSend(()) = waiting;
-        self.senders = self.senders.wrapping_sub(1);
-        self.is_sender_woken = false;
-    }
-
-    /// A thread that has nothing to receive is about to wait for a message.
-    pub(super) fn begin_to_receive<T: Clone, A: Allocator + Copy>(
+    /// Counts a thread that is about to wait, for a message if it has none to receive.
+    pub(super) fn begin_waiting<T: Clone, A: Allocator + Copy>(
         &mut self,
+        side: Side,
         inner: &Inner<T, Wake, A>,
-    ) -> WaitingToReceive
-        ensures known { result.known ≡ tail_of inner.now }
-        ensures round { result.round ≡ self.old.rounds }
-        ensures waits { self.new ≡ record self.old {
-          caught_up_receivers = one_more self.old.caught_up_receivers;
-          known = tail_of inner.now;
-          is_misled = false;
-        } }
+    ) -> WaitingThread
+        ensures { BeginsWait inner.now side self.old self.new result }
     {
-        self.caught_up_receivers = self.caught_up_receivers.wrapping_add(1);
-        self.known = tail(inner);
-        self.is_misled = false;
-        WaitingToReceive {
-            known: self.known,
-            round: self.rounds,
+        match side {
+            Side::Senders => {
+                self.senders = self.senders.wrapping_add(1);
+                WaitingThread::ToSend
+            }
+            Side::Receivers => {
+                self.caught_up_receivers = self.caught_up_receivers.wrapping_add(1);
+                self.known = tail(inner);
+                self.is_misled = false;
+                WaitingThread::ToReceive(self.known, self.rounds)
+            }
         }
     }
 
-    /// A thread that waited for a message has tried again. `is_empty`: it found none.
-    pub(super) fn end_waiting_to_receive(&mut self, waiting: WaitingToReceive, is_empty: bool)
-        ensures { EndsWait waiting.known waiting.round is_empty self.old self.new }
+    /// Counts a thread no more that has waited and tried again. `must_wait`: it wasn't answered.
+    pub(super) fn end_waiting(&mut self, waiting: WaitingThread, must_wait: bool)
+        ensures { EndsWait waiting must_wait self.old self.new }
     {
-        let WaitingToReceive { known, round } = waiting;
-        if self.rounds != round {
-            return;
+        match waiting {
+            WaitingThread::ToSend => {
+                self.senders = self.senders.wrapping_sub(1);
+                self.is_sender_woken = false;
+            }
+            WaitingThread::ToReceive(_, round) if self.rounds != round => {}
+            WaitingThread::ToReceive(known, _) => {
+                if self.known == known {
+                    self.caught_up_receivers = self.caught_up_receivers.wrapping_sub(1);
+                } else {
+                    self.due_receivers = self.due_receivers.wrapping_sub(1);
+                }
+                self.is_receiver_woken = false;
+                self.is_misled = must_wait;
+            }
         }
-        if self.known == known {
-            self.caught_up_receivers = self.caught_up_receivers.wrapping_sub(1);
-        } else {
-            self.due_receivers = self.due_receivers.wrapping_sub(1);
-        }
-        self.is_receiver_woken = false;
-        self.is_misled = is_empty;
     }
 }
 

@@ -83,12 +83,12 @@ impl<T: Clone, R: Wait + Clone, A: Allocator + Copy, J: CallJournal<T>> Lock<T, 
             return (answer, false);
         }
         let call = attempt.again(&made, answer);
-        let waiting = attempt.begin(&mut state.threads, &state.inner);
+        let side = attempt.side();
+        let waiting = state.threads.begin_waiting(side, &state.inner);
         if let Some(woken) = state.threads.choose_woken(&state.inner) {
-            woken.wake(&channel.send_ready, &channel.message_ready);
+            channel.wake(woken);
         }
-        let condition = attempt.condition(channel);
-        let (mut guard, is_over) = limit.wait(&self.rt, condition, guard);
+        let (mut guard, is_over) = limit.wait(&self.rt, channel.condition(side), guard);
         let state = &mut *guard;
         let before = Snapshot::of(&state.inner);
         let answer = call.make(&mut state.inner);

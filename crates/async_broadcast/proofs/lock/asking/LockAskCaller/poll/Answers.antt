@@ -1,7 +1,6 @@
 -- The reply is one that the channel may give. A poll that is answered registers nothing.
-use Rattle.std.proofs.Common.{refl, sym, inl, inr, subst}
+use Rattle.std.proofs.Common.{rules, refl, inl, inr}
 use Rattle.std.proofs.lemmas.Bool.{cases_Bool}
-use Rattle.futures.specs.Task.{Holds}
 use Rattle.bcast_model.specs.Words.{must_wait}
 use Rattle.bcast_model.proofs.Answers.{possible}
 use Rattle.async_broadcast.proofs.lock.asking.LockAskCaller.poll.Goals as goal
@@ -17,6 +16,6 @@ pub returns-clause-kept : goal.returns-clause-kept
 returns-clause-kept g c fact holds =
     let got = c.in_ok-answer.ensures in
     elim (cases_Bool (must_wait (g.C.CallOf.reply c.args.call c.in_ok-answer.answer))) [
-      | inl waits ↦ (got.registered waits).1 fact holds
-      | inr ready ↦ subst (λ cx. Holds cx fact) (sym (got.answered ready).1) holds
+      | inl waits ↦ let kept = (got.made waits).kept fact holds in search rules
+      | inr ready ↦ let same = got.idle ready in search rules
     ]
