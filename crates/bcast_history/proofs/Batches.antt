@@ -14,7 +14,7 @@ use Rattle.bcast_model.specs.declared.error.TryRecvError.{TryRecvError}
 use Rattle.bcast_history.specs.declared.step.Opening.{Opening}
 use Rattle.bcast_history.specs.declared.step.Step.{Step}
 use Rattle.bcast_history.specs.History.{end_of}
-use Rattle.bcast_history.specs.Batch.{AreDeliveries, TakesInto, TakesMany, received}
+use Rattle.bcast_history.specs.Batch.{AreDeliveries, TakesInto, TakesMany}
 use Rattle.bcast_history.specs.Tracker.{Tracker, Learns, number}
 use Rattle.bcast_history.proofs.Prefixes.{prefix_self, prefix_trans}
 use Rattle.bcast_history.proofs.Received.{IsPlace, reader, tried}

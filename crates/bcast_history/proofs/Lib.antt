@@ -22,6 +22,8 @@ pub mod Batches
 -- where a receiver starts
 pub mod Started
 pub mod Making
+-- receives, and no other call
+pub mod Receiving
 -- laws
 pub mod Sent
 pub mod Given

@@ -1,5 +1,5 @@
 -- What the receives of a `TrackedReceiver` take.
-use Rattle.std.proofs.Common.{◌≡◌, ◌⊎◌, inr, ℕ, List, Option, Some, Result, Ok, Err, refl, sym, ap, ◌∙◌, subst}
+use Rattle.std.proofs.Common.{◌≡◌, ◌⊎◌, inr, ℕ, Some, Result, Ok, Err, refl, sym, ap, ◌∙◌, subst}
 use Rattle.std.specs.Prelude.{IfOk, IfErr}
 use Rattle.std.specs.declared.alloc.AllocError.{AllocError}
 use mathlib.Core.List.{IsPrefix}
@@ -10,9 +10,8 @@ use Rattle.bcast_model.specs.declared.run.Reply.{Reply}
 use Rattle.bcast_model.specs.declared.run.Reply.TheVariants as reply
 use Rattle.bcast_model.specs.Words.{History, next, cursor_of}
 use Rattle.bcast_history.specs.declared.step.Opening.{Opening}
-use Rattle.bcast_history.specs.declared.step.Step.{Step}
-use Rattle.bcast_history.specs.Follows.{Follows}
 use Rattle.bcast_history.specs.History.{IsLawful, end_of}
+use Rattle.bcast_history.specs.Makes.{MakesCall}
 use Rattle.bcast_history.specs.Reader.{Reader, Finds, Takes, as_found}
 use Rattle.bcast_history.specs.Tracker.{Tracker, IsOf, Learns, next_of, number}
 use Rattle.bcast_history.proofs.Found.{finds}
@@ -56,10 +55,11 @@ abbrev pub IsPlace : {T : Type 0} → (T → T → Type 0) → Opening → ℕ �
 IsPlace is_clone o key t = IsOf key t × IsLawful is_clone o t.steps
 
 -- a poll that found something, or that there is nothing yet
-pub ok_step : {T : Type 0} {is_clone : T → T → Type 0} {o : Opening} {known after : List (Step T)} {c : Call T} (p : Polled T)
-    → Follows is_clone o known c (reply.PollRecv p) after → IfOk p (λ poll. Follows is_clone o known c (reply.PollRecv (Ok poll)) after)
-ok_step (Ok poll) made = made
-ok_step (Err error) made = tt
+pub ok_made : {T : Type 0} {learns : Tracker T → Call T → Reply T → Tracker T → Type 0} {is_clone : T → T → Type 0} {o : Opening} {known after : Tracker T} {c : Call T} (p : Polled T)
+    → MakesCall learns is_clone o known c (reply.PollRecv p) after
+    → IfOk p (λ poll. MakesCall learns is_clone o known c (reply.PollRecv (Ok poll)) after)
+ok_made (Ok poll) made = made
+ok_made (Err error) made = tt
 
 -- a receive that was made
 pub record Received
@@ -109,10 +109,10 @@ module _
   ok_part (Ok poll) got = got.takes
   ok_part (Err error) got = tt
 
-  pub err_part : (X : Type 0) (p : Polled T) → Received is_clone o key old after (as_found p)
-      → Follows is_clone o old.steps (call.PollRecv old.key) (reply.PollRecv p) after.steps
+  pub err_part : (X : Type 0) {learns : Tracker T → Call T → Reply T → Tracker T → Type 0} {from to : Tracker T} {c : Call T} (p : Polled T)
+      → Received is_clone o key old after (as_found p) → MakesCall learns is_clone o from c (reply.PollRecv p) to
       → IfErr p (λ error. X ⊎ (Takes is_clone o old (reader key after) (as_found (Err error))
-      × Follows is_clone o old.steps (call.PollRecv old.key) (reply.PollRecv (Err error)) after.steps))
+      × MakesCall learns is_clone o from c (reply.PollRecv (Err error)) to))
   err_part X (Ok poll) got made = tt
   err_part X (Err error) got made = inr (got.takes, made)
 

@@ -7,7 +7,7 @@ pub mod Follows
 pub mod Tracker
 pub mod Cursors
 pub mod Learning
--- what follows, and if a handle isn't made
+-- which calls a handle makes, and what follows
 pub mod Makes
 pub mod Laws
 -- what a receiver is given, a log of it, and that nothing comes after `Closed`

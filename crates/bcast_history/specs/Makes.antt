@@ -1,16 +1,53 @@
--- What follows if a handle isn't made.
-use Rattle.std.specs.Prelude.{◌≡◌, ◌⊎◌, List, Result, Err}
+-- Which calls a handle makes.
+use Rattle.std.specs.Prelude.{◌≡◌, ◌⊎◌, ℕ, List, [], ◌∷◌, Some, Result, Err}
+use Rattle.std.specs.List.{AllByRecursion}
 use Rattle.bcast_model.specs.declared.error.HandleError.{HandleError}
 use Rattle.bcast_model.specs.declared.error.HandleError.TheVariants as handle
 use Rattle.bcast_model.specs.declared.run.Call.{Call}
+use Rattle.bcast_model.specs.declared.run.Call.TheVariants as call
 use Rattle.bcast_model.specs.declared.run.Reply.{Reply}
 use Rattle.bcast_history.specs.declared.step.Opening.{Opening}
 use Rattle.bcast_history.specs.declared.step.Step.{Step}
 use Rattle.bcast_history.specs.Follows.{Follows}
+use Rattle.bcast_history.specs.Reader.{Reader}
+use Rattle.bcast_history.specs.Tracker.{Tracker}
 
--- there was no memory for the handle, and no step was made; or the channel refused, by this call
-abbrev pub MakesNone
-    : {T V : Type 0} → (T → T → Type 0) → Opening → Call T → (Result V HandleError → Reply T)
-    → List (Step T) → HandleError → List (Step T) → Type 0
-MakesNone is_clone o call reply old error new =
-    ((error ≡ handle.Memory) × (new ≡ old)) ⊎ Follows is_clone o old call (reply (Err error)) new
+-- who makes a receiver's calls
+abbrev pub caller_of : {T : Type 0} → Reader T → Tracker T
+caller_of r = record { steps = r.steps; key = r.key; next = Some r.next }
+
+-- a receive of one message by this receiver
+abbrev pub IsReceive : {T : Type 0} → ℕ → Step T → Type 0
+IsReceive key step = (step.call ≡ call.TryRecv key) ⊎ (step.call ≡ call.PollRecv key)
+
+-- `learns`: what a port says of each call that it makes, of who makes it before and after, and of
+-- nothing else. Of two calls in a row nothing says that they are one
+module _ {T : Type 0} (learns : Tracker T → Call T → Reply T → Tracker T → Type 0) where
+  -- the caller makes these calls with these replies, one after the other, and no other
+  abbrev pub MakesEach : List (Step T) → Tracker T → Tracker T → Type 0
+  MakesEach [] known after = after ≡ known
+  MakesEach (step ∷ steps) known after =
+      (between : Tracker T) × learns known step.call step.reply between
+      × MakesEach steps between after
+
+  -- a receiver makes receives, one after the other, and no other call
+  abbrev pub MakesReceives : Reader T → Reader T → Type 0
+  MakesReceives old new =
+      (steps : List (Step T)) × AllByRecursion (IsReceive old.key) steps
+      × MakesEach steps (caller_of old) (caller_of new)
+
+  module _ (is_clone : T → T → Type 0) (o : Opening) where
+    -- the caller makes this call with this reply, once, and no other; and it is the last step that
+    -- the caller knows then
+    pub record MakesCall (known : Tracker T) (call : Call T) (reply : Reply T) (after : Tracker T)
+        : Type 0 where
+      pub once : learns known call reply after
+      pub follows : Follows is_clone o known.steps call reply after.steps
+
+    -- there was no memory for the handle, and no call was made; or the channel refused, by this call
+    abbrev pub MakesNone
+        : {V : Type 0} → Call T → (Result V HandleError → Reply T) → Tracker T → HandleError
+        → Tracker T → Type 0
+    MakesNone call reply known error after =
+        ((error ≡ handle.Memory) × (after ≡ known))
+        ⊎ MakesCall known call (reply (Err error)) after

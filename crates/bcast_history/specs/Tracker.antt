@@ -1,8 +1,10 @@
 -- Who makes calls on a channel with a history: what is known of it.
-use Rattle.std.specs.Prelude.{◌≡◌, ℕ, false, List, Option, Some, None}
+use Rattle.std.specs.Prelude.{◌≡◌, ◌⊎◌, ℕ, false, List, [], ◌∷◌, ◌++◌, Option, Some, None, Ok}
 use Rattle.std.specs.Option.{option_map_or}
 use Rattle.bcast_model.specs.declared.run.Call.{Call}
+use Rattle.bcast_model.specs.declared.run.Call.TheVariants as call
 use Rattle.bcast_model.specs.declared.run.Reply.{Reply}
+use Rattle.bcast_model.specs.declared.run.Reply.TheVariants as reply
 use Rattle.bcast_model.specs.Words.{Control, cursor_of}
 use Rattle.bcast_history.specs.declared.step.Opening.{Opening}
 use Rattle.bcast_history.specs.declared.step.Step.{Step}
@@ -16,6 +18,12 @@ pub record Tracker (T : Type 0) : Type 0 where
   pub steps : List (Step T)
   pub key : ℕ
   pub next : Option ℕ
+
+-- the channel has a sender of whom nobody knows yet: no step was made, or the last one added it
+abbrev pub HasNewSender : {T : Type 0} → List (Step T) → Type 0
+HasNewSender {T} steps =
+    (steps ≡ []) ⊎ (before : List (Step T)) × (steps ≡ before
+    ++ record { call = call.NewSender; reply = reply.NewSender (Ok tt) } ∷ [])
 
 -- where the receiver of this key reads on, if a receiver of it did
 abbrev pub next_of : Control → ℕ → Option ℕ → Option ℕ

@@ -1,7 +1,8 @@
 //! Receivers that receive nothing, and keep the channel open.
 ghost use Rattle.std.specs.Prelude.{◌≡◌, Ok, Err, IfOk, IfErr};
-ghost use Rattle.bcast_history.specs.Follows.{Follows};
+ghost use Rattle.bcast_history.specs.Makes.{MakesCall};
 ghost use Rattle.bcast_history.specs.Reader.{StartsAtTheEnd};
+ghost use Rattle.bcast_history.specs.Tracker.{Tracker};
 
 use crate::known::Known;
 use crate::place::Place;
@@ -35,11 +36,12 @@ impl<T: Clone, P: HistoryPort<T, J>, J: Channel> TrackedInactiveReceiver<T, P, J
     ///
     /// - `Memory`: no memory for its cursor.
     pub fn activate(self) -> Result<TrackedReceiver<T, P, J>, (Self, HandleError)>
-        ensures made { IfOk result (λ made. Follows T.is_clone J.opening
-            self.known.steps Call.Activate (Reply.Activate (Ok made.place.key)) made.place.steps) }
+        ensures made { IfOk result (λ made. (after : Tracker T) × (after.steps ≡ made.place.steps)
+            × MakesCall P.learns T.is_clone J.opening self.known
+            Call.Activate (Reply.Activate (Ok made.place.key)) after) }
         ensures starts { IfOk result (λ made. StartsAtTheEnd J.opening made.place) }
-        ensures refused { IfErr result (λ back. Follows T.is_clone J.opening
-            self.known.steps Call.Activate (Reply.Activate (Err back.1)) back.0.known.steps) }
+        ensures refused { IfErr result (λ back. MakesCall P.learns T.is_clone J.opening self.known
+            Call.Activate (Reply.Activate (Err back.1)) back.0.known) }
     {
         let TrackedInactiveReceiver { port, known } = self;
         let Known { mut tracker } = known;

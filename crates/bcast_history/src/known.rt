@@ -1,7 +1,8 @@
 //! What a handle knows of its channel that is no receiver.
-ghost use Rattle.std.specs.Prelude.{◌≡◌, None};
+ghost use Rattle.std.specs.Prelude.{◌≡◌};
 ghost use Rattle.bcast_model.specs.Words.{end_number};
 ghost use Rattle.bcast_history.specs.History.{IsLawful, end_of};
+ghost use Rattle.bcast_history.specs.Tracker.{HasNewSender};
 
 use crate::tracker::{Channel, Seen, Tracker};
 use std::marker::Model;
@@ -32,12 +33,13 @@ impl<T: Clone, J: Channel> Known<T, J> {
         Known { tracker }
     }
 
-    /// Knows as much.
-    pub(crate) fn same(&self) -> Self
+    /// What the sender knows that was added by the last step: as much.
+    pub(crate) fn of_sender(&self) -> Self
+        requires { HasNewSender self.now.steps }
         ensures { result.steps ≡ self.now.steps }
     {
         Known {
-            tracker: self.tracker.of_none(),
+            tracker: self.tracker.of_sender(),
         }
     }
 

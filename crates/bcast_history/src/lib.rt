@@ -6,9 +6,10 @@
 //! the handles of `async_broadcast`, under the same names. A function over them is written over
 //! their port, a `HistoryPort<T, J>`.
 //!
-//! A handle knows a beginning of the steps. After each call it knows the steps that others made
-//! meanwhile, too, and last its own (`Follows`). All that any handle of the channel knows are
-//! beginnings of one list, which is a run of the channel. So the laws of `bcast_laws` speak of it.
+//! A handle knows a beginning of the steps. It makes each call once, and no other with it
+//! (`MakesCall`), and knows after it the steps that others made meanwhile, too, and last its own
+//! (`Follows`). All that any handle of the channel knows are beginnings of one list, which is a run
+//! of the channel. So the laws of `bcast_laws` speak of it.
 //!
 //! A receive promises that the receiver is given the accepted messages one after the other, from its
 //! start on, or told how many it missed (`Takes`). A clone starts where its original reads on, a new

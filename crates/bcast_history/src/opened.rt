@@ -110,7 +110,7 @@ pub fn broadcast<T: Clone, R: Wait + Clone, J: Channel, A: Allocator + Copy>(
         end: opening.first_number,
         cursor,
     };
-    let known = Known::new(tracker.of_none());
+    let known = Known::new(tracker.of_sender());
     let place = Place::new(key, tracker);
     let port = Lock::with_journal(rt, alloc, inner, steps)?;
     let other = port.try_clone().ok_or(AllocError)?;

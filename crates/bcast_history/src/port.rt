@@ -1,7 +1,7 @@
 //! Ports of a channel whose calls have their places in one history.
 ghost use Rattle.std.specs.Prelude.{Ok, Err, IfOk, IfErr};
 ghost use Rattle.bcast_core.specs.Calls.{receiver_call, receiver_reply};
-ghost use Rattle.bcast_history.specs.Tracker.{Begins, Learns};
+ghost use Rattle.bcast_history.specs.Tracker.{Begins};
 
 use crate::steps::StepJournal;
 use crate::tracker::{Channel, Tracker};
@@ -24,10 +24,10 @@ pub trait HistoryPort<T: Clone, J: Channel>: PortFor<T, Tracker<T, J>> {
         known: &mut Tracker<T, J>,
         call: AddReceiver,
     ) -> Result<(usize, Tracker<T, J>), HandleError>
-        ensures learned { IfOk result (λ made. Learns T.is_clone J.opening known.old
+        ensures learned { IfOk result (λ made. Self.learns known.old
             (receiver_call call) (receiver_reply call (Ok made.0)) known.new) }
         ensures begins { IfOk result (λ made. Begins J.opening made.0 known.new made.1) }
-        ensures refused { IfErr result (λ error. Learns T.is_clone J.opening known.old
+        ensures refused { IfErr result (λ error. Self.learns known.old
             (receiver_call call) (receiver_reply call (Err error)) known.new) };
 
     // A call adds itself, and those before it, to what its caller knows.

@@ -4,9 +4,8 @@ ghost use mathlib.Core.List.{IsPrefix};
 ghost use Rattle.bcast_model.specs.Words.{cursor_of, end_number};
 ghost use Rattle.async_broadcast.specs.Ports.{as_try_recv};
 ghost use Rattle.async_broadcast.specs.Timed.{as_timed_try};
-ghost use Rattle.bcast_history.specs.Follows.{Follows};
 ghost use Rattle.bcast_history.specs.History.{IsLawful, end_of};
-ghost use Rattle.bcast_history.specs.Makes.{MakesNone};
+ghost use Rattle.bcast_history.specs.Makes.{MakesCall, MakesNone, caller_of};
 ghost use Rattle.bcast_history.specs.Reader.{StaysAt, Takes};
 
 use crate::inactive::TrackedInactiveReceiver;
@@ -96,8 +95,8 @@ impl<T: Clone, P: HistoryPort<T, J>, J: Channel> TrackedReceiver<T, P, J> {
         ensures key { self.new.place.key ≡ self.old.place.key }
         ensures seen { IsPrefix self.old.place.steps self.new.place.steps }
         ensures takes { Takes T.is_clone J.opening self.old.place self.new.place result }
-        ensures follows { Follows T.is_clone J.opening self.old.place.steps
-            (Call.TryRecv self.old.place.key) (Reply.TryRecv result) self.new.place.steps }
+        ensures made { MakesCall P.learns T.is_clone J.opening (caller_of self.old.place)
+            (Call.TryRecv self.old.place.key) (Reply.TryRecv result) (caller_of self.new.place) }
     {
         let Place { key, tracker } = &mut self.place;
         self.port.ask(tracker, TryRecv(*key))
@@ -110,9 +109,9 @@ impl<T: Clone, P: HistoryPort<T, J>, J: Channel> TrackedReceiver<T, P, J> {
         ensures seen { IsPrefix self.old.place.steps self.new.place.steps }
         ensures takes { Takes T.is_clone J.opening self.old.place self.new.place
             (as_try_recv result) }
-        ensures follows { Follows T.is_clone J.opening self.old.place.steps
+        ensures made { MakesCall P.learns T.is_clone J.opening (caller_of self.old.place)
             (Call.TryRecv self.old.place.key) (Reply.TryRecv (as_try_recv result))
-            self.new.place.steps }
+            (caller_of self.new.place) }
     {
         let Place { key, tracker } = &mut self.place;
         self.port.receive_waiting(tracker, *key)
@@ -126,13 +125,13 @@ impl<T: Clone, P: HistoryPort<T, J>, J: Channel> TrackedReceiver<T, P, J> {
     pub fn clone(&mut self) -> Result<Self, HandleError>
         ensures same { StaysAt self.old.place self.new.place }
         ensures made { IfOk result (λ made. (made.place.steps ≡ self.new.place.steps)
-            × Follows T.is_clone J.opening self.old.place.steps
-            (Call.CloneReceiver self.old.place.key)
-            (Reply.CloneReceiver (Ok made.place.key)) self.new.place.steps) }
+            × MakesCall P.learns T.is_clone J.opening (caller_of self.old.place)
+            (Call.CloneReceiver self.old.place.key) (Reply.CloneReceiver (Ok made.place.key))
+            (caller_of self.new.place)) }
         ensures starts { IfOk result (λ made. made.place.next ≡ self.old.place.next) }
-        ensures refused { IfErr result (λ error. MakesNone T.is_clone J.opening
-            (Call.CloneReceiver self.old.place.key) Reply.CloneReceiver self.old.place.steps error
-            self.new.place.steps) }
+        ensures refused { IfErr result (λ error. MakesNone P.learns T.is_clone J.opening
+            (Call.CloneReceiver self.old.place.key) Reply.CloneReceiver
+            (caller_of self.old.place) error (caller_of self.new.place)) }
     {
         let port = self.port.try_clone().ok_or(HandleError::Memory)?;
         let Place { key, tracker } = &mut self.place;
@@ -148,13 +147,13 @@ impl<T: Clone, P: HistoryPort<T, J>, J: Channel> TrackedReceiver<T, P, J> {
     ///
     /// - `TooMany`: the channel can't count one more inactive receiver.
     pub fn deactivate(self) -> Result<TrackedInactiveReceiver<T, P, J>, (Self, HandleError)>
-        ensures made { IfOk result (λ made. Follows T.is_clone J.opening
-            self.place.steps (Call.Deactivate self.place.key) (Reply.Deactivate (Ok tt))
-            made.known.steps) }
+        ensures made { IfOk result (λ made. MakesCall P.learns T.is_clone J.opening
+            (caller_of self.place) (Call.Deactivate self.place.key) (Reply.Deactivate (Ok tt))
+            made.known) }
         ensures refused { IfErr result (λ back. (back.0.place.key ≡ self.place.key)
-            × (back.0.place.next ≡ self.place.next) × Follows T.is_clone J.opening
-            self.place.steps (Call.Deactivate self.place.key) (Reply.Deactivate (Err back.1))
-            back.0.place.steps) }
+            × (back.0.place.next ≡ self.place.next) × MakesCall P.learns T.is_clone J.opening
+            (caller_of self.place) (Call.Deactivate self.place.key)
+            (Reply.Deactivate (Err back.1)) (caller_of back.0.place)) }
     {
         let TrackedReceiver {
             port,
@@ -177,8 +176,8 @@ impl<T: Clone, P: HistoryPort<T, J>, J: Channel> TrackedReceiver<T, P, J> {
     /// Closes the channel, and returns whether it was open: as `close` of any handle.
     pub fn close(&mut self) -> bool
         ensures same { StaysAt self.old.place self.new.place }
-        ensures follows { Follows T.is_clone J.opening self.old.place.steps Call.Close
-            (Reply.Close result) self.new.place.steps }
+        ensures made { MakesCall P.learns T.is_clone J.opening (caller_of self.old.place)
+            Call.Close (Reply.Close result) (caller_of self.new.place) }
         ensures closed { (end_of J.opening self.new.place.steps).control.closed ≡ true }
     {
         let Place { tracker, .. } = &mut self.place;
@@ -189,8 +188,9 @@ impl<T: Clone, P: HistoryPort<T, J>, J: Channel> TrackedReceiver<T, P, J> {
     /// them, or those since its place, whichever are fewer. It is a step.
     pub fn unread(&mut self) -> usize
         ensures same { StaysAt self.old.place self.new.place }
-        ensures unread { (len : ℕ) × Follows T.is_clone J.opening self.old.place.steps Call.Len
-            (Reply.Len len) self.new.place.steps × (result ≡ min len
+        ensures unread { (len : ℕ) × MakesCall P.learns T.is_clone J.opening
+            (caller_of self.old.place) Call.Len (Reply.Len len) (caller_of self.new.place)
+            × (result ≡ min len
             (end_number (end_of J.opening self.new.place.steps) - self.new.place.next)) }
     {
         let len = self.len();
@@ -201,8 +201,9 @@ impl<T: Clone, P: HistoryPort<T, J>, J: Channel> TrackedReceiver<T, P, J> {
     /// missed: those since its place, but for the ones that the channel keeps. It is a step.
     pub fn missed(&mut self) -> u64
         ensures same { StaysAt self.old.place self.new.place }
-        ensures missed { (len : ℕ) × Follows T.is_clone J.opening self.old.place.steps Call.Len
-            (Reply.Len len) self.new.place.steps × (result
+        ensures missed { (len : ℕ) × MakesCall P.learns T.is_clone J.opening
+            (caller_of self.old.place) Call.Len (Reply.Len len) (caller_of self.new.place)
+            × (result
             ≡ end_number (end_of J.opening self.new.place.steps) - self.new.place.next - len) }
     {
         let len = self.len();
@@ -212,8 +213,8 @@ impl<T: Clone, P: HistoryPort<T, J>, J: Channel> TrackedReceiver<T, P, J> {
     /// How many messages the channel keeps. It is a step.
     pub fn len(&mut self) -> usize
         ensures same { StaysAt self.old.place self.new.place }
-        ensures follows { Follows T.is_clone J.opening self.old.place.steps Call.Len
-            (Reply.Len result) self.new.place.steps }
+        ensures made { MakesCall P.learns T.is_clone J.opening (caller_of self.old.place)
+            Call.Len (Reply.Len result) (caller_of self.new.place) }
     {
         let Place { tracker, .. } = &mut self.place;
         self.port.ask(tracker, Count::Len)
@@ -247,9 +248,9 @@ impl<T: Clone, P: TimedHistoryPort<T, J>, J: Channel> TrackedReceiver<T, P, J> {
         ensures seen { IsPrefix self.old.place.steps self.new.place.steps }
         ensures takes { Takes T.is_clone J.opening self.old.place self.new.place
             (as_timed_try result) }
-        ensures follows { Follows T.is_clone J.opening self.old.place.steps
+        ensures made { MakesCall P.learns T.is_clone J.opening (caller_of self.old.place)
             (Call.TryRecv self.old.place.key) (Reply.TryRecv (as_timed_try result))
-            self.new.place.steps }
+            (caller_of self.new.place) }
     {
         let Place { key, tracker } = &mut self.place;
         self.port.receive_within(tracker, *key, limit)

@@ -4,9 +4,8 @@ ghost use Rattle.bcast_model.specs.Encodings.{in_lists};
 ghost use Rattle.bcast_model.specs.Words.{HasPositiveCapacity, end_number};
 ghost use Rattle.async_broadcast.specs.Ports.{moved_by};
 ghost use Rattle.async_broadcast.specs.Timed.{as_attempt};
-ghost use Rattle.bcast_history.specs.Follows.{Follows};
 ghost use Rattle.bcast_history.specs.History.{IsLawful, end_of};
-ghost use Rattle.bcast_history.specs.Makes.{MakesNone};
+ghost use Rattle.bcast_history.specs.Makes.{MakesCall, MakesNone};
 ghost use Rattle.bcast_history.specs.Reader.{StartsAtTheEnd};
 
 use crate::known::Known;
@@ -24,8 +23,9 @@ use std::time::Duration;
 /// Sends messages to all active receivers of a channel with a history, as `Sender` of
 /// `async_broadcast` does, and knows where they stand in it.
 ///
-/// Contracts name its `known.steps`, a beginning of the steps on the channel. Each call adds the
-/// steps that others made meanwhile, and last its own (`Follows`). The drop is a step, too.
+/// Contracts name its `known.steps`, a beginning of the steps on the channel. Each call is made once,
+/// and adds the steps that others made meanwhile, and last its own (`MakesCall`). The drop is a step,
+/// too.
 pub struct TrackedSender<T: Clone, P: HistoryPort<T, J>, J: Channel> {
     pub(crate) port: P,
     pub(crate) known: Known<T, J>,
@@ -76,8 +76,8 @@ impl<T: Clone, P: HistoryPort<T, J>, J: Channel> TrackedSender<T, P, J> {
     pub(crate) fn ask<C: AtOnce<T>>(&mut self, call: C) -> C::Answer
         requires capacity { HasPositiveCapacity (C.call call) }
         requires moves { moved_by (C.call call) ≡ None }
-        ensures { Follows T.is_clone J.opening self.old.known.steps (C.call call)
-            (C.reply call result) self.new.known.steps }
+        ensures { MakesCall P.learns T.is_clone J.opening self.old.known
+            (C.call call) (C.reply call result) self.new.known }
     {
         let Known { tracker } = &mut self.known;
         self.port.ask(tracker, call)
@@ -87,17 +87,17 @@ impl<T: Clone, P: HistoryPort<T, J>, J: Channel> TrackedSender<T, P, J> {
     /// as `Sender::try_broadcast`.
     #[inline(always)]
     pub fn try_broadcast(&mut self, msg: T) -> Result<Option<T>, TrySendError<T>>
-        ensures { Follows T.is_clone J.opening self.old.known.steps (Call.TryBroadcast msg)
-            (Reply.TryBroadcast result) self.new.known.steps }
+        ensures { MakesCall P.learns T.is_clone J.opening self.old.known
+            (Call.TryBroadcast msg) (Reply.TryBroadcast result) self.new.known }
     {
         self.ask(TryBroadcast(msg))
     }
 
     /// Sends a whole list of messages in one step, or none of them: as `Sender::try_broadcast_all`.
     pub fn try_broadcast_all(&mut self, msgs: Vec<T>) -> Result<(), TrySendError<Vec<T>>>
-        ensures { Follows T.is_clone J.opening self.old.known.steps
-            (Call.TryBroadcastAll msgs.items)
-            (Reply.TryBroadcastAll (in_lists result)) self.new.known.steps }
+        ensures { MakesCall P.learns T.is_clone J.opening self.old.known
+            (Call.TryBroadcastAll msgs.items) (Reply.TryBroadcastAll (in_lists result))
+            self.new.known }
     {
         in_vec(self.ask(TryBroadcastAll(Messages::new(msgs))))
     }
@@ -105,8 +105,8 @@ impl<T: Clone, P: HistoryPort<T, J>, J: Channel> TrackedSender<T, P, J> {
     /// Sends a message, and blocks the thread while the channel has no room for it: as
     /// `Sender::broadcast_blocking`. Each try is a step.
     pub fn broadcast_blocking(&mut self, msg: T) -> Result<Option<T>, SendError<T>>
-        ensures { Follows T.is_clone J.opening self.old.known.steps (Call.AttemptSend msg)
-            (Reply.AttemptSend (SendPoll.Ready result)) self.new.known.steps }
+        ensures { MakesCall P.learns T.is_clone J.opening self.old.known
+            (Call.AttemptSend msg) (Reply.AttemptSend (SendPoll.Ready result)) self.new.known }
     {
         let Known { tracker } = &mut self.known;
         self.port.send_waiting(tracker, msg)
@@ -114,8 +114,8 @@ impl<T: Clone, P: HistoryPort<T, J>, J: Channel> TrackedSender<T, P, J> {
 
     /// Closes the channel, and returns whether it was open: as `close` of any handle.
     pub fn close(&mut self) -> bool
-        ensures follows { Follows T.is_clone J.opening self.old.known.steps Call.Close
-            (Reply.Close result) self.new.known.steps }
+        ensures made { MakesCall P.learns T.is_clone J.opening self.old.known
+            Call.Close (Reply.Close result) self.new.known }
         ensures closed { (end_of J.opening self.new.known.steps).control.closed ≡ true }
     {
         self.ask(Close)
@@ -129,17 +129,14 @@ impl<T: Clone, P: HistoryPort<T, J>, J: Channel> TrackedSender<T, P, J> {
     /// - `TooMany`: the channel can't count one more.
     pub fn clone(&mut self) -> Result<Self, HandleError>
         ensures made { IfOk result (λ made. (made.known.steps ≡ self.new.known.steps)
-            × Follows T.is_clone J.opening self.old.known.steps Call.NewSender
-            (Reply.NewSender (Ok tt)) self.new.known.steps) }
-        ensures refused { IfErr result (λ error. MakesNone T.is_clone J.opening Call.NewSender
-            Reply.NewSender self.old.known.steps error self.new.known.steps) }
+            × MakesCall P.learns T.is_clone J.opening self.old.known
+            Call.NewSender (Reply.NewSender (Ok tt)) self.new.known) }
+        ensures refused { IfErr result (λ error. MakesNone P.learns T.is_clone J.opening
+            Call.NewSender Reply.NewSender self.old.known error self.new.known) }
     {
         let port = self.port.try_clone().ok_or(HandleError::Memory)?;
         self.ask(AddHandle::Sender)?;
-        Ok(TrackedSender {
-            port,
-            known: self.known.same(),
-        })
+        Ok(TrackedSender::from_parts(port, self.known.of_sender()))
     }
 
     /// Makes an active receiver, whose first message is the next one that is accepted: as
@@ -150,11 +147,11 @@ impl<T: Clone, P: HistoryPort<T, J>, J: Channel> TrackedSender<T, P, J> {
     /// - `Memory`: no memory for the handle.
     pub fn new_receiver(&mut self) -> Result<TrackedReceiver<T, P, J>, HandleError>
         ensures made { IfOk result (λ made. (made.place.steps ≡ self.new.known.steps)
-            × Follows T.is_clone J.opening self.old.known.steps Call.NewReceiver
-            (Reply.NewReceiver (Ok made.place.key)) self.new.known.steps) }
+            × MakesCall P.learns T.is_clone J.opening self.old.known
+            Call.NewReceiver (Reply.NewReceiver (Ok made.place.key)) self.new.known) }
         ensures starts { IfOk result (λ made. StartsAtTheEnd J.opening made.place) }
-        ensures refused { IfErr result (λ error. MakesNone T.is_clone J.opening Call.NewReceiver
-            Reply.NewReceiver self.old.known.steps error self.new.known.steps) }
+        ensures refused { IfErr result (λ error. MakesNone P.learns T.is_clone J.opening
+            Call.NewReceiver Reply.NewReceiver self.old.known error self.new.known) }
     {
         let port = self.port.try_clone().ok_or(HandleError::Memory)?;
         let Known { tracker } = &mut self.known;
@@ -171,8 +168,8 @@ impl<T: Clone, P: TimedHistoryPort<T, J>, J: Channel> TrackedSender<T, P, J> {
         msg: T,
         limit: Duration,
     ) -> Result<Option<T>, SendTimeoutError<T>>
-        ensures { Follows T.is_clone J.opening self.old.known.steps (Call.AttemptSend msg)
-            (Reply.AttemptSend (as_attempt result)) self.new.known.steps }
+        ensures { MakesCall P.learns T.is_clone J.opening self.old.known
+            (Call.AttemptSend msg) (Reply.AttemptSend (as_attempt result)) self.new.known }
     {
         let Known { tracker } = &mut self.known;
         self.port.send_within(tracker, msg, limit)

@@ -1,6 +1,6 @@
 //! The settings and counts of a channel with a history, through a sender.
 ghost use Rattle.std.specs.Prelude.{◌<◌};
-ghost use Rattle.bcast_history.specs.Follows.{Follows};
+ghost use Rattle.bcast_history.specs.Makes.{MakesCall};
 
 use crate::port::{History, HistoryPort};
 use crate::sender::TrackedSender;
@@ -13,8 +13,8 @@ use std::sync::Wait;
 impl<T: Clone, P: HistoryPort<T, J>, J: Channel> TrackedSender<T, P, J> {
     /// How many messages the channel keeps at most.
     pub fn capacity(&mut self) -> usize
-        ensures { Follows T.is_clone J.opening self.old.known.steps Call.Capacity
-            (Reply.Capacity result) self.new.known.steps }
+        ensures { MakesCall P.learns T.is_clone J.opening self.old.known
+            Call.Capacity (Reply.Capacity result) self.new.known }
     {
         self.ask(Count::Capacity)
     }
@@ -26,8 +26,8 @@ impl<T: Clone, P: HistoryPort<T, J>, J: Channel> TrackedSender<T, P, J> {
     /// - `AllocError`: no memory for a greater capacity than any before. Nothing changed.
     pub fn set_capacity(&mut self, new_cap: usize) -> Result<(), AllocError>
         requires { 0 < new_cap }
-        ensures { Follows T.is_clone J.opening self.old.known.steps (Call.SetCapacity new_cap)
-            (Reply.SetCapacity result) self.new.known.steps }
+        ensures { MakesCall P.learns T.is_clone J.opening self.old.known
+            (Call.SetCapacity new_cap) (Reply.SetCapacity result) self.new.known }
     {
         // A program that isn't proved stops here.
         prove!(new_cap > 0);
@@ -36,64 +36,64 @@ impl<T: Clone, P: HistoryPort<T, J>, J: Channel> TrackedSender<T, P, J> {
 
     /// Whether a full channel drops its oldest message to accept a new one.
     pub fn overflow(&mut self) -> bool
-        ensures { Follows T.is_clone J.opening self.old.known.steps Call.Overflow
-            (Reply.Overflow result) self.new.known.steps }
+        ensures { MakesCall P.learns T.is_clone J.opening self.old.known
+            Call.Overflow (Reply.Overflow result) self.new.known }
     {
         self.ask(Test::Overflow)
     }
 
     /// Sets whether a full channel drops its oldest message to accept a new one.
     pub fn set_overflow(&mut self, on: bool)
-        ensures { Follows T.is_clone J.opening self.old.known.steps (Call.SetOverflow on)
-            Reply.SetOverflow self.new.known.steps }
+        ensures { MakesCall P.learns T.is_clone J.opening self.old.known
+            (Call.SetOverflow on) Reply.SetOverflow self.new.known }
     {
         self.ask(Change::SetOverflow(on))
     }
 
     /// Whether sends wait for an active receiver, if there are only inactive ones.
     pub fn await_active(&mut self) -> bool
-        ensures { Follows T.is_clone J.opening self.old.known.steps Call.AwaitActive
-            (Reply.AwaitActive result) self.new.known.steps }
+        ensures { MakesCall P.learns T.is_clone J.opening self.old.known
+            Call.AwaitActive (Reply.AwaitActive result) self.new.known }
     {
         self.ask(Test::AwaitActive)
     }
 
     /// Sets whether sends wait for an active receiver, if there are only inactive ones.
     pub fn set_await_active(&mut self, on: bool)
-        ensures { Follows T.is_clone J.opening self.old.known.steps (Call.SetAwaitActive on)
-            Reply.SetAwaitActive self.new.known.steps }
+        ensures { MakesCall P.learns T.is_clone J.opening self.old.known
+            (Call.SetAwaitActive on) Reply.SetAwaitActive self.new.known }
     {
         self.ask(Change::SetAwaitActive(on))
     }
 
     /// How many messages the channel keeps.
     pub fn len(&mut self) -> usize
-        ensures { Follows T.is_clone J.opening self.old.known.steps Call.Len
-            (Reply.Len result) self.new.known.steps }
+        ensures { MakesCall P.learns T.is_clone J.opening self.old.known
+            Call.Len (Reply.Len result) self.new.known }
     {
         self.ask(Count::Len)
     }
 
     /// How many active receivers there are.
     pub fn receiver_count(&mut self) -> usize
-        ensures { Follows T.is_clone J.opening self.old.known.steps Call.ReceiverCount
-            (Reply.ReceiverCount result) self.new.known.steps }
+        ensures { MakesCall P.learns T.is_clone J.opening self.old.known
+            Call.ReceiverCount (Reply.ReceiverCount result) self.new.known }
     {
         self.ask(Count::ReceiverCount)
     }
 
     /// How many inactive receivers there are.
     pub fn inactive_receiver_count(&mut self) -> usize
-        ensures { Follows T.is_clone J.opening self.old.known.steps Call.InactiveReceiverCount
-            (Reply.InactiveReceiverCount result) self.new.known.steps }
+        ensures { MakesCall P.learns T.is_clone J.opening self.old.known
+            Call.InactiveReceiverCount (Reply.InactiveReceiverCount result) self.new.known }
     {
         self.ask(Count::InactiveReceiverCount)
     }
 
     /// How many senders there are.
     pub fn sender_count(&mut self) -> usize
-        ensures { Follows T.is_clone J.opening self.old.known.steps Call.SenderCount
-            (Reply.SenderCount result) self.new.known.steps }
+        ensures { MakesCall P.learns T.is_clone J.opening self.old.known
+            Call.SenderCount (Reply.SenderCount result) self.new.known }
     {
         self.ask(Count::SenderCount)
     }

@@ -2,7 +2,7 @@
 ghost use Rattle.std.specs.Prelude.{◌≡◌, None};
 ghost use Rattle.bcast_model.specs.Words.{end_number};
 ghost use Rattle.bcast_history.specs.History.{end_of};
-ghost use Rattle.bcast_history.specs.Tracker.{next_of};
+ghost use Rattle.bcast_history.specs.Tracker.{HasNewSender, next_of};
 
 use crate::cursor::Cursor;
 use crate::journal::{Named, Prefix};
@@ -67,8 +67,10 @@ impl<T, J: Channel> Caller for Tracker<T, J> {
 }
 
 impl<T, J: Channel> Tracker<T, J> {
-    /// Knows as much, and is of no receiver.
-    pub(crate) fn of_none(&self) -> Self
+    /// Who makes the calls of the sender that was added by the last step, or of the first one: it
+    /// knows as much, and is of no receiver. So only with a new sender comes another tracker.
+    pub(crate) fn of_sender(&self) -> Self
+        requires { HasNewSender self.now.steps }
         ensures { result ≡ record self.now { next = None } }
     {
         Tracker {

@@ -7,6 +7,7 @@ ghost use Rattle.futures.specs.Poll.{OnPending};
 ghost use Rattle.async_broadcast.specs.Ports.{as_try_recv};
 ghost use Rattle.async_broadcast.specs.Timed.{as_timed_try};
 ghost use Rattle.bcast_history.specs.Batch.{TakesInto, TakesMany};
+ghost use Rattle.bcast_history.specs.Makes.{MakesReceives};
 ghost use Rattle.bcast_history.specs.Reader.{as_found};
 
 use super::TrackedReceiver;
@@ -29,6 +30,7 @@ impl<T: Clone, P: HistoryPort<T, J>, J: Channel> TrackedReceiver<T, P, J> {
     ) -> Result<Result<usize, TryRecvError>, AllocError>
         ensures key { self.new.place.key ≡ self.old.place.key }
         ensures seen { IsPrefix self.old.place.steps self.new.place.steps }
+        ensures only { MakesReceives P.learns self.old.place self.new.place }
         ensures takes { TakesMany T.is_clone J.opening (λ tried. tried) limit self.old.place
             msgs.old.items result msgs.new.items self.new.place }
     {
@@ -48,6 +50,7 @@ impl<T: Clone, P: HistoryPort<T, J>, J: Channel> TrackedReceiver<T, P, J> {
     ) -> Result<Result<usize, RecvError>, AllocError>
         ensures key { self.new.place.key ≡ self.old.place.key }
         ensures seen { IsPrefix self.old.place.steps self.new.place.steps }
+        ensures only { MakesReceives P.learns self.old.place self.new.place }
         ensures takes { TakesMany T.is_clone J.opening as_try_recv limit self.old.place
             msgs.old.items result msgs.new.items self.new.place }
     {
@@ -67,6 +70,7 @@ impl<T: Clone, P: HistoryPort<T, J>, J: Channel> TrackedReceiver<T, P, J> {
     ) -> Result<Poll<Option<Result<usize, RecvError>>>, AllocError>
         ensures key { self.new.place.key ≡ self.old.place.key }
         ensures seen { IsPrefix self.old.place.steps self.new.place.steps }
+        ensures only { MakesReceives P.learns self.old.place self.new.place }
         ensures takes { TakesMany T.is_clone J.opening (λ tried. tried) limit self.old.place
             msgs.old.items (as_found result) msgs.new.items self.new.place }
         ensures registered { IfOk result (λ poll. OnPending poll (IsArmed cx.new)) }
@@ -95,6 +99,7 @@ impl<T: Clone, P: HistoryPort<T, J>, J: Channel> TrackedReceiver<T, P, J> {
     ) -> Result<Option<usize>, AllocError>
         ensures key { self.new.place.key ≡ self.old.place.key }
         ensures seen { IsPrefix self.old.place.steps self.new.place.steps }
+        ensures only { MakesReceives P.learns self.old.place self.new.place }
         ensures some { IfOk result (λ kept. IfSome kept (λ count. (count ≤ limit)
             × (0 < limit → 0 < count) × TakesInto T.is_clone J.opening self.old.place
             msgs.old.items count msgs.new.items self.new.place)) }
@@ -125,6 +130,7 @@ impl<T: Clone, P: TimedHistoryPort<T, J>, J: Channel> TrackedReceiver<T, P, J> {
     ) -> Result<Result<usize, RecvTimeoutError>, AllocError>
         ensures key { self.new.place.key ≡ self.old.place.key }
         ensures seen { IsPrefix self.old.place.steps self.new.place.steps }
+        ensures only { MakesReceives P.learns self.old.place self.new.place }
         ensures takes { TakesMany T.is_clone J.opening as_timed_try limit self.old.place
             msgs.old.items result msgs.new.items self.new.place }
     {

@@ -3,8 +3,8 @@ ghost use Rattle.std.specs.Prelude.{◌≡◌, ◌⊎◌, true, Ok, Err, IfOk, I
 ghost use mathlib.Core.List.{IsPrefix};
 ghost use Rattle.futures.specs.Task.{IsArmed, Keeps};
 ghost use Rattle.futures.specs.Poll.{OnPending};
-ghost use Rattle.bcast_history.specs.Follows.{Follows};
 ghost use Rattle.bcast_history.specs.History.{end_of};
+ghost use Rattle.bcast_history.specs.Makes.{MakesCall, MakesReceives, caller_of};
 ghost use Rattle.bcast_history.specs.Reader.{IsShared, Takes, TakesNext, as_found};
 
 use super::TrackedReceiver;
@@ -35,13 +35,15 @@ impl<T: Clone, P: HistoryPort<T, J>, J: Channel> TrackedReceiver<T, P, J> {
         ensures seen { IsPrefix self.old.place.steps self.new.place.steps }
         ensures takes { IfOk result (λ poll. Takes T.is_clone J.opening self.old.place
             self.new.place (as_found (Ok poll))) }
-        ensures follows { IfOk result (λ poll. Follows T.is_clone J.opening self.old.place.steps
-            (Call.PollRecv self.old.place.key) (Reply.PollRecv (Ok poll)) self.new.place.steps) }
+        ensures made { IfOk result (λ poll. MakesCall P.learns T.is_clone J.opening
+            (caller_of self.old.place) (Call.PollRecv self.old.place.key)
+            (Reply.PollRecv (Ok poll)) (caller_of self.new.place)) }
         ensures refused { IfErr result (λ error. ((self.new.place ≡ self.old.place)
             × (self.new.waker.is_refused ≡ true))
             ⊎ (Takes T.is_clone J.opening self.old.place self.new.place (as_found (Err error))
-            × Follows T.is_clone J.opening self.old.place.steps (Call.PollRecv self.old.place.key)
-            (Reply.PollRecv (Err error)) self.new.place.steps)) }
+            × MakesCall P.learns T.is_clone J.opening (caller_of self.old.place)
+            (Call.PollRecv self.old.place.key) (Reply.PollRecv (Err error))
+            (caller_of self.new.place))) }
         ensures registered { IfOk result (λ poll. OnPending poll (IsArmed cx.new)) }
         ensures kept { Keeps cx.old cx.new }
     {
@@ -68,6 +70,7 @@ impl<T: Clone, P: HistoryPort<T, J>, J: Channel> TrackedReceiver<T, P, J> {
     ) -> Result<Poll<Option<T>>, AllocError>
         ensures key { self.new.place.key ≡ self.old.place.key }
         ensures seen { IsPrefix self.old.place.steps self.new.place.steps }
+        ensures only { MakesReceives P.learns self.old.place self.new.place }
         ensures takes { TakesNext T.is_clone J.opening self.old.place self.new.place result }
         ensures refused { OnErr result ((self.new.waker.is_refused ≡ true)
             ⊎ IsShared (end_of J.opening self.new.place.steps) self.new.place.key

@@ -13,7 +13,7 @@ loop-msg-preserved g c =
     record {
       end = refl;
       sent = one_more c.args.first {after = c.broadcast_blocking.new.self.known.steps} c.sends_stand_last.ensures
-          (rw c.loop-msg.invariant.end at c.loop-msg.invariant.sent) c.broadcast_blocking.ensures accepted;
+          (rw c.loop-msg.invariant.end at c.loop-msg.invariant.sent) c.broadcast_blocking.ensures.follows accepted;
     }
 
 pub invariant_of-result : goal.invariant_of-result
@@ -23,7 +23,7 @@ invariant_of-result g c =
     let sent : HasAll c.args.first c.loop-msg.end (accepted_by o steps) = elim c.loop-msg-test.branch [
       | else-loop-msg-test w ↦ rw w.sender-is c.loop-msg.invariant.sent
       | then-loop-msg-test+then-is_err w ↦
-          rw w.sender-is (all_after c.args.first c.loop-msg.end w.broadcast_blocking.ensures c.loop-msg.invariant.sent)
+          rw w.sender-is (all_after c.args.first c.loop-msg.end w.broadcast_blocking.ensures.follows c.loop-msg.invariant.sent)
     ] in
     rw c.seen-seen.ensures
     (record { sent = sent; before = before_closing _ o c.args.first c.loop-msg.end steps c.invariant_holds.ensures.run sent })

@@ -1,8 +1,9 @@
 -- The receiver skips, and then it finds a message, or that it has read all.
-use Rattle.std.proofs.Common.{inl, inr, Some, None, Ok, Err, sym, ap, ◌∙◌, subst}
+use Rattle.std.proofs.Common.{inl, inr, Some, None, Ok, Err, refl, sym, ap, ◌∙◌, subst}
 use Rattle.futures.specs.declared.task.Poll.TheVariants as poll
 use Rattle.bcast_history.specs.History.{end_of}
 use Rattle.bcast_history.specs.Reader.{Reader, IsShared}
+use Rattle.bcast_history.proofs.Receiving.{receives_on, receives_one, receives_refused}
 use Rattle.bcast_history.proofs.Skipped.{on_err, skips, finds_next, errs_next}
 use Rattle.bcast_history.proofs.receiver.TrackedReceiver.poll_next.Goals as goal
 
@@ -16,6 +17,7 @@ loop-preserved g c =
       polled.key ∙ c.loop.invariant.2,
       skips _ _ _ _ _ c.loop.invariant.3 polled.seen _ _ (ap Ok found) polled.takes,
       λ fact held. polled.kept fact (c.loop.invariant.4 fact held),
+      receives_on g.P.Ask.learns _ _ _ c.loop.invariant.5 c.loop.invariant.2 (receives_one g.P.Ask.learns (inr refl) polled.made),
     )
 
 pub returns-in_err-next-clause-takes : goal.returns-in_err-next-clause-takes
@@ -55,3 +57,23 @@ returns-in-Closed-clause-takes g c =
     let polled = c.in_ok-next.ensures in
     finds_next g.T.Clone.is_clone _ _ c.loop.self.place c.poll_recv.new.self.place c.loop.invariant.3 polled.seen (Ok (poll.Ready None))
     (rw (c.in-Ready.is, c.in-Some-next.is, c.in-Err.is, c.in-Closed.is) at polled.takes)
+
+pub returns-in_err-next-clause-only : goal.returns-in_err-next-clause-only
+returns-in_err-next-clause-only g c =
+    receives_on g.P.Ask.learns _ _ _ c.loop.invariant.5 c.loop.invariant.2 (receives_refused g.P.Ask.learns c.in_err-next.ensures.refused)
+
+pub returns-in_default-clause-only : goal.returns-in_default-clause-only
+returns-in_default-clause-only g c =
+    receives_on g.P.Ask.learns _ _ _ c.loop.invariant.5 c.loop.invariant.2 (receives_one g.P.Ask.learns (inr refl) c.in_ok-next.ensures.made)
+
+pub returns-in_default-next-clause-only : goal.returns-in_default-next-clause-only
+returns-in_default-next-clause-only g c =
+    receives_on g.P.Ask.learns _ _ _ c.loop.invariant.5 c.loop.invariant.2 (receives_one g.P.Ask.learns (inr refl) c.in_ok-next.ensures.made)
+
+pub returns-in-Ok-clause-only : goal.returns-in-Ok-clause-only
+returns-in-Ok-clause-only g c =
+    receives_on g.P.Ask.learns _ _ _ c.loop.invariant.5 c.loop.invariant.2 (receives_one g.P.Ask.learns (inr refl) c.in_ok-next.ensures.made)
+
+pub returns-in-Closed-clause-only : goal.returns-in-Closed-clause-only
+returns-in-Closed-clause-only g c =
+    receives_on g.P.Ask.learns _ _ _ c.loop.invariant.5 c.loop.invariant.2 (receives_one g.P.Ask.learns (inr refl) c.in_ok-next.ensures.made)

@@ -1,6 +1,7 @@
--- What was skipped so far.
+-- What was skipped so far, by receives alone.
 use Rattle.std.proofs.Common.{◌≡◌}
 use Rattle.futures.specs.Task.{Keeps}
+use Rattle.bcast_history.specs.Makes.{MakesReceives}
 use Rattle.bcast_history.proofs.Skipped.{HasSkipped}
 use Rattle.bcast_history.proofs.receiver.TrackedReceiver.poll_next.Given as goal
 
@@ -9,3 +10,4 @@ invariant-loop g l =
     (goal.iterator-loop g).can_next l.iterator' × (goal.iterator-loop g).is_finite l.iterator'
     × (l.self.place.key ≡ l.fn.self.place.key)
     × HasSkipped g.J.Channel.opening l.fn.self.place l.self.place × Keeps l.fn.cx l.cx
+    × MakesReceives g.P.Ask.learns l.fn.self.place l.self.place

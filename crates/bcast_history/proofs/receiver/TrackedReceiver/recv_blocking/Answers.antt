@@ -1,6 +1,6 @@
 -- What was learned is what the receiver takes.
 use Rattle.bcast_model.specs.declared.run.Call.TheVariants as call
-use Rattle.bcast_history.proofs.Making.{follows}
+use Rattle.bcast_history.proofs.Making.{makes_on}
 use Rattle.bcast_history.proofs.Received.{tried}
 use Rattle.bcast_history.proofs.receiver.TrackedReceiver.recv_blocking.Goals as goal
 
@@ -16,6 +16,7 @@ pub returns-clause-takes : goal.returns-clause-takes
 returns-clause-takes g c =
     (tried _ c.key.view_is c.key.invariant.0 (g.met.P.HistoryPort.follows _ _ _ _ c.receive_waiting.ensures.learned)).takes
 
-pub returns-clause-follows : goal.returns-clause-follows
-returns-clause-follows g c =
-    follows c.key.view_is c.key.invariant.0 call.TryRecv (g.met.P.HistoryPort.follows _ _ _ _ c.receive_waiting.ensures.learned)
+pub returns-clause-made : goal.returns-clause-made
+returns-clause-made g c =
+    let received = tried _ c.key.view_is c.key.invariant.0 (g.met.P.HistoryPort.follows _ _ _ _ c.receive_waiting.ensures.learned) in
+    makes_on {after = c.receive_waiting.new.caller} c.key.view_is c.key.invariant.0 g.met.P.HistoryPort.follows call.TryRecv received.still.0 c.receive_waiting.ensures.learned

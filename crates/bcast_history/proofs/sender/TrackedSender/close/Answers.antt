@@ -3,4 +3,4 @@ use Rattle.bcast_history.proofs.Making.{closes}
 use Rattle.bcast_history.proofs.sender.TrackedSender.close.Goals as goal
 
 pub returns-clause-closed : goal.returns-clause-closed
-returns-clause-closed g c = closes c.ask.ensures
+returns-clause-closed g c = closes c.ask.ensures.follows

@@ -1,5 +1,5 @@
 -- The steps are a lawful run with one more, and who made it knows them all, and where it reads on.
-use Rattle.std.proofs.Common.{refl, ap, ◌∙◌}
+use Rattle.std.proofs.Common.{refl, ◌∙◌}
 use Rattle.bcast_history.specs.History.{end_of}
 use Rattle.bcast_history.proofs.Claimed.{claimed_there, stands}
 use Rattle.bcast_history.proofs.Keeping.{replays, replays_longer, lawful_longer, knows, cursors_kept, learned}
