@@ -12,12 +12,12 @@ pub(crate) struct Entry<T> {
 }
 
 impl<T> Entry<T> {
-    // A message that no reader reads next.
+    // A message that so many readers read next.
     #[inline(always)]
-    pub(crate) fn new(message: T) -> Entry<T>
-        ensures { result ≡ record { message = message; next = 0 } }
+    pub(crate) fn new(message: T, next: usize) -> Entry<T>
+        ensures { result ≡ record { message = message; next = next } }
     {
-        Entry { message, next: 0 }
+        Entry { message, next }
     }
 
     // Counts so many readers more and fewer, and returns how many read the message next then. This

@@ -159,9 +159,7 @@ impl<T, A: Allocator> Queue<T, A> {
         let number = self.front + self.ring.len() as u64;
         // The readers that have read all messages read this one next.
         let next = owing - self.total;
-        let mut entry = Entry::new(msg);
-        entry.change(next, 0, &mut Uncounted);
-        match self.ring.try_push_back(entry) {
+        match self.ring.try_push_back(Entry::new(msg, next)) {
             Ok(()) => {}
             Err(_) => unreachable!(),
         }
