@@ -102,6 +102,10 @@ impl<T: Clone, P: Port<T>, R: Wait, A: Allocator + Copy> Iterator for Iter<'_, T
             received => Some(received),
         }
     }
+
+    fn size_hint(&self) -> (usize, Option<usize>) {
+        (0, None)
+    }
 }
 
 /// What a receiver finds, for a loop that never waits for a message.
@@ -139,5 +143,9 @@ impl<T: Clone, P: Port<T>, A: Allocator + Copy> Iterator for TryIter<'_, T, P, A
             Ok(Err(TryRecvError::Empty | TryRecvError::Closed)) => None,
             Err(error) => Some(Err(error)),
         }
+    }
+
+    fn size_hint(&self) -> (usize, Option<usize>) {
+        (0, None)
     }
 }
