@@ -1,15 +1,18 @@
 -- Which calls a handle makes.
 use Rattle.std.specs.Prelude.{◌≡◌, ◌⊎◌, ℕ, List, [], ◌∷◌, Some, Result, Err}
 use Rattle.std.specs.List.{AllByRecursion}
+use Rattle.std.specs.declared.alloc.AllocError.{AllocError}
 use Rattle.bcast_model.specs.declared.error.HandleError.{HandleError}
 use Rattle.bcast_model.specs.declared.error.HandleError.TheVariants as handle
+use Rattle.bcast_model.specs.declared.error.TryRecvError.{TryRecvError}
 use Rattle.bcast_model.specs.declared.run.Call.{Call}
 use Rattle.bcast_model.specs.declared.run.Call.TheVariants as call
 use Rattle.bcast_model.specs.declared.run.Reply.{Reply}
+use Rattle.bcast_model.specs.declared.run.Reply.TheVariants as reply
 use Rattle.bcast_history.specs.declared.step.Opening.{Opening}
 use Rattle.bcast_history.specs.declared.step.Step.{Step}
 use Rattle.bcast_history.specs.Follows.{Follows}
-use Rattle.bcast_history.specs.Reader.{Reader}
+use Rattle.bcast_history.specs.Reader.{Reader, Takes}
 use Rattle.bcast_history.specs.Tracker.{Tracker}
 
 -- who makes a receiver's calls
@@ -36,6 +39,10 @@ module _ {T : Type 0} (learns : Tracker T → Call T → Reply T → Tracker T �
       (steps : List (Step T)) × AllByRecursion (IsReceive old.key) steps
       × MakesEach steps (caller_of old) (caller_of new)
 
+  -- the caller makes this call, and nobody makes calls for it any more
+  abbrev pub MakesLast : Tracker T → Call T → Reply T → Type 0
+  MakesLast known call reply = (after : Tracker T) × learns known call reply after
+
   module _ (is_clone : T → T → Type 0) (o : Opening) where
     -- the caller makes this call with this reply, once, and no other; and it is the last step that
     -- the caller knows then
@@ -43,6 +50,13 @@ module _ {T : Type 0} (learns : Tracker T → Call T → Reply T → Tracker T �
         : Type 0 where
       pub once : learns known call reply after
       pub follows : Follows is_clone o known.steps call reply after.steps
+
+    -- a receiver makes one `TryRecv`, and no other call, and takes what it finds
+    abbrev pub ReceivesOnce
+        : Reader T → Reader T → Result (Result T TryRecvError) AllocError → Type 0
+    ReceivesOnce old new found =
+        Takes is_clone o old new found
+        × MakesCall (caller_of old) (call.TryRecv old.key) (reply.TryRecv found) (caller_of new)
 
     -- there was no memory for the handle, and no call was made; or the channel refused, by this call
     abbrev pub MakesNone

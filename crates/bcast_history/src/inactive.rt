@@ -1,6 +1,6 @@
 //! Receivers that receive nothing, and keep the channel open.
 ghost use Rattle.std.specs.Prelude.{◌≡◌, Ok, Err, IfOk, IfErr};
-ghost use Rattle.bcast_history.specs.Makes.{MakesCall};
+ghost use Rattle.bcast_history.specs.Makes.{MakesCall, MakesLast};
 ghost use Rattle.bcast_history.specs.Reader.{StartsAtTheEnd};
 ghost use Rattle.bcast_history.specs.Tracker.{Tracker};
 
@@ -56,7 +56,9 @@ impl<T: Clone, P: HistoryPort<T, J>, J: Channel> TrackedInactiveReceiver<T, P, J
 }
 
 impl<T: Clone, P: HistoryPort<T, J>, J: Channel> Drop for TrackedInactiveReceiver<T, P, J> {
-    fn drop(self) {
+    fn drop(self)
+        ensures { MakesLast P.learns self.known Call.DropInactive Reply.DropInactive }
+    {
         let TrackedInactiveReceiver { port, known } = self;
         let Known { mut tracker } = known;
         port.ask(&mut tracker, Change::DropInactive);

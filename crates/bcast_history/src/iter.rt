@@ -52,22 +52,28 @@ impl<T: Clone, P: HistoryPort<T, J>, J: Channel, R: Wait> Iterator for TrackedIt
     type Item = Result<Result<T, RecvError>, AllocError>;
 
     ghost use mathlib.Core.List.{IsPrefix};
-    ghost use Rattle.bcast_history.specs.Reader.{Takes};
+    ghost use Rattle.bcast_history.specs.Makes.{ReceivesOnce};
 
     ghost next_gives = { λ old item new. IfSome item IsNoEnd
         × (new.receiver.now.place.key ≡ old.receiver.now.place.key)
         × IsPrefix old.receiver.now.place.steps new.receiver.now.place.steps
-        × Takes T.is_clone J.opening old.receiver.now.place new.receiver.now.place
-        (as_try_recv (as_received item)) };
+        × ReceivesOnce P.learns T.is_clone J.opening old.receiver.now.place
+        new.receiver.now.place (as_try_recv (as_received item)) };
 
     ghost remaining = { λ iter. at_most (forever_left iter.turns) };
 
     fn next(&mut self) -> Option<Result<Result<T, RecvError>, AllocError>> {
         self.turns.next();
         match self.receiver.recv_blocking() {
+            Ok(Ok(msg)) => Some(Ok(Ok(msg))),
+            Ok(Err(RecvError::Overflowed(n))) => Some(Ok(Err(RecvError::Overflowed(n)))),
             Ok(Err(RecvError::Closed)) => None,
-            received => Some(received),
+            Err(error) => Some(Err(error)),
         }
+    }
+
+    fn size_hint(&self) -> (usize, Option<usize>) {
+        (0, None)
     }
 }
 
@@ -84,15 +90,15 @@ impl<T: Clone, P: HistoryPort<T, J>, J: Channel> Iterator for TrackedTryIter<'_,
     type Item = Result<Result<T, RecvError>, AllocError>;
 
     ghost use mathlib.Core.List.{IsPrefix};
-    ghost use Rattle.bcast_history.specs.Reader.{Takes};
+    ghost use Rattle.bcast_history.specs.Makes.{ReceivesOnce};
 
     ghost next_gives = { λ old item new.
         (new.receiver.now.place.key ≡ old.receiver.now.place.key)
         × IsPrefix old.receiver.now.place.steps new.receiver.now.place.steps
         × (new.turns ≡ old.turns - 1)
-        × IfSome item (λ received. IsNoEnd received × Takes T.is_clone J.opening
-        old.receiver.now.place new.receiver.now.place (as_try_recv received))
-        × IfNone item (EndsLoop (Takes T.is_clone J.opening
+        × IfSome item (λ received. IsNoEnd received × ReceivesOnce P.learns T.is_clone
+        J.opening old.receiver.now.place new.receiver.now.place (as_try_recv received))
+        × IfNone item (EndsLoop (ReceivesOnce P.learns T.is_clone J.opening
         old.receiver.now.place new.receiver.now.place) old.turns)
         × (old.turns ≡ 0 → new.receiver.now.place ≡ old.receiver.now.place) };
 
@@ -106,5 +112,9 @@ impl<T: Clone, P: HistoryPort<T, J>, J: Channel> Iterator for TrackedTryIter<'_,
             Ok(Err(TryRecvError::Empty | TryRecvError::Closed)) => None,
             Err(error) => Some(Err(error)),
         }
+    }
+
+    fn size_hint(&self) -> (usize, Option<usize>) {
+        (0, None)
     }
 }

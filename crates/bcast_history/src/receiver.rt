@@ -5,7 +5,7 @@ ghost use Rattle.bcast_model.specs.Words.{cursor_of, end_number};
 ghost use Rattle.async_broadcast.specs.Ports.{as_try_recv};
 ghost use Rattle.async_broadcast.specs.Timed.{as_timed_try};
 ghost use Rattle.bcast_history.specs.History.{IsLawful, end_of};
-ghost use Rattle.bcast_history.specs.Makes.{MakesCall, MakesNone, caller_of};
+ghost use Rattle.bcast_history.specs.Makes.{MakesCall, MakesLast, MakesNone, caller_of};
 ghost use Rattle.bcast_history.specs.Reader.{StaysAt, Takes};
 
 use crate::inactive::TrackedInactiveReceiver;
@@ -258,7 +258,10 @@ impl<T: Clone, P: TimedHistoryPort<T, J>, J: Channel> TrackedReceiver<T, P, J> {
 }
 
 impl<T: Clone, P: HistoryPort<T, J>, J: Channel> Drop for TrackedReceiver<T, P, J> {
-    fn drop(self) {
+    fn drop(self)
+        ensures { MakesLast P.learns (caller_of self.place)
+            (Call.DropReceiver self.place.key) Reply.DropReceiver }
+    {
         let TrackedReceiver {
             port,
             place,

@@ -5,7 +5,7 @@ ghost use Rattle.bcast_model.specs.Words.{HasPositiveCapacity, end_number};
 ghost use Rattle.async_broadcast.specs.Ports.{moved_by};
 ghost use Rattle.async_broadcast.specs.Timed.{as_attempt};
 ghost use Rattle.bcast_history.specs.History.{IsLawful, end_of};
-ghost use Rattle.bcast_history.specs.Makes.{MakesCall, MakesNone};
+ghost use Rattle.bcast_history.specs.Makes.{MakesCall, MakesLast, MakesNone};
 ghost use Rattle.bcast_history.specs.Reader.{StartsAtTheEnd};
 
 use crate::known::Known;
@@ -177,7 +177,9 @@ impl<T: Clone, P: TimedHistoryPort<T, J>, J: Channel> TrackedSender<T, P, J> {
 }
 
 impl<T: Clone, P: HistoryPort<T, J>, J: Channel> Drop for TrackedSender<T, P, J> {
-    fn drop(self) {
+    fn drop(self)
+        ensures { MakesLast P.learns self.known Call.DropSender Reply.DropSender }
+    {
         let TrackedSender { port, known } = self;
         let Known { mut tracker } = known;
         port.ask(&mut tracker, Change::DropSender);
