@@ -39,7 +39,7 @@ module _ {T : Type 0} (learns : Tracker T → Call T → Reply T → Tracker T �
       (steps : List (Step T)) × AllByRecursion (IsReceive old.key) steps
       × MakesEach steps (caller_of old) (caller_of new)
 
-  -- the caller makes this call, and nobody makes calls for it any more
+  -- a handle's last call, by what it knew: what is known after it nobody is told
   abbrev pub MakesLast : Tracker T → Call T → Reply T → Type 0
   MakesLast known call reply = (after : Tracker T) × learns known call reply after
 
