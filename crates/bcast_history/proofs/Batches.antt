@@ -7,17 +7,17 @@ use Rattle.bcast_core.specs.Batch.{ReceivesEach, ReceivesInto}
 use Rattle.async_broadcast.proofs.Batches.{each_weaker}
 use Rattle.bcast_model.specs.declared.run.Call.{Call}
 use Rattle.bcast_model.specs.declared.run.Reply.{Reply}
-use Rattle.bcast_history.specs.Reader.{Reader, Takes}
+use Rattle.bcast_history.specs.Reader.{Takes}
 use Rattle.async_broadcast.specs.Batch.{PutsLast}
 use Rattle.std.specs.declared.alloc.AllocError.{AllocError}
 use Rattle.bcast_model.specs.declared.error.TryRecvError.{TryRecvError}
 use Rattle.bcast_history.specs.declared.step.Opening.{Opening}
 use Rattle.bcast_history.specs.declared.step.Step.{Step}
-use Rattle.bcast_history.specs.History.{end_of}
+use Rattle.bcast_history.specs.History.{IsLawful, end_of}
 use Rattle.bcast_history.specs.Batch.{AreDeliveries, TakesInto, TakesMany}
-use Rattle.bcast_history.specs.Tracker.{Tracker, Learns, number}
+use Rattle.bcast_history.specs.Tracker.{IsOf, IsReceiver, Tracker, Learns, number}
 use Rattle.bcast_history.proofs.Prefixes.{prefix_self, prefix_trans}
-use Rattle.bcast_history.proofs.Received.{IsPlace, reader, tried}
+use Rattle.bcast_history.proofs.Received.{IsPlace, tried}
 use Rattle.bcast_history.proofs.Sent.{messages_stay}
 
 some_and : {X : Type 0} (o : Option X) (P : X → Type 0) → IsSomeAnd o P → (x : X) × (o ≡ Some x) × P x
@@ -42,8 +42,8 @@ pub record Taken
 pub each_taken : {T : Type 0} (is_clone : T → T → Type 0) (o : Opening) (key : ℕ) (known after : Tracker T) (given : List T) → IsPlace is_clone o key known → ReceivesEach (Learns is_clone o) key known given after → Taken is_clone o key known given after
 each_taken is_clone o key known after [] its each = subst (Taken is_clone o key known []) (sym each) (record { still = its; seen = prefix_self known.steps; messages = tt; next = omega arith })
 each_taken is_clone o key known after (msg ∷ given) its each =
-    let one = tried is_clone {known = known} {after = each.0} refl its.0 each.1 in
-    let more = each_taken is_clone o key each.0 after given one.still each.2 in
+    let one = tried is_clone its.0 each.1 in
+    let more = each_taken is_clone o key each.0 after given (one.still, each.1.follows.lawful) each.2 in
     record {
       still = more.still;
       seen = prefix_trans known.steps each.0.steps after.steps one.seen more.seen;
@@ -53,24 +53,28 @@ each_taken is_clone o key known after (msg ∷ given) its each =
 
 -- a batch that was received through a port
 pub record Batched
-    {T : Type 0} (is_clone : T → T → Type 0) (o : Opening) (key : ℕ) (old : Reader T) (before : List T) (count : ℕ) (longer : List T) (after : Tracker T) : Type 0 where
-  pub still : IsPlace is_clone o key after
-  pub seen : IsPrefix old.steps after.steps
-  pub takes : TakesInto is_clone o old before count longer (reader key after)
+    {T : Type 0} (is_clone : T → T → Type 0) (o : Opening) (key : ℕ) (old : Tracker T) (before : List T) (count : ℕ) (longer : List T) (new : Tracker T) : Type 0 where
+  pub still : IsOf key new
+  pub lawful : IsLawful is_clone o new.steps
+  pub seen : IsPrefix old.steps new.steps
+  pub takes : TakesInto is_clone o old before count longer new
 
-pub batched : {T : Type 0} (is_clone : T → T → Type 0) {o : Opening} {key count : ℕ} {known after : Tracker T} {old : Reader T} {before longer : List T} {Gives : Tracker T → Call T → Reply T → Tracker T → Type 0}
-    → reader key known ≡ old → IsPlace is_clone o key known → ((k a : Tracker T) (c : Call T) (r : Reply T) → Gives k c r a → Learns is_clone o k c r a) → ReceivesInto Gives key known before count longer after
-    → Batched is_clone o key old before count longer after
-batched is_clone {o = o} {key = key} {count = count} {known = known} {after = after} {before = before} {longer = longer} {Gives = Gives} is_old its learns into =
-    let taken = each_taken is_clone o key known after into.given its (each_weaker Gives (Learns is_clone o) learns key known after into.given into.each) in
-    subst (λ (r : Reader _). Batched is_clone o key r before count longer after) is_old (record {
-      still = taken.still;
+pub batched : {T : Type 0} (is_clone : T → T → Type 0) {o : Opening} {key count : ℕ} {known old after : Tracker T} {before longer : List T} {Gives : Tracker T → Call T → Reply T → Tracker T → Type 0}
+    → known ≡ old → key ≡ known.key → IsReceiver known → IsLawful is_clone o known.steps → ((k a : Tracker T) (c : Call T) (r : Reply T) → Gives k c r a → Learns is_clone o k c r a)
+    → ReceivesInto Gives key known before count longer after → Batched is_clone o key old before count longer after
+batched {T} is_clone {o = o} {key = key} {known = known} {old = old} {after = after} {Gives = Gives} is at reads lawful learns into =
+    let its : IsPlace is_clone o key old = subst (IsPlace is_clone o key) is ((sym at, reads), lawful) in
+    let each = subst (λ k. ReceivesEach (Learns is_clone o) key k into.given after) is (each_weaker Gives (Learns is_clone o) learns key known after into.given into.each) in
+    let taken = each_taken is_clone o key old after into.given its each in
+    record {
+      still = taken.still.0;
+      lawful = taken.still.1;
       seen = taken.seen;
-      takes = record { given = into.given; counted = into.counted; put = into.put; messages = taken.messages; next = taken.next ∙ ap (λ n. number known.next + n) into.counted };
-    })
+      takes = record { given = into.given; counted = into.counted; put = into.put; messages = taken.messages; next = taken.next ∙ ap (λ n. number old.next + n) into.counted };
+    }
 
 -- or one receive that may wait: its message is put last into the list
-pub takes_last : {T E : Type 0} (is_clone : T → T → Type 0) (o : Opening) (as_tried : Result (Result T E) AllocError → Result (Result T TryRecvError) AllocError) {limit : ℕ} {old mid : Reader T} (new : Reader T) {before between : List T} (after : List T)
+pub takes_last : {T E : Type 0} (is_clone : T → T → Type 0) (o : Opening) (as_tried : Result (Result T E) AllocError → Result (Result T TryRecvError) AllocError) {limit : ℕ} {old mid : Tracker T} (new : Tracker T) {before between : List T} (after : List T)
     (spelt : (msg : T) → as_tried (Ok (Ok msg)) ≡ Ok (Ok msg)) (found : Result (Result T E) AllocError) (result : Result (Result ℕ E) AllocError) → (0 < limit) × (mid ≡ old) × (between ≡ before)
     → Takes is_clone o mid new (as_tried found) → PutsLast found between result after → TakesMany is_clone o as_tried limit old before result after new
 takes_last is_clone o as_tried {limit = limit} {old = old} new {before = before} after spelt (Ok (Ok msg)) result (some, same, items) takes puts =

@@ -20,7 +20,8 @@ use Rattle.bcast_laws.proofs.Sends.{messages_added, nothing_added}
 use Rattle.bcast_history.specs.declared.step.Opening.{Opening}
 use Rattle.bcast_history.specs.declared.step.Step.{Step}
 use Rattle.bcast_history.specs.History.{IsHistory, calls_of, replies_of, start_of, end_of, accepted_by}
-use Rattle.bcast_history.specs.Reader.{Reader, Takes, TakesNext}
+use Rattle.bcast_history.specs.Reader.{Takes, TakesNext}
+use Rattle.bcast_history.specs.Tracker.{Tracker, number}
 use Rattle.bcast_history.specs.Closed.{HasReadAll, ClosedIsLast, EndIsLast}
 use Rattle.bcast_history.proofs.Logged.{first_kept}
 
@@ -68,8 +69,8 @@ module _ {T : Type 0} (is_clone : T → T → Type 0) where
       (closed_steps (start_of o) closed rest (subst (λ steps. IsHistory is_clone o steps) (sym whole) run) is)).1
 
   -- all of it was read, and so it stays
-  still_all : (o : Opening) (old : Reader T) (later : List (Step T)) → HasReadAll o old → IsPrefix old.steps later → IsHistory is_clone o later
-      → IsClosed (end_of o later).control × (end_number (end_of o later) ≤ old.next)
+  still_all : (o : Opening) (old : Tracker T) (later : List (Step T)) → HasReadAll o old → IsPrefix old.steps later → IsHistory is_clone o later
+      → IsClosed (end_of o later).control × (end_number (end_of o later) ≤ number old.next)
   still_all o old later read (rest, whole) run =
       let same : IsSame (end_of o old.steps) (end_of o later) = subst (λ steps. IsSame (end_of o old.steps) (end_of o steps)) whole
       (closed_steps (start_of o) old.steps rest (subst (λ steps. IsHistory is_clone o steps) (sym whole) run) read.closed) in
@@ -98,7 +99,7 @@ module _ {T : Type 0} (is_clone : T → T → Type 0) where
     stays = stays;
   }
     where
-      stays : (o : Opening) (old new : Reader T) (found : Result (Result T TryRecvError) AllocError)
+      stays : (o : Opening) (old new : Tracker T) (found : Result (Result T TryRecvError) AllocError)
           → HasReadAll o old → IsPrefix old.steps new.steps → IsHistory is_clone o new.steps
           → Takes is_clone o old new found → HasReadAll o new × (found ≡ Ok (Err unread.Closed))
       stays o old new (Err error) read begins run (same, shared) =
@@ -111,7 +112,7 @@ module _ {T : Type 0} (is_clone : T → T → Type 0) where
           let end = (still_all o old new.steps read begins run).1 in absurd (omega (arith, some, on, most, end))
       stays o old new (Ok (Ok msg)) read begins run takes =
           let end = (still_all o old new.steps read begins run).1 in
-          absurd (none_after (end_of o new.steps) old.next msg (omega (arith, end)) takes.0)
+          absurd (none_after (end_of o new.steps) (number old.next) msg (omega (arith, end)) takes.0)
 
   pub end_is_last : EndIsLast is_clone
   end_is_last = record {
@@ -119,7 +120,7 @@ module _ {T : Type 0} (is_clone : T → T → Type 0) where
     stays = stays;
   }
     where
-      stays : (o : Opening) (old new : Reader T) (found : Result (Poll (Option T)) AllocError)
+      stays : (o : Opening) (old new : Tracker T) (found : Result (Poll (Option T)) AllocError)
           → HasReadAll o old → IsPrefix old.steps new.steps → IsHistory is_clone o new.steps → TakesNext is_clone o old new found
           → HasReadAll o new × ((found ≡ Ok (poll.Ready None)) ⊎ (error : AllocError) × (found ≡ Err error))
       stays o old new (Err error) read begins run takes =

@@ -70,7 +70,7 @@ module _ {T : Type 0} (is_clone : T → T → Type 0) (o : Opening) (key : ℕ) 
       } in
       let first : Learns is_clone o known (call.TryRecv key) (reply.TryRecv (Ok (Ok msg))) between =
       learned {known = known} {after = between} refl refl refl begins replays each.1.legal longer there refl refl in
-      let still = (tried is_clone {known = known} {after = between} refl its first).still.0 in
+      let still = (tried is_clone its first).still in
       let stands = next_settles (end_of o between.steps).control known.key known.next in
       let last_is = same ∙ sym (behind steps (received key msg) (map (received key) (second ∷ given))) in
       let c = (end_of o last.steps).control in

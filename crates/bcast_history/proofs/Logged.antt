@@ -13,7 +13,8 @@ use Rattle.bcast_history.proofs.Prefixes.{prefix_shorter, prefix_whole}
 use Rattle.bcast_history.specs.Laws.{MessagesStay}
 use Rattle.bcast_history.specs.Log.{AreFrom, IsLog, IsWholeLog, LogsAreAccepted}
 use Rattle.bcast_history.specs.Batch.{AreDeliveries, TakesInto}
-use Rattle.bcast_history.specs.Reader.{Reader, Takes}
+use Rattle.bcast_history.specs.Reader.{Takes}
+use Rattle.bcast_history.specs.Tracker.{Tracker, number}
 use Rattle.bcast_history.proofs.Sent.{messages_stay, accepted_grows}
 
 module _ {T : Type 0} where
@@ -38,7 +39,7 @@ module _ {T : Type 0} where
   stay h later start [] keeps all = tt
   stay h later start (msg ∷ log) keeps (here, rest) = (keeps start msg here, stay h later (start + 1) log keeps rest)
 
-  pub longer : {o : Opening} {start count : ℕ} {log more : List T} {old new : Reader T} → MessagesStay T → IsLog o start log old
+  pub longer : {o : Opening} {start count : ℕ} {log more : List T} {old new : Tracker T} → MessagesStay T → IsLog o start log old
       → IsPrefix old.steps new.steps → TakesInto (λ x y. y ≡ x) o old log count more new → IsLog o start more new
   longer {o = o} {start = start} {log = log} {more = more} {old = old} {new = new} law so_far begins takes =
       let h = end_of o new.steps in
@@ -50,7 +51,7 @@ module _ {T : Type 0} where
         next = omega (arith, so_far.next, takes.next, takes.counted, size);
       }
 
-  pub whole : {o : Opening} {start : ℕ} {log : List T} {old new : Reader T} → MessagesStay T → IsLog o start log old
+  pub whole : {o : Opening} {start : ℕ} {log : List T} {old new : Tracker T} → MessagesStay T → IsLog o start log old
       → IsPrefix old.steps new.steps → Takes (λ x y. y ≡ x) o old new (Ok (Err unread.Closed)) → IsWholeLog o start log new
   whole {o = o} {start = start} {log = log} {old = old} {new = new} law so_far begins (same, all, closed) =
       record {

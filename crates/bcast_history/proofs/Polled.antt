@@ -17,7 +17,8 @@ use Rattle.bcast_model.specs.Words.{receive, receive_poll, try_recv_reply}
 use Rattle.bcast_laws.proofs.Sends.{nothing_added}
 use Rattle.bcast_history.specs.declared.step.Opening.{Opening}
 use Rattle.bcast_history.specs.Batch.{TakesMany}
-use Rattle.bcast_history.specs.Reader.{Reader, Finds, Takes, as_found}
+use Rattle.bcast_history.specs.Reader.{Finds, Takes, as_found}
+use Rattle.bcast_history.specs.Tracker.{Tracker}
 use Rattle.bcast_history.proofs.Found.{finds}
 use Rattle.bcast_history.proofs.Polls.{Polled, polled_in, found_back, no_floor, same_cursors, same_closed}
 
@@ -84,7 +85,7 @@ module _ {T : Type 0} (is_clone : T → T → Type 0) where
       )
 
 -- a poll that gave no message, for a batch
-pub polls_last : {T : Type 0} (is_clone : T → T → Type 0) (o : Opening) {limit : ℕ} {old mid : Reader T} (new : Reader T) {before between : List T} (error : RecvError)
+pub polls_last : {T : Type 0} (is_clone : T → T → Type 0) (o : Opening) {limit : ℕ} {old mid : Tracker T} (new : Tracker T) {before between : List T} (error : RecvError)
     → (0 < limit) × (mid ≡ old) × (between ≡ before) → Takes is_clone o mid new (as_found (Ok (poll.Ready (Some (Err error)))))
     → TakesMany is_clone o (λ tried. tried) limit old before (as_found (Ok (poll.Ready (Some (Err error))))) between new
 polls_last is_clone o new (unreceived.Overflowed n) (some, same, items) takes = (items, subst (λ r. Takes is_clone o r new (Ok (Err (unread.Overflowed n)))) same takes)

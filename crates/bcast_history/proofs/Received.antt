@@ -12,18 +12,14 @@ use Rattle.bcast_model.specs.Words.{History, next, cursor_of}
 use Rattle.bcast_history.specs.declared.step.Opening.{Opening}
 use Rattle.bcast_history.specs.History.{IsLawful, end_of}
 use Rattle.bcast_history.specs.Makes.{MakesCall}
-use Rattle.bcast_history.specs.Reader.{Reader, Finds, Takes, as_found}
-use Rattle.bcast_history.specs.Tracker.{Tracker, IsOf, Learns, next_of, number}
+use Rattle.bcast_history.specs.Reader.{Finds, StaysAt, Takes, as_found}
+use Rattle.bcast_history.specs.Tracker.{Tracker, IsOf, IsReceiver, Learns, next_of, number}
 use Rattle.bcast_history.proofs.Found.{finds}
 use Rattle.bcast_history.proofs.Polls.{Polled}
 use Rattle.bcast_history.proofs.Polled.{polled_finds}
 use Rattle.bcast_history.proofs.Prefixes.{prefix_trans}
 
 module _ {T : Type 0} where
-  -- a receiver that makes calls by this tracker
-  abbrev pub reader : ℕ → Tracker T → Reader T
-  reader key t = record { key = key; next = number t.next; steps = t.steps }
-
   -- there it read on before a call
   pub read_there : {is_clone : T → T → Type 0} {o : Opening} {key : ℕ} {known after : Tracker T} {c : Call T} {r : Reply T}
       → IsOf key known → (learned : Learns is_clone o known c r after)
@@ -41,9 +37,8 @@ module _ {T : Type 0} where
       learned.next ∙ ap (next_of c known.key) its.1 ∙ ap (cursor_of c) its.0
       ∙ ap (λ (h : History T). cursor_of h.control key) learned.follows.end ∙ at
 
-  -- so the tracker is still of the receiver
-  pub is_of : {key now : ℕ} (known after : Tracker T) → IsOf key known → after.key ≡ known.key → after.next ≡ Some now → IsOf key after
-  is_of known after its same at = (same ∙ its.0, at ∙ ap (λ n. Some (number n)) (sym at))
+  pub reads_there : {now : ℕ} (t : Tracker T) → t.next ≡ Some now → IsReceiver t
+  reads_there t at = at ∙ ap (λ n. Some (number n)) (sym at)
 
   pub seen : {is_clone : T → T → Type 0} {o : Opening} {known after : Tracker T} {c : Call T} {r : Reply T}
       → Learns is_clone o known c r after → IsPrefix known.steps after.steps
@@ -54,79 +49,70 @@ module _ {T : Type 0} where
 abbrev pub IsPlace : {T : Type 0} → (T → T → Type 0) → Opening → ℕ → Tracker T → Type 0
 IsPlace is_clone o key t = IsOf key t × IsLawful is_clone o t.steps
 
--- a poll that found something, or that there is nothing yet
-pub ok_made : {T : Type 0} {learns : Tracker T → Call T → Reply T → Tracker T → Type 0} {is_clone : T → T → Type 0} {o : Opening} {known after : Tracker T} {c : Call T} (p : Polled T)
-    → MakesCall learns is_clone o known c (reply.PollRecv p) after
-    → IfOk p (λ poll. MakesCall learns is_clone o known c (reply.PollRecv (Ok poll)) after)
-ok_made (Ok poll) made = made
-ok_made (Err error) made = tt
-
 -- a receive that was made
 pub record Received
-    {T : Type 0} (is_clone : T → T → Type 0) (o : Opening) (key : ℕ) (old : Reader T) (after : Tracker T)
+    {T : Type 0} (is_clone : T → T → Type 0) (o : Opening) (key : ℕ) (known after : Tracker T)
     (found : Result (Result T TryRecvError) AllocError) : Type 0 where
-  pub still : IsPlace is_clone o key after
-  pub seen : IsPrefix old.steps after.steps
-  pub takes : Takes is_clone o old (reader key after) found
+  pub still : IsOf key after
+  pub seen : IsPrefix known.steps after.steps
+  pub takes : Takes is_clone o known after found
 
 -- a call that leaves the receiver where it is
-pub record Stays
-    {T : Type 0} (is_clone : T → T → Type 0) (o : Opening) (key : ℕ) (old : Reader T) (after : Tracker T) : Type 0 where
-  pub still : IsPlace is_clone o key after
-  pub same : (key ≡ old.key) × (number after.next ≡ old.next)
+pub record Stays {T : Type 0} (known after : Tracker T) : Type 0 where
+  pub still : IsReceiver after
+  pub same : StaysAt known after
 
 module _
-    {T : Type 0} (is_clone : T → T → Type 0) {o : Opening} {key : ℕ} {known after : Tracker T} {old : Reader T}
-    (is_old : reader key known ≡ old) (its : IsOf key known) where
+    {T : Type 0} (is_clone : T → T → Type 0) {o : Opening} {key : ℕ} {known after : Tracker T}
+    (its : IsOf key known) where
   received : {c : Call T} {r : Reply T} (found : Result (Result T TryRecvError) AllocError) (learned : Learns is_clone o known c r after)
       → (now : ℕ) × (cursor_of (next (end_of o learned.follows.before) c r).control key ≡ Some now)
       × Finds is_clone (next (end_of o learned.follows.before) c r) key (number known.next) now found
-      → Received is_clone o key old after found
+      → Received is_clone o key known after found
   received found learned (now, at, finds_so) =
       let on = reads_on its learned at in record {
-        still = (is_of known after its learned.key on, learned.follows.lawful);
-        seen = subst (λ (old : Reader T). IsPrefix old.steps after.steps) is_old (seen learned);
-        takes = subst (λ (old : Reader T). Takes is_clone o old (reader key after) found) is_old
+        still = (learned.key ∙ its.0, reads_there after on);
+        seen = seen learned;
+        takes = subst (λ key. Finds is_clone (end_of o after.steps) key (number known.next) (number after.next) found) (sym its.0)
             (subst (λ now. Finds is_clone (end_of o after.steps) key (number known.next) now found) (sym (ap number on))
             (subst (λ h. Finds is_clone h key (number known.next) now found) (sym learned.follows.end) finds_so));
       }
 
   pub tried : {r : Result (Result T TryRecvError) AllocError} → Learns is_clone o known (call.TryRecv key) (reply.TryRecv r) after
-      → Received is_clone o key old after r
+      → Received is_clone o key known after r
   tried {r = r} learned =
       let f = learned.follows in
       received r learned (finds is_clone (end_of o f.before) key (number known.next) f.valid (read_there its learned) r f.legal)
 
   pub polled : {p : Polled T} → Learns is_clone o known (call.PollRecv key) (reply.PollRecv p) after
-      → Received is_clone o key old after (as_found p)
+      → Received is_clone o key known after (as_found p)
   polled {p = p} learned =
       let f = learned.follows in
       received (as_found p) learned (polled_finds is_clone (end_of o f.before) key (number known.next) p f.valid (read_there its learned) f.legal)
 
-  -- a poll that was made
-  pub ok_part : (p : Polled T) → Received is_clone o key old after (as_found p)
-      → IfOk p (λ poll. Takes is_clone o old (reader key after) (as_found (Ok poll)))
-  ok_part (Ok poll) got = got.takes
-  ok_part (Err error) got = tt
+  pub stays : {c : Call T} {r : Reply T} (learned : Learns is_clone o known c r after)
+      → cursor_of (next (end_of o learned.follows.before) c r).control key ≡ Some (number known.next) → Stays known after
+  stays learned at =
+      let on = reads_on its learned at in
+      record { still = reads_there after on; same = (learned.key, on ∙ sym its.1) }
 
-  pub err_part : (X : Type 0) {learns : Tracker T → Call T → Reply T → Tracker T → Type 0} {from to : Tracker T} {c : Call T} (p : Polled T)
-      → Received is_clone o key old after (as_found p) → MakesCall learns is_clone o from c (reply.PollRecv p) to
-      → IfErr p (λ error. X ⊎ (Takes is_clone o old (reader key after) (as_found (Err error))
-      × MakesCall learns is_clone o from c (reply.PollRecv (Err error)) to))
+-- a poll that was made: it found something, or that there is nothing yet; or it was out of memory
+pub ok_part : {T : Type 0} {is_clone : T → T → Type 0} {o : Opening} {key : ℕ} {known after : Tracker T} (p : Polled T) → Received is_clone o key known after (as_found p)
+    → IfOk p (λ poll. Takes is_clone o known after (as_found (Ok poll)))
+ok_part (Ok poll) got = got.takes
+ok_part (Err error) got = tt
+
+module _
+    {T : Type 0} {learns : Tracker T → Call T → Reply T → Tracker T → Type 0} {is_clone : T → T → Type 0} {o : Opening}
+    {known after : Tracker T} {c : Call T} where
+  pub ok_made : (p : Polled T) → MakesCall learns is_clone o known c (reply.PollRecv p) after
+      → IfOk p (λ poll. MakesCall learns is_clone o known c (reply.PollRecv (Ok poll)) after)
+  ok_made (Ok poll) made = made
+  ok_made (Err error) made = tt
+
+  pub err_part : {key : ℕ} (X : Type 0) (p : Polled T) → Received is_clone o key known after (as_found p)
+      → MakesCall learns is_clone o known c (reply.PollRecv p) after
+      → IfErr p (λ error. X ⊎ (Takes is_clone o known after (as_found (Err error))
+      × MakesCall learns is_clone o known c (reply.PollRecv (Err error)) after))
   err_part X (Ok poll) got made = tt
   err_part X (Err error) got made = inr (got.takes, made)
-
-  pub stays : {c : Call T} {r : Reply T} (learned : Learns is_clone o known c r after)
-      → cursor_of (next (end_of o learned.follows.before) c r).control key ≡ Some (number known.next) → Stays is_clone o key old after
-  stays learned at =
-      let on = reads_on its learned at in record {
-        still = (is_of known after its learned.key on, learned.follows.lawful);
-        same = (ap (λ (old : Reader T). old.key) is_old, ap number on ∙ ap (λ (old : Reader T). old.next) is_old);
-      }
-
--- a poll that was made or wasn't leaves the tracker the receiver's
-pub poll_still : {T C : Type 0} (is_clone : T → T → Type 0) (o : Opening) {key : ℕ} (known after : Tracker T) (X : C → Type 0) (p : Result (Polled T) C)
-    → IsPlace is_clone o key known → IfOk p (λ answer. Learns is_clone o known (call.PollRecv key) (reply.PollRecv answer) after)
-    → IfErr p (λ back. X back × (after ≡ known)) → IsPlace is_clone o key after
-poll_still is_clone o known after X (Ok answer) its learned back = (polled is_clone {known = known} refl its.0 learned).still
-poll_still is_clone o known after X (Err call) its learned back = subst (IsPlace is_clone o _) (sym back.1) its

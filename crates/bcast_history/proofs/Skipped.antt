@@ -14,7 +14,8 @@ use Rattle.bcast_history.specs.declared.step.Opening.{Opening}
 use Rattle.bcast_history.specs.declared.step.Step.{Step}
 use Rattle.bcast_history.specs.History.{calls_of, replies_of, start_of, end_of}
 use Rattle.bcast_history.proofs.Prefixes.{prefix_trans}
-use Rattle.bcast_history.specs.Reader.{Reader, Skips, Takes, TakesNext, as_found}
+use Rattle.bcast_history.specs.Reader.{Skips, Takes, TakesNext, as_found}
+use Rattle.bcast_history.specs.Tracker.{Tracker, number}
 use Rattle.bcast_history.proofs.Polls.{Polled}
 
 pub on_err : {X E P : Type 0} (p : Result X E) → P → OnErr p P
@@ -34,37 +35,37 @@ module _ {T : Type 0} where
       subst (λ steps. (end_of o known).floor ≤ (end_of o steps).floor) begins.1 (rises (start_of o) known begins.0)
 
   -- it knows more, and has skipped
-  pub record HasSkipped (o : Opening) (old now : Reader T) : Type 0 where
+  pub record HasSkipped (o : Opening) (old now : Tracker T) : Type 0 where
     pub steps : IsPrefix old.steps now.steps
-    pub skips : Skips (end_of o now.steps) old.next now.next
+    pub skips : Skips (end_of o now.steps) (number old.next) (number now.next)
 
-module _ {T : Type 0} (is_clone : T → T → Type 0) (o : Opening) (old mid new : Reader T) (skipped : HasSkipped o old mid) (longer : IsPrefix mid.steps new.steps) where
+module _ {T : Type 0} (is_clone : T → T → Type 0) (o : Opening) (old mid new : Tracker T) (skipped : HasSkipped o old mid) (longer : IsPrefix mid.steps new.steps) where
   -- it skips more
-  skips_on : (to : ℕ) → Skips (end_of o new.steps) mid.next to → Skips (end_of o new.steps) old.next to
+  skips_on : (to : ℕ) → Skips (end_of o new.steps) (number mid.next) to → Skips (end_of o new.steps) (number old.next) to
   skips_on to more =
       let behind = skipped.skips.0 in
       let on = more.0 in
       let rise = floor_rises o mid.steps new.steps longer in (
         omega (arith, behind, on),
-        λ number from below. elim (cases_lt number mid.next) [
-          | inl before ↦ (let gone = skipped.skips.1 number from before in omega (arith, gone, rise))
-          | inr past ↦ more.1 number past below
+        λ n from below. elim (cases_lt n (number mid.next)) [
+          | inl before ↦ (let gone = skipped.skips.1 n from before in omega (arith, gone, rise))
+          | inr past ↦ more.1 n past below
         ],
       )
 
   -- it stays where it is
-  stays : (to : ℕ) → to ≡ mid.next → Skips (end_of o new.steps) old.next to
-  stays to same = skips_on to (omega (arith, same), λ number from below. absurd (omega (arith, same, from, below)))
+  stays : (to : ℕ) → to ≡ number mid.next → Skips (end_of o new.steps) (number old.next) to
+  stays to same = skips_on to (omega (arith, same), λ n from below. absurd (omega (arith, same, from, below)))
 
   pub skips : (n : ℕ) (p : Polled T) → p ≡ Ok (poll.Ready (Some (Err (unreceived.Overflowed n))))
       → Takes is_clone o mid new (as_found p) → HasSkipped o old new
   skips n p is takes =
       let missed : Takes is_clone o mid new (Ok (Err (unread.Overflowed n))) = subst (λ p. Takes is_clone o mid new (as_found p)) is takes in
-      record { steps = prefix_trans old.steps mid.steps new.steps skipped.steps longer; skips = skips_on new.next missed.2 }
+      record { steps = prefix_trans old.steps mid.steps new.steps skipped.steps longer; skips = skips_on (number new.next) missed.2 }
 
-  pub errs_next : (p : Result (Poll (Option T)) AllocError) → IsErr p → new.next ≡ mid.next → TakesNext is_clone o old new p
+  pub errs_next : (p : Result (Poll (Option T)) AllocError) → IsErr p → number new.next ≡ number mid.next → TakesNext is_clone o old new p
   errs_next (Ok found) is same = absurd (cc is)
-  errs_next (Err error) is same = stays new.next same
+  errs_next (Err error) is same = stays (number new.next) same
 
   -- what it finds then
   abbrev pub as_tried : Result (Poll (Option T)) AllocError → Result (Result T TryRecvError) AllocError
@@ -74,7 +75,7 @@ module _ {T : Type 0} (is_clone : T → T → Type 0) (o : Opening) (old mid new
   as_tried (Err error) = Err error
 
   pub finds_next : (p : Result (Poll (Option T)) AllocError) → Takes is_clone o mid new (as_tried p) → TakesNext is_clone o old new p
-  finds_next (Ok (poll.Ready (Some msg))) (is, on) = (mid.next, stays mid.next refl, is, on)
-  finds_next (Ok (poll.Ready None)) (same, all, is) = (stays new.next same, same ∙ all, is)
-  finds_next (Ok poll.Pending) (same, all, is) = (stays new.next same, same ∙ all, is)
-  finds_next (Err error) takes = stays new.next takes.0
+  finds_next (Ok (poll.Ready (Some msg))) (is, on) = (number mid.next, stays (number mid.next) refl, is, on)
+  finds_next (Ok (poll.Ready None)) (same, all, is) = (stays (number new.next) same, same ∙ all, is)
+  finds_next (Ok poll.Pending) (same, all, is) = (stays (number new.next) same, same ∙ all, is)
+  finds_next (Err error) takes = stays (number new.next) takes.0

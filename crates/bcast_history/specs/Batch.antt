@@ -8,7 +8,8 @@ use Rattle.bcast_model.specs.Words.{History, IsDelivery}
 use Rattle.bcast_history.specs.declared.step.Opening.{Opening}
 use Rattle.bcast_history.specs.declared.step.Step.{Step}
 use Rattle.bcast_history.specs.History.{end_of}
-use Rattle.bcast_history.specs.Reader.{Reader, Takes}
+use Rattle.bcast_history.specs.Reader.{Takes}
+use Rattle.bcast_history.specs.Tracker.{Tracker, number}
 
 -- a receive by the receiver `key` that gave this message
 abbrev pub received : {T : Type 0} → ℕ → T → Step T
@@ -24,13 +25,13 @@ module _ {T : Type 0} (is_clone : T → T → Type 0) where
   -- a receiver takes so many messages, which are put last into a list: those from where it read on,
   -- and it reads on behind them
   pub record TakesInto
-      (o : Opening) (old : Reader T) (before : List T) (count : ℕ) (after : List T)
-      (new : Reader T) : Type 0 where
+      (o : Opening) (old : Tracker T) (before : List T) (count : ℕ) (after : List T)
+      (new : Tracker T) : Type 0 where
     pub given : List T
     pub counted : length given ≡ count
     pub put : after ≡ before ++ given
-    pub messages : AreDeliveries (end_of o new.steps) old.next given
-    pub next : new.next ≡ old.next + count
+    pub messages : AreDeliveries (end_of o new.steps) (number old.next) given
+    pub next : number new.next ≡ number old.next + count
 
   module _
       {E : Type 0} (o : Opening)
@@ -40,7 +41,7 @@ module _ {T : Type 0} (is_clone : T → T → Type 0) where
     -- `try_recv` found that gave none; or memory was refused, and nothing is read, or one `try_recv`
     -- found that. `as_tried`: a result of a single receive of that form, as `try_recv` returns it
     abbrev pub TakesMany
-        : Reader T → List T → Result (Result ℕ E) AllocError → List T → Reader T → Type 0
+        : Tracker T → List T → Result (Result ℕ E) AllocError → List T → Tracker T → Type 0
     TakesMany old before (Ok (Ok count)) after new =
         (count ≤ limit) × (0 < limit → 0 < count) × TakesInto o old before count after new
     TakesMany old before (Ok (Err error)) after new =

@@ -5,7 +5,7 @@ use Rattle.bcast_model.specs.Words.{History, numbered, end_number}
 use Rattle.bcast_history.specs.declared.step.Opening.{Opening}
 use Rattle.bcast_history.specs.declared.step.Step.{Step}
 use Rattle.bcast_history.specs.History.{end_of, accepted_by}
-use Rattle.bcast_history.specs.Reader.{Reader}
+use Rattle.bcast_history.specs.Tracker.{Tracker, number}
 
 module _ {T : Type 0} where
   -- these are accepted messages, one after the other, from the number `start` on
@@ -14,14 +14,14 @@ module _ {T : Type 0} where
   AreFrom h start (msg ∷ log) = (numbered h start ≡ Some msg) × AreFrom h (start + 1) log
 
 -- what a receiver was given that started at `start` and has read so far
-pub record IsLog {T : Type 0} (o : Opening) (start : ℕ) (log : List T) (reader : Reader T)
+pub record IsLog {T : Type 0} (o : Opening) (start : ℕ) (log : List T) (reader : Tracker T)
     : Type 0 where
   pub messages : AreFrom (end_of o reader.steps) start log
-  pub next : reader.next ≡ start + length log
+  pub next : number reader.next ≡ start + length log
 
 -- what a receiver was given that started at `start`, till it found the channel closed: nothing is
 -- left out
-pub record IsWholeLog {T : Type 0} (o : Opening) (start : ℕ) (log : List T) (reader : Reader T)
+pub record IsWholeLog {T : Type 0} (o : Opening) (start : ℕ) (log : List T) (reader : Tracker T)
     : Type 0 where
   pub messages : AreFrom (end_of o reader.steps) start log
   pub whole : start + length log ≡ end_number (end_of o reader.steps)

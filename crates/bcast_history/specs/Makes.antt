@@ -1,5 +1,5 @@
 -- Which calls a handle makes.
-use Rattle.std.specs.Prelude.{◌≡◌, ◌⊎◌, ℕ, List, [], ◌∷◌, Some, Result, Err}
+use Rattle.std.specs.Prelude.{◌≡◌, ◌⊎◌, ℕ, List, [], ◌∷◌, Result, Err}
 use Rattle.std.specs.List.{AllByRecursion}
 use Rattle.std.specs.declared.alloc.AllocError.{AllocError}
 use Rattle.bcast_model.specs.declared.error.HandleError.{HandleError}
@@ -12,12 +12,8 @@ use Rattle.bcast_model.specs.declared.run.Reply.TheVariants as reply
 use Rattle.bcast_history.specs.declared.step.Opening.{Opening}
 use Rattle.bcast_history.specs.declared.step.Step.{Step}
 use Rattle.bcast_history.specs.Follows.{Follows}
-use Rattle.bcast_history.specs.Reader.{Reader, Takes}
+use Rattle.bcast_history.specs.Reader.{Takes}
 use Rattle.bcast_history.specs.Tracker.{Tracker}
-
--- who makes a receiver's calls
-abbrev pub caller_of : {T : Type 0} → Reader T → Tracker T
-caller_of r = record { steps = r.steps; key = r.key; next = Some r.next }
 
 -- a receive of one message by this receiver
 abbrev pub IsReceive : {T : Type 0} → ℕ → Step T → Type 0
@@ -34,10 +30,10 @@ module _ {T : Type 0} (learns : Tracker T → Call T → Reply T → Tracker T �
       × MakesEach steps between after
 
   -- a receiver makes receives, one after the other, and no other call
-  abbrev pub MakesReceives : Reader T → Reader T → Type 0
+  abbrev pub MakesReceives : Tracker T → Tracker T → Type 0
   MakesReceives old new =
       (steps : List (Step T)) × AllByRecursion (IsReceive old.key) steps
-      × MakesEach steps (caller_of old) (caller_of new)
+      × MakesEach steps old new
 
   -- a handle's last call, by what it knew: what is known after it nobody is told
   abbrev pub MakesLast : Tracker T → Call T → Reply T → Type 0
@@ -53,10 +49,10 @@ module _ {T : Type 0} (learns : Tracker T → Call T → Reply T → Tracker T �
 
     -- a receiver makes one `TryRecv`, and no other call, and takes what it finds
     abbrev pub ReceivesOnce
-        : Reader T → Reader T → Result (Result T TryRecvError) AllocError → Type 0
+        : Tracker T → Tracker T → Result (Result T TryRecvError) AllocError → Type 0
     ReceivesOnce old new found =
         Takes is_clone o old new found
-        × MakesCall (caller_of old) (call.TryRecv old.key) (reply.TryRecv found) (caller_of new)
+        × MakesCall old (call.TryRecv old.key) (reply.TryRecv found) new
 
     -- there was no memory for the handle, and no call was made; or the channel refused, by this call
     abbrev pub MakesNone

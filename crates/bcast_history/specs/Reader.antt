@@ -1,5 +1,5 @@
 -- What a receiver is given, one message after the other.
-use Rattle.std.specs.Prelude.{◌≡◌, ℕ, ◌+◌, ◌<◌, ◌≤◌, true, false, List, Option, Some, None, Result, Ok, Err}
+use Rattle.std.specs.Prelude.{◌≡◌, ℕ, ◌+◌, ◌<◌, ◌≤◌, true, false, Option, Some, None, Result, Ok, Err}
 use Rattle.futures.specs.declared.task.Poll.{Poll}
 use Rattle.futures.specs.declared.task.Poll.TheVariants as poll
 use Rattle.std.specs.declared.alloc.AllocError.{AllocError}
@@ -9,23 +9,20 @@ use Rattle.bcast_model.specs.declared.error.TryRecvError.{TryRecvError}
 use Rattle.bcast_model.specs.declared.error.TryRecvError.TheVariants as unread
 use Rattle.bcast_model.specs.Words.{History, cursor_of, IsDelivery, end_number}
 use Rattle.bcast_history.specs.declared.step.Opening.{Opening}
-use Rattle.bcast_history.specs.declared.step.Step.{Step}
 use Rattle.bcast_history.specs.History.{end_of}
-
--- a receiver: its key, the number of the message that it reads next, and what it has seen of the
--- channel
-pub record Reader (T : Type 0) : Type 0 where
-  pub key : ℕ
-  pub next : ℕ
-  pub steps : List (Step T)
+use Rattle.bcast_history.specs.Tracker.{Tracker, number}
 
 module _ {T : Type 0} where
-  -- it reads next the next message that is accepted
-  abbrev pub StartsAtTheEnd : Opening → Reader T → Type 0
-  StartsAtTheEnd o r = r.next ≡ end_number (end_of o r.steps)
+  -- a receiver reads next the first message of the channel
+  abbrev pub StartsAtTheFirst : Opening → Tracker T → Type 0
+  StartsAtTheFirst o t = t.next ≡ Some o.first_number
+
+  -- a receiver reads next the next message that is accepted
+  abbrev pub StartsAtTheEnd : Opening → Tracker T → Type 0
+  StartsAtTheEnd o t = t.next ≡ Some (end_number (end_of o t.steps))
 
   -- a receiver makes a call that leaves it where it reads
-  abbrev pub StaysAt : Reader T → Reader T → Type 0
+  abbrev pub StaysAt : Tracker T → Tracker T → Type 0
   StaysAt old new = (new.key ≡ old.key) × (new.next ≡ old.next)
 
   -- a receiver skips messages, from one number up to another: each of them is gone
@@ -69,8 +66,9 @@ module _ {T : Type 0} (is_clone : T → T → Type 0) where
 
   -- `Finds`, for a receiver before the receive and after it
   abbrev pub Takes
-      : Opening → Reader T → Reader T → Result (Result T TryRecvError) AllocError → Type 0
-  Takes o old new found = Finds (end_of o new.steps) old.key old.next new.next found
+      : Opening → Tracker T → Tracker T → Result (Result T TryRecvError) AllocError → Type 0
+  Takes o old new found =
+      Finds (end_of o new.steps) old.key (number old.next) (number new.next) found
 
   -- what a receiver finds that isn't told what it missed, and skips it: a message is the accepted
   -- one of its number, or a clone, and the one behind it is next; else it has read all, or memory
@@ -87,5 +85,6 @@ module _ {T : Type 0} (is_clone : T → T → Type 0) where
 
   -- `FindsNext`, for a receiver before the poll and after it
   abbrev pub TakesNext
-      : Opening → Reader T → Reader T → Result (Poll (Option T)) AllocError → Type 0
-  TakesNext o old new found = FindsNext (end_of o new.steps) old.next new.next found
+      : Opening → Tracker T → Tracker T → Result (Poll (Option T)) AllocError → Type 0
+  TakesNext o old new found =
+      FindsNext (end_of o new.steps) (number old.next) (number new.next) found

@@ -35,9 +35,13 @@ abbrev pub number : Option ℕ → ℕ
 number next = option_map_or (λ n. n) next 0
 
 module _ {T : Type 0} where
-  -- the receiver of this key makes the calls, and knows where it reads on
+  -- a receiver makes the calls, and knows where it reads on
+  abbrev pub IsReceiver : Tracker T → Type 0
+  IsReceiver t = t.next ≡ Some (number t.next)
+
+  -- the receiver of this key does
   abbrev pub IsOf : ℕ → Tracker T → Type 0
-  IsOf key t = (t.key ≡ key) × (t.next ≡ Some (number t.next))
+  IsOf key t = (t.key ≡ key) × IsReceiver t
 
   -- who makes the calls of a receiver that was added under this key: it knows as much as who added it
   pub record Begins (o : Opening) (new : ℕ) (maker made : Tracker T) : Type 0 where

@@ -59,6 +59,14 @@ impl Cursor {
         }
     }
 
+    /// The receiver's key, if there is one.
+    #[inline(always)]
+    pub(crate) fn key(&self) -> usize
+        ensures { result ≡ self.now.key }
+    {
+        self.key
+    }
+
     /// The number of the message that the receiver reads next. `None`: there is no receiver.
     #[inline(always)]
     pub(crate) fn next(&self) -> Option<u64>

@@ -5,9 +5,9 @@ ghost use Rattle.std.specs.Sync.Forever.{forever_left};
 ghost use Rattle.async_broadcast.specs.Ports.{as_try_recv};
 ghost use Rattle.async_broadcast.specs.Timed.{as_received, IsNoEnd, EndsLoop};
 
+use crate::caller::Channel;
 use crate::port::HistoryPort;
 use crate::receiver::TrackedReceiver;
-use crate::tracker::Channel;
 use async_broadcast::{RecvError, TryRecvError};
 use std::alloc::AllocError;
 use std::sync::{Forever, Wait};
@@ -55,10 +55,10 @@ impl<T: Clone, P: HistoryPort<T, J>, J: Channel, R: Wait> Iterator for TrackedIt
     ghost use Rattle.bcast_history.specs.Makes.{ReceivesOnce};
 
     ghost next_gives = { λ old item new. IfSome item IsNoEnd
-        × (new.receiver.now.place.key ≡ old.receiver.now.place.key)
-        × IsPrefix old.receiver.now.place.steps new.receiver.now.place.steps
-        × ReceivesOnce P.learns T.is_clone J.opening old.receiver.now.place
-        new.receiver.now.place (as_try_recv (as_received item)) };
+        × (new.receiver.now.tracker.key ≡ old.receiver.now.tracker.key)
+        × IsPrefix old.receiver.now.tracker.steps new.receiver.now.tracker.steps
+        × ReceivesOnce P.learns T.is_clone J.opening old.receiver.now.tracker
+        new.receiver.now.tracker (as_try_recv (as_received item)) };
 
     ghost remaining = { λ iter. at_most (forever_left iter.turns) };
 
@@ -93,14 +93,14 @@ impl<T: Clone, P: HistoryPort<T, J>, J: Channel> Iterator for TrackedTryIter<'_,
     ghost use Rattle.bcast_history.specs.Makes.{ReceivesOnce};
 
     ghost next_gives = { λ old item new.
-        (new.receiver.now.place.key ≡ old.receiver.now.place.key)
-        × IsPrefix old.receiver.now.place.steps new.receiver.now.place.steps
+        (new.receiver.now.tracker.key ≡ old.receiver.now.tracker.key)
+        × IsPrefix old.receiver.now.tracker.steps new.receiver.now.tracker.steps
         × (new.turns ≡ old.turns - 1)
         × IfSome item (λ received. IsNoEnd received × ReceivesOnce P.learns T.is_clone
-        J.opening old.receiver.now.place new.receiver.now.place (as_try_recv received))
+        J.opening old.receiver.now.tracker new.receiver.now.tracker (as_try_recv received))
         × IfNone item (EndsLoop (ReceivesOnce P.learns T.is_clone J.opening
-        old.receiver.now.place new.receiver.now.place) old.turns)
-        × (old.turns ≡ 0 → new.receiver.now.place ≡ old.receiver.now.place) };
+        old.receiver.now.tracker new.receiver.now.tracker) old.turns)
+        × (old.turns ≡ 0 → new.receiver.now.tracker ≡ old.receiver.now.tracker) };
 
     ghost remaining = { λ iter. at_most iter.turns };
 

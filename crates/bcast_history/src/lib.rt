@@ -30,14 +30,13 @@
 //! ```
 #![tactic(auto)]
 
+mod caller;
 mod cursor;
 mod inactive;
 mod iter;
 mod journal;
-mod known;
 mod laws;
 mod opened;
-mod place;
 mod port;
 mod receiver;
 mod rule;
@@ -47,20 +46,19 @@ mod step;
 mod steps;
 mod tracker;
 
+pub use caller::{Channel, Seen, TrackedCaller};
 pub use cursor::Cursor;
 pub use inactive::TrackedInactiveReceiver;
 pub use iter::{TrackedIter, TrackedTryIter};
 pub use journal::{Journal, Named, Notes, Prefix, Whole, Writer};
-pub use known::Known;
 pub use laws::{
     closed_is_last, end_is_last, logs_are_accepted, messages_stay, receivers_read_on,
     sends_stand_last,
 };
 pub use opened::{FirstHandles, Opened, broadcast};
-pub use place::Place;
 pub use port::{History, HistoryPort, TimedHistoryPort};
 pub use receiver::TrackedReceiver;
 pub use sender::TrackedSender;
 pub use step::{Opening, Step};
 pub use steps::StepJournal;
-pub use tracker::{Channel, Seen, Tracker};
+pub use tracker::{ReceiverTracker, Tracker};

@@ -1,16 +1,15 @@
 //! A channel that was made, before it has a name, and its first handles.
-ghost use Rattle.std.specs.Prelude.{◌≡◌, ◌<◌, [], IfOk};
+ghost use Rattle.std.specs.Prelude.{◌≡◌, ◌<◌, [], Some, IfOk};
 
+use crate::caller::{Channel, TrackedCaller};
 use crate::cursor::Cursor;
 use crate::journal::Journal;
-use crate::known::Known;
-use crate::place::Place;
 use crate::port::History;
 use crate::receiver::TrackedReceiver;
 use crate::sender::TrackedSender;
 use crate::step::{Opening, Step};
 use crate::steps::StepJournal;
-use crate::tracker::{Channel, Tracker};
+use crate::tracker::Tracker;
 use async_broadcast::{Lock, PortFor, Wake};
 use bcast_core::Inner;
 use claims::Registry;
@@ -89,11 +88,11 @@ pub fn broadcast<T: Clone, R: Wait + Clone, J: Channel, A: Allocator + Copy>(
 ) -> Result<FirstHandles<T, History<T, R, J, A>, J>, AllocError>
     requires { (opened.book ≡ J.book) × (opened.opening ≡ J.opening)
         × (opened.registry ≡ J.registry) }
-    ensures sender { IfOk result (λ made. made.0.known.steps ≡ []) }
-    ensures receiver { IfOk result (λ made. made.1.place ≡ record {
-      key = J.opening.first_key;
-      next = J.opening.first_number;
+    ensures sender { IfOk result (λ made. made.0.tracker.steps ≡ []) }
+    ensures receiver { IfOk result (λ made. made.1.tracker ≡ record {
       steps = [];
+      key = J.opening.first_key;
+      next = Some J.opening.first_number;
     }) }
 {
     let Opened {
@@ -102,20 +101,19 @@ pub fn broadcast<T: Clone, R: Wait + Clone, J: Channel, A: Allocator + Copy>(
         journal,
         mut registry,
     } = opened;
-    let key = opening.first_key;
-    let cursor = Cursor::new(&mut registry, key, opening.first_number);
+    let cursor = Cursor::new(&mut registry, opening.first_key, opening.first_number);
     let steps = StepJournal::new(journal, registry);
-    let tracker = Tracker {
+    let caller = TrackedCaller {
         seen: steps.seen(),
         end: opening.first_number,
         cursor,
     };
-    let known = Known::new(tracker.of_sender());
-    let place = Place::new(key, tracker);
+    let receives = Tracker::new(caller);
+    let tracker = receives.of_sender();
     let port = Lock::with_journal(rt, alloc, inner, steps)?;
     let other = port.try_clone().ok_or(AllocError)?;
     Ok((
-        TrackedSender { port, known },
-        TrackedReceiver::from_parts(other, place),
+        TrackedSender { port, tracker },
+        TrackedReceiver::new(other, receives),
     ))
 }

@@ -3,8 +3,8 @@ ghost use Rattle.std.specs.Prelude.{Ok, Err, IfOk, IfErr};
 ghost use Rattle.bcast_core.specs.Calls.{receiver_call, receiver_reply};
 ghost use Rattle.bcast_history.specs.Tracker.{Begins};
 
+use crate::caller::{Channel, TrackedCaller};
 use crate::steps::StepJournal;
-use crate::tracker::{Channel, Tracker};
 use async_broadcast::{CallJournal, Lock, PortFor, TimedPortFor};
 use bcast_core::{AddReceiver, HandleError};
 use std::alloc::{Allocator, Global};
@@ -12,23 +12,23 @@ use std::sync::Wait;
 
 /// A port to the channel that `J` names, for its handles. Functions over tracked handles are written
 /// over it: `P: HistoryPort<u64, J>`. `History` is one.
-pub trait HistoryPort<T: Clone, J: Channel>: PortFor<T, Tracker<T, J>> {
+pub trait HistoryPort<T: Clone, J: Channel>: PortFor<T, TrackedCaller<T, J>> {
     ghost use Rattle.bcast_model.specs.declared.run.Call.{Call};
     ghost use Rattle.bcast_model.specs.declared.run.Reply.{Reply};
     ghost use Rattle.bcast_history.specs.Tracker.{Tracker, Learns};
 
     /// Adds a receiver by this call, with its errors. Returns the receiver's key, and who makes its
-    /// calls, which knows as much as `known` then.
+    /// calls, which knows as much as `caller` then.
     fn add_receiver(
         &self,
-        known: &mut Tracker<T, J>,
+        caller: &mut TrackedCaller<T, J>,
         call: AddReceiver,
-    ) -> Result<(usize, Tracker<T, J>), HandleError>
-        ensures learned { IfOk result (λ made. Self.learns known.old
-            (receiver_call call) (receiver_reply call (Ok made.0)) known.new) }
-        ensures begins { IfOk result (λ made. Begins J.opening made.0 known.new made.1) }
-        ensures refused { IfErr result (λ error. Self.learns known.old
-            (receiver_call call) (receiver_reply call (Err error)) known.new) };
+    ) -> Result<(usize, TrackedCaller<T, J>), HandleError>
+        ensures learned { IfOk result (λ made. Self.learns caller.old
+            (receiver_call call) (receiver_reply call (Ok made.0)) caller.new) }
+        ensures begins { IfOk result (λ made. Begins J.opening made.0 caller.new made.1) }
+        ensures refused { IfErr result (λ error. Self.learns caller.old
+            (receiver_call call) (receiver_reply call (Err error)) caller.new) };
 
     // A call adds itself, and those before it, to what its caller knows.
     ghost follows: { (known after : Tracker T) (call : Call T) (reply : Reply T)
@@ -38,18 +38,19 @@ pub trait HistoryPort<T: Clone, J: Channel>: PortFor<T, Tracker<T, J>> {
 
 /// Such a port that can also wait with a limit of time.
 pub trait TimedHistoryPort<T: Clone, J: Channel>: HistoryPort<T, J>
-    + TimedPortFor<T, Tracker<T, J>> {}
+    + TimedPortFor<T, TrackedCaller<T, J>> {}
 
-impl<T: Clone, J: Channel, P: HistoryPort<T, J> + TimedPortFor<T, Tracker<T, J>>> TimedHistoryPort<
-    T,
-    J,
-> for P {}
+impl<
+    T: Clone,
+    J: Channel,
+    P: HistoryPort<T, J> + TimedPortFor<T, TrackedCaller<T, J>>,
+> TimedHistoryPort<T, J> for P {}
 
 /// The journal of a lock whose port is such a port. `StepJournal` is one.
 ///
 /// It is a trait of its own, and not `StepJournal` alone, since the checker can't yet give `u64` to
 /// an impl of `HistoryPort` that names `StepJournal<T, J>`.
-pub trait TracksCalls<T: Clone, J: Channel>: CallJournal<T, Caller = Tracker<T, J>> {
+pub trait TracksCalls<T: Clone, J: Channel>: CallJournal<T, Caller = TrackedCaller<T, J>> {
     ghost use Rattle.std.specs.Prelude.{ℕ};
     ghost use Rattle.bcast_model.specs.declared.run.Call.{Call};
     ghost use Rattle.bcast_model.specs.declared.run.Reply.{Reply};
@@ -81,9 +82,9 @@ impl<T: Clone, R: Wait + Clone, J: Channel, A: Allocator + Copy, K: TracksCalls<
 
     fn add_receiver(
         &self,
-        known: &mut Tracker<T, J>,
+        caller: &mut TrackedCaller<T, J>,
         call: AddReceiver,
-    ) -> Result<(usize, Tracker<T, J>), HandleError> {
-        Lock::add_receiver(self, known, call)
+    ) -> Result<(usize, TrackedCaller<T, J>), HandleError> {
+        Lock::add_receiver(self, caller, call)
     }
 }

@@ -5,14 +5,14 @@ ghost use Rattle.bcast_model.specs.Words.{cursor_of, end_number};
 ghost use Rattle.async_broadcast.specs.Ports.{as_try_recv};
 ghost use Rattle.async_broadcast.specs.Timed.{as_timed_try};
 ghost use Rattle.bcast_history.specs.History.{IsLawful, end_of};
-ghost use Rattle.bcast_history.specs.Makes.{MakesCall, MakesLast, MakesNone, caller_of};
-ghost use Rattle.bcast_history.specs.Reader.{StaysAt, Takes};
+ghost use Rattle.bcast_history.specs.Makes.{MakesCall, MakesLast, MakesNone, ReceivesOnce};
+ghost use Rattle.bcast_history.specs.Reader.{StaysAt};
+ghost use Rattle.bcast_history.specs.Tracker.{IsReceiver, number};
 
+use crate::caller::{Channel, Seen};
 use crate::inactive::TrackedInactiveReceiver;
-use crate::known::Known;
-use crate::place::Place;
 use crate::port::{HistoryPort, TimedHistoryPort};
-use crate::tracker::{Channel, Seen};
+use crate::tracker::{ReceiverTracker, Tracker};
 use async_broadcast::{RecvTimeoutError, TaskWaker};
 use bcast_core::{
     AddHandle, AddReceiver, Call, Change, Close, Count, HandleError, RecvError, Reply, TryRecv,
@@ -28,57 +28,46 @@ mod polling;
 /// number of messages that it missed, as `Receiver` of `async_broadcast` does. It promises that none
 /// is left out and none comes twice.
 ///
-/// Contracts name its `place`: the receiver's key, the number of the message that it reads next, and
-/// the steps that it knows, a beginning of those on the channel. Each receive says what the receiver
-/// takes (`Takes`). The drop is a step, too.
+/// Contracts name its `tracker`: the receiver's key, the number of the message that it reads next,
+/// and the steps that it knows, a beginning of those on the channel. Each receive says what the
+/// receiver takes (`Takes`). The drop is a step, too.
 pub struct TrackedReceiver<T: Clone, P: HistoryPort<T, J>, J: Channel> {
-    pub(crate) port: P,
-    pub(crate) place: Place<T, J>,
+    port: P,
+    tracker: ReceiverTracker<T, J>,
     // For the task that polls the receiver.
     waker: TaskWaker,
 }
 
 impl<T: Clone, P: HistoryPort<T, J>, J: Channel> TrackedReceiver<T, P, J> {
-    /// A receiver that makes its calls through this port, from this place on. Makes no call.
-    pub fn from_parts(port: P, place: Place<T, J>) -> Self
-        ensures { result.place ≡ place }
+    /// A receiver that makes its calls through this port. Makes no call.
+    pub(crate) fn new(port: P, tracker: Tracker<T, J>) -> Self
+        requires { IsReceiver tracker }
+        ensures { result.tracker ≡ tracker }
     {
         TrackedReceiver {
             port,
-            place,
+            tracker: ReceiverTracker::new(tracker),
             waker: TaskWaker::new(),
         }
     }
 
-    /// The receiver's port and its place, for `from_parts` over another port of the channel. Makes no
-    /// call: the channel keeps what the receiver has still to read.
-    pub fn into_parts(self) -> (P, Place<T, J>)
-        ensures { result.1 ≡ self.place }
-    {
-        let TrackedReceiver {
-            port,
-            place,
-            waker: _,
-        } = self;
-        (port, place)
-    }
-
     /// What the receiver knows, for other callers.
     pub fn seen(&self) -> Seen<T, J>
-        ensures { result ≡ self.now.place.steps }
+        ensures { result ≡ self.now.tracker.steps }
     {
-        self.place.tracker.seen()
+        self.tracker.inner.seen()
     }
 
     /// Proves that what the receiver knows is a run of the channel, of which all laws speak, and
     /// that it reads on there. Does nothing.
     pub fn invariant_holds(&self)
-        ensures lawful { IsLawful T.is_clone J.opening self.now.place.steps }
-        ensures there { cursor_of (end_of J.opening self.now.place.steps).control self.now.place.key
-            ≡ Some self.now.place.next }
+        ensures lawful { IsLawful T.is_clone J.opening self.now.tracker.steps }
+        ensures there { cursor_of (end_of J.opening self.now.tracker.steps).control
+            self.now.tracker.key ≡ self.now.tracker.next }
+        ensures reads { IsReceiver self.now.tracker }
     {
-        let Place { tracker, .. } = &self.place;
-        tracker.invariant_holds();
+        let ReceiverTracker { inner } = &self.tracker;
+        inner.invariant_holds();
     }
 
     /// Receives the next message, if there is one: as `Receiver::try_recv`.
@@ -92,29 +81,28 @@ impl<T: Clone, P: HistoryPort<T, J>, J: Channel> TrackedReceiver<T, P, J> {
     /// - `Closed`: every message was read, and the channel is closed.
     #[inline(always)]
     pub fn try_recv(&mut self) -> Result<Result<T, TryRecvError>, AllocError>
-        ensures key { self.new.place.key ≡ self.old.place.key }
-        ensures seen { IsPrefix self.old.place.steps self.new.place.steps }
-        ensures takes { Takes T.is_clone J.opening self.old.place self.new.place result }
-        ensures made { MakesCall P.learns T.is_clone J.opening (caller_of self.old.place)
-            (Call.TryRecv self.old.place.key) (Reply.TryRecv result) (caller_of self.new.place) }
+        ensures key { self.new.tracker.key ≡ self.old.tracker.key }
+        ensures seen { IsPrefix self.old.tracker.steps self.new.tracker.steps }
+        ensures received { ReceivesOnce P.learns T.is_clone J.opening
+            self.old.tracker self.new.tracker result }
     {
-        let Place { key, tracker } = &mut self.place;
-        self.port.ask(tracker, TryRecv(*key))
+        let ReceiverTracker { inner } = &mut self.tracker;
+        let key = inner.key();
+        inner.ask(&self.port, TryRecv(key))
     }
 
     /// Receives the next message, and blocks the thread while there is none and the channel is open:
     /// as `Receiver::recv_blocking`, with its errors. Each try is a step.
     pub fn recv_blocking(&mut self) -> Result<Result<T, RecvError>, AllocError>
-        ensures key { self.new.place.key ≡ self.old.place.key }
-        ensures seen { IsPrefix self.old.place.steps self.new.place.steps }
-        ensures takes { Takes T.is_clone J.opening self.old.place self.new.place
-            (as_try_recv result) }
-        ensures made { MakesCall P.learns T.is_clone J.opening (caller_of self.old.place)
-            (Call.TryRecv self.old.place.key) (Reply.TryRecv (as_try_recv result))
-            (caller_of self.new.place) }
+        ensures key { self.new.tracker.key ≡ self.old.tracker.key }
+        ensures seen { IsPrefix self.old.tracker.steps self.new.tracker.steps }
+        ensures received { ReceivesOnce P.learns T.is_clone J.opening
+            self.old.tracker self.new.tracker (as_try_recv result) }
     {
-        let Place { key, tracker } = &mut self.place;
-        self.port.receive_waiting(tracker, *key)
+        let ReceiverTracker { inner } = &mut self.tracker;
+        let Tracker { caller } = inner;
+        let key = caller.key();
+        self.port.receive_waiting(caller, key)
     }
 
     /// Makes another receiver, which has the same messages still to read: as `Receiver::clone`.
@@ -123,20 +111,21 @@ impl<T: Clone, P: HistoryPort<T, J>, J: Channel> TrackedReceiver<T, P, J> {
     ///
     /// - `Memory`: no memory for the handle.
     pub fn clone(&mut self) -> Result<Self, HandleError>
-        ensures same { StaysAt self.old.place self.new.place }
-        ensures made { IfOk result (λ made. (made.place.steps ≡ self.new.place.steps)
-            × MakesCall P.learns T.is_clone J.opening (caller_of self.old.place)
-            (Call.CloneReceiver self.old.place.key) (Reply.CloneReceiver (Ok made.place.key))
-            (caller_of self.new.place)) }
-        ensures starts { IfOk result (λ made. made.place.next ≡ self.old.place.next) }
+        ensures same { StaysAt self.old.tracker self.new.tracker }
+        ensures made { IfOk result (λ made. (made.tracker.steps ≡ self.new.tracker.steps)
+            × MakesCall P.learns T.is_clone J.opening self.old.tracker
+            (Call.CloneReceiver self.old.tracker.key) (Reply.CloneReceiver (Ok made.tracker.key))
+            self.new.tracker) }
+        ensures starts { IfOk result (λ made. made.tracker.next ≡ self.old.tracker.next) }
         ensures refused { IfErr result (λ error. MakesNone P.learns T.is_clone J.opening
-            (Call.CloneReceiver self.old.place.key) Reply.CloneReceiver
-            (caller_of self.old.place) error (caller_of self.new.place)) }
+            (Call.CloneReceiver self.old.tracker.key) Reply.CloneReceiver
+            self.old.tracker error self.new.tracker) }
     {
         let port = self.port.try_clone().ok_or(HandleError::Memory)?;
-        let Place { key, tracker } = &mut self.place;
-        let (key, made) = self.port.add_receiver(tracker, AddReceiver::Clone(*key))?;
-        Ok(TrackedReceiver::from_parts(port, Place::new(key, made)))
+        let ReceiverTracker { inner } = &mut self.tracker;
+        let call = AddReceiver::Clone(inner.key());
+        let tracker = inner.add_receiver(&self.port, call)?;
+        Ok(TrackedReceiver::new(port, tracker))
     }
 
     /// Turns the receiver into an inactive one: as `Receiver::deactivate`.
@@ -148,50 +137,48 @@ impl<T: Clone, P: HistoryPort<T, J>, J: Channel> TrackedReceiver<T, P, J> {
     /// - `TooMany`: the channel can't count one more inactive receiver.
     pub fn deactivate(self) -> Result<TrackedInactiveReceiver<T, P, J>, (Self, HandleError)>
         ensures made { IfOk result (λ made. MakesCall P.learns T.is_clone J.opening
-            (caller_of self.place) (Call.Deactivate self.place.key) (Reply.Deactivate (Ok tt))
-            made.known) }
-        ensures refused { IfErr result (λ back. (back.0.place.key ≡ self.place.key)
-            × (back.0.place.next ≡ self.place.next) × MakesCall P.learns T.is_clone J.opening
-            (caller_of self.place) (Call.Deactivate self.place.key)
-            (Reply.Deactivate (Err back.1)) (caller_of back.0.place)) }
+            self.tracker (Call.Deactivate self.tracker.key) (Reply.Deactivate (Ok tt))
+            made.tracker) }
+        ensures refused { IfErr result (λ back. (back.0.tracker.key ≡ self.tracker.key)
+            × (back.0.tracker.next ≡ self.tracker.next) × MakesCall P.learns T.is_clone J.opening
+            self.tracker (Call.Deactivate self.tracker.key)
+            (Reply.Deactivate (Err back.1)) back.0.tracker) }
     {
         let TrackedReceiver {
             port,
-            place,
+            tracker,
             waker: _,
         } = self;
-        let Place { key, mut tracker } = place;
-        match port.ask(&mut tracker, AddHandle::Deactivated(key)) {
-            Ok(()) => {
-                let known = Known::new(tracker);
-                Ok(TrackedInactiveReceiver { port, known })
-            }
-            Err(error) => {
-                let place = Place::new(key, tracker);
-                Err((TrackedReceiver::from_parts(port, place), error))
-            }
+        let ReceiverTracker { mut inner } = tracker;
+        let call = AddHandle::Deactivated(inner.key());
+        match inner.ask(&port, call) {
+            Ok(()) => Ok(TrackedInactiveReceiver {
+                port,
+                tracker: inner,
+            }),
+            Err(error) => Err((TrackedReceiver::new(port, inner), error)),
         }
     }
 
     /// Closes the channel, and returns whether it was open: as `close` of any handle.
     pub fn close(&mut self) -> bool
-        ensures same { StaysAt self.old.place self.new.place }
-        ensures made { MakesCall P.learns T.is_clone J.opening (caller_of self.old.place)
-            Call.Close (Reply.Close result) (caller_of self.new.place) }
-        ensures closed { (end_of J.opening self.new.place.steps).control.closed ≡ true }
+        ensures same { StaysAt self.old.tracker self.new.tracker }
+        ensures made { MakesCall P.learns T.is_clone J.opening self.old.tracker
+            Call.Close (Reply.Close result) self.new.tracker }
+        ensures closed { (end_of J.opening self.new.tracker.steps).control.closed ≡ true }
     {
-        let Place { tracker, .. } = &mut self.place;
-        self.port.ask(tracker, Close)
+        let ReceiverTracker { inner } = &mut self.tracker;
+        inner.ask(&self.port, Close)
     }
 
     /// How many of the messages that the channel keeps this receiver has still to read: all of
     /// them, or those since its place, whichever are fewer. It is a step.
     pub fn unread(&mut self) -> usize
-        ensures same { StaysAt self.old.place self.new.place }
-        ensures unread { (len : ℕ) × MakesCall P.learns T.is_clone J.opening
-            (caller_of self.old.place) Call.Len (Reply.Len len) (caller_of self.new.place)
-            × (result ≡ min len
-            (end_number (end_of J.opening self.new.place.steps) - self.new.place.next)) }
+        ensures same { StaysAt self.old.tracker self.new.tracker }
+        ensures unread { (len : ℕ) × MakesCall P.learns T.is_clone J.opening self.old.tracker
+            Call.Len (Reply.Len len) self.new.tracker
+            × (result ≡ min len (end_number (end_of J.opening self.new.tracker.steps)
+            - number self.new.tracker.next)) }
     {
         let len = self.len();
         len.min(self.behind() as usize)
@@ -200,11 +187,11 @@ impl<T: Clone, P: HistoryPort<T, J>, J: Channel> TrackedReceiver<T, P, J> {
     /// How many messages were dropped before this receiver read them, and were not yet counted as
     /// missed: those since its place, but for the ones that the channel keeps. It is a step.
     pub fn missed(&mut self) -> u64
-        ensures same { StaysAt self.old.place self.new.place }
-        ensures missed { (len : ℕ) × MakesCall P.learns T.is_clone J.opening
-            (caller_of self.old.place) Call.Len (Reply.Len len) (caller_of self.new.place)
-            × (result
-            ≡ end_number (end_of J.opening self.new.place.steps) - self.new.place.next - len) }
+        ensures same { StaysAt self.old.tracker self.new.tracker }
+        ensures missed { (len : ℕ) × MakesCall P.learns T.is_clone J.opening self.old.tracker
+            Call.Len (Reply.Len len) self.new.tracker
+            × (result ≡ end_number (end_of J.opening self.new.tracker.steps)
+            - number self.new.tracker.next - len) }
     {
         let len = self.len();
         self.behind().saturating_sub(len as u64)
@@ -212,28 +199,27 @@ impl<T: Clone, P: HistoryPort<T, J>, J: Channel> TrackedReceiver<T, P, J> {
 
     /// How many messages the channel keeps. It is a step.
     pub fn len(&mut self) -> usize
-        ensures same { StaysAt self.old.place self.new.place }
-        ensures made { MakesCall P.learns T.is_clone J.opening (caller_of self.old.place)
-            Call.Len (Reply.Len result) (caller_of self.new.place) }
+        ensures same { StaysAt self.old.tracker self.new.tracker }
+        ensures made { MakesCall P.learns T.is_clone J.opening self.old.tracker
+            Call.Len (Reply.Len result) self.new.tracker }
     {
-        let Place { tracker, .. } = &mut self.place;
-        self.port.ask(tracker, Count::Len)
+        let ReceiverTracker { inner } = &mut self.tracker;
+        inner.ask(&self.port, Count::Len)
     }
 
     // How many messages came since the receiver's place, as far as it knows.
     fn behind(&self) -> u64
-        ensures { result ≡ end_number (end_of J.opening self.now.place.steps)
-            - self.now.place.next }
+        ensures { result ≡ end_number (end_of J.opening self.now.tracker.steps)
+            - number self.now.tracker.next }
     {
-        let Place { tracker, .. } = &self.place;
-        tracker.end().saturating_sub(self.place.next())
+        self.tracker.inner.end().saturating_sub(self.next())
     }
 
     /// The number of the message that is read next.
     pub fn next(&self) -> u64
-        ensures { result ≡ self.now.place.next }
+        ensures { Some result ≡ self.now.tracker.next }
     {
-        self.place.next()
+        self.tracker.next()
     }
 }
 
@@ -244,30 +230,30 @@ impl<T: Clone, P: TimedHistoryPort<T, J>, J: Channel> TrackedReceiver<T, P, J> {
         &mut self,
         limit: Duration,
     ) -> Result<Result<T, RecvTimeoutError>, AllocError>
-        ensures key { self.new.place.key ≡ self.old.place.key }
-        ensures seen { IsPrefix self.old.place.steps self.new.place.steps }
-        ensures takes { Takes T.is_clone J.opening self.old.place self.new.place
-            (as_timed_try result) }
-        ensures made { MakesCall P.learns T.is_clone J.opening (caller_of self.old.place)
-            (Call.TryRecv self.old.place.key) (Reply.TryRecv (as_timed_try result))
-            (caller_of self.new.place) }
+        ensures key { self.new.tracker.key ≡ self.old.tracker.key }
+        ensures seen { IsPrefix self.old.tracker.steps self.new.tracker.steps }
+        ensures received { ReceivesOnce P.learns T.is_clone J.opening
+            self.old.tracker self.new.tracker (as_timed_try result) }
     {
-        let Place { key, tracker } = &mut self.place;
-        self.port.receive_within(tracker, *key, limit)
+        let ReceiverTracker { inner } = &mut self.tracker;
+        let Tracker { caller } = inner;
+        let key = caller.key();
+        self.port.receive_within(caller, key, limit)
     }
 }
 
 impl<T: Clone, P: HistoryPort<T, J>, J: Channel> Drop for TrackedReceiver<T, P, J> {
     fn drop(self)
-        ensures { MakesLast P.learns (caller_of self.place)
-            (Call.DropReceiver self.place.key) Reply.DropReceiver }
+        ensures { MakesLast P.learns self.tracker
+            (Call.DropReceiver self.tracker.key) Reply.DropReceiver }
     {
         let TrackedReceiver {
             port,
-            place,
+            tracker,
             waker: _,
         } = self;
-        let Place { key, mut tracker } = place;
-        port.ask(&mut tracker, Change::DropReceiver(key));
+        let ReceiverTracker { mut inner } = tracker;
+        let call = Change::DropReceiver(inner.key());
+        inner.ask(&port, call);
     }
 }

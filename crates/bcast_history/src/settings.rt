@@ -2,9 +2,9 @@
 ghost use Rattle.std.specs.Prelude.{◌<◌};
 ghost use Rattle.bcast_history.specs.Makes.{MakesCall};
 
+use crate::caller::Channel;
 use crate::port::{History, HistoryPort};
 use crate::sender::TrackedSender;
-use crate::tracker::Channel;
 use bcast_core::{Call, Change, Count, Reply, SetCapacity, Snapshot, Test};
 use std::alloc::{AllocError, Allocator};
 use std::sync::Wait;
@@ -13,10 +13,10 @@ use std::sync::Wait;
 impl<T: Clone, P: HistoryPort<T, J>, J: Channel> TrackedSender<T, P, J> {
     /// How many messages the channel keeps at most.
     pub fn capacity(&mut self) -> usize
-        ensures { MakesCall P.learns T.is_clone J.opening self.old.known
-            Call.Capacity (Reply.Capacity result) self.new.known }
+        ensures { MakesCall P.learns T.is_clone J.opening self.old.tracker
+            Call.Capacity (Reply.Capacity result) self.new.tracker }
     {
-        self.ask(Count::Capacity)
+        self.tracker.ask(&self.port, Count::Capacity)
     }
 
     /// Changes how many messages the channel keeps at most. If more are kept, the oldest are dropped.
@@ -26,76 +26,76 @@ impl<T: Clone, P: HistoryPort<T, J>, J: Channel> TrackedSender<T, P, J> {
     /// - `AllocError`: no memory for a greater capacity than any before. Nothing changed.
     pub fn set_capacity(&mut self, new_cap: usize) -> Result<(), AllocError>
         requires { 0 < new_cap }
-        ensures { MakesCall P.learns T.is_clone J.opening self.old.known
-            (Call.SetCapacity new_cap) (Reply.SetCapacity result) self.new.known }
+        ensures { MakesCall P.learns T.is_clone J.opening self.old.tracker
+            (Call.SetCapacity new_cap) (Reply.SetCapacity result) self.new.tracker }
     {
         // A program that isn't proved stops here.
         prove!(new_cap > 0);
-        self.ask(SetCapacity(new_cap))
+        self.tracker.ask(&self.port, SetCapacity(new_cap))
     }
 
     /// Whether a full channel drops its oldest message to accept a new one.
     pub fn overflow(&mut self) -> bool
-        ensures { MakesCall P.learns T.is_clone J.opening self.old.known
-            Call.Overflow (Reply.Overflow result) self.new.known }
+        ensures { MakesCall P.learns T.is_clone J.opening self.old.tracker
+            Call.Overflow (Reply.Overflow result) self.new.tracker }
     {
-        self.ask(Test::Overflow)
+        self.tracker.ask(&self.port, Test::Overflow)
     }
 
     /// Sets whether a full channel drops its oldest message to accept a new one.
     pub fn set_overflow(&mut self, on: bool)
-        ensures { MakesCall P.learns T.is_clone J.opening self.old.known
-            (Call.SetOverflow on) Reply.SetOverflow self.new.known }
+        ensures { MakesCall P.learns T.is_clone J.opening self.old.tracker
+            (Call.SetOverflow on) Reply.SetOverflow self.new.tracker }
     {
-        self.ask(Change::SetOverflow(on))
+        self.tracker.ask(&self.port, Change::SetOverflow(on))
     }
 
     /// Whether sends wait for an active receiver, if there are only inactive ones.
     pub fn await_active(&mut self) -> bool
-        ensures { MakesCall P.learns T.is_clone J.opening self.old.known
-            Call.AwaitActive (Reply.AwaitActive result) self.new.known }
+        ensures { MakesCall P.learns T.is_clone J.opening self.old.tracker
+            Call.AwaitActive (Reply.AwaitActive result) self.new.tracker }
     {
-        self.ask(Test::AwaitActive)
+        self.tracker.ask(&self.port, Test::AwaitActive)
     }
 
     /// Sets whether sends wait for an active receiver, if there are only inactive ones.
     pub fn set_await_active(&mut self, on: bool)
-        ensures { MakesCall P.learns T.is_clone J.opening self.old.known
-            (Call.SetAwaitActive on) Reply.SetAwaitActive self.new.known }
+        ensures { MakesCall P.learns T.is_clone J.opening self.old.tracker
+            (Call.SetAwaitActive on) Reply.SetAwaitActive self.new.tracker }
     {
-        self.ask(Change::SetAwaitActive(on))
+        self.tracker.ask(&self.port, Change::SetAwaitActive(on))
     }
 
     /// How many messages the channel keeps.
     pub fn len(&mut self) -> usize
-        ensures { MakesCall P.learns T.is_clone J.opening self.old.known
-            Call.Len (Reply.Len result) self.new.known }
+        ensures { MakesCall P.learns T.is_clone J.opening self.old.tracker
+            Call.Len (Reply.Len result) self.new.tracker }
     {
-        self.ask(Count::Len)
+        self.tracker.ask(&self.port, Count::Len)
     }
 
     /// How many active receivers there are.
     pub fn receiver_count(&mut self) -> usize
-        ensures { MakesCall P.learns T.is_clone J.opening self.old.known
-            Call.ReceiverCount (Reply.ReceiverCount result) self.new.known }
+        ensures { MakesCall P.learns T.is_clone J.opening self.old.tracker
+            Call.ReceiverCount (Reply.ReceiverCount result) self.new.tracker }
     {
-        self.ask(Count::ReceiverCount)
+        self.tracker.ask(&self.port, Count::ReceiverCount)
     }
 
     /// How many inactive receivers there are.
     pub fn inactive_receiver_count(&mut self) -> usize
-        ensures { MakesCall P.learns T.is_clone J.opening self.old.known
-            Call.InactiveReceiverCount (Reply.InactiveReceiverCount result) self.new.known }
+        ensures { MakesCall P.learns T.is_clone J.opening self.old.tracker
+            Call.InactiveReceiverCount (Reply.InactiveReceiverCount result) self.new.tracker }
     {
-        self.ask(Count::InactiveReceiverCount)
+        self.tracker.ask(&self.port, Count::InactiveReceiverCount)
     }
 
     /// How many senders there are.
     pub fn sender_count(&mut self) -> usize
-        ensures { MakesCall P.learns T.is_clone J.opening self.old.known
-            Call.SenderCount (Reply.SenderCount result) self.new.known }
+        ensures { MakesCall P.learns T.is_clone J.opening self.old.tracker
+            Call.SenderCount (Reply.SenderCount result) self.new.tracker }
     {
-        self.ask(Count::SenderCount)
+        self.tracker.ask(&self.port, Count::SenderCount)
     }
 }
 

@@ -6,10 +6,10 @@ ghost use Rattle.bcast_history.specs.Batch.{received};
 ghost use Rattle.bcast_history.specs.History.{start_of};
 ghost use Rattle.bcast_history.specs.Cursors.{AreCursors};
 
+use crate::caller::{Channel, Seen, TrackedCaller};
 use crate::cursor::Cursor;
 use crate::journal::{Journal, Notes, Writer};
 use crate::step::Step;
-use crate::tracker::{Channel, Seen, Tracker};
 use async_broadcast::{CallJournal, Wake};
 use bcast_core::{AddReceiver, CallOf, Inner};
 use claims::Registry;
@@ -131,7 +131,7 @@ impl<T: Clone, J: Channel> CallJournal<T> for StepJournal<T, J> {
     ghost use Rattle.bcast_history.specs.Tracker.{Begins, Learns};
     ghost use Rattle.bcast_history.specs.Learning.{again, moves_on};
 
-    type Caller = Tracker<T, J>;
+    type Caller = TrackedCaller<T, J>;
 
     ghost learns = { Learns T.is_clone J.opening };
 
@@ -148,7 +148,7 @@ impl<T: Clone, J: Channel> CallJournal<T> for StepJournal<T, J> {
     #[inline(always)]
     fn append<C: CallOf<T>, A: Allocator + Copy>(
         &mut self,
-        caller: &mut Tracker<T, J>,
+        caller: &mut TrackedCaller<T, J>,
         call: &Snapshot<C>,
         answer: &C::Answer,
         _before: &Snapshot<Inner<T, Wake, A>>,
@@ -166,12 +166,12 @@ impl<T: Clone, J: Channel> CallJournal<T> for StepJournal<T, J> {
 
     fn append_receiver<A: Allocator + Copy>(
         &mut self,
-        caller: &mut Tracker<T, J>,
+        caller: &mut TrackedCaller<T, J>,
         call: AddReceiver,
         key: usize,
         _before: &Snapshot<Inner<T, Wake, A>>,
         after: &Inner<T, Wake, A>,
-    ) -> Tracker<T, J> {
+    ) -> TrackedCaller<T, J> {
         let added = ShownReceiver { call, key };
         self.writer.append(&mut caller.seen, &added);
         caller.end = after.end_number();
@@ -179,7 +179,7 @@ impl<T: Clone, J: Channel> CallJournal<T> for StepJournal<T, J> {
         let Some(next) = after.cursor(key) else {
             unreachable!()
         };
-        Tracker {
+        TrackedCaller {
             seen: caller.seen.same(),
             end: caller.end,
             cursor: Cursor::new(&mut self.registry, key, next),
@@ -188,7 +188,7 @@ impl<T: Clone, J: Channel> CallJournal<T> for StepJournal<T, J> {
 
     fn append_receives<A: Allocator + Copy>(
         &mut self,
-        caller: &mut Tracker<T, J>,
+        caller: &mut TrackedCaller<T, J>,
         key: usize,
         msgs: &[T],
         _before: &Snapshot<Inner<T, Wake, A>>,

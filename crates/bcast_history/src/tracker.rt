@@ -1,90 +1,87 @@
-//! Who makes calls on a channel with a history.
-ghost use Rattle.std.specs.Prelude.{◌≡◌, None};
-ghost use Rattle.bcast_model.specs.Words.{end_number};
-ghost use Rattle.bcast_history.specs.History.{end_of};
-ghost use Rattle.bcast_history.specs.Tracker.{HasNewSender, next_of};
+//! What a handle knows of its channel, and the calls that it makes.
+ghost use Rattle.std.specs.Prelude.{◌≡◌, Some, Ok, Err, IfSome, IfOk, IfErr};
+ghost use Rattle.bcast_core.specs.Calls.{receiver_call, receiver_reply};
+ghost use Rattle.bcast_model.specs.Words.{HasPositiveCapacity, end_number};
+ghost use Rattle.async_broadcast.specs.Ports.{moved_by};
+ghost use Rattle.bcast_history.specs.History.{IsLawful, end_of};
+ghost use Rattle.bcast_history.specs.Makes.{MakesCall};
+ghost use Rattle.bcast_history.specs.Tracker.{Begins, HasNewSender, IsOf, IsReceiver, next_of};
 
-use crate::cursor::Cursor;
-use crate::journal::{Named, Prefix};
-use crate::step::Step;
-use async_broadcast::Caller;
-use std::marker::{Brand, Model};
+use crate::caller::{Channel, Seen, TrackedCaller};
+use crate::port::HistoryPort;
+use bcast_core::{AddReceiver, AtOnce, HandleError};
+use std::marker::Model;
 
-/// Names a channel in the types of all that belongs to it: its journal, what it was opened with, and
-/// the registry in which its receivers' places are claimed.
-pub trait Channel: Named {
-    ghost use Rattle.std.specs.Prelude.{ℕ};
-    ghost use Rattle.bcast_history.specs.declared.step.Opening.{Opening};
-
-    ghost opening: { Opening };
-
-    ghost registry: { ℕ };
-}
-
-impl Channel for Brand {
-    ghost opening = { record { capacity = 1; first_number = 0; first_key = 0 } };
-
-    ghost registry = { 0 };
-}
-
-/// What is known of the steps on a channel: a beginning of them. A contract sees these steps.
-///
-/// All that is known of one channel are beginnings of one list. It has no bytes.
-pub type Seen<T, J> = Prefix<Step<T>, J>;
-
-/// Who makes calls on a channel: what is known of it, and of a receiver its key and where it reads
-/// on. Each handle has one of its own.
-///
-/// That what is known is a run of the channel isn't said here, but by `Known` and `Place`: a type
-/// whose values make calls has no bound on `T`, since the checker can't yet give `u64` to one.
+/// What a handle knows of its channel, which is a run of it; and who makes the handle's calls.
 #[derive(Drop)]
-pub struct Tracker<T, J: Channel> {
-    pub(crate) seen: Seen<T, J>,
-    // The number of the message that comes next after these steps.
-    pub(crate) end: u64,
-    pub(crate) cursor: Cursor,
+pub struct Tracker<T: Clone, J: Channel> {
+    pub(crate) caller: TrackedCaller<T, J>,
 }
 
-impl<T, J: Channel> Model for Tracker<T, J> {
-    ghost use Rattle.std.specs.Prelude.{◌≡◌};
-    ghost use Rattle.bcast_model.specs.Words.{end_number};
-    ghost use Rattle.bcast_history.specs.History.{end_of};
-    ghost use Rattle.bcast_history.specs.Tracker.{Tracker, next_of};
+impl<T: Clone, J: Channel> Model for Tracker<T, J> {
+    ghost use Rattle.bcast_history.specs.History.{IsLawful};
+    ghost use Rattle.bcast_history.specs.Tracker.{Tracker as Seen};
 
-    ghost Value = { Tracker T };
+    ghost Value = { Seen T };
 
-    ghost view = { λ t. record { steps = t.seen; key = t.cursor.key; next = t.cursor.next } };
+    ghost view = { λ t. t.caller };
 
-    ghost invariant = { λ t. (t.end ≡ end_number (end_of J.opening t.seen))
-        × (t.cursor.next ≡ next_of (end_of J.opening t.seen).control t.cursor.key t.cursor.next)
-        × (t.cursor.registry ≡ J.registry) };
+    ghost invariant = { λ t. IsLawful T.is_clone J.opening t.caller.steps };
 }
 
-impl<T, J: Channel> Caller for Tracker<T, J> {
-    ghost use Rattle.bcast_history.specs.Tracker.{IsOf};
+impl<T: Clone, J: Channel> Tracker<T, J> {
+    pub(crate) fn new(caller: TrackedCaller<T, J>) -> Self
+        requires { IsLawful T.is_clone J.opening caller.steps }
+        ensures { result ≡ caller }
+    {
+        Tracker { caller }
+    }
 
-    ghost moves = { λ tracker key. IsOf key tracker };
-}
-
-impl<T, J: Channel> Tracker<T, J> {
-    /// Who makes the calls of the sender that was added by the last step, or of the first one: it
-    /// knows as much, and is of no receiver. So only with a new sender comes another tracker.
+    /// What the sender knows that was added by the last step: as much.
     pub(crate) fn of_sender(&self) -> Self
         requires { HasNewSender self.now.steps }
-        ensures { result ≡ record self.now { next = None } }
+        ensures { result.steps ≡ self.now.steps }
     {
         Tracker {
-            seen: self.seen.same(),
-            end: self.end,
-            cursor: self.cursor.none(),
+            caller: self.caller.of_sender(),
         }
+    }
+
+    /// Makes a call through this port.
+    #[inline(always)]
+    pub(crate) fn ask<P: HistoryPort<T, J>, C: AtOnce<T>>(&mut self, port: &P, call: C) -> C::Answer
+        requires capacity { HasPositiveCapacity (C.call call) }
+        requires moves { IfSome (moved_by (C.call call)) (λ key. IsOf key self.old) }
+        ensures { MakesCall P.learns T.is_clone J.opening self.old
+            (C.call call) (C.reply call result) self.new }
+    {
+        let Tracker { caller } = self;
+        port.ask(caller, call)
+    }
+
+    /// Makes a call through this port that adds a receiver, with its errors. Returns what the
+    /// receiver knows, which is as much.
+    pub(crate) fn add_receiver<P: HistoryPort<T, J>>(
+        &mut self,
+        port: &P,
+        call: AddReceiver,
+    ) -> Result<Self, HandleError>
+        ensures made { IfOk result (λ made. MakesCall P.learns T.is_clone J.opening self.old
+            (receiver_call call) (receiver_reply call (Ok made.key)) self.new) }
+        ensures begins { IfOk result (λ made. Begins J.opening made.key self.new made) }
+        ensures refused { IfErr result (λ error. MakesCall P.learns T.is_clone J.opening self.old
+            (receiver_call call) (receiver_reply call (Err error)) self.new) }
+    {
+        let Tracker { caller } = self;
+        let (_key, made) = port.add_receiver(caller, call)?;
+        Ok(Tracker::new(made))
     }
 
     /// What is known.
     pub(crate) fn seen(&self) -> Seen<T, J>
         ensures { result ≡ self.now.steps }
     {
-        self.seen.same()
+        self.caller.seen()
     }
 
     /// The number of the message that comes next.
@@ -92,7 +89,15 @@ impl<T, J: Channel> Tracker<T, J> {
     pub(crate) fn end(&self) -> u64
         ensures { result ≡ end_number (end_of J.opening self.now.steps) }
     {
-        self.end
+        self.caller.end()
+    }
+
+    /// The receiver's key, if there is one.
+    #[inline(always)]
+    pub(crate) fn key(&self) -> usize
+        ensures { result ≡ self.now.key }
+    {
+        self.caller.key()
     }
 
     /// The number of the message that the receiver reads next. `None`: there is no receiver.
@@ -100,14 +105,48 @@ impl<T, J: Channel> Tracker<T, J> {
     pub(crate) fn next(&self) -> Option<u64>
         ensures { result ≡ self.now.next }
     {
-        self.cursor.next()
+        self.caller.next()
     }
 
-    /// Proves that the receiver is there, if there is one. Does nothing.
+    /// Proves that what is known is a run of the channel, and that the receiver, if there is one, is
+    /// there. Does nothing.
     pub(crate) fn invariant_holds(&self)
-        ensures { self.now.next ≡ next_of (end_of J.opening self.now.steps).control
+        ensures lawful { IsLawful T.is_clone J.opening self.now.steps }
+        ensures there { self.now.next ≡ next_of (end_of J.opening self.now.steps).control
             self.now.key self.now.next }
     {
-        let _ = &self.seen;
+        self.caller.invariant_holds();
+    }
+}
+
+/// What a receiver knows of its channel, by which it makes its calls.
+#[derive(Drop)]
+pub struct ReceiverTracker<T: Clone, J: Channel> {
+    pub(crate) inner: Tracker<T, J>,
+}
+
+impl<T: Clone, J: Channel> Model for ReceiverTracker<T, J> {
+    ghost use Rattle.bcast_history.specs.Tracker.{Tracker as Seen, IsReceiver};
+
+    ghost Value = { Seen T };
+
+    ghost view = { λ t. t.inner };
+
+    ghost invariant = { λ t. IsReceiver t.inner };
+}
+
+impl<T: Clone, J: Channel> ReceiverTracker<T, J> {
+    pub(crate) fn new(inner: Tracker<T, J>) -> Self
+        requires { IsReceiver inner }
+        ensures { result ≡ inner }
+    {
+        ReceiverTracker { inner }
+    }
+
+    /// The number of the message that is read next.
+    pub(crate) fn next(&self) -> u64
+        ensures { Some result ≡ self.now.next }
+    {
+        self.inner.next().unwrap_or(0)
     }
 }

@@ -4,6 +4,7 @@ ghost use Rattle.std.specs.Bool.{OnTrue};
 ghost use mathlib.Core.List.{IsPrefix};
 ghost use Rattle.bcast_threads.specs.Lists.{AreLists};
 ghost use Rattle.bcast_threads.specs.Closed.{WereSent, IsWhole};
+ghost use Rattle.bcast_history.specs.Reader.{StartsAtTheFirst};
 
 use crate::fault::Fault;
 use crate::plan::Plan;
@@ -69,7 +70,7 @@ where
     J: Channel + Send + Sync + 'static,
     R: Threads + Wait + Clone + Send + 'static,
     P: HistoryPort<u64, J> + Send + 'static,
-    requires start { receiver.place.next ≡ J.opening.first_number }
+    requires start { StartsAtTheFirst J.opening receiver.tracker }
     ensures { IfOk result (λ lists. AreLists plan (λ list. list.items) lists.items) }
 {
     let seen = receiver.seen();

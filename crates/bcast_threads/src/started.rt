@@ -1,6 +1,7 @@
 //! The threads of a run: started over one channel, and joined.
 ghost use Rattle.std.specs.Prelude.{◌≡◌, ◌+◌, ◌≤◌, true, All, IfSome, IfNone, IfOk, IfErr, OnOk, vec_len, vec_capacity};
 ghost use Rattle.bcast_history.specs.History.{end_of};
+ghost use Rattle.bcast_history.specs.Reader.{StartsAtTheFirst};
 
 use crate::fault::Fault;
 use crate::group::Group;
@@ -59,14 +60,14 @@ impl<J: Channel + Send + Sync + 'static> Started<J> {
             ≤ vec_capacity self.old.senders.running }
         requires receivers { vec_len self.old.receivers.running + vec_len receivers
             ≤ vec_capacity self.old.receivers.running }
-        requires start { All (λ receiver. receiver.place.next ≡ J.opening.first_number)
+        requires start { All (λ receiver. StartsAtTheFirst J.opening receiver.tracker)
             receivers.items }
         ensures senders { OnOk result (vec_len self.new.senders.running
             ≡ vec_len self.old.senders.running + plan.senders) }
         ensures receivers { OnOk result (vec_len self.new.receivers.running
             ≡ vec_len self.old.receivers.running + vec_len receivers) }
         ensures closed { IfErr result (λ _.
-            (end_of J.opening sender.new.known.steps).control.closed ≡ true) }
+            (end_of J.opening sender.new.tracker.steps).control.closed ≡ true) }
     {
         let mut started = self.start_receivers(rt, alloc, plan, receivers);
         if started.is_ok() {
@@ -90,7 +91,7 @@ impl<J: Channel + Send + Sync + 'static> Started<J> {
         P: HistoryPort<u64, J> + Send + 'static,
         requires room { vec_len self.old.receivers.running + vec_len receivers
             ≤ vec_capacity self.old.receivers.running }
-        requires start { All (λ receiver. receiver.place.next ≡ J.opening.first_number)
+        requires start { All (λ receiver. StartsAtTheFirst J.opening receiver.tracker)
             receivers.items }
         ensures started { OnOk result (vec_len self.new.receivers.running
             ≡ vec_len self.old.receivers.running + vec_len receivers) }
@@ -139,10 +140,10 @@ pub(crate) fn clones_of<J: Channel, P: HistoryPort<u64, J>>(
     receiver: TrackedReceiver<u64, P, J>,
     count: u64,
 ) -> Result<Vec<TrackedReceiver<u64, P, J>>, Fault>
-    requires start { receiver.place.next ≡ J.opening.first_number }
+    requires start { StartsAtTheFirst J.opening receiver.tracker }
     ensures count { IfOk result (λ receivers. vec_len receivers ≡ count) }
     ensures start { IfOk result (λ receivers.
-        All (λ receiver. receiver.place.next ≡ J.opening.first_number) receivers.items) }
+        All (λ receiver. StartsAtTheFirst J.opening receiver.tracker) receivers.items) }
 {
     let mut receiver = receiver;
     let mut receivers = Vec::new(alloc);
@@ -156,9 +157,9 @@ pub(crate) fn clones_of<J: Channel, P: HistoryPort<u64, J>>(
 fn next_of<J: Channel, P: HistoryPort<u64, J>>(
     receivers: &mut Vec<TrackedReceiver<u64, P, J>>,
 ) -> Option<TrackedReceiver<u64, P, J>>
-    requires { All (λ receiver. receiver.place.next ≡ J.opening.first_number) receivers.old.items }
-    ensures start { IfSome result (λ receiver. receiver.place.next ≡ J.opening.first_number) }
-    ensures others { All (λ receiver. receiver.place.next ≡ J.opening.first_number)
+    requires { All (λ receiver. StartsAtTheFirst J.opening receiver.tracker) receivers.old.items }
+    ensures start { IfSome result (λ receiver. StartsAtTheFirst J.opening receiver.tracker) }
+    ensures others { All (λ receiver. StartsAtTheFirst J.opening receiver.tracker)
         receivers.new.items }
     ensures len { IfSome result (λ _. vec_len receivers.old ≡ vec_len receivers.new + 1) }
     ensures none { IfNone result (vec_len receivers.old ≡ 0) }

@@ -2,6 +2,7 @@
 ghost use Rattle.std.specs.Prelude.{◌≡◌, true, IfOk, IfErr};
 ghost use Rattle.bcast_history.specs.History.{IsHistory, accepted_by, end_of};
 ghost use Rattle.bcast_history.specs.Log.{IsWholeLog};
+ghost use Rattle.bcast_history.specs.Reader.{StartsAtTheFirst};
 ghost use Rattle.bcast_threads.specs.Lists.{HasAll};
 ghost use Rattle.bcast_threads.specs.Closed.{AreBeforeClosing};
 
@@ -73,9 +74,9 @@ pub fn receive_all<J: Channel, P: HistoryPort<u64, J>, A: Allocator>(
     receiver: &mut TrackedReceiver<u64, P, J>,
     count: usize,
 ) -> Result<Log<J, A>, Fault>
-    requires start { receiver.old.place.next ≡ J.opening.first_number }
+    requires start { StartsAtTheFirst J.opening receiver.old.tracker }
     ensures closed { IfErr result (λ _.
-        (end_of J.opening receiver.new.place.steps).control.closed ≡ true) }
+        (end_of J.opening receiver.new.tracker.steps).control.closed ≡ true) }
 {
     logs_are_accepted::<u64>();
     match received(rt, alloc, receiver, count) {
@@ -97,9 +98,9 @@ fn received<J: Channel, P: HistoryPort<u64, J>, A: Allocator>(
     receiver: &mut TrackedReceiver<u64, P, J>,
     count: usize,
 ) -> Result<Vec<u64, A>, Fault>
-    requires start { receiver.old.place.next ≡ J.opening.first_number }
+    requires start { StartsAtTheFirst J.opening receiver.old.tracker }
     ensures whole { IfOk result (λ list.
-        IsWholeLog J.opening J.opening.first_number list.items receiver.new.place) }
+        IsWholeLog J.opening J.opening.first_number list.items receiver.new.tracker) }
 {
     messages_stay::<u64>();
     let mut list = Vec::with_capacity(alloc, count)?;

@@ -1,6 +1,7 @@
 //! A log of all messages from a receiver's start on.
 ghost use Rattle.std.specs.Prelude.{IfOk};
 ghost use Rattle.bcast_history.specs.Log.{IsWholeLog};
+ghost use Rattle.bcast_history.specs.Tracker.{number};
 
 use anyhow::{Result, bail};
 use async_broadcast::RecvError;
@@ -18,8 +19,8 @@ pub fn receive_all<J: Channel, P: HistoryPort<u64, J>>(
     rt: &(impl Wait + AllocGlobal),
     receiver: &mut TrackedReceiver<u64, P, J>,
 ) -> Result<Vec<u64>>
-    ensures { IfOk result (λ log. IsWholeLog J.opening receiver.old.place.next log.items
-        receiver.new.place) }
+    ensures { IfOk result (λ log. IsWholeLog J.opening (number receiver.old.tracker.next) log.items
+        receiver.new.tracker) }
 {
     messages_stay::<u64>();
     let mut log = Vec::new(rt.alloc());

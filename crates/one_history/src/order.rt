@@ -11,8 +11,8 @@ pub fn send_both<J: Channel, P: HistoryPort<u64, J>>(
     first: u64,
     second: u64,
 ) -> bool
-    ensures { result ≡ true → StandInOrder J.opening sender.old.known.steps first second
-        sender.new.known.steps }
+    ensures { result ≡ true → StandInOrder J.opening sender.old.tracker.steps first second
+        sender.new.tracker.steps }
 {
     sends_stand_last::<u64>();
     sender.try_broadcast(first).is_ok() && sender.try_broadcast(second).is_ok()

@@ -1,5 +1,6 @@
 //! Runs of threads.
 ghost use Rattle.std.specs.Prelude.{◌≡◌, ◌<◌, ◌≤◌};
+ghost use Rattle.bcast_history.specs.Reader.{StartsAtTheFirst};
 
 use crate::streams::Taker;
 use bcast_history::{Channel, HistoryPort, Opened, TrackedReceiver, TrackedSender, broadcast};
@@ -173,7 +174,7 @@ fn order<J: Channel, P: HistoryPort<u64, J>, W: Write>(
     mut receiver: TrackedReceiver<u64, P, J>,
     output: &mut W,
 ) -> io::Result<()>
-    requires start { receiver.place.next ≡ J.opening.first_number }
+    requires start { StartsAtTheFirst J.opening receiver.tracker }
 {
     for msg in [2u64, 0, 1] {
         try_send(&mut sender, msg, output)?;
@@ -193,7 +194,7 @@ fn no_memory<J: Channel, P: HistoryPort<u64, J>, W: Write>(
     awaited: usize,
     output: &mut W,
 ) -> io::Result<()>
-    requires start { receiver.place.next ≡ J.opening.first_number }
+    requires start { StartsAtTheFirst J.opening receiver.tracker }
 {
     for msg in 0..100u64 {
         try_send(&mut sender, msg, output)?;

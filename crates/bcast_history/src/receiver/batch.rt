@@ -11,9 +11,9 @@ ghost use Rattle.bcast_history.specs.Makes.{MakesReceives};
 ghost use Rattle.bcast_history.specs.Reader.{as_found};
 
 use super::TrackedReceiver;
-use crate::place::Place;
+use crate::caller::Channel;
 use crate::port::{HistoryPort, TimedHistoryPort};
-use crate::tracker::Channel;
+use crate::tracker::{ReceiverTracker, Tracker};
 use async_broadcast::{RecvTimeoutError, put_last};
 use bcast_core::{RecvError, TryRecvError};
 use futures::task::{Context, Poll};
@@ -28,11 +28,11 @@ impl<T: Clone, P: HistoryPort<T, J>, J: Channel> TrackedReceiver<T, P, J> {
         limit: usize,
         msgs: &mut Vec<T, B>,
     ) -> Result<Result<usize, TryRecvError>, AllocError>
-        ensures key { self.new.place.key ≡ self.old.place.key }
-        ensures seen { IsPrefix self.old.place.steps self.new.place.steps }
-        ensures only { MakesReceives P.learns self.old.place self.new.place }
-        ensures takes { TakesMany T.is_clone J.opening (λ tried. tried) limit self.old.place
-            msgs.old.items result msgs.new.items self.new.place }
+        ensures key { self.new.tracker.key ≡ self.old.tracker.key }
+        ensures seen { IsPrefix self.old.tracker.steps self.new.tracker.steps }
+        ensures only { MakesReceives P.learns self.old.tracker self.new.tracker }
+        ensures takes { TakesMany T.is_clone J.opening (λ tried. tried) limit self.old.tracker
+            msgs.old.items result msgs.new.items self.new.tracker }
     {
         match self.receive_kept(limit, msgs)? {
             Some(count) => Ok(Ok(count)),
@@ -48,11 +48,11 @@ impl<T: Clone, P: HistoryPort<T, J>, J: Channel> TrackedReceiver<T, P, J> {
         limit: usize,
         msgs: &mut Vec<T, B>,
     ) -> Result<Result<usize, RecvError>, AllocError>
-        ensures key { self.new.place.key ≡ self.old.place.key }
-        ensures seen { IsPrefix self.old.place.steps self.new.place.steps }
-        ensures only { MakesReceives P.learns self.old.place self.new.place }
-        ensures takes { TakesMany T.is_clone J.opening as_try_recv limit self.old.place
-            msgs.old.items result msgs.new.items self.new.place }
+        ensures key { self.new.tracker.key ≡ self.old.tracker.key }
+        ensures seen { IsPrefix self.old.tracker.steps self.new.tracker.steps }
+        ensures only { MakesReceives P.learns self.old.tracker self.new.tracker }
+        ensures takes { TakesMany T.is_clone J.opening as_try_recv limit self.old.tracker
+            msgs.old.items result msgs.new.items self.new.tracker }
     {
         match self.receive_kept(limit, msgs)? {
             Some(count) => Ok(Ok(count)),
@@ -68,11 +68,11 @@ impl<T: Clone, P: HistoryPort<T, J>, J: Channel> TrackedReceiver<T, P, J> {
         limit: usize,
         msgs: &mut Vec<T, B>,
     ) -> Result<Poll<Option<Result<usize, RecvError>>>, AllocError>
-        ensures key { self.new.place.key ≡ self.old.place.key }
-        ensures seen { IsPrefix self.old.place.steps self.new.place.steps }
-        ensures only { MakesReceives P.learns self.old.place self.new.place }
-        ensures takes { TakesMany T.is_clone J.opening (λ tried. tried) limit self.old.place
-            msgs.old.items (as_found result) msgs.new.items self.new.place }
+        ensures key { self.new.tracker.key ≡ self.old.tracker.key }
+        ensures seen { IsPrefix self.old.tracker.steps self.new.tracker.steps }
+        ensures only { MakesReceives P.learns self.old.tracker self.new.tracker }
+        ensures takes { TakesMany T.is_clone J.opening (λ tried. tried) limit self.old.tracker
+            msgs.old.items (as_found result) msgs.new.items self.new.tracker }
         ensures registered { IfOk result (λ poll. OnPending poll (IsArmed cx.new)) }
         ensures kept { Keeps cx.old cx.new }
     {
@@ -97,20 +97,22 @@ impl<T: Clone, P: HistoryPort<T, J>, J: Channel> TrackedReceiver<T, P, J> {
         limit: usize,
         msgs: &mut Vec<T, B>,
     ) -> Result<Option<usize>, AllocError>
-        ensures key { self.new.place.key ≡ self.old.place.key }
-        ensures seen { IsPrefix self.old.place.steps self.new.place.steps }
-        ensures only { MakesReceives P.learns self.old.place self.new.place }
+        ensures key { self.new.tracker.key ≡ self.old.tracker.key }
+        ensures seen { IsPrefix self.old.tracker.steps self.new.tracker.steps }
+        ensures only { MakesReceives P.learns self.old.tracker self.new.tracker }
         ensures some { IfOk result (λ kept. IfSome kept (λ count. (count ≤ limit)
-            × (0 < limit → 0 < count) × TakesInto T.is_clone J.opening self.old.place
-            msgs.old.items count msgs.new.items self.new.place)) }
+            × (0 < limit → 0 < count) × TakesInto T.is_clone J.opening self.old.tracker
+            msgs.old.items count msgs.new.items self.new.tracker)) }
         ensures none { IfOk result (λ kept. IfNone kept ((0 < limit)
-            × (self.new.place ≡ self.old.place) × (msgs.new.items ≡ msgs.old.items)
+            × (self.new.tracker ≡ self.old.tracker) × (msgs.new.items ≡ msgs.old.items)
             × (vec_len msgs.new < vec_capacity msgs.new))) }
-        ensures err { OnErr result ((self.new.place ≡ self.old.place)
+        ensures err { OnErr result ((self.new.tracker ≡ self.old.tracker)
             × (msgs.new.items ≡ msgs.old.items)) }
     {
-        let Place { key, tracker } = &mut self.place;
-        let count = self.port.receive_many(tracker, *key, limit, msgs);
+        let ReceiverTracker { inner } = &mut self.tracker;
+        let Tracker { caller } = inner;
+        let key = caller.key();
+        let count = self.port.receive_many(caller, key, limit, msgs);
         if count > 0 || limit == 0 {
             return Ok(Some(count));
         }
@@ -128,11 +130,11 @@ impl<T: Clone, P: TimedHistoryPort<T, J>, J: Channel> TrackedReceiver<T, P, J> {
         msgs: &mut Vec<T, B>,
         time: Duration,
     ) -> Result<Result<usize, RecvTimeoutError>, AllocError>
-        ensures key { self.new.place.key ≡ self.old.place.key }
-        ensures seen { IsPrefix self.old.place.steps self.new.place.steps }
-        ensures only { MakesReceives P.learns self.old.place self.new.place }
-        ensures takes { TakesMany T.is_clone J.opening as_timed_try limit self.old.place
-            msgs.old.items result msgs.new.items self.new.place }
+        ensures key { self.new.tracker.key ≡ self.old.tracker.key }
+        ensures seen { IsPrefix self.old.tracker.steps self.new.tracker.steps }
+        ensures only { MakesReceives P.learns self.old.tracker self.new.tracker }
+        ensures takes { TakesMany T.is_clone J.opening as_timed_try limit self.old.tracker
+            msgs.old.items result msgs.new.items self.new.tracker }
     {
         match self.receive_kept(limit, msgs)? {
             Some(count) => Ok(Ok(count)),

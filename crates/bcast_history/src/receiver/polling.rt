@@ -4,13 +4,14 @@ ghost use mathlib.Core.List.{IsPrefix};
 ghost use Rattle.futures.specs.Task.{IsArmed, Keeps};
 ghost use Rattle.futures.specs.Poll.{OnPending};
 ghost use Rattle.bcast_history.specs.History.{end_of};
-ghost use Rattle.bcast_history.specs.Makes.{MakesCall, MakesReceives, caller_of};
+ghost use Rattle.bcast_history.specs.Makes.{MakesCall, MakesReceives};
 ghost use Rattle.bcast_history.specs.Reader.{IsShared, Takes, TakesNext, as_found};
+ghost use Rattle.bcast_history.specs.Tracker.{number};
 
 use super::TrackedReceiver;
-use crate::place::Place;
+use crate::caller::Channel;
 use crate::port::HistoryPort;
-use crate::tracker::Channel;
+use crate::tracker::{ReceiverTracker, Tracker};
 use async_broadcast::RecvError;
 use bcast_core::{Call, PollRecv, Reply};
 use futures::task::{Context, Poll};
@@ -31,24 +32,26 @@ impl<T: Clone, P: HistoryPort<T, J>, J: Channel> TrackedReceiver<T, P, J> {
         &mut self,
         cx: &mut Context<'_>,
     ) -> Result<Poll<Option<Result<T, RecvError>>>, AllocError>
-        ensures key { self.new.place.key ≡ self.old.place.key }
-        ensures seen { IsPrefix self.old.place.steps self.new.place.steps }
-        ensures takes { IfOk result (λ poll. Takes T.is_clone J.opening self.old.place
-            self.new.place (as_found (Ok poll))) }
+        ensures key { self.new.tracker.key ≡ self.old.tracker.key }
+        ensures seen { IsPrefix self.old.tracker.steps self.new.tracker.steps }
+        ensures takes { IfOk result (λ poll. Takes T.is_clone J.opening self.old.tracker
+            self.new.tracker (as_found (Ok poll))) }
         ensures made { IfOk result (λ poll. MakesCall P.learns T.is_clone J.opening
-            (caller_of self.old.place) (Call.PollRecv self.old.place.key)
-            (Reply.PollRecv (Ok poll)) (caller_of self.new.place)) }
-        ensures refused { IfErr result (λ error. ((self.new.place ≡ self.old.place)
+            self.old.tracker (Call.PollRecv self.old.tracker.key)
+            (Reply.PollRecv (Ok poll)) self.new.tracker) }
+        ensures refused { IfErr result (λ error. ((self.new.tracker ≡ self.old.tracker)
             × (self.new.waker.is_refused ≡ true))
-            ⊎ (Takes T.is_clone J.opening self.old.place self.new.place (as_found (Err error))
-            × MakesCall P.learns T.is_clone J.opening (caller_of self.old.place)
-            (Call.PollRecv self.old.place.key) (Reply.PollRecv (Err error))
-            (caller_of self.new.place))) }
+            ⊎ (Takes T.is_clone J.opening self.old.tracker self.new.tracker (as_found (Err error))
+            × MakesCall P.learns T.is_clone J.opening self.old.tracker
+            (Call.PollRecv self.old.tracker.key) (Reply.PollRecv (Err error))
+            self.new.tracker)) }
         ensures registered { IfOk result (λ poll. OnPending poll (IsArmed cx.new)) }
         ensures kept { Keeps cx.old cx.new }
     {
-        let Place { key, tracker } = &mut self.place;
-        match self.port.poll(tracker, PollRecv(*key), &mut self.waker, cx) {
+        let ReceiverTracker { inner } = &mut self.tracker;
+        let Tracker { caller } = inner;
+        let key = caller.key();
+        match self.port.poll(caller, PollRecv(key), &mut self.waker, cx) {
             Ok(polled) => polled,
             Err(_) => Err(AllocError),
         }
@@ -68,13 +71,13 @@ impl<T: Clone, P: HistoryPort<T, J>, J: Channel> TrackedReceiver<T, P, J> {
         rt: &impl Wait,
         cx: &mut Context<'_>,
     ) -> Result<Poll<Option<T>>, AllocError>
-        ensures key { self.new.place.key ≡ self.old.place.key }
-        ensures seen { IsPrefix self.old.place.steps self.new.place.steps }
-        ensures only { MakesReceives P.learns self.old.place self.new.place }
-        ensures takes { TakesNext T.is_clone J.opening self.old.place self.new.place result }
+        ensures key { self.new.tracker.key ≡ self.old.tracker.key }
+        ensures seen { IsPrefix self.old.tracker.steps self.new.tracker.steps }
+        ensures only { MakesReceives P.learns self.old.tracker self.new.tracker }
+        ensures takes { TakesNext T.is_clone J.opening self.old.tracker self.new.tracker result }
         ensures refused { OnErr result ((self.new.waker.is_refused ≡ true)
-            ⊎ IsShared (end_of J.opening self.new.place.steps) self.new.place.key
-            self.new.place.next) }
+            ⊎ IsShared (end_of J.opening self.new.tracker.steps)
+            self.new.tracker.key (number self.new.tracker.next)) }
         ensures registered { IfOk result (λ poll. OnPending poll (IsArmed cx.new)) }
         ensures kept { Keeps cx.old cx.new }
     {

@@ -11,8 +11,8 @@ new-steps-requires-clause-cursors g c =
     first_claimed (start_of {T = g.row.T.Denot} g.J.Channel.opening).control _ c.opened.invariant.2 c.new-cursor.ensures.registry.1
     (first_tracked {T = g.row.T.Denot} is refl).1
 
-pub invariant_of-tracker : goal.invariant_of-tracker
-invariant_of-tracker g c =
+pub invariant_of-caller : goal.invariant_of-caller
+invariant_of-caller g c =
     let is = ap (λ o. o.opening) c.opened.view_is ∙ c.requires.1 in
     let first = first_tracked is (c.seen.ensures ∙ c.new-steps.ensures) in
     let place = placed (end_of g.J.Channel.opening c.seen.result).control c.new-cursor.ensures.made first.1 (ap (λ o. o.registry) c.opened.view_is ∙ c.requires.2) in

@@ -12,14 +12,14 @@ loop-msg-preserved g c =
     let accepted = not_refused c.broadcast_blocking.result (sym c.is_err.ensures.value ∙ c.if-is_err.false) in
     record {
       end = refl;
-      sent = one_more c.args.first {after = c.broadcast_blocking.new.self.known.steps} c.sends_stand_last.ensures
+      sent = one_more c.args.first {after = c.broadcast_blocking.new.self.tracker.steps} c.sends_stand_last.ensures
           (rw c.loop-msg.invariant.end at c.loop-msg.invariant.sent) c.broadcast_blocking.ensures.follows accepted;
     }
 
 pub invariant_of-result : goal.invariant_of-result
 invariant_of-result g c =
     let o = g.J.Channel.opening in
-    let steps = c.loop-msg-test.sender.known.steps in
+    let steps = c.loop-msg-test.sender.tracker.steps in
     let sent : HasAll c.args.first c.loop-msg.end (accepted_by o steps) = elim c.loop-msg-test.branch [
       | else-loop-msg-test w ↦ rw w.sender-is c.loop-msg.invariant.sent
       | then-loop-msg-test+then-is_err w ↦

@@ -2,7 +2,8 @@
 use Rattle.std.proofs.Common.{inl, inr, Some, None, Ok, Err, refl, sym, ap, ◌∙◌, subst}
 use Rattle.futures.specs.declared.task.Poll.TheVariants as poll
 use Rattle.bcast_history.specs.History.{end_of}
-use Rattle.bcast_history.specs.Reader.{Reader, IsShared}
+use Rattle.bcast_history.specs.Reader.{IsShared}
+use Rattle.bcast_history.specs.Tracker.{Tracker, number}
 use Rattle.bcast_history.proofs.Receiving.{receives_on, receives_one, receives_refused}
 use Rattle.bcast_history.proofs.Skipped.{on_err, skips, finds_next, errs_next}
 use Rattle.bcast_history.proofs.receiver.TrackedReceiver.poll_next.Goals as goal
@@ -23,39 +24,39 @@ loop-preserved g c =
 pub returns-in_err-next-clause-takes : goal.returns-in_err-next-clause-takes
 returns-in_err-next-clause-takes g c =
     let polled = c.in_err-next.ensures in
-    errs_next g.T.Clone.is_clone _ _ c.loop.self.place c.poll_recv.new.self.place c.loop.invariant.3 polled.seen c.from_residual.result c.from_residual.ensures.0
-    (elim polled.refused [ inl same ↦ ap (λ (r : Reader g.row.T.Denot). r.next) same.0 | inr made ↦ made.0.0 ])
+    errs_next g.T.Clone.is_clone _ _ c.loop.self.tracker c.poll_recv.new.self.tracker c.loop.invariant.3 polled.seen c.from_residual.result c.from_residual.ensures.0
+    (elim polled.refused [ inl same ↦ ap (λ (t : Tracker g.row.T.Denot). number t.next) same.0 | inr made ↦ made.0.0 ])
 
 pub returns-in_err-next-clause-refused : goal.returns-in_err-next-clause-refused
 returns-in_err-next-clause-refused g c =
     let polled = c.in_err-next.ensures in
-    let h = end_of g.J.Channel.opening c.poll_recv.new.self.place.steps in
+    let h = end_of g.J.Channel.opening c.poll_recv.new.self.tracker.steps in
     on_err c.from_residual.result (elim polled.refused [
       | inl same ↦ inl same.1
-      | inr made ↦ inr (subst (λ key. IsShared h key c.poll_recv.new.self.place.next) (sym polled.key) (subst (IsShared h c.loop.self.place.key) (sym made.0.0) made.0.1))
+      | inr made ↦ inr (subst (λ key. IsShared h key (number c.poll_recv.new.self.tracker.next)) (sym polled.key) (subst (IsShared h c.loop.self.tracker.key) (sym made.0.0) made.0.1))
     ])
 
 pub returns-in_default-clause-takes : goal.returns-in_default-clause-takes
 returns-in_default-clause-takes g c =
     let polled = c.in_ok-next.ensures in
-    finds_next g.T.Clone.is_clone _ _ c.loop.self.place c.poll_recv.new.self.place c.loop.invariant.3 polled.seen (Ok poll.Pending) (rw c.in_default.is at polled.takes)
+    finds_next g.T.Clone.is_clone _ _ c.loop.self.tracker c.poll_recv.new.self.tracker c.loop.invariant.3 polled.seen (Ok poll.Pending) (rw c.in_default.is at polled.takes)
 
 pub returns-in_default-next-clause-takes : goal.returns-in_default-next-clause-takes
 returns-in_default-next-clause-takes g c =
     let polled = c.in_ok-next.ensures in
-    finds_next g.T.Clone.is_clone _ _ c.loop.self.place c.poll_recv.new.self.place c.loop.invariant.3 polled.seen (Ok (poll.Ready None))
+    finds_next g.T.Clone.is_clone _ _ c.loop.self.tracker c.poll_recv.new.self.tracker c.loop.invariant.3 polled.seen (Ok (poll.Ready None))
     (rw (c.in-Ready.is, c.in_default-next.is) at polled.takes)
 
 pub returns-in-Ok-clause-takes : goal.returns-in-Ok-clause-takes
 returns-in-Ok-clause-takes g c =
     let polled = c.in_ok-next.ensures in
-    finds_next g.T.Clone.is_clone _ _ c.loop.self.place c.poll_recv.new.self.place c.loop.invariant.3 polled.seen (Ok (poll.Ready (Some c.in-Ok.msg)))
+    finds_next g.T.Clone.is_clone _ _ c.loop.self.tracker c.poll_recv.new.self.tracker c.loop.invariant.3 polled.seen (Ok (poll.Ready (Some c.in-Ok.msg)))
     (rw (c.in-Ready.is, c.in-Some-next.is, c.in-Ok.is) at polled.takes)
 
 pub returns-in-Closed-clause-takes : goal.returns-in-Closed-clause-takes
 returns-in-Closed-clause-takes g c =
     let polled = c.in_ok-next.ensures in
-    finds_next g.T.Clone.is_clone _ _ c.loop.self.place c.poll_recv.new.self.place c.loop.invariant.3 polled.seen (Ok (poll.Ready None))
+    finds_next g.T.Clone.is_clone _ _ c.loop.self.tracker c.poll_recv.new.self.tracker c.loop.invariant.3 polled.seen (Ok (poll.Ready None))
     (rw (c.in-Ready.is, c.in-Some-next.is, c.in-Err.is, c.in-Closed.is) at polled.takes)
 
 pub returns-in_err-next-clause-only : goal.returns-in_err-next-clause-only

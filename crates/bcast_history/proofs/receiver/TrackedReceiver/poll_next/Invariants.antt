@@ -8,6 +8,6 @@ use Rattle.bcast_history.proofs.receiver.TrackedReceiver.poll_next.Given as goal
 abbrev pub invariant-loop : goal.invariant-loop
 invariant-loop g l =
     (goal.iterator-loop g).can_next l.iterator' × (goal.iterator-loop g).is_finite l.iterator'
-    × (l.self.place.key ≡ l.fn.self.place.key)
-    × HasSkipped g.J.Channel.opening l.fn.self.place l.self.place × Keeps l.fn.cx l.cx
-    × MakesReceives g.P.Ask.learns l.fn.self.place l.self.place
+    × (l.self.tracker.key ≡ l.fn.self.tracker.key)
+    × HasSkipped g.J.Channel.opening l.fn.self.tracker l.self.tracker × Keeps l.fn.cx l.cx
+    × MakesReceives g.P.Ask.learns l.fn.self.tracker l.self.tracker

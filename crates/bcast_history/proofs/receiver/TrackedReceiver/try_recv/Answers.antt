@@ -1,22 +1,12 @@
 -- What was learned is what the receiver takes.
-use Rattle.bcast_model.specs.declared.run.Call.TheVariants as call
-use Rattle.bcast_history.proofs.Making.{makes_on}
-use Rattle.bcast_history.proofs.Received.{tried}
+use Rattle.bcast_history.proofs.Making.{receives}
 use Rattle.bcast_history.proofs.receiver.TrackedReceiver.try_recv.Goals as goal
 
 pub invariant_of-self : goal.invariant_of-self
-invariant_of-self g c =
-    (tried _ c.key.view_is c.key.invariant.0 (g.met.P.HistoryPort.follows _ _ _ _ c.ask.ensures.learned)).still
+invariant_of-self g c = (receives g.met.P.HistoryPort.follows c.self.view_is c.key-key.ensures c.self.invariant c.ask.ensures.once).0.still.1
 
 pub returns-clause-seen : goal.returns-clause-seen
-returns-clause-seen g c =
-    (tried _ c.key.view_is c.key.invariant.0 (g.met.P.HistoryPort.follows _ _ _ _ c.ask.ensures.learned)).seen
+returns-clause-seen g c = (receives g.met.P.HistoryPort.follows c.self.view_is c.key-key.ensures c.self.invariant c.ask.ensures.once).0.seen
 
-pub returns-clause-takes : goal.returns-clause-takes
-returns-clause-takes g c =
-    (tried _ c.key.view_is c.key.invariant.0 (g.met.P.HistoryPort.follows _ _ _ _ c.ask.ensures.learned)).takes
-
-pub returns-clause-made : goal.returns-clause-made
-returns-clause-made g c =
-    let received = tried _ c.key.view_is c.key.invariant.0 (g.met.P.HistoryPort.follows _ _ _ _ c.ask.ensures.learned) in
-    makes_on {after = c.ask.new.caller} c.key.view_is c.key.invariant.0 g.met.P.HistoryPort.follows call.TryRecv received.still.0 c.ask.ensures.learned
+pub returns-clause-received : goal.returns-clause-received
+returns-clause-received g c = (receives g.met.P.HistoryPort.follows c.self.view_is c.key-key.ensures c.self.invariant c.ask.ensures.once).1

@@ -1,5 +1,6 @@
 -- Each receiver has its thread, or is still to have one.
 use Rattle.std.proofs.Common.{◌≡◌, ◌+◌, vec_len, vec_capacity, All}
+use Rattle.bcast_history.specs.Reader.{StartsAtTheFirst}
 use Rattle.bcast_threads.proofs.started.Started.start_receivers.Given as goal
 
 abbrev pub invariant-loop-receiver : goal.invariant-loop-receiver
@@ -8,7 +9,7 @@ invariant-loop-receiver g l = record {
       ≡ vec_len l.initial.self.receivers.running + vec_len l.initial.receivers;
   room : vec_capacity l.self.receivers.running ≡ vec_capacity l.initial.self.receivers.running;
   senders : l.self.senders ≡ l.initial.self.senders;
-  start : All (λ receiver. receiver.place.next ≡ g.J.Channel.opening.first_number) l.receivers.items;
+  start : All (λ receiver. StartsAtTheFirst g.J.Channel.opening receiver.tracker) l.receivers.items;
 }
 
 abbrev pub decreases-loop-receiver : goal.decreases-loop-receiver
