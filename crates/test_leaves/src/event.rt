@@ -205,19 +205,20 @@ fn notices_are_called_in_their_order(rt: HostRuntime) -> Result<(), Fail> {
 }
 
 // The ids from the front, after three that waited, one of which was told.
-fn ids_of_three<A: Allocator + Copy>(alloc: A) -> Result<Vec<Id, A>, AllocError> {
-    let mut event = Event::new(alloc);
-    wait(&mut event, STREAM, Silent)?;
-    wait(&mut event, FUTURE, Silent)?;
-    wait(&mut event, FAR, Silent)?;
+fn ids_of_three(event: &mut Event<Id, Silent>, alloc: Global) -> Result<Vec<Id>, AllocError> {
+    wait(event, STREAM, Silent)?;
+    wait(event, FUTURE, Silent)?;
+    wait(event, FAR, Silent)?;
     event.tell(1);
-    wait(&mut event, STREAM, Silent)?;
+    wait(event, STREAM, Silent)?;
     event.ids(alloc)
 }
 
 #[test]
 fn who_was_told_waits_again_last(rt: HostRuntime) -> Result<(), Fail> {
-    assert!(rt; ids_of_three(rt.alloc())?.as_slice() == [FUTURE, FAR, STREAM].as_slice());
+    let mut event = Event::new(rt.alloc());
+    let ids = ids_of_three(&mut event, rt.alloc())?;
+    assert!(rt; ids.as_slice() == [FUTURE, FAR, STREAM].as_slice());
     Ok(())
 }
 

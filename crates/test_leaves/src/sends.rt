@@ -2,6 +2,7 @@
 use bcast_waiting::SendList;
 use bcast_waiting::notice::{OwnedNotice, Silent};
 use std::alloc::{AllocError, Global};
+use std::process::Abort;
 use std::test::Fail;
 
 #[derive(Clone, Copy)]
@@ -68,13 +69,18 @@ fn waits(
     Ok(sends.ids(alloc)?.as_slice() == places && sends.told() == told)
 }
 
+// Makes the calls of all rows, and fails unless each leaves what it says.
+fn play(rt: &impl Abort, sends: &mut SendList<Silent>, alloc: Global) -> Result<(), Fail> {
+    for (index, (call, places, told)) in ROWS.iter().enumerate() {
+        make(sends, *call)?;
+        assert!(rt; waits(sends, alloc, places, *told)?, "row {index}");
+    }
+    assert!(rt; sends.places(alloc)?.as_slice() == [2].as_slice());
+    Ok(())
+}
+
 #[test]
 fn a_told_send_that_gives_up_tells_the_next(rt: HostRuntime) -> Result<(), Fail> {
     let mut sends = SendList::new(rt.alloc());
-    for (index, (call, places, told)) in ROWS.iter().enumerate() {
-        make(&mut sends, *call)?;
-        assert!(rt; waits(&sends, rt.alloc(), places, *told)?, "row {index}");
-    }
-    assert!(rt; sends.places(rt.alloc())?.as_slice() == [2].as_slice());
-    Ok(())
+    play(&rt, &mut sends, rt.alloc())
 }

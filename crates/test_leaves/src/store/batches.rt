@@ -99,6 +99,30 @@ fn has(store: &Store<Letter>, letters: &[u8], front: u64) -> bool {
     has
 }
 
+// Appends a message, if there is room for it.
+fn push(store: &mut Store<Letter>, letter: u8) {
+    if !store.has_no_receiver() && store.len() < store.room() && store.end() < 99 {
+        store.push(Letter {
+            letter,
+            is_clone: false,
+        });
+    }
+}
+
+// Whether a row's call gives what it says, and leaves that.
+fn is_right(
+    store: &mut Store<Letter>,
+    alloc: Global,
+    keys: [usize; 2],
+    letters: &[u8],
+    row: &Row,
+) -> Result<bool, AllocError> {
+    let (_name, receiver, count, own, cloned, cursors, front) = row;
+    let given = given(store, alloc, keys[*receiver % 2], *count)?;
+    let stand = keys.map(|key| store.cursor(key)) == [Some(cursors[0]), Some(cursors[1])];
+    Ok(stand && are(&given, own, cloned) && has(store, letters, *front))
+}
+
 // Makes the calls of a table on a store with two receivers and these messages, and returns the name
 // of the first row that gives or leaves something else.
 fn first_wrong(
@@ -109,18 +133,11 @@ fn first_wrong(
     let mut store = Store::new(alloc, 7, 4)?;
     let keys = [store.add(7)?, store.add(7)?];
     for letter in letters {
-        if !store.has_no_receiver() && store.len() < store.room() && store.end() < 99 {
-            store.push(Letter {
-                letter: *letter,
-                is_clone: false,
-            });
-        }
+        push(&mut store, *letter);
     }
-    for (name, receiver, count, own, cloned, cursors, front) in rows {
-        let given = given(&mut store, alloc, keys[*receiver % 2], *count)?;
-        let stand = keys.map(|key| store.cursor(key)) == [Some(cursors[0]), Some(cursors[1])];
-        if !are(&given, own, cloned) || !stand || !has(&store, letters, *front) {
-            return Ok(Some(*name));
+    for row in rows {
+        if !is_right(&mut store, alloc, keys, letters, row)? {
+            return Ok(Some(row.0));
         }
     }
     Ok(None)
