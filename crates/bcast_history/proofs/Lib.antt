@@ -29,3 +29,4 @@ pub mod Sent
 pub mod Given
 pub mod Logged
 pub mod Closed
+pub mod Agree

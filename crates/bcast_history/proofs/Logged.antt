@@ -5,71 +5,77 @@ use Rattle.std.proofs.lemmas.Option.{none-some, same_Some}
 use Rattle.std.specs.Prelude.{IsSomeAnd}
 use mathlib.Core.List.{IsPrefix}
 use Rattle.bcast_model.specs.declared.error.TryRecvError.TheVariants as unread
-use Rattle.bcast_model.specs.Words.{History, IsGiven, numbered, next, end_of_run}
+use Rattle.bcast_model.specs.Words.{History, IsGiven, ClonesEqual, numbered, next, end_of_run}
 use Rattle.bcast_history.specs.declared.step.Opening.{Opening}
 use Rattle.bcast_history.specs.declared.step.Step.{Step}
-use Rattle.bcast_history.specs.History.{calls_of, replies_of, start_of, end_of}
+use Rattle.bcast_history.specs.History.{IsHistory, calls_of, replies_of, start_of, end_of}
 use Rattle.bcast_history.proofs.Prefixes.{prefix_shorter, prefix_whole}
-use Rattle.bcast_history.specs.Laws.{MessagesStay}
-use Rattle.bcast_history.specs.Log.{AreFrom, IsLog, IsWholeLog, LogsAreAccepted}
+use Rattle.bcast_history.specs.Log.{IsLog, IsWholeLog, LogsAreAccepted}
 use Rattle.bcast_history.specs.Batch.{AreDeliveries, TakesInto}
 use Rattle.bcast_history.specs.Reader.{Takes}
-use Rattle.bcast_history.specs.Tracker.{Tracker, number}
+use Rattle.bcast_history.specs.Tracker.{Tracker}
 use Rattle.bcast_history.proofs.Sent.{messages_stay, accepted_grows}
 
-module _ {T : Type 0} where
-  is_there : (accepted : Option T) (msg : T) → IsSomeAnd accepted (λ a. IsGiven {T = T} (λ x y. y ≡ x) a msg) → accepted ≡ Some msg
-  is_there (Some a) msg (inl same) = ap Some (sym same)
-  is_there (Some a) msg (inr same) = ap Some (sym same)
-  is_there None msg there = absurd there
+module _ {T : Type 0} (is_clone : T → T → Type 0) where
+  still_given : (accepted later : Option T) (msg : T) → ((a : T) → accepted ≡ Some a → later ≡ Some a)
+      → IsSomeAnd accepted (λ a. IsGiven is_clone a msg) → IsSomeAnd later (λ a. IsGiven is_clone a msg)
+  still_given (Some a) later msg keeps given = subst (λ l. IsSomeAnd l (λ a. IsGiven is_clone a msg)) (sym (keeps a refl)) given
+  still_given None later msg keeps given = absurd given
 
-  -- messages that are given are accepted ones
-  delivered : (h : History T) (number : ℕ) (given : List T) → AreDeliveries (λ x y. y ≡ x) h number given → AreFrom h number given
-  delivered h number [] are = tt
-  delivered h number (msg ∷ given) (here, rest) = (is_there _ msg here, delivered h (number + 1) given rest)
-
-  in_a_row : (h : History T) (start : ℕ) (log more : List T) → AreFrom h start log → AreFrom h (start + length log) more → AreFrom h start (log ++ more)
-  in_a_row h start [] more all are = subst (λ n. AreFrom h n more) (omega arith) are
+  in_a_row : (h : History T) (start : ℕ) (log more : List T) → AreDeliveries is_clone h start log
+      → AreDeliveries is_clone h (start + length log) more → AreDeliveries is_clone h start (log ++ more)
+  in_a_row h start [] more all are = subst (λ n. AreDeliveries is_clone h n more) (omega arith) are
   in_a_row h start (first ∷ log) more (here, rest) are =
       let on : start + length (first ∷ log) ≡ start + 1 + length log = omega arith in
-      (here, in_a_row h (start + 1) log more rest (subst (λ n. AreFrom h n more) on are))
+      (here, in_a_row h (start + 1) log more rest (subst (λ n. AreDeliveries is_clone h n more) on are))
 
   stay : (h later : History T) (start : ℕ) (log : List T) → ((number : ℕ) (msg : T) → numbered h number ≡ Some msg → numbered later number ≡ Some msg)
-      → AreFrom h start log → AreFrom later start log
+      → AreDeliveries is_clone h start log → AreDeliveries is_clone later start log
   stay h later start [] keeps all = tt
-  stay h later start (msg ∷ log) keeps (here, rest) = (keeps start msg here, stay h later (start + 1) log keeps rest)
+  stay h later start (msg ∷ log) keeps (here, rest) =
+      (still_given (numbered h start) (numbered later start) msg (keeps start) here, stay h later (start + 1) log keeps rest)
 
-  pub longer : {o : Opening} {start count : ℕ} {log more : List T} {old new : Tracker T} → MessagesStay T → IsLog o start log old
-      → IsPrefix old.steps new.steps → TakesInto (λ x y. y ≡ x) o old log count more new → IsLog o start more new
-  longer {o = o} {start = start} {log = log} {more = more} {old = old} {new = new} law so_far begins takes =
+  still_log : {o : Opening} {log : List T} {old : Tracker T} (new : Tracker T) → IsLog is_clone o log old → IsPrefix old.steps new.steps
+      → AreDeliveries is_clone (end_of o new.steps) o.first_number log
+  still_log {o = o} {log = log} {old = old} new so_far begins =
+      stay (end_of o old.steps) (end_of o new.steps) o.first_number log
+      (λ number msg. messages_stay o old.steps new.steps number msg begins) so_far.messages
+
+  pub longer : {o : Opening} {count : ℕ} {log more : List T} {old new : Tracker T} → IsLog is_clone o log old
+      → IsPrefix old.steps new.steps → TakesInto is_clone o old log count more new → IsLog is_clone o more new
+  longer {o = o} {log = log} {more = more} {old = old} {new = new} so_far begins takes =
       let h = end_of o new.steps in
-      let kept = stay (end_of o old.steps) h start log (λ number m. law o old.steps new.steps number m begins) so_far.messages in
-      let given = delivered h (start + length log) takes.given (subst (λ n. AreDeliveries (λ x y. y ≡ x) h n takes.given) so_far.next takes.messages) in
+      let given = subst (λ n. AreDeliveries is_clone h n takes.given) so_far.next takes.messages in
       let size = ap length takes.put ∙ length-append log takes.given in
       record {
-        messages = subst (AreFrom h start) (sym takes.put) (in_a_row h start log takes.given kept given);
+        messages = subst (AreDeliveries is_clone h o.first_number) (sym takes.put)
+            (in_a_row h o.first_number log takes.given (still_log new so_far begins) given);
         next = omega (arith, so_far.next, takes.next, takes.counted, size);
       }
 
-  pub whole : {o : Opening} {start : ℕ} {log : List T} {old new : Tracker T} → MessagesStay T → IsLog o start log old
-      → IsPrefix old.steps new.steps → Takes (λ x y. y ≡ x) o old new (Ok (Err unread.Closed)) → IsWholeLog o start log new
-  whole {o = o} {start = start} {log = log} {old = old} {new = new} law so_far begins (same, all, closed) =
-      record {
-        messages = stay (end_of o old.steps) (end_of o new.steps) start log (λ number m. law o old.steps new.steps number m begins) so_far.messages;
-        whole = sym so_far.next ∙ all;
-        closed = closed;
-      }
+  pub whole : {o : Opening} {log : List T} {old : Tracker T} (new : Tracker T) → IsLog is_clone o log old
+      → IsPrefix old.steps new.steps → Takes is_clone o old new (Ok (Err unread.Closed)) → IsHistory is_clone o new.steps
+      → IsWholeLog is_clone o log new.steps
+  whole new so_far begins (same, all, closed) run =
+      record { messages = still_log new so_far begins; whole = sym so_far.next ∙ all; closed = closed; run = run }
 
-  -- an entry of a log has its number
-  at_place : (h : History T) (start : ℕ) (log : List T) → AreFrom h start log → (index : ℕ) (msg : T) → slice_get log index ≡ Some msg
-      → numbered h (start + index) ≡ Some msg
-  at_place h start [] all index msg at = absurd (none-some msg at)
-  at_place h start (first ∷ log) (here, rest) zero msg at =
-      subst (λ n. numbered h n ≡ Some msg) (omega arith) (here ∙ at)
-  at_place h start (first ∷ log) (here, rest) (suc index) msg at =
-      let on : start + 1 + index ≡ start + suc index = omega arith in
-      subst (λ n. numbered h n ≡ Some msg) on (at_place h (start + 1) log rest index msg at)
+  module _ (equal : ClonesEqual is_clone) where
+    is_there : (accepted : Option T) (msg : T) → IsSomeAnd accepted (λ a. IsGiven is_clone a msg) → accepted ≡ Some msg
+    is_there (Some a) msg (inl same) = ap Some (sym same)
+    is_there (Some a) msg (inr copy) = ap Some (sym (equal a msg copy))
+    is_there None msg there = absurd there
 
+    -- an entry of a log has its number
+    at_place : (h : History T) (start : ℕ) (log : List T) → AreDeliveries is_clone h start log
+        → (index : ℕ) (msg : T) → slice_get log index ≡ Some msg → numbered h (start + index) ≡ Some msg
+    at_place h start [] all index msg at = absurd (none-some msg at)
+    at_place h start (first ∷ log) (here, rest) zero msg at =
+        subst (λ n. numbered h n ≡ Some msg) (omega arith) (is_there (numbered h start) first here ∙ at)
+    at_place h start (first ∷ log) (here, rest) (suc index) msg at =
+        let on : start + 1 + index ≡ start + suc index = omega arith in
+        subst (λ n. numbered h n ≡ Some msg) on (at_place h (start + 1) log rest index msg at)
+
+module _ {T : Type 0} where
   -- a list whose entries all stand in another at their places begins it
   by_places : (log all : List T) → ((index : ℕ) (msg : T) → slice_get log index ≡ Some msg → slice_get all index ≡ Some msg) → IsPrefix log all
   by_places [] all there = (all, refl)
@@ -89,13 +95,13 @@ module _ {T : Type 0} where
   first_kept h [] = refl
   first_kept h (step ∷ steps) = first_kept (next h step.call step.reply) steps
 
-  pub logs_are_accepted : LogsAreAccepted T
-  logs_are_accepted o known ended later log knows ends are end =
+  pub logs_are_accepted : (is_clone : T → T → Type 0) → LogsAreAccepted is_clone
+  logs_are_accepted is_clone equal o known ended later log knows ends are end =
       let h = end_of o later in
       let first : h.first ≡ o.first_number = first_kept (start_of o) later in
-      let kept = stay (end_of o known) h o.first_number log (λ number m. messages_stay o known later number m knows) are in
+      let kept = stay is_clone (end_of o known) h o.first_number log (λ number m. messages_stay o known later number m knows) are in
       let begins = by_places log h.accepted (λ index msg at.
-      entry_of h index msg (subst (λ n. numbered h (n + index) ≡ Some msg) (sym first) (at_place h o.first_number log kept index msg at))) in
+      entry_of h index msg (subst (λ n. numbered h (n + index) ≡ Some msg) (sym first) (at_place is_clone equal h o.first_number log kept index msg at))) in
       let grown = accepted_grows o ended later ends in
       let same : (end_of o ended).first ≡ o.first_number = first_kept (start_of o) ended in
       let size : length log ≡ length (end_of o ended).accepted = omega (arith, end, same) in

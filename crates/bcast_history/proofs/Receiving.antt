@@ -10,7 +10,7 @@ use Rattle.bcast_core.specs.Batch.{ReceivesEach, ReceivesInto}
 use Rattle.bcast_history.specs.declared.step.Opening.{Opening}
 use Rattle.bcast_history.specs.declared.step.Step.{Step}
 use Rattle.bcast_history.specs.Makes.{IsReceive, MakesCall, MakesEach, MakesReceives}
-use Rattle.bcast_history.specs.Tracker.{Tracker, IsOf}
+use Rattle.bcast_history.specs.Tracker.{Tracker}
 
 module _ {T : Type 0} (learns : Tracker T → Call T → Reply T → Tracker T → Type 0) where
   both_made : (steps more : List (Step T)) (known between after : Tracker T) → MakesEach learns steps known between

@@ -1,38 +1,51 @@
 -- A receiver's log: the messages that it was given, in order.
-use Rattle.std.specs.Prelude.{◌≡◌, ℕ, ◌+◌, List, [], ◌∷◌, length, true, Some}
+use Rattle.std.specs.Prelude.{◌≡◌, ℕ, ◌+◌, List, length, true, Ok, Err}
 use mathlib.Core.List.{IsPrefix}
-use Rattle.bcast_model.specs.Words.{History, numbered, end_number}
+use Rattle.bcast_model.specs.declared.error.RecvError.{RecvError}
+use Rattle.bcast_model.specs.declared.error.RecvError.TheVariants as unreceived
+use Rattle.bcast_model.specs.declared.error.TryRecvError.TheVariants as unread
+use Rattle.bcast_model.specs.Words.{ClonesEqual, end_number}
 use Rattle.bcast_history.specs.declared.step.Opening.{Opening}
 use Rattle.bcast_history.specs.declared.step.Step.{Step}
-use Rattle.bcast_history.specs.History.{end_of, accepted_by}
+use Rattle.bcast_history.specs.Batch.{AreDeliveries}
+use Rattle.bcast_history.specs.History.{IsHistory, end_of, accepted_by}
+use Rattle.bcast_history.specs.Reader.{Takes}
 use Rattle.bcast_history.specs.Tracker.{Tracker, number}
 
-module _ {T : Type 0} where
-  -- these are accepted messages, one after the other, from the number `start` on
-  abbrev pub AreFrom : History T → ℕ → List T → Type 0
-  AreFrom h start [] = Unit {0}
-  AreFrom h start (msg ∷ log) = (numbered h start ≡ Some msg) × AreFrom h (start + 1) log
+-- what is seen of a log: its messages, and the steps that its receiver knew at its end
+pub record Logged (T : Type 0) : Type 0 where
+  pub list : List T
+  pub steps : List (Step T)
 
--- what a receiver was given that started at `start` and has read so far
-pub record IsLog {T : Type 0} (o : Opening) (start : ℕ) (log : List T) (reader : Tracker T)
-    : Type 0 where
-  pub messages : AreFrom (end_of o reader.steps) start log
-  pub next : number reader.next ≡ start + length log
+module _ {T : Type 0} (is_clone : T → T → Type 0) (o : Opening) where
+  -- what a receiver was given that started at the first message and has read so far: the accepted
+  -- messages, one after the other, each itself or a clone
+  pub record IsLog (log : List T) (reader : Tracker T) : Type 0 where
+    pub messages : AreDeliveries is_clone (end_of o reader.steps) o.first_number log
+    pub next : number reader.next ≡ o.first_number + length log
 
--- what a receiver was given that started at `start`, till it found the channel closed: nothing is
--- left out
-pub record IsWholeLog {T : Type 0} (o : Opening) (start : ℕ) (log : List T) (reader : Tracker T)
-    : Type 0 where
-  pub messages : AreFrom (end_of o reader.steps) start log
-  pub whole : start + length log ≡ end_number (end_of o reader.steps)
-  pub closed : (end_of o reader.steps).control.closed ≡ true
+  -- what it was given till it found the channel closed, by these steps: nothing is left out
+  pub record IsWholeLog (log : List T) (steps : List (Step T)) : Type 0 where
+    pub messages : AreDeliveries is_clone (end_of o steps) o.first_number log
+    pub whole : o.first_number + length log ≡ end_number (end_of o steps)
+    pub closed : (end_of o steps).control.closed ≡ true
+    pub run : IsHistory is_clone o steps
+
+  -- what it is told if it missed some of them: it was given a log, and what comes next is gone
+  pub record IsCutLog (error : RecvError) (reader : Tracker T) : Type 0 where
+    pub log : List T
+    pub last : Tracker T
+    pub given : IsLog log last
+    pub missed : ℕ
+    pub told : error ≡ unreceived.Overflowed missed
+    pub gone : Takes is_clone o last reader (Ok (Err (unread.Overflowed missed)))
 
 -- a log from the first message on that ends where the channel ended after some steps: it is what
--- the channel had accepted by then, whichever of the two was seen first
-abbrev pub LogsAreAccepted : Type 0 → Type 0
-LogsAreAccepted T =
-    (o : Opening) (known ended later : List (Step T)) (log : List T)
+-- the channel had accepted by then, whichever of the two was seen first, if clones are equal
+abbrev pub LogsAreAccepted : {T : Type 0} → (T → T → Type 0) → Type 0
+LogsAreAccepted {T} is_clone =
+    ClonesEqual is_clone → (o : Opening) (known ended later : List (Step T)) (log : List T)
     → IsPrefix known later → IsPrefix ended later
-    → AreFrom (end_of o known) o.first_number log
+    → AreDeliveries is_clone (end_of o known) o.first_number log
     → o.first_number + length log ≡ end_number (end_of o ended)
     → log ≡ accepted_by o ended

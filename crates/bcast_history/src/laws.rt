@@ -1,4 +1,5 @@
 //! What follows from what calls tell.
+ghost use Rattle.bcast_model.specs.Words.{NoClone};
 ghost use Rattle.bcast_history.specs.Laws.{MessagesStay, SendsStandLast, ReceiversReadOn};
 ghost use Rattle.bcast_history.specs.Log.{LogsAreAccepted};
 ghost use Rattle.bcast_history.specs.Closed.{ClosedIsLast, EndIsLast};
@@ -22,9 +23,11 @@ pub fn receivers_read_on<T: Clone>()
 {}
 
 /// Law: a receiver's log of all messages from the first on is what the channel had accepted, if it
-/// ends where the channel ended. So two such logs are the same list.
-pub fn logs_are_accepted<T>()
-    ensures { LogsAreAccepted T }
+/// ends where the channel ended: of the messages themselves, or of clones if these are equal. So
+/// two such logs are the same list.
+pub fn logs_are_accepted<T: Clone>()
+    ensures messages { LogsAreAccepted {T = T} NoClone }
+    ensures clones { LogsAreAccepted T.is_clone }
 {}
 
 /// Law: once a receive has returned `Closed`, each later one of the same receiver does. So after

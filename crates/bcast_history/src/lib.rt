@@ -36,6 +36,7 @@ mod inactive;
 mod iter;
 mod journal;
 mod laws;
+mod log;
 mod opened;
 mod port;
 mod receiver;
@@ -55,6 +56,7 @@ pub use laws::{
     closed_is_last, end_is_last, logs_are_accepted, messages_stay, receivers_read_on,
     sends_stand_last,
 };
+pub use log::WholeLog;
 pub use opened::{FirstHandles, Opened, broadcast};
 pub use port::{History, HistoryPort, TimedHistoryPort};
 pub use receiver::TrackedReceiver;

@@ -119,7 +119,8 @@ impl<T: Clone, J: Channel> Tracker<T, J> {
     }
 }
 
-/// What a receiver knows of its channel, by which it makes its calls.
+/// What a receiver knows of its channel, by which it makes its calls: it always has a number that is
+/// read next.
 #[derive(Drop)]
 pub struct ReceiverTracker<T: Clone, J: Channel> {
     pub(crate) inner: Tracker<T, J>,

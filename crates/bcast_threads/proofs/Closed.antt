@@ -1,34 +1,19 @@
 -- What a channel had accepted when it was closed: nothing comes after it.
-use Rattle.std.proofs.Common.{◌≡◌, ◌⊎◌, inl, inr, ℕ, true, List, [], ◌∷◌, length, sym, ◌∙◌, subst, arith}
-use Rattle.std.proofs.lemmas.Bool.{cases_lt}
+use Rattle.std.proofs.Common.{◌≡◌, inl, inr, ℕ, List, [], ◌∷◌, length, sym, ◌∙◌, subst, arith}
 use Rattle.std.proofs.lemmas.List.Elements.{All-nil, All-head}
 use Rattle.std.specs.Prelude.{All}
-use Rattle.std.proofs.Math.Logic.{∥∥₁_elim}
-use base.Stored.{Coded-set, coded_ℕ, coded_list}
 use mathlib.Core.List.{IsPrefix}
 use Rattle.bcast_text.specs.Order.{HoldsEachOnce}
 use Rattle.bcast_history.specs.declared.step.Opening.{Opening}
 use Rattle.bcast_history.specs.declared.step.Step.{Step}
-use Rattle.bcast_history.specs.History.{IsHistory, end_of}
-use Rattle.bcast_history.proofs.Prefixes.{prefix_trans, prefix_shorter}
+use Rattle.bcast_history.specs.History.{IsHistory}
+use Rattle.bcast_history.proofs.Prefixes.{meet, prefix_trans}
 use Rattle.bcast_history.specs.History.{accepted_by}
 use Rattle.bcast_history.proofs.Closed.{closed_keeps}
+use Rattle.bcast_history.proofs.Agree.{agree, is_accepted}
 use Rattle.bcast_threads.specs.Lists.{HasAll, IsOneList}
 use Rattle.bcast_threads.specs.Closed.{AreBeforeClosing, WereSent, IsWhole}
 use Rattle.bcast_threads.proofs.Sent.{all_stay, contained, joined}
-
--- of two beginnings of one list, one begins the other
-meet : (known other later : List (Step ℕ)) → IsPrefix known later → IsPrefix other later → IsPrefix known other ⊎ IsPrefix other known
-meet known other later one two = elim (cases_lt (length other) (length known)) [
-  | inl less ↦ inr (prefix_shorter other known later two one (omega (arith, less)))
-  | inr more ↦ inl (prefix_shorter known other later one two more)
-]
-
--- what a channel had accepted is all that it had accepted later
-kept : (o : Opening) (closed later : List (Step ℕ)) → (end_of o closed).control.closed ≡ true → IsPrefix closed later
-    → ∥ IsHistory (λ (one two : ℕ). two ≡ one) o later ∥₁ → accepted_by o closed ≡ accepted_by o later
-kept o closed later is begins run =
-    ∥∥₁_elim run (Coded-set (coded_list coded_ℕ) _ _) (λ run. closed_keeps (λ (one two : ℕ). two ≡ one) o closed later is begins run)
 
 -- what was accepted by a run was so before it closed the channel
 pub before_closing : (is_clone : ℕ → ℕ → Type 0) (o : Opening) (first end : ℕ) (steps : List (Step ℕ))
@@ -57,20 +42,11 @@ both_sent o first middle next end steps same low high = record {
 
 -- more steps
 pub still_whole : (o : Opening) (steps later : List (Step ℕ)) (list : List ℕ) → IsPrefix steps later → IsWhole o steps list → IsWhole o later list
-still_whole o steps later list longer whole = record {
-  known = whole.known;
-  begins = prefix_trans whole.known steps later whole.begins longer;
-  run = whole.run;
-  closed = whole.closed;
-  all = whole.all;
-}
+still_whole o steps later list longer whole =
+    record { known = whole.known; begins = prefix_trans whole.known steps later whole.begins longer; log = whole.log }
 
-same_whole : (o : Opening) (steps : List (Step ℕ)) (list other : List ℕ)
-    → IsWhole o steps list → IsWhole o steps other → list ≡ other
-same_whole o steps list other one two = one.all ∙ elim (meet one.known two.known steps one.begins two.begins) [
-  | inl sooner ↦ kept o one.known two.known one.closed sooner two.run
-  | inr later ↦ sym (kept o two.known one.known two.closed later one.run)
-] ∙ sym two.all
+same_whole : {o : Opening} {steps : List (Step ℕ)} {list other : List ℕ} → IsWhole o steps list → IsWhole o steps other → list ≡ other
+same_whole {steps = steps} one two = agree (λ msg given same. same) steps one.begins two.begins one.log two.log
 
 -- lists of all that was accepted are one list
 pub one_list : {X : Type 0} (items : X → List ℕ) (o : Opening) (steps : List (Step ℕ)) (lists : List X)
@@ -78,7 +54,7 @@ pub one_list : {X : Type 0} (items : X → List ℕ) (o : Opening) (steps : List
 one_list items o steps [] whole = ([], All-nil _)
 one_list items o steps (first ∷ others) whole = (
   items first,
-  λ k d within. same_whole o steps _ (items first) (whole k d within) (All-head (λ list. IsWhole o steps (items list)) first others whole),
+  λ k d within. same_whole (whole k d within) (All-head (λ list. IsWhole o steps (items list)) first others whole),
 )
 
 -- what was sent is in each of them, and if nothing else is, once
@@ -88,7 +64,7 @@ pub each_once : {X : Type 0} (items : X → List ℕ) (o : Opening) (known steps
     → All (λ list. HoldsEachOnce (items list) total) lists
 each_once items o known steps sent total lists longer were all counted whole k d within =
     let its = whole k d within in
-    let there = (still_sent o 0 sent known steps longer were).before its.known its.begins its.closed in (
+    let there = (still_sent o 0 sent known steps longer were).before its.known its.begins its.log.closed in (
       counted k d within ∙ all,
-      λ number below. contained _ number (subst (HasAll 0 sent) (sym its.all) there number (omega arith) (omega (arith, below, all))),
+      λ number below. contained _ number (subst (HasAll 0 sent) (sym (is_accepted (λ msg given same. same) its.log)) there number (omega arith) (omega (arith, below, all))),
     )

@@ -3,7 +3,8 @@ use Rattle.std.specs.Prelude.{◌≡◌, ℕ, true, List}
 use mathlib.Core.List.{IsPrefix}
 use Rattle.bcast_history.specs.declared.step.Opening.{Opening}
 use Rattle.bcast_history.specs.declared.step.Step.{Step}
-use Rattle.bcast_history.specs.History.{IsHistory, end_of, accepted_by}
+use Rattle.bcast_history.specs.History.{end_of, accepted_by}
+use Rattle.bcast_history.specs.Log.{IsWholeLog}
 use Rattle.bcast_threads.specs.Lists.{HasAll}
 
 -- wherever these steps close the channel, it had accepted each number from `first` on, up to the one
@@ -22,6 +23,4 @@ pub record WereSent (o : Opening) (first end : ℕ) (steps : List (Step ℕ)) : 
 pub record IsWhole (o : Opening) (steps : List (Step ℕ)) (list : List ℕ) : Type 0 where
   pub known : List (Step ℕ)
   pub begins : IsPrefix known steps
-  pub run : ∥ IsHistory (λ (one two : ℕ). two ≡ one) o known ∥₁
-  pub closed : (end_of o known).control.closed ≡ true
-  pub all : list ≡ accepted_by o known
+  pub log : IsWholeLog (λ (one two : ℕ). two ≡ one) o list known

@@ -9,9 +9,9 @@ ghost use Rattle.bcast_history.specs.Reader.{StartsAtTheFirst};
 use crate::fault::Fault;
 use crate::plan::Plan;
 use crate::started::{Started, clones_of};
-use crate::work::{Log, Sent};
+use crate::work::Sent;
 use bcast_history::{
-    Channel, HistoryPort, Opened, Seen, TrackedReceiver, TrackedSender, broadcast,
+    Channel, HistoryPort, Opened, Seen, TrackedReceiver, TrackedSender, WholeLog, broadcast,
 };
 use std::alloc::Global;
 use std::marker::Brand;
@@ -92,7 +92,7 @@ fn lists_received<J: Channel>(
     alloc: Global,
     plan: Plan,
     senders: Vec<Sent<J>>,
-    receivers: Vec<Result<Log<J>, Fault>>,
+    receivers: Vec<Result<WholeLog<u64, J>, Fault>>,
     mut seen: Seen<u64, J>,
 ) -> Result<Vec<Vec<u64>>, Fault>
     requires { length receivers.items ≡ plan.receivers }
@@ -138,7 +138,7 @@ fn are_this_long(lists: &[Vec<u64>], len: u64) -> bool
 /// What each receiver received: all that the channel had accepted when it was closed.
 fn all_of<J: Channel>(
     alloc: Global,
-    logs: Vec<Result<Log<J>, Fault>>,
+    logs: Vec<Result<WholeLog<u64, J>, Fault>>,
     seen: &mut Seen<u64, J>,
 ) -> Result<Vec<Vec<u64>>, Fault>
     ensures count { IfOk result (λ all. length all.items ≡ length logs.items) }
@@ -153,11 +153,12 @@ fn all_of<J: Channel>(
     Ok(all)
 }
 
-fn list_of<J: Channel>(log: Log<J>, seen: &mut Seen<u64, J>) -> Vec<u64>
+fn list_of<J: Channel>(log: WholeLog<u64, J>, seen: &mut Seen<u64, J>) -> Vec<u64>
     ensures longer { IsPrefix seen.old seen.new }
     ensures whole { IsWhole J.opening seen.new result.items }
 {
-    let Log { list, seen: its } = log;
+    log.invariant_holds();
+    let its = log.seen();
     seen.learn(&its);
-    list
+    log.into_list()
 }

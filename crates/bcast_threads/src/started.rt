@@ -6,8 +6,8 @@ ghost use Rattle.bcast_history.specs.Reader.{StartsAtTheFirst};
 use crate::fault::Fault;
 use crate::group::Group;
 use crate::plan::Plan;
-use crate::work::{Log, Sent, receive_all, send_all};
-use bcast_history::{Channel, HistoryPort, TrackedReceiver, TrackedSender};
+use crate::work::{Sent, receive_all, send_all};
+use bcast_history::{Channel, HistoryPort, TrackedReceiver, TrackedSender, WholeLog};
 use std::alloc::{AllocError, Global};
 use std::sync::Wait;
 use std::thread::Threads;
@@ -15,7 +15,7 @@ use std::thread::Threads;
 /// The threads that were started. It can't be dropped: they must be joined.
 pub(crate) struct Started<J: Channel> {
     pub(crate) senders: Group<Sent<J>>,
-    pub(crate) receivers: Group<Result<Log<J>, Fault>>,
+    pub(crate) receivers: Group<Result<WholeLog<u64, J>, Fault>>,
 }
 
 impl<J: Channel + Send + Sync + 'static> Started<J> {

@@ -1,18 +1,15 @@
 //! What each thread does with its handle.
-ghost use Rattle.std.specs.Prelude.{◌≡◌, true, IfOk, IfErr};
-ghost use Rattle.bcast_history.specs.History.{IsHistory, accepted_by, end_of};
-ghost use Rattle.bcast_history.specs.Log.{IsWholeLog};
+ghost use Rattle.std.specs.Prelude.{◌≡◌, true, IfErr};
+ghost use Rattle.bcast_history.specs.History.{accepted_by, end_of};
 ghost use Rattle.bcast_history.specs.Reader.{StartsAtTheFirst};
 ghost use Rattle.bcast_threads.specs.Lists.{HasAll};
 ghost use Rattle.bcast_threads.specs.Closed.{AreBeforeClosing};
 
 use crate::fault::Fault;
-use async_broadcast::RecvError;
 use bcast_history::{
-    Channel, HistoryPort, Seen, TrackedReceiver, TrackedSender, logs_are_accepted, messages_stay,
-    sends_stand_last,
+    Channel, HistoryPort, Seen, TrackedReceiver, TrackedSender, WholeLog, sends_stand_last,
 };
-use std::alloc::{Allocator, Global};
+use std::alloc::Allocator;
 use std::sync::Wait;
 
 /// The numbers that a sender sent: from `first` on, up to the one before `end`. The channel had
@@ -24,17 +21,6 @@ pub struct Sent<J: Channel> {
     pub seen: Seen<u64, J>,
     ghost sent: { HasAll first end (accepted_by J.opening seen) },
     ghost before: { AreBeforeClosing J.opening first end seen },
-}
-
-/// What a receiver received till it found the channel closed: all messages that the channel had
-/// accepted, in order.
-#[derive(Drop)]
-pub struct Log<J: Channel, A: Allocator = Global> {
-    pub list: Vec<u64, A>,
-    pub seen: Seen<u64, J>,
-    ghost whole: { list.items ≡ accepted_by J.opening seen },
-    ghost closed: { (end_of J.opening seen).control.closed ≡ true },
-    ghost run: { ∥ IsHistory (λ one two. two ≡ one) J.opening seen ∥₁ },
 }
 
 /// Sends `count` numbers from `first` on, in rising order, unless the channel is closed before.
@@ -73,43 +59,14 @@ pub fn receive_all<J: Channel, P: HistoryPort<u64, J>, A: Allocator>(
     alloc: A,
     receiver: &mut TrackedReceiver<u64, P, J>,
     count: usize,
-) -> Result<Log<J, A>, Fault>
+) -> Result<WholeLog<u64, J, A>, Fault>
     requires start { StartsAtTheFirst J.opening receiver.old.tracker }
     ensures closed { IfErr result (λ _.
         (end_of J.opening receiver.new.tracker.steps).control.closed ≡ true) }
 {
-    logs_are_accepted::<u64>();
-    match received(rt, alloc, receiver, count) {
-        Ok(list) => {
-            receiver.invariant_holds();
-            let seen = receiver.seen();
-            Ok(Log { list, seen })
-        }
-        Err(fault) => {
-            receiver.close();
-            Err(fault)
-        }
+    let received = receiver.recv_all_blocking(rt, alloc, count);
+    if !matches!(received, Ok(Ok(_))) {
+        receiver.close();
     }
-}
-
-fn received<J: Channel, P: HistoryPort<u64, J>, A: Allocator>(
-    rt: &impl Wait,
-    alloc: A,
-    receiver: &mut TrackedReceiver<u64, P, J>,
-    count: usize,
-) -> Result<Vec<u64, A>, Fault>
-    requires start { StartsAtTheFirst J.opening receiver.old.tracker }
-    ensures whole { IfOk result (λ list.
-        IsWholeLog J.opening J.opening.first_number list.items receiver.new.tracker) }
-{
-    messages_stay::<u64>();
-    let mut list = Vec::with_capacity(alloc, count)?;
-    for _ in rt.forever() {
-        match receiver.recv_many_blocking(usize::MAX, &mut list)? {
-            Ok(_) => {}
-            Err(RecvError::Closed) => return Ok(list),
-            Err(RecvError::Overflowed(_)) => return Err(Fault::Missed),
-        }
-    }
-    unreachable!()
+    received?.or(Err(Fault::Missed))
 }

@@ -1,15 +1,14 @@
-//! A channel with one history: two threads send, and each promises where its messages stand. Then
-//! two threads receive, and each promises that its log is whole.
+//! A log fan-out: two threads send, and each promises where its messages stand. Then two threads
+//! receive all that was sent, and it is proved that both have the same list.
 #![tactic(auto)]
 
-ghost use Rattle.std.specs.Prelude.{◌≡◌};
+ghost use Rattle.std.specs.Prelude.{◌≡◌, [], IfOk};
+ghost use Rattle.bcast_history.specs.Reader.{StartsAtTheFirst};
 
-mod log;
 mod order;
 
 use anyhow::Result;
 use bcast_history::{Channel, HistoryPort, Opened, TrackedReceiver, TrackedSender, broadcast};
-use log::receive_all;
 use order::send_both;
 use std::alloc::AllocGlobal;
 use std::marker::Brand;
@@ -18,15 +17,19 @@ use std::thread::{self, Threads};
 
 fn main(rt: HostRuntime) -> Result<()> {
     let opened = Opened::new(rt.alloc(), 4)?;
-    share::<Brand, _>(&rt, opened)
+    let (log, same) = fan_out::<Brand, _>(&rt, opened)?;
+    println!(rt; "messages in the log: {}", log.len())?;
+    println!(rt; "both logs are the same: {}", log == same)?;
+    Ok(())
 }
 
-fn share<J: Channel + Send + Sync, R: Threads + Wait + Sync + Print + AllocGlobal>(
+fn fan_out<J: Channel + Send + Sync, R: Threads + Wait + Sync + Print + AllocGlobal>(
     rt: &R,
     opened: Opened<u64>,
-) -> Result<()>
+) -> Result<(Vec<u64>, Vec<u64>)>
     requires { (opened.book ≡ J.book) × (opened.opening ≡ J.opening)
         × (opened.registry ≡ J.registry) }
+    ensures { IfOk result (λ logs. logs.0.items ≡ logs.1.items) }
 {
     let (mut sender, receiver) = broadcast::<u64, _, J, _>(rt, rt.alloc(), opened)?;
     let other = sender.clone()?;
@@ -55,21 +58,25 @@ where
     Ok(())
 }
 
-fn receive_in_two_threads<J, R, P>(rt: &R, receiver: TrackedReceiver<u64, P, J>) -> Result<()>
+fn receive_in_two_threads<J, R, P>(
+    rt: &R,
+    mut receiver: TrackedReceiver<u64, P, J>,
+) -> Result<(Vec<u64>, Vec<u64>)>
 where
     J: Channel + Send + Sync,
-    R: Threads + Wait + Sync + Print + AllocGlobal,
+    R: Threads + Wait + Sync + AllocGlobal,
     P: HistoryPort<u64, J> + Send + Sync,
+    requires { StartsAtTheFirst J.opening receiver.tracker }
+    ensures { IfOk result (λ logs. logs.0.items ≡ logs.1.items) }
 {
-    let mut receiver = receiver;
+    let alloc = rt.alloc();
     let mut copy = receiver.clone()?;
     let (log, same) = thread::join(
         rt,
-        || receive_all(rt, &mut receiver),
-        || receive_all(rt, &mut copy),
+        || receiver.recv_all_blocking(rt, alloc, 0),
+        || copy.recv_all_blocking(rt, alloc, 0),
     );
-    let (log, same) = (log?, same?);
-    println!(rt; "messages in the log: {}", log.len())?;
-    println!(rt; "both logs are the same: {}", log == same)?;
-    Ok(())
+    let (log, same) = (log??, same??);
+    log.agrees_with(&same);
+    Ok((log.into_list(), same.into_list()))
 }

@@ -181,7 +181,7 @@ fn order<J: Channel, P: HistoryPort<u64, J>, W: Write>(
     }
     sender.close();
     match receive_all(rt, alloc, &mut receiver, 3) {
-        Ok(log) => writeln!(output, "received {:?}", log.list.as_slice()),
+        Ok(log) => writeln!(output, "received {:?}", log.into_list().as_slice()),
         Err(fault) => writeln!(output, "{fault:?}"),
     }
 }

@@ -5,10 +5,8 @@ pub returns : goal.returns
 returns g c = record {
   longer = c.learn.ensures.longer;
   whole = record {
-    known = c.args.log.seen;
+    known = c.seen-its.result;
     begins = c.learn.ensures.other;
-    run = c.args.log.run;
-    closed = c.args.log.closed;
-    all = c.args.log.whole;
+    log = rw (c.seen-its.ensures, c.into_list.ensures) c.invariant_holds.ensures;
   };
 }

@@ -1,5 +1,5 @@
 -- One clone more, which reads on where its original does.
-use Rattle.std.proofs.Common.{◌≡◌, ℕ, ◌+◌, ap, ◌∙◌}
+use Rattle.std.proofs.Common.{ℕ, ◌+◌, ap, ◌∙◌}
 use Rattle.bcast_history.specs.Reader.{StartsAtTheFirst}
 use Rattle.std.proofs.lemmas.List.Elements.{All-push}
 use Rattle.bcast_history.specs.declared.receiver.TrackedReceiver.{TrackedReceiver}

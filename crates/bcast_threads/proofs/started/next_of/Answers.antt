@@ -1,5 +1,5 @@
 -- What holds of all holds of one and of the others.
-use Rattle.std.proofs.Common.{◌≡◌, ℕ}
+use Rattle.std.proofs.Common.{ℕ}
 use Rattle.bcast_history.specs.Reader.{StartsAtTheFirst}
 use Rattle.std.proofs.lemmas.List.Elements.{All-pop}
 use Rattle.bcast_history.specs.declared.receiver.TrackedReceiver.{TrackedReceiver}
