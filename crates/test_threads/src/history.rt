@@ -1,13 +1,15 @@
 //! Threads over a channel whose handles promise one history.
-ghost use Rattle.std.specs.Prelude.{◌≡◌};
+ghost use Rattle.std.specs.Prelude.{◌≡◌, ◌<◌};
 
+use crate::readings::{Reading, read};
 use crate::timed::runs::{RUNS, run};
 use bcast_history::{
     Channel, HistoryPort, Opened, TimedHistoryPort, TrackedReceiver, TrackedSender, broadcast,
 };
-use std::alloc::{AllocError, Global};
+use std::alloc::{AllocError, AllocGlobal, Global};
 use std::marker::Brand;
 use std::process::Abort;
+use std::random::RandomSource;
 use std::sync::Wait;
 use std::test::Fail;
 use std::thread;
@@ -22,25 +24,62 @@ type List = Result<Vec<u64>, AllocError>;
 /// Two threads that return a list.
 type Pair = (JoinHandle<List>, JoinHandle<List>);
 
+/// What is done on a channel of its own.
+#[derive(Clone, Copy)]
+pub enum Row {
+    /// The run of this number, of the thousand.
+    Run(u64),
+    /// Two threads send, and two receive.
+    Share,
+    Read(Reading),
+}
+
+/// Does this on a new channel that keeps at most `capacity` messages.
+pub fn run_row<R>(rt: R, capacity: usize, row: Row) -> Result<(), Fail>
+where
+    R: Threads + Wait + Clock + Abort + RandomSource + AllocGlobal + Copy + Send + Drop + 'static,
+    requires { 0 < capacity }
+{
+    let opened = Opened::new(rt.alloc(), capacity)?;
+    run_over::<Brand, R>(rt, opened, row)
+}
+
+fn run_over<J, R>(rt: R, opened: Opened<u64>, row: Row) -> Result<(), Fail>
+where
+    J: Channel + Send + Sync + 'static,
+    R: Threads + Wait + Clock + Abort + RandomSource + AllocGlobal + Copy + Send + Drop + 'static,
+    requires { (opened.book ≡ J.book) × (opened.opening ≡ J.opening)
+        × (opened.registry ≡ J.registry) }
+{
+    let (sender, receiver) = broadcast::<u64, R, J, _>(rt, rt.alloc(), opened)?;
+    do_row(rt, row, sender, receiver)
+}
+
+fn do_row<J, R, P>(
+    rt: R,
+    row: Row,
+    mut sender: TrackedSender<u64, P, J>,
+    mut receiver: TrackedReceiver<u64, P, J>,
+) -> Result<(), Fail>
+where
+    J: Channel + Send + Sync + 'static,
+    R: Threads + Wait + Clock + Abort + RandomSource + AllocGlobal + Copy + Send + Drop + 'static,
+    P: TimedHistoryPort<u64, J> + Send + 'static,
+{
+    match row {
+        Row::Run(number) => run_handles(rt, rt.alloc(), number, sender, receiver),
+        Row::Share => run_both(rt, rt.alloc(), sender, receiver),
+        Row::Read(reading) => read(&rt, reading, &mut sender, &mut receiver),
+    }
+}
+
 // The handles make the same calls as those of a channel that keeps no history.
 #[test]
 fn a_thousand_runs_over_a_history_end(rt: HostRuntime) -> Result<(), Fail> {
     for number in 0..RUNS {
-        let opened = Opened::new(rt.alloc(), 1)?;
-        run_over::<Brand, _>(rt, rt.alloc(), number, opened)?;
+        run_row(rt, 1, Row::Run(number))?;
     }
     Ok(())
-}
-
-fn run_over<J, R>(rt: R, alloc: Global, number: u64, opened: Opened<u64>) -> Result<(), Fail>
-where
-    J: Channel + Send + Sync + 'static,
-    R: Threads + Wait + Clock + Abort + Copy + Send + Drop + 'static,
-    requires { (opened.book ≡ J.book) × (opened.opening ≡ J.opening)
-        × (opened.registry ≡ J.registry) }
-{
-    let (sender, receiver) = broadcast::<u64, R, J, _>(rt, alloc, opened)?;
-    run_handles(rt, alloc, number, sender, receiver)
 }
 
 fn run_handles<J, R, P>(
@@ -64,19 +103,7 @@ where
 // receivers find it.
 #[test]
 fn messages_stand_where_their_senders_were_told(rt: HostRuntime) -> Result<(), Fail> {
-    let opened = Opened::new(rt.alloc(), 4)?;
-    send_and_receive::<Brand, _>(rt, rt.alloc(), opened)
-}
-
-fn send_and_receive<J, R>(rt: R, alloc: Global, opened: Opened<u64>) -> Result<(), Fail>
-where
-    J: Channel + Send + Sync + 'static,
-    R: Threads + Wait + Abort + Copy + Send + Drop + 'static,
-    requires { (opened.book ≡ J.book) × (opened.opening ≡ J.opening)
-        × (opened.registry ≡ J.registry) }
-{
-    let (sender, receiver) = broadcast::<u64, R, J, _>(rt, alloc, opened)?;
-    run_both(rt, alloc, sender, receiver)
+    run_row(rt, 4, Row::Share)
 }
 
 fn run_both<J, R, P>(

@@ -1,16 +1,14 @@
 //! What the calls of a `TrackedReceiver` give, one after the other.
-ghost use Rattle.std.specs.Prelude.{◌≡◌};
-
 use crate::answers::{
     Answer, of_poll_recv, of_recv, of_recv_timeout, of_send_timeout, of_try_recv,
 };
+use crate::history::{Row, run_row};
 use batches::take_batches;
-use bcast_history::{Channel, Opened, TimedHistoryPort, TrackedReceiver, TrackedSender, broadcast};
+use bcast_history::{Channel, TimedHistoryPort, TrackedReceiver, TrackedSender};
 use futures::task::{Context, Poll};
 use futures::test::MockTask;
 use settings::set_each;
 use std::alloc::AllocGlobal;
-use std::marker::Brand;
 use std::process::Abort;
 use std::random::RandomSource;
 use std::sync::Wait;
@@ -48,9 +46,9 @@ fn poll_next<J: Channel, P: TimedHistoryPort<u64, J>>(
     }
 }
 
-/// What is done on a channel of its own.
+/// What is read on a channel of its own, which keeps two messages.
 #[derive(Clone, Copy)]
-enum Row {
+pub enum Reading {
     Take,
     Batches,
     Start,
@@ -63,70 +61,65 @@ enum Row {
 // Each call gives the message that comes next, or says how many were missed. A stream skips those.
 #[test]
 fn a_receiver_is_given_each_message_in_turn(rt: HostRuntime) -> Result<(), Fail> {
-    run(rt, Row::Take)
+    run_row(rt, 2, Row::Read(Reading::Take))
 }
 
 // A batch is all that is there, at most its limit; if there is nothing, it waits as one receive does.
 #[test]
 fn a_batch_is_all_that_is_there(rt: HostRuntime) -> Result<(), Fail> {
-    run(rt, Row::Batches)
+    run_row(rt, 2, Row::Read(Reading::Batches))
 }
 
 // A new receiver and an activated one start at the end, a clone where its original reads on.
 #[test]
 fn a_receiver_starts_where_it_says(rt: HostRuntime) -> Result<(), Fail> {
-    run(rt, Row::Start)
+    run_row(rt, 2, Row::Read(Reading::Start))
 }
 
 // No receiver is made beside those that are returned: once they are gone, or have read all, there
 // is room again.
 #[test]
 fn makers_leave_no_receiver_behind(rt: HostRuntime) -> Result<(), Fail> {
-    run(rt, Row::Room)
+    run_row(rt, 2, Row::Read(Reading::Room))
 }
 
 // What is unread and what was missed.
 #[test]
 fn a_receiver_counts_what_it_has_still_to_read(rt: HostRuntime) -> Result<(), Fail> {
-    run(rt, Row::Count)
+    run_row(rt, 2, Row::Read(Reading::Count))
 }
 
 // A call with a limit that finds nothing, or no room, waits until its time is over.
 #[test]
 fn limits_are_waited_for(rt: HostRuntime) -> Result<(), Fail> {
-    run(rt, Row::Limit)
+    run_row(rt, 2, Row::Read(Reading::Limit))
 }
 
 // Each setting, each count, and a whole list.
 #[test]
 fn a_sender_sets_and_counts(rt: HostRuntime) -> Result<(), Fail> {
-    run(rt, Row::Set)
+    run_row(rt, 2, Row::Read(Reading::Set))
 }
 
-fn run<R>(rt: R, row: Row) -> Result<(), Fail>
-where
-    R: Wait + Clock + Abort + RandomSource + AllocGlobal + Copy + Drop,
-{
-    let opened = Opened::new(rt.alloc(), 2)?;
-    run_over::<Brand, R>(rt, opened, row)
-}
-
-fn run_over<J, R>(rt: R, opened: Opened<u64>, row: Row) -> Result<(), Fail>
+pub fn read<J, R, P>(
+    rt: &R,
+    reading: Reading,
+    sender: &mut TrackedSender<u64, P, J>,
+    receiver: &mut TrackedReceiver<u64, P, J>,
+) -> Result<(), Fail>
 where
     J: Channel,
-    R: Wait + Clock + Abort + RandomSource + AllocGlobal + Copy + Drop,
-    requires { (opened.book ≡ J.book) × (opened.opening ≡ J.opening)
-        × (opened.registry ≡ J.registry) }
+    R: Wait + Clock + Abort + RandomSource + AllocGlobal,
+    P: TimedHistoryPort<u64, J>,
 {
-    let (mut sender, mut receiver) = broadcast::<u64, R, J, _>(rt, rt.alloc(), opened)?;
-    match row {
-        Row::Take => take_each(&rt, &mut sender, &mut receiver),
-        Row::Batches => take_batches(&rt, &mut sender, &mut receiver),
-        Row::Start => start_each(&rt, &mut sender, &mut receiver),
-        Row::Room => make_each(&rt, &mut sender, &mut receiver),
-        Row::Count => count_each(&rt, &mut sender, &mut receiver),
-        Row::Limit => wait_each(&rt, &mut sender, &mut receiver),
-        Row::Set => set_each(&rt, &mut sender),
+    match reading {
+        Reading::Take => take_each(rt, sender, receiver),
+        Reading::Batches => take_batches(rt, sender, receiver),
+        Reading::Start => start_each(rt, sender, receiver),
+        Reading::Room => make_each(rt, sender, receiver),
+        Reading::Count => count_each(rt, sender, receiver),
+        Reading::Limit => wait_each(rt, sender, receiver),
+        Reading::Set => set_each(rt, sender),
     }
 }
 

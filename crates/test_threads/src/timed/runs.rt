@@ -2,14 +2,15 @@
 use crate::answers::Answer;
 use crate::steps::wait_for;
 use crate::timed::patience::{Patience, Receives, Sends};
-use async_broadcast::broadcast;
-use std::alloc::Global;
+use async_broadcast::{Receiver, Sender, TimedPort, broadcast};
+use std::alloc::{AllocGlobal, Global};
 use std::process::Abort;
 use std::sync::atomic::{AtomicU64, Ordering};
 use std::sync::{Arc, Wait};
 use std::test::Fail;
 use std::thread;
 use std::thread::{JoinHandle, Threads};
+use std::time::Clock;
 
 pub const RUNS: u64 = 1000;
 
@@ -122,16 +123,37 @@ where
     Ok(())
 }
 
+fn run_over<R>(rt: R, number: u64) -> Result<(), Fail>
+where
+    R: Threads + Wait + Clock + Abort + AllocGlobal + Copy + Send + Drop + 'static,
+{
+    let capacity = if number % 4 < 2 { 1 } else { 2 };
+    let (sender, receiver) = broadcast(rt, rt.alloc(), capacity)?;
+    run_handles(rt, rt.alloc(), number, sender, receiver)
+}
+
+fn run_handles<R, P>(
+    rt: R,
+    alloc: Global,
+    number: u64,
+    mut sender: Sender<u64, P>,
+    receiver: Receiver<u64, P>,
+) -> Result<(), Fail>
+where
+    R: Threads + Wait + Abort + Copy + Send + Drop + 'static,
+    P: TimedPort<u64> + Send + 'static,
+{
+    sender.set_overflow(number % 2 == 1);
+    let (other, copy) = (sender.clone()?, receiver.clone()?);
+    run(rt, alloc, number, (other, sender), (copy, receiver))
+}
+
 // Every run ends, in half of them in overflow mode. No wake-up is lost by a thread whose time is
 // over, or those that wait without a limit would sleep for ever.
 #[test]
 fn a_thousand_runs_end(rt: HostRuntime) -> Result<(), Fail> {
     for number in 0..RUNS {
-        let capacity = if number % 4 < 2 { 1 } else { 2 };
-        let (mut sender, receiver) = broadcast(rt, rt.alloc(), capacity)?;
-        sender.set_overflow(number % 2 == 1);
-        let (other, copy) = (sender.clone()?, receiver.clone()?);
-        run(rt, rt.alloc(), number, (other, sender), (copy, receiver))?;
+        run_over(rt, number)?;
     }
     Ok(())
 }

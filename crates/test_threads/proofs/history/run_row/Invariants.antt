@@ -1,5 +1,5 @@
 -- The name of the channel is that of what was opened.
-use Rattle.test_threads.proofs.history.a_thousand_runs_over_a_history_end.Given as goal
+use Rattle.test_threads.proofs.history.run_row.Given as goal
 
 abbrev pub ghosts-run_over-J-Channel : goal.ghosts-run_over-J-Channel
 ghosts-run_over-J-Channel g a = record { opening = a.opened.opening; registry = a.opened.registry }
