@@ -4,12 +4,12 @@ use Rattle.std.specs.declared.alloc.AllocError.{AllocError}
 use Rattle.futures.specs.declared.task.Poll.{Poll}
 use Rattle.futures.specs.declared.task.Poll.TheVariants as poll
 use Rattle.bcast_model.specs.declared.error.RecvError.{RecvError}
-use Rattle.bcast_model.specs.declared.error.TryRecvError.{TryRecvError}
 use Rattle.bcast_model.specs.declared.run.Call.{Call}
 use Rattle.bcast_model.specs.declared.run.Call.TheVariants as call
 use Rattle.bcast_model.specs.declared.run.Reply.{Reply}
 use Rattle.bcast_model.specs.declared.run.Reply.TheVariants as reply
 use Rattle.bcast_core.specs.Batch.{ReceivesInto}
+use Rattle.bcast_model.specs.Words.{Found}
 
 -- so many `try_recv`s in a row, each of which gave a message that was put last into a list
 abbrev pub Receives : {T : Type 0} → (Call T → Reply T → Type 0) → ℕ → List T → ℕ → List T → Type 0
@@ -19,7 +19,7 @@ Receives gave key before count after =
 
 module _
     {T E : Type 0} (gave : Call T → Reply T → Type 0)
-    (as_tried : Result (Result T E) AllocError → Result (Result T TryRecvError) AllocError)
+    (as_tried : Result (Result T E) AllocError → Found T)
     (key limit : ℕ) where
   -- `try_recv_many` and its waiting forms, with the list before and after it: at least one message,
   -- if the limit isn't 0, each by a `try_recv` that gave it, and put last into the list; or what one

@@ -11,7 +11,7 @@ use Rattle.bcast_model.specs.declared.run.Call.TheVariants as call
 use Rattle.bcast_model.specs.declared.run.Reply.{Reply}
 use Rattle.bcast_model.specs.declared.run.Reply.TheVariants as reply
 use Rattle.bcast_model.specs.Words.{Cursors, has_no_receiver, has_place, View, view_of}
-use Rattle.bcast_model.specs.Words.{reply_to_attempt, attempt_send_reply, Legal, IsReceivedBy, IsMade}
+use Rattle.bcast_model.specs.Words.{reply_to_attempt, attempt_send_reply, Legal, IsReceivedBy, worded, IsMade}
 use Rattle.bcast_model.specs.Words.{cursor_of, skipped_to, skipped_count}
 use Rattle.bcast_model.specs.Words.{future_reply, stream_reply, next_reply}
 use Rattle.bcast_model.specs.Words.{IsMadeFrom, IsPossible}
@@ -51,7 +51,7 @@ module _ {T : Type 0} where
 
   received : {X : Type 0} (is_clone : T → T → Type 0) (v : View T) (key : ℕ) (cursor : Option ℕ)
       (variant : Result X AllocError → Reply T) (word : Result T TryRecvError → X) (r : Reply T)
-      → IsReceivedBy is_clone v key cursor variant word r → IsA variant r
+      → IsReceivedBy is_clone v key cursor (worded variant word) r → IsA variant r
   received is_clone v key cursor variant word r (inl given) = (_, given)
   received is_clone v key cursor variant word r (inr (owes, inl clone)) = (_, clone.4)
   received is_clone v key cursor variant word r (inr (owes, inr none)) = (_, none)
@@ -74,8 +74,9 @@ module _ {T : Type 0} where
   legal is_clone v (call.PollSend place msg) r l =
       (_, l, poll_send-back (has_place v.control place) v msg)
   legal is_clone v (call.EndSend place) r l = l
-  legal is_clone v (call.TryRecv key) r l =
-      received is_clone v key (cursor_of v.control key) reply.TryRecv (λ answer. answer) r l
+  legal is_clone v (call.TryRecv key) r (inl given) = (_, given)
+  legal is_clone v (call.TryRecv key) r (inr (owes, inl clone)) = (_, clone.4)
+  legal is_clone v (call.TryRecv key) r (inr (owes, inr none)) = (_, none)
   legal is_clone v (call.PollFuture key) r l =
       received is_clone v key (cursor_of v.control key) reply.PollFuture future_reply r l
   legal is_clone v (call.EndFuture key) r l = l

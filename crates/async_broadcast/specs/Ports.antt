@@ -3,13 +3,13 @@ use Rattle.std.specs.Prelude.{◌↔◌, ℕ, Bool, true, false, Option, Some, N
 use Rattle.std.specs.declared.alloc.AllocError.{AllocError}
 use Rattle.bcast_model.specs.declared.error.RecvError.{RecvError}
 use Rattle.bcast_model.specs.declared.error.RecvError.TheVariants as unreceived
-use Rattle.bcast_model.specs.declared.error.TryRecvError.{TryRecvError}
 use Rattle.bcast_model.specs.declared.error.TryRecvError.TheVariants as unread
 use Rattle.bcast_model.specs.declared.run.SendPoll.TheVariants as send
 use Rattle.bcast_model.specs.declared.run.Call.{Call}
 use Rattle.bcast_model.specs.declared.run.Call.TheVariants as call
 use Rattle.bcast_model.specs.declared.run.Reply.{Reply}
 use Rattle.bcast_model.specs.declared.run.Reply.TheVariants as reply
+use Rattle.bcast_model.specs.Words.{Found}
 
 -- `Sender::clone` and the like: this port may give exactly the replies that the other may give
 abbrev pub IsSame : {T P : Type 0} → (P → Call T → Reply T → Type 0) → P → P → Type 0
@@ -23,7 +23,7 @@ Gives gave learns port before call reply after = gave port call reply × learns 
 
 -- `recv_blocking`: its result, as `try_recv` returns it
 abbrev pub as_try_recv : {T : Type 0} → Result (Result T RecvError) AllocError
-    → Result (Result T TryRecvError) AllocError
+    → Found T
 as_try_recv (Ok (Ok msg)) = Ok (Ok msg)
 as_try_recv (Ok (Err (unreceived.Overflowed n))) = Ok (Err (unread.Overflowed n))
 as_try_recv (Ok (Err unreceived.Closed)) = Ok (Err unread.Closed)

@@ -4,7 +4,6 @@ use Rattle.std.specs.Fmt.{decimal}
 use Rattle.std.specs.declared.alloc.AllocError.{AllocError}
 use Rattle.bcast_model.specs.declared.error.RecvError.{RecvError}
 use Rattle.bcast_model.specs.declared.error.RecvError.TheVariants as unreceived
-use Rattle.bcast_model.specs.declared.error.TryRecvError.{TryRecvError}
 use Rattle.bcast_model.specs.declared.error.TryRecvError.TheVariants as unread
 use Rattle.bcast_model.specs.declared.run.SendPoll.{SendPoll}
 use Rattle.bcast_model.specs.declared.run.SendPoll.TheVariants as send
@@ -12,6 +11,7 @@ use Rattle.async_broadcast.specs.declared.timed.SendTimeoutError.{SendTimeoutErr
 use Rattle.async_broadcast.specs.declared.timed.SendTimeoutError.TheVariants as timed_send
 use Rattle.async_broadcast.specs.declared.timed.RecvTimeoutError.{RecvTimeoutError}
 use Rattle.async_broadcast.specs.declared.timed.RecvTimeoutError.TheVariants as timed_receive
+use Rattle.bcast_model.specs.Words.{Found}
 
 module _ {T : Type 0} where
   -- `broadcast_timeout`: its result, as the last try returned it, which must wait at the limit
@@ -22,7 +22,7 @@ module _ {T : Type 0} where
 
   -- `recv_timeout`: its result, as `try_recv` returns it, which finds nothing at the limit
   abbrev pub as_timed_try : Result (Result T RecvTimeoutError) AllocError
-      → Result (Result T TryRecvError) AllocError
+      → Found T
   as_timed_try (Ok (Ok msg)) = Ok (Ok msg)
   as_timed_try (Ok (Err (timed_receive.Overflowed n))) = Ok (Err (unread.Overflowed n))
   as_timed_try (Ok (Err timed_receive.Timeout)) = Ok (Err unread.Empty)
@@ -40,7 +40,7 @@ module _ {T : Type 0} where
   IsNoEnd received = received ≡ Ok (Err unreceived.Closed) → ⊥
 
   -- `try_iter`: the loop ends where `try_recv` finds nothing, or if no turn is left
-  abbrev pub EndsLoop : (Result (Result T TryRecvError) AllocError → Type 0) → ℕ → Type 0
+  abbrev pub EndsLoop : (Found T → Type 0) → ℕ → Type 0
   EndsLoop Found turns =
       Found (Ok (Err unread.Empty)) ⊎ Found (Ok (Err unread.Closed)) ⊎ (turns ≡ 0)
 

@@ -39,7 +39,7 @@ module _ {T : Type 0} where
 
 module _ {T : Type 0} (is_clone : T → T → Type 0) where
   -- ---- one message
-  legal_given : (v : View T) (key cursor : ℕ) (given : T) → v.front ≤ cursor → IsHandedOut is_clone v key cursor given → IsReceivedBy is_clone v key (Some cursor) reply.TryRecv (λ answer. answer) (reply.TryRecv (Ok (Ok given)))
+  legal_given : (v : View T) (key cursor : ℕ) (given : T) → v.front ≤ cursor → IsHandedOut is_clone v key cursor given → IsReceivedBy is_clone v key (Some cursor) reply.TryRecv (reply.TryRecv (Ok (Ok given)))
   legal_given v key cursor given reached (inl kept) = inl (ap (λ a. reply.TryRecv (Ok a)) (sym (finds v cursor given reached kept)))
   legal_given v key cursor given reached (inr owed) =
       let msg = found (kept_at v cursor) (λ msg. is_clone msg given) owed.1 in
@@ -48,7 +48,7 @@ module _ {T : Type 0} (is_clone : T → T → Type 0) where
   answers_given : (v : View T) (key cursor : ℕ) (given : T) → IsShown v → StandsAt v key cursor → cursor < v.end → IsHandedOut is_clone v key cursor given → Answers is_clone v (call.TryRecv key) (reply.TryRecv (Ok (Ok given))) (after v key (cursor + 1))
   answers_given v key cursor given shown at below handed =
       ends refl shown tt (record {
-        legal = subst (λ o. IsReceivedBy is_clone v key o reply.TryRecv (λ answer. answer) (reply.TryRecv (Ok (Ok given)))) (sym at.there) (legal_given v key cursor given at.reached handed);
+        legal = subst (λ o. IsReceivedBy is_clone v key o reply.TryRecv (reply.TryRecv (Ok (Ok given)))) (sym at.there) (legal_given v key cursor given at.reached handed);
         effect = ap (λ c. settle v (sets c)) (sym (receive_one v key (cursor_of v.control key) cursor at.there at.reached below));
       }) refl
 

@@ -1,12 +1,12 @@
 -- A call and its reply, before a sender may be told.
-use Rattle.std.proofs.Common.{◌≡◌, inl, inr, ℕ, ◌<◌, ◌≤◌, false, Result, Ok, Err, IfOk, OnOk, OnErr, refl, sym, ap, ◌∙◌, subst}
+use Rattle.std.proofs.Common.{◌≡◌, inl, inr, ℕ, ◌<◌, ◌≤◌, false, Option, Result, Ok, Err, IfOk, OnOk, OnErr, refl, sym, ap, ◌∙◌, subst}
 use Rattle.std.specs.declared.alloc.AllocError.{AllocError}
 use Rattle.std.specs.FinMap.{values}
 use Rattle.bcast_model.specs.declared.run.Call.{Call}
 use Rattle.bcast_model.specs.declared.run.Call.TheVariants as call
 use Rattle.bcast_model.specs.declared.run.Reply.{Reply}
 use Rattle.bcast_model.specs.declared.run.Reply.TheVariants as reply
-use Rattle.bcast_model.specs.Words.{Control, with_place, has_place, least, NoClone, Legal, View}
+use Rattle.bcast_model.specs.Words.{Control, with_place, has_place, least, NoClone, Legal, View, Found, IsReceivedBy, receive, cursor_of}
 use Rattle.bcast_model.specs.Words.{IsShown, IsValidView, settle, sets, effect, resize}
 use Rattle.bcast_model.proofs.Views.{valid_view}
 use Rattle.bcast_core.specs.Parts.{Does}
@@ -34,3 +34,19 @@ module _ {T : Type 0} where
       → Does NoClone v (call.SetCapacity n) (reply.SetCapacity r) new
   does_resize v new n (Ok u) valid ok refused err = record { legal = inl refl; effect = ok }
   does_resize v new n (Err e) valid ok refused err = does_nothing valid (inr (refl, refused)) refl err
+
+  -- what was found, as another reply
+  pub respelt : {is_clone : T → T → Type 0} {R : Type 0} (v : View T) (key : ℕ) (at : Option ℕ) (spelt : Found T → R) (found : Found T) → IsReceivedBy is_clone v key at (λ found. found) found → IsReceivedBy is_clone v key at spelt (spelt found)
+  respelt v key at spelt found (inl is) = inl (ap spelt is)
+  respelt v key at spelt found (inr (owes, inl (msg, given, was, copy, is))) = inr (owes, inl (msg, given, was, copy, ap spelt is))
+  respelt v key at spelt found (inr (owes, inr is)) = inr (owes, inr (ap spelt is))
+
+  -- `try_recv`, at a cursor that was looked up
+  pub does_receive : {is_clone : T → T → Type 0} (v new : View T) (key : ℕ) (at : Option ℕ) (found : Found T) → at ≡ cursor_of v.control key → IsValidView v
+      → IsReceivedBy is_clone v key at (λ found. found) found → OnOk found (new ≡ settle v (sets (receive v key at))) → OnErr found (new ≡ v) → Does is_clone v (call.TryRecv key) (reply.TryRecv found) new
+  does_receive {is_clone = is_clone} v new key at (Ok answer) is valid found ok err = record {
+    legal = subst (λ at. IsReceivedBy is_clone v key at reply.TryRecv (reply.TryRecv (Ok answer))) is (respelt v key at reply.TryRecv (Ok answer) found);
+    effect = ok ∙ ap (λ at. settle v (sets (receive v key at))) is;
+  }
+  does_receive {is_clone = is_clone} v new key at (Err e) is valid found ok err =
+      does_nothing valid (subst (λ at. IsReceivedBy is_clone v key at reply.TryRecv (reply.TryRecv (Err e))) is (respelt v key at reply.TryRecv (Err e) found)) refl err

@@ -7,7 +7,6 @@ pub mod Rooms
 pub mod Does
 pub mod Making
 pub mod Receivers
-pub mod Respelt
 pub mod Accessors
 pub mod Runs
 pub mod Opened

@@ -2,8 +2,6 @@
 use Rattle.std.proofs.Common.{◌≡◌, ℕ, true, false, Option, Result, Ok, Err, OnOk, OnErr, refl, sym, ap, subst, ◌∙◌, arith}
 use Rattle.std.proofs.lemmas.Grind.{common_steps}
 use Rattle.std.specs.Prelude.{alloc_error}
-use Rattle.std.specs.Result.{result_map_both}
-use Rattle.std.specs.declared.alloc.AllocError.{AllocError}
 use Rattle.std.specs.FinMap.{len}
 use Rattle.bcast_model.specs.declared.error.TryRecvError.{TryRecvError}
 use Rattle.bcast_model.specs.declared.listener.Kind.{Kind}
@@ -13,8 +11,8 @@ use Rattle.bcast_model.specs.declared.run.Call.TheVariants as call
 use Rattle.bcast_model.specs.declared.run.Reply.{Reply}
 use Rattle.bcast_model.specs.declared.run.Reply.TheVariants as reply
 use Rattle.bcast_model.specs.Words.{Pair, pair_waits}
-use Rattle.bcast_model.specs.Words.{pair_answered, sets, effect, HasRange, IsValidView, IsReceived}
-use Rattle.bcast_model.specs.Words.{Legal, tell_if_ready, IsOwed, cursor_of}
+use Rattle.bcast_model.specs.Words.{pair_answered, sets, effect, HasRange, IsValidView, IsReceivedBy, Found, worded}
+use Rattle.bcast_model.specs.Words.{Legal, tell_if_ready, cursor_of}
 use Rattle.bcast_model.specs.Words.{is_empty_reply, receive, receive_poll}
 use Rattle.bcast_model.specs.Words.{try_recv_reply, Steps, settle, View, skipped_to, skipped_count}
 use Rattle.bcast_model.specs.Words.{future_reply, stream_reply, next_reply}
@@ -24,7 +22,7 @@ use Rattle.bcast_core.specs.Telling.{NobodyWaits}
 use Rattle.bcast_core.specs.Polls.{kind_of, call_of, reads_at, skips_of, reply_of}
 use Rattle.bcast_core.proofs.Tail.{told_none, told_last, told_valid, told_waiting}
 use Rattle.bcast_core.proofs.Receives.{poll_waits, settle_empty}
-use Rattle.bcast_core.proofs.Respelt.{IsTryRecv, does_poll}
+use Rattle.bcast_core.proofs.Does.{does_nothing, respelt}
 
 module _ {T : Type 0} where
   -- one that finds nothing waits
@@ -49,36 +47,35 @@ module _ {T : Type 0} where
   poll_found v mid new pair at found mid_is new_is = grind (arith, common_steps)
 
   -- what `Parts::poll` promises of what was found, and of what is seen then
-  abbrev IsPolled : (T → T → Type 0) → View T → Pair → Option ℕ → Result (Result T TryRecvError) AllocError → View T → Type 0
+  abbrev IsPolled : (T → T → Type 0) → View T → Pair → Option ℕ → Found T → View T → Type 0
   IsPolled is_clone v pair at found new =
-      IsTryRecv is_clone (IsOwed v pair.0 at) (try_recv_reply v at) found
+      IsReceivedBy is_clone v pair.0 at (λ found. found) found
       × OnOk found (new ≡ tell_if_ready true (settle v (sets (receive_poll v pair at)))) × OnErr found (new ≡ v)
 
-  -- it is the step of a call that returns what was found in this word
-  steps_polled : {is_clone : T → T → Type 0} {X : Type 0} (v new : View T) (c : Call T) (pair : Pair) (at : Option ℕ) (word : Result T TryRecvError → X) (wrap : Result X AllocError → Reply T)
-      (found : Result (Result T TryRecvError) AllocError) → IsValidView v → IsPolled is_clone v pair at found new
-      → ((r : Reply T) → IsReceived is_clone (IsOwed v pair.0 at) (λ a. wrap (Ok (word a))) (wrap (Err alloc_error)) (try_recv_reply v at) r → Legal is_clone v c r)
-      → ((answer : Result T TryRecvError) → effect v c (wrap (Ok (word answer))) ≡ sets (receive_poll v pair at))
-      → effect v c (wrap (Err alloc_error)) ≡ sets v.control → ((n : ℕ) → HasRange c n) → Steps is_clone v c (wrap (result_map_both word (λ e. e) found)) new
-  steps_polled v new c pair at word wrap (Ok answer) valid polled means effect_ok effect_err range =
+  -- it is the step of a call that returns what was found, spelt so
+  steps_polled : {is_clone : T → T → Type 0} (v new : View T) (c : Call T) (pair : Pair) (at : Option ℕ) (spelt : Found T → Reply T) (found : Found T) → IsValidView v → IsPolled is_clone v pair at found new
+      → (IsReceivedBy is_clone v pair.0 at spelt (spelt found) → Legal is_clone v c (spelt found))
+      → ((answer : Result T TryRecvError) → effect v c (spelt (Ok answer)) ≡ sets (receive_poll v pair at))
+      → effect v c (spelt (Err alloc_error)) ≡ sets v.control → ((n : ℕ) → HasRange c n) → Steps is_clone v c (spelt found) new
+  steps_polled v new c pair at spelt (Ok answer) valid polled means effect_ok effect_err range =
       let mid = settle v (sets (receive_poll v pair at)) in
-      told_last valid (range (len mid.control.cursors)) (does_poll v mid c pair at word wrap (Ok answer) valid polled.0 refl tt means effect_ok effect_err) polled.1
-  steps_polled v new c pair at word wrap (Err e) valid polled means effect_ok effect_err range =
-      told_last valid (range (len v.control.cursors)) (does_poll v v c pair at word wrap (Err e) valid polled.0 tt refl means effect_ok effect_err) (polled.2 ∙ sym (told_valid v valid))
+      told_last valid (range (len mid.control.cursors)) (record { legal = means (respelt v pair.0 at spelt (Ok answer) polled.0); effect = ap (settle v) (sym (effect_ok answer)) }) polled.1
+  steps_polled v new c pair at spelt (Err e) valid polled means effect_ok effect_err range =
+      told_last valid (range (len v.control.cursors)) (does_nothing valid (means (respelt v pair.0 at spelt (Err e) polled.0)) effect_err refl) (polled.2 ∙ sym (told_valid v valid))
 
   -- each of the three receives that wait is that of its own call
-  steps_as : {is_clone : T → T → Type 0} (poll : ReceivePoll) (v new : View T) (key : ℕ) (found : Result (Result T TryRecvError) AllocError) → IsValidView v
+  steps_as : {is_clone : T → T → Type 0} (poll : ReceivePoll) (v new : View T) (key : ℕ) (found : Found T) → IsValidView v
       → IsPolled is_clone v (key, kind_of poll) (reads_at poll v key) found new → Steps is_clone v (call_of poll key) (reply_of poll (record { found = found; skips = skips_of poll v key })) new
   steps_as poll.Future v new key found valid polled =
-      steps_polled v new (call.PollFuture key) (key, kind.Future) (cursor_of v.control key) future_reply reply.PollFuture found valid polled (λ r legal. legal) (λ a. refl) refl (λ n. tt)
+      steps_polled v new (call.PollFuture key) (key, kind.Future) (cursor_of v.control key) (worded reply.PollFuture future_reply) found valid polled (λ legal. legal) (λ a. refl) refl (λ n. tt)
   steps_as poll.Recv v new key found valid polled =
-      steps_polled v new (call.PollRecv key) (key, kind.Stream) (cursor_of v.control key) stream_reply reply.PollRecv found valid polled (λ r legal. legal) (λ a. refl) refl (λ n. tt)
+      steps_polled v new (call.PollRecv key) (key, kind.Stream) (cursor_of v.control key) (worded reply.PollRecv stream_reply) found valid polled (λ legal. legal) (λ a. refl) refl (λ n. tt)
   steps_as poll.Next v new key found valid polled =
       let cursor = cursor_of v.control key in
-      steps_polled v new (call.PollNext key) (key, kind.Stream) (skipped_to v.front cursor) (next_reply (skipped_count v.front cursor)) reply.PollNext found valid polled (λ r legal. legal) (λ a. refl) refl (λ n. tt)
+      steps_polled v new (call.PollNext key) (key, kind.Stream) (skipped_to v.front cursor) (worded reply.PollNext (next_reply (skipped_count v.front cursor))) found valid polled (λ legal. legal) (λ a. refl) refl (λ n. tt)
 
   -- `steps_as`, if the listener, where it read, and what it skipped were looked up
-  pub receive_steps : {is_clone : T → T → Type 0} (poll : ReceivePoll) (v new : View T) (key skips : ℕ) (kind : Kind) (at : Option ℕ) (found : Result (Result T TryRecvError) AllocError) → IsValidView v
+  pub receive_steps : {is_clone : T → T → Type 0} (poll : ReceivePoll) (v new : View T) (key skips : ℕ) (kind : Kind) (at : Option ℕ) (found : Found T) → IsValidView v
       → kind ≡ kind_of poll → at ≡ reads_at poll v key → skips ≡ skips_of poll v key → IsPolled is_clone v (key, kind) at found new
       → Steps is_clone v (call_of poll key) (reply_of poll (record { found = found; skips = skips })) new
   receive_steps {is_clone = is_clone} poll v new key skips kind at found valid kind_is at_is skips_is polled =

@@ -1,16 +1,13 @@
 -- What receives do to the view.
 use Rattle.std.proofs.Common.{◌≡◌, ◌⊎◌, inl, inr, ℕ, ◌+◌, ◌-◌, ◌<◌, ◌≤◌, Bool, true, false, cond, length, Option, Some, None, Result, Ok, Err, is_some, nat_lt, slice_get, List, refl, sym, ap, ◌∙◌, arith}
-use Rattle.std.specs.Prelude.{alloc_error}
 use Rattle.std.proofs.lemmas.Grind.{common_steps}
 use Rattle.std.proofs.lemmas.Option.{none-some, slice_get_cases, slice_get_past}
 use Rattle.bcast_model.specs.declared.error.TryRecvError.{TryRecvError}
 use Rattle.bcast_model.specs.declared.error.TryRecvError.TheVariants as unread
-use Rattle.bcast_model.specs.declared.run.Reply.TheVariants as reply
 use Rattle.bcast_model.specs.Words.{Pair, pair_waits, cursor_of, recv_reply, receive, with_cursor}
 use Rattle.bcast_model.specs.Words.{skipped_to, is_empty_reply, listens, receive_poll}
-use Rattle.bcast_model.specs.Words.{try_recv_reply, IsReceived, View, kept_at, IsValidView, sets}
+use Rattle.bcast_model.specs.Words.{try_recv_reply, IsReceivedBy, View, kept_at, IsValidView, sets}
 use Rattle.bcast_model.specs.Words.{settle}
-use Rattle.bcast_core.proofs.Respelt.{answer_of}
 use Rattle.bcast_core.proofs.Settle.{settle_stays, settle_same}
 
 module _ {T : Type 0} (v : View T) (key : ℕ) (at : Option ℕ) (cursor : ℕ) (is : at ≡ Some cursor) (from : v.front ≤ cursor) where
@@ -28,11 +25,11 @@ module _ {T : Type 0} where
   receive_lagging v key at cursor is lags = grind (arith, common_steps)
 
   -- whether a receive returns `Empty` doesn't depend on clones
-  pub empty_exactly : {is_clone : T → T → Type 0} {owed : Type 0} (exact answer : Result T TryRecvError)
-      → IsReceived is_clone owed (λ a. reply.TryRecv (Ok a)) (reply.TryRecv (Err alloc_error)) exact (reply.TryRecv (Ok answer)) → is_empty_reply answer ≡ is_empty_reply exact
-  empty_exactly exact answer (inl is) = ap (λ r. is_empty_reply (answer_of exact r)) is
-  empty_exactly exact answer (inr (o, inl clone)) = ap (λ r. is_empty_reply (answer_of exact r)) clone.4 ∙ sym (ap is_empty_reply clone.2)
-  empty_exactly exact answer (inr (o, inr is)) = ap (λ r. is_empty_reply (answer_of exact r)) is
+  pub empty_exactly : {is_clone : T → T → Type 0} (v : View T) (key : ℕ) (at : Option ℕ) (answer : Result T TryRecvError)
+      → IsReceivedBy is_clone v key at (λ found. found) (Ok answer) → is_empty_reply answer ≡ is_empty_reply (try_recv_reply v at)
+  empty_exactly v key at answer (inl is) = cc
+  empty_exactly v key at answer (inr (o, inl (msg, given, was, copy, is))) = cc
+  empty_exactly v key at answer (inr (o, inr is)) = cc
 
   -- if the receiver lags, it returns how many messages were missed
   pub lagging : (v : View T) (at : Option ℕ) (cursor front : ℕ) → at ≡ Some cursor → front ≡ v.front → cursor < front → try_recv_reply v at ≡ Err (unread.Overflowed (front - cursor))

@@ -1,13 +1,11 @@
 -- How the state of a channel is put together. No public clause cites this module.
 use Rattle.std.specs.Prelude.{◌≡◌, ℕ, ◌+◌, ◌*◌, ◌^◌, ◌<◌, ◌⊎◌, Bool, true, false, is_some, None, Result, Ok, Err}
 use Rattle.std.specs.Prelude.{List, ◌++◌, length, slice_get, Some, IsSomeAnd}
-use Rattle.std.specs.declared.alloc.AllocError.{AllocError}
 use Rattle.std.specs.FinMap.{get, len}
-use Rattle.bcast_model.specs.Words.{Control, Cursors, View, Legal, effect, settle}
+use Rattle.bcast_model.specs.Words.{Found, Control, Cursors, View, Legal, effect, settle}
 use Rattle.bcast_model.specs.Words.{Pair, is_empty_reply, kept_at, IsOwed, cursor_of, with_cursor, sets}
 use Rattle.bcast_model.specs.declared.error.HandleError.{HandleError}
 use Rattle.bcast_model.specs.declared.error.HandleError.TheVariants as handle
-use Rattle.bcast_model.specs.declared.error.TryRecvError.{TryRecvError}
 use Rattle.bcast_model.specs.declared.listener.Kind.{Kind}
 use Rattle.bcast_model.specs.declared.listener.Kind.TheVariants as kind
 use Rattle.bcast_model.specs.declared.run.Call.{Call}
@@ -66,7 +64,7 @@ tries_by kind.Stream c pair = tries_of c pair
 tries_by kind.Future c pair = 1
 
 -- `try_recv`: it was answered `Empty`; one that found no memory would find something
-abbrev pub finds_nothing : {T : Type 0} → Result (Result T TryRecvError) AllocError → Bool
+abbrev pub finds_nothing : {T : Type 0} → Found T → Bool
 finds_nothing (Ok answer) = is_empty_reply answer
 finds_nothing (Err e) = false
 

@@ -1,6 +1,5 @@
 -- What the three receives that wait differ in. No public clause cites this module.
 use Rattle.std.specs.Prelude.{ℕ, Option}
-use Rattle.std.specs.Result.{result_map_both}
 use Rattle.bcast_model.specs.declared.listener.Kind.{Kind}
 use Rattle.bcast_model.specs.declared.listener.Kind.TheVariants as kind
 use Rattle.bcast_model.specs.declared.run.Call.{Call}
@@ -8,7 +7,7 @@ use Rattle.bcast_model.specs.declared.run.Call.TheVariants as call
 use Rattle.bcast_model.specs.declared.run.Reply.{Reply}
 use Rattle.bcast_model.specs.declared.run.Reply.TheVariants as reply
 use Rattle.bcast_model.specs.Words.{View, cursor_of, skipped_count, skipped_to}
-use Rattle.bcast_model.specs.Words.{future_reply, stream_reply, next_reply}
+use Rattle.bcast_model.specs.Words.{future_reply, stream_reply, next_reply, worded}
 use Rattle.bcast_core.specs.declared.receive_poll.ReceivePoll.{ReceivePoll}
 use Rattle.bcast_core.specs.declared.receive_poll.ReceivePoll.TheVariants as poll
 use Rattle.bcast_core.specs.declared.receive_poll.Received.{Received}
@@ -40,6 +39,6 @@ module _ {T : Type 0} where
 
   -- its reply, if this was found
   abbrev pub reply_of : ReceivePoll → Received T → Reply T
-  reply_of poll.Future r = reply.PollFuture (result_map_both future_reply (λ e. e) r.found)
-  reply_of poll.Recv r = reply.PollRecv (result_map_both stream_reply (λ e. e) r.found)
-  reply_of poll.Next r = reply.PollNext (result_map_both (next_reply r.skips) (λ e. e) r.found)
+  reply_of poll.Future r = worded reply.PollFuture future_reply r.found
+  reply_of poll.Recv r = worded reply.PollRecv stream_reply r.found
+  reply_of poll.Next r = worded reply.PollNext (next_reply r.skips) r.found

@@ -54,7 +54,7 @@ module _ {T : Type 0} (is_clone : T → T → Type 0) where
 
   -- what a receiver is told that finds no message
   pub told_so : (v : View T) (key : ℕ) (cursor : Option ℕ) (e : TryRecvError)
-      → IsReceivedBy is_clone v key cursor reply.TryRecv (λ answer. answer) (reply.TryRecv (Ok (Err e))) → try_recv_reply v cursor ≡ Err e
+      → IsReceivedBy is_clone v key cursor reply.TryRecv (reply.TryRecv (Ok (Err e))) → try_recv_reply v cursor ≡ Err e
   told_so v key cursor e (inl is) = cc is
   told_so v key cursor e (inr (owed, inl clone)) = absurd (cc (clone.4))
   told_so v key cursor e (inr (owed, inr is)) = absurd (cc is)
@@ -98,7 +98,7 @@ module _ {T : Type 0} (is_clone : T → T → Type 0) where
         | inr (msg, is) ↦ ap (λ c. (next h c r).control.cursors) is ∙ cursors-next h (call.AttemptSend msg) r ∙ (stays-offer (view_of h) msg).0
       ]
     where
-      not_sent : {key : ℕ} {back : T} (cursor : Option ℕ) → IsReceivedBy is_clone (view_of h) key cursor reply.TryRecv (λ answer. answer) (reply.AttemptSend (send.Wait back)) → ⊥
+      not_sent : {key : ℕ} {back : T} (cursor : Option ℕ) → IsReceivedBy is_clone (view_of h) key cursor reply.TryRecv (reply.AttemptSend (send.Wait back)) → ⊥
       not_sent cursor (inl is) = absurd (cc is)
       not_sent cursor (inr (owed, inl clone)) = absurd (cc (clone.4))
       not_sent cursor (inr (owed, inr is)) = absurd (cc is)

@@ -10,8 +10,8 @@ use Rattle.bcast_model.specs.Words.{Control, tell_a_sender, closing, cursor_of, 
 use Rattle.bcast_model.specs.Words.{sends_are_ready, Effect, sets, try_broadcast_reply}
 use Rattle.bcast_model.specs.Words.{reply_to_attempt, accept, try_broadcast_all_reply, accept_all}
 use Rattle.bcast_model.specs.Words.{receive, recv_reply, skipped_count, skipped_to, future_reply}
-use Rattle.bcast_model.specs.Words.{stream_reply, next_reply, try_recv_reply, IsOwed, Legal}
-use Rattle.bcast_model.specs.Words.{IsReceived, set_unless_refused, effect, History, view_of}
+use Rattle.bcast_model.specs.Words.{stream_reply, next_reply, worded, Found, try_recv_reply, Legal}
+use Rattle.bcast_model.specs.Words.{IsReceivedBy, set_unless_refused, effect, History, view_of}
 use Rattle.bcast_model.specs.Words.{remember, with_control, is_out_of_memory, tell_if_ready}
 use Rattle.bcast_model.specs.Words.{end_call, may_tell, next, IsValid, IsValidView, has_next}
 use Rattle.bcast_model.specs.Words.{count_reply, deactivate, without_receiver}
@@ -70,11 +70,11 @@ module _ {T : Type 0} where
   same_unless v c r same = test_is (λ (e : Effect T). e ≡ sets v.control) (is_out_of_memory r) (sets v.control) (sets c) (λ _. refl) (λ _. ap sets same)
 
   -- a receive is refused if its exact result is a refusal, or memory was refused
-  same_received : (is_clone : T → T → Type 0) (owed : Type 0) (spelt : Result T TryRecvError → Reply T) (refused : Reply T) (exact : Result T TryRecvError) (v : View T) (c : Control) (r : Reply T)
-      → (is_refused (spelt exact) ≡ true → set_unless_refused v (spelt exact) c ≡ sets v.control) → ((msg : T) → is_refused (spelt (Ok msg)) ≡ false) → is_out_of_memory refused ≡ true
-      → IsReceived is_clone owed spelt refused exact r → is_refused r ≡ true → set_unless_refused v r c ≡ sets v.control
-  same_received is_clone owed spelt refused exact v c r same gives memory legal e =
-      received_is (λ r. is_refused r ≡ true → set_unless_refused v r c ≡ sets v.control) is_clone owed spelt refused exact r legal
+  same_received : (is_clone : T → T → Type 0) (v : View T) (key : ℕ) (cursor : Option ℕ) (spelt : Found T → Reply T) (c : Control) (r : Reply T) → let exact = spelt (Ok (try_recv_reply v cursor)) in
+      (is_refused exact ≡ true → set_unless_refused v exact c ≡ sets v.control) → ((msg : T) → is_refused (spelt (Ok (Ok msg))) ≡ false) → is_out_of_memory (spelt (Err alloc_error)) ≡ true
+      → IsReceivedBy is_clone v key cursor spelt r → is_refused r ≡ true → set_unless_refused v r c ≡ sets v.control
+  same_received is_clone v key cursor spelt c r same gives memory legal e =
+      received_is (λ r. is_refused r ≡ true → set_unless_refused v r c ≡ sets v.control) is_clone v key cursor spelt r legal
       same (λ _ msg given was copy e. apart (sym (gives given) ∙ e)) (λ _ e. ap (λ b. cond b (sets v.control) (sets c)) memory) e
 
   -- ---- each call
@@ -86,15 +86,15 @@ module _ {T : Type 0} where
   same_effect is_clone v call.BeginSend r valid (inr is) e = rw is refl
   same_effect is_clone v (call.TryRecv key) r valid legal e =
       let c : Control = receive v key (cursor_of v.control key) in
-      same_received is_clone (IsOwed v key (cursor_of v.control key)) (λ answer. reply.TryRecv (Ok answer)) (reply.TryRecv (Err alloc_error)) (try_recv_reply v (cursor_of v.control key)) v c r
+      same_received is_clone v key (cursor_of v.control key) reply.TryRecv c r
       (λ refuses. same_unless v c (reply.TryRecv (Ok (try_recv_reply v (cursor_of v.control key)))) (same_receive v key (cursor_of v.control key) valid refuses)) (λ msg. refl) refl legal e
   same_effect is_clone v (call.PollFuture key) r valid legal e =
-      same_received is_clone (IsOwed v key (cursor_of v.control key)) (λ answer. reply.PollFuture (Ok (future_reply answer))) (reply.PollFuture (Err alloc_error)) (try_recv_reply v (cursor_of v.control key)) v _ r (λ refuses. apart refuses) (λ msg. refl) refl legal e
+      same_received is_clone v key (cursor_of v.control key) (worded reply.PollFuture future_reply) _ r (λ refuses. apart refuses) (λ msg. refl) refl legal e
   same_effect is_clone v (call.PollRecv key) r valid legal e =
-      same_received is_clone (IsOwed v key (cursor_of v.control key)) (λ answer. reply.PollRecv (Ok (stream_reply answer))) (reply.PollRecv (Err alloc_error)) (try_recv_reply v (cursor_of v.control key)) v _ r (λ refuses. apart refuses) (λ msg. refl) refl legal e
+      same_received is_clone v key (cursor_of v.control key) (worded reply.PollRecv stream_reply) _ r (λ refuses. apart refuses) (λ msg. refl) refl legal e
   same_effect is_clone v (call.PollNext key) r valid legal e =
-      let cursor : Option ℕ = skipped_to v.front (cursor_of v.control key) in
-      same_received is_clone (IsOwed v key cursor) (λ answer. reply.PollNext (Ok (next_reply (skipped_count v.front (cursor_of v.control key)) answer))) (reply.PollNext (Err alloc_error)) (try_recv_reply v cursor) v _ r (λ refuses. apart refuses) (λ msg. refl) refl legal e
+      let cursor : Option ℕ = cursor_of v.control key in
+      same_received is_clone v key (skipped_to v.front cursor) (worded reply.PollNext (next_reply (skipped_count v.front cursor))) _ r (λ refuses. apart refuses) (λ msg. refl) refl legal e
   same_effect is_clone v call.Close r valid legal e = ap (λ b. sets (cond b v.control (closing v.control))) (not_not v.control.closed (sym (ap is_refused legal) ∙ e))
   same_effect is_clone v (call.SetCapacity n) r valid (inl is) e = apart (sym (ap is_refused is) ∙ e)
   same_effect is_clone v (call.SetCapacity n) r valid (inr (is, more)) e = rw is refl

@@ -1,5 +1,5 @@
 -- A closed channel that keeps no message gives its receivers nothing.
-use Rattle.std.proofs.Common.{◌≡◌, inl, inr, ℕ, ◌-◌, ◌≤◌, ◌==◌, ◌&&◌, Bool, true, false, cond, length, max, Option, Some, None, Result, Ok, Err, refl, sym, ap, ◌∙◌, arith, alloc_error}
+use Rattle.std.proofs.Common.{◌≡◌, inl, inr, ℕ, ◌-◌, ◌≤◌, ◌==◌, ◌&&◌, Bool, true, false, cond, length, max, Option, Some, None, Result, Ok, Err, refl, sym, ap, ◌∙◌, arith}
 use Rattle.std.proofs.lemmas.Grind.{common_steps}
 use Rattle.std.proofs.lemmas.Option.{slice_get_past}
 use Rattle.std.proofs.lemmas.List.{nil_from_length}
@@ -10,7 +10,7 @@ use Rattle.bcast_model.specs.declared.run.Reply.{Reply}
 use Rattle.bcast_model.specs.declared.run.Reply.TheVariants as reply
 use Rattle.bcast_model.specs.Words.{cursor_of, View, IsValidView, IsOwed, recv_reply, skipped_count}
 use Rattle.bcast_model.specs.Words.{skipped_to, future_reply, stream_reply, next_reply}
-use Rattle.bcast_model.specs.Words.{try_recv_reply, Legal, IsReceived}
+use Rattle.bcast_model.specs.Words.{try_recv_reply, Legal, IsReceivedBy, Found, worded}
 use Rattle.bcast_laws.specs.Closing.{AnswersClosed}
 use Rattle.bcast_model.proofs.Cases.{passed_reply}
 
@@ -47,10 +47,10 @@ module _ {T : Type 0} where
     nothing_owed : (cursor : Option ℕ) → IsOwed v key cursor → ⊥
     nothing_owed cursor owed = (let size = valid.end in let from = owed.kept.0 in let under = owed.kept.1 in absurd (omega (arith, size, none, from, under)))
 
-    answers_closed : (is_clone : T → T → Type 0) (cursor : Option ℕ) (spelt : Result T TryRecvError → Reply T) (refused : Reply T) (r : Reply T) → try_recv_reply v cursor ≡ Err unread.Closed
-        → IsReceived is_clone (IsOwed v key cursor) spelt refused (try_recv_reply v cursor) r → r ≡ spelt (Err unread.Closed)
-    answers_closed is_clone cursor spelt refused r exact (inl same) = same ∙ ap spelt exact
-    answers_closed is_clone cursor spelt refused r exact (inr (owed, other)) = absurd (nothing_owed cursor owed)
+    answers_closed : (is_clone : T → T → Type 0) (cursor : Option ℕ) (spelt : Found T → Reply T) (r : Reply T) → try_recv_reply v cursor ≡ Err unread.Closed
+        → IsReceivedBy is_clone v key cursor spelt r → r ≡ spelt (Ok (Err unread.Closed))
+    answers_closed is_clone cursor spelt r exact (inl same) = same ∙ ap (λ answer. spelt (Ok answer)) exact
+    answers_closed is_clone cursor spelt r exact (inr (owed, other)) = absurd (nothing_owed cursor owed)
 
   pub nothing_given : (is_clone : T → T → Type 0) (v : View T) (key : ℕ) (r : Reply T) → IsValidView v → Legal is_clone v call.IsTerminated (reply.IsTerminated true) → AnswersClosed is_clone v key r
   nothing_given is_clone v key r valid legal =
@@ -59,8 +59,8 @@ module _ {T : Type 0} where
       let skip : Option ℕ = skipped_to v.front (cursor_of v.control key) in
       let skips : ℕ = skipped_count v.front (cursor_of v.control key) in
       record {
-        try_recv = λ received. answers_closed v key valid is.0 is.1 is_clone (cursor_of v.control key) (λ answer. reply.TryRecv (Ok answer)) (reply.TryRecv (Err alloc_error)) r own received;
-        poll_future = λ received. answers_closed v key valid is.0 is.1 is_clone (cursor_of v.control key) (λ answer. reply.PollFuture (Ok (future_reply answer))) (reply.PollFuture (Err alloc_error)) r own received;
-        poll_recv = λ received. answers_closed v key valid is.0 is.1 is_clone (cursor_of v.control key) (λ answer. reply.PollRecv (Ok (stream_reply answer))) (reply.PollRecv (Err alloc_error)) r own received;
-        poll_next = λ received. answers_closed v key valid is.0 is.1 is_clone skip (λ answer. reply.PollNext (Ok (next_reply skips answer))) (reply.PollNext (Err alloc_error)) r (closed_skipping v key valid is.0 is.1 (cursor_of v.control key) refl) received;
+        try_recv = λ received. answers_closed v key valid is.0 is.1 is_clone (cursor_of v.control key) reply.TryRecv r own received;
+        poll_future = λ received. answers_closed v key valid is.0 is.1 is_clone (cursor_of v.control key) (worded reply.PollFuture future_reply) r own received;
+        poll_recv = λ received. answers_closed v key valid is.0 is.1 is_clone (cursor_of v.control key) (worded reply.PollRecv stream_reply) r own received;
+        poll_next = λ received. answers_closed v key valid is.0 is.1 is_clone skip (worded reply.PollNext (next_reply skips)) r (closed_skipping v key valid is.0 is.1 (cursor_of v.control key) refl) received;
       }

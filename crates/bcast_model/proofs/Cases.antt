@@ -1,8 +1,8 @@
 -- The conditional parts of a call, and its replies, each by its cases.
-use Rattle.std.proofs.Common.{◌≡◌, ℕ, ◌+◌, ◌<◌, ◌≤◌, ◌==◌, ◌&&◌, Bool, true, false, cond, Option, Some, None, Result, Ok, Err, not, nat_lt, inl, inr, refl, sym, subst, arith, ◌-◌}
+use Rattle.std.proofs.Common.{◌≡◌, ℕ, ◌+◌, ◌<◌, ◌≤◌, ◌==◌, ◌&&◌, Bool, true, false, cond, Option, Some, None, Result, Ok, Err, not, nat_lt, inl, inr, refl, sym, subst, arith, ◌-◌, alloc_error}
 use Rattle.std.proofs.lemmas.Grind.{common_steps}
 use Rattle.std.specs.FinMap.{get}
-use Rattle.bcast_model.specs.Words.{IsMadeFrom, IsReceived, HandleError, TryRecvError, Cursors}
+use Rattle.bcast_model.specs.Words.{IsMadeFrom, IsReceivedBy, Found, IsOwed, HandleError, Cursors}
 use Rattle.bcast_model.specs.Words.{Reply, Control, last_end, tell_a_sender, tell_receivers}
 use Rattle.bcast_model.specs.Words.{closing, close, is_deserted, close_if_deserted, accepting}
 use Rattle.bcast_model.specs.Words.{with_cursor, History, with_control, view_of, View}
@@ -122,8 +122,8 @@ module _ {T : Type 0} where
   made_is P there cursors spelt r (inr (is, inr e)) made refused = subst P (sym e) (refused handle.Memory)
 
   -- a receive returns its exact result, or gives a clone, or is out of memory for one
-  pub received_is : (P : Reply T → Type 0) (is_clone : T → T → Type 0) (owed : Type 0) (spelt : Result T TryRecvError → Reply T) (refused : Reply T) (exact : Result T TryRecvError) (r : Reply T) → IsReceived is_clone owed spelt refused exact r
-      → P (spelt exact) → (owed → (msg given : T) → exact ≡ Ok msg → is_clone msg given → P (spelt (Ok given))) → (owed → P refused) → P r
-  received_is P is_clone owed spelt refused exact r (inl e) same clone none = subst P (sym e) same
-  received_is P is_clone owed spelt refused exact r (inr (owes, inl (msg, given, was, copy, e))) same clone none = subst P (sym e) (clone owes msg given was copy)
-  received_is P is_clone owed spelt refused exact r (inr (owes, inr e)) same clone none = subst P (sym e) (none owes)
+  pub received_is : {R : Type 0} (P : R → Type 0) (is_clone : T → T → Type 0) (v : View T) (key : ℕ) (cursor : Option ℕ) (spelt : Found T → R) (r : R) → IsReceivedBy is_clone v key cursor spelt r
+      → P (spelt (Ok (try_recv_reply v cursor))) → (IsOwed v key cursor → (msg given : T) → try_recv_reply v cursor ≡ Ok msg → is_clone msg given → P (spelt (Ok (Ok given)))) → (IsOwed v key cursor → P (spelt (Err alloc_error))) → P r
+  received_is P is_clone v key cursor spelt r (inl e) same clone none = subst P (sym e) same
+  received_is P is_clone v key cursor spelt r (inr (owes, inl (msg, given, was, copy, e))) same clone none = subst P (sym e) (clone owes msg given was copy)
+  received_is P is_clone v key cursor spelt r (inr (owes, inr e)) same clone none = subst P (sym e) (none owes)

@@ -1,12 +1,11 @@
 -- Fewer clones, and what a receive hands out.
 use Rattle.std.proofs.Common.{inl, inr, ℕ, Option, List, ◌∷◌, Result, Ok, sym, ap, ◌∙◌, ◌≡◌, ◌-◌, Bool, true, false, cond, Some, None, Err, nat_lt, slice_get, refl, subst, IsSomeAnd, alloc_error}
-use Rattle.std.specs.declared.alloc.AllocError.{AllocError}
 use Rattle.futures.specs.declared.task.Poll.TheVariants as poll
 use Rattle.bcast_model.specs.Words.{TryRecvError, Call, Reply, History, view_of, Legal, IsGiven}
 use Rattle.bcast_model.specs.Words.{NoClone, ClonesEqual, IsReceivedBy, next, View, Answers, IsRun}
 use Rattle.bcast_model.specs.Words.{cursor_of, skipped_to, skipped_count, future_reply}
-use Rattle.bcast_model.specs.Words.{stream_reply, next_reply, recv_reply, IsOwed, try_recv_reply}
-use Rattle.bcast_model.specs.Words.{IsReceived, IsGivenFrom}
+use Rattle.bcast_model.specs.Words.{stream_reply, next_reply, recv_reply, worded, Found, try_recv_reply}
+use Rattle.bcast_model.specs.Words.{IsGivenFrom}
 use Rattle.bcast_model.specs.declared.run.Call.TheVariants as call
 use Rattle.bcast_model.specs.declared.run.Reply.TheVariants as reply
 use Rattle.bcast_model.specs.declared.error.TryRecvError.TheVariants as unread
@@ -15,12 +14,12 @@ use Rattle.bcast_model.proofs.Cases.{received_is}
 module _ {T : Type 0} where
   module _ (p q : T → T → Type 0) (wider : (msg given : T) → p msg given → IsGiven q msg given) where
     -- a receive legal by p is legal by q, if each clone by p is one by q, or the message itself
-    received_wider : {X : Type 0} (v : View T) (key : ℕ) (cursor : Option ℕ) (variant : Result X AllocError → Reply T) (word : Result T TryRecvError → X) (r : Reply T) → IsReceivedBy p v key cursor variant word r → IsReceivedBy q v key cursor variant word r
-    received_wider v key cursor variant word r legal = elim legal [
+    received_wider : (v : View T) (key : ℕ) (cursor : Option ℕ) (spelt : Found T → Reply T) (r : Reply T) → IsReceivedBy p v key cursor spelt r → IsReceivedBy q v key cursor spelt r
+    received_wider v key cursor spelt r legal = elim legal [
       | inl e ↦ inl e
       | inr s ↦ elim s.1 [
         | inl clone ↦ elim (wider clone.0 clone.1 clone.3) [
-          | inl e ↦ inl (clone.4 ∙ ap (λ msg. variant (Ok (word (Ok msg)))) e ∙ ap (λ answer. variant (Ok (word answer))) (sym clone.2))
+          | inl e ↦ inl (clone.4 ∙ ap (λ msg. spelt (Ok (Ok msg))) e ∙ ap (λ answer. spelt (Ok answer)) (sym clone.2))
           | inr cloned ↦ inr (s.0, inl (clone.0, clone.1, clone.2, cloned, clone.4))
         ]
         | inr e ↦ inr (s.0, inr e)
@@ -28,12 +27,12 @@ module _ {T : Type 0} where
     ]
 
     pub legal_wider : (v : View T) (c : Call T) (r : Reply T) → Legal p v c r → Legal q v c r
-    legal_wider v (call.TryRecv key) r legal = received_wider v key (cursor_of v.control key) reply.TryRecv (λ answer. answer) r legal
-    legal_wider v (call.PollFuture key) r legal = received_wider v key (cursor_of v.control key) reply.PollFuture future_reply r legal
-    legal_wider v (call.PollRecv key) r legal = received_wider v key (cursor_of v.control key) reply.PollRecv stream_reply r legal
+    legal_wider v (call.TryRecv key) r legal = received_wider v key (cursor_of v.control key) reply.TryRecv r legal
+    legal_wider v (call.PollFuture key) r legal = received_wider v key (cursor_of v.control key) (worded reply.PollFuture future_reply) r legal
+    legal_wider v (call.PollRecv key) r legal = received_wider v key (cursor_of v.control key) (worded reply.PollRecv stream_reply) r legal
     legal_wider v (call.PollNext key) r legal = (
         let cursor = cursor_of v.control key in
-        received_wider v key (skipped_to v.front cursor) reply.PollNext (next_reply (skipped_count v.front cursor)) r legal)
+        received_wider v key (skipped_to v.front cursor) (worded reply.PollNext (next_reply (skipped_count v.front cursor))) r legal)
     legal_wider v other r legal = legal
 
   pub answers_wider : {p q : T → T → Type 0} {old new : View T} {c : Call T} {r : Reply T} → ((msg given : T) → p msg given → IsGiven q msg given) → Answers p old c r new → Answers q old c r new
@@ -70,9 +69,9 @@ module _ {T : Type 0} where
   given_kept is_clone v cursor msg given e is = let k = kept_message v cursor msg e in record { index = k.0; message = subst (λ o. IsSomeAnd o (λ msg. IsGiven is_clone msg given)) (sym k.1) is }
 
   -- a receive whose replies are made so hands out a kept message, or a clone of one
-  received_from : (is_clone : T → T → Type 0) (owed : Type 0) (spelt : Result T TryRecvError → Reply T) (refused : Reply T) (v : View T) (cursor : Option ℕ) (r : Reply T) (given : T)
-      → ((answer : Result T TryRecvError) → r ≡ spelt answer → answer ≡ Ok given) → (r ≡ refused → ⊥) → IsReceived is_clone owed spelt refused (try_recv_reply v cursor) r → IsGivenFrom is_clone v.queue given
-  received_from is_clone owed spelt refused v cursor r given one none legal = received_is (λ (now : Reply T). now ≡ r → IsGivenFrom is_clone v.queue given) is_clone owed spelt refused (try_recv_reply v cursor) r legal
+  received_from : (is_clone : T → T → Type 0) (v : View T) (key : ℕ) (cursor : Option ℕ) (spelt : Found T → Reply T) (r : Reply T) (given : T)
+      → ((answer : Result T TryRecvError) → r ≡ spelt (Ok answer) → answer ≡ Ok given) → (r ≡ spelt (Err alloc_error) → ⊥) → IsReceivedBy is_clone v key cursor spelt r → IsGivenFrom is_clone v.queue given
+  received_from is_clone v key cursor spelt r given one none legal = received_is (λ (now : Reply T). now ≡ r → IsGivenFrom is_clone v.queue given) is_clone v key cursor spelt r legal
       (λ e. given_kept is_clone v cursor given given (one (try_recv_reply v cursor) (sym e)) (inl refl))
       (λ _ msg x was copy e. let same : x ≡ given = (let e = one (Ok x) (sym e) in cc) in given_kept is_clone v cursor msg given was (inr (subst (is_clone msg) same copy)))
       (λ _ e. absurd (none (sym e))) refl
@@ -92,19 +91,19 @@ module _ {T : Type 0} where
 
   module _ (is_clone : T → T → Type 0) (v : View T) (key : ℕ) (given : T) where
     pub given_try_recv : Legal is_clone v (call.TryRecv key) (reply.TryRecv (Ok (Ok given))) → IsGivenFrom is_clone v.queue given
-    given_try_recv legal = received_from is_clone (IsOwed v key (cursor_of v.control key)) (λ answer. reply.TryRecv (Ok answer)) (reply.TryRecv (Err alloc_error)) v (cursor_of v.control key) (reply.TryRecv (Ok (Ok given))) given (λ answer e. cc) (λ e. cc) legal
+    given_try_recv legal = received_from is_clone v key (cursor_of v.control key) reply.TryRecv (reply.TryRecv (Ok (Ok given))) given (λ answer e. cc) (λ e. cc) legal
 
     pub given_future : Legal is_clone v (call.PollFuture key) (reply.PollFuture (Ok (poll.Ready (Ok given)))) → IsGivenFrom is_clone v.queue given
-    given_future legal = received_from is_clone (IsOwed v key (cursor_of v.control key)) (λ answer. reply.PollFuture (Ok (future_reply answer))) (reply.PollFuture (Err alloc_error)) v (cursor_of v.control key) (reply.PollFuture (Ok (poll.Ready (Ok given)))) given
+    given_future legal = received_from is_clone v key (cursor_of v.control key) (worded reply.PollFuture future_reply) (reply.PollFuture (Ok (poll.Ready (Ok given)))) given
         (λ answer e. future_is answer given (cc)) (λ e. cc) legal
 
     pub given_recv : Legal is_clone v (call.PollRecv key) (reply.PollRecv (Ok (poll.Ready (Some (Ok given))))) → IsGivenFrom is_clone v.queue given
-    given_recv legal = received_from is_clone (IsOwed v key (cursor_of v.control key)) (λ answer. reply.PollRecv (Ok (stream_reply answer))) (reply.PollRecv (Err alloc_error)) v (cursor_of v.control key) (reply.PollRecv (Ok (poll.Ready (Some (Ok given))))) given
+    given_recv legal = received_from is_clone v key (cursor_of v.control key) (worded reply.PollRecv stream_reply) (reply.PollRecv (Ok (poll.Ready (Some (Ok given))))) given
         (λ answer e. stream_is answer given (cc)) (λ e. cc) legal
 
     pub given_next : (n : ℕ) → Legal is_clone v (call.PollNext key) (reply.PollNext (Ok (poll.Ready (Some (given, n))))) → IsGivenFrom is_clone v.queue given
     given_next n legal =
         let cursor : Option ℕ = skipped_to v.front (cursor_of v.control key) in
         let skips : ℕ = skipped_count v.front (cursor_of v.control key) in
-        received_from is_clone (IsOwed v key cursor) (λ answer. reply.PollNext (Ok (next_reply skips answer))) (reply.PollNext (Err alloc_error)) v cursor (reply.PollNext (Ok (poll.Ready (Some (given, n))))) given
+        received_from is_clone v key cursor (worded reply.PollNext (next_reply skips)) (reply.PollNext (Ok (poll.Ready (Some (given, n))))) given
         (λ answer e. next_is skips n answer given (cc)) (λ e. cc) legal

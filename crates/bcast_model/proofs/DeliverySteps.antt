@@ -5,8 +5,8 @@ use Rattle.std.proofs.lemmas.Grind.{common_steps}
 use Rattle.bcast_model.specs.Words.{TryRecvError, Call, Reply, stream_of, future_of, Cursors}
 use Rattle.bcast_model.specs.Words.{cursor_of, History, view_of, front_number, end_number, receive}
 use Rattle.bcast_model.specs.Words.{recv_reply, try_recv_reply, is_empty_reply, skipped_count}
-use Rattle.bcast_model.specs.Words.{skipped_to, future_reply, stream_reply, next_reply, IsOwed}
-use Rattle.bcast_model.specs.Words.{Legal, IsReceived, kept_at, effect, next, receives_for}
+use Rattle.bcast_model.specs.Words.{skipped_to, future_reply, stream_reply, next_reply, worded, Found}
+use Rattle.bcast_model.specs.Words.{Legal, IsReceivedBy, kept_at, effect, next, receives_for}
 use Rattle.bcast_model.specs.Words.{given_by, given_to, View}
 use Rattle.bcast_model.specs.declared.error.TryRecvError.TheVariants as unread
 use Rattle.bcast_model.specs.declared.run.Call.TheVariants as call
@@ -52,16 +52,16 @@ module _ {T : Type 0} where
   answer_reached is_clone exact answer reached (inr (msg, given, was, copy, same)) n e = ok_err given (unread.Overflowed n) (sym e ∙ same)
 
   -- ---- a receive, by its cursors after each reply
-  gives_reply : (is_clone : T → T → Type 0) (h : History T) (key cursor skips : ℕ) (o : Option ℕ) (cursors_after : Reply T → Cursors) (spelt : Result T TryRecvError → Reply T) (refused r : Reply T)
+  gives_reply : (is_clone : T → T → Type 0) (h : History T) (key cursor skips : ℕ) (o : Option ℕ) (cursors_after : Reply T → Cursors) (spelt : Found T → Reply T) (r : Reply T)
       → h.first ≤ h.floor → cursor_of h.control key ≡ Some cursor → o ≡ Some (cursor + skips) → (skips ≡ 0) ⊎ (cursor + skips ≡ front_number h)
-      → ((answer : Result T TryRecvError) → cursors_after (spelt answer) ≡ (receive (view_of h) key o).cursors) → cursors_after refused ≡ h.control.cursors
-      → ((answer : Result T TryRecvError) → IsAnswer is_clone (try_recv_reply (view_of h) o) answer → given_by (spelt answer) ≡ entries_of skips answer) → given_by refused ≡ []
-      → IsReceived is_clone (IsOwed (view_of h) key o) spelt refused (try_recv_reply (view_of h) o) r → Gives is_clone h key cursor (cursors_after r) (given_by r)
-  gives_reply is_clone h key cursor skips o cursors_after spelt refused r low is at exact moved kept spells none legal =
-      received_is (λ r. Gives is_clone h key cursor (cursors_after r) (given_by r)) is_clone (IsOwed (view_of h) key o) spelt refused (try_recv_reply (view_of h) o) r legal
+      → ((answer : Result T TryRecvError) → cursors_after (spelt (Ok answer)) ≡ (receive (view_of h) key o).cursors) → cursors_after (spelt (Err alloc_error)) ≡ h.control.cursors
+      → ((answer : Result T TryRecvError) → IsAnswer is_clone (try_recv_reply (view_of h) o) answer → given_by (spelt (Ok answer)) ≡ entries_of skips answer) → given_by (spelt (Err alloc_error)) ≡ []
+      → IsReceivedBy is_clone (view_of h) key o spelt r → Gives is_clone h key cursor (cursors_after r) (given_by r)
+  gives_reply is_clone h key cursor skips o cursors_after spelt r low is at exact moved kept spells none legal =
+      received_is (λ r. Gives is_clone h key cursor (cursors_after r) (given_by r)) is_clone (view_of h) key o spelt r legal
       (each (try_recv_reply (view_of h) o) (inl refl)) (λ _ msg given was copy. each (Ok given) (inr (msg, given, was, copy, refl))) (λ _. rw (kept, none) (gives_nothing h key cursor h.control.cursors (inl is)))
     where
-      each : (answer : Result T TryRecvError) → IsAnswer is_clone (try_recv_reply (view_of h) o) answer → Gives is_clone h key cursor (cursors_after (spelt answer)) (given_by (spelt answer))
+      each : (answer : Result T TryRecvError) → IsAnswer is_clone (try_recv_reply (view_of h) o) answer → Gives is_clone h key cursor (cursors_after (spelt (Ok answer))) (given_by (spelt (Ok answer)))
       each answer given = rw (moved answer, spells answer given) (subst (λ o. Gives is_clone h key cursor (receive (view_of h) key o).cursors (entries_of skips answer)) (sym at)
           (gives_answer h key cursor skips answer low is exact (subst (λ o. IsAnswer is_clone (try_recv_reply (view_of h) o) answer) at given)))
 
@@ -73,7 +73,7 @@ module _ {T : Type 0} where
       let skips = front_number h - cursor in
       let at : skipped_to front own ≡ Some (cursor + skips) = ap (skipped_to front) is ∙ ap Some (omega arith) in
       let past : front_number h ≤ cursor + skips = omega arith in
-      gives_reply is_clone h key cursor skips (skipped_to front own) (λ r. (effect (view_of h) (call.PollNext key) r).control.cursors) (λ answer. reply.PollNext (Ok (next_reply (skipped_count front own) answer))) (reply.PollNext (Err alloc_error)) r low is at
+      gives_reply is_clone h key cursor skips (skipped_to front own) (λ r. (effect (view_of h) (call.PollNext key) r).control.cursors) (worded reply.PollNext (next_reply (skipped_count front own))) r low is at
       (elim (cases_lt front cursor) [ inl e ↦ inl (omega (arith, e)) | inr e ↦ inr (omega (arith, e)) ])
       (λ answer. cursors-listens (receive (view_of h) key (skipped_to front own)) (stream_of key) (is_empty_reply (try_recv_reply (view_of h) (skipped_to front own)))) refl
       (λ answer given. given_by-next (skipped_count front own) answer (answer_reached is_clone _ answer (λ n e. received_reached (view_of h) (cursor + skips) n past (sym (ap (try_recv_reply (view_of h)) at) ∙ e)) given)
@@ -82,15 +82,15 @@ module _ {T : Type 0} where
   gives_received : (is_clone : T → T → Type 0) (h : History T) (key cursor : ℕ) (c : Call T) (r : Reply T) → h.first ≤ h.floor → cursor_of h.control key ≡ Some cursor → receives_for key c ≡ true → Legal is_clone (view_of h) c r
       → Gives is_clone h key cursor (effect (view_of h) c r).control.cursors (given_by r)
   gives_received is_clone h key cursor (call.TryRecv reader) r low is reads legal = let same = same_reader reader key reads in
-      rw same (gives_reply is_clone h key cursor 0 (cursor_of h.control key) (λ r. (effect (view_of h) (call.TryRecv key) r).control.cursors) (λ answer. reply.TryRecv (Ok answer)) (reply.TryRecv (Err alloc_error)) r low is (is ∙ ap Some (omega arith)) (inl refl)
+      rw same (gives_reply is_clone h key cursor 0 (cursor_of h.control key) (λ r. (effect (view_of h) (call.TryRecv key) r).control.cursors) reply.TryRecv r low is (is ∙ ap Some (omega arith)) (inl refl)
       (λ answer. refl) refl (λ answer _. given_by-try_recv answer) refl (rw same at legal))
   gives_received is_clone h key cursor (call.PollFuture reader) r low is reads legal = let same = same_reader reader key reads in
       rw same (gives_reply is_clone h key cursor 0 (cursor_of h.control key) (λ r. (effect (view_of h) (call.PollFuture key) r).control.cursors)
-      (λ answer. reply.PollFuture (Ok (future_reply answer))) (reply.PollFuture (Err alloc_error)) r low is (is ∙ ap Some (omega arith)) (inl refl)
+      (worded reply.PollFuture future_reply) r low is (is ∙ ap Some (omega arith)) (inl refl)
       (λ answer. cursors-listens (receive (view_of h) key (cursor_of h.control key)) (future_of key) (is_empty_reply (try_recv_reply (view_of h) (cursor_of h.control key)))) refl (λ answer _. given_by-future answer) refl (rw same at legal))
   gives_received is_clone h key cursor (call.PollRecv reader) r low is reads legal = let same = same_reader reader key reads in
       rw same (gives_reply is_clone h key cursor 0 (cursor_of h.control key) (λ r. (effect (view_of h) (call.PollRecv key) r).control.cursors)
-      (λ answer. reply.PollRecv (Ok (stream_reply answer))) (reply.PollRecv (Err alloc_error)) r low is (is ∙ ap Some (omega arith)) (inl refl)
+      (worded reply.PollRecv stream_reply) r low is (is ∙ ap Some (omega arith)) (inl refl)
       (λ answer. cursors-listens (receive (view_of h) key (cursor_of h.control key)) (stream_of key) (is_empty_reply (try_recv_reply (view_of h) (cursor_of h.control key)))) refl (λ answer _. given_by-stream answer) refl (rw same at legal))
   gives_received is_clone h key cursor (call.PollNext reader) r low is reads legal = let same = same_reader reader key reads in rw same (gives_next is_clone h key cursor r low is (rw same at legal))
   gives_received is_clone h key cursor c r low is reads legal = absurd (false≢true reads)

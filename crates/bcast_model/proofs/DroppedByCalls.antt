@@ -3,16 +3,15 @@ use Rattle.std.proofs.Common.{◌≡◌, ℕ, ◌+◌, ◌≤◌, not, Bool, tru
 use Rattle.std.proofs.lemmas.Grind.{common_steps}
 use Rattle.std.specs.List.{range_with_len}
 use Rattle.std.proofs.lemmas.Bool.{false≢true}
-use Rattle.std.specs.declared.alloc.AllocError.{AllocError}
 use Rattle.bcast_model.specs.Words.{TrySendError, Reply, accepting, has_place, place_waits, View}
 use Rattle.bcast_model.specs.Words.{is_full, sends_are_ready, Effect, sets, reply_to_attempt}
 use Rattle.bcast_model.specs.Words.{try_broadcast_reply, attempt_send_reply, accept, offer}
 use Rattle.bcast_model.specs.Words.{with_place_answered, poll_send, History, view_of, front_number}
 use Rattle.bcast_model.specs.Words.{end_number, queue_of, hands_back, SendPoll, must_wait}
 use Rattle.bcast_model.specs.Words.{TryRecvError, Call, Control, Legal, resize, effect}
-use Rattle.bcast_model.specs.Words.{is_out_of_memory, dropped_by, IsReceivedBy, cursor_of}
+use Rattle.bcast_model.specs.Words.{is_out_of_memory, dropped_by, IsReceivedBy, worded, Found, cursor_of}
 use Rattle.bcast_model.specs.Words.{skipped_to, skipped_count, future_reply, stream_reply}
-use Rattle.bcast_model.specs.Words.{next_reply, IsOwed, try_recv_reply}
+use Rattle.bcast_model.specs.Words.{next_reply}
 use Rattle.bcast_model.specs.declared.error.TrySendError.TheVariants as unsent
 use Rattle.bcast_model.specs.declared.run.SendPoll.TheVariants as send
 use Rattle.bcast_model.specs.declared.run.Reply.TheVariants as reply
@@ -116,11 +115,10 @@ module _ {T : Type 0} where
   none_dropped : (h : History T) (r : Reply T) → hands_back r ≡ false → cond (hands_back r) (front_number h ∷ []) [] ≡ []
   none_dropped h r none = ap (λ b. cond b (front_number h ∷ []) []) none
 
-  floor-receive : {X : Type 0} (is_clone : T → T → Type 0) (h : History T) (key : ℕ) (cursor : Option ℕ) (variant : Result X AllocError → Reply T) (word : Result T TryRecvError → X) (r : Reply T) (control : Control) → ((out : Result X AllocError) → hands_back (variant out) ≡ false)
-      → IsReceivedBy is_clone (view_of h) key cursor variant word r → FloorChange h (cond (is_out_of_memory r) (sets h.control) (sets control)) (cond (hands_back r) (front_number h ∷ []) [])
-  floor-receive is_clone h key cursor variant word r control none legal =
-      let nothing = none_dropped h r (received_is (λ r. hands_back r ≡ false) is_clone (IsOwed (view_of h) key cursor) (λ answer. variant (Ok (word answer))) (variant (Err alloc_error)) (try_recv_reply (view_of h) cursor) r legal
-      (none _) (λ _ _ _ _ _. none _) (λ _. none _)) in
+  floor-receive : (is_clone : T → T → Type 0) (h : History T) (key : ℕ) (cursor : Option ℕ) (spelt : Found T → Reply T) (r : Reply T) (control : Control) → ((answer : Result T TryRecvError) → hands_back (spelt (Ok answer)) ≡ false) → hands_back (spelt (Err alloc_error)) ≡ false
+      → IsReceivedBy is_clone (view_of h) key cursor spelt r → FloorChange h (cond (is_out_of_memory r) (sets h.control) (sets control)) (cond (hands_back r) (front_number h ∷ []) [])
+  floor-receive is_clone h key cursor spelt r control answered refused legal =
+      let nothing = none_dropped h r (received_is (λ r. hands_back r ≡ false) is_clone (view_of h) key cursor spelt r legal (answered _) (λ _ _ _ _ _. answered _) (λ _. refused)) in
       test_is (λ e. FloorChange h e (cond (hands_back r) (front_number h ∷ []) [])) (is_out_of_memory r) (sets h.control) (sets control) (λ _. stays refl nothing) (λ _. stays refl nothing)
 
   -- ---- each call
@@ -133,12 +131,12 @@ module _ {T : Type 0} where
   floor-effect is_clone h (call.PollSend place msg) r bounded legal = floor-poll_send h place msg r bounded legal
   floor-effect is_clone h (call.SetCapacity n) r bounded legal =
       elim (is_out_of_memory r) as (λ b. FloorChange h (cond b (sets h.control) (resize (view_of h) n)) (cond b [] (range_with_len (front_number h) (length (queue_of h) - n)))) [ true ↦ stays refl refl | false ↦ floor-resize h n bounded ]
-  floor-effect is_clone h (call.TryRecv key) r bounded legal = floor-receive is_clone h key (cursor_of h.control key) reply.TryRecv (λ answer. answer) r _ (λ out. refl) legal
-  floor-effect is_clone h (call.PollFuture key) r bounded legal = floor-receive is_clone h key (cursor_of h.control key) reply.PollFuture future_reply r _ (λ out. refl) legal
-  floor-effect is_clone h (call.PollRecv key) r bounded legal = floor-receive is_clone h key (cursor_of h.control key) reply.PollRecv stream_reply r _ (λ out. refl) legal
+  floor-effect is_clone h (call.TryRecv key) r bounded legal = floor-receive is_clone h key (cursor_of h.control key) reply.TryRecv r _ (λ answer. refl) refl legal
+  floor-effect is_clone h (call.PollFuture key) r bounded legal = floor-receive is_clone h key (cursor_of h.control key) (worded reply.PollFuture future_reply) r _ (λ answer. refl) refl legal
+  floor-effect is_clone h (call.PollRecv key) r bounded legal = floor-receive is_clone h key (cursor_of h.control key) (worded reply.PollRecv stream_reply) r _ (λ answer. refl) refl legal
   floor-effect is_clone h (call.PollNext key) r bounded legal =
       let cursor = cursor_of h.control key in
-      floor-receive is_clone h key (skipped_to (front_number h) cursor) reply.PollNext (next_reply (skipped_count (front_number h) cursor)) r _ (λ out. refl) legal
+      floor-receive is_clone h key (skipped_to (front_number h) cursor) (worded reply.PollNext (next_reply (skipped_count (front_number h) cursor))) r _ (λ answer. refl) refl legal
   floor-effect is_clone h call.BeginSend r bounded (inl (place, is, free)) = stays refl (none_dropped h r (ap hands_back is))
   floor-effect is_clone h call.BeginSend r bounded (inr is) = stays refl (none_dropped h r (ap hands_back is))
   floor-effect is_clone h call.NewReceiver r bounded legal = stays refl (none_dropped h r (made_is (λ r. hands_back r ≡ false) true h.control.cursors reply.NewReceiver r (inr (refl, legal)) (λ _ _. refl) (λ _. refl)))

@@ -6,8 +6,8 @@ use Rattle.bcast_model.specs.Words.{TrySendError, TryRecvError, Call, Reply, has
 use Rattle.bcast_model.specs.Words.{has_no_receiver, cursor_of, is_full, sends_are_ready, View}
 use Rattle.bcast_model.specs.Words.{reply_to_attempt, handed_back, attempt_send_reply}
 use Rattle.bcast_model.specs.Words.{try_broadcast_reply, is_empty_reply, skipped_count, skipped_to}
-use Rattle.bcast_model.specs.Words.{future_reply, stream_reply, next_reply, try_recv_reply, IsOwed}
-use Rattle.bcast_model.specs.Words.{Legal, IsReceived, is_out_of_memory, IsValidView, must_wait}
+use Rattle.bcast_model.specs.Words.{future_reply, stream_reply, next_reply, try_recv_reply, worded, Found}
+use Rattle.bcast_model.specs.Words.{Legal, IsReceivedBy, is_out_of_memory, IsValidView, must_wait}
 use Rattle.bcast_model.specs.Words.{is_wait_reply, is_poll, try_finds_nothing}
 use Rattle.bcast_model.specs.declared.error.TrySendError.TheVariants as unsent
 use Rattle.bcast_model.specs.declared.error.TryRecvError.TheVariants as unread
@@ -48,10 +48,10 @@ module _ {T : Type 0} where
     send_waits_unready = polled ∙ attempt_waits v msg
 
   -- ---- receives
-  received_waits : (is_clone : T → T → Type 0) (owed : Type 0) (spelt : Result T TryRecvError → Reply T) (refused : Reply T) (exact : Result T TryRecvError) (r : Reply T)
-      → ((answer : Result T TryRecvError) → must_wait (spelt answer) ≡ is_empty_reply answer) → is_out_of_memory refused ≡ true → is_out_of_memory r ≡ false → IsReceived is_clone owed spelt refused exact r → must_wait r ≡ is_empty_reply exact
-  received_waits is_clone owed spelt refused exact r waits none memory legal =
-      received_is (λ r. is_out_of_memory r ≡ false → must_wait r ≡ is_empty_reply exact) is_clone owed spelt refused exact r legal (λ _. waits exact)
+  received_waits : (is_clone : T → T → Type 0) (v : View T) (key : ℕ) (cursor : Option ℕ) (spelt : Found T → Reply T) (r : Reply T)
+      → ((answer : Result T TryRecvError) → must_wait (spelt (Ok answer)) ≡ is_empty_reply answer) → is_out_of_memory (spelt (Err alloc_error)) ≡ true → is_out_of_memory r ≡ false → IsReceivedBy is_clone v key cursor spelt r → must_wait r ≡ is_empty_reply (try_recv_reply v cursor)
+  received_waits is_clone v key cursor spelt r waits none memory legal =
+      received_is (λ r. is_out_of_memory r ≡ false → must_wait r ≡ is_empty_reply (try_recv_reply v cursor)) is_clone v key cursor spelt r legal (λ _. waits (try_recv_reply v cursor))
       (λ _ msg given was _ _. waits (Ok given) ∙ sym (ap is_empty_reply was)) (λ _ e. absurd (false≢true (sym e ∙ none))) memory
 
   future_waits : (answer : Result T TryRecvError) → must_wait (reply.PollFuture (Ok (future_reply answer))) ≡ is_empty_reply answer
@@ -82,15 +82,15 @@ module _ {T : Type 0} where
 
   module _ (is_clone : T → T → Type 0) (v : View T) (key : ℕ) (r : Reply T) (memory : is_out_of_memory r ≡ false) where
     pub future_waits_empty : Legal is_clone v (call.PollFuture key) r → must_wait r ≡ is_empty_reply (try_recv_reply v (cursor_of v.control key))
-    future_waits_empty legal = received_waits is_clone (IsOwed v key (cursor_of v.control key)) (λ answer. reply.PollFuture (Ok (future_reply answer))) (reply.PollFuture (Err alloc_error)) (try_recv_reply v (cursor_of v.control key)) r future_waits refl memory legal
+    future_waits_empty legal = received_waits is_clone v key (cursor_of v.control key) (worded reply.PollFuture future_reply) r future_waits refl memory legal
 
     pub recv_waits_empty : Legal is_clone v (call.PollRecv key) r → must_wait r ≡ is_empty_reply (try_recv_reply v (cursor_of v.control key))
-    recv_waits_empty legal = received_waits is_clone (IsOwed v key (cursor_of v.control key)) (λ answer. reply.PollRecv (Ok (stream_reply answer))) (reply.PollRecv (Err alloc_error)) (try_recv_reply v (cursor_of v.control key)) r stream_waits refl memory legal
+    recv_waits_empty legal = received_waits is_clone v key (cursor_of v.control key) (worded reply.PollRecv stream_reply) r stream_waits refl memory legal
 
     pub next_waits_empty : IsValidView v → Legal is_clone v (call.PollNext key) r → must_wait r ≡ is_empty_reply (try_recv_reply v (cursor_of v.control key))
     next_waits_empty valid legal =
-        let cursor : Option ℕ = skipped_to v.front (cursor_of v.control key) in
-        received_waits is_clone (IsOwed v key cursor) (λ answer. reply.PollNext (Ok (next_reply (skipped_count v.front (cursor_of v.control key)) answer))) (reply.PollNext (Err alloc_error)) (try_recv_reply v cursor) r (next_waits (skipped_count v.front (cursor_of v.control key))) refl memory legal
+        let skips : ℕ = skipped_count v.front (cursor_of v.control key) in
+        received_waits is_clone v key (skipped_to v.front (cursor_of v.control key)) (worded reply.PollNext (next_reply skips)) r (next_waits skips) refl memory legal
         ∙ skip_same v key (cursor_of v.control key) valid refl
 
   -- all of them

@@ -1,13 +1,13 @@
 -- Polls of told listeners come to rest.
-use Rattle.std.proofs.Common.{◌≡◌, ℕ, ◌+◌, ◌*◌, ◌≤◌, true, false, cond, not, ◌&&◌, List, ◌∷◌, drop, max, Option, Some, Result, Ok, Err, refl, sym, ap, ◌∙◌, subst, arith, alloc_error}
+use Rattle.std.proofs.Common.{◌≡◌, ℕ, ◌+◌, ◌*◌, ◌≤◌, true, false, cond, not, ◌&&◌, List, ◌∷◌, drop, max, Option, Some, Ok, Err, refl, sym, ap, ◌∙◌, subst, arith}
 use Rattle.std.proofs.lemmas.Option.{same_Some}
 use Rattle.std.specs.List.{AllByRecursion}
 use Rattle.std.specs.FinMap.{len}
-use Rattle.bcast_model.specs.Words.{TryRecvError, Call, Reply, is_in, Pair, same_pair, same_place}
+use Rattle.bcast_model.specs.Words.{Call, Reply, is_in, Pair, same_pair, same_place}
 use Rattle.bcast_model.specs.Words.{stream_of, future_of, Control, has_place, cursor_of, View}
 use Rattle.bcast_model.specs.Words.{sends_are_ready, History, view_of, IsOwed, try_recv_reply}
 use Rattle.bcast_model.specs.Words.{skipped_to, skipped_count, future_reply, stream_reply}
-use Rattle.bcast_model.specs.Words.{next_reply, Legal, IsReceived, is_out_of_memory, next, IsValid}
+use Rattle.bcast_model.specs.Words.{next_reply, worded, Found, Legal, IsReceivedBy, is_out_of_memory, next, IsValid}
 use Rattle.bcast_model.specs.Words.{IsValidView, AreListed, WouldWait, IsRun, HasRange, must_wait}
 use Rattle.bcast_model.specs.Words.{listener_count, told_count, polls_told, polls_listed}
 use Rattle.bcast_model.specs.Words.{told_polls, ComesToRest}
@@ -68,10 +68,10 @@ module _ {T : Type 0} (is_clone : T → T → Type 0) where
     unowed : (key : ℕ) (cursor : Option ℕ) → cursor ≡ Some v.end → IsOwed v key cursor → ⊥
     unowed key cursor at owed = let same = same_Some v.end owed.number (sym at ∙ owed.at) in let below = owed.kept.1 in omega (arith, same, below)
 
-    must_receive_wait : (key : ℕ) (cursor : Option ℕ) (spelt : Result T TryRecvError → Reply T) (refused r : Reply T) → cursor ≡ Some v.end → try_recv_reply v (Some v.end) ≡ Err unread.Empty
-        → must_wait (spelt (Err unread.Empty)) ≡ true → IsReceived is_clone (IsOwed v key cursor) spelt refused (try_recv_reply v cursor) r → must_wait r ≡ true
-    must_receive_wait key cursor spelt refused r at empty waits legal = received_is (λ r. must_wait r ≡ true) is_clone (IsOwed v key cursor) spelt refused (try_recv_reply v cursor) r legal
-        (ap must_wait (ap spelt (ap (try_recv_reply v) at ∙ empty)) ∙ waits) (λ owed _ _ _ _. absurd (unowed key cursor at owed)) (λ owed. absurd (unowed key cursor at owed))
+    must_receive_wait : (key : ℕ) (cursor : Option ℕ) (spelt : Found T → Reply T) (r : Reply T) → cursor ≡ Some v.end → try_recv_reply v (Some v.end) ≡ Err unread.Empty
+        → must_wait (spelt (Ok (Err unread.Empty))) ≡ true → IsReceivedBy is_clone v key cursor spelt r → must_wait r ≡ true
+    must_receive_wait key cursor spelt r at empty waits legal = received_is (λ r. must_wait r ≡ true) is_clone v key cursor spelt r legal
+        (ap (λ answer. must_wait (spelt (Ok answer))) (ap (try_recv_reply v) at ∙ empty) ∙ waits) (λ owed _ _ _ _. absurd (unowed key cursor at owed)) (λ owed. absurd (unowed key cursor at owed))
 
     unready : (place : ℕ) → is_in same_place place v.control.waiting_sends.ids ≡ true → not (sends_are_ready v) ≡ true
     unready place listed =
@@ -87,15 +87,15 @@ module _ {T : Type 0} (is_clone : T → T → Type 0) where
         send_waits_unready is_clone v place msg r placed legal ∙ unready place listed
     quiet_view (call.PollFuture key) r listed legal =
         let waits = asleep (future_of key) listed in
-        must_receive_wait key (cursor_of v.control key) (λ answer. reply.PollFuture (Ok (future_reply answer))) (reply.PollFuture (Err alloc_error)) r waits.0 (empty_at_end v valid waits.1) refl legal
+        must_receive_wait key (cursor_of v.control key) (worded reply.PollFuture future_reply) r waits.0 (empty_at_end v valid waits.1) refl legal
     quiet_view (call.PollRecv key) r listed legal =
         let waits = asleep (stream_of key) listed in
-        must_receive_wait key (cursor_of v.control key) (λ answer. reply.PollRecv (Ok (stream_reply answer))) (reply.PollRecv (Err alloc_error)) r waits.0 (empty_at_end v valid waits.1) refl legal
+        must_receive_wait key (cursor_of v.control key) (worded reply.PollRecv stream_reply) r waits.0 (empty_at_end v valid waits.1) refl legal
     quiet_view (call.PollNext key) r listed legal =
         let waits = asleep (stream_of key) listed in
         let front : max v.end v.front ≡ v.end = omega (arith, valid.high) in
         let skip : skipped_to v.front (cursor_of v.control key) ≡ Some v.end = ap (skipped_to v.front) waits.0 ∙ ap (λ n. Some n) front in
-        must_receive_wait key (skipped_to v.front (cursor_of v.control key)) (λ answer. reply.PollNext (Ok (next_reply (skipped_count v.front (cursor_of v.control key)) answer))) (reply.PollNext (Err alloc_error)) r skip (empty_at_end v valid waits.1) refl legal
+        must_receive_wait key (skipped_to v.front (cursor_of v.control key)) (worded reply.PollNext (next_reply (skipped_count v.front (cursor_of v.control key)))) r skip (empty_at_end v valid waits.1) refl legal
     quiet_view c r listed legal = cc
 
   -- both

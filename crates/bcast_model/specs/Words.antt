@@ -11,7 +11,7 @@ pub use Rattle.bcast_model.specs.Sending.{reply_to_attempt, handed_back, try_bro
 pub use Rattle.bcast_model.specs.SendAll.{free_room, try_broadcast_all_reply, accept_all, offer_all}
 pub use Rattle.bcast_model.specs.Receiving.{receive, listens, skipped_to, skipped_count, IsUnreadByAnother, try_recv_reply, IsOwed, is_empty_reply, future_reply, stream_reply, next_reply, receive_poll}
 pub use Rattle.bcast_model.specs.Handles.{has_next, clone_receiver, new_sender, clone_inactive, without_receiver, drop_receiver, deactivate, drop_sender, drop_inactive}
-pub use Rattle.bcast_model.specs.ReceiveReplies.{IsGiven, NoClone, ClonesEqual, IsReceivedBy}
+pub use Rattle.bcast_model.specs.ReceiveReplies.{IsGiven, NoClone, ClonesEqual, IsReceivedBy, worded, Found}
 pub use Rattle.bcast_model.specs.HandleReplies.{count_reply, IsMade, IsMadeFrom}
 pub use Rattle.bcast_model.specs.Legal.{Legal}
 pub use Rattle.bcast_model.specs.Replies.{is_receive_refused, is_out_of_memory, chosen_id, HasPositiveCapacity}
@@ -33,4 +33,4 @@ pub use Rattle.bcast_model.specs.Laws.{HasRange, OpeningIsValid, NextIsValid, Vi
 pub use Rattle.bcast_model.specs.ListLaws.{IsTest, StaysInOrder, KeepsPositions, KeepsCounts, ListsStayInOrder}
 pub use Rattle.bcast_model.specs.Errors.{unsent_message, try_send_error_text, try_send_error_debug, IsOverflowed, try_recv_error_text, recv_error_text, handle_error_text}
 pub use Rattle.bcast_model.specs.Encodings.{listeners_code, view_code, in_lists}
-pub use Rattle.bcast_model.specs.Steps.{begin_send, new_receiver, activate, with_message, with_messages, IsReceived, settle, recv_reply, tell_if_ready, with_control, end_call, next_view, Steps}
+pub use Rattle.bcast_model.specs.Steps.{begin_send, new_receiver, activate, with_message, with_messages, settle, recv_reply, tell_if_ready, with_control, end_call, next_view, Steps}

@@ -8,7 +8,7 @@ use Rattle.std.proofs.lemmas.Option.{slice_get_past}
 use Rattle.bcast_model.specs.declared.error.TryRecvError.{TryRecvError}
 use Rattle.bcast_model.specs.declared.run.Call.TheVariants as call
 use Rattle.bcast_model.specs.declared.run.Reply.TheVariants as reply
-use Rattle.bcast_model.specs.Words.{Answers, ClonesEqual, IsReceivedBy, IsValidView, NoClone, View, cursor_of, kept_at, missed, recv_reply, skipped_count, try_recv_reply, unread}
+use Rattle.bcast_model.specs.Words.{Found, Answers, ClonesEqual, IsReceivedBy, IsValidView, NoClone, View, cursor_of, kept_at, missed, recv_reply, skipped_count, try_recv_reply, unread}
 use Rattle.bcast_model.proofs.Cases.{lagging_reply, passed_reply}
 use Rattle.bcast_model.proofs.Clones.{answers_exact}
 use Rattle.bcast_core.specs.Batch.{MayBeRefused, ReceivesEach}
@@ -50,7 +50,7 @@ found_at v valid (Some cursor) msg e = elim (cases_lt cursor v.front) [
   ]
 ]
 
-found : (v : View ℕ) (key msg : ℕ) (o : Option ℕ) → IsReceivedBy NoClone v key o reply.TryRecv (λ answer. answer) (reply.TryRecv (Ok (Ok msg))) → try_recv_reply v o ≡ Ok msg
+found : (v : View ℕ) (key msg : ℕ) (o : Option ℕ) → IsReceivedBy NoClone v key o reply.TryRecv (reply.TryRecv (Ok (Ok msg))) → try_recv_reply v o ≡ Ok msg
 found v key msg o (inl e) = cc
 found v key msg o (inr (owed, inl (other, given, was, cloned, e))) = absurd cloned
 found v key msg o (inr (owed, inr e)) = absurd cc
@@ -66,7 +66,7 @@ batch_there key v new [] some each = absurd (omega (arith, some))
 batch_there key v new (msg ∷ given) some each = (message_there each.1).0
 
 -- if there is none, it says why
-pub given_none : {key : ℕ} {v new : View ℕ} {text : List ℕ} (answer : Result (Result ℕ TryRecvError) AllocError) → Answers NoClone v (call.TryRecv key) (reply.TryRecv answer) new → ((missed v key ≡ 0) × (0 < unread v key) → ⊥) → answer_of (reply.TryRecv answer) ≡ Some text → IsGivenNone v key text new
+pub given_none : {key : ℕ} {v new : View ℕ} {text : List ℕ} (answer : Found ℕ) → Answers NoClone v (call.TryRecv key) (reply.TryRecv answer) new → ((missed v key ≡ 0) × (0 < unread v key) → ⊥) → answer_of (reply.TryRecv answer) ≡ Some text → IsGivenNone v key text new
 given_none (Ok (Ok msg)) a none spelt = absurd (none (message_there a))
 given_none (Ok (Err error)) a none spelt = record { error = error; answers = a; spelt = spelt }
 given_none (Err refused) a none spelt = absurd cc

@@ -1,7 +1,6 @@
 -- A reply that hands a list back hands back the list of its call.
-use Rattle.std.proofs.Common.{◌≡◌, inl, inr, ◌<◌, ◌+◌, ◌∷◌, [], ◌++◌, map, take, get_or, Bool, true, false, cond, List, Option, Some, Result, Ok, Err, nat_lt, length, refl, sym, ap, ◌∙◌, subst}
+use Rattle.std.proofs.Common.{◌≡◌, inl, inr, ◌<◌, ◌+◌, ◌∷◌, [], ◌++◌, map, take, get_or, Bool, true, false, cond, List, Option, Some, Result, Ok, Err, nat_lt, length, refl, sym, ap, ◌∙◌, subst, alloc_error}
 use Rattle.std.proofs.lemmas.List.{map_push, take_more}
-use Rattle.std.specs.declared.alloc.AllocError.{AllocError}
 use Rattle.bcast_model.specs.declared.error.TryRecvError.{TryRecvError}
 use Rattle.bcast_model.specs.declared.error.HandleError.{HandleError}
 use Rattle.bcast_model.specs.declared.error.TrySendError.TheVariants as unsent
@@ -11,9 +10,10 @@ use Rattle.bcast_model.specs.declared.run.Reply.{Reply}
 use Rattle.bcast_model.specs.declared.run.Reply.TheVariants as reply
 use Rattle.std.specs.Prelude.{ℕ}
 use Rattle.bcast_model.specs.Words.{Cursors, has_no_receiver, View, free_room, Legal, Answers}
-use Rattle.bcast_model.specs.Words.{IsReceivedBy, IsMade, IsMadeFrom, cursor_of, skipped_to}
+use Rattle.bcast_model.specs.Words.{IsReceivedBy, worded, Found, IsMade, IsMadeFrom, cursor_of, skipped_to}
 use Rattle.bcast_model.specs.Words.{skipped_count, future_reply, stream_reply, next_reply}
 use Rattle.bcast_record.specs.declared.entry.Entry.{Entry}
+use Rattle.bcast_model.proofs.Cases.{received_is}
 use Rattle.bcast_record.specs.Copies.{list_of, IsListOf}
 
 module _ {T : Type 0} where
@@ -26,11 +26,10 @@ module _ {T : Type 0} where
   hands_none list (reply.TryBroadcastAll (Err error)) e = absurd cc
   hands_none list r e = tt
 
-  received : {X : Type 0} (is_clone : T → T → Type 0) (v : View T) (key : ℕ) (cursor : Option ℕ) (variant : Result X AllocError → Reply T) (word : Result T TryRecvError → X) (r : Reply T)
-      → ((out : Result X AllocError) → hands_list (variant out) ≡ false) → IsReceivedBy is_clone v key cursor variant word r → hands_list r ≡ false
-  received is_clone v key cursor variant word r none (inl is) = ap hands_list is ∙ none _
-  received is_clone v key cursor variant word r none (inr (owes, inl clone)) = ap hands_list clone.4 ∙ none _
-  received is_clone v key cursor variant word r none (inr (owes, inr is)) = ap hands_list is ∙ none _
+  received : (is_clone : T → T → Type 0) (v : View T) (key : ℕ) (cursor : Option ℕ) (spelt : Found T → Reply T) (r : Reply T)
+      → ((answer : Result T TryRecvError) → hands_list (spelt (Ok answer)) ≡ false) → hands_list (spelt (Err alloc_error)) ≡ false → IsReceivedBy is_clone v key cursor spelt r → hands_list r ≡ false
+  received is_clone v key cursor spelt r answered refused legal =
+      received_is (λ r. hands_list r ≡ false) is_clone v key cursor spelt r legal (answered _) (λ _ _ _ _ _. answered _) (λ _. refused)
 
   made : (cursors : Cursors) (spelt : Result ℕ HandleError → Reply T) (r : Reply T) → ((answer : Result ℕ HandleError) → hands_list (spelt answer) ≡ false) → IsMade cursors spelt r → hands_list r ≡ false
   made cursors spelt r none (inl (key, is, free)) = ap hands_list is ∙ none _
@@ -51,12 +50,12 @@ module _ {T : Type 0} where
   legal_list is_clone v call.BeginSend r (inr is) = hands_none _ r (ap hands_list is)
   legal_list is_clone v (call.SetCapacity n) r (inl is) = hands_none _ r (ap hands_list is)
   legal_list is_clone v (call.SetCapacity n) r (inr (is, more)) = hands_none _ r (ap hands_list is)
-  legal_list is_clone v (call.TryRecv key) r legal = hands_none _ r (received is_clone v key (cursor_of v.control key) reply.TryRecv (λ answer. answer) r (λ _. refl) legal)
-  legal_list is_clone v (call.PollFuture key) r legal = hands_none _ r (received is_clone v key (cursor_of v.control key) reply.PollFuture future_reply r (λ _. refl) legal)
-  legal_list is_clone v (call.PollRecv key) r legal = hands_none _ r (received is_clone v key (cursor_of v.control key) reply.PollRecv stream_reply r (λ _. refl) legal)
+  legal_list is_clone v (call.TryRecv key) r legal = hands_none _ r (received is_clone v key (cursor_of v.control key) reply.TryRecv r (λ _. refl) refl legal)
+  legal_list is_clone v (call.PollFuture key) r legal = hands_none _ r (received is_clone v key (cursor_of v.control key) (worded reply.PollFuture future_reply) r (λ _. refl) refl legal)
+  legal_list is_clone v (call.PollRecv key) r legal = hands_none _ r (received is_clone v key (cursor_of v.control key) (worded reply.PollRecv stream_reply) r (λ _. refl) refl legal)
   legal_list is_clone v (call.PollNext key) r legal =
       let cursor = cursor_of v.control key in
-      hands_none _ r (received is_clone v key (skipped_to v.front cursor) reply.PollNext (next_reply (skipped_count v.front cursor)) r (λ _. refl) legal)
+      hands_none _ r (received is_clone v key (skipped_to v.front cursor) (worded reply.PollNext (next_reply (skipped_count v.front cursor))) r (λ _. refl) refl legal)
   legal_list is_clone v call.NewReceiver r legal = hands_none _ r (made _ reply.NewReceiver r (λ _. refl) legal)
   legal_list is_clone v call.Activate r legal = hands_none _ r (made_from _ _ reply.Activate r (λ _. refl) legal)
   legal_list is_clone v call.ActivateCloned r legal = hands_none _ r (made_from _ _ reply.ActivateCloned r (λ _. refl) legal)

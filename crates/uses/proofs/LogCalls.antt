@@ -9,7 +9,7 @@ use Rattle.bcast_model.specs.declared.error.HandleError.{HandleError}
 use Rattle.bcast_model.specs.declared.error.TryRecvError.{TryRecvError}
 use Rattle.bcast_model.specs.declared.run.Call.TheVariants as call
 use Rattle.bcast_model.specs.declared.run.Reply.TheVariants as reply
-use Rattle.bcast_model.specs.Words.{Control, cursor_of, with_cursor, sets, clone_receiver, IsOwed}
+use Rattle.bcast_model.specs.Words.{Found, Control, cursor_of, with_cursor, sets, clone_receiver, IsOwed}
 use Rattle.bcast_model.specs.Words.{recv_reply, receive, try_recv_reply, ClonesEqual, settle, View}
 use Rattle.bcast_model.specs.Words.{kept_at, Answers, IsValidView}
 use Rattle.bcast_model.proofs.Cases.{receive_is, uncloned}
@@ -75,17 +75,17 @@ module _ {T : Type 0} where
         let short : length v.queue ≤ cursor - v.front = omega (arith, end, late) in
         reads_none (Some cursor) (item_at cursor low ∙ slice_get_past v.queue (cursor - v.front) short) (ap (kept_from v) at ∙ drop_all (cursor - v.front) v.queue short))
 
-  pub reads : {is_clone : T → T → Type 0} {v w : View T} {key : ℕ} → ClonesEqual is_clone → (result : Result (Result T TryRecvError) AllocError) → IsOk result
+  pub reads : {is_clone : T → T → Type 0} {v w : View T} {key : ℕ} → ClonesEqual is_clone → (result : Found T) → IsOk result
       → Answers is_clone v (call.TryRecv key) (reply.TryRecv result) w → IsLog v → IsTaken v w key (record_of result)
   reads {is_clone = is_clone} {v = v} {w = w} {key = key} equal (Ok received) sure a log =
       let o : Option ℕ = cursor_of v.control key in
-      let given = answered is_clone (IsOwed v key o) (λ answer. reply.TryRecv (Ok answer)) (reply.TryRecv (Err alloc_error)) (try_recv_reply v o) (reply.TryRecv (Ok received)) (λ e. absurd (cc)) a.legal in
+      let given = answered is_clone v key o reply.TryRecv (reply.TryRecv (Ok received)) (λ e. absurd (cc)) a.legal in
       let exact : received ≡ try_recv_reply v o = let same = given.1 in let is = exact_of is_clone equal (try_recv_reply v o) given.0 given.2 in cc in
       after a (λ u. IsTaken v u key (item_of received)) (λ u s. told_read v u key (item_of received) s)
       (subst (λ r. IsTaken v (settle v (sets (receive v key o))) key (item_of r)) (sym exact) (reads_at v key log (valid a) o refl))
   reads equal (Err error) sure a log = absurd (let e : false ≡ true = sure in cc)
 
-  pub read_answers : {is_clone : T → T → Type 0} {v w : View T} {key : ℕ} → ClonesEqual is_clone → (result : Result (Result T TryRecvError) AllocError) → IsOk result
+  pub read_answers : {is_clone : T → T → Type 0} {v w : View T} {key : ℕ} → ClonesEqual is_clone → (result : Found T) → IsOk result
       → Answers is_clone v (call.TryRecv key) (reply.TryRecv result) w → IsRead v key (record_of result) w
   read_answers equal (Ok received) sure a = record { received = received; item = refl; answers = answers_exact equal a }
   read_answers equal (Err error) sure a = absurd (let e : false ≡ true = sure in cc)

@@ -8,7 +8,7 @@ use Rattle.bcast_model.specs.declared.error.TryRecvError.TheVariants as unread
 use Rattle.bcast_model.specs.declared.run.Call.TheVariants as call
 use Rattle.bcast_model.specs.declared.run.Reply.TheVariants as reply
 use Rattle.bcast_model.specs.Words.{cursor_of, recv_reply, skipped_count, skipped_to, next_reply}
-use Rattle.bcast_model.specs.Words.{IsOwed, try_recv_reply, IsGiven, IsReceived, View, kept_at}
+use Rattle.bcast_model.specs.Words.{worded, IsGiven, IsReceivedBy, View, kept_at}
 use Rattle.bcast_model.specs.Words.{Answers, IsValidView}
 use Rattle.uses.specs.declared.config_watcher.Change.{Change}
 use Rattle.uses.specs.Config.{IsConfig, IsLatest, IsUpToDate, change_of}
@@ -74,12 +74,12 @@ module _ {S : Type 0} where
         (tt, λ seen f. sym (same_Some cursor seen (sym at ∙ f)) ∙ at_end v key config valid cursor at (omega arith))
 
     found_at : (o : Option ℕ) (polled : Poll (Option (S × ℕ))) → cursor_of v.control key ≡ o
-        → IsReceived is_clone (IsOwed v key (skipped_to v.front o)) (λ answer. reply.PollNext (Ok (next_reply (skipped_count v.front o) answer))) (reply.PollNext (Err alloc_error)) (try_recv_reply v (skipped_to v.front o)) (reply.PollNext (Ok polled)) → Finds polled
+        → IsReceivedBy is_clone v key (skipped_to v.front o) (worded reply.PollNext (next_reply (skipped_count v.front o))) (reply.PollNext (Ok polled)) → Finds polled
     found_at (Some cursor) polled at legal =
-        let a = answered is_clone (IsOwed v key (Some (max cursor v.front))) (λ answer. reply.PollNext (Ok (next_reply (v.front - cursor) answer))) (reply.PollNext (Err alloc_error)) (try_recv_reply v (Some (max cursor v.front))) (reply.PollNext (Ok polled)) (λ e. absurd (cc)) legal in
+        let a = answered is_clone v key (Some (max cursor v.front)) (worded reply.PollNext (next_reply (v.front - cursor))) (reply.PollNext (Ok polled)) (λ e. absurd (cc)) legal in
         found_by cursor polled a.0 (kept_at v (max cursor v.front)) at refl (let same = a.1 in cc) (subst (λ exact. IsAnswer is_clone exact a.0) (reply_at v (max cursor v.front) (omega arith)) a.2)
     found_at None polled at legal =
-        let a = answered is_clone (IsOwed v key None) (λ answer. reply.PollNext (Ok (next_reply 0 answer))) (reply.PollNext (Err alloc_error)) (Err unread.Closed) (reply.PollNext (Ok polled)) (λ e. absurd (cc)) legal in
+        let a = answered is_clone v key None (worded reply.PollNext (next_reply 0)) (reply.PollNext (Ok polled)) (λ e. absurd (cc)) legal in
         let is : polled ≡ next_reply 0 a.0 = let same = a.1 in cc in
         finds None polled (ap change_of is ∙ ap (λ r. change_of (next_reply 0 r)) (error_of is_clone unread.Closed a.0 a.2)) (tt, λ seen f. absurd (none-some seen (sym at ∙ f)))
 

@@ -5,7 +5,7 @@ use Rattle.std.specs.declared.alloc.AllocError.{AllocError}
 use Rattle.bcast_model.specs.declared.error.TryRecvError.{TryRecvError}
 use Rattle.bcast_model.specs.declared.run.Call.TheVariants as call
 use Rattle.bcast_model.specs.declared.run.Reply.TheVariants as reply
-use Rattle.bcast_model.specs.Words.{NoClone, View, Answers}
+use Rattle.bcast_model.specs.Words.{Found, NoClone, View, Answers}
 
 module _ {T : Type 0} where
   -- the kept messages from this cursor on
@@ -45,7 +45,7 @@ module _ {T : Type 0} where
       (other : ℕ) → other ≢ reader → unread new other ≡ unread old other
 
   -- `try_recv`: the message that it gives, if any
-  abbrev pub record_of : Result (Result T TryRecvError) AllocError → Option T
+  abbrev pub record_of : Found T → Option T
   record_of (Ok (Ok item)) = Some item
   record_of other = None
 

@@ -17,7 +17,6 @@ impl<T: Clone, N: Notice, A: Allocator + Copy> Parts<T, N, A> {
     ghost use Rattle.bcast_core.specs.Parts.{tries_by, finds_nothing};
     ghost use Rattle.bcast_core.specs.Polls.{reads_at, skips_of};
     ghost use Rattle.bcast_core.specs.Telling.{is_untold};
-    ghost use Rattle.bcast_model.specs.declared.run.Reply.TheVariants as reply;
 
     /// Gives a receiver the message of this number, or says why there is none. Counts one step.
     #[inline(always)]
@@ -30,8 +29,7 @@ impl<T: Clone, N: Notice, A: Allocator + Copy> Parts<T, N, A> {
         requires valid { IsValidView self.old }
         requires at { (at ≡ cursor_of self.old.control key)
             ⊎ (at ≡ skipped_to self.old.front (cursor_of self.old.control key)) }
-        ensures reply { IsReceivedBy T.is_clone self.old key at reply.TryRecv (λ answer. answer)
-            (reply.TryRecv result) }
+        ensures found { IsReceivedBy T.is_clone self.old key at (λ found. found) result }
         ensures ok { OnOk result (self.new ≡ settle self.old (sets (receive self.old key at))) }
         ensures err { OnErr result (self.new ≡ self.old) }
         ensures sure { ((msg : T) → T.is_infallible msg) → IsOk result }
@@ -103,8 +101,7 @@ impl<T: Clone, N: Notice, A: Allocator + Copy> Parts<T, N, A> {
         requires valid { IsValidView self.old }
         requires at { (at ≡ cursor_of self.old.control key)
             ⊎ (at ≡ skipped_to self.old.front (cursor_of self.old.control key)) }
-        ensures reply { IsReceivedBy T.is_clone self.old key at reply.TryRecv (λ answer. answer)
-            (reply.TryRecv result) }
+        ensures found { IsReceivedBy T.is_clone self.old key at (λ found. found) result }
         ensures ok { OnOk result (self.new ≡ settle self.old (sets (receive self.old key at))) }
         ensures err { OnErr result (self.new ≡ self.old) }
         ensures sure { ((msg : T) → T.is_infallible msg) → IsOk result }
@@ -131,8 +128,7 @@ impl<T: Clone, N: Notice, A: Allocator + Copy> Parts<T, N, A> {
         requires valid { IsValidView self.old }
         requires at { (at ≡ cursor_of self.old.control key)
             ⊎ (at ≡ skipped_to self.old.front (cursor_of self.old.control key)) }
-        ensures reply { IfOk result (λ received. IsReceivedBy T.is_clone self.old key at
-            reply.TryRecv (λ answer. answer) (reply.TryRecv received)) }
+        ensures found { IfOk result (IsReceivedBy T.is_clone self.old key at (λ found. found)) }
         ensures ok { IfOk result (λ received. OnOk received (self.new ≡ tell_if_ready true
             (settle self.old (sets (receive_poll self.old (key, kind) at))))) }
         ensures err { IfOk result (λ received. OnErr received (self.new ≡ self.old)) }

@@ -5,8 +5,8 @@ use Rattle.bcast_core.proofs.Receives.{settle_empty}
 use Rattle.bcast_core.proofs.Untold.{untold_empty}
 use Rattle.bcast_core.proofs.parts.Parts.look.Goals as goal
 
-pub returns-then-is_untold-clause-reply : goal.returns-then-is_untold-clause-reply
-returns-then-is_untold-clause-reply g c = grind (arith, common_steps, untold_empty)
+pub returns-then-is_untold-clause-found : goal.returns-then-is_untold-clause-found
+returns-then-is_untold-clause-found g c = grind (arith, common_steps, untold_empty)
 
 pub returns-then-is_untold-clause-ok : goal.returns-then-is_untold-clause-ok
 returns-then-is_untold-clause-ok g c =

@@ -3,7 +3,6 @@ use Rattle.std.proofs.lemmas.Grind.{common_steps}
 use Rattle.std.specs.FinMap.{get, insert}
 use Rattle.std.proofs.lemmas.Result.{on_ok_weaker}
 use Rattle.bcast_model.specs.Words.{View, sets, settle, cursor_of, with_cursor, recv_reply}
-use Rattle.bcast_model.specs.declared.run.Reply.TheVariants as reply
 use Rattle.bcast_core.proofs.Receives.{lagging, at_end, is_there, receive_lagging, receive_one}
 use Rattle.bcast_store.specs.Stored.{Stored}
 use Rattle.bcast_core.specs.Parts.{HaveRoom, control_of, seen_of}
@@ -13,8 +12,8 @@ use Rattle.bcast_core.proofs.Views.{view-with_cursors}
 use Rattle.bcast_core.proofs.parts.Parts.receive.Goals as goal
 use Rattle.bcast_core.proofs.parts.Parts.receive.Goals.{in-Ok, in-Err, then-self, else-self}
 
-pub returns-then-cursor-front-clause-reply : goal.returns-then-cursor-front-clause-reply
-returns-then-cursor-front-clause-reply g c = grind (arith, common_steps, lagging)
+pub returns-then-cursor-front-clause-found : goal.returns-then-cursor-front-clause-found
+returns-then-cursor-front-clause-found g c = grind (arith, common_steps, lagging)
 
 pub returns-then-cursor-front-clause-ok : goal.returns-then-cursor-front-clause-ok
 returns-then-cursor-front-clause-ok g c =
@@ -53,14 +52,14 @@ returns-then-index-len-clause-ok g c =
       | in-Err w ↦ rw w.result-is tt
     ]
 
-pub returns-clause-reply : goal.returns-clause-reply
-returns-clause-reply g c =
+pub returns-clause-found : goal.returns-clause-found
+returns-clause-found g c =
     let v = c.args.self.now in
     let closed = ap (λ (x : View g.row.T.Denot). x.control.closed) c.self.view_is in
     let front : v.front ≤ c.in-Some.cursor = omega (arith, c.if-cursor-front.false, c.front-front.ensures, ap (λ (x : View g.row.T.Denot). x.front) c.self.view_is) in
     let end : v.end ≤ c.in-Some.cursor = omega (arith, c.if-index-len.false, c.len.ensures, c.front-front.ensures, ap (λ (x : View g.row.T.Denot). x.end) c.self.view_is) in
     let exact = sym (at_end v c.args.at c.in-Some.cursor c.requires.valid c.in-Some.is front end) in
     elim c.if-self.branch [
-      | then-self w ↦ inl (ap reply.TryRecv (w.result-is ∙ ap Ok (ap (λ b. recv_reply b None) (sym w.if-self.true ∙ closed) ∙ exact)))
-      | else-self w ↦ inl (ap reply.TryRecv (w.result-is ∙ ap Ok (ap (λ b. recv_reply b None) (sym w.if-self.false ∙ closed) ∙ exact)))
+      | then-self w ↦ inl (w.result-is ∙ ap Ok (ap (λ b. recv_reply b None) (sym w.if-self.true ∙ closed) ∙ exact))
+      | else-self w ↦ inl (w.result-is ∙ ap Ok (ap (λ b. recv_reply b None) (sym w.if-self.false ∙ closed) ∙ exact))
     ]

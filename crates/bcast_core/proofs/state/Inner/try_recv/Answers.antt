@@ -1,6 +1,6 @@
 use Rattle.std.proofs.Common.{true, sym, ap, ◌∙◌}
 use Rattle.bcast_model.specs.Words.{cursor_of}
-use Rattle.bcast_core.proofs.Respelt.{does_receive_at}
+use Rattle.bcast_core.proofs.Does.{does_receive}
 use Rattle.bcast_core.proofs.Tail.{ends, told_none, shown_after, valid_shown}
 use Rattle.bcast_core.proofs.state.Inner.try_recv.Goals as goal
 
@@ -11,14 +11,14 @@ pub returns-then-not-nobody_waits-clause-answers : goal.returns-then-not-nobody_
 returns-then-not-nobody_waits-clause-answers g c =
     let received = c.receive-received.ensures in
     ends c.self.view_is c.self.invariant tt
-    (does_receive_at c.self.inside.parts c.receive-received.new.self c.args.key c.cursor-at.result c.receive-received.result (c.cursor-at.ensures ∙ ap (λ inside. cursor_of inside.parts.control c.args.key) c.self-inside.view_is) (valid_shown c.self.invariant) received.reply received.ok received.err)
+    (does_receive c.self.inside.parts c.receive-received.new.self c.args.key c.cursor-at.result c.receive-received.result (c.cursor-at.ensures ∙ ap (λ inside. cursor_of inside.parts.control c.args.key) c.self-inside.view_is) (valid_shown c.self.invariant) received.found received.ok received.err)
     c.tell_a_sender.ensures
 
 pub returns-else-not-nobody_waits-clause-answers : goal.returns-else-not-nobody_waits-clause-answers
 returns-else-not-nobody_waits-clause-answers g c =
     let received = c.receive-received.ensures in
     ends c.self.view_is c.self.invariant tt
-    (does_receive_at c.self.inside.parts c.receive-received.new.self c.args.key c.cursor-at.result c.receive-received.result (c.cursor-at.ensures ∙ ap (λ inside. cursor_of inside.parts.control c.args.key) c.self-inside.view_is) (valid_shown c.self.invariant) received.reply received.ok received.err)
+    (does_receive c.self.inside.parts c.receive-received.new.self c.args.key c.cursor-at.result c.receive-received.result (c.cursor-at.ensures ∙ ap (λ inside. cursor_of inside.parts.control c.args.key) c.self-inside.view_is) (valid_shown c.self.invariant) received.found received.ok received.err)
     (sym (told_none c.receive-received.new.self true (sym (ap (λ inside. inside.parts.control.waiting_sends) c.self-inside-2.view_is) ∙ c.nobody_waits.ensures.0 c.if-not-nobody_waits.false)))
 
 pub invariant_of-self : goal.invariant_of-self
