@@ -10,7 +10,7 @@ use bcast_waiting::notice::Notice;
 use std::alloc::{AllocError, Allocator};
 
 /// A call that can't fail, and returns nothing: the state call of the same name.
-#[derive(Clone, Copy, PartialEq, Debug, Drop)]
+#[derive(Clone, Copy, Drop)]
 pub enum Change {
     /// `Inner::end_send`, of this place.
     EndSend(usize),

@@ -9,7 +9,7 @@ use bcast_waiting::notice::Notice;
 use std::alloc::Allocator;
 
 /// A call that adds a receiver, and returns its key.
-#[derive(Clone, Copy, PartialEq, Debug, Drop)]
+#[derive(Clone, Copy, Drop)]
 pub enum AddReceiver {
     /// `Inner::new_receiver`.
     New,
@@ -58,7 +58,7 @@ impl<T: Clone> AtOnce<T> for AddReceiver {
 }
 
 /// A call that adds a handle that has no key.
-#[derive(Clone, Copy, PartialEq, Debug, Drop)]
+#[derive(Clone, Copy, Drop)]
 pub enum AddHandle {
     /// `Inner::new_sender`.
     Sender,

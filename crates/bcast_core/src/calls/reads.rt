@@ -10,7 +10,7 @@ use bcast_waiting::notice::Notice;
 use std::alloc::Allocator;
 
 /// A call that reads a number: the state call of the same name.
-#[derive(Clone, Copy, PartialEq, Debug, Drop)]
+#[derive(Clone, Copy, Drop)]
 pub enum Count {
     Capacity,
     Len,
@@ -61,7 +61,7 @@ impl<T: Clone> AtOnce<T> for Count {
 }
 
 /// A call that reads whether something is so: the state call of the same name.
-#[derive(Clone, Copy, PartialEq, Debug, Drop)]
+#[derive(Clone, Copy, Drop)]
 pub enum Test {
     Overflow,
     AwaitActive,
