@@ -10,7 +10,7 @@ use Rattle.bcast_history.specs.History.{IsHistory}
 use Rattle.bcast_history.proofs.Prefixes.{meet, prefix_trans}
 use Rattle.bcast_history.specs.History.{accepted_by}
 use Rattle.bcast_history.proofs.Closed.{closed_keeps}
-use Rattle.bcast_history.proofs.Agree.{agree, is_accepted}
+use Rattle.bcast_history.proofs.Agree.{agree, log_is_accepted}
 use Rattle.bcast_threads.specs.Lists.{HasAll, IsOneList}
 use Rattle.bcast_threads.specs.Closed.{AreBeforeClosing, WereSent, IsWhole}
 use Rattle.bcast_threads.proofs.Sent.{all_stay, contained, joined}
@@ -66,5 +66,5 @@ each_once items o known steps sent total lists longer were all counted whole k d
     let its = whole k d within in
     let there = (still_sent o 0 sent known steps longer were).before its.known its.begins its.log.closed in (
       counted k d within ∙ all,
-      λ number below. contained _ number (subst (HasAll 0 sent) (sym (is_accepted (λ msg given same. same) its.log)) there number (omega arith) (omega (arith, below, all))),
+      λ number below. contained _ number (subst (HasAll 0 sent) (sym (log_is_accepted (λ msg given same. same) its.log)) there number (omega arith) (omega (arith, below, all))),
     )
