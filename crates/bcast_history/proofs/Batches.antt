@@ -1,6 +1,7 @@
 -- Several receives in one call: what the receiver takes.
 use Rattle.std.proofs.Common.{◌≡◌, ℕ, ◌+◌, ◌<◌, List, [], ◌∷◌, ◌++◌, length, inr, Option, Some, None, Result, Ok, Err, refl, sym, ap, ◌∙◌, subst, arith}
 use Rattle.std.specs.Prelude.{IsSomeAnd}
+use Rattle.std.specs.List.{AllByRecursion}
 use mathlib.Core.List.{IsPrefix}
 use Rattle.bcast_model.specs.Words.{IsDelivery, IsGiven, numbered}
 use Rattle.bcast_core.specs.Batch.{ReceivesEach, ReceivesInto}
@@ -15,9 +16,11 @@ use Rattle.bcast_history.specs.declared.step.Opening.{Opening}
 use Rattle.bcast_history.specs.declared.step.Step.{Step}
 use Rattle.bcast_history.specs.History.{IsLawful, end_of}
 use Rattle.bcast_history.specs.Batch.{AreDeliveries, TakesInto, TakesMany}
-use Rattle.bcast_history.specs.Tracker.{IsOf, IsReceiver, Tracker, Learns, number}
+use Rattle.bcast_history.specs.Makes.{IsReceive, MakesReceives}
+use Rattle.bcast_history.specs.Tracker.{IsReceiver, Tracker, Learns, number}
 use Rattle.bcast_history.proofs.Prefixes.{prefix_self, prefix_trans}
 use Rattle.bcast_history.proofs.Received.{IsPlace, tried}
+use Rattle.bcast_history.proofs.Receiving.{each_made}
 use Rattle.bcast_history.proofs.Sent.{messages_stay}
 
 some_and : {X : Type 0} (o : Option X) (P : X → Type 0) → IsSomeAnd o P → (x : X) × (o ≡ Some x) × P x
@@ -53,37 +56,46 @@ each_taken is_clone o key known after (msg ∷ given) its each =
 
 -- a batch that was received through a port
 pub record Batched
-    {T : Type 0} (is_clone : T → T → Type 0) (o : Opening) (key : ℕ) (old : Tracker T) (before : List T) (count : ℕ) (longer : List T) (new : Tracker T) : Type 0 where
-  pub still : IsOf key new
+    {T : Type 0} (learns : Tracker T → Call T → Reply T → Tracker T → Type 0) (is_clone : T → T → Type 0) (o : Opening)
+    (old : Tracker T) (before : List T) (count : ℕ) (longer : List T) (new : Tracker T) : Type 0 where
+  pub reads : IsReceiver new
   pub lawful : IsLawful is_clone o new.steps
-  pub seen : IsPrefix old.steps new.steps
+  pub only : MakesReceives learns old new
   pub takes : TakesInto is_clone o old before count longer new
 
-pub batched : {T : Type 0} (is_clone : T → T → Type 0) {o : Opening} {key count : ℕ} {known old after : Tracker T} {before longer : List T} {Gives : Tracker T → Call T → Reply T → Tracker T → Type 0}
-    → known ≡ old → key ≡ known.key → IsReceiver known → IsLawful is_clone o known.steps → ((k a : Tracker T) (c : Call T) (r : Reply T) → Gives k c r a → Learns is_clone o k c r a)
-    → ReceivesInto Gives key known before count longer after → Batched is_clone o key old before count longer after
-batched {T} is_clone {o = o} {key = key} {known = known} {old = old} {after = after} {Gives = Gives} is at reads lawful learns into =
-    let its : IsPlace is_clone o key old = subst (IsPlace is_clone o key) is ((sym at, reads), lawful) in
-    let each = subst (λ k. ReceivesEach (Learns is_clone o) key k into.given after) is (each_weaker Gives (Learns is_clone o) learns key known after into.given into.each) in
-    let taken = each_taken is_clone o key old after into.given its each in
+pub batched : {T : Type 0} (learns : Tracker T → Call T → Reply T → Tracker T → Type 0) (is_clone : T → T → Type 0) {o : Opening} {key count : ℕ} {known inner old after : Tracker T} {before longer : List T} {Gave : Call T → Reply T → Type 0}
+    → known ≡ inner → inner ≡ old → key ≡ known.key → IsReceiver inner → IsLawful is_clone o known.steps → ((k a : Tracker T) (c : Call T) (r : Reply T) → learns k c r a → Learns is_clone o k c r a)
+    → ReceivesInto (λ k c r a. Gave c r × learns k c r a) key known before count longer after → Batched learns is_clone o old before count longer after
+batched {T} learns is_clone {o = o} {key = key} {known = known} {inner = inner} {old = old} {after = after} {Gave = Gave} view of at reads lawful follows into =
+    let is = view ∙ of in
+    let its : IsPlace is_clone o key old = subst (IsPlace is_clone o key) is ((sym at, subst IsReceiver (sym view) reads), lawful) in
+    let each = subst (λ k. ReceivesEach learns key k into.given after) is (each_weaker (λ k c r a. Gave c r × learns k c r a) learns (λ k a c r both. both.1) key known after into.given into.each) in
+    let made = each_made learns key old after into.given each in
+    let taken = each_taken is_clone o key old after into.given its (each_weaker learns (Learns is_clone o) follows key old after into.given each) in
     record {
-      still = taken.still.0;
+      reads = taken.still.0.1;
       lawful = taken.still.1;
-      seen = taken.seen;
+      only = record {
+        key = taken.still.0.0 ∙ sym its.0.0;
+        seen = taken.seen;
+        steps = made.0;
+        receives = subst (λ key. AllByRecursion (IsReceive key) made.0) (sym its.0.0) made.1;
+        each = made.2;
+      };
       takes = record { given = into.given; counted = into.counted; put = into.put; messages = taken.messages; next = taken.next ∙ ap (λ n. number old.next + n) into.counted };
     }
 
 -- or one receive that may wait: its message is put last into the list
-pub takes_last : {T E : Type 0} (is_clone : T → T → Type 0) (o : Opening) (as_tried : Result (Result T E) AllocError → Result (Result T TryRecvError) AllocError) {limit : ℕ} {old mid : Tracker T} (new : Tracker T) {before between : List T} (after : List T)
-    (spelt : (msg : T) → as_tried (Ok (Ok msg)) ≡ Ok (Ok msg)) (found : Result (Result T E) AllocError) (result : Result (Result ℕ E) AllocError) → (0 < limit) × (mid ≡ old) × (between ≡ before)
+pub takes_last : {T E Room : Type 0} (is_clone : T → T → Type 0) (o : Opening) (as_tried : Result (Result T E) AllocError → Result (Result T TryRecvError) AllocError) {limit : ℕ} {old mid : Tracker T} (new : Tracker T) {before between : List T} (after : List T)
+    (spelt : (msg : T) → as_tried (Ok (Ok msg)) ≡ Ok (Ok msg)) (found : Result (Result T E) AllocError) (result : Result (Result ℕ E) AllocError) → (0 < limit) × (mid ≡ old) × (between ≡ before) × Room
     → Takes is_clone o mid new (as_tried found) → PutsLast found between result after → TakesMany is_clone o as_tried limit old before result after new
-takes_last is_clone o as_tried {limit = limit} {old = old} new {before = before} after spelt (Ok (Ok msg)) result (some, same, items) takes puts =
+takes_last is_clone o as_tried {limit = limit} {old = old} new {before = before} after spelt (Ok (Ok msg)) result (some, same, items, room) takes puts =
     let got = subst (Takes is_clone o old new) (spelt msg) (subst (λ r. Takes is_clone o r new (as_tried (Ok (Ok msg)))) same takes) in
     subst (λ r. TakesMany is_clone o as_tried limit old before r after new) (sym puts.0)
     (omega arith, λ _. omega arith, record { given = msg ∷ []; counted = refl; put = puts.1 ∙ ap (λ w. w ++ msg ∷ []) items; messages = (got.0, tt); next = got.1 })
-takes_last is_clone o as_tried {limit = limit} {old = old} new {before = before} after spelt (Ok (Err error)) result (some, same, items) takes puts =
+takes_last is_clone o as_tried {limit = limit} {old = old} new {before = before} after spelt (Ok (Err error)) result (some, same, items, room) takes puts =
     subst (λ r. TakesMany is_clone o as_tried limit old before r after new) (sym puts.0)
     (puts.1 ∙ items, subst (λ r. Takes is_clone o r new (as_tried (Ok (Err error)))) same takes)
-takes_last is_clone o as_tried {limit = limit} {old = old} new {before = before} after spelt (Err error) result (some, same, items) takes puts =
+takes_last is_clone o as_tried {limit = limit} {old = old} new {before = before} after spelt (Err error) result (some, same, items, room) takes puts =
     subst (λ r. TakesMany is_clone o as_tried limit old before r after new) (sym puts.0)
     (puts.1 ∙ items, inr (subst (λ r. Takes is_clone o r new (as_tried (Err error))) same takes))

@@ -15,6 +15,7 @@ pub mod Found
 pub mod Polls
 pub mod Polled
 pub mod Received
+pub mod Receiving
 pub mod Skipped
 -- several messages in one call
 pub mod KeepingEach
@@ -22,8 +23,6 @@ pub mod Batches
 -- where a receiver starts
 pub mod Started
 pub mod Making
--- receives, and no other call
-pub mod Receiving
 -- laws
 pub mod Sent
 pub mod Given

@@ -1,5 +1,5 @@
 -- What the receives of a `TrackedReceiver` take.
-use Rattle.std.proofs.Common.{◌≡◌, ◌⊎◌, inr, ℕ, Some, Result, Ok, Err, sym, ap, ◌∙◌, subst}
+use Rattle.std.proofs.Common.{◌≡◌, ◌⊎◌, inr, ℕ, List, Some, Result, Ok, Err, sym, ap, ◌∙◌, subst}
 use Rattle.std.specs.Prelude.{IfOk, IfErr}
 use Rattle.std.specs.declared.alloc.AllocError.{AllocError}
 use mathlib.Core.List.{IsPrefix}
@@ -10,6 +10,8 @@ use Rattle.bcast_model.specs.declared.run.Reply.{Reply}
 use Rattle.bcast_model.specs.declared.run.Reply.TheVariants as reply
 use Rattle.bcast_model.specs.Words.{History, next, cursor_of}
 use Rattle.bcast_history.specs.declared.step.Opening.{Opening}
+use Rattle.bcast_history.specs.declared.step.Step.{Step}
+use Rattle.bcast_history.specs.Follows.{Follows}
 use Rattle.bcast_history.specs.History.{IsLawful, end_of}
 use Rattle.bcast_history.specs.Makes.{MakesCall}
 use Rattle.bcast_history.specs.Reader.{Finds, StaysAt, Takes, as_found}
@@ -40,10 +42,9 @@ module _ {T : Type 0} where
   pub reads_there : {now : ℕ} (t : Tracker T) → t.next ≡ Some now → IsReceiver t
   reads_there t at = at ∙ ap (λ n. Some (number n)) (sym at)
 
-  pub seen : {is_clone : T → T → Type 0} {o : Opening} {known after : Tracker T} {c : Call T} {r : Reply T}
-      → Learns is_clone o known c r after → IsPrefix known.steps after.steps
-  seen {known = known} {after = after} learned =
-      let f = learned.follows in prefix_trans known.steps f.before after.steps f.begins (_, sym f.last)
+  pub seen : {is_clone : T → T → Type 0} {o : Opening} {known after : List (Step T)} {c : Call T} {r : Reply T}
+      → Follows is_clone o known c r after → IsPrefix known after
+  seen {known = known} {after = after} f = prefix_trans known f.before after f.begins (_, sym f.last)
 
 -- the tracker is the receiver's, and what it knows is a run
 abbrev pub IsPlace : {T : Type 0} → (T → T → Type 0) → Opening → ℕ → Tracker T → Type 0
@@ -72,7 +73,7 @@ module _
   received found learned (now, at, finds_so) =
       let on = reads_on its learned at in record {
         still = (learned.key ∙ its.0, reads_there after on);
-        seen = seen learned;
+        seen = seen learned.follows;
         takes = subst (λ key. Finds is_clone (end_of o after.steps) key (number known.next) (number after.next) found) (sym its.0)
             (subst (λ now. Finds is_clone (end_of o after.steps) key (number known.next) now found) (sym (ap number on))
             (subst (λ h. Finds is_clone h key (number known.next) now found) (sym learned.follows.end) finds_so));

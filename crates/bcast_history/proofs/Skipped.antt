@@ -9,14 +9,17 @@ use Rattle.futures.specs.declared.task.Poll.TheVariants as poll
 use Rattle.bcast_model.specs.declared.error.RecvError.TheVariants as unreceived
 use Rattle.bcast_model.specs.declared.error.TryRecvError.{TryRecvError}
 use Rattle.bcast_model.specs.declared.error.TryRecvError.TheVariants as unread
+use Rattle.bcast_model.specs.declared.run.Call.{Call}
+use Rattle.bcast_model.specs.declared.run.Reply.{Reply}
 use Rattle.bcast_model.specs.Words.{History, next, end_of_run}
 use Rattle.bcast_history.specs.declared.step.Opening.{Opening}
 use Rattle.bcast_history.specs.declared.step.Step.{Step}
 use Rattle.bcast_history.specs.History.{calls_of, replies_of, start_of, end_of}
-use Rattle.bcast_history.proofs.Prefixes.{prefix_trans}
+use Rattle.bcast_history.specs.Makes.{MakesReceives}
 use Rattle.bcast_history.specs.Reader.{Skips, Takes, TakesNext, as_found}
 use Rattle.bcast_history.specs.Tracker.{Tracker, number}
 use Rattle.bcast_history.proofs.Polls.{Polled}
+use Rattle.bcast_history.proofs.Receiving.{receives_on}
 
 pub on_err : {X E P : Type 0} (p : Result X E) → P → OnErr p P
 on_err (Ok found) why = tt
@@ -34,12 +37,14 @@ module _ {T : Type 0} where
   floor_rises o known later begins =
       subst (λ steps. (end_of o known).floor ≤ (end_of o steps).floor) begins.1 (rises (start_of o) known begins.0)
 
-  -- it knows more, and has skipped
-  pub record HasSkipped (o : Opening) (old now : Tracker T) : Type 0 where
-    pub steps : IsPrefix old.steps now.steps
-    pub skips : Skips (end_of o now.steps) (number old.next) (number now.next)
+-- by receives, and no other call
+pub record HasSkipped {T : Type 0} (learns : Tracker T → Call T → Reply T → Tracker T → Type 0) (o : Opening) (old now : Tracker T) : Type 0 where
+  pub made : MakesReceives learns old now
+  pub skips : Skips (end_of o now.steps) (number old.next) (number now.next)
 
-module _ {T : Type 0} (is_clone : T → T → Type 0) (o : Opening) (old mid new : Tracker T) (skipped : HasSkipped o old mid) (longer : IsPrefix mid.steps new.steps) where
+module _
+    {T : Type 0} {learns : Tracker T → Call T → Reply T → Tracker T → Type 0} (is_clone : T → T → Type 0) (o : Opening)
+    (old mid new : Tracker T) (skipped : HasSkipped learns o old mid) (longer : IsPrefix mid.steps new.steps) where
   -- it skips more
   skips_on : (to : ℕ) → Skips (end_of o new.steps) (number mid.next) to → Skips (end_of o new.steps) (number old.next) to
   skips_on to more =
@@ -58,10 +63,10 @@ module _ {T : Type 0} (is_clone : T → T → Type 0) (o : Opening) (old mid new
   stays to same = skips_on to (omega (arith, same), λ n from below. absurd (omega (arith, same, from, below)))
 
   pub skips : (n : ℕ) (p : Polled T) → p ≡ Ok (poll.Ready (Some (Err (unreceived.Overflowed n))))
-      → Takes is_clone o mid new (as_found p) → HasSkipped o old new
-  skips n p is takes =
+      → MakesReceives learns mid new → Takes is_clone o mid new (as_found p) → HasSkipped learns o old new
+  skips n p is more takes =
       let missed : Takes is_clone o mid new (Ok (Err (unread.Overflowed n))) = subst (λ p. Takes is_clone o mid new (as_found p)) is takes in
-      record { steps = prefix_trans old.steps mid.steps new.steps skipped.steps longer; skips = skips_on (number new.next) missed.2 }
+      record { made = receives_on skipped.made more; skips = skips_on (number new.next) missed.2 }
 
   pub errs_next : (p : Result (Poll (Option T)) AllocError) → IsErr p → number new.next ≡ number mid.next → TakesNext is_clone o old new p
   errs_next (Ok found) is same = absurd (cc is)

@@ -1,6 +1,7 @@
 -- Which calls a handle makes.
 use Rattle.std.specs.Prelude.{◌≡◌, ◌⊎◌, ℕ, List, [], ◌∷◌, Result, Err}
 use Rattle.std.specs.List.{AllByRecursion}
+use mathlib.Core.List.{IsPrefix}
 use Rattle.std.specs.declared.alloc.AllocError.{AllocError}
 use Rattle.bcast_model.specs.declared.error.HandleError.{HandleError}
 use Rattle.bcast_model.specs.declared.error.HandleError.TheVariants as handle
@@ -29,11 +30,14 @@ module _ {T : Type 0} (learns : Tracker T → Call T → Reply T → Tracker T �
       (between : Tracker T) × learns known step.call step.reply between
       × MakesEach steps between after
 
-  -- a receiver makes receives, one after the other, and no other call
-  abbrev pub MakesReceives : Tracker T → Tracker T → Type 0
-  MakesReceives old new =
-      (steps : List (Step T)) × AllByRecursion (IsReceive old.key) steps
-      × MakesEach steps old new
+  -- a receiver makes receives, one after the other, and no other call; and what it knew begins what
+  -- it knows then
+  pub record MakesReceives (old new : Tracker T) : Type 0 where
+    pub key : new.key ≡ old.key
+    pub seen : IsPrefix old.steps new.steps
+    pub steps : List (Step T)
+    pub receives : AllByRecursion (IsReceive old.key) steps
+    pub each : MakesEach steps old new
 
   -- a handle's last call, by what it knew: what is known after it nobody is told
   abbrev pub MakesLast : Tracker T → Call T → Reply T → Type 0

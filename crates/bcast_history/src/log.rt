@@ -1,6 +1,5 @@
 //! A log: all messages that a channel had accepted when it was closed.
 ghost use Rattle.std.specs.Prelude.{◌≡◌, IfOk, IfErr};
-ghost use mathlib.Core.List.{IsPrefix};
 ghost use Rattle.bcast_model.specs.Words.{ClonesEqual};
 ghost use Rattle.bcast_history.specs.Log.{IsCutLog, IsWholeLog};
 ghost use Rattle.bcast_history.specs.Makes.{MakesReceives};
@@ -85,8 +84,6 @@ impl<T: Clone, P: HistoryPort<T, J>, J: Channel> TrackedReceiver<T, P, J> {
         count: usize,
     ) -> Result<Result<WholeLog<T, J, A>, RecvError>, AllocError>
         requires { StartsAtTheFirst J.opening self.old.tracker }
-        ensures key { self.new.tracker.key ≡ self.old.tracker.key }
-        ensures seen { IsPrefix self.old.tracker.steps self.new.tracker.steps }
         ensures only { MakesReceives P.learns self.old.tracker self.new.tracker }
         ensures log { IfOk result (λ received.
             IfOk received (λ log. log.steps ≡ self.new.tracker.steps)) }

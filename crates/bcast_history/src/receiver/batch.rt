@@ -1,7 +1,6 @@
 //! Receiving several messages at once.
 ghost use Rattle.std.specs.Prelude.{◌≡◌, ◌<◌, ◌≤◌, vec_len, vec_capacity};
 ghost use Rattle.std.specs.Prelude.{IfOk, IfSome, IfNone, OnErr};
-ghost use mathlib.Core.List.{IsPrefix};
 ghost use Rattle.futures.specs.Task.{IsArmed, Keeps};
 ghost use Rattle.futures.specs.Poll.{OnPending};
 ghost use Rattle.async_broadcast.specs.Ports.{as_try_recv};
@@ -28,8 +27,6 @@ impl<T: Clone, P: HistoryPort<T, J>, J: Channel> TrackedReceiver<T, P, J> {
         limit: usize,
         msgs: &mut Vec<T, B>,
     ) -> Result<Result<usize, TryRecvError>, AllocError>
-        ensures key { self.new.tracker.key ≡ self.old.tracker.key }
-        ensures seen { IsPrefix self.old.tracker.steps self.new.tracker.steps }
         ensures only { MakesReceives P.learns self.old.tracker self.new.tracker }
         ensures takes { TakesMany T.is_clone J.opening (λ tried. tried) limit self.old.tracker
             msgs.old.items result msgs.new.items self.new.tracker }
@@ -48,8 +45,6 @@ impl<T: Clone, P: HistoryPort<T, J>, J: Channel> TrackedReceiver<T, P, J> {
         limit: usize,
         msgs: &mut Vec<T, B>,
     ) -> Result<Result<usize, RecvError>, AllocError>
-        ensures key { self.new.tracker.key ≡ self.old.tracker.key }
-        ensures seen { IsPrefix self.old.tracker.steps self.new.tracker.steps }
         ensures only { MakesReceives P.learns self.old.tracker self.new.tracker }
         ensures takes { TakesMany T.is_clone J.opening as_try_recv limit self.old.tracker
             msgs.old.items result msgs.new.items self.new.tracker }
@@ -68,8 +63,6 @@ impl<T: Clone, P: HistoryPort<T, J>, J: Channel> TrackedReceiver<T, P, J> {
         limit: usize,
         msgs: &mut Vec<T, B>,
     ) -> Result<Poll<Option<Result<usize, RecvError>>>, AllocError>
-        ensures key { self.new.tracker.key ≡ self.old.tracker.key }
-        ensures seen { IsPrefix self.old.tracker.steps self.new.tracker.steps }
         ensures only { MakesReceives P.learns self.old.tracker self.new.tracker }
         ensures takes { TakesMany T.is_clone J.opening (λ tried. tried) limit self.old.tracker
             msgs.old.items (as_found result) msgs.new.items self.new.tracker }
@@ -97,8 +90,6 @@ impl<T: Clone, P: HistoryPort<T, J>, J: Channel> TrackedReceiver<T, P, J> {
         limit: usize,
         msgs: &mut Vec<T, B>,
     ) -> Result<Option<usize>, AllocError>
-        ensures key { self.new.tracker.key ≡ self.old.tracker.key }
-        ensures seen { IsPrefix self.old.tracker.steps self.new.tracker.steps }
         ensures only { MakesReceives P.learns self.old.tracker self.new.tracker }
         ensures some { IfOk result (λ kept. IfSome kept (λ count. (count ≤ limit)
             × (0 < limit → 0 < count) × TakesInto T.is_clone J.opening self.old.tracker
@@ -130,8 +121,6 @@ impl<T: Clone, P: TimedHistoryPort<T, J>, J: Channel> TrackedReceiver<T, P, J> {
         msgs: &mut Vec<T, B>,
         time: Duration,
     ) -> Result<Result<usize, RecvTimeoutError>, AllocError>
-        ensures key { self.new.tracker.key ≡ self.old.tracker.key }
-        ensures seen { IsPrefix self.old.tracker.steps self.new.tracker.steps }
         ensures only { MakesReceives P.learns self.old.tracker self.new.tracker }
         ensures takes { TakesMany T.is_clone J.opening as_timed_try limit self.old.tracker
             msgs.old.items result msgs.new.items self.new.tracker }

@@ -71,8 +71,6 @@ impl<T: Clone, P: HistoryPort<T, J>, J: Channel> TrackedReceiver<T, P, J> {
         rt: &impl Wait,
         cx: &mut Context<'_>,
     ) -> Result<Poll<Option<T>>, AllocError>
-        ensures key { self.new.tracker.key ≡ self.old.tracker.key }
-        ensures seen { IsPrefix self.old.tracker.steps self.new.tracker.steps }
         ensures only { MakesReceives P.learns self.old.tracker self.new.tracker }
         ensures takes { TakesNext T.is_clone J.opening self.old.tracker self.new.tracker result }
         ensures refused { OnErr result ((self.new.waker.is_refused ≡ true)
