@@ -16,7 +16,7 @@ use Rattle.bcast_history.specs.declared.step.Opening.{Opening}
 use Rattle.bcast_history.specs.declared.step.Step.{Step}
 use Rattle.bcast_history.specs.History.{IsLawful, end_of}
 use Rattle.bcast_history.specs.Batch.{AreDeliveries, TakesInto, TakesMany}
-use Rattle.bcast_history.specs.Makes.{IsReceive, MakesReceives}
+use Rattle.bcast_history.specs.Makes.{IsReceive, MakesReceives, ReceivesOnce}
 use Rattle.bcast_history.specs.Tracker.{IsReceiver, Tracker, Learns, number}
 use Rattle.bcast_history.proofs.Prefixes.{prefix_self, prefix_trans}
 use Rattle.bcast_history.proofs.Received.{IsPlace, tried}
@@ -86,16 +86,16 @@ batched {T} learns is_clone {o = o} {key = key} {known = known} {inner = inner} 
     }
 
 -- or one receive that may wait: its message is put last into the list
-pub takes_last : {T E Room : Type 0} (is_clone : T → T → Type 0) (o : Opening) (as_tried : Result (Result T E) AllocError → Result (Result T TryRecvError) AllocError) {limit : ℕ} {old mid : Tracker T} (new : Tracker T) {before between : List T} (after : List T)
+pub takes_last : {T E Room : Type 0} (learns : Tracker T → Call T → Reply T → Tracker T → Type 0) (is_clone : T → T → Type 0) (o : Opening) (as_tried : Result (Result T E) AllocError → Result (Result T TryRecvError) AllocError) {limit : ℕ} {old mid : Tracker T} (new : Tracker T) {before between : List T} (after : List T)
     (spelt : (msg : T) → as_tried (Ok (Ok msg)) ≡ Ok (Ok msg)) (found : Result (Result T E) AllocError) (result : Result (Result ℕ E) AllocError) → (0 < limit) × (mid ≡ old) × (between ≡ before) × Room
-    → Takes is_clone o mid new (as_tried found) → PutsLast found between result after → TakesMany is_clone o as_tried limit old before result after new
-takes_last is_clone o as_tried {limit = limit} {old = old} new {before = before} after spelt (Ok (Ok msg)) result (some, same, items, room) takes puts =
-    let got = subst (Takes is_clone o old new) (spelt msg) (subst (λ r. Takes is_clone o r new (as_tried (Ok (Ok msg)))) same takes) in
-    subst (λ r. TakesMany is_clone o as_tried limit old before r after new) (sym puts.0)
+    → ReceivesOnce learns is_clone o mid new (as_tried found) → PutsLast found between result after → TakesMany is_clone o (ReceivesOnce learns is_clone o) as_tried limit old before result after new
+takes_last learns is_clone o as_tried {limit = limit} {old = old} new {before = before} after spelt (Ok (Ok msg)) result (some, same, items, room) received puts =
+    let got = subst (Takes is_clone o old new) (spelt msg) (subst (λ r. Takes is_clone o r new (as_tried (Ok (Ok msg)))) same received.0) in
+    subst (λ r. TakesMany is_clone o (ReceivesOnce learns is_clone o) as_tried limit old before r after new) (sym puts.0)
     (omega arith, λ _. omega arith, record { given = msg ∷ []; counted = refl; put = puts.1 ∙ ap (λ w. w ++ msg ∷ []) items; messages = (got.0, tt); next = got.1 })
-takes_last is_clone o as_tried {limit = limit} {old = old} new {before = before} after spelt (Ok (Err error)) result (some, same, items, room) takes puts =
-    subst (λ r. TakesMany is_clone o as_tried limit old before r after new) (sym puts.0)
-    (puts.1 ∙ items, subst (λ r. Takes is_clone o r new (as_tried (Ok (Err error)))) same takes)
-takes_last is_clone o as_tried {limit = limit} {old = old} new {before = before} after spelt (Err error) result (some, same, items, room) takes puts =
-    subst (λ r. TakesMany is_clone o as_tried limit old before r after new) (sym puts.0)
-    (puts.1 ∙ items, inr (subst (λ r. Takes is_clone o r new (as_tried (Err error))) same takes))
+takes_last learns is_clone o as_tried {limit = limit} {old = old} new {before = before} after spelt (Ok (Err error)) result (some, same, items, room) received puts =
+    subst (λ r. TakesMany is_clone o (ReceivesOnce learns is_clone o) as_tried limit old before r after new) (sym puts.0)
+    (puts.1 ∙ items, subst (λ r. ReceivesOnce learns is_clone o r new (as_tried (Ok (Err error)))) same received)
+takes_last learns is_clone o as_tried {limit = limit} {old = old} new {before = before} after spelt (Err error) result (some, same, items, room) received puts =
+    subst (λ r. TakesMany is_clone o (ReceivesOnce learns is_clone o) as_tried limit old before r after new) (sym puts.0)
+    (puts.1 ∙ items, inr (subst (λ r. ReceivesOnce learns is_clone o r new (as_tried (Err error))) same received))

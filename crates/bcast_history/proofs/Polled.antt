@@ -87,6 +87,6 @@ module _ {T : Type 0} (is_clone : T → T → Type 0) where
 -- a poll that gave no message, for a batch
 pub polls_last : {T Room : Type 0} (is_clone : T → T → Type 0) (o : Opening) {limit : ℕ} {old mid : Tracker T} (new : Tracker T) {before between : List T} (error : RecvError)
     → (0 < limit) × (mid ≡ old) × (between ≡ before) × Room → Takes is_clone o mid new (as_found (Ok (poll.Ready (Some (Err error)))))
-    → TakesMany is_clone o (λ tried. tried) limit old before (as_found (Ok (poll.Ready (Some (Err error))))) between new
+    → TakesMany is_clone o (Takes is_clone o) (λ tried. tried) limit old before (as_found (Ok (poll.Ready (Some (Err error))))) between new
 polls_last is_clone o new (unreceived.Overflowed n) (some, same, items, room) takes = (items, subst (λ r. Takes is_clone o r new (Ok (Err (unread.Overflowed n)))) same takes)
 polls_last is_clone o new unreceived.Closed (some, same, items, room) takes = (items, subst (λ r. Takes is_clone o r new (Ok (Err unread.Closed))) same takes)

@@ -8,7 +8,6 @@ use Rattle.bcast_model.specs.Words.{History, IsDelivery}
 use Rattle.bcast_history.specs.declared.step.Opening.{Opening}
 use Rattle.bcast_history.specs.declared.step.Step.{Step}
 use Rattle.bcast_history.specs.History.{end_of}
-use Rattle.bcast_history.specs.Reader.{Takes}
 use Rattle.bcast_history.specs.Tracker.{Tracker, number}
 
 -- a receive by the receiver `key` that gave this message
@@ -35,16 +34,18 @@ module _ {T : Type 0} (is_clone : T → T → Type 0) where
 
   module _
       {E : Type 0} (o : Opening)
+      (Receives : Tracker T → Tracker T → Result (Result T TryRecvError) AllocError → Type 0)
       (as_tried : Result (Result T E) AllocError → Result (Result T TryRecvError) AllocError)
       (limit : ℕ) where
     -- `try_recv_many` and its waiting forms: at least one message, if the limit isn't 0; or what one
     -- `try_recv` found that gave none; or memory was refused, and nothing is read, or one `try_recv`
-    -- found that. `as_tried`: a result of a single receive of that form, as `try_recv` returns it
+    -- found that. `Receives`: one receive, with what it found. `as_tried`: a result of a single
+    -- receive of that form, as `try_recv` returns it
     abbrev pub TakesMany
         : Tracker T → List T → Result (Result ℕ E) AllocError → List T → Tracker T → Type 0
     TakesMany old before (Ok (Ok count)) after new =
         (count ≤ limit) × (0 < limit → 0 < count) × TakesInto o old before count after new
     TakesMany old before (Ok (Err error)) after new =
-        (after ≡ before) × Takes is_clone o old new (as_tried (Ok (Err error)))
+        (after ≡ before) × Receives old new (as_tried (Ok (Err error)))
     TakesMany old before (Err error) after new =
-        (after ≡ before) × ((new ≡ old) ⊎ Takes is_clone o old new (as_tried (Err error)))
+        (after ≡ before) × ((new ≡ old) ⊎ Receives old new (as_tried (Err error)))

@@ -6,8 +6,8 @@ ghost use Rattle.futures.specs.Poll.{OnPending};
 ghost use Rattle.async_broadcast.specs.Ports.{as_try_recv};
 ghost use Rattle.async_broadcast.specs.Timed.{as_timed_try};
 ghost use Rattle.bcast_history.specs.Batch.{TakesInto, TakesMany};
-ghost use Rattle.bcast_history.specs.Makes.{MakesReceives};
-ghost use Rattle.bcast_history.specs.Reader.{as_found};
+ghost use Rattle.bcast_history.specs.Makes.{MakesReceives, ReceivesOnce};
+ghost use Rattle.bcast_history.specs.Reader.{Takes, as_found};
 
 use super::TrackedReceiver;
 use crate::caller::Channel;
@@ -28,8 +28,9 @@ impl<T: Clone, P: HistoryPort<T, J>, J: Channel> TrackedReceiver<T, P, J> {
         msgs: &mut Vec<T, B>,
     ) -> Result<Result<usize, TryRecvError>, AllocError>
         ensures only { MakesReceives P.learns self.old.tracker self.new.tracker }
-        ensures takes { TakesMany T.is_clone J.opening (λ tried. tried) limit self.old.tracker
-            msgs.old.items result msgs.new.items self.new.tracker }
+        ensures takes { TakesMany T.is_clone J.opening (ReceivesOnce P.learns T.is_clone J.opening)
+            (λ tried. tried) limit self.old.tracker msgs.old.items
+            result msgs.new.items self.new.tracker }
     {
         match self.receive_kept(limit, msgs)? {
             Some(count) => Ok(Ok(count)),
@@ -46,8 +47,9 @@ impl<T: Clone, P: HistoryPort<T, J>, J: Channel> TrackedReceiver<T, P, J> {
         msgs: &mut Vec<T, B>,
     ) -> Result<Result<usize, RecvError>, AllocError>
         ensures only { MakesReceives P.learns self.old.tracker self.new.tracker }
-        ensures takes { TakesMany T.is_clone J.opening as_try_recv limit self.old.tracker
-            msgs.old.items result msgs.new.items self.new.tracker }
+        ensures takes { TakesMany T.is_clone J.opening (ReceivesOnce P.learns T.is_clone J.opening)
+            as_try_recv limit self.old.tracker msgs.old.items
+            result msgs.new.items self.new.tracker }
     {
         match self.receive_kept(limit, msgs)? {
             Some(count) => Ok(Ok(count)),
@@ -64,8 +66,9 @@ impl<T: Clone, P: HistoryPort<T, J>, J: Channel> TrackedReceiver<T, P, J> {
         msgs: &mut Vec<T, B>,
     ) -> Result<Poll<Option<Result<usize, RecvError>>>, AllocError>
         ensures only { MakesReceives P.learns self.old.tracker self.new.tracker }
-        ensures takes { TakesMany T.is_clone J.opening (λ tried. tried) limit self.old.tracker
-            msgs.old.items (as_found result) msgs.new.items self.new.tracker }
+        ensures takes { TakesMany T.is_clone J.opening (Takes T.is_clone J.opening)
+            (λ tried. tried) limit self.old.tracker msgs.old.items
+            (as_found result) msgs.new.items self.new.tracker }
         ensures registered { IfOk result (λ poll. OnPending poll (IsArmed cx.new)) }
         ensures kept { Keeps cx.old cx.new }
     {
@@ -122,8 +125,9 @@ impl<T: Clone, P: TimedHistoryPort<T, J>, J: Channel> TrackedReceiver<T, P, J> {
         time: Duration,
     ) -> Result<Result<usize, RecvTimeoutError>, AllocError>
         ensures only { MakesReceives P.learns self.old.tracker self.new.tracker }
-        ensures takes { TakesMany T.is_clone J.opening as_timed_try limit self.old.tracker
-            msgs.old.items result msgs.new.items self.new.tracker }
+        ensures takes { TakesMany T.is_clone J.opening (ReceivesOnce P.learns T.is_clone J.opening)
+            as_timed_try limit self.old.tracker msgs.old.items
+            result msgs.new.items self.new.tracker }
     {
         match self.receive_kept(limit, msgs)? {
             Some(count) => Ok(Ok(count)),

@@ -19,7 +19,7 @@ returns-in-Err-Overflowed g c =
     let takes = rw (c.in-Err-Overflowed.is, c.in-Err-Overflowed.field-0-is) at received.takes in record {
       only = receives_on c.loop.invariant.2 received.only;
       log = tt;
-      missed = record { log = c.loop.list.items; last = c.loop.self.tracker; given = c.loop.invariant.3; missed = _; told = refl; gone = takes.1 };
+      missed = record { log = c.loop.list.items; last = c.loop.self.tracker; given = c.loop.invariant.3; missed = _; told = refl; gone = takes.1.0 };
     }
 
 pub returns-in-Err-Closed-clause-only : goal.returns-in-Err-Closed-clause-only
@@ -30,4 +30,4 @@ invariant_of-result g c =
     let received = c.in_ok-recv_many_blocking.ensures in
     let takes = rw (c.in-Err-Closed.is, c.in-Err-Closed.field-0-is) at received.takes in
     rw (takes.0, c.seen-seen.ensures)
-    (whole _ c.recv_many_blocking.new.self.tracker c.loop.invariant.3 received.only.seen takes.1 c.invariant_holds.ensures.lawful.run)
+    (whole _ c.recv_many_blocking.new.self.tracker c.loop.invariant.3 received.only.seen takes.1.0 c.invariant_holds.ensures.lawful.run)

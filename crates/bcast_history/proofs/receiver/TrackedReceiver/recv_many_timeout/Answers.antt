@@ -10,5 +10,5 @@ returns-in-None g c =
     let none = rw c.in-None.is at c.in_ok-count.ensures.none in
     let received = c.recv_timeout.ensures in record {
       only = receives_on c.in_ok-count.ensures.only (receives_one received.key (inl refl) received.received.1);
-      takes = takes_last g.T.Clone.is_clone g.J.Channel.opening as_timed_try c.recv_timeout.new.self.tracker c.put_last.new.msgs.items (λ _. refl) c.recv_timeout.result c.put_last.result none received.received.0 c.put_last.ensures;
+      takes = takes_last g.P.Ask.learns g.T.Clone.is_clone g.J.Channel.opening as_timed_try c.recv_timeout.new.self.tracker c.put_last.new.msgs.items (λ _. refl) c.recv_timeout.result c.put_last.result none received.received c.put_last.ensures;
     }

@@ -9,5 +9,5 @@ returns-in-None g c =
     let none = rw c.in-None.is at c.in_ok-count.ensures.none in
     let received = c.try_recv.ensures in record {
       only = receives_on c.in_ok-count.ensures.only (receives_one received.key (inl refl) received.received.1);
-      takes = takes_last g.T.Clone.is_clone g.J.Channel.opening (λ tried. tried) c.try_recv.new.self.tracker c.put_last.new.msgs.items (λ _. refl) c.try_recv.result c.put_last.result none received.received.0 c.put_last.ensures;
+      takes = takes_last g.P.Ask.learns g.T.Clone.is_clone g.J.Channel.opening (λ tried. tried) c.try_recv.new.self.tracker c.put_last.new.msgs.items (λ _. refl) c.try_recv.result c.put_last.result none received.received c.put_last.ensures;
     }
