@@ -13,7 +13,6 @@ pub mod Keeping
 pub mod Told
 pub mod Found
 pub mod Polls
-pub mod Polled
 pub mod Received
 pub mod Receiving
 pub mod Skipped

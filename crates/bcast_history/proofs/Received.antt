@@ -17,8 +17,7 @@ use Rattle.bcast_history.specs.Makes.{MakesCall}
 use Rattle.bcast_history.specs.Reader.{Finds, StaysAt, Takes, as_found}
 use Rattle.bcast_history.specs.Tracker.{Tracker, IsOf, IsReceiver, Learns, next_of, number}
 use Rattle.bcast_history.proofs.Found.{finds}
-use Rattle.bcast_history.proofs.Polls.{Polled}
-use Rattle.bcast_history.proofs.Polled.{polled_finds}
+use Rattle.bcast_history.proofs.Polls.{Polled, try_receives, poll_receives}
 use Rattle.bcast_history.proofs.Prefixes.{prefix_trans}
 
 module _ {T : Type 0} where
@@ -83,13 +82,13 @@ module _
       → Received is_clone o key known after r
   tried {r = r} learned =
       let f = learned.follows in
-      received r learned (finds is_clone (end_of o f.before) key (number known.next) f.valid (read_there its learned) r f.legal)
+      received r learned (finds is_clone (end_of o f.before) key (number known.next) f.valid (read_there its learned) r (try_receives is_clone (end_of o f.before) key f.valid r f.legal))
 
   pub polled : {p : Polled T} → Learns is_clone o known (call.PollRecv key) (reply.PollRecv p) after
       → Received is_clone o key known after (as_found p)
   polled {p = p} learned =
       let f = learned.follows in
-      received (as_found p) learned (polled_finds is_clone (end_of o f.before) key (number known.next) p f.valid (read_there its learned) f.legal)
+      received (as_found p) learned (finds is_clone (end_of o f.before) key (number known.next) f.valid (read_there its learned) (as_found p) (poll_receives is_clone (end_of o f.before) key f.valid p f.legal))
 
   pub stays : {c : Call T} {r : Reply T} (learned : Learns is_clone o known c r after)
       → cursor_of (next (end_of o learned.follows.before) c r).control key ≡ Some (number known.next) → Stays known after

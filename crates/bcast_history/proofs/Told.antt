@@ -6,7 +6,6 @@ use Rattle.std.specs.declared.alloc.AllocError.{AllocError}
 use Rattle.bcast_model.specs.declared.error.TryRecvError.TheVariants as unread
 use Rattle.bcast_model.specs.declared.run.Call.{Call}
 use Rattle.bcast_model.specs.declared.run.Reply.{Reply}
-use Rattle.bcast_model.specs.declared.run.Reply.TheVariants as reply
 use Rattle.bcast_model.specs.Words.{History, View, view_of, next, IsReceivedBy, IsOwed, IsDelivery, IsGiven, effect, may_tell, sends_are_ready, remember}
 use Rattle.bcast_model.specs.Words.{numbered, kept_at, try_recv_reply}
 use Rattle.bcast_model.specs.Steps.{recv_reply}
@@ -46,7 +45,7 @@ module _ {T : Type 0} (is_clone : T → T → Type 0) where
 
   -- only a reader that lags is told how much it missed, and it missed something
   pub missed_some : (v : View T) (key c n : ℕ) (cursor : Option ℕ) → cursor ≡ Some c
-      → IsReceivedBy is_clone v key cursor reply.TryRecv (reply.TryRecv (Ok (Err (unread.Overflowed n)))) → 0 < n
+      → IsReceivedBy is_clone v key cursor (λ found. found) (Ok (Err (unread.Overflowed n))) → 0 < n
   missed_some v key c n cursor at legal =
       let is : try_recv_reply v (Some c) ≡ Err (unread.Overflowed n) = sym (ap (try_recv_reply v) at) ∙ told_so is_clone v key cursor (unread.Overflowed n) legal in
       elim (cases_lt c v.front) [
@@ -56,7 +55,7 @@ module _ {T : Type 0} (is_clone : T → T → Type 0) where
 
   -- memory is refused only for a message that another has still to read
   pub owed_of : (v : View T) (key : ℕ) (cursor : Option ℕ) (error : AllocError)
-      → IsReceivedBy is_clone v key cursor reply.TryRecv (reply.TryRecv (Err error)) → IsOwed v key cursor
+      → IsReceivedBy is_clone v key cursor (λ found. found) (Err error) → IsOwed v key cursor
   owed_of v key cursor error (inl is) = absurd (cc is)
   owed_of v key cursor error (inr (owed, inl clone)) = absurd (cc (clone.4))
   owed_of v key cursor error (inr (owed, inr is)) = owed

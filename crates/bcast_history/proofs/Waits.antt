@@ -1,5 +1,5 @@
 -- A call that must wait leaves the receivers where they are.
-use Rattle.std.proofs.Common.{◌≡◌, ◌⊎◌, inl, inr, ℕ, ◌+◌, ◌-◌, ◌≤◌, false, cond, Option, Some, None, Ok, Err, nat_lt, sym, ap, ◌∙◌, refl, subst, arith}
+use Rattle.std.proofs.Common.{◌≡◌, ◌⊎◌, inl, inr, ℕ, ◌+◌, ◌-◌, ◌≤◌, false, cond, Option, Some, None, Result, Ok, Err, alloc_error, nat_lt, sym, ap, ◌∙◌, refl, subst, arith}
 use Rattle.std.proofs.lemmas.Grind.{common_steps}
 use Rattle.std.proofs.lemmas.Bool.{cases_lt}
 use Rattle.bcast_model.specs.declared.error.TryRecvError.{TryRecvError}
@@ -9,7 +9,7 @@ use Rattle.bcast_model.specs.declared.run.Call.TheVariants as call
 use Rattle.bcast_model.specs.declared.run.Reply.{Reply}
 use Rattle.bcast_model.specs.declared.run.Reply.TheVariants as reply
 use Rattle.bcast_model.specs.declared.run.SendPoll.TheVariants as send
-use Rattle.bcast_model.specs.Words.{History, View, view_of, next, IsValid, Legal, IsReceivedBy, Control, cursor_of, end_number, kept_at, receive, with_cursor, try_recv_reply}
+use Rattle.bcast_model.specs.Words.{History, View, view_of, next, IsValid, Legal, Found, IsReceivedBy, Control, cursor_of, end_number, kept_at, receive, with_cursor, try_recv_reply}
 use Rattle.bcast_model.specs.ValidView.{IsValidView}
 use Rattle.bcast_model.specs.Steps.{recv_reply}
 use Rattle.bcast_model.proofs.Answers.{cursors-next}
@@ -52,9 +52,26 @@ module _ {T : Type 0} (is_clone : T → T → Type 0) where
         ] refl found)
   ]
 
+  -- what was found, by a reply from which it can be read
+  pub unspelt : (v : View T) (key : ℕ) (cursor : Option ℕ) (spelt : Found T → Reply T) (found_in : Reply T → Found T) (r : Reply T)
+      → ((answer : Result T TryRecvError) → found_in (spelt (Ok answer)) ≡ Ok answer) → found_in (spelt (Err alloc_error)) ≡ Err alloc_error
+      → IsReceivedBy is_clone v key cursor spelt r → IsReceivedBy is_clone v key cursor (λ found. found) (found_in r)
+  unspelt v key cursor spelt found_in r answers refuses (inl is) = inl (ap found_in is ∙ answers _)
+  unspelt v key cursor spelt found_in r answers refuses (inr (owed, inl (msg, given, was, clone, is))) =
+      inr (owed, inl (msg, given, was, clone, ap found_in is ∙ answers _))
+  unspelt v key cursor spelt found_in r answers refuses (inr (owed, inr is)) = inr (owed, inr (ap found_in is ∙ refuses))
+
+  abbrev tried_in : Reply T → Found T
+  tried_in (reply.TryRecv found) = found
+  tried_in other = Err alloc_error
+
+  pub tried_found : (v : View T) (key : ℕ) (found : Found T) → Legal is_clone v (call.TryRecv key) (reply.TryRecv found)
+      → IsReceivedBy is_clone v key (cursor_of v.control key) (λ found. found) found
+  tried_found v key found legal = unspelt v key (cursor_of v.control key) reply.TryRecv tried_in (reply.TryRecv found) (λ _. refl) refl legal
+
   -- what a receiver is told that finds no message
   pub told_so : (v : View T) (key : ℕ) (cursor : Option ℕ) (e : TryRecvError)
-      → IsReceivedBy is_clone v key cursor reply.TryRecv (reply.TryRecv (Ok (Err e))) → try_recv_reply v cursor ≡ Err e
+      → IsReceivedBy is_clone v key cursor (λ found. found) (Ok (Err e)) → try_recv_reply v cursor ≡ Err e
   told_so v key cursor e (inl is) = cc is
   told_so v key cursor e (inr (owed, inl clone)) = absurd (cc (clone.4))
   told_so v key cursor e (inr (owed, inr is)) = absurd (cc is)
@@ -88,7 +105,7 @@ module _ {T : Type 0} (is_clone : T → T → Type 0) where
         | inl (key, is) ↦ (let tried = subst (λ c. Legal is_clone (view_of h) c r) is legal in
             ap (λ c. (next h c r).control.cursors) is
             ∙ cursors-next h (call.TryRecv key) r
-            ∙ ap (λ (c : Control). c.cursors) (empty_stays h key (cursor_of h.control key) valid refl (told_so (view_of h) key (cursor_of h.control key) unread.Empty tried)))
+            ∙ ap (λ (c : Control). c.cursors) (empty_stays h key (cursor_of h.control key) valid refl (told_so (view_of h) key (cursor_of h.control key) unread.Empty (tried_found (view_of h) key (Ok (Err unread.Empty)) tried))))
         | inr (msg, is) ↦ absurd (cc (subst (λ c. Legal is_clone (view_of h) c r) is legal))
       ]
   waits_in_place h c (reply.AttemptSend (send.Wait back)) valid legal waits =
