@@ -5,10 +5,11 @@ use Rattle.bcast_history.proofs.Batches.{takes_last}
 use Rattle.bcast_history.proofs.Receiving.{receives_on, receives_one}
 use Rattle.bcast_history.proofs.receiver.TrackedReceiver.recv_many_blocking.Goals as goal
 
-pub returns-in-None : goal.returns-in-None
-returns-in-None g c =
+pub returns-in-None-clause-takes : goal.returns-in-None-clause-takes
+returns-in-None-clause-takes g c =
     let none = rw c.in-None.is at c.in_ok-count.ensures.none in
-    let received = c.recv_blocking.ensures in record {
-      only = receives_on c.in_ok-count.ensures.only (receives_one received.key (inl refl) received.received.1);
-      takes = takes_last g.P.Ask.learns g.T.Clone.is_clone g.J.Channel.opening as_try_recv c.recv_blocking.new.self.tracker c.put_last.new.msgs.items (λ _. refl) c.recv_blocking.result c.put_last.result none received.received c.put_last.ensures;
-    }
+    takes_last g.P.Ask.learns g.T.Clone.is_clone g.J.Channel.opening as_try_recv c.recv_blocking.new.self.tracker c.put_last.new.msgs.items (λ _. refl) c.recv_blocking.result c.put_last.result none c.recv_blocking.ensures.received c.put_last.ensures
+
+pub returns-in-None-clause-only : goal.returns-in-None-clause-only
+returns-in-None-clause-only g c =
+    receives_on c.in_ok-count.ensures.only (receives_one c.recv_blocking.ensures.key (inl refl) c.recv_blocking.ensures.received.1)
