@@ -1,8 +1,9 @@
 -- A log with more messages, and a whole one.
-use Rattle.std.proofs.Common.{◌≡◌, inl, inr, ℕ, zero, suc, ◌+◌, ◌-◌, false, cond, List, [], ◌∷◌, ◌++◌, length, slice_get, nat_lt, Option, Some, None, Ok, Err, refl, sym, ap, ◌∙◌, subst, arith, length-append}
+use Rattle.std.proofs.Common.{◌≡◌, ◌⊎◌, inl, inr, ℕ, zero, suc, ◌+◌, ◌-◌, false, cond, List, [], ◌∷◌, ◌++◌, length, slice_get, nat_lt, Option, Some, None, Ok, Err, refl, sym, ap, ◌∙◌, subst, arith, length-append}
 use Rattle.std.proofs.lemmas.Grind.{common_steps}
 use Rattle.std.proofs.lemmas.Option.{none-some, same_Some}
 use Rattle.std.specs.Prelude.{IsSomeAnd}
+use Rattle.std.specs.declared.alloc.AllocError.{AllocError}
 use mathlib.Core.List.{IsPrefix}
 use Rattle.bcast_model.specs.declared.error.TryRecvError.TheVariants as unread
 use Rattle.bcast_model.specs.Words.{History, IsGiven, ClonesEqual, numbered, next, end_of_run}
@@ -13,7 +14,7 @@ use Rattle.bcast_history.proofs.Prefixes.{prefix_shorter, prefix_whole}
 use Rattle.bcast_history.specs.Log.{IsLog, IsWholeLog, LogsAreAccepted}
 use Rattle.bcast_history.specs.Batch.{AreDeliveries, TakesInto}
 use Rattle.bcast_history.specs.Reader.{Takes}
-use Rattle.bcast_history.specs.Tracker.{Tracker}
+use Rattle.bcast_history.specs.Tracker.{Tracker, number}
 use Rattle.bcast_history.proofs.Sent.{messages_stay, accepted_grows}
 
 module _ {T : Type 0} (is_clone : T → T → Type 0) where
@@ -58,6 +59,13 @@ module _ {T : Type 0} (is_clone : T → T → Type 0) where
       → IsWholeLog is_clone o log new.steps
   whole new so_far begins (same, all, closed) run =
       record { messages = still_log new so_far begins; whole = sym so_far.next ∙ all; closed = closed; run = run }
+
+  pub refused : {Made : Type 0} {o : Opening} {log : List T} {old : Tracker T} (new : Tracker T) {error : AllocError} → IsLog is_clone o log old
+      → IsPrefix old.steps new.steps → (new ≡ old) ⊎ (Takes is_clone o old new (Err error) × Made) → IsLog is_clone o log new
+  refused new so_far begins takes = record {
+    messages = still_log new so_far begins;
+    next = elim takes [ inl same ↦ ap (λ (t : Tracker T). number t.next) same | inr found ↦ found.0.0 ] ∙ so_far.next;
+  }
 
   module _ (equal : ClonesEqual is_clone) where
     is_there : (accepted : Option T) (msg : T) → IsSomeAnd accepted (λ a. IsGiven is_clone a msg) → accepted ≡ Some msg

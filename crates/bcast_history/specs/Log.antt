@@ -1,15 +1,17 @@
 -- A receiver's log: the messages that it was given, in order.
-use Rattle.std.specs.Prelude.{◌≡◌, ℕ, ◌+◌, List, length, true, Ok, Err}
+use Rattle.std.specs.Prelude.{◌≡◌, ℕ, ◌+◌, List, length, true, Result, Ok, Err, codes}
+use Rattle.std.specs.declared.alloc.AllocError.{AllocError}
 use mathlib.Core.List.{IsPrefix}
-use Rattle.bcast_model.specs.declared.error.RecvError.{RecvError}
 use Rattle.bcast_model.specs.declared.error.RecvError.TheVariants as unreceived
 use Rattle.bcast_model.specs.declared.error.TryRecvError.TheVariants as unread
-use Rattle.bcast_model.specs.Words.{ClonesEqual, end_number}
+use Rattle.bcast_model.specs.declared.run.Call.{Call}
+use Rattle.bcast_model.specs.declared.run.Reply.{Reply}
+use Rattle.bcast_model.specs.Words.{ClonesEqual, end_number, recv_error_text}
 use Rattle.bcast_history.specs.declared.step.Opening.{Opening}
 use Rattle.bcast_history.specs.declared.step.Step.{Step}
 use Rattle.bcast_history.specs.Batch.{AreDeliveries}
 use Rattle.bcast_history.specs.History.{IsHistory, end_of, accepted_by}
-use Rattle.bcast_history.specs.Reader.{Takes}
+use Rattle.bcast_history.specs.Makes.{ReceivesOnce}
 use Rattle.bcast_history.specs.Tracker.{Tracker, number}
 
 -- what is seen of a log: its messages, and the steps that its receiver knew at its end
@@ -31,14 +33,21 @@ module _ {T : Type 0} (is_clone : T → T → Type 0) (o : Opening) where
     pub closed : (end_of o steps).control.closed ≡ true
     pub run : IsHistory is_clone o steps
 
-  -- what it is told if it missed some of them: it was given a log, and what comes next is gone
-  pub record IsCutLog (error : RecvError) (reader : Tracker T) : Type 0 where
-    pub log : List T
-    pub last : Tracker T
-    pub given : IsLog log last
-    pub missed : ℕ
-    pub told : error ≡ unreceived.Overflowed missed
-    pub gone : Takes is_clone o last reader (Ok (Err (unread.Overflowed missed)))
+module _
+    {T : Type 0} (learns : Tracker T → Call T → Reply T → Tracker T → Type 0)
+    (is_clone : T → T → Type 0) (o : Opening) where
+  -- what it was given till it missed messages: a log, and the next receive found that `n` of them are
+  -- gone; or till memory was refused: a log
+  abbrev pub IsCutLog : List T → Result ℕ AllocError → Tracker T → Type 0
+  IsCutLog log (Ok n) reader =
+      (last : Tracker T) × IsLog is_clone o log last
+      × ReceivesOnce learns is_clone o last reader (Ok (Err (unread.Overflowed n)))
+  IsCutLog log (Err refused) reader = IsLog is_clone o log reader
+
+-- `CutLog`, as `{}` prints it
+abbrev pub cut_log_text : Result ℕ AllocError → List ℕ
+cut_log_text (Ok n) = recv_error_text (unreceived.Overflowed n)
+cut_log_text (Err refused) = codes "out of memory"
 
 -- a log from the first message on that ends where the channel ended after some steps: it is what
 -- the channel had accepted by then, whichever of the two was seen first, if clones are equal

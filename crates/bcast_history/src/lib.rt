@@ -56,7 +56,7 @@ pub use laws::{
     closed_is_last, end_is_last, logs_are_accepted, messages_stay, receivers_read_on,
     sends_stand_last,
 };
-pub use log::WholeLog;
+pub use log::{CutLog, WholeLog};
 pub use opened::{FirstHandles, Opened, broadcast};
 pub use port::{History, HistoryPort, TimedHistoryPort};
 pub use receiver::TrackedReceiver;

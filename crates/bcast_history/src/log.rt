@@ -1,7 +1,7 @@
 //! A log: all messages that a channel had accepted when it was closed.
-ghost use Rattle.std.specs.Prelude.{◌≡◌, IfOk, IfErr};
+ghost use Rattle.std.specs.Prelude.{◌≡◌, Some, IfOk, IfErr, codes};
 ghost use Rattle.bcast_model.specs.Words.{ClonesEqual};
-ghost use Rattle.bcast_history.specs.Log.{IsCutLog, IsWholeLog};
+ghost use Rattle.bcast_history.specs.Log.{IsCutLog, IsWholeLog, cut_log_text};
 ghost use Rattle.bcast_history.specs.Makes.{MakesReceives};
 ghost use Rattle.bcast_history.specs.Reader.{StartsAtTheFirst};
 
@@ -10,6 +10,8 @@ use crate::port::HistoryPort;
 use crate::receiver::TrackedReceiver;
 use bcast_core::RecvError;
 use std::alloc::{AllocError, Allocator, Global};
+use std::error::Error;
+use std::fmt;
 use std::marker::Model;
 use std::sync::Wait;
 
@@ -66,6 +68,38 @@ impl<T: Clone, J: Channel, A: Allocator> WholeLog<T, J, A> {
     }
 }
 
+/// What a receiver was given till it missed messages, or memory was refused. Printing it needs no
+/// trait of `T`.
+#[derive(Drop)]
+pub struct CutLog<T, A: Allocator = Global> {
+    /// The messages that were received, in order.
+    pub list: Vec<T, A>,
+    /// How many messages the receiver missed after them; or that memory was refused, and then it has
+    /// missed none.
+    pub missed: Result<u64, AllocError>,
+}
+
+impl<T, A: Allocator> fmt::Display for CutLog<T, A> {
+    ghost output = { λ cut. Some (cut_log_text cut.missed) };
+
+    fn fmt<W: fmt::Write>(&self, f: &mut fmt::Formatter<W>) -> fmt::Result {
+        match self.missed {
+            Ok(missed) => write!(f, "{}", RecvError::Overflowed(missed)),
+            Err(_) => f.write_str("out of memory"),
+        }
+    }
+}
+
+impl<T, A: Allocator> fmt::Debug for CutLog<T, A> {
+    ghost debug_output = { λ _. Some (codes "CutLog(..)") };
+
+    fn fmt<W: fmt::Write>(&self, f: &mut fmt::Formatter<W>) -> fmt::Result {
+        f.write_str("CutLog(..)")
+    }
+}
+
+impl<T: Drop, A: Allocator> Error for CutLog<T, A> {}
+
 impl<T: Clone, P: HistoryPort<T, J>, J: Channel> TrackedReceiver<T, P, J> {
     /// Receives until the channel is closed, and returns all messages that it had accepted, of which
     /// this receiver has read none before. Memory for `count` of them is taken before the first one
@@ -73,34 +107,43 @@ impl<T: Clone, P: HistoryPort<T, J>, J: Channel> TrackedReceiver<T, P, J> {
     ///
     /// # Errors
     ///
-    /// After each, the messages that were received are dropped, and the receiver is behind them.
+    /// Each hands back the messages that were received till then, in `list`.
     ///
-    /// - `AllocError`: no memory for a message, or for the list of them.
-    /// - `Overflowed(n)`: the receiver missed `n` messages.
+    /// - `missed: Ok(n)`: the next `n` messages were dropped. The receiver continues after them.
+    /// - `missed: Err(AllocError)`: no memory for a message, or for the list. The receiver continues
+    ///   after those in the list.
     pub fn recv_all_blocking<A: Allocator>(
         &mut self,
         rt: &impl Wait,
         alloc: A,
         count: usize,
-    ) -> Result<Result<WholeLog<T, J, A>, RecvError>, AllocError>
+    ) -> Result<WholeLog<T, J, A>, CutLog<T, A>>
         requires { StartsAtTheFirst J.opening self.old.tracker }
         ensures only { MakesReceives P.learns self.old.tracker self.new.tracker }
-        ensures log { IfOk result (λ received.
-            IfOk received (λ log. log.steps ≡ self.new.tracker.steps)) }
-        ensures missed { IfOk result (λ received. IfErr received
-            (λ error. IsCutLog T.is_clone J.opening error self.new.tracker)) }
+        ensures log { IfOk result (λ log. log.steps ≡ self.new.tracker.steps) }
+        ensures cut { IfErr result (λ cut. IsCutLog P.learns T.is_clone J.opening
+            cut.list.items cut.missed self.new.tracker) }
     {
-        let mut list = Vec::with_capacity(alloc, count)?;
+        let mut list = Vec::new(alloc);
+        if let Err(refused) = list.reserve(count) {
+            let missed = Err(refused);
+            return Err(CutLog { list, missed });
+        }
         for _ in rt.forever() {
-            match self.recv_many_blocking(usize::MAX, &mut list)? {
-                Ok(_) => {}
-                Err(RecvError::Closed) => {
+            match self.recv_many_blocking(usize::MAX, &mut list) {
+                Ok(Ok(_)) => {}
+                Ok(Err(RecvError::Closed)) => {
                     self.invariant_holds();
                     let seen = self.seen();
-                    return Ok(Ok(WholeLog { list, seen }));
+                    return Ok(WholeLog { list, seen });
                 }
-                Err(RecvError::Overflowed(missed)) => {
-                    return Ok(Err(RecvError::Overflowed(missed)));
+                Ok(Err(RecvError::Overflowed(missed))) => {
+                    let missed = Ok(missed);
+                    return Err(CutLog { list, missed });
+                }
+                Err(refused) => {
+                    let missed = Err(refused);
+                    return Err(CutLog { list, missed });
                 }
             }
         }

@@ -64,9 +64,12 @@ pub fn receive_all<J: Channel, P: HistoryPort<u64, J>, A: Allocator>(
     ensures closed { IfErr result (λ _.
         (end_of J.opening receiver.new.tracker.steps).control.closed ≡ true) }
 {
-    let received = receiver.recv_all_blocking(rt, alloc, count);
-    if !matches!(received, Ok(Ok(_))) {
-        receiver.close();
+    match receiver.recv_all_blocking(rt, alloc, count) {
+        Ok(log) => Ok(log),
+        Err(cut) => {
+            receiver.close();
+            cut.missed?;
+            Err(Fault::Missed)
+        }
     }
-    received?.or(Err(Fault::Missed))
 }

@@ -76,7 +76,7 @@ where
         || receiver.recv_all_blocking(rt, alloc, 0),
         || copy.recv_all_blocking(rt, alloc, 0),
     );
-    let (log, same) = (log??, same??);
+    let (log, same) = (log?, same?);
     log.agrees_with(&same);
     Ok((log.into_list(), same.into_list()))
 }
