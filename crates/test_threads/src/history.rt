@@ -1,5 +1,6 @@
 //! Threads over a channel whose handles promise one history.
 ghost use Rattle.std.specs.Prelude.{◌≡◌, ◌<◌};
+ghost use Rattle.bcast_history.specs.Reader.{StartsAtTheFirst};
 
 use crate::readings::{Reading, read};
 use crate::timed::runs::{RUNS, run};
@@ -65,6 +66,7 @@ where
     J: Channel + Send + Sync + 'static,
     R: Threads + Wait + Clock + Abort + RandomSource + AllocGlobal + Copy + Send + Drop + 'static,
     P: TimedHistoryPort<u64, J> + Send + 'static,
+    requires { StartsAtTheFirst J.opening receiver.tracker }
 {
     match row {
         Row::Run(number) => run_handles(rt, rt.alloc(), number, sender, receiver),

@@ -1,4 +1,6 @@
 //! What the calls of a `TrackedReceiver` give, one after the other.
+ghost use Rattle.bcast_history.specs.Reader.{StartsAtTheFirst};
+
 use crate::answers::{
     Answer, of_poll_recv, of_recv, of_recv_timeout, of_send_timeout, of_try_recv,
 };
@@ -7,6 +9,7 @@ use batches::take_batches;
 use bcast_history::{Channel, TimedHistoryPort, TrackedReceiver, TrackedSender};
 use futures::task::{Context, Poll};
 use futures::test::MockTask;
+use logs::{take_cut_logs, take_whole_log};
 use settings::set_each;
 use std::alloc::AllocGlobal;
 use std::process::Abort;
@@ -16,6 +19,7 @@ use std::test::Fail;
 use std::time::{Clock, Duration, Instant};
 
 mod batches;
+mod logs;
 mod settings;
 
 fn recv_in<J: Channel, P: TimedHistoryPort<u64, J>>(
@@ -51,6 +55,8 @@ fn poll_next<J: Channel, P: TimedHistoryPort<u64, J>>(
 pub enum Reading {
     Take,
     Batches,
+    WholeLog,
+    CutLogs,
     Start,
     Room,
     Count,
@@ -111,10 +117,13 @@ where
     J: Channel,
     R: Wait + Clock + Abort + RandomSource + AllocGlobal,
     P: TimedHistoryPort<u64, J>,
+    requires { StartsAtTheFirst J.opening receiver.old.tracker }
 {
     match reading {
         Reading::Take => take_each(rt, sender, receiver),
         Reading::Batches => take_batches(rt, sender, receiver),
+        Reading::WholeLog => take_whole_log(rt, sender, receiver),
+        Reading::CutLogs => take_cut_logs(rt, sender, receiver),
         Reading::Start => start_each(rt, sender, receiver),
         Reading::Room => make_each(rt, sender, receiver),
         Reading::Count => count_each(rt, sender, receiver),
