@@ -1,12 +1,12 @@
 //! Batches that one receiver takes, beside another one that receives one by one.
-use async_broadcast::{Lock, Port, PortFor, Receiver, RecvError, Sender, TryRecvError, broadcast};
+use crate::channels::{Borrows, Host, Lent, Play, on_a_channel};
+use async_broadcast::{Lock, Port, PortFor, Receiver, RecvError, Sender, TryRecvError};
 use bcast_core::Inner;
 use futures::task::Poll;
 use futures::test::MockTask;
 use one_by_one::OneByOne;
-use std::alloc::{AllocError, AllocGlobal, Global};
+use std::alloc::{AllocError, Global};
 use std::process::Abort;
-use std::random::RandomSource;
 use std::test::Fail;
 
 mod one_by_one;
@@ -74,12 +74,7 @@ fn gives_each<P: Port<u64>>(
     }
 }
 
-fn plays<P: Port<u64>>(
-    rt: &impl Abort,
-    alloc: Global,
-    sender: &mut Sender<u64, P>,
-    batches: &mut Receiver<u64, P>,
-) -> Result<(), Fail> {
+pub fn plays<P: Port<u64>>(rt: &impl Host, (sender, batches): Lent<'_, P>) -> Result<(), Fail> {
     let mut singles = batches.clone().ok().ok_or("no handle")?;
     sender.set_overflow(true);
     for (name, sent, closes, limit, wanted) in ROWS {
@@ -89,7 +84,7 @@ fn plays<P: Port<u64>>(
         if *closes {
             assert!(rt; sender.close(), "{name}");
         }
-        assert!(rt; gives(alloc, batches, *limit, *wanted)?, "{name}");
+        assert!(rt; gives(rt.alloc(), batches, *limit, *wanted)?, "{name}");
         assert!(rt; gives_each(&mut singles, *wanted)?, "{name}, one by one");
     }
     Ok(())
@@ -97,8 +92,7 @@ fn plays<P: Port<u64>>(
 
 #[test]
 fn batches_give_what_single_receives_give(rt: HostRuntime) -> Result<(), Fail> {
-    let (mut sender, mut batches) = broadcast(&rt, rt.alloc(), 3)?;
-    plays(&rt, rt.alloc(), &mut sender, &mut batches)
+    on_a_channel(&rt, 3, Play::Borrows(Borrows::Batches))
 }
 
 /// Takes three messages by batches, of which each gives one.
@@ -153,10 +147,9 @@ fn polled<P: Port<u64>>(
 }
 
 /// Polls for batches until the channel, of capacity 3, is closed and empty.
-fn polls_to_the_end<R: Abort + RandomSource + AllocGlobal, P: Port<u64>>(
-    rt: &R,
-    sender: &mut Sender<u64, P>,
-    receiver: &mut Receiver<u64, P>,
+pub fn polls_to_the_end<P: Port<u64>>(
+    rt: &impl Host,
+    (sender, receiver): Lent<'_, P>,
 ) -> Result<(), Fail> {
     sender.set_overflow(true);
     let task = MockTask::new(&rt)?;
@@ -181,6 +174,5 @@ fn polls_to_the_end<R: Abort + RandomSource + AllocGlobal, P: Port<u64>>(
 
 #[test]
 fn a_task_polls_for_batches(rt: HostRuntime) -> Result<(), Fail> {
-    let (mut sender, mut receiver) = broadcast(&rt, rt.alloc(), 3)?;
-    polls_to_the_end(&rt, &mut sender, &mut receiver)
+    on_a_channel(&rt, 3, Play::Borrows(Borrows::PolledBatches))
 }

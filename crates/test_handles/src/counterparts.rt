@@ -1,28 +1,13 @@
 //! Counterparts of those tests of async-broadcast that have one thread, and of the example of its
 //! README.
-ghost use Rattle.std.specs.Prelude.{◌<◌};
-
+use crate::channels::{Play, on_a_channel};
 use async_broadcast::{Port, Receiver, Sender, broadcast};
-use std::alloc::AllocGlobal;
 use std::process::Abort;
-use std::random::RandomSource;
-use std::sync::Wait;
 use std::test::Fail;
-use steps::{Answer, Rows, Step, play};
+use steps::{Answer, Rows, Step};
 
-mod polled;
-mod steps;
-
-/// Makes the calls of a test on a channel of this capacity.
-fn play_on<R: Abort + Wait + RandomSource + AllocGlobal>(
-    rt: &R,
-    cap: usize,
-    rows: Rows,
-) -> Result<(), Fail>
-    requires { 0 < cap }
-{
-    play(rt, rt.alloc(), broadcast(rt, rt.alloc(), cap)?, rows)
-}
+pub mod polled;
+pub mod steps;
 
 const BASIC_SYNC: Rows = &[
     (Step::CloneReceiver, Answer::Done),
@@ -39,7 +24,7 @@ const BASIC_SYNC: Rows = &[
 // Each receiver gets every message from its start on.
 #[test]
 fn basic_sync(rt: HostRuntime) -> Result<(), Fail> {
-    play_on(&rt, 10, BASIC_SYNC)
+    on_a_channel(&rt, 10, Play::Rows(BASIC_SYNC))
 }
 
 const BASIC_ASYNC: Rows = &[
@@ -57,7 +42,7 @@ const BASIC_ASYNC: Rows = &[
 // Receivers that are cloned receive in tasks, by futures and by streams.
 #[test]
 fn basic_async(rt: HostRuntime) -> Result<(), Fail> {
-    play_on(&rt, 10, BASIC_ASYNC)
+    on_a_channel(&rt, 10, Play::Rows(BASIC_ASYNC))
 }
 
 const BASIC_BLOCKING: Rows = &[
@@ -73,7 +58,7 @@ const BASIC_BLOCKING: Rows = &[
 // A message that is sent in one way can be received in each way.
 #[test]
 fn basic_blocking(rt: HostRuntime) -> Result<(), Fail> {
-    play_on(&rt, 1, BASIC_BLOCKING)
+    on_a_channel(&rt, 1, Play::Rows(BASIC_BLOCKING))
 }
 
 const CHANNEL_SHRINK: Rows = &[
@@ -109,7 +94,7 @@ const CHANNEL_SHRINK: Rows = &[
 // A smaller capacity drops the oldest messages, and receivers get how many of theirs were dropped.
 #[test]
 fn channel_shrink(rt: HostRuntime) -> Result<(), Fail> {
-    play_on(&rt, 4, CHANNEL_SHRINK)
+    on_a_channel(&rt, 4, Play::Rows(CHANNEL_SHRINK))
 }
 
 const README: Rows = &[
@@ -133,7 +118,7 @@ const README: Rows = &[
 // The example of the original's README.
 #[test]
 fn readme(rt: HostRuntime) -> Result<(), Fail> {
-    play_on(&rt, 2, README)
+    on_a_channel(&rt, 2, Play::Rows(README))
 }
 
 // The channel closes with the last of its receivers, which are inactive.
@@ -159,6 +144,5 @@ fn closes_by_its_inactive_receivers<P: Port<()>>(
 // A stream that is made by `poll_recv` gives how many were missed, the messages, and the end.
 #[test]
 fn poll_recv(rt: HostRuntime) -> Result<(), Fail> {
-    let (sender, receiver) = broadcast(&rt, rt.alloc(), 2)?;
-    polled::plays(&rt, sender, receiver)
+    on_a_channel(&rt, 2, Play::PollRecv)
 }

@@ -8,6 +8,8 @@
 #[cfg(test)]
 mod batches;
 #[cfg(test)]
+mod channels;
+#[cfg(test)]
 mod counterparts;
 #[cfg(test)]
 mod dropped_receives;

@@ -1,12 +1,10 @@
 //! A stream of the test's own, which is made by `poll_recv`.
-use async_broadcast::{Port, Receiver, RecvError, Sender};
+use crate::channels::{Host, Pair};
+use async_broadcast::{Port, Receiver, RecvError};
 use futures::executor::block_on;
 use futures::task::{Context, Poll};
 use futures::{Stream, StreamExt};
-use std::alloc::{AllocError, AllocGlobal};
-use std::process::Abort;
-use std::random::RandomSource;
-use std::sync::Wait;
+use std::alloc::AllocError;
 use std::test::Fail;
 
 /// What a receiver gives, and how much it missed.
@@ -33,11 +31,7 @@ impl<P: Port<u64>> Stream for Polled<P> {
 
 /// Sends four messages over a channel of capacity 2 in overflow mode, awaits what the stream gives,
 /// and ends it by dropping the sender.
-pub fn plays<R: Abort + Wait + RandomSource + AllocGlobal, P: Port<u64>>(
-    rt: &R,
-    sender: Sender<u64, P>,
-    mut receiver: Receiver<u64, P>,
-) -> Result<(), Fail> {
+pub fn plays<P: Port<u64>>(rt: &impl Host, (sender, mut receiver): Pair<P>) -> Result<(), Fail> {
     receiver.set_overflow(true);
     let mut stream = Polled { receiver };
     for (msg, oldest) in [(1, None), (2, None), (3, Some(1)), (4, Some(2))] {

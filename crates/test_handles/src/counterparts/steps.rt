@@ -1,11 +1,9 @@
 //! Tests that are rows of calls on the handles of one channel, each with its answer.
+use crate::channels::{Host, Pair};
 use async_broadcast::{Port, Receiver, RecvError, SendError, Sender, TryRecvError, TrySendError};
 use futures::StreamExt;
 use futures::executor::block_on;
-use std::alloc::{AllocError, AllocGlobal, Global};
-use std::process::Abort;
-use std::random::RandomSource;
-use std::sync::Wait;
+use std::alloc::AllocError;
 use std::test::Fail;
 
 /// A call, with the number of its sender or receiver. Those of the channel are 0, and clones have
@@ -124,11 +122,7 @@ impl<P: Port<u64>> Hands<P> {
     }
 
     /// Makes a call, and waits in a task if the call returns a future.
-    fn make<R: Wait + RandomSource + AllocGlobal>(
-        &mut self,
-        rt: &R,
-        step: Step,
-    ) -> Result<Answer, Fail> {
+    fn make<R: Host>(&mut self, rt: &R, step: Step) -> Result<Answer, Fail> {
         Ok(match step {
             Step::CloneSender => self.clone_sender()?,
             Step::CloneReceiver => self.clone_receiver()?,
@@ -160,15 +154,14 @@ impl<P: Port<u64>> Hands<P> {
 }
 
 /// Makes the calls of all rows on a channel, and fails unless each returns its answer.
-pub fn play<R: Abort + Wait + RandomSource + AllocGlobal, P: Port<u64>>(
-    rt: &R,
-    alloc: Global,
-    (sender, receiver): (Sender<u64, P>, Receiver<u64, P>),
+pub fn plays<P: Port<u64>>(
+    rt: &impl Host,
+    (sender, receiver): Pair<P>,
     rows: Rows,
 ) -> Result<(), Fail> {
     let mut hands = Hands {
-        senders: Vec::new(alloc),
-        receivers: Vec::new(alloc),
+        senders: Vec::new(rt.alloc()),
+        receivers: Vec::new(rt.alloc()),
     };
     hands.senders.push(sender)?;
     hands.receivers.push(receiver)?;

@@ -1,23 +1,16 @@
 //! Of `batch.rt`, without a clock.
-use async_broadcast::{Port, Receiver, RecvError, Sender, TryRecvError};
+use crate::channels::{Host, Lent, Pair};
+use async_broadcast::{Port, RecvError, TryRecvError};
 use futures::task::Poll;
 use futures::test::MockTask;
-use std::alloc::{AllocGlobal, Global};
-use std::process::Abort;
-use std::random::RandomSource;
 use std::test::Fail;
 
 // Of `try_recv_many`.
-pub fn tries<P: Port<u64>>(
-    rt: &impl Abort,
-    alloc: Global,
-    sender: &Sender<u64, P>,
-    receiver: &mut Receiver<u64, P>,
-) -> Result<(), Fail> {
+pub fn tries<P: Port<u64>>(rt: &impl Host, (sender, receiver): Lent<'_, P>) -> Result<(), Fail> {
     for msg in 1..4 {
         assert!(rt; sender.try_broadcast(msg).is_ok());
     }
-    let mut msgs = Vec::new(alloc);
+    let mut msgs = Vec::new(rt.alloc());
     assert!(rt; receiver.try_recv_many(2, &mut msgs)? == Ok(2));
     assert!(rt; msgs.as_slice() == [1, 2].as_slice());
     assert!(rt; receiver.try_recv_many(2, &mut msgs)? == Ok(1));
@@ -27,27 +20,18 @@ pub fn tries<P: Port<u64>>(
 }
 
 // Of `recv_many_blocking`.
-pub fn blocks<P: Port<u64>>(
-    rt: &impl Abort,
-    alloc: Global,
-    sender: Sender<u64, P>,
-    mut receiver: Receiver<u64, P>,
-) -> Result<(), Fail> {
+pub fn blocks<P: Port<u64>>(rt: &impl Host, (sender, mut receiver): Pair<P>) -> Result<(), Fail> {
     assert!(rt; sender.try_broadcast(1).is_ok());
     assert!(rt; sender.try_broadcast(2).is_ok());
     drop(sender);
-    let mut msgs = Vec::new(alloc);
+    let mut msgs = Vec::new(rt.alloc());
     assert!(rt; receiver.recv_many_blocking(16, &mut msgs)? == Ok(2));
     assert!(rt; receiver.recv_many_blocking(16, &mut msgs)? == Err(RecvError::Closed));
     Ok(())
 }
 
 // Of `poll_recv_many`.
-pub fn polls<R: Abort + RandomSource + AllocGlobal, P: Port<u64>>(
-    rt: &R,
-    sender: &Sender<u64, P>,
-    receiver: &mut Receiver<u64, P>,
-) -> Result<(), Fail> {
+pub fn polls<P: Port<u64>>(rt: &impl Host, (sender, receiver): Lent<'_, P>) -> Result<(), Fail> {
     let task = MockTask::new(&rt)?;
     let mut msgs = Vec::new(rt.alloc());
     let polled = task.enter(|cx| receiver.poll_recv_many(cx, 16, &mut msgs));

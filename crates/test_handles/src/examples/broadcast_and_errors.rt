@@ -1,19 +1,13 @@
 //! Of `lock.rt` and `lib.rt`.
-use async_broadcast::{NoMemory, Port, Receiver, Sender, TryRecvError, TrySendError};
+use crate::channels::{Host, Lent, Pair};
+use async_broadcast::{NoMemory, Port, TryRecvError, TrySendError};
 use futures::StreamExt;
 use futures::executor::block_on;
-use std::alloc::AllocGlobal;
 use std::process::Abort;
-use std::random::RandomSource;
-use std::sync::Wait;
 use std::test::Fail;
 
 // Of `broadcast`.
-pub fn plays_two<R: Abort + Wait + RandomSource + AllocGlobal, P: Port<u64>>(
-    rt: &R,
-    sender: Sender<u64, P>,
-    mut one: Receiver<u64, P>,
-) -> Result<(), Fail> {
+pub fn plays_two<P: Port<u64>>(rt: &impl Host, (sender, mut one): Pair<P>) -> Result<(), Fail> {
     let mut two = one.clone()?;
     assert!(rt; sender.try_broadcast(7).is_ok());
     assert!(rt; sender.try_broadcast(8).is_ok());
@@ -31,11 +25,7 @@ pub fn plays_two<R: Abort + Wait + RandomSource + AllocGlobal, P: Port<u64>>(
 }
 
 // Of the crate, on its errors.
-pub fn refuses<P: Port<u64>>(
-    rt: &impl Abort,
-    sender: &Sender<u64, P>,
-    receiver: &mut Receiver<u64, P>,
-) -> Result<(), Fail> {
+pub fn refuses<P: Port<u64>>(rt: &impl Abort, (sender, receiver): Lent<'_, P>) -> Result<(), Fail> {
     let error = receiver.try_recv()?.err().ok_or("received")?;
     assert!(rt; error.is_empty() && !error.is_closed() && !error.is_overflowed());
     assert!(rt; sender.try_broadcast(1).is_ok());

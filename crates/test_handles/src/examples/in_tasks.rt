@@ -1,19 +1,15 @@
 //! Of `future/send.rt` and `future/recv.rt`.
-use async_broadcast::{Port, Receiver, RecvError, SendError, Sender, TryRecvError};
+use crate::channels::{Host, Lent, Pair};
+use async_broadcast::{Port, RecvError, SendError, TryRecvError};
 use futures::executor::block_on;
 use futures::task::Poll;
 use futures::test::MockTask;
-use std::alloc::AllocGlobal;
-use std::process::Abort;
-use std::random::RandomSource;
-use std::sync::Wait;
 use std::test::Fail;
 
 // Of `broadcast`.
-pub fn sends_in_a_box<R: Abort + Wait + RandomSource + AllocGlobal, P: Port<u64>>(
-    rt: &R,
-    sender: &Sender<u64, P>,
-    receiver: &mut Receiver<u64, P>,
+pub fn sends_in_a_box<P: Port<u64>>(
+    rt: &impl Host,
+    (sender, receiver): Lent<'_, P>,
 ) -> Result<(), Fail> {
     let mut send = sender.broadcast(1)?;
     assert!(rt; matches!(receiver.try_recv(), Ok(Err(TryRecvError::Empty))));
@@ -23,10 +19,9 @@ pub fn sends_in_a_box<R: Abort + Wait + RandomSource + AllocGlobal, P: Port<u64>
 }
 
 // Of `broadcast_direct`.
-pub fn sends_directly<R: Abort + Wait + RandomSource + AllocGlobal, P: Port<u64>>(
-    rt: &R,
-    sender: Sender<u64, P>,
-    receiver: Receiver<u64, P>,
+pub fn sends_directly<P: Port<u64>>(
+    rt: &impl Host,
+    (sender, receiver): Pair<P>,
 ) -> Result<(), Fail> {
     assert!(rt; matches!(block_on(&rt, sender.broadcast_direct(1)?)?, Ok(Ok(None))));
     drop(receiver);
@@ -36,10 +31,9 @@ pub fn sends_directly<R: Abort + Wait + RandomSource + AllocGlobal, P: Port<u64>
 }
 
 // Of `recv`.
-pub fn receives_in_a_box<R: Abort + Wait + RandomSource + AllocGlobal, P: Port<u64>>(
-    rt: &R,
-    sender: &Sender<u64, P>,
-    receiver: &mut Receiver<u64, P>,
+pub fn receives_in_a_box<P: Port<u64>>(
+    rt: &impl Host,
+    (sender, receiver): Lent<'_, P>,
 ) -> Result<(), Fail> {
     assert!(rt; sender.try_broadcast(1).is_ok());
     assert!(rt; matches!(block_on(&rt, &mut *receiver.recv()?)?, Ok(Ok(1))));
@@ -47,10 +41,9 @@ pub fn receives_in_a_box<R: Abort + Wait + RandomSource + AllocGlobal, P: Port<u
 }
 
 // Of `recv_direct`.
-pub fn receives_directly<R: Abort + Wait + RandomSource + AllocGlobal, P: Port<u64>>(
-    rt: &R,
-    sender: Sender<u64, P>,
-    mut receiver: Receiver<u64, P>,
+pub fn receives_directly<P: Port<u64>>(
+    rt: &impl Host,
+    (sender, mut receiver): Pair<P>,
 ) -> Result<(), Fail> {
     assert!(rt; sender.try_broadcast(1).is_ok());
     drop(sender);
@@ -61,11 +54,7 @@ pub fn receives_directly<R: Abort + Wait + RandomSource + AllocGlobal, P: Port<u
 }
 
 // Of `poll_recv`.
-pub fn polls<R: Abort + RandomSource + AllocGlobal, P: Port<u64>>(
-    rt: &R,
-    sender: &Sender<u64, P>,
-    receiver: &mut Receiver<u64, P>,
-) -> Result<(), Fail> {
+pub fn polls<P: Port<u64>>(rt: &impl Host, (sender, receiver): Lent<'_, P>) -> Result<(), Fail> {
     let task = MockTask::new(&rt)?;
     assert!(rt; matches!(task.enter(|cx| receiver.poll_recv(cx)), Ok(Poll::Pending)));
     assert!(rt; sender.try_broadcast(1).is_ok());

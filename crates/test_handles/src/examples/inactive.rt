@@ -1,14 +1,11 @@
 //! Of `inactive.rt`.
-use async_broadcast::{Port, Receiver, Sender};
+use crate::channels::Pair;
+use async_broadcast::Port;
 use std::process::Abort;
 use std::test::Fail;
 
 // Of `activate`.
-pub fn activates<P: Port<u64>>(
-    rt: &impl Abort,
-    sender: Sender<u64, P>,
-    receiver: Receiver<u64, P>,
-) -> Result<(), Fail> {
+pub fn activates<P: Port<u64>>(rt: &impl Abort, (sender, receiver): Pair<P>) -> Result<(), Fail> {
     let inactive = receiver.deactivate().ok().ok_or("no handle")?;
     let mut receiver = inactive.activate().ok().ok_or("no handle")?;
     assert!(rt; sender.try_broadcast(1).is_ok());
@@ -19,8 +16,7 @@ pub fn activates<P: Port<u64>>(
 // Of `activate_cloned`.
 pub fn activates_clones<P: Port<u64>>(
     rt: &impl Abort,
-    sender: Sender<u64, P>,
-    receiver: Receiver<u64, P>,
+    (sender, receiver): Pair<P>,
 ) -> Result<(), Fail> {
     let inactive = receiver.deactivate().ok().ok_or("no handle")?;
     let mut one = inactive.activate_cloned()?;
@@ -34,8 +30,7 @@ pub fn activates_clones<P: Port<u64>>(
 // Of `clone`.
 pub fn keeps_it_open<P: Port<u64>>(
     rt: &impl Abort,
-    sender: Sender<u64, P>,
-    receiver: Receiver<u64, P>,
+    (sender, receiver): Pair<P>,
 ) -> Result<(), Fail> {
     let one = receiver.deactivate().ok().ok_or("no handle")?;
     let two = one.clone()?;

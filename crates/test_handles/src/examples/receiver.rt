@@ -1,19 +1,14 @@
 //! Of `receiver.rt` and `iter.rt`, and one of a setting of the channel that a receiver makes.
-use async_broadcast::{Port, Receiver, RecvError, SendError, Sender, TryRecvError, TrySendError};
+use crate::channels::{Host, Lent, Pair};
+use async_broadcast::{Port, Receiver, RecvError, SendError, TryRecvError, TrySendError};
 use futures::StreamExt;
 use futures::executor::block_on;
-use std::alloc::AllocGlobal;
 use std::process::Abort;
-use std::random::RandomSource;
 use std::sync::Wait;
 use std::test::Fail;
 
 // Of `Receiver`, as a stream.
-pub fn streams<R: Abort + Wait + RandomSource + AllocGlobal, P: Port<u64>>(
-    rt: &R,
-    sender: Sender<u64, P>,
-    mut receiver: Receiver<u64, P>,
-) -> Result<(), Fail> {
+pub fn streams<P: Port<u64>>(rt: &impl Host, (sender, mut receiver): Pair<P>) -> Result<(), Fail> {
     assert!(rt; sender.try_broadcast(1).is_ok());
     drop(sender);
     assert!(rt; matches!(block_on(&rt, receiver.next())?, Some(Ok(1))));
@@ -22,11 +17,7 @@ pub fn streams<R: Abort + Wait + RandomSource + AllocGlobal, P: Port<u64>>(
 }
 
 // Of `try_recv`.
-pub fn tries<P: Port<u64>>(
-    rt: &impl Abort,
-    sender: Sender<u64, P>,
-    mut receiver: Receiver<u64, P>,
-) {
+pub fn tries<P: Port<u64>>(rt: &impl Abort, (sender, mut receiver): Pair<P>) {
     assert!(rt; matches!(receiver.try_recv(), Ok(Err(TryRecvError::Empty))));
     assert!(rt; sender.try_broadcast(1).is_ok());
     drop(sender);
@@ -35,11 +26,7 @@ pub fn tries<P: Port<u64>>(
 }
 
 // Of `recv_blocking`.
-pub fn blocks<P: Port<u64>>(
-    rt: &impl Abort,
-    sender: Sender<u64, P>,
-    mut receiver: Receiver<u64, P>,
-) {
+pub fn blocks<P: Port<u64>>(rt: &impl Abort, (sender, mut receiver): Pair<P>) {
     assert!(rt; sender.try_broadcast(1).is_ok());
     drop(sender);
     assert!(rt; matches!(receiver.recv_blocking(), Ok(Ok(1))));
@@ -49,8 +36,7 @@ pub fn blocks<P: Port<u64>>(
 // Of `iter`.
 pub fn loops<R: Abort + Wait, P: Port<u64>>(
     rt: &R,
-    sender: Sender<u64, P>,
-    mut receiver: Receiver<u64, P>,
+    (sender, mut receiver): Pair<P>,
 ) -> Result<(), Fail> {
     assert!(rt; sender.try_broadcast(1).is_ok());
     assert!(rt; sender.try_broadcast(2).is_ok());
@@ -67,8 +53,7 @@ pub fn loops<R: Abort + Wait, P: Port<u64>>(
 // Of `try_iter`.
 pub fn loops_over_what_is_there<P: Port<u64>>(
     rt: &impl Abort,
-    sender: &Sender<u64, P>,
-    receiver: &mut Receiver<u64, P>,
+    (sender, receiver): Lent<'_, P>,
 ) -> Result<(), Fail> {
     assert!(rt; sender.try_broadcast(1).is_ok());
     assert!(rt; sender.try_broadcast(2).is_ok());
@@ -83,11 +68,7 @@ pub fn loops_over_what_is_there<P: Port<u64>>(
 }
 
 // Of `is_terminated`.
-pub fn sees_the_end<P: Port<u64>>(
-    rt: &impl Abort,
-    sender: Sender<u64, P>,
-    mut receiver: Receiver<u64, P>,
-) {
+pub fn sees_the_end<P: Port<u64>>(rt: &impl Abort, (sender, mut receiver): Pair<P>) {
     assert!(rt; sender.try_broadcast(1).is_ok());
     drop(sender);
     assert!(rt; !receiver.is_terminated());
@@ -96,11 +77,7 @@ pub fn sees_the_end<P: Port<u64>>(
 }
 
 // Of `clone`.
-pub fn clones<P: Port<u64>>(
-    rt: &impl Abort,
-    sender: &Sender<u64, P>,
-    one: &mut Receiver<u64, P>,
-) -> Result<(), Fail> {
+pub fn clones<P: Port<u64>>(rt: &impl Abort, (sender, one): Lent<'_, P>) -> Result<(), Fail> {
     assert!(rt; sender.try_broadcast(1).is_ok());
     let mut two = one.clone()?;
     assert!(rt; matches!(one.try_recv(), Ok(Ok(1))));
@@ -111,8 +88,7 @@ pub fn clones<P: Port<u64>>(
 // Of `new_receiver`.
 pub fn adds_a_receiver<P: Port<u64>>(
     rt: &impl Abort,
-    sender: &Sender<u64, P>,
-    one: &Receiver<u64, P>,
+    (sender, one): Lent<'_, P>,
 ) -> Result<(), Fail> {
     assert!(rt; sender.try_broadcast(1).is_ok());
     let mut two = one.new_receiver()?;
@@ -124,8 +100,7 @@ pub fn adds_a_receiver<P: Port<u64>>(
 // Of `new_sender`.
 pub fn adds_a_sender<P: Port<u64>>(
     rt: &impl Abort,
-    sender: Sender<u64, P>,
-    mut receiver: Receiver<u64, P>,
+    (sender, mut receiver): Pair<P>,
 ) -> Result<(), Fail> {
     let other = receiver.new_sender()?;
     drop(sender);
@@ -135,11 +110,7 @@ pub fn adds_a_sender<P: Port<u64>>(
 }
 
 // Of `deactivate`.
-pub fn pauses<P: Port<u64>>(
-    rt: &impl Abort,
-    sender: Sender<u64, P>,
-    receiver: Receiver<u64, P>,
-) -> Result<(), Fail> {
+pub fn pauses<P: Port<u64>>(rt: &impl Abort, (sender, receiver): Pair<P>) -> Result<(), Fail> {
     let inactive = receiver.deactivate().ok().ok_or("no handle")?;
     assert!(rt; matches!(sender.try_broadcast(1), Err(TrySendError::Inactive(1))));
     let mut receiver = inactive.activate().ok().ok_or("no handle")?;
@@ -149,10 +120,9 @@ pub fn pauses<P: Port<u64>>(
 }
 
 // Of `set_await_active`, by a receiver.
-pub fn awaits_nobody<R: Abort + Wait + RandomSource + AllocGlobal, P: Port<u64>>(
-    rt: &R,
-    sender: &Sender<u64, P>,
-    mut receiver: Receiver<u64, P>,
+pub fn awaits_nobody<P: Port<u64>>(
+    rt: &impl Host,
+    (sender, mut receiver): Pair<P>,
 ) -> Result<(), Fail> {
     assert!(rt; matches!(block_on(&rt, &mut *sender.broadcast(1)?)?, Ok(Ok(None))));
     receiver.set_await_active(false);

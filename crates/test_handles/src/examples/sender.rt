@@ -1,15 +1,12 @@
 //! Of `sender.rt`.
-use async_broadcast::{Port, Receiver, SendError, Sender, TryRecvError, TrySendError};
+use crate::channels::{Lent, Pair};
+use async_broadcast::{Port, SendError, TryRecvError, TrySendError};
 use std::alloc::AllocGlobal;
 use std::process::Abort;
 use std::test::Fail;
 
 // Of `try_broadcast`.
-pub fn tries<P: Port<u64>>(
-    rt: &impl Abort,
-    sender: Sender<u64, P>,
-    receiver: Receiver<u64, P>,
-) -> Result<(), Fail> {
+pub fn tries<P: Port<u64>>(rt: &impl Abort, (sender, receiver): Pair<P>) -> Result<(), Fail> {
     assert!(rt; matches!(sender.try_broadcast(1), Ok(None)));
     assert!(rt; matches!(sender.try_broadcast(2), Err(TrySendError::Full(2))));
     let inactive = receiver.deactivate().ok().ok_or("no handle")?;
@@ -22,8 +19,7 @@ pub fn tries<P: Port<u64>>(
 // Of `try_broadcast_all`.
 pub fn sends_a_list<P: Port<u64>>(
     rt: &(impl Abort + AllocGlobal),
-    sender: &Sender<u64, P>,
-    receiver: &mut Receiver<u64, P>,
+    (sender, receiver): Lent<'_, P>,
 ) -> Result<(), Fail> {
     assert!(rt; sender.try_broadcast_all(vec![in rt.alloc(); 1, 2]?).is_ok());
     let four = vec![in rt.alloc(); 3, 4]?;
@@ -36,11 +32,7 @@ pub fn sends_a_list<P: Port<u64>>(
 }
 
 // Of `broadcast_blocking`.
-pub fn blocks<P: Port<u64>>(
-    rt: &impl Abort,
-    sender: Sender<u64, P>,
-    mut receiver: Receiver<u64, P>,
-) {
+pub fn blocks<P: Port<u64>>(rt: &impl Abort, (sender, mut receiver): Pair<P>) {
     assert!(rt; sender.broadcast_blocking(7).is_ok());
     assert!(rt; matches!(receiver.try_recv(), Ok(Ok(7))));
     assert!(rt; sender.broadcast_blocking(8).is_ok());
@@ -50,11 +42,7 @@ pub fn blocks<P: Port<u64>>(
 }
 
 // Of `clone`.
-pub fn clones<P: Port<u64>>(
-    rt: &impl Abort,
-    sender: Sender<u64, P>,
-    mut receiver: Receiver<u64, P>,
-) -> Result<(), Fail> {
+pub fn clones<P: Port<u64>>(rt: &impl Abort, (sender, mut receiver): Pair<P>) -> Result<(), Fail> {
     let other = sender.clone()?;
     drop(sender);
     assert!(rt; other.try_broadcast(1).is_ok());
@@ -67,8 +55,7 @@ pub fn clones<P: Port<u64>>(
 // Of `new_receiver`.
 pub fn adds_a_receiver<P: Port<u64>>(
     rt: &impl Abort,
-    sender: &Sender<u64, P>,
-    one: &mut Receiver<u64, P>,
+    (sender, one): Lent<'_, P>,
 ) -> Result<(), Fail> {
     assert!(rt; sender.try_broadcast(1).is_ok());
     let mut two = sender.new_receiver()?;
