@@ -28,29 +28,36 @@ given_key spelt told there cursors key (inr (is, inl (other, made, free))) =
     (subst (λ k. get cursors k ≡ None) (sym (cc (told _ _ made))) free, is)
 given_key spelt told there cursors key (inr (is, inr refused)) = absurd (cc (told _ _ refused))
 
+-- where a receiver starts that a call adds
+abbrev pub starts_at : {T : Type 0} → History T → AddReceiver → Option ℕ
+starts_at h (receiver.Clone original) = cursor_of h.control original
+starts_at h c = Some (end_number h)
+
 pub record Added {T : Type 0} (h : History T) (c : AddReceiver) (key : ℕ) : Type 0 where
   pub free : cursor_of h.control key ≡ None
   pub number : ℕ
+  pub start : starts_at h c ≡ Some number
   pub there : cursor_of (next h (receiver_call c) (receiver_reply c (Ok key))).control key ≡ Some number
 
 module _ {T : Type 0} (is_clone : T → T → Type 0) (h : History T) (key : ℕ) where
-  put : (c : AddReceiver) (number : ℕ) → cursor_of h.control key ≡ None
+  put : (c : AddReceiver) (number : ℕ) → cursor_of h.control key ≡ None → starts_at h c ≡ Some number
       → (effect (view_of h) (receiver_call c) (receiver_reply c (Ok key))).control.cursors ≡ insert h.control.cursors key number → Added h c key
-  put c number free puts = record {
+  put c number free start puts = record {
     free = free;
     number = number;
+    start = start;
     there = ap (λ (m : Cursors). get m key) (cursors-next h (receiver_call c) (receiver_reply c (Ok key)) ∙ puts) ∙ inserted h.control.cursors key number;
   }
 
   pub added : (c : AddReceiver) → Legal is_clone (view_of h) (receiver_call c) (receiver_reply c (Ok key)) → Added h c key
-  added receiver.New legal = put receiver.New (end_number h) (given_key reply.NewReceiver (λ a b e. cc e) true h.control.cursors key (inr (refl, legal))).0 refl
-  added receiver.Activate legal = put receiver.Activate (end_number h) (given_key reply.Activate (λ a b e. cc e) _ h.control.cursors key legal).0 refl
-  added receiver.ActivateCloned legal = put receiver.ActivateCloned (end_number h) (given_key reply.ActivateCloned (λ a b e. cc e) _ h.control.cursors key legal).0 refl
+  added receiver.New legal = put receiver.New (end_number h) (given_key reply.NewReceiver (λ a b e. cc e) true h.control.cursors key (inr (refl, legal))).0 refl refl
+  added receiver.Activate legal = put receiver.Activate (end_number h) (given_key reply.Activate (λ a b e. cc e) _ h.control.cursors key legal).0 refl refl
+  added receiver.ActivateCloned legal = put receiver.ActivateCloned (end_number h) (given_key reply.ActivateCloned (λ a b e. cc e) _ h.control.cursors key legal).0 refl refl
   added (receiver.Clone original) legal =
       let made = given_key reply.CloneReceiver (λ a b e. cc e) _ h.control.cursors key legal in
       elim (cursor_of h.control original) as (λ o. cursor_of h.control original ≡ o → is_some o ≡ true → Added h (receiver.Clone original) key) [
         | None ↦ λ _ no. absurd (cc no)
-        | Some number ↦ λ is _. put (receiver.Clone original) number made.0 (ap (λ o. (clone_receiver h.control o (Some key)).cursors) is)
+        | Some number ↦ λ is _. put (receiver.Clone original) number made.0 is (ap (λ o. (clone_receiver h.control o (Some key)).cursors) is)
       ] refl made.1
 
 -- where the channel's steps are kept, and such a call was made

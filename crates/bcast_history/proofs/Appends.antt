@@ -32,21 +32,16 @@ module _ {T : Type 0} where
       (λ i. end_of_run (start_of o) (calls_of-more steps step i) (replies_of-more steps step i))
       ∙ end_more is_clone (start_of o) (calls_of steps) (replies_of steps) step.call step.reply history
 
-  pub replays_more : (is_clone : T → T → Type 0) (o : Opening) (steps : List (Step T)) (seen after : View T) (step : Step T)
-      → Replays is_clone o steps seen → Answers is_clone seen step.call step.reply after → Replays is_clone o (steps ++ step ∷ []) after
-  replays_more is_clone o steps seen after step replays answers =
-      let legal = subst (λ v. Legal is_clone v step.call step.reply) replays.end answers.legal in
-      let end = end_of-more is_clone o steps step replays.run in
-      record {
-        run = history_more is_clone o steps step replays.run legal;
-        end = subst (Represents after) (sym end) (answers.represents (end_of o steps) replays.valid replays.end);
-        valid = subst IsValid (sym end) (answers.valid (end_of o steps) replays.valid replays.end);
-      }
-
-  -- `replays_more`, for the lists before and after, and a step of this call and this reply
-  pub replays_push : (is_clone : T → T → Type 0) (o : Opening) (steps longer : List (Step T)) (seen after : View T) (step : Step T) (call : Call T) (reply : Reply T)
-      → longer ≡ steps ++ step ∷ [] → step.call ≡ call → step.reply ≡ reply → Replays is_clone o steps seen → Answers is_clone seen call reply after
-      → Replays is_clone o longer after
-  replays_push is_clone o steps longer seen after step call reply pushed asked replied replays answers =
-      let answers' = subst (λ r. Answers is_clone seen step.call r after) (sym replied) (subst (λ c. Answers is_clone seen c reply after) (sym asked) answers) in
-      subst (λ ss. Replays is_clone o ss after) (sym pushed) (replays_more is_clone o steps seen after step replays answers')
+  -- the steps that were kept replay to what the channel shows, and so they do with one more
+  pub replays_longer : {is_clone : T → T → Type 0} {o : Opening} {steps longer : List (Step T)} {before after : View T} {call : Call T} {reply : Reply T}
+      → longer ≡ steps ++ record { call = call; reply = reply } ∷ []
+      → Replays is_clone o steps before → Answers is_clone before call reply after → Replays is_clone o longer after
+  replays_longer {is_clone = is_clone} {o = o} {steps = steps} {after = after} {call = call} {reply = reply} pushed old answers =
+      let step : Step T = record { call = call; reply = reply } in
+      let legal = subst (λ v. Legal is_clone v call reply) old.end answers.legal in
+      let end = end_of-more is_clone o steps step old.run in
+      subst (λ ss. Replays is_clone o ss after) (sym pushed) (record {
+        run = history_more is_clone o steps step old.run legal;
+        end = subst (Represents after) (sym end) (answers.represents (end_of o steps) old.valid old.end);
+        valid = subst IsValid (sym end) (answers.valid (end_of o steps) old.valid old.end);
+      })

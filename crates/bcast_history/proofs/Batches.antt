@@ -1,19 +1,16 @@
 -- Several receives in one call: what the receiver takes.
-use Rattle.std.proofs.Common.{◌≡◌, ℕ, ◌+◌, ◌<◌, List, [], ◌∷◌, ◌++◌, length, inr, Option, Some, None, Result, Ok, Err, refl, sym, ap, ◌∙◌, subst, arith}
-use Rattle.std.specs.Prelude.{IsSomeAnd}
+use Rattle.std.proofs.Common.{◌≡◌, ℕ, ◌+◌, ◌<◌, List, [], ◌∷◌, ◌++◌, length, inr, Result, Ok, Err, refl, sym, ap, ◌∙◌, subst, arith}
 use Rattle.std.specs.List.{AllByRecursion}
 use mathlib.Core.List.{IsPrefix}
-use Rattle.bcast_model.specs.Words.{IsDelivery, IsGiven, numbered}
-use Rattle.bcast_core.specs.Batch.{ReceivesEach, ReceivesInto}
-use Rattle.async_broadcast.proofs.Batches.{each_weaker}
 use Rattle.bcast_model.specs.declared.run.Call.{Call}
 use Rattle.bcast_model.specs.declared.run.Reply.{Reply}
+use Rattle.bcast_model.specs.Words.{Found}
+use Rattle.bcast_core.specs.Batch.{ReceivesEach, ReceivesInto}
+use Rattle.async_broadcast.proofs.Batches.{each_weaker}
 use Rattle.bcast_history.specs.Reader.{Takes}
 use Rattle.async_broadcast.specs.Batch.{PutsLast}
 use Rattle.std.specs.declared.alloc.AllocError.{AllocError}
-use Rattle.bcast_model.specs.declared.error.TryRecvError.{TryRecvError}
 use Rattle.bcast_history.specs.declared.step.Opening.{Opening}
-use Rattle.bcast_history.specs.declared.step.Step.{Step}
 use Rattle.bcast_history.specs.History.{IsLawful, end_of}
 use Rattle.bcast_history.specs.Batch.{AreDeliveries, TakesInto, TakesMany}
 use Rattle.bcast_history.specs.Makes.{IsReceive, MakesReceives, ReceivesOnce}
@@ -21,18 +18,7 @@ use Rattle.bcast_history.specs.Tracker.{IsReceiver, Tracker, Learns, number}
 use Rattle.bcast_history.proofs.Prefixes.{prefix_self, prefix_trans}
 use Rattle.bcast_history.proofs.Received.{IsPlace, tried}
 use Rattle.bcast_history.proofs.Receiving.{each_made}
-use Rattle.bcast_history.proofs.Sent.{messages_stay}
-
-some_and : {X : Type 0} (o : Option X) (P : X → Type 0) → IsSomeAnd o P → (x : X) × (o ≡ Some x) × P x
-some_and None P h = absurd h
-some_and (Some x) P h = (x, refl, h)
-
-module _ {T : Type 0} (is_clone : T → T → Type 0) (o : Opening) where
-  -- what was delivered of a number stays so
-  delivery_stays : (known later : List (Step T)) (number : ℕ) (msg : T) → IsPrefix known later → IsDelivery is_clone (end_of o known) number (Some msg) → IsDelivery is_clone (end_of o later) number (Some msg)
-  delivery_stays known later number msg begins given =
-      let there = some_and (numbered (end_of o known) number) (λ original. IsGiven is_clone original msg) given in
-      subst (λ found. IsSomeAnd found (λ original. IsGiven is_clone original msg)) (sym (messages_stay o known later number there.0 begins there.1)) there.2
+use Rattle.bcast_history.proofs.Sent.{delivery_stays}
 
 -- the tracker is still the receiver's, which read on behind these messages
 pub record Taken
@@ -86,11 +72,11 @@ batched {T} learns is_clone {o = o} {key = key} {known = known} {inner = inner} 
     }
 
 -- or one receive that may wait: its message is put last into the list
-pub takes_last : {T E Room : Type 0} (learns : Tracker T → Call T → Reply T → Tracker T → Type 0) (is_clone : T → T → Type 0) (o : Opening) (as_tried : Result (Result T E) AllocError → Result (Result T TryRecvError) AllocError) {limit : ℕ} {old mid : Tracker T} (new : Tracker T) {before between : List T} (after : List T)
+pub takes_last : {T E Room : Type 0} (learns : Tracker T → Call T → Reply T → Tracker T → Type 0) (is_clone : T → T → Type 0) (o : Opening) (as_tried : Result (Result T E) AllocError → Found T) {limit : ℕ} {old mid : Tracker T} (new : Tracker T) {before between : List T} (after : List T)
     (spelt : (msg : T) → as_tried (Ok (Ok msg)) ≡ Ok (Ok msg)) (found : Result (Result T E) AllocError) (result : Result (Result ℕ E) AllocError) → (0 < limit) × (mid ≡ old) × (between ≡ before) × Room
     → ReceivesOnce learns is_clone o mid new (as_tried found) → PutsLast found between result after → TakesMany is_clone o (ReceivesOnce learns is_clone o) as_tried limit old before result after new
 takes_last learns is_clone o as_tried {limit = limit} {old = old} new {before = before} after spelt (Ok (Ok msg)) result (some, same, items, room) received puts =
-    let got = subst (Takes is_clone o old new) (spelt msg) (subst (λ r. Takes is_clone o r new (as_tried (Ok (Ok msg)))) same received.0) in
+    let got = subst (Takes is_clone o old new) (spelt msg) (subst (λ r. Takes is_clone o r new (as_tried (Ok (Ok msg)))) same received.takes) in
     subst (λ r. TakesMany is_clone o (ReceivesOnce learns is_clone o) as_tried limit old before r after new) (sym puts.0)
     (omega arith, λ _. omega arith, record { given = msg ∷ []; counted = refl; put = puts.1 ∙ ap (λ w. w ++ msg ∷ []) items; messages = (got.0, tt); next = got.1 })
 takes_last learns is_clone o as_tried {limit = limit} {old = old} new {before = before} after spelt (Ok (Err error)) result (some, same, items, room) received puts =

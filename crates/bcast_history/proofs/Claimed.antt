@@ -29,14 +29,7 @@ unclaimed c claims key cursors none = elim (claim_of claims key) as (λ o. claim
   | Some next ↦ λ is. absurd (cc (sym none ∙ cursors key next is))
 ] refl
 
--- a receiver's place is claimed
-pub claims_place : (c : Control) (claims : List (Option ℕ)) (key : ℕ) → AreCursors c claims → AreCursors c (put claims key (cursor_of c key))
-claims_place c claims key cursors other next is = elim (cases_eq other key) [
-  | inl same ↦ ap (cursor_of c) same ∙ sym (put_same claims key (cursor_of c key)) ∙ ap (claim_of (put claims key (cursor_of c key))) (sym same) ∙ is
-  | inr differs ↦ cursors other next (sym (put_other claims key other (cursor_of c key) differs) ∙ is)
-]
-
--- after a call each claim is where its receiver reads on, if the receivers stay whose places others
+-- after a call each claim is where its receiver reads on, if the receivers stay whose cursors others
 -- have claimed
 pub claims_read_on
     : (before after : Control) (claims : List (Option ℕ)) (key : ℕ) (next : Option ℕ) → AreCursors before claims
@@ -47,6 +40,10 @@ claims_read_on before after claims key (Some was) cursors stay other at is = eli
   | inl same ↦ ap (cursor_of after) same ∙ sym (put_same claims key (cursor_of after key)) ∙ ap (claim_of (put claims key (cursor_of after key))) (sym same) ∙ is
   | inr differs ↦ stay other at differs (cursors other at (sym (put_other claims key other (cursor_of after key) differs) ∙ is))
 ]
+
+-- as where a receiver's cursor is claimed
+pub claims_cursor : (c : Control) (claims : List (Option ℕ)) (key : ℕ) → AreCursors c claims → AreCursors c (put claims key (cursor_of c key))
+claims_cursor c claims key cursors = claims_read_on c c claims key (Some 0) cursors (λ other at differs is. is)
 
 -- a cursor that read on is where the channel says
 pub record Stands (c : Control) (old new : Cursor) : Type 0 where
@@ -71,9 +68,9 @@ pub placed : {new : Cursor} (c : Control) {registry key number name : ℕ} → n
 placed c {name = name} is there same =
     subst (λ (now : Cursor). (now.next ≡ next_of c now.key now.next) × (now.registry ≡ name)) (sym is) (sym there, same)
 
--- at first the first receiver's place alone is claimed
+-- at first the first receiver's cursor alone is claimed
 pub first_claimed : (c : Control) (key : ℕ) {none claims : List (Option ℕ)} {number : ℕ} → none ≡ [] → claims ≡ put none key (Some number) → cursor_of c key ≡ Some number
     → AreCursors c claims
 first_claimed c key {number = number} empty put_so there =
     let nothing : AreCursors c [] = λ other next is. absurd (cc is) in
-    subst (AreCursors c) (sym (put_so ∙ ap (λ cs. put cs key (Some number)) empty ∙ ap (put [] key) (sym there))) (claims_place c [] key nothing)
+    subst (AreCursors c) (sym (put_so ∙ ap (λ cs. put cs key (Some number)) empty ∙ ap (put [] key) (sym there))) (claims_cursor c [] key nothing)

@@ -5,14 +5,13 @@ use Rattle.std.specs.declared.alloc.AllocError.{AllocError}
 use mathlib.Core.List.{IsPrefix}
 use Rattle.futures.specs.declared.task.Poll.{Poll}
 use Rattle.futures.specs.declared.task.Poll.TheVariants as poll
-use Rattle.bcast_model.specs.declared.error.TryRecvError.{TryRecvError}
 use Rattle.bcast_model.specs.declared.error.TryRecvError.TheVariants as unread
 use Rattle.bcast_model.specs.declared.run.Call.{Call}
 use Rattle.bcast_model.specs.declared.run.Call.TheVariants as call
 use Rattle.bcast_model.specs.declared.run.Reply.{Reply}
 use Rattle.bcast_model.specs.declared.run.Reply.TheVariants as reply
 use Rattle.bcast_model.specs.declared.run.SendPoll.TheVariants as send
-use Rattle.bcast_model.specs.Words.{History, view_of, Legal, next, IsRun, end_of_run, end_number, numbered, IsDelivery, IsGiven, has_place, attempt_send_reply}
+use Rattle.bcast_model.specs.Words.{Found, History, view_of, Legal, next, IsRun, end_of_run, end_number, numbered, IsDelivery, IsGiven, has_place, attempt_send_reply}
 use Rattle.std.proofs.lemmas.Option.{slice_get_past}
 use Rattle.bcast_laws.specs.Sends.{is_accepted, messages_of}
 use Rattle.bcast_laws.proofs.Closing.{IsClosed, run_stays, try_refused, all_refused, attempt_refused, poll_refused}
@@ -99,7 +98,7 @@ module _ {T : Type 0} (is_clone : T → T → Type 0) where
     stays = stays;
   }
     where
-      stays : (o : Opening) (old new : Tracker T) (found : Result (Result T TryRecvError) AllocError)
+      stays : (o : Opening) (old new : Tracker T) (found : Found T)
           → HasReadAll o old → IsPrefix old.steps new.steps → IsHistory is_clone o new.steps
           → Takes is_clone o old new found → HasReadAll o new × (found ≡ Ok (Err unread.Closed))
       stays o old new (Err error) read begins run (same, shared) =
@@ -116,7 +115,7 @@ module _ {T : Type 0} (is_clone : T → T → Type 0) where
 
   pub end_is_last : EndIsLast is_clone
   end_is_last = record {
-    said = λ o old new takes. record { closed = takes.2; all = at_end refl takes.1 };
+    said = λ o old new takes. record { closed = takes.2.2; all = at_end takes.2.0 takes.2.1 };
     stays = stays;
   }
     where
@@ -127,10 +126,10 @@ module _ {T : Type 0} (is_clone : T → T → Type 0) where
           let all = still_all o old new.steps read begins run in
           let end = all.1 in
           let on = takes.0 in (record { closed = all.0; all = omega (arith, end, on) }, inr (error, refl))
-      stays o old new (Ok (poll.Ready None)) read begins run takes = (record { closed = takes.2; all = at_end refl takes.1 }, inl refl)
+      stays o old new (Ok (poll.Ready None)) read begins run takes = (record { closed = takes.2.2; all = at_end takes.2.0 takes.2.1 }, inl refl)
       stays o old new (Ok poll.Pending) read begins run takes =
-          absurd (cc ((still_all o old new.steps read begins run).0, takes.2))
-      stays o old new (Ok (poll.Ready (Some msg))) read begins run (number, skips, there, on) =
+          absurd (cc ((still_all o old new.steps read begins run).0, takes.2.2))
+      stays o old new (Ok (poll.Ready (Some msg))) read begins run (at, skips, found) =
           let end = (still_all o old new.steps read begins run).1 in
           let behind = skips.0 in
-          absurd (none_after (end_of o new.steps) number msg (omega (arith, end, behind)) there)
+          absurd (none_after (end_of o new.steps) at msg (omega (arith, end, behind)) found.0)

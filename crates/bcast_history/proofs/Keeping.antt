@@ -12,6 +12,7 @@ use Rattle.bcast_model.specs.declared.run.Call.{Call}
 use Rattle.bcast_model.specs.declared.run.Reply.{Reply}
 use Rattle.bcast_model.specs.Words.{History, View, view_of, next, Legal, Answers, Represents, HasPositiveCapacity, Control, Cursors, cursor_of, end_number}
 use Rattle.bcast_model.specs.Encodings.{view_code}
+use Rattle.bcast_model.proofs.Lists.{all_append}
 use Rattle.bcast_history.specs.declared.step.Opening.{Opening}
 use Rattle.bcast_history.specs.declared.step.Step.{Step}
 use Rattle.bcast_history.specs.History.{IsLawful, Replays, calls_of, end_of}
@@ -20,15 +21,10 @@ use Rattle.bcast_history.specs.Cursors.{AreCursors}
 use Rattle.bcast_history.specs.Tracker.{IsOf, Tracker, Learns, next_of}
 use Rattle.async_broadcast.specs.Ports.{moved_by}
 use Rattle.claims.specs.Claims.{put_changed}
-use Rattle.bcast_history.proofs.Appends.{replays_push, end_of-more, calls_of-more}
+use Rattle.bcast_history.proofs.Appends.{replays_longer, end_of-more, calls_of-more}
 use Rattle.bcast_history.proofs.Claimed.{claims_read_on}
 use Rattle.bcast_history.proofs.Others.{others_stay}
 use Rattle.bcast_history.proofs.Waits.{waits_in_place}
-
--- all of these, and one more
-all_more : {X : Type 0} (P : X → Type 0) (xs : List X) (x : X) → AllByRecursion P xs → P x → AllByRecursion P (xs ++ x ∷ [])
-all_more P [] x all is = (is, tt)
-all_more P (first ∷ xs) x (here, all) is = (here, all_more P xs x all is)
 
 same_place : (one two : Control) (key : ℕ) (next : Option ℕ) → one.cursors ≡ two.cursors → next_of one key next ≡ next_of two key next
 same_place one two key None same = refl
@@ -58,14 +54,7 @@ module _ {T : Type 0} {is_clone : T → T → Type 0} {o : Opening} where
       let ends : Represents shown (end_of o now) = ∥∥₁_elim kept (Coded-set (view_code code) _ _) (λ e. e) in
       record { run = lawful.run; end = subst (λ ss. Represents shown (end_of o ss)) (sym is_now) ends; valid = lawful.end }
 
-  -- and so they do with one more
-  pub replays_longer : {steps longer : List (Step T)} {before after : View T} {call : Call T} {reply : Reply T}
-      → longer ≡ steps ++ record { call = call; reply = reply } ∷ []
-      → Replays is_clone o steps before → Answers is_clone before call reply after → Replays is_clone o longer after
-  replays_longer {steps = steps} {longer = longer} {before = before} {after = after} {call = call} {reply = reply} pushed old answers =
-      replays_push is_clone o steps longer before after (record { call = call; reply = reply }) call reply pushed refl refl old answers
-
-  -- and are lawful
+  -- with one more they are lawful
   pub lawful_longer : {steps longer : List (Step T)} {after : View T} (call : Call T) (reply : Reply T)
       → longer ≡ steps ++ record { call = call; reply = reply } ∷ [] → HasPositiveCapacity call
       → IsLawful is_clone o steps → Replays is_clone o longer after → IsLawful is_clone o longer
@@ -73,7 +62,7 @@ module _ {T : Type 0} {is_clone : T → T → Type 0} {o : Opening} where
       let calls : calls_of longer ≡ calls_of steps ++ call ∷ [] =
       ap calls_of pushed ∙ calls_of-more steps (record { call = call; reply = reply }) in record {
         start = old.start;
-        capacities = subst (AllByRecursion HasPositiveCapacity) (sym calls) (all_more HasPositiveCapacity (calls_of steps) call old.capacities positive);
+        capacities = subst (AllByRecursion HasPositiveCapacity) (sym calls) (all_append HasPositiveCapacity (calls_of steps) (call ∷ []) old.capacities (positive, tt));
         run = new.run;
         end = new.valid;
       }

@@ -6,6 +6,8 @@ use Rattle.std.specs.Prelude.{IsSomeAnd}
 use Rattle.std.specs.declared.alloc.AllocError.{AllocError}
 use mathlib.Core.List.{IsPrefix}
 use Rattle.bcast_model.specs.declared.error.TryRecvError.TheVariants as unread
+use Rattle.bcast_model.specs.declared.run.Call.{Call}
+use Rattle.bcast_model.specs.declared.run.Reply.{Reply}
 use Rattle.bcast_model.specs.Words.{History, IsGiven, ClonesEqual, numbered, next, end_of_run}
 use Rattle.bcast_history.specs.declared.step.Opening.{Opening}
 use Rattle.bcast_history.specs.declared.step.Step.{Step}
@@ -13,16 +15,12 @@ use Rattle.bcast_history.specs.History.{IsHistory, calls_of, replies_of, start_o
 use Rattle.bcast_history.proofs.Prefixes.{prefix_shorter, prefix_whole}
 use Rattle.bcast_history.specs.Log.{IsLog, IsWholeLog, LogsAreAccepted}
 use Rattle.bcast_history.specs.Batch.{AreDeliveries, TakesInto}
+use Rattle.bcast_history.specs.Makes.{ReceivesOnce}
 use Rattle.bcast_history.specs.Reader.{Takes}
 use Rattle.bcast_history.specs.Tracker.{Tracker, number}
-use Rattle.bcast_history.proofs.Sent.{messages_stay, accepted_grows}
+use Rattle.bcast_history.proofs.Sent.{delivery_stays, accepted_grows}
 
 module _ {T : Type 0} (is_clone : T → T → Type 0) where
-  still_given : (accepted later : Option T) (msg : T) → ((a : T) → accepted ≡ Some a → later ≡ Some a)
-      → IsSomeAnd accepted (λ a. IsGiven is_clone a msg) → IsSomeAnd later (λ a. IsGiven is_clone a msg)
-  still_given (Some a) later msg keeps given = subst (λ l. IsSomeAnd l (λ a. IsGiven is_clone a msg)) (sym (keeps a refl)) given
-  still_given None later msg keeps given = absurd given
-
   in_a_row : (h : History T) (start : ℕ) (log more : List T) → AreDeliveries is_clone h start log
       → AreDeliveries is_clone h (start + length log) more → AreDeliveries is_clone h start (log ++ more)
   in_a_row h start [] more all are = subst (λ n. AreDeliveries is_clone h n more) (omega arith) are
@@ -30,17 +28,12 @@ module _ {T : Type 0} (is_clone : T → T → Type 0) where
       let on : start + length (first ∷ log) ≡ start + 1 + length log = omega arith in
       (here, in_a_row h (start + 1) log more rest (subst (λ n. AreDeliveries is_clone h n more) on are))
 
-  stay : (h later : History T) (start : ℕ) (log : List T) → ((number : ℕ) (msg : T) → numbered h number ≡ Some msg → numbered later number ≡ Some msg)
-      → AreDeliveries is_clone h start log → AreDeliveries is_clone later start log
-  stay h later start [] keeps all = tt
-  stay h later start (msg ∷ log) keeps (here, rest) =
-      (still_given (numbered h start) (numbered later start) msg (keeps start) here, stay h later (start + 1) log keeps rest)
-
-  still_log : {o : Opening} {log : List T} {old : Tracker T} (new : Tracker T) → IsLog is_clone o log old → IsPrefix old.steps new.steps
-      → AreDeliveries is_clone (end_of o new.steps) o.first_number log
-  still_log {o = o} {log = log} {old = old} new so_far begins =
-      stay (end_of o old.steps) (end_of o new.steps) o.first_number log
-      (λ number msg. messages_stay o old.steps new.steps number msg begins) so_far.messages
+  -- it stays delivered
+  still_log : (o : Opening) (known later : List (Step T)) (start : ℕ) (log : List T) → IsPrefix known later
+      → AreDeliveries is_clone (end_of o known) start log → AreDeliveries is_clone (end_of o later) start log
+  still_log o known later start [] begins are = tt
+  still_log o known later start (msg ∷ log) begins (here, rest) =
+      (delivery_stays is_clone o known later start msg begins here, still_log o known later (start + 1) log begins rest)
 
   pub longer : {o : Opening} {count : ℕ} {log more : List T} {old new : Tracker T} → IsLog is_clone o log old
       → IsPrefix old.steps new.steps → TakesInto is_clone o old log count more new → IsLog is_clone o more new
@@ -50,21 +43,21 @@ module _ {T : Type 0} (is_clone : T → T → Type 0) where
       let size = ap length takes.put ∙ length-append log takes.given in
       record {
         messages = subst (AreDeliveries is_clone h o.first_number) (sym takes.put)
-            (in_a_row h o.first_number log takes.given (still_log new so_far begins) given);
+            (in_a_row h o.first_number log takes.given (still_log o old.steps new.steps o.first_number log begins so_far.messages) given);
         next = omega (arith, so_far.next, takes.next, takes.counted, size);
       }
 
   pub whole : {o : Opening} {log : List T} {old : Tracker T} (new : Tracker T) → IsLog is_clone o log old
       → IsPrefix old.steps new.steps → Takes is_clone o old new (Ok (Err unread.Closed)) → IsHistory is_clone o new.steps
       → IsWholeLog is_clone o log new.steps
-  whole new so_far begins (same, all, closed) run =
-      record { messages = still_log new so_far begins; whole = sym so_far.next ∙ all; closed = closed; run = run }
+  whole {o = o} {log = log} {old = old} new so_far begins (same, all, closed) run =
+      record { messages = still_log o old.steps new.steps o.first_number log begins so_far.messages; whole = sym so_far.next ∙ all; closed = closed; run = run }
 
-  pub refused : {Made : Type 0} {o : Opening} {log : List T} {old : Tracker T} (new : Tracker T) {error : AllocError} → IsLog is_clone o log old
-      → IsPrefix old.steps new.steps → (new ≡ old) ⊎ (Takes is_clone o old new (Err error) × Made) → IsLog is_clone o log new
-  refused new so_far begins takes = record {
-    messages = still_log new so_far begins;
-    next = elim takes [ inl same ↦ ap (λ (t : Tracker T). number t.next) same | inr found ↦ found.0.0 ] ∙ so_far.next;
+  pub refused : {learns : Tracker T → Call T → Reply T → Tracker T → Type 0} {o : Opening} {log : List T} {old : Tracker T} (new : Tracker T) {error : AllocError}
+      → IsLog is_clone o log old → IsPrefix old.steps new.steps → (new ≡ old) ⊎ ReceivesOnce learns is_clone o old new (Err error) → IsLog is_clone o log new
+  refused {o = o} {log = log} {old = old} new so_far begins takes = record {
+    messages = still_log o old.steps new.steps o.first_number log begins so_far.messages;
+    next = elim takes [ inl same ↦ ap (λ (t : Tracker T). number t.next) same | inr by ↦ by.takes.0 ] ∙ so_far.next;
   }
 
   module _ (equal : ClonesEqual is_clone) where
@@ -107,7 +100,7 @@ module _ {T : Type 0} where
   logs_are_accepted is_clone equal o known ended later log knows ends are end =
       let h = end_of o later in
       let first : h.first ≡ o.first_number = first_kept (start_of o) later in
-      let kept = stay is_clone (end_of o known) h o.first_number log (λ number m. messages_stay o known later number m knows) are in
+      let kept = still_log is_clone o known later o.first_number log knows are in
       let begins = by_places log h.accepted (λ index msg at.
       entry_of h index msg (subst (λ n. numbered h (n + index) ≡ Some msg) (sym first) (at_place is_clone equal h o.first_number log kept index msg at))) in
       let grown = accepted_grows o ended later ends in

@@ -1,40 +1,48 @@
 -- Receivers that are made, that leave, and that stay.
-use Rattle.std.proofs.Common.{◌≡◌, ℕ, true, List, Some, refl, Result, Ok, Err, sym, ap, ◌∙◌, subst}
+use Rattle.std.proofs.Common.{◌≡◌, ℕ, ◌+◌, true, false, List, length, Some, refl, Result, Ok, Err, sym, ap, ◌∙◌, subst}
 use Rattle.std.specs.Prelude.{IfOk, IfErr}
-use Rattle.std.specs.declared.alloc.AllocError.{AllocError}
 use Rattle.bcast_model.specs.declared.error.HandleError.{HandleError}
-use Rattle.bcast_model.specs.declared.error.TryRecvError.{TryRecvError}
 use Rattle.bcast_model.specs.declared.run.Call.{Call}
 use Rattle.bcast_model.specs.declared.run.Call.TheVariants as call
 use Rattle.bcast_model.specs.declared.run.Reply.{Reply}
 use Rattle.bcast_model.specs.declared.run.Reply.TheVariants as reply
-use Rattle.bcast_model.specs.Words.{History, cursor_of, end_number}
+use Rattle.bcast_model.specs.Words.{Found, History, cursor_of, end_number}
 use Rattle.bcast_history.specs.declared.step.Opening.{Opening}
 use Rattle.bcast_history.specs.declared.step.Step.{Step}
 use Rattle.bcast_history.specs.History.{IsLawful, end_of}
 use Rattle.bcast_history.specs.Follows.{Follows}
-use Rattle.bcast_history.specs.Makes.{MakesCall, ReceivesOnce}
-use Rattle.bcast_history.specs.Reader.{as_found}
+use Rattle.bcast_history.specs.Makes.{MakesCall, PollsOnce, ReceivesBy, ReceivesOnce}
 use Rattle.bcast_history.specs.Tracker.{Tracker, Begins, IsOf, IsReceiver, Learns, number}
 use Rattle.async_broadcast.specs.Ports.{moved_by}
+use Rattle.bcast_core.specs.declared.calls.handles.AddReceiver.{AddReceiver}
+use Rattle.bcast_core.specs.declared.calls.handles.AddReceiver.TheVariants as receiver
+use Rattle.bcast_core.specs.Calls.{receiver_call, receiver_reply}
+use Rattle.bcast_laws.specs.Sends.{is_accepted}
+use Rattle.bcast_laws.proofs.Sends.{nothing_added}
 use Rattle.bcast_model.proofs.Cases.{close_is}
 use Rattle.bcast_history.proofs.Told.{closed_after}
 use Rattle.bcast_history.proofs.Received.{Received, Stays, polled, read_there, stays, tried}
 use Rattle.bcast_history.proofs.Polls.{Polled}
 use Rattle.bcast_history.proofs.Others.{others_stay}
-use Rattle.bcast_history.proofs.Started.{new_starts, activated_starts, cloned_starts, not_inactive}
+use Rattle.bcast_history.proofs.Added.{added, starts_at}
+use Rattle.bcast_history.proofs.Started.{not_inactive}
 
 module _ {T : Type 0} {is_clone : T → T → Type 0} {o : Opening} where
-  -- a new receiver starts at the end
-  pub new_there : {known after : List (Step T)} {key : ℕ} → Follows is_clone o known call.NewReceiver (reply.NewReceiver (Ok key)) after
-      → cursor_of (end_of o after).control key ≡ Some (end_number (end_of o after))
-  new_there {key = key} made =
-      subst (λ h. cursor_of h.control key ≡ Some (end_number h)) (sym made.end) (new_starts is_clone (end_of o made.before) key made.legal)
+  -- a receiver that was added reads on where it starts
+  pub added_there : {known after : List (Step T)} (key : ℕ) (c : AddReceiver) (made : Follows is_clone o known (receiver_call c) (receiver_reply c (Ok key)) after)
+      → cursor_of (end_of o after).control key ≡ starts_at (end_of o made.before) c
+  added_there key c made =
+      let new = added is_clone (end_of o made.before) key c made.legal in
+      ap (λ (h : History T). cursor_of h.control key) made.end ∙ new.there ∙ sym new.start
 
-  pub activated_there : {known after : List (Step T)} {key : ℕ} → Follows is_clone o known call.Activate (reply.Activate (Ok key)) after
+  -- which is the end, if it is no clone
+  pub last_there : {known after : List (Step T)} (key : ℕ) (c : AddReceiver) (made : Follows is_clone o known (receiver_call c) (receiver_reply c (Ok key)) after)
+      → is_accepted (receiver_reply {T = T} c (Ok key)) ≡ false → starts_at (end_of o made.before) c ≡ Some (end_number (end_of o made.before))
       → cursor_of (end_of o after).control key ≡ Some (end_number (end_of o after))
-  activated_there {key = key} made =
-      subst (λ h. cursor_of h.control key ≡ Some (end_number h)) (sym made.end) (activated_starts is_clone (end_of o made.before) key made.legal)
+  last_there key c made unsent last =
+      let h = end_of o made.before in
+      let same = nothing_added is_clone h (receiver_call c) (receiver_reply c (Ok key)) made.legal unsent in
+      added_there key c made ∙ last ∙ ap Some (sym (ap end_number made.end ∙ ap (λ (msgs : List T). h.first + length msgs) same))
 
   -- a channel that was closed is so
   pub closes : {known after : List (Step T)} {r : Reply T} → Follows is_clone o known call.Close r after
@@ -45,14 +53,6 @@ module _ {T : Type 0} {is_clone : T → T → Type 0} {o : Opening} where
       ∙ close_is (λ c. c.closed ≡ true) h.control (λ is. is) (λ _. refl)
 
   module _ {key : ℕ} {known after : Tracker T} (its : IsOf key known) where
-    -- a clone reads on where its original does
-    pub cloned_there : {new : ℕ} → Learns is_clone o known (call.CloneReceiver key) (reply.CloneReceiver (Ok new)) after
-        → cursor_of (end_of o after.steps).control new ≡ Some (number known.next)
-    cloned_there {new = new} learned =
-        let f = learned.follows in
-        subst (λ h. cursor_of h.control new ≡ Some (number known.next)) (sym f.end)
-        (cloned_starts is_clone (end_of o f.before) key (number known.next) (read_there its learned) new)
-
     -- a receiver stays where it is whose call moves none, as one that makes another, or is refused
     pub unmoved : {c : Call T} {r : Reply T} → Learns is_clone o known c r after → (moved_by c ≡ Some key → ⊥) → Stays known after
     unmoved {c = c} {r = r} learned apart =
@@ -64,15 +64,6 @@ module _ {T : Type 0} {is_clone : T → T → Type 0} {o : Opening} where
     active_stays {error = error} learned =
         let f = learned.follows in
         stays is_clone its learned (not_inactive is_clone (end_of o f.before) key (number known.next) (read_there its learned) error f.legal)
-
--- ---- who added a receiver, or was refused
-pub adder_lawful : {T M : Type 0} {is_clone : T → T → Type 0} {o : Opening} {learns : Tracker T → Call T → Reply T → Tracker T → Type 0}
-    (law : (before after : Tracker T) (c : Call T) (r : Reply T) → learns before c r after → Learns is_clone o before c r after)
-    (known after : Tracker T) (c : Call T) (reply_of : Result ℕ HandleError → Reply T) (p : Result (ℕ × M) HandleError)
-    → IfOk p (λ made. learns known c (reply_of (Ok made.0)) after) → IfErr p (λ error. learns known c (reply_of (Err error)) after)
-    → IsLawful is_clone o after.steps
-adder_lawful law known after c reply_of (Ok made) learned refused = (law _ _ _ _ learned).follows.lawful
-adder_lawful law known after c reply_of (Err error) learned refused = (law _ _ _ _ refused).follows.lawful
 
 -- ---- who makes the calls of a receiver that was added
 module _ {T : Type 0} {o : Opening} {key : ℕ} {maker made : Tracker T} (begins : Begins o key maker made) where
@@ -101,24 +92,33 @@ module _
         subst (λ key. MakesCall learns is_clone o old (call_of key) r after) (sym (its_of is at reads).0)
         (subst (λ k. MakesCall learns is_clone o k (call_of key) r after) is made)
 
+    by_call : (call_of : ℕ → Call T) {r : Reply T} {found : Found T} → Received is_clone o key old after found → learns known (call_of key) r after
+        → IsReceiver after × ReceivesBy learns is_clone o (call_of old.key) r old after found
+    by_call call_of got learned = (
+      got.still.1,
+      record {
+        key = got.still.0 ∙ sym (its_of is at reads).0;
+        seen = got.seen;
+        takes = got.takes;
+        made = by_key call_of (makes learned);
+      },
+    )
+
     -- a receive
-    pub receives : {found : Result (Result T TryRecvError) AllocError} → learns known (call.TryRecv key) (reply.TryRecv found) after
-        → Received is_clone o key old after found × ReceivesOnce learns is_clone o old after found
-    receives learned =
-        let made = makes_by is learned in
-        let got = tried is_clone (its_of is at reads) (law _ _ _ _ made.once) in (got, (got.takes, by_key call.TryRecv (makes learned)))
+    pub receives : {found : Found T} → learns known (call.TryRecv key) (reply.TryRecv found) after
+        → IsReceiver after × ReceivesOnce learns is_clone o old after found
+    receives learned = by_call call.TryRecv (tried is_clone (its_of is at reads) (law _ _ _ _ (makes_by is learned).once)) learned
 
     -- a poll
     pub polls : {p : Polled T} → learns known (call.PollRecv key) (reply.PollRecv p) after
-        → Received is_clone o key old after (as_found p) × MakesCall learns is_clone o old (call.PollRecv old.key) (reply.PollRecv p) after
-    polls learned =
-        let made = makes_by is learned in (polled is_clone (its_of is at reads) (law _ _ _ _ made.once), by_key call.PollRecv (makes learned))
+        → IsReceiver after × PollsOnce learns is_clone o old after p
+    polls learned = by_call call.PollRecv (polled is_clone (its_of is at reads) (law _ _ _ _ (makes_by is learned).once)) learned
 
   -- one that was made, or wasn't, leaves it a receiver
   pub poll_stays : {C : Type 0} {key : ℕ} {known : Tracker T} (after : Tracker T) → key ≡ known.key → IsReceiver known → IsLawful is_clone o known.steps
       → (X : C → Type 0) (p : Result (Polled T) C) → IfOk p (λ answer. learns known (call.PollRecv key) (reply.PollRecv answer) after)
       → IfErr p (λ back. X back × (after ≡ known)) → IsReceiver after × IsLawful is_clone o after.steps
-  poll_stays after at reads lawful X (Ok answer) learned back = let made = polls refl at reads learned in (made.0.still.1, made.1.follows.lawful)
+  poll_stays after at reads lawful X (Ok answer) learned back = let polled = polls refl at reads learned in (polled.0, polled.1.made.follows.lawful)
   poll_stays after at reads lawful X (Err call) learned back =
       subst (λ t. IsReceiver t × IsLawful is_clone o t.steps) (sym back.1) (reads, lawful)
 
@@ -138,7 +138,8 @@ module _
     pub clone_starts : {made : Tracker T} → MakesCall learns is_clone o known (call.CloneReceiver key) (reply.CloneReceiver (Ok made.key)) after
         → Begins o made.key after made → made.next ≡ old.next
     clone_starts call_made begins =
-        begins.next ∙ cloned_there (sym at, reads) (law _ _ _ _ call_made.once) ∙ sym reads ∙ ap (λ (t : Tracker T). t.next) is
+        let learned = law _ _ _ _ call_made.once in
+        begins.next ∙ added_there _ (receiver.Clone key) learned.follows ∙ read_there (sym at, reads) learned ∙ sym reads ∙ ap (λ (t : Tracker T). t.next) is
 
     -- it stays if it can't leave
     pub leaves_not : {error : HandleError} → MakesCall learns is_clone o known (call.Deactivate key) (reply.Deactivate (Err error)) after → Stays old after

@@ -1,19 +1,16 @@
 -- What the receives of a `TrackedReceiver` take.
 use Rattle.std.proofs.Common.{◌≡◌, ◌⊎◌, inr, ℕ, List, Some, Result, Ok, Err, sym, ap, ◌∙◌, subst}
 use Rattle.std.specs.Prelude.{IfOk, IfErr}
-use Rattle.std.specs.declared.alloc.AllocError.{AllocError}
 use mathlib.Core.List.{IsPrefix}
-use Rattle.bcast_model.specs.declared.error.TryRecvError.{TryRecvError}
 use Rattle.bcast_model.specs.declared.run.Call.{Call}
 use Rattle.bcast_model.specs.declared.run.Call.TheVariants as call
 use Rattle.bcast_model.specs.declared.run.Reply.{Reply}
 use Rattle.bcast_model.specs.declared.run.Reply.TheVariants as reply
-use Rattle.bcast_model.specs.Words.{History, next, cursor_of}
+use Rattle.bcast_model.specs.Words.{Found, History, next, cursor_of}
 use Rattle.bcast_history.specs.declared.step.Opening.{Opening}
 use Rattle.bcast_history.specs.declared.step.Step.{Step}
 use Rattle.bcast_history.specs.Follows.{Follows}
 use Rattle.bcast_history.specs.History.{IsLawful, end_of}
-use Rattle.bcast_history.specs.Makes.{MakesCall}
 use Rattle.bcast_history.specs.Reader.{Finds, StaysAt, Takes, as_found}
 use Rattle.bcast_history.specs.Tracker.{Tracker, IsOf, IsReceiver, Learns, next_of, number}
 use Rattle.bcast_history.proofs.Found.{finds}
@@ -52,7 +49,7 @@ IsPlace is_clone o key t = IsOf key t × IsLawful is_clone o t.steps
 -- a receive that was made
 pub record Received
     {T : Type 0} (is_clone : T → T → Type 0) (o : Opening) (key : ℕ) (known after : Tracker T)
-    (found : Result (Result T TryRecvError) AllocError) : Type 0 where
+    (found : Found T) : Type 0 where
   pub still : IsOf key after
   pub seen : IsPrefix known.steps after.steps
   pub takes : Takes is_clone o known after found
@@ -65,7 +62,7 @@ pub record Stays {T : Type 0} (known after : Tracker T) : Type 0 where
 module _
     {T : Type 0} (is_clone : T → T → Type 0) {o : Opening} {key : ℕ} {known after : Tracker T}
     (its : IsOf key known) where
-  received : {c : Call T} {r : Reply T} (found : Result (Result T TryRecvError) AllocError) (learned : Learns is_clone o known c r after)
+  received : {c : Call T} {r : Reply T} (found : Found T) (learned : Learns is_clone o known c r after)
       → (now : ℕ) × (cursor_of (next (end_of o learned.follows.before) c r).control key ≡ Some now)
       × Finds is_clone (next (end_of o learned.follows.before) c r) key (number known.next) now found
       → Received is_clone o key known after found
@@ -78,7 +75,7 @@ module _
             (subst (λ h. Finds is_clone h key (number known.next) now found) (sym learned.follows.end) finds_so));
       }
 
-  pub tried : {r : Result (Result T TryRecvError) AllocError} → Learns is_clone o known (call.TryRecv key) (reply.TryRecv r) after
+  pub tried : {r : Found T} → Learns is_clone o known (call.TryRecv key) (reply.TryRecv r) after
       → Received is_clone o key known after r
   tried {r = r} learned =
       let f = learned.follows in
@@ -96,23 +93,12 @@ module _
       let on = reads_on its learned at in
       record { still = reads_there after on; same = (learned.key, on ∙ sym its.1) }
 
--- a poll that was made: it found something, or that there is nothing yet; or it was out of memory
-pub ok_part : {T : Type 0} {is_clone : T → T → Type 0} {o : Opening} {key : ℕ} {known after : Tracker T} (p : Polled T) → Received is_clone o key known after (as_found p)
-    → IfOk p (λ poll. Takes is_clone o known after (as_found (Ok poll)))
-ok_part (Ok poll) got = got.takes
-ok_part (Err error) got = tt
+-- what holds of a result, by its case
+module _ {X E : Type 0} (P : Result X E → Type 0) where
+  pub if_ok : (p : Result X E) → P p → IfOk p (λ x. P (Ok x))
+  if_ok (Ok x) is = is
+  if_ok (Err e) is = tt
 
-module _
-    {T : Type 0} {learns : Tracker T → Call T → Reply T → Tracker T → Type 0} {is_clone : T → T → Type 0} {o : Opening}
-    {known after : Tracker T} {c : Call T} where
-  pub ok_made : (p : Polled T) → MakesCall learns is_clone o known c (reply.PollRecv p) after
-      → IfOk p (λ poll. MakesCall learns is_clone o known c (reply.PollRecv (Ok poll)) after)
-  ok_made (Ok poll) made = made
-  ok_made (Err error) made = tt
-
-  pub err_part : {key : ℕ} (X : Type 0) (p : Polled T) → Received is_clone o key known after (as_found p)
-      → MakesCall learns is_clone o known c (reply.PollRecv p) after
-      → IfErr p (λ error. X ⊎ (Takes is_clone o known after (as_found (Err error))
-      × MakesCall learns is_clone o known c (reply.PollRecv (Err error)) after))
-  err_part X (Ok poll) got made = tt
-  err_part X (Err error) got made = inr (got.takes, made)
+  pub if_err : (Other : Type 0) (p : Result X E) → P p → IfErr p (λ e. Other ⊎ P (Err e))
+  if_err Other (Ok x) is = tt
+  if_err Other (Err e) is = inr is

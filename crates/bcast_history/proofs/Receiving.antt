@@ -1,23 +1,19 @@
 -- A receiver's calls that are receives, and no other.
-use Rattle.std.proofs.Common.{◌≡◌, ◌⊎◌, inl, inr, ℕ, List, [], ◌∷◌, ◌++◌, Ok, refl, sym, ◌∙◌, subst}
+use Rattle.std.proofs.Common.{◌≡◌, ◌⊎◌, inl, inr, ℕ, List, [], ◌∷◌, ◌++◌, Ok, Err, refl, sym, ◌∙◌, subst}
 use Rattle.std.specs.List.{AllByRecursion}
-use Rattle.bcast_model.specs.declared.run.Call.{Call}
+use Rattle.std.specs.declared.alloc.AllocError.{AllocError}
 use Rattle.bcast_model.specs.declared.run.Call.TheVariants as call
-use Rattle.bcast_model.specs.declared.run.Reply.{Reply}
 use Rattle.bcast_model.specs.declared.run.Reply.TheVariants as reply
+use Rattle.bcast_model.specs.declared.run.Call.{Call}
+use Rattle.bcast_model.specs.declared.run.Reply.{Reply}
+use Rattle.bcast_model.specs.Words.{Found}
+use Rattle.bcast_model.proofs.Lists.{all_append}
 use Rattle.bcast_core.specs.Batch.{ReceivesEach}
 use Rattle.bcast_history.specs.declared.step.Opening.{Opening}
 use Rattle.bcast_history.specs.declared.step.Step.{Step}
-use Rattle.bcast_history.specs.Makes.{IsReceive, MakesCall, MakesEach, MakesReceives}
+use Rattle.bcast_history.specs.Makes.{IsReceive, MakesEach, MakesReceives, PollsOnce, ReceivesBy}
 use Rattle.bcast_history.specs.Tracker.{Tracker}
 use Rattle.bcast_history.proofs.Prefixes.{prefix_self, prefix_trans}
-use Rattle.bcast_history.proofs.Received.{seen}
-
-module _ {T : Type 0} where
-  both_receives : (key : ℕ) (steps more : List (Step T)) → AllByRecursion (IsReceive key) steps
-      → AllByRecursion (IsReceive key) more → AllByRecursion (IsReceive key) (steps ++ more)
-  both_receives key [] more first second = second
-  both_receives key (step ∷ steps) more first second = (first.0, both_receives key steps more first.1 second)
 
 module _ {T : Type 0} (learns : Tracker T → Call T → Reply T → Tracker T → Type 0) where
   both_made : (steps more : List (Step T)) (known between after : Tracker T) → MakesEach learns steps known between
@@ -41,7 +37,7 @@ module _ {T : Type 0} {learns : Tracker T → Call T → Reply T → Tracker T �
     key = second.key ∙ first.key;
     seen = prefix_trans old.steps mid.steps new.steps first.seen second.seen;
     steps = first.steps ++ second.steps;
-    receives = both_receives old.key first.steps second.steps first.receives
+    receives = all_append (IsReceive old.key) first.steps second.steps first.receives
         (subst (λ key. AllByRecursion (IsReceive key) second.steps) first.key second.receives);
     each = both_made learns first.steps second.steps old mid new first.each second.each;
   }
@@ -50,21 +46,20 @@ module _ {T : Type 0} {learns : Tracker T → Call T → Reply T → Tracker T �
   receives_none {old = old} same =
       subst (MakesReceives learns old) (sym same) (record { key = refl; seen = prefix_self old.steps; steps = []; receives = tt; each = refl })
 
-  module _ {is_clone : T → T → Type 0} {o : Opening} {old new : Tracker T} (kept : new.key ≡ old.key) where
+  module _ {is_clone : T → T → Type 0} {o : Opening} {old new : Tracker T} where
     -- one receive
-    pub receives_one : {c : Call T} {r : Reply T} → (c ≡ call.TryRecv old.key) ⊎ (c ≡ call.PollRecv old.key)
-        → MakesCall learns is_clone o old c r new → MakesReceives learns old new
-    receives_one {c = c} {r = r} is made = record {
-      key = kept;
-      seen = seen made.follows;
+    pub receives_one : {c : Call T} {r : Reply T} {found : Found T} → (c ≡ call.TryRecv old.key) ⊎ (c ≡ call.PollRecv old.key)
+        → ReceivesBy learns is_clone o c r old new found → MakesReceives learns old new
+    receives_one {c = c} {r = r} is by = record {
+      key = by.key;
+      seen = by.seen;
       steps = record { call = c; reply = r } ∷ [];
       receives = (is, tt);
-      each = (new, made.once, refl);
+      each = (new, by.made.once, refl);
     }
 
     -- a poll that was out of memory, and made, or not
-    pub receives_refused : {r : Reply T} {NotMade Found : Type 0}
-        → ((new ≡ old) × NotMade) ⊎ (Found × MakesCall learns is_clone o old (call.PollRecv old.key) r new)
-        → MakesReceives learns old new
+    pub receives_refused : {error : AllocError} {NotMade : Type 0}
+        → ((new ≡ old) × NotMade) ⊎ PollsOnce learns is_clone o old new (Err error) → MakesReceives learns old new
     receives_refused (inl same) = receives_none same.0
-    receives_refused (inr found) = receives_one (inr refl) found.1
+    receives_refused (inr by) = receives_one (inr refl) by

@@ -1,13 +1,14 @@
 -- Where messages stand.
 use Rattle.std.proofs.Common.{◌≡◌, ℕ, List, [], ◌∷◌, ◌++◌, Some, refl, ap, ◌∙◌, subst}
 use mathlib.Core.List.{IsPrefix}
-use Rattle.bcast_model.specs.Words.{History, next, end_of_run, numbered}
+use Rattle.bcast_model.specs.Words.{History, next, end_of_run, numbered, IsDelivery, IsGiven}
 use Rattle.bcast_model.proofs.DeliveryMessages.{numbered_stays}
 use Rattle.bcast_laws.proofs.Sends.{messages_added}
 use Rattle.bcast_history.specs.declared.step.Opening.{Opening}
 use Rattle.bcast_history.specs.declared.step.Step.{Step}
 use Rattle.bcast_history.specs.History.{calls_of, replies_of, start_of, end_of}
 use Rattle.bcast_history.proofs.Prefixes.{prefix_self, prefix_trans}
+use Rattle.bcast_history.proofs.Told.{still_some}
 use Rattle.bcast_history.specs.History.{accepted_by}
 use Rattle.bcast_history.specs.Laws.{MessagesStay, SendsStandLast}
 
@@ -34,6 +35,13 @@ module _ {T : Type 0} where
   pub messages_stay : MessagesStay T
   messages_stay o known later number msg begins there =
       subst (λ steps. numbered (end_of o steps) number ≡ Some msg) begins.1 (keeps_number (start_of o) known begins.0 number msg there)
+
+  -- and is delivered as it was
+  pub delivery_stays : (is_clone : T → T → Type 0) (o : Opening) (known later : List (Step T)) (number : ℕ) (msg : T) → IsPrefix known later
+      → IsDelivery is_clone (end_of o known) number (Some msg) → IsDelivery is_clone (end_of o later) number (Some msg)
+  delivery_stays is_clone o known later number msg begins =
+      still_some (numbered (end_of o known) number) (numbered (end_of o later) number) (λ accepted. IsGiven is_clone accepted msg)
+      (λ accepted. messages_stay o known later number accepted begins)
 
   pub stands_last : (is_clone : T → T → Type 0) → SendsStandLast is_clone
   stands_last is_clone o known after call reply follows accepted = (

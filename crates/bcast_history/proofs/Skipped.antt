@@ -1,5 +1,5 @@
 -- What a receiver skips.
-use Rattle.std.proofs.Common.{◌≡◌, inl, inr, ℕ, ◌≤◌, List, [], ◌∷◌, ◌++◌, Option, Some, None, Result, Ok, Err, refl, ◌∙◌, arith, subst}
+use Rattle.std.proofs.Common.{◌≡◌, inl, inr, ℕ, ◌≤◌, List, [], ◌∷◌, ◌++◌, Option, Some, Result, Ok, Err, refl, arith, subst}
 use Rattle.std.proofs.lemmas.Bool.{cases_lt}
 use Rattle.std.specs.Result.{IsErr, OnErr}
 use Rattle.std.specs.declared.alloc.AllocError.{AllocError}
@@ -7,7 +7,6 @@ use mathlib.Core.List.{IsPrefix}
 use Rattle.futures.specs.declared.task.Poll.{Poll}
 use Rattle.futures.specs.declared.task.Poll.TheVariants as poll
 use Rattle.bcast_model.specs.declared.error.RecvError.TheVariants as unreceived
-use Rattle.bcast_model.specs.declared.error.TryRecvError.{TryRecvError}
 use Rattle.bcast_model.specs.declared.error.TryRecvError.TheVariants as unread
 use Rattle.bcast_model.specs.declared.run.Call.{Call}
 use Rattle.bcast_model.specs.declared.run.Reply.{Reply}
@@ -16,7 +15,7 @@ use Rattle.bcast_history.specs.declared.step.Opening.{Opening}
 use Rattle.bcast_history.specs.declared.step.Step.{Step}
 use Rattle.bcast_history.specs.History.{calls_of, replies_of, start_of, end_of}
 use Rattle.bcast_history.specs.Makes.{MakesReceives}
-use Rattle.bcast_history.specs.Reader.{Skips, Takes, TakesNext, as_found}
+use Rattle.bcast_history.specs.Reader.{Finds, Skips, Takes, TakesNext, as_found, as_tried}
 use Rattle.bcast_history.specs.Tracker.{Tracker, number}
 use Rattle.bcast_history.proofs.Polls.{Polled}
 use Rattle.bcast_history.proofs.Receiving.{receives_on}
@@ -72,15 +71,7 @@ module _
   errs_next (Ok found) is same = absurd (cc is)
   errs_next (Err error) is same = stays (number new.next) same
 
-  -- what it finds then
-  abbrev pub as_tried : Result (Poll (Option T)) AllocError → Result (Result T TryRecvError) AllocError
-  as_tried (Ok (poll.Ready (Some msg))) = Ok (Ok msg)
-  as_tried (Ok (poll.Ready None)) = Ok (Err unread.Closed)
-  as_tried (Ok poll.Pending) = Ok (Err unread.Empty)
-  as_tried (Err error) = Err error
-
-  pub finds_next : (p : Result (Poll (Option T)) AllocError) → Takes is_clone o mid new (as_tried p) → TakesNext is_clone o old new p
-  finds_next (Ok (poll.Ready (Some msg))) (is, on) = (number mid.next, stays (number mid.next) refl, is, on)
-  finds_next (Ok (poll.Ready None)) (same, all, is) = (stays (number new.next) same, same ∙ all, is)
-  finds_next (Ok poll.Pending) (same, all, is) = (stays (number new.next) same, same ∙ all, is)
-  finds_next (Err error) takes = stays (number new.next) takes.0
+  pub finds_next : (found : Poll (Option T)) → Takes is_clone o mid new (Ok (as_tried found)) → TakesNext is_clone o old new (Ok found)
+  finds_next found takes =
+      let finds = subst (λ key. Finds is_clone (end_of o new.steps) key (number mid.next) (number new.next) (Ok (as_tried found))) skipped.made.key takes in
+      (number mid.next, stays (number mid.next) refl, finds)

@@ -1,18 +1,15 @@
--- Where a receiver starts that was made.
-use Rattle.std.proofs.Common.{◌≡◌, ℕ, ◌+◌, Bool, true, false, if◌then◌else◌, List, [], length, Some, Ok, Err, refl, sym, ap, ◌∙◌, subst, arith}
+-- Where the first receiver starts, and that one stays which can't leave.
+use Rattle.std.proofs.Common.{◌≡◌, ℕ, ◌+◌, Bool, true, false, if◌then◌else◌, List, [], Some, Ok, Err, refl, sym, ap, ◌∙◌, subst, arith}
 use Rattle.std.specs.Prelude.{is_some}
-use Rattle.std.specs.FinMap.{get, insert}
+use Rattle.std.specs.FinMap.{get}
 use Rattle.bcast_model.specs.declared.error.HandleError.{HandleError}
 use Rattle.bcast_model.specs.declared.error.HandleError.TheVariants as handle
-use Rattle.bcast_model.specs.declared.run.Call.{Call}
 use Rattle.bcast_model.specs.declared.run.Call.TheVariants as call
 use Rattle.bcast_model.specs.declared.run.Reply.{Reply}
 use Rattle.bcast_model.specs.declared.run.Reply.TheVariants as reply
-use Rattle.bcast_model.specs.Words.{History, view_of, next, Legal, Cursors, cursor_of, end_number, clone_receiver, deactivate, without_receiver, has_next, count_reply}
+use Rattle.bcast_model.specs.Words.{History, view_of, next, Legal, Cursors, cursor_of, end_number, deactivate, without_receiver, has_next, count_reply}
 use Rattle.bcast_model.proofs.Answers.{cursors-next}
 use Rattle.bcast_model.proofs.DeliveryMaps.{inserted}
-use Rattle.bcast_laws.specs.Sends.{is_accepted}
-use Rattle.bcast_laws.proofs.Sends.{nothing_added}
 use Rattle.bcast_history.specs.declared.step.Opening.{Opening}
 use Rattle.bcast_history.specs.declared.step.Step.{Step}
 use Rattle.bcast_history.specs.History.{start_of, end_of}
@@ -29,43 +26,17 @@ first_tracked {T} {opened = o} {named = named} is none =
     (o.first_number ≡ end_number (end_of named steps)) × (cursor_of (end_of named steps).control o.first_key ≡ Some o.first_number) in
     subst (Is named) (sym none) (subst (λ named. Is named []) is (omega arith, first_there T o))
 
-module _ {T : Type 0} (is_clone : T → T → Type 0) (h : History T) where
-  -- a receiver that a call puts at the end starts there
-  put_at_end : (c : Call T) (r : Reply T) (key : ℕ) → Legal is_clone (view_of h) c r
-      → is_accepted r ≡ false → (next h c r).control.cursors ≡ insert h.control.cursors key (end_number h)
-      → cursor_of (next h c r).control key ≡ Some (end_number (next h c r))
-  put_at_end c r key legal refused put =
-      let end : end_number (next h c r) ≡ end_number h = ap (λ (msgs : List T). h.first + length msgs) (nothing_added is_clone h c r legal refused) in
-      ap (λ (cursors : Cursors). get cursors key) put ∙ inserted h.control.cursors key (end_number h) ∙ ap Some (sym end)
-
-  pub new_starts : (key : ℕ) → Legal is_clone (view_of h) call.NewReceiver (reply.NewReceiver (Ok key))
-      → let made = next h call.NewReceiver (reply.NewReceiver (Ok key)) in cursor_of made.control key ≡ Some (end_number made)
-  new_starts key legal =
-      put_at_end call.NewReceiver (reply.NewReceiver (Ok key)) key legal refl (cursors-next h call.NewReceiver (reply.NewReceiver (Ok key)))
-
-  pub activated_starts : (key : ℕ) → Legal is_clone (view_of h) call.Activate (reply.Activate (Ok key))
-      → let made = next h call.Activate (reply.Activate (Ok key)) in cursor_of made.control key ≡ Some (end_number made)
-  activated_starts key legal =
-      put_at_end call.Activate (reply.Activate (Ok key)) key legal refl (cursors-next h call.Activate (reply.Activate (Ok key)))
-
-  module _ (key was : ℕ) (there : cursor_of h.control key ≡ Some was) where
-    -- a clone reads on where its original does
-    pub cloned_starts : (new : ℕ) → cursor_of (next h (call.CloneReceiver key) (reply.CloneReceiver (Ok new))).control new ≡ Some was
-    cloned_starts new =
-        let put : (next h (call.CloneReceiver key) (reply.CloneReceiver (Ok new))).control.cursors ≡ insert h.control.cursors new was =
-        cursors-next h (call.CloneReceiver key) (reply.CloneReceiver (Ok new)) ∙ ap (λ o. (clone_receiver h.control o (Some new)).cursors) there in
-        ap (λ (cursors : Cursors). get cursors new) put ∙ inserted h.control.cursors new was
-
-    -- it stays if it can't be counted as inactive
-    pub not_inactive : (error : HandleError) → Legal is_clone (view_of h) (call.Deactivate key) (reply.Deactivate (Err error))
-        → cursor_of (next h (call.Deactivate key) (reply.Deactivate (Err error))).control key ≡ Some was
-    not_inactive error legal =
-        let told : ◌≡◌ {A = Reply T} (reply.Deactivate (Err error)) (reply.Deactivate (count_reply true h.control.inactive)) =
-        legal ∙ ap (λ o. reply.Deactivate (count_reply (is_some o) h.control.inactive)) there in
-        ap (λ (cursors : Cursors). get cursors key) (cursors-next h (call.Deactivate key) (reply.Deactivate (Err error))
-        ∙ ap (λ o. (deactivate h.control key o).cursors) there ∙ full (has_next h.control.inactive) refl told) ∙ there
-      where
-        full : (b : Bool) → has_next h.control.inactive ≡ b → ◌≡◌ {A = Reply T} (reply.Deactivate (Err error)) (reply.Deactivate (count_reply true h.control.inactive))
-            → (deactivate h.control key (Some was)).cursors ≡ h.control.cursors
-        full true is told = absurd (cc (told ∙ ap (λ b. reply.Deactivate (if b then Ok tt else Err handle.TooMany)) is))
-        full false is told = ap (λ b. (if b then record (without_receiver h.control key) { inactive = h.control.inactive + 1 } else h.control).cursors) is
+module _ {T : Type 0} (is_clone : T → T → Type 0) (h : History T) (key was : ℕ) (there : cursor_of h.control key ≡ Some was) where
+  -- it stays if it can't be counted as inactive
+  pub not_inactive : (error : HandleError) → Legal is_clone (view_of h) (call.Deactivate key) (reply.Deactivate (Err error))
+      → cursor_of (next h (call.Deactivate key) (reply.Deactivate (Err error))).control key ≡ Some was
+  not_inactive error legal =
+      let told : ◌≡◌ {A = Reply T} (reply.Deactivate (Err error)) (reply.Deactivate (count_reply true h.control.inactive)) =
+      legal ∙ ap (λ o. reply.Deactivate (count_reply (is_some o) h.control.inactive)) there in
+      ap (λ (cursors : Cursors). get cursors key) (cursors-next h (call.Deactivate key) (reply.Deactivate (Err error))
+      ∙ ap (λ o. (deactivate h.control key o).cursors) there ∙ full (has_next h.control.inactive) refl told) ∙ there
+    where
+      full : (b : Bool) → has_next h.control.inactive ≡ b → ◌≡◌ {A = Reply T} (reply.Deactivate (Err error)) (reply.Deactivate (count_reply true h.control.inactive))
+          → (deactivate h.control key (Some was)).cursors ≡ h.control.cursors
+      full true is told = absurd (cc (told ∙ ap (λ b. reply.Deactivate (if b then Ok tt else Err handle.TooMany)) is))
+      full false is told = ap (λ b. (if b then record (without_receiver h.control key) { inactive = h.control.inactive + 1 } else h.control).cursors) is

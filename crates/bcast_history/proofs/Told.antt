@@ -31,16 +31,17 @@ module _ {T : Type 0} where
   closed_after h c r = tell_is (λ (now : History T). now.control.closed ≡ (effect (view_of h) c r).control.closed)
       (may_tell h.control (sends_are_ready (view_of h)) c) (remember h (effect (view_of h) c r)) (λ _. refl) (λ _. refl)
 
-  stays : (o later : Option T) (P : T → Type 0) → ((msg : T) → o ≡ Some msg → later ≡ Some msg) → IsSomeAnd o P → IsSomeAnd later P
-  stays None later P same there = absurd there
-  stays (Some msg) later P same there = subst (λ x. IsSomeAnd x P) (sym (same msg refl)) there
+  -- what is there stays
+  pub still_some : (o later : Option T) (P : T → Type 0) → ((msg : T) → o ≡ Some msg → later ≡ Some msg) → IsSomeAnd o P → IsSomeAnd later P
+  still_some None later P same there = absurd there
+  still_some (Some msg) later P same there = subst (λ x. IsSomeAnd x P) (sym (same msg refl)) there
 
 module _ {T : Type 0} (is_clone : T → T → Type 0) where
   -- a message of its number keeps it
   pub delivered_stays : (h : History T) (c : Call T) (r : Reply T) (number : ℕ) (msg : T)
       → IsDelivery is_clone h number (Some msg) → IsDelivery is_clone (next h c r) number (Some msg)
   delivered_stays h c r number msg there =
-      stays (numbered h number) (numbered (next h c r) number) (λ accepted. IsGiven is_clone accepted msg)
+      still_some (numbered h number) (numbered (next h c r) number) (λ accepted. IsGiven is_clone accepted msg)
       (λ accepted is. numbered_stays h (c ∷ []) (r ∷ []) number accepted is) there
 
   -- only a reader that lags is told how much it missed, and it missed something

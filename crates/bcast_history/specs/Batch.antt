@@ -1,10 +1,9 @@
 -- Several messages in one call.
 use Rattle.std.specs.Prelude.{◌≡◌, ◌⊎◌, ℕ, ◌+◌, ◌<◌, ◌≤◌, List, [], ◌∷◌, ◌++◌, length, Some, Result, Ok, Err}
 use Rattle.std.specs.declared.alloc.AllocError.{AllocError}
-use Rattle.bcast_model.specs.declared.error.TryRecvError.{TryRecvError}
 use Rattle.bcast_model.specs.declared.run.Call.TheVariants as call
 use Rattle.bcast_model.specs.declared.run.Reply.TheVariants as reply
-use Rattle.bcast_model.specs.Words.{History, IsDelivery}
+use Rattle.bcast_model.specs.Words.{Found, History, IsDelivery}
 use Rattle.bcast_history.specs.declared.step.Opening.{Opening}
 use Rattle.bcast_history.specs.declared.step.Step.{Step}
 use Rattle.bcast_history.specs.History.{end_of}
@@ -34,8 +33,8 @@ module _ {T : Type 0} (is_clone : T → T → Type 0) where
 
   module _
       {E : Type 0} (o : Opening)
-      (Receives : Tracker T → Tracker T → Result (Result T TryRecvError) AllocError → Type 0)
-      (as_tried : Result (Result T E) AllocError → Result (Result T TryRecvError) AllocError)
+      (Receives : Tracker T → Tracker T → Found T → Type 0)
+      (as_tried : Result (Result T E) AllocError → Found T)
       (limit : ℕ) where
     -- `try_recv_many` and its waiting forms: at least one message, if the limit isn't 0; or what one
     -- `try_recv` found that gave none; or memory was refused, and nothing is read, or one `try_recv`

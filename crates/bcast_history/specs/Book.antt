@@ -14,7 +14,8 @@ pub record Chain : Type 0 where
 
 abbrev pub chain_coded : Coded Chain
 chain_coded =
-    coded_via (coded× book_coded coded_ℕ) (λ (c : Chain). (c.book, c.first)) (λ x y e i. record { book = (e i).0; first = (e i).1 })
+    coded_via (coded× book_coded coded_ℕ) (λ (c : Chain). (c.book, c.first))
+    (λ x y e i. record { book = (e i).0; first = (e i).1 })
 
 -- the word by which the steps on a book are made. Its number says nothing
 abbrev pub head_of : Book → Named

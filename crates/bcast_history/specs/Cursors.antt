@@ -3,7 +3,7 @@ use Rattle.std.specs.Prelude.{◌≡◌, ℕ, List, Option, Some}
 use Rattle.claims.specs.Claims.{claim_of}
 use Rattle.bcast_model.specs.Words.{Control, cursor_of}
 
--- the registry in which a receiver's place is claimed, its key, and the number of the message that
+-- the registry in which a receiver's cursor is claimed, its key, and the number of the message that
 -- it reads next; `None`: no receiver's
 pub record Cursor : Type 0 where
   pub registry : ℕ

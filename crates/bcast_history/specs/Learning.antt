@@ -15,7 +15,7 @@ prefix_trans xs ys zs p q =
     (p.0 ++ q.0, sym (append_assoc xs p.0 q.0) ∙ (ap (λ w. w ++ q.0) p.1 ∙ q.1))
 
 module _ {T : Type 0} where
-  -- the last call
+  -- who makes a call again learns of the last one alone
   pub again
       : {is_clone : T → T → Type 0} {o : Opening} {before between after : Tracker T}
       {call : Call T} {reply last : Reply T} → is_answer reply ≡ false

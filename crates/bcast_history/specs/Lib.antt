@@ -7,14 +7,15 @@ pub mod Follows
 pub mod Tracker
 pub mod Cursors
 pub mod Learning
+-- what a receiver is given
+pub mod Reader
 -- which calls a handle makes, and what follows
 pub mod Makes
 pub mod Laws
--- what a receiver is given, a log of it, and that nothing comes after `Closed`
-pub mod Reader
-pub mod Log
-pub mod Closed
 -- several messages in one call
 pub mod Batch
+-- a log of what a receiver is given, and that nothing comes after `Closed`
+pub mod Log
+pub mod Closed
 -- a channel before it has a name
 pub mod Opened

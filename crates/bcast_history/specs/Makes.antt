@@ -1,19 +1,21 @@
 -- Which calls a handle makes.
-use Rattle.std.specs.Prelude.{◌≡◌, ◌⊎◌, ℕ, List, [], ◌∷◌, Result, Err}
+use Rattle.std.specs.Prelude.{◌≡◌, ◌⊎◌, ℕ, List, [], ◌∷◌, Option, Result, Err}
 use Rattle.std.specs.List.{AllByRecursion}
-use mathlib.Core.List.{IsPrefix}
 use Rattle.std.specs.declared.alloc.AllocError.{AllocError}
-use Rattle.bcast_model.specs.declared.error.HandleError.{HandleError}
+use mathlib.Core.List.{IsPrefix}
+use Rattle.futures.specs.declared.task.Poll.{Poll}
 use Rattle.bcast_model.specs.declared.error.HandleError.TheVariants as handle
-use Rattle.bcast_model.specs.declared.error.TryRecvError.{TryRecvError}
-use Rattle.bcast_model.specs.declared.run.Call.{Call}
 use Rattle.bcast_model.specs.declared.run.Call.TheVariants as call
-use Rattle.bcast_model.specs.declared.run.Reply.{Reply}
 use Rattle.bcast_model.specs.declared.run.Reply.TheVariants as reply
+use Rattle.bcast_model.specs.declared.run.Call.{Call}
+use Rattle.bcast_model.specs.declared.error.HandleError.{HandleError}
+use Rattle.bcast_model.specs.declared.error.RecvError.{RecvError}
+use Rattle.bcast_model.specs.declared.run.Reply.{Reply}
+use Rattle.bcast_model.specs.Words.{Found}
 use Rattle.bcast_history.specs.declared.step.Opening.{Opening}
 use Rattle.bcast_history.specs.declared.step.Step.{Step}
 use Rattle.bcast_history.specs.Follows.{Follows}
-use Rattle.bcast_history.specs.Reader.{Takes}
+use Rattle.bcast_history.specs.Reader.{Takes, as_found}
 use Rattle.bcast_history.specs.Tracker.{Tracker}
 
 -- a receive of one message by this receiver
@@ -51,12 +53,24 @@ module _ {T : Type 0} (learns : Tracker T → Call T → Reply T → Tracker T �
       pub once : learns known call reply after
       pub follows : Follows is_clone o known.steps call reply after.steps
 
-    -- a receiver makes one `TryRecv`, and no other call, and takes what it finds
-    abbrev pub ReceivesOnce
-        : Tracker T → Tracker T → Result (Result T TryRecvError) AllocError → Type 0
+    -- a receiver makes this call, and no other, and takes what it finds by it
+    pub record ReceivesBy
+        (call : Call T) (reply : Reply T) (old new : Tracker T) (found : Found T) : Type 0 where
+      pub key : new.key ≡ old.key
+      pub seen : IsPrefix old.steps new.steps
+      pub takes : Takes is_clone o old new found
+      pub made : MakesCall old call reply new
+
+    -- by one `TryRecv`
+    abbrev pub ReceivesOnce : Tracker T → Tracker T → Found T → Type 0
     ReceivesOnce old new found =
-        Takes is_clone o old new found
-        × MakesCall old (call.TryRecv old.key) (reply.TryRecv found) new
+        ReceivesBy (call.TryRecv old.key) (reply.TryRecv found) old new found
+
+    -- by one poll
+    abbrev pub PollsOnce
+        : Tracker T → Tracker T → Result (Poll (Option (Result T RecvError))) AllocError → Type 0
+    PollsOnce old new polled =
+        ReceivesBy (call.PollRecv old.key) (reply.PollRecv polled) old new (as_found polled)
 
     -- there was no memory for the handle, and no call was made; or the channel refused, by this call
     abbrev pub MakesNone

@@ -5,9 +5,9 @@ use Rattle.futures.specs.declared.task.Poll.TheVariants as poll
 use Rattle.std.specs.declared.alloc.AllocError.{AllocError}
 use Rattle.bcast_model.specs.declared.error.RecvError.{RecvError}
 use Rattle.bcast_model.specs.declared.error.RecvError.TheVariants as unreceived
-use Rattle.bcast_model.specs.declared.error.TryRecvError.{TryRecvError}
 use Rattle.bcast_model.specs.declared.error.TryRecvError.TheVariants as unread
-use Rattle.bcast_model.specs.Words.{History, cursor_of, IsDelivery, end_number}
+use Rattle.bcast_model.specs.declared.error.TryRecvError.{TryRecvError}
+use Rattle.bcast_model.specs.Words.{Found, History, cursor_of, IsDelivery, end_number}
 use Rattle.bcast_history.specs.declared.step.Opening.{Opening}
 use Rattle.bcast_history.specs.History.{end_of}
 use Rattle.bcast_history.specs.Tracker.{Tracker, number}
@@ -39,9 +39,7 @@ module _ {T : Type 0} where
     pub kept : number < end_number h
 
   -- what a `poll_recv` finds, as a `try_recv` returns it: `Pending` is `Empty`, the end `Closed`
-  abbrev pub as_found
-      : Result (Poll (Option (Result T RecvError))) AllocError
-      → Result (Result T TryRecvError) AllocError
+  abbrev pub as_found : Result (Poll (Option (Result T RecvError))) AllocError → Found T
   as_found (Ok (poll.Ready (Some (Ok msg)))) = Ok (Ok msg)
   as_found (Ok (poll.Ready (Some (Err (unreceived.Overflowed n))))) = Ok (Err (unread.Overflowed n))
   as_found (Ok (poll.Ready (Some (Err unreceived.Closed)))) = Ok (Err unread.Closed)
@@ -49,12 +47,18 @@ module _ {T : Type 0} where
   as_found (Ok poll.Pending) = Ok (Err unread.Empty)
   as_found (Err error) = Err error
 
+  -- what a poll of a stream finds, likewise
+  abbrev pub as_tried : Poll (Option T) → Result T TryRecvError
+  as_tried (poll.Ready (Some msg)) = Ok msg
+  as_tried (poll.Ready None) = Err unread.Closed
+  as_tried poll.Pending = Err unread.Empty
+
 module _ {T : Type 0} (is_clone : T → T → Type 0) where
   -- what the receiver `key` finds that read on at `was`, and where it reads on now, on a channel that
   -- is `h` then: a message is the accepted one of the number `was`, or a clone, and the one behind it
   -- is next; one that missed some skips them, up to the end at most; else it has read all, or memory
   -- was refused for the clone of a message that another has still to read
-  abbrev pub Finds : History T → ℕ → ℕ → ℕ → Result (Result T TryRecvError) AllocError → Type 0
+  abbrev pub Finds : History T → ℕ → ℕ → ℕ → Found T → Type 0
   Finds h key was now (Ok (Ok msg)) = IsDelivery is_clone h was (Some msg) × (now ≡ was + 1)
   Finds h key was now (Ok (Err (unread.Overflowed n))) =
       (0 < n) × (now ≡ was + n) × Skips h was now × (now ≤ end_number h)
@@ -65,26 +69,19 @@ module _ {T : Type 0} (is_clone : T → T → Type 0) where
   Finds h key was now (Err error) = (now ≡ was) × IsShared h key was
 
   -- `Finds`, for a receiver before the receive and after it
-  abbrev pub Takes
-      : Opening → Tracker T → Tracker T → Result (Result T TryRecvError) AllocError → Type 0
+  abbrev pub Takes : Opening → Tracker T → Tracker T → Found T → Type 0
   Takes o old new found =
       Finds (end_of o new.steps) old.key (number old.next) (number new.next) found
 
-  -- what a receiver finds that isn't told what it missed, and skips it: a message is the accepted
-  -- one of its number, or a clone, and the one behind it is next; else it has read all, or memory
-  -- was refused
-  abbrev pub FindsNext : History T → ℕ → ℕ → Result (Poll (Option T)) AllocError → Type 0
-  FindsNext h was now (Ok (poll.Ready (Some msg))) =
-      (number : ℕ) × Skips h was number × IsDelivery is_clone h number (Some msg)
-      × (now ≡ number + 1)
-  FindsNext h was now (Ok (poll.Ready None)) =
-      Skips h was now × (now ≡ end_number h) × (h.control.closed ≡ true)
-  FindsNext h was now (Ok poll.Pending) =
-      Skips h was now × (now ≡ end_number h) × (h.control.closed ≡ false)
-  FindsNext h was now (Err error) = Skips h was now
+  -- what a receiver finds that isn't told what it missed: it skips that, and finds what one does that
+  -- reads on there; or memory was refused
+  abbrev pub FindsNext : History T → ℕ → ℕ → ℕ → Result (Poll (Option T)) AllocError → Type 0
+  FindsNext h key was now (Ok found) =
+      (number : ℕ) × Skips h was number × Finds h key number now (Ok (as_tried found))
+  FindsNext h key was now (Err error) = Skips h was now
 
   -- `FindsNext`, for a receiver before the poll and after it
   abbrev pub TakesNext
       : Opening → Tracker T → Tracker T → Result (Poll (Option T)) AllocError → Type 0
   TakesNext o old new found =
-      FindsNext (end_of o new.steps) (number old.next) (number new.next) found
+      FindsNext (end_of o new.steps) old.key (number old.next) (number new.next) found

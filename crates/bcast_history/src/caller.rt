@@ -11,7 +11,7 @@ use async_broadcast::Caller;
 use std::marker::{Brand, Model};
 
 /// Names a channel in the types of all that belongs to it: its journal, what it was opened with, and
-/// the registry in which its receivers' places are claimed.
+/// the registry in which its receivers' cursors are claimed.
 pub trait Channel: Named {
     ghost use Rattle.std.specs.Prelude.{ℕ};
     ghost use Rattle.bcast_history.specs.declared.step.Opening.{Opening};
@@ -35,8 +35,8 @@ pub type Seen<T, J> = Prefix<Step<T>, J>;
 /// Who makes calls on a channel: what is known of it, and of a receiver its key and where it reads
 /// on. A contract sees a `Tracker`.
 ///
-/// That what is known is a run of the channel isn't said here, but by the type `Tracker`: one whose
-/// values make calls has no bound on `T`, since the checker can't yet give `u64` to it.
+/// It has no bound on `T`, since the checker can't yet give `u64` to an impl of `Caller` that has one.
+/// That what is known is a run of the channel is said by the type `Tracker`.
 #[derive(Drop)]
 pub struct TrackedCaller<T, J: Channel> {
     pub(crate) seen: Seen<T, J>,

@@ -51,12 +51,9 @@ impl<T: Clone, P: HistoryPort<T, J>, J: Channel> TrackedReceiver<T, P, J> {
 impl<T: Clone, P: HistoryPort<T, J>, J: Channel, R: Wait> Iterator for TrackedIter<'_, T, P, J, R> {
     type Item = Result<Result<T, RecvError>, AllocError>;
 
-    ghost use mathlib.Core.List.{IsPrefix};
     ghost use Rattle.bcast_history.specs.Makes.{ReceivesOnce};
 
     ghost next_gives = { λ old item new. IfSome item IsNoEnd
-        × (new.receiver.now.tracker.key ≡ old.receiver.now.tracker.key)
-        × IsPrefix old.receiver.now.tracker.steps new.receiver.now.tracker.steps
         × ReceivesOnce P.learns T.is_clone J.opening old.receiver.now.tracker
         new.receiver.now.tracker (as_try_recv (as_received item)) };
 
@@ -89,13 +86,9 @@ pub struct TrackedTryIter<'a, T: Clone, P: HistoryPort<T, J>, J: Channel> {
 impl<T: Clone, P: HistoryPort<T, J>, J: Channel> Iterator for TrackedTryIter<'_, T, P, J> {
     type Item = Result<Result<T, RecvError>, AllocError>;
 
-    ghost use mathlib.Core.List.{IsPrefix};
     ghost use Rattle.bcast_history.specs.Makes.{ReceivesOnce};
 
-    ghost next_gives = { λ old item new.
-        (new.receiver.now.tracker.key ≡ old.receiver.now.tracker.key)
-        × IsPrefix old.receiver.now.tracker.steps new.receiver.now.tracker.steps
-        × (new.turns ≡ old.turns - 1)
+    ghost next_gives = { λ old item new. (new.turns ≡ old.turns - 1)
         × IfSome item (λ received. IsNoEnd received × ReceivesOnce P.learns T.is_clone
         J.opening old.receiver.now.tracker new.receiver.now.tracker (as_try_recv received))
         × IfNone item (EndsLoop (ReceivesOnce P.learns T.is_clone J.opening

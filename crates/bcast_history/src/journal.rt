@@ -24,7 +24,10 @@ pub trait Named {
 }
 
 impl Named for Brand {
-    ghost book = { record { book = record { number = 0; log_name = 0; cells_name = 0 }; first = 0 } };
+    ghost book = { record {
+      book = record { number = 0; log_name = 0; cells_name = 0 };
+      first = 0;
+    } };
 }
 
 /// What a value shows as a note. Each type says it for its values.

@@ -6,6 +6,7 @@ ghost use Rattle.bcast_history.specs.Closed.{ClosedIsLast, EndIsLast};
 
 /// Law: a message keeps its number, whatever calls follow. So what two receivers are given of the
 /// same number is the same message, or a clone of it.
+#[tactic(auto, using(crate::proofs::Sent::messages_stay))]
 pub fn messages_stay<T: Clone>()
     ensures { MessagesStay T }
 {}
@@ -32,6 +33,7 @@ pub fn logs_are_accepted<T: Clone>()
 
 /// Law: once a receive has returned `Closed`, each later one of the same receiver does. So after
 /// `Closed` there is never a message.
+#[tactic(auto, using(crate::proofs::Closed::closed_is_last))]
 pub fn closed_is_last<T: Clone>()
     ensures { ClosedIsLast T.is_clone }
 {}

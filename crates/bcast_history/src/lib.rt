@@ -17,7 +17,7 @@
 //!
 //! No step is stored: the journal is a word, which stays 0, and what contracts know of its notes.
 //! One `Writer` knows them all, and lies behind the lock; a `Prefix` has no bytes, and knows a
-//! beginning. Beside the writer lies a registry, also without bytes, in which each receiver's place is
+//! beginning. Beside the writer lies a registry, also without bytes, in which each receiver's cursor is
 //! claimed: so what a handle knows of its receiver is so, and needs no look at the channel.
 //!
 //! The channel's parameter is `J: Channel`, which names it. A program uses the channel inside a

@@ -1,6 +1,8 @@
-//! A log: all messages that a channel had accepted when it was closed.
-ghost use Rattle.std.specs.Prelude.{◌≡◌, Some, IfOk, IfErr, codes};
+//! A receiver's log: a whole one, of all messages that a channel had accepted when it was closed, and
+//! one that is cut short.
+ghost use Rattle.std.specs.Prelude.{◌≡◌, Some, IfOk, IfErr, OnOk, codes};
 ghost use Rattle.bcast_model.specs.Words.{ClonesEqual};
+ghost use Rattle.bcast_history.specs.Closed.{HasReadAll};
 ghost use Rattle.bcast_history.specs.Log.{IsCutLog, IsWholeLog, cut_log_text};
 ghost use Rattle.bcast_history.specs.Makes.{MakesReceives};
 ghost use Rattle.bcast_history.specs.Reader.{StartsAtTheFirst};
@@ -121,6 +123,7 @@ impl<T: Clone, P: HistoryPort<T, J>, J: Channel> TrackedReceiver<T, P, J> {
         requires { StartsAtTheFirst J.opening self.old.tracker }
         ensures only { MakesReceives P.learns self.old.tracker self.new.tracker }
         ensures log { IfOk result (λ log. log.steps ≡ self.new.tracker.steps) }
+        ensures read { OnOk result (HasReadAll J.opening self.new.tracker) }
         ensures cut { IfErr result (λ cut. IsCutLog P.learns T.is_clone J.opening
             cut.list.items cut.missed self.new.tracker) }
     {

@@ -17,7 +17,7 @@ use std::alloc::{AllocError, Allocator, Global};
 use std::marker::Model;
 use std::sync::Wait;
 
-/// A channel on which no call was made, its journal, and the registry in which its receivers' places
+/// A channel on which no call was made, its journal, and the registry in which its receivers' cursors
 /// are claimed. They have no name yet. A contract sees what a name has to say of them.
 #[derive(Drop)]
 pub struct Opened<T: Clone, A: Allocator = Global> {
@@ -108,7 +108,7 @@ pub fn broadcast<T: Clone, R: Wait + Clone, J: Channel, A: Allocator + Copy>(
         end: opening.first_number,
         cursor,
     };
-    let receives = Tracker::new(caller);
+    let receives = Tracker { caller };
     let tracker = receives.of_sender();
     let port = Lock::with_journal(rt, alloc, inner, steps)?;
     let other = port.try_clone().ok_or(AllocError)?;

@@ -1,6 +1,5 @@
 //! The receiving side.
 ghost use Rattle.std.specs.Prelude.{◌≡◌, true, ◌-◌, ℕ, min, Some, Ok, Err, IfOk, IfErr};
-ghost use mathlib.Core.List.{IsPrefix};
 ghost use Rattle.bcast_model.specs.Words.{cursor_of, end_number};
 ghost use Rattle.async_broadcast.specs.Ports.{as_try_recv};
 ghost use Rattle.async_broadcast.specs.Timed.{as_timed_try};
@@ -46,7 +45,7 @@ impl<T: Clone, P: HistoryPort<T, J>, J: Channel> TrackedReceiver<T, P, J> {
     {
         TrackedReceiver {
             port,
-            tracker: ReceiverTracker::new(tracker),
+            tracker: ReceiverTracker { inner: tracker },
             waker: TaskWaker::new(),
         }
     }
@@ -55,7 +54,7 @@ impl<T: Clone, P: HistoryPort<T, J>, J: Channel> TrackedReceiver<T, P, J> {
     pub fn seen(&self) -> Seen<T, J>
         ensures { result ≡ self.now.tracker.steps }
     {
-        self.tracker.inner.seen()
+        self.tracker.inner.caller.seen()
     }
 
     /// Proves that what the receiver knows is a run of the channel, of which all laws speak, and
@@ -81,9 +80,7 @@ impl<T: Clone, P: HistoryPort<T, J>, J: Channel> TrackedReceiver<T, P, J> {
     /// - `Closed`: every message was read, and the channel is closed.
     #[inline(always)]
     pub fn try_recv(&mut self) -> Result<Result<T, TryRecvError>, AllocError>
-        ensures key { self.new.tracker.key ≡ self.old.tracker.key }
-        ensures seen { IsPrefix self.old.tracker.steps self.new.tracker.steps }
-        ensures received { ReceivesOnce P.learns T.is_clone J.opening
+        ensures { ReceivesOnce P.learns T.is_clone J.opening
             self.old.tracker self.new.tracker result }
     {
         let ReceiverTracker { inner } = &mut self.tracker;
@@ -94,9 +91,7 @@ impl<T: Clone, P: HistoryPort<T, J>, J: Channel> TrackedReceiver<T, P, J> {
     /// Receives the next message, and blocks the thread while there is none and the channel is open:
     /// as `Receiver::recv_blocking`, with its errors. Each try is a step.
     pub fn recv_blocking(&mut self) -> Result<Result<T, RecvError>, AllocError>
-        ensures key { self.new.tracker.key ≡ self.old.tracker.key }
-        ensures seen { IsPrefix self.old.tracker.steps self.new.tracker.steps }
-        ensures received { ReceivesOnce P.learns T.is_clone J.opening
+        ensures { ReceivesOnce P.learns T.is_clone J.opening
             self.old.tracker self.new.tracker (as_try_recv result) }
     {
         let ReceiverTracker { inner } = &mut self.tracker;
@@ -139,10 +134,9 @@ impl<T: Clone, P: HistoryPort<T, J>, J: Channel> TrackedReceiver<T, P, J> {
         ensures made { IfOk result (λ made. MakesCall P.learns T.is_clone J.opening
             self.tracker (Call.Deactivate self.tracker.key) (Reply.Deactivate (Ok tt))
             made.tracker) }
-        ensures refused { IfErr result (λ back. (back.0.tracker.key ≡ self.tracker.key)
-            × (back.0.tracker.next ≡ self.tracker.next) × MakesCall P.learns T.is_clone J.opening
-            self.tracker (Call.Deactivate self.tracker.key)
-            (Reply.Deactivate (Err back.1)) back.0.tracker) }
+        ensures refused { IfErr result (λ back. StaysAt self.tracker back.0.tracker
+            × MakesCall P.learns T.is_clone J.opening self.tracker
+            (Call.Deactivate self.tracker.key) (Reply.Deactivate (Err back.1)) back.0.tracker) }
     {
         let TrackedReceiver {
             port,
@@ -172,7 +166,7 @@ impl<T: Clone, P: HistoryPort<T, J>, J: Channel> TrackedReceiver<T, P, J> {
     }
 
     /// How many of the messages that the channel keeps this receiver has still to read: all of
-    /// them, or those since its place, whichever are fewer. It is a step.
+    /// them, or those from its cursor on, whichever are fewer. It is a step.
     pub fn unread(&mut self) -> usize
         ensures same { StaysAt self.old.tracker self.new.tracker }
         ensures unread { (len : ℕ) × MakesCall P.learns T.is_clone J.opening self.old.tracker
@@ -185,7 +179,7 @@ impl<T: Clone, P: HistoryPort<T, J>, J: Channel> TrackedReceiver<T, P, J> {
     }
 
     /// How many messages were dropped before this receiver read them, and were not yet counted as
-    /// missed: those since its place, but for the ones that the channel keeps. It is a step.
+    /// missed: those from its cursor on, but for the ones that the channel keeps. It is a step.
     pub fn missed(&mut self) -> u64
         ensures same { StaysAt self.old.tracker self.new.tracker }
         ensures missed { (len : ℕ) × MakesCall P.learns T.is_clone J.opening self.old.tracker
@@ -207,12 +201,12 @@ impl<T: Clone, P: HistoryPort<T, J>, J: Channel> TrackedReceiver<T, P, J> {
         inner.ask(&self.port, Count::Len)
     }
 
-    // How many messages came since the receiver's place, as far as it knows.
+    // How many messages there are from the receiver's cursor on, as far as it knows.
     fn behind(&self) -> u64
         ensures { result ≡ end_number (end_of J.opening self.now.tracker.steps)
             - number self.now.tracker.next }
     {
-        self.tracker.inner.end().saturating_sub(self.next())
+        self.tracker.inner.caller.end().saturating_sub(self.next())
     }
 
     /// The number of the message that is read next.
@@ -230,9 +224,7 @@ impl<T: Clone, P: TimedHistoryPort<T, J>, J: Channel> TrackedReceiver<T, P, J> {
         &mut self,
         limit: Duration,
     ) -> Result<Result<T, RecvTimeoutError>, AllocError>
-        ensures key { self.new.tracker.key ≡ self.old.tracker.key }
-        ensures seen { IsPrefix self.old.tracker.steps self.new.tracker.steps }
-        ensures received { ReceivesOnce P.learns T.is_clone J.opening
+        ensures { ReceivesOnce P.learns T.is_clone J.opening
             self.old.tracker self.new.tracker (as_timed_try result) }
     {
         let ReceiverTracker { inner } = &mut self.tracker;

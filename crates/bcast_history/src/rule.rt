@@ -85,7 +85,11 @@ pub struct Added<'a, Y> {
 impl<'a, X, Y: Notes<X>> Plain<Added<'a, Y>, Entry<X>, u64> for Adding {
     ghost use Rattle.std.specs.Prelude.{None, Some};
 
-    ghost ask = { λ a. record { note = Some (Y.note a.about.now); key = a.turn.now.nib.key; next = a.next.now.nib.key } };
+    ghost ask = { λ a. record {
+      note = Some (Y.note a.about.now);
+      key = a.turn.now.nib.key;
+      next = a.next.now.nib.key;
+    } };
 
     ghost state = { λ a. None };
 }

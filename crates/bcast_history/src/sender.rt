@@ -34,7 +34,7 @@ impl<T: Clone, P: HistoryPort<T, J>, J: Channel> TrackedSender<T, P, J> {
     pub fn seen(&self) -> Seen<T, J>
         ensures { result ≡ self.now.tracker.steps }
     {
-        self.tracker.seen()
+        self.tracker.caller.seen()
     }
 
     /// Proves that what the sender knows is a run of the channel, of which all laws speak. Does
@@ -50,7 +50,7 @@ impl<T: Clone, P: HistoryPort<T, J>, J: Channel> TrackedSender<T, P, J> {
     pub fn end(&self) -> u64
         ensures { result ≡ end_number (end_of J.opening self.now.tracker.steps) }
     {
-        self.tracker.end()
+        self.tracker.caller.end()
     }
 
     /// Sends a message, unless the channel is closed, or has no active receiver, or no room for it:

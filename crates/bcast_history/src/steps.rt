@@ -21,7 +21,7 @@ use std::snapshot::Snapshot;
 #[derive(Drop)]
 pub struct StepJournal<T: Clone, J: Channel> {
     writer: Writer<Step<T>, J>,
-    // Where each receiver reads on whose place is claimed.
+    // The receivers' cursors that are claimed: where each reads on.
     registry: Registry,
 }
 
@@ -115,10 +115,10 @@ fn append_each<T: Clone, J: Channel>(
     key: usize,
     msgs: &[T],
 )
+    requires { 0 < length msgs.now }
     ensures appended { writer.new ≡ writer.old ++ map (received key) msgs.now }
-    ensures before { 0 < length msgs.now → IsPrefix known.old writer.old }
-    ensures knows { 0 < length msgs.now → known.new ≡ writer.new }
-    ensures same { length msgs.now ≡ 0 → known.new ≡ known.old }
+    ensures before { IsPrefix known.old writer.old }
+    ensures knows { known.new ≡ writer.new }
 {
     for msg in msgs {
         writer.append(known, &ShownReceive { key, msg });

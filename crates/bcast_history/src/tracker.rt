@@ -1,13 +1,13 @@
 //! What a handle knows of its channel, and the calls that it makes.
 ghost use Rattle.std.specs.Prelude.{◌≡◌, Some, Ok, Err, IfSome, IfOk, IfErr};
 ghost use Rattle.bcast_core.specs.Calls.{receiver_call, receiver_reply};
-ghost use Rattle.bcast_model.specs.Words.{HasPositiveCapacity, end_number};
+ghost use Rattle.bcast_model.specs.Words.{HasPositiveCapacity};
 ghost use Rattle.async_broadcast.specs.Ports.{moved_by};
 ghost use Rattle.bcast_history.specs.History.{IsLawful, end_of};
 ghost use Rattle.bcast_history.specs.Makes.{MakesCall};
-ghost use Rattle.bcast_history.specs.Tracker.{Begins, HasNewSender, IsOf, IsReceiver, next_of};
+ghost use Rattle.bcast_history.specs.Tracker.{Begins, HasNewSender, IsOf, next_of};
 
-use crate::caller::{Channel, Seen, TrackedCaller};
+use crate::caller::{Channel, TrackedCaller};
 use crate::port::HistoryPort;
 use bcast_core::{AddReceiver, AtOnce, HandleError};
 use std::marker::Model;
@@ -20,9 +20,9 @@ pub struct Tracker<T: Clone, J: Channel> {
 
 impl<T: Clone, J: Channel> Model for Tracker<T, J> {
     ghost use Rattle.bcast_history.specs.History.{IsLawful};
-    ghost use Rattle.bcast_history.specs.Tracker.{Tracker as Seen};
+    ghost use Rattle.bcast_history.specs.Tracker.{Tracker as Known};
 
-    ghost Value = { Seen T };
+    ghost Value = { Known T };
 
     ghost view = { λ t. t.caller };
 
@@ -30,14 +30,7 @@ impl<T: Clone, J: Channel> Model for Tracker<T, J> {
 }
 
 impl<T: Clone, J: Channel> Tracker<T, J> {
-    pub(crate) fn new(caller: TrackedCaller<T, J>) -> Self
-        requires { IsLawful T.is_clone J.opening caller.steps }
-        ensures { result ≡ caller }
-    {
-        Tracker { caller }
-    }
-
-    /// What the sender knows that was added by the last step: as much.
+    /// What a sender knows that the last step added: as much as this handle.
     pub(crate) fn of_sender(&self) -> Self
         requires { HasNewSender self.now.steps }
         ensures { result.steps ≡ self.now.steps }
@@ -74,22 +67,7 @@ impl<T: Clone, J: Channel> Tracker<T, J> {
     {
         let Tracker { caller } = self;
         let (_key, made) = port.add_receiver(caller, call)?;
-        Ok(Tracker::new(made))
-    }
-
-    /// What is known.
-    pub(crate) fn seen(&self) -> Seen<T, J>
-        ensures { result ≡ self.now.steps }
-    {
-        self.caller.seen()
-    }
-
-    /// The number of the message that comes next.
-    #[inline(always)]
-    pub(crate) fn end(&self) -> u64
-        ensures { result ≡ end_number (end_of J.opening self.now.steps) }
-    {
-        self.caller.end()
+        Ok(Tracker { caller: made })
     }
 
     /// The receiver's key, if there is one.
@@ -98,14 +76,6 @@ impl<T: Clone, J: Channel> Tracker<T, J> {
         ensures { result ≡ self.now.key }
     {
         self.caller.key()
-    }
-
-    /// The number of the message that the receiver reads next. `None`: there is no receiver.
-    #[inline(always)]
-    pub(crate) fn next(&self) -> Option<u64>
-        ensures { result ≡ self.now.next }
-    {
-        self.caller.next()
     }
 
     /// Proves that what is known is a run of the channel, and that the receiver, if there is one, is
@@ -127,9 +97,9 @@ pub struct ReceiverTracker<T: Clone, J: Channel> {
 }
 
 impl<T: Clone, J: Channel> Model for ReceiverTracker<T, J> {
-    ghost use Rattle.bcast_history.specs.Tracker.{Tracker as Seen, IsReceiver};
+    ghost use Rattle.bcast_history.specs.Tracker.{Tracker as Known, IsReceiver};
 
-    ghost Value = { Seen T };
+    ghost Value = { Known T };
 
     ghost view = { λ t. t.inner };
 
@@ -137,17 +107,10 @@ impl<T: Clone, J: Channel> Model for ReceiverTracker<T, J> {
 }
 
 impl<T: Clone, J: Channel> ReceiverTracker<T, J> {
-    pub(crate) fn new(inner: Tracker<T, J>) -> Self
-        requires { IsReceiver inner }
-        ensures { result ≡ inner }
-    {
-        ReceiverTracker { inner }
-    }
-
     /// The number of the message that is read next.
     pub(crate) fn next(&self) -> u64
         ensures { Some result ≡ self.now.next }
     {
-        self.inner.next().unwrap_or(0)
+        self.inner.caller.next().unwrap_or(0)
     }
 }

@@ -1,14 +1,13 @@
 -- One more entry keeps the replay.
-use Rattle.std.proofs.Common.{◌≡◌, List, [], ◌∷◌, ◌++◌, map, refl, sym, ap, ◌∙◌, subst, rules}
+use Rattle.std.proofs.Common.{◌≡◌, List, [], ◌∷◌, ◌++◌, map, sym, ap, ◌∙◌, subst, rules}
 use Rattle.std.proofs.lemmas.List.{map-append}
 use Rattle.std.proofs.lemmas.Simd.{map-map}
-use Rattle.bcast_model.specs.declared.run.Call.{Call}
 use Rattle.bcast_model.specs.Words.{HasPositiveCapacity, IsValid, View, Represents, Answers}
 use Rattle.bcast_model.proofs.Lists.{all_append}
 use Rattle.bcast_history.specs.declared.step.Opening.{Opening}
 use Rattle.bcast_history.specs.declared.step.Step.{Step}
 use Rattle.bcast_history.specs.History.{start_of}
-use Rattle.bcast_history.proofs.Appends as appends
+use Rattle.bcast_history.proofs.Appends.{calls_of-more, replays_longer}
 use Rattle.bcast_record.specs.declared.entry.Entry.{Entry}
 use Rattle.bcast_record.specs.Recording.{recording}
 use Rattle.bcast_record.specs.Replay.{Replays, MayRunAgain, calls_of, steps_of}
@@ -31,16 +30,14 @@ module _ {T : Type 0} where
   replays_opened is_clone o entries seen none shown valid =
       subst (λ es. Replays is_clone (recording o es) seen) (sym none) (record { run = tt; end = shown; valid = valid })
 
-  pub replays_push : (is_clone : T → T → Type 0) (o : Opening) (entries longer : List (Entry T)) (seen after : View T) (entry : Entry T) (call : Call T)
-      → longer ≡ entries ++ entry ∷ [] → call ≡ entry.call → Replays is_clone (recording o entries) seen → Answers is_clone seen call entry.reply after
+  pub replays_push : {is_clone : T → T → Type 0} (o : Opening) (entries longer : List (Entry T)) {seen after : View T} (entry : Entry T)
+      → longer ≡ entries ++ entry ∷ [] → Replays is_clone (recording o entries) seen → Answers is_clone seen entry.call entry.reply after
       → Replays is_clone (recording o longer) after
-  replays_push is_clone o entries longer seen after entry call pushed same replays answers =
-      appends.replays_push is_clone o (steps_of (recording o entries)) (steps_of (recording o longer)) seen after (step_of entry) call entry.reply
-      (steps_of-push o entries longer entry pushed) (sym same) refl replays answers
+  replays_push o entries longer entry pushed replays answers = replays_longer (steps_of-push o entries longer entry pushed) replays answers
 
   pub may_run_again_push : (o : Opening) (entries longer : List (Entry T)) (entry : Entry T)
       → longer ≡ entries ++ entry ∷ [] → MayRunAgain (recording o entries) → HasPositiveCapacity entry.call → MayRunAgain (recording o longer)
   may_run_again_push o entries longer entry pushed may positive =
       let steps = steps_of (recording o entries) in
-      let calls = ap (map (λ s. s.call)) (steps_of-push o entries longer entry pushed) ∙ appends.calls_of-more steps (step_of entry) in
+      let calls = ap (map (λ s. s.call)) (steps_of-push o entries longer entry pushed) ∙ calls_of-more steps (step_of entry) in
       search (rules, may, calls, positive, all_append HasPositiveCapacity (calls_of (recording o entries)) (entry.call ∷ []))

@@ -1,7 +1,8 @@
 -- What the notes of a journal say of the entries.
-use Rattle.std.proofs.Common.{◌≡◌, ℕ, zero, suc, Some, List, [], ◌∷◌, ◌++◌, slice_get, length, refl, ap}
+use Rattle.std.proofs.Common.{◌≡◌, ℕ, zero, suc, Some, List, [], ◌∷◌, ◌++◌, slice_get, length, refl, ap, subst}
 use mathlib.Core.List.{IsPrefix}
 use Rattle.std.proofs.lemmas.List.{map_push}
+use Rattle.bcast_model.proofs.DeliveryLists.{in_longer}
 use Rattle.bcast_record.specs.declared.entry.Entry.{Entry}
 use Rattle.bcast_history.specs.declared.step.Opening.{Opening}
 use Rattle.bcast_record.specs.declared.entry.Note.TheVariants as note
@@ -9,10 +10,7 @@ use Rattle.bcast_record.specs.Recording.{notes_of}
 
 -- what a list has at a place, a longer one has there
 pub found_there : {X : Type 0} (xs ys : List X) → IsPrefix xs ys → (place : ℕ) (x : X) → slice_get xs place ≡ Some x → slice_get ys place ≡ Some x
-found_there [] ys p place x at = absurd cc
-found_there (y ∷ xs) [] p place x at = absurd (cc (p.1))
-found_there (y ∷ xs) (z ∷ ys) p zero x at = cc (p.1, at)
-found_there (y ∷ xs) (z ∷ ys) p (suc place) x at = found_there xs ys (p.0, cc (p.1)) place x at
+found_there xs ys p place x at = subst (λ all. slice_get all place ≡ Some x) p.1 (in_longer xs p.0 place x at)
 
 module _ {T : Type 0} where
   -- the entry of a note is one place before it

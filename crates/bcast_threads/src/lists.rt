@@ -106,8 +106,8 @@ fn lists_received<J: Channel>(
     Ok(lists)
 }
 
-/// The numbers from 0 on that were sent, up to the one that is returned, by the senders as they
-/// were started, the last one first.
+// How many numbers from 0 on were sent, without a gap. In `senders` the one that was started last is
+// the first.
 fn numbers_sent<J: Channel>(mut senders: Vec<Sent<J>>, seen: &mut Seen<u64, J>) -> u64
     ensures { WereSent J.opening 0 result seen.new }
 {

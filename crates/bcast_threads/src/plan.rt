@@ -36,11 +36,12 @@ pub struct Plan {
     pub receiver_stack: usize,
 }
 
-/// Lets `s` threads send `m` numbers each over one channel to `r` threads, and prints on `output`
-/// whether all receivers saw one order: the same numbers, each of the `s * m` once.
+/// Lets so many senders send so many messages each, which are numbers, over one channel to so many
+/// receivers, a thread each, and prints on `output` whether all receivers saw one order: the same
+/// numbers, each of the `senders * messages` once.
 ///
-/// Sender number i, from 0 on, sends the `m` numbers from `i * m` on in rising order. All receivers
-/// are made before a thread starts.
+/// Sender number i, from 0 on, sends the numbers from `i * messages` on in rising order. All
+/// receivers are made before a thread starts.
 ///
 /// Returns `Done` or `Differ` by what was seen. All receivers see the same list (`lists_of`), so
 /// `Differ` says that it isn't each number once, or that a receiver missed messages. `NoThread` if
@@ -49,22 +50,22 @@ pub struct Plan {
 pub fn threads<R: Threads + Wait + Clone + Send + 'static, W: Write>(
     rt: &R,
     alloc: Global,
-    s: u64,
-    r: u64,
-    m: u64,
+    senders: u64,
+    receivers: u64,
+    messages: u64,
     output: &mut W,
 ) -> Ending
-    requires senders { (0 < s) × (s ≤ 64) }
-    requires receivers { (0 < r) × (r ≤ 64) }
-    requires messages { (0 < m) × (m ≤ 100000) }
+    requires senders { (0 < senders) × (senders ≤ 64) }
+    requires receivers { (0 < receivers) × (receivers ≤ 64) }
+    requires messages { (0 < messages) × (messages ≤ 100000) }
     ensures ending { IsEnding result }
     ensures text { result ≢ Ending.OutputFailed → Appends (W.contents output.old)
-        (W.contents output.new) (printed_text result r (s * m)) }
+        (W.contents output.new) (printed_text result receivers (senders * messages)) }
 {
     let plan = Plan {
-        senders: s,
-        receivers: r,
-        messages: m,
+        senders,
+        receivers,
+        messages,
         capacity: CAPACITY,
         sender_stack: STACK,
         receiver_stack: STACK,

@@ -1,9 +1,8 @@
 //! What each thread does with its handle.
 ghost use Rattle.std.specs.Prelude.{◌≡◌, true, IfErr};
-ghost use Rattle.bcast_history.specs.History.{accepted_by, end_of};
+ghost use Rattle.bcast_history.specs.History.{end_of};
 ghost use Rattle.bcast_history.specs.Reader.{StartsAtTheFirst};
-ghost use Rattle.bcast_threads.specs.Lists.{HasAll};
-ghost use Rattle.bcast_threads.specs.Closed.{AreBeforeClosing};
+ghost use Rattle.bcast_threads.specs.Closed.{WereSent};
 
 use crate::fault::Fault;
 use bcast_history::{
@@ -19,17 +18,18 @@ pub struct Sent<J: Channel> {
     pub first: u64,
     pub end: u64,
     pub seen: Seen<u64, J>,
-    ghost sent: { HasAll first end (accepted_by J.opening seen) },
-    ghost before: { AreBeforeClosing J.opening first end seen },
+    ghost were: { WereSent J.opening first end seen },
 }
 
-/// Sends `count` numbers from `first` on, in rising order, unless the channel is closed before.
-/// Returns those that it sent.
+/// Sends `count` numbers from `first` on, in rising order, until one is refused. Returns those that
+/// it sent.
 pub fn send_all<J: Channel, P: HistoryPort<u64, J>>(
     sender: TrackedSender<u64, P, J>,
     first: u64,
     count: u64,
-) -> Sent<J> {
+) -> Sent<J>
+    ensures { result.first ≡ first }
+{
     sends_stand_last::<u64>();
     let mut sender = sender;
     let mut end = first;

@@ -2,10 +2,6 @@
 use Rattle.std.proofs.Common.{◌≡◌, ℕ, zero, suc, List, [], ◌∷◌, Option, None, refl, ap}
 use Rattle.claims.specs.Claims.{claim_of, put}
 
--- at first no key is claimed
-pub none_claimed : (key : ℕ) → claim_of [] key ≡ None
-none_claimed key = refl
-
 -- the key has the claim that was put
 pub put_same : (cs : List (Option ℕ)) (key : ℕ) (new : Option ℕ) → claim_of (put cs key new) key ≡ new
 put_same [] zero new = refl

@@ -1,11 +1,10 @@
 //! Receives in a task.
 ghost use Rattle.std.specs.Prelude.{◌≡◌, ◌⊎◌, true, Ok, Err, IfOk, IfErr, OnErr};
-ghost use mathlib.Core.List.{IsPrefix};
 ghost use Rattle.futures.specs.Task.{IsArmed, Keeps};
 ghost use Rattle.futures.specs.Poll.{OnPending};
 ghost use Rattle.bcast_history.specs.History.{end_of};
-ghost use Rattle.bcast_history.specs.Makes.{MakesCall, MakesReceives};
-ghost use Rattle.bcast_history.specs.Reader.{IsShared, Takes, TakesNext, as_found};
+ghost use Rattle.bcast_history.specs.Makes.{MakesReceives, PollsOnce};
+ghost use Rattle.bcast_history.specs.Reader.{IsShared, TakesNext};
 ghost use Rattle.bcast_history.specs.Tracker.{number};
 
 use super::TrackedReceiver;
@@ -13,7 +12,7 @@ use crate::caller::Channel;
 use crate::port::HistoryPort;
 use crate::tracker::{ReceiverTracker, Tracker};
 use async_broadcast::RecvError;
-use bcast_core::{Call, PollRecv, Reply};
+use bcast_core::PollRecv;
 use futures::task::{Context, Poll};
 use std::alloc::AllocError;
 use std::sync::Wait;
@@ -32,19 +31,11 @@ impl<T: Clone, P: HistoryPort<T, J>, J: Channel> TrackedReceiver<T, P, J> {
         &mut self,
         cx: &mut Context<'_>,
     ) -> Result<Poll<Option<Result<T, RecvError>>>, AllocError>
-        ensures key { self.new.tracker.key ≡ self.old.tracker.key }
-        ensures seen { IsPrefix self.old.tracker.steps self.new.tracker.steps }
-        ensures takes { IfOk result (λ poll. Takes T.is_clone J.opening self.old.tracker
-            self.new.tracker (as_found (Ok poll))) }
-        ensures made { IfOk result (λ poll. MakesCall P.learns T.is_clone J.opening
-            self.old.tracker (Call.PollRecv self.old.tracker.key)
-            (Reply.PollRecv (Ok poll)) self.new.tracker) }
+        ensures polled { IfOk result (λ poll. PollsOnce P.learns T.is_clone J.opening
+            self.old.tracker self.new.tracker (Ok poll)) }
         ensures refused { IfErr result (λ error. ((self.new.tracker ≡ self.old.tracker)
-            × (self.new.waker.is_refused ≡ true))
-            ⊎ (Takes T.is_clone J.opening self.old.tracker self.new.tracker (as_found (Err error))
-            × MakesCall P.learns T.is_clone J.opening self.old.tracker
-            (Call.PollRecv self.old.tracker.key) (Reply.PollRecv (Err error))
-            self.new.tracker)) }
+            × (self.new.waker.is_refused ≡ true)) ⊎ PollsOnce P.learns T.is_clone J.opening
+            self.old.tracker self.new.tracker (Err error)) }
         ensures registered { IfOk result (λ poll. OnPending poll (IsArmed cx.new)) }
         ensures kept { Keeps cx.old cx.new }
     {

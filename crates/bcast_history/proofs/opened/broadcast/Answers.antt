@@ -1,4 +1,4 @@
--- The first receiver starts with the first message, and its place is claimed.
+-- The first receiver starts with the first message, and its cursor is claimed.
 use Rattle.std.proofs.Common.{ap, ◌∙◌, refl}
 use Rattle.bcast_history.specs.History.{start_of, end_of}
 use Rattle.bcast_history.proofs.Claimed.{first_claimed, placed}
@@ -15,5 +15,5 @@ pub invariant_of-caller : goal.invariant_of-caller
 invariant_of-caller g c =
     let is = ap (λ o. o.opening) c.opened.view_is ∙ c.requires.1 in
     let first = first_tracked is (c.seen.ensures ∙ c.new-steps.ensures) in
-    let place = placed (end_of g.J.Channel.opening c.seen.result).control c.new-cursor.ensures.made first.1 (ap (λ o. o.registry) c.opened.view_is ∙ c.requires.2) in
-    (first.0, place.0, place.1)
+    let at = placed (end_of g.J.Channel.opening c.seen.result).control c.new-cursor.ensures.made first.1 (ap (λ o. o.registry) c.opened.view_is ∙ c.requires.2) in
+    (first.0, at.0, at.1)

@@ -16,6 +16,6 @@ loop-sent-preserved g c =
           let test = w.if-sent-end.true in
           rw w.end-is
           (both_sent o 0 c.loop-sent.end sent.first sent.end later (grind (arith, common_steps, test)) so_far
-          (still_sent o sent.first sent.end sent.seen later c.learn.ensures.other (record { sent = sent.sent; before = sent.before })))
+          (still_sent o sent.first sent.end sent.seen later c.learn.ensures.other sent.were))
       | else-sent-end w ↦ rw w.end-is so_far
     ]

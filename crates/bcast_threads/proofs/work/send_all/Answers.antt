@@ -26,4 +26,4 @@ invariant_of-result g c =
           rw w.sender-is (all_after c.args.first c.loop-msg.end w.broadcast_blocking.ensures.follows c.loop-msg.invariant.sent)
     ] in
     rw c.seen-seen.ensures
-    (record { sent = sent; before = before_closing _ o c.args.first c.loop-msg.end steps c.invariant_holds.ensures.run sent })
+    (record { were = record { sent = sent; before = before_closing _ o c.args.first c.loop-msg.end steps c.invariant_holds.ensures.run sent } })

@@ -12,4 +12,4 @@ returns-in-Ok-clause-made g c = by_key g.met.P.HistoryPort.follows c.tracker.vie
 pub returns-in-Err-clause-refused : goal.returns-in-Err-clause-refused
 returns-in-Err-clause-refused g c =
     let same = (leaves_not g.met.P.HistoryPort.follows c.tracker.view_is c.key.ensures c.tracker.invariant c.in-Err.ensures).same in
-    rw c.new.ensures (same.0, same.1, by_key g.met.P.HistoryPort.follows c.tracker.view_is c.key.ensures c.tracker.invariant call.Deactivate c.in-Err.ensures)
+    rw c.new.ensures (same, by_key g.met.P.HistoryPort.follows c.tracker.view_is c.key.ensures c.tracker.invariant call.Deactivate c.in-Err.ensures)

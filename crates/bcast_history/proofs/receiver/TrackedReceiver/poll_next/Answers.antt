@@ -10,20 +10,20 @@ use Rattle.bcast_history.proofs.receiver.TrackedReceiver.poll_next.Goals as goal
 
 pub loop-preserved : goal.loop-preserved
 loop-preserved g c =
-    let polled = c.in_ok-next.ensures in
+    let polled = c.in_ok-next.ensures.polled in
     let received = c.in-Err.is ∙ ap Err c.in-Overflowed.is in
     let found = c.in-Ready.is ∙ ap poll.Ready (c.in-Some-next.is ∙ ap Some received) in (
       tt,
       tt,
-      skips _ _ _ _ _ c.loop.invariant.2 polled.seen _ _ (ap Ok found) (receives_one polled.key (inr refl) polled.made) polled.takes,
-      λ fact held. polled.kept fact (c.loop.invariant.3 fact held),
+      skips _ _ _ _ _ c.loop.invariant.2 polled.seen _ _ (ap Ok found) (receives_one (inr refl) polled) polled.takes,
+      λ fact held. c.in_ok-next.ensures.kept fact (c.loop.invariant.3 fact held),
     )
 
 pub returns-in_err-next-clause-takes : goal.returns-in_err-next-clause-takes
 returns-in_err-next-clause-takes g c =
     let polled = c.in_err-next.ensures in
-    errs_next g.T.Clone.is_clone _ _ c.loop.self.tracker c.poll_recv.new.self.tracker c.loop.invariant.2 polled.seen c.from_residual.result c.from_residual.ensures.0
-    (elim polled.refused [ inl same ↦ ap (λ (t : Tracker g.row.T.Denot). number t.next) same.0 | inr made ↦ made.0.0 ])
+    errs_next g.T.Clone.is_clone _ _ c.loop.self.tracker c.poll_recv.new.self.tracker c.loop.invariant.2 (receives_refused polled.refused).seen c.from_residual.result c.from_residual.ensures.0
+    (elim polled.refused [ inl same ↦ ap (λ (t : Tracker g.row.T.Denot). number t.next) same.0 | inr by ↦ by.takes.0 ])
 
 pub returns-in_err-next-clause-refused : goal.returns-in_err-next-clause-refused
 returns-in_err-next-clause-refused g c =
@@ -31,43 +31,43 @@ returns-in_err-next-clause-refused g c =
     let h = end_of g.J.Channel.opening c.poll_recv.new.self.tracker.steps in
     on_err c.from_residual.result (elim polled.refused [
       | inl same ↦ inl same.1
-      | inr made ↦ inr (subst (λ key. IsShared h key (number c.poll_recv.new.self.tracker.next)) (sym polled.key) (subst (IsShared h c.loop.self.tracker.key) (sym made.0.0) made.0.1))
+      | inr by ↦ inr (subst (λ key. IsShared h key (number c.poll_recv.new.self.tracker.next)) (sym by.key) (subst (IsShared h c.loop.self.tracker.key) (sym by.takes.0) by.takes.1))
     ])
 
 pub returns-in_default-clause-takes : goal.returns-in_default-clause-takes
 returns-in_default-clause-takes g c =
-    let polled = c.in_ok-next.ensures in
-    finds_next g.T.Clone.is_clone _ _ c.loop.self.tracker c.poll_recv.new.self.tracker c.loop.invariant.2 polled.seen (Ok poll.Pending) (rw c.in_default.is at polled.takes)
+    let polled = c.in_ok-next.ensures.polled in
+    finds_next g.T.Clone.is_clone _ _ c.loop.self.tracker c.poll_recv.new.self.tracker c.loop.invariant.2 polled.seen poll.Pending (rw c.in_default.is at polled.takes)
 
 pub returns-in_default-next-clause-takes : goal.returns-in_default-next-clause-takes
 returns-in_default-next-clause-takes g c =
-    let polled = c.in_ok-next.ensures in
-    finds_next g.T.Clone.is_clone _ _ c.loop.self.tracker c.poll_recv.new.self.tracker c.loop.invariant.2 polled.seen (Ok (poll.Ready None))
+    let polled = c.in_ok-next.ensures.polled in
+    finds_next g.T.Clone.is_clone _ _ c.loop.self.tracker c.poll_recv.new.self.tracker c.loop.invariant.2 polled.seen (poll.Ready None)
     (rw (c.in-Ready.is, c.in_default-next.is) at polled.takes)
 
 pub returns-in-Ok-clause-takes : goal.returns-in-Ok-clause-takes
 returns-in-Ok-clause-takes g c =
-    let polled = c.in_ok-next.ensures in
-    finds_next g.T.Clone.is_clone _ _ c.loop.self.tracker c.poll_recv.new.self.tracker c.loop.invariant.2 polled.seen (Ok (poll.Ready (Some c.in-Ok.msg)))
+    let polled = c.in_ok-next.ensures.polled in
+    finds_next g.T.Clone.is_clone _ _ c.loop.self.tracker c.poll_recv.new.self.tracker c.loop.invariant.2 polled.seen (poll.Ready (Some c.in-Ok.msg))
     (rw (c.in-Ready.is, c.in-Some-next.is, c.in-Ok.is) at polled.takes)
 
 pub returns-in-Closed-clause-takes : goal.returns-in-Closed-clause-takes
 returns-in-Closed-clause-takes g c =
-    let polled = c.in_ok-next.ensures in
-    finds_next g.T.Clone.is_clone _ _ c.loop.self.tracker c.poll_recv.new.self.tracker c.loop.invariant.2 polled.seen (Ok (poll.Ready None))
+    let polled = c.in_ok-next.ensures.polled in
+    finds_next g.T.Clone.is_clone _ _ c.loop.self.tracker c.poll_recv.new.self.tracker c.loop.invariant.2 polled.seen (poll.Ready None)
     (rw (c.in-Ready.is, c.in-Some-next.is, c.in-Err.is, c.in-Closed.is) at polled.takes)
 
 pub returns-in_err-next-clause-only : goal.returns-in_err-next-clause-only
-returns-in_err-next-clause-only g c = receives_on c.loop.invariant.2.made (receives_refused c.in_err-next.ensures.key c.in_err-next.ensures.refused)
+returns-in_err-next-clause-only g c = receives_on c.loop.invariant.2.made (receives_refused c.in_err-next.ensures.refused)
 
 pub returns-in_default-clause-only : goal.returns-in_default-clause-only
-returns-in_default-clause-only g c = receives_on c.loop.invariant.2.made (receives_one c.in_ok-next.ensures.key (inr refl) c.in_ok-next.ensures.made)
+returns-in_default-clause-only g c = receives_on c.loop.invariant.2.made (receives_one (inr refl) c.in_ok-next.ensures.polled)
 
 pub returns-in_default-next-clause-only : goal.returns-in_default-next-clause-only
-returns-in_default-next-clause-only g c = receives_on c.loop.invariant.2.made (receives_one c.in_ok-next.ensures.key (inr refl) c.in_ok-next.ensures.made)
+returns-in_default-next-clause-only g c = receives_on c.loop.invariant.2.made (receives_one (inr refl) c.in_ok-next.ensures.polled)
 
 pub returns-in-Ok-clause-only : goal.returns-in-Ok-clause-only
-returns-in-Ok-clause-only g c = receives_on c.loop.invariant.2.made (receives_one c.in_ok-next.ensures.key (inr refl) c.in_ok-next.ensures.made)
+returns-in-Ok-clause-only g c = receives_on c.loop.invariant.2.made (receives_one (inr refl) c.in_ok-next.ensures.polled)
 
 pub returns-in-Closed-clause-only : goal.returns-in-Closed-clause-only
-returns-in-Closed-clause-only g c = receives_on c.loop.invariant.2.made (receives_one c.in_ok-next.ensures.key (inr refl) c.in_ok-next.ensures.made)
+returns-in-Closed-clause-only g c = receives_on c.loop.invariant.2.made (receives_one (inr refl) c.in_ok-next.ensures.polled)

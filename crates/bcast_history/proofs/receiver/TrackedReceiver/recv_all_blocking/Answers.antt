@@ -1,4 +1,5 @@
 -- The log goes on, and is whole once the channel is closed.
+use Rattle.bcast_history.proofs.Closed.{closed_is_last}
 use Rattle.bcast_history.proofs.Logged.{longer, refused, whole}
 use Rattle.bcast_history.proofs.Receiving.{receives_on}
 use Rattle.bcast_history.proofs.receiver.TrackedReceiver.recv_all_blocking.Goals as goal
@@ -25,7 +26,7 @@ invariant_of-result g c =
     let received = c.recv_many_blocking.ensures in
     let takes = rw (c.in-Ok-Err-Closed.is, c.in-Ok-Err-Closed.field-0-is, c.in-Ok-Err-Closed.field-0-0-is) at received.takes in
     rw (takes.0, c.seen-seen.ensures)
-    (whole _ c.recv_many_blocking.new.self.tracker c.loop.invariant.3 received.only.seen takes.1.0 c.invariant_holds.ensures.lawful.run)
+    (whole _ c.recv_many_blocking.new.self.tracker c.loop.invariant.3 received.only.seen takes.1.takes c.invariant_holds.ensures.lawful.run)
 
 pub returns-in-Ok-Err-Closed-clause-only : goal.returns-in-Ok-Err-Closed-clause-only
 returns-in-Ok-Err-Closed-clause-only g c = receives_on c.loop.invariant.2 c.recv_many_blocking.ensures.only
@@ -35,3 +36,8 @@ returns-in-Ok-Err-Overflowed-clause-only g c = receives_on c.loop.invariant.2 c.
 
 pub returns-in-Err-recv_many_blocking-clause-only : goal.returns-in-Err-recv_many_blocking-clause-only
 returns-in-Err-recv_many_blocking-clause-only g c = receives_on c.loop.invariant.2 c.recv_many_blocking.ensures.only
+
+pub returns-in-Ok-Err-Closed-clause-read : goal.returns-in-Ok-Err-Closed-clause-read
+returns-in-Ok-Err-Closed-clause-read g c =
+    let takes = rw (c.in-Ok-Err-Closed.is, c.in-Ok-Err-Closed.field-0-is, c.in-Ok-Err-Closed.field-0-0-is) at c.recv_many_blocking.ensures.takes in
+    (closed_is_last g.T.Clone.is_clone).said g.J.Channel.opening c.loop.self.tracker c.recv_many_blocking.new.self.tracker takes.1.takes

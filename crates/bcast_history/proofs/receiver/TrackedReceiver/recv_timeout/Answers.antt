@@ -9,12 +9,8 @@ invariant_of-inner g c = (g.met.P.HistoryPort.follows _ _ _ _ c.receive_within.e
 
 pub invariant_of-self : goal.invariant_of-self
 invariant_of-self g c =
-    (receives g.met.P.HistoryPort.follows (c.inner-2.view_is ∙ c.inner.view_is) c.key-key.ensures (subst IsReceiver (sym c.inner-2.view_is) c.inner.invariant) c.receive_within.ensures.learned).0.still.1
+    (receives g.met.P.HistoryPort.follows (c.inner-2.view_is ∙ c.inner.view_is) c.key-key.ensures (subst IsReceiver (sym c.inner-2.view_is) c.inner.invariant) c.receive_within.ensures.learned).0
 
-pub returns-clause-seen : goal.returns-clause-seen
-returns-clause-seen g c =
-    (receives g.met.P.HistoryPort.follows (c.inner-2.view_is ∙ c.inner.view_is) c.key-key.ensures (subst IsReceiver (sym c.inner-2.view_is) c.inner.invariant) c.receive_within.ensures.learned).0.seen
-
-pub returns-clause-received : goal.returns-clause-received
-returns-clause-received g c =
+pub returns : goal.returns
+returns g c =
     (receives g.met.P.HistoryPort.follows (c.inner-2.view_is ∙ c.inner.view_is) c.key-key.ensures (subst IsReceiver (sym c.inner-2.view_is) c.inner.invariant) c.receive_within.ensures.learned).1

@@ -7,8 +7,8 @@ use Rattle.bcast_history.proofs.receiver.TrackedReceiver.try_recv_many.Goals as 
 pub returns-in-None-clause-takes : goal.returns-in-None-clause-takes
 returns-in-None-clause-takes g c =
     let none = rw c.in-None.is at c.in_ok-count.ensures.none in
-    takes_last g.P.Ask.learns g.T.Clone.is_clone g.J.Channel.opening (λ tried. tried) c.try_recv.new.self.tracker c.put_last.new.msgs.items (λ _. refl) c.try_recv.result c.put_last.result none c.try_recv.ensures.received c.put_last.ensures
+    takes_last g.P.Ask.learns g.T.Clone.is_clone g.J.Channel.opening (λ tried. tried) c.try_recv.new.self.tracker c.put_last.new.msgs.items (λ _. refl) c.try_recv.result c.put_last.result none c.try_recv.ensures c.put_last.ensures
 
 pub returns-in-None-clause-only : goal.returns-in-None-clause-only
 returns-in-None-clause-only g c =
-    receives_on c.in_ok-count.ensures.only (receives_one c.try_recv.ensures.key (inl refl) c.try_recv.ensures.received.1)
+    receives_on c.in_ok-count.ensures.only (receives_one (inl refl) c.try_recv.ensures)

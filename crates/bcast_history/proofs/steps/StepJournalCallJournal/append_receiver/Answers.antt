@@ -1,4 +1,4 @@
--- The steps are a lawful run with one more, and the place of the receiver that was added is claimed.
+-- The steps are a lawful run with one more, and the cursor of the receiver that was added is claimed.
 use Rattle.std.proofs.Common.{◌≡◌, Some, None, refl, sym, ap, ◌∙◌, subst}
 use Rattle.claims.specs.Claims.{claim_of, put}
 use Rattle.bcast_model.specs.Words.{View, cursor_of}
@@ -6,8 +6,9 @@ use Rattle.async_broadcast.proofs.Adding.{adding_allowed, adding_moves_none}
 use Rattle.bcast_history.specs.History.{end_of}
 use Rattle.bcast_history.specs.Cursors.{AreCursors}
 use Rattle.bcast_history.proofs.Added.{kept_added, still_free}
-use Rattle.bcast_history.proofs.Claimed.{claimed_there, claims_place, placed, stands, unclaimed}
-use Rattle.bcast_history.proofs.Keeping.{replays, replays_longer, lawful_longer, knows, cursors_kept, learned}
+use Rattle.bcast_history.proofs.Claimed.{claimed_there, claims_cursor, placed, stands, unclaimed}
+use Rattle.bcast_history.proofs.Appends.{replays_longer}
+use Rattle.bcast_history.proofs.Keeping.{replays, lawful_longer, knows, cursors_kept, learned}
 use Rattle.bcast_history.proofs.steps.StepJournalCallJournal.append_receiver.Goals as goal
 
 pub returns-clause-records : goal.returns-clause-records
@@ -42,7 +43,7 @@ invariant_of-self g c =
     sym c.in-Some.is ∙ c.cursor.ensures ∙ ap (λ (v : View g.row.T.Denot). cursor_of v.control c.args.key) new.end in (
       lawful_longer _ _ c.append.ensures.appended (adding_allowed _ c.args.call) c.self.invariant.0 new,
       subst (AreCursors at) (sym (c.new.ensures.registry.1 ∙ ap (put c.read_on.new.registry.claims c.args.key) there))
-          (claims_place at c.read_on.new.registry.claims c.args.key
+          (claims_cursor at c.read_on.new.registry.claims c.args.key
           (cursors_kept c.self.inside.registry.claims c.caller.view_is c.append.ensures.appended old c.requires.answers (adding_moves_none _ _ c.args.call) c.self.invariant.1 c.read_on.ensures.registry.1 stood.next)),
       c.new.ensures.registry.0 ∙ c.read_on.ensures.registry.0 ∙ c.self.invariant.2,
     )
@@ -53,8 +54,8 @@ invariant_of-result g c =
     let new = replays_longer c.append.ensures.appended old c.requires.answers in
     let so = knows g.J.Channel.opening (c.same.ensures ∙ c.append.ensures.knows) new.end c.end_number-caller-inside.ensures in
     let there = ap (λ control. cursor_of control c.args.key) (sym so.1) ∙ sym c.cursor.ensures ∙ c.in-Some.is in
-    let place = placed (end_of g.J.Channel.opening c.same.result).control c.new.ensures.made there (c.read_on.ensures.registry.0 ∙ c.self.invariant.2) in
-    (so.0, place.0, place.1)
+    let at = placed (end_of g.J.Channel.opening c.same.result).control c.new.ensures.made there (c.read_on.ensures.registry.0 ∙ c.self.invariant.2) in
+    (so.0, at.0, at.1)
 
 pub returns-clause-begins : goal.returns-clause-begins
 returns-clause-begins g c =

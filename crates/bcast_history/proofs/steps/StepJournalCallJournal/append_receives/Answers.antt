@@ -24,8 +24,7 @@ pub invariant_of-caller : goal.invariant_of-caller
 invariant_of-caller g c =
     let old = replays _ _ g.row.T.coded c.self.view_is c.requires.recorded c.self.invariant.0 in
     let new = kept_each c.args.key c.args.after.now c.args.msgs.now c.append_each.ensures.appended c.self.invariant.0 old c.requires.received in
-    let some : 0 < length c.args.msgs.now = grind (arith, common_steps) in
-    let so = knows g.J.Channel.opening (c.append_each.ensures.knows some) new.0.end c.end_number-caller-inside.ensures in
+    let so = knows g.J.Channel.opening c.append_each.ensures.knows new.0.end c.end_number-caller-inside.ensures in
     let stood = stands c.read_on.ensures.reads so.1 in
     (so.0, stood.there, stood.registry ∙ c.caller.invariant.2)
 
@@ -39,9 +38,9 @@ returns-clause-learned g c =
     let old = replays _ _ g.row.T.coded c.self.view_is c.requires.recorded c.self.invariant.0 in
     let new = kept_each c.args.key c.args.after.now c.args.msgs.now c.append_each.ensures.appended c.self.invariant.0 old c.requires.received in
     let some : 0 < length c.args.msgs.now = grind (arith, common_steps) in
-    let so = knows g.J.Channel.opening (c.append_each.ensures.knows some) new.0.end c.end_number-caller-inside.ensures in
+    let so = knows g.J.Channel.opening c.append_each.ensures.knows new.0.end c.end_number-caller-inside.ensures in
     let stood = stands c.read_on.ensures.reads so.1 in
     let its = subst (IsOf c.args.key) (sym c.caller.view_is) c.requires.moves in
     told_each c.args.key c.args.after.now c.args.msgs.now c.append_each.ensures.appended c.self.invariant.0 old c.requires.received
-    c.caller.view_is some (c.append_each.ensures.before some) its (claimed_there (end_of g.J.Channel.opening c.self.inside.writer).control _ _ _ c.self.invariant.1 c.read_on.ensures.claimed)
-    (c.append_each.ensures.knows some) stood.key stood.next
+    c.caller.view_is some c.append_each.ensures.before its (claimed_there (end_of g.J.Channel.opening c.self.inside.writer).control _ _ _ c.self.invariant.1 c.read_on.ensures.claimed)
+    c.append_each.ensures.knows stood.key stood.next

@@ -1,4 +1,4 @@
-use Rattle.std.proofs.Common.{◌≡◌, [], ◌∷◌, ◌++◌, Some, suc, length, slice_get, refl, sym, ap, subst, ◌∙◌, arith}
+use Rattle.std.proofs.Common.{◌≡◌, [], ◌∷◌, ◌++◌, Some, suc, length, slice_get, sym, ap, subst, ◌∙◌, arith}
 use Rattle.bcast_record.specs.declared.entry.Entry.{Entry}
 use Rattle.bcast_record.specs.declared.entry.Note.TheVariants as note
 use Rattle.bcast_record.specs.Recording.{notes_of}
@@ -14,9 +14,8 @@ returns-clause-run g c =
     let entries = c.self.inside.entries.items in
     let entry : Entry g.row.T.Denot = record { seat = c.number.result; call = c.args.call; reply = c.step-reply.result } in
     let stored : c.into_entries-stored.result.0 ≡ entry = same_entry _ c.number.result c.in-Some.spares.stored c.args.call c.step-reply.result c.into_entries-stored.ensures.stored c.in-Some.ensures.stored in
-    (replays_push g.T.Clone.is_clone opening entries c.push_reserved.new.self.items c.self.inside.inner c.step-reply.new.inner entry c.args.call
-    (c.push_reserved.ensures.items ∙ (λ i. c.room.ensures.items i ++ stored i ∷ []))
-    refl c.self.invariant.0 c.step-reply.ensures.answers).run
+    (replays_push opening entries c.push_reserved.new.self.items entry (c.push_reserved.ensures.items ∙ (λ i. c.room.ensures.items i ++ stored i ∷ []))
+    c.self.invariant.0 c.step-reply.ensures.answers).run
 
 pub invariant_of-self : goal.invariant_of-self
 invariant_of-self g c =
@@ -56,8 +55,7 @@ invariant_of-self-2 g c =
     let given : c.into_entries-stored.result.1 ≡ entry = same_entry _ c.number.result c.in-Some.spares.given c.args.call c.step-reply.result c.into_entries-stored.ensures.given c.in-Some.ensures.given in
     let pushed : c.push_reserved.new.self.items ≡ entries ++ entry ∷ [] =
     c.push_reserved.ensures.items ∙ (λ i. c.room.ensures.items i ++ stored i ∷ []) in (
-      replays_push g.T.Clone.is_clone opening entries c.push_reserved.new.self.items c.self.inside.inner c.step-reply.new.inner entry c.args.call
-          pushed refl before.0 c.step-reply.ensures.answers,
+      replays_push opening entries c.push_reserved.new.self.items entry pushed before.0 c.step-reply.ensures.answers,
       c.append.ensures.appended ∙ (λ i. before.1 i ++ note.Answered (given i) ∷ []) ∙ sym (notes_of-push opening entries entry) ∙ ap (notes_of opening) (sym pushed),
       omega (arith, c.add_call.ensures.calls, before.2, c.push_reserved.ensures.len, c.room.ensures.len),
       before.3,
