@@ -62,6 +62,13 @@ names_after names (line.Follow topic new) (answer.Done (reply.NewReceiver (Ok ke
 names_after names (line.Leave who) a = update bytes_eq names who.now None
 names_after names asked a = names
 
+-- a line whose follower's name is in use and must not be, or must be and is not
+abbrev pub IsAboutNobody : Names → Line → Type 0
+IsAboutNobody names (line.Follow topic new) = names new.now ≢ None
+IsAboutNobody names (line.Receive who) = names who.now ≡ None
+IsAboutNobody names (line.Leave who) = names who.now ≡ None
+IsAboutNobody names asked = ⊥
+
 -- the line that answers, its LF aside; none if the line is not a call or there was no memory
 abbrev pub answer_of : Answer ℕ → Option (List ℕ)
 answer_of answer.BadName = None
@@ -89,14 +96,6 @@ module _ (A : Type 0) where
   IsTopicsLine old line text new =
       (asked : Line) × (line ≡ text_of asked) × IsInForm asked × IsMade old asked text new
 
--- a line whose follower's name is in use and must not be, or must be and is not
-abbrev pub IsAboutNobody : Names → Line → Type 0
-IsAboutNobody names (line.Follow topic new) = names new.now ≢ None
-IsAboutNobody names (line.Receive who) = names who.now ≡ None
-IsAboutNobody names (line.Leave who) = names who.now ≡ None
-IsAboutNobody names asked = ⊥
-
-module _ (A : Type 0) where
   -- a line that asks for a request whose topic's name is not valid
   pub record IsMisnamed (names : Names) (asked : Line) : Type 0 where
     pub request : Request ℕ A

@@ -1,5 +1,5 @@
 //! The channel of a script, with its receivers' names.
-ghost use Rattle.std.specs.Prelude.{◌≡◌, ◌≢◌, ◌<◌, ◌⊎◌, ℕ, List, [], ◌∷◌, ◌++◌, None, Some, Err, IfOk, OnOk};
+ghost use Rattle.std.specs.Prelude.{◌≡◌, ◌≢◌, ◌<◌, ◌⊎◌, ℕ, List, [], ◌∷◌, ◌++◌, Some, Err, IfOk, OnOk};
 ghost use Rattle.std.specs.Io.KnownBytes.{Appends};
 ghost use Rattle.bcast_text.specs.ScriptLine.{IsInForm};
 ghost use Rattle.bcast_play.specs.ScriptRun.{AreGiven, AsksForNone, IsGivenNone, IsMade, IsNew};

@@ -1,27 +1,26 @@
 //! The run of lines on topics.
-ghost use Rattle.std.specs.Prelude.{◌≡◌, ◌≢◌, ◌⊎◌, ℕ, List, Err, OnOk, true};
+ghost use Rattle.std.specs.Prelude.{◌≡◌, ◌≢◌, ◌↔◌, ◌⊎◌, ℕ, List, [], ◌∷◌, ◌++◌, Err, OnOk, IsNone, IsSome, IfSome, true};
 ghost use Rattle.std.specs.Io.KnownBytes.{Appends};
 ghost use Rattle.bcast_text.specs.Run.{IsRun};
 ghost use Rattle.topics.specs.Hub.{topic_of};
 ghost use Rattle.bcast_play.specs.TopicsLine.{IsInForm};
-ghost use Rattle.bcast_play.specs.TopicsRun.{Followed, IsMade, IsTopicsLine, IsNoTopicsLine, AsksForNone, IsWithoutTopics, IsWithoutFollowers};
+ghost use Rattle.bcast_play.specs.TopicsRun.{Followed, answer_of, IsMade, IsTopicsLine, IsNoTopicsLine, AsksForNone, IsWithoutTopics, IsWithoutFollowers};
 ghost use Rattle.bcast_play.specs.TopicsShown.{followed_of};
 
-mod answer;
 mod followers;
 mod line;
 
 use crate::session::LONGEST;
-use answer::answer;
 use bcast_text::ending::Ending;
 use bcast_text::input::{Fault, RunLine, run_lines};
+use bcast_text::script;
 use followers::{Followers, record, request_by};
 use line::{Line, read_line};
 use std::alloc::Allocator;
 use std::hash::{BuildHasher, RandomState};
 use std::io::{Read, Write};
 use std::random::RandomSource;
-use topics::Hub;
+use topics::{Answer, Hub};
 
 /// Lines on topics that are being run: the topics, and their followers by name.
 #[derive(Drop)]
@@ -73,22 +72,39 @@ impl<A: Allocator + Copy, S: BuildHasher> RunLine for HubSession<A, S> {
     }
 }
 
+/// Writes the line that answers a request to which the hub gave this answer.
+fn answer<W: Write>(answered: &Answer<u64>, output: &mut W) -> Result<(), Fault>
+    ensures text { OnOk result (IfSome (answer_of answered.now) (λ text.
+        Appends (W.contents output.old) (W.contents output.new) (text ++ 10 ∷ []))) }
+    ensures answered { OnOk result (IsSome (answer_of answered.now)) }
+    ensures not_a_call { (result ≡ Err Fault.NotACall) ↔ (answered.now ≡ Answer.BadName) }
+    ensures no_memory { result ≡ Err Fault.NoMemory → IsNone (answer_of answered.now) }
+    ensures unwritten { (result ≡ Err Fault.NotACall) ⊎ (result ≡ Err Fault.NoMemory)
+        → output.new ≡ output.old }
+{
+    match answered {
+        Answer::BadName => return Err(Fault::NotACall),
+        Answer::Memory => return Err(Fault::NoMemory),
+        Answer::Opened => output.write_all(b"ok\n")?,
+        Answer::Exists => output.write_all(b"exists\n")?,
+        Answer::NoTopic => output.write_all(b"no topic\n")?,
+        Answer::Done(reply) => script::answer::answer(reply, output)?,
+    }
+    Ok(())
+}
+
 /// Runs the lines on topics that `input` holds, one by one, on `hub`, and writes an answer to each
 /// line.
 ///
 /// `output` is flushed before each read that may wait for more input, and at the end. The first
 /// line that is not a call ends the run. An input without lines is done. No follower has a name at
 /// the start. The hub hashes the names of topics by a `RandomState`, since lines choose them.
-pub fn hub_script<A, R, W>(
+pub fn hub_script<A: Allocator + Copy, R: Read + Drop, W: Write>(
     alloc: A,
     hub: Hub<u64, A, RandomState>,
     input: R,
     output: &mut W,
 ) -> Ending
-where
-    A: Allocator + Copy,
-    R: Read + Drop,
-    W: Write,
     ensures { result ≢ Ending.OutputFailed → (first last : Followed)
         × IsWithoutFollowers (topic_of hub) first
         × IsRun (IsNoTopicsLine A) true LONGEST (IsTopicsLine A) (R.remaining input)

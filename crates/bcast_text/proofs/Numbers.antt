@@ -1,5 +1,5 @@
 -- What `parse` reads, compared with what `decimal` spells.
-use Rattle.std.proofs.Common.{rules, arith, refl, IfSome, ◌≡◌, ◌≢◌, ◌<◌, ◌^◌, ℕ, length, List, get_or, suc, zero}
+use Rattle.std.proofs.Common.{rules, arith, sym, ap, ◌∙◌, IfSome, ◌≡◌, ◌≢◌, ◌<◌, ◌^◌, ℕ, length, List, get_or, suc, zero}
 use Rattle.std.specs.Prelude.{Result, Ok, Err}
 use Rattle.std.specs.Result.{result_ok}
 use Rattle.std.specs.Fmt.{decimal}
@@ -11,16 +11,11 @@ use Rattle.std.proofs.lemmas.Str.Parse.{IsNumeralModel, numerals_by_value, parse
 pub digits : IsNumeralModel (AllDigits 10) (digits_value 10)
 digits = numerals_by_value (AllDigits 10) tells_digits
 
--- a text without a sign or leading zeros, which `parse` reads as n, is what `decimal` spells for n
-pub parsed_is_spelt : {E : Type 0} (bs : List ℕ) (r : Result ℕ E) → ParsesUnsigned 64 10 bs r → get_or bs 0 0 ≢ 43 → (get_or bs 0 0 ≡ 48 → length bs ≡ 1) → (n : ℕ) → r ≡ Ok n → bs ≡ decimal n
-parsed_is_spelt {E} bs (Ok m) h plain lone n e =
-    let read = parse_plain digits {E = E} 64 bs (Ok m) h plain in
-    search (rules, decimal-digits_value digits bs read.0.0 read.0.1 lone read.0.2, read.1, e)
-parsed_is_spelt {E} bs (Err x) h plain lone n e = search rules
-
--- if `parse` finds a number, its text is what `decimal` spells for it
+-- if `parse` reads a number from a text without a sign or leading zeros, `decimal` spells that text
 pub spelt_if_parsed : {E : Type 0} (bs : List ℕ) (r : Result ℕ E) → ParsesUnsigned 64 10 bs r → get_or bs 0 0 ≢ 43 → (get_or bs 0 0 ≡ 48 → length bs ≡ 1) → IfSome (result_ok r) (λ n. bs ≡ decimal n)
-spelt_if_parsed {E} bs (Ok n) h plain lone = parsed_is_spelt {E = E} bs (Ok n) h plain lone n refl
+spelt_if_parsed {E} bs (Ok n) h plain lone =
+    let read = parse_plain digits {E = E} 64 bs (Ok n) h plain in
+    sym (decimal-digits_value digits bs read.0.0 read.0.1 lone read.0.2) ∙ ap decimal (sym read.1)
 spelt_if_parsed {E} bs (Err x) h plain lone = search rules
 
 -- no number is written with a plus

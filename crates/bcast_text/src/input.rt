@@ -82,18 +82,13 @@ pub trait RunLine {
 /// The answers are written before each read that may wait for more input, and at the end. An input
 /// without lines has a fault in line 1, unless the program may be empty. A line of number
 /// `u64::MAX` is not run.
-pub fn run_lines<A, R, W, P>(
+pub fn run_lines<A: Allocator + Copy, R: Read + Drop, W: Write, P: RunLine>(
     alloc: A,
     input: R,
     longest: u32,
     output: &mut W,
     program: &mut P,
 ) -> Ending
-where
-    A: Allocator + Copy,
-    R: Read + Drop,
-    W: Write,
-    P: RunLine,
     ensures { result ≢ Ending.OutputFailed
         → IsRun P.refuses P.MAY_BE_EMPTY longest P.answers (R.remaining input)
         (W.contents output.old) (W.contents output.new)
@@ -111,12 +106,11 @@ where
 }
 
 /// Runs the lines up to the first one that is not run to its end.
-fn each_line<A, R, W, P>(lines: &mut Lines<R, A>, output: &mut W, program: &mut P) -> Ending
-where
-    A: Allocator + Copy,
-    R: Read + Drop,
-    W: Write,
-    P: RunLine,
+fn each_line<A: Allocator + Copy, R: Read + Drop, W: Write, P: RunLine>(
+    lines: &mut Lines<R, A>,
+    output: &mut W,
+    program: &mut P,
+) -> Ending
     ensures { result ≢ Ending.OutputFailed
         → IsRun P.refuses P.MAY_BE_EMPTY (longest_of lines.old) P.answers
         (unread R.remaining lines.old) (W.contents output.old) (W.contents output.new)
@@ -133,17 +127,12 @@ where
 }
 
 /// Runs the next line, which has this number, if there is one, or returns how the run ends.
-fn next_line<A, R, W, P>(
+fn next_line<A: Allocator + Copy, R: Read + Drop, W: Write, P: RunLine>(
     number: u64,
     lines: &mut Lines<R, A>,
     output: &mut W,
     program: &mut P,
 ) -> Result<(), Ending>
-where
-    A: Allocator + Copy,
-    R: Read + Drop,
-    W: Write,
-    P: RunLine,
     ensures ok { OnOk result (Answered P.answers
         (unread R.remaining lines.old) (unread R.remaining lines.new)
         (W.contents output.old) (W.contents output.new)

@@ -1,5 +1,5 @@
 //! The lines of an input, read into memory that does not grow.
-ghost use Rattle.std.specs.Prelude.{◌≡◌, ◌≢◌, ◌<◌, ◌≤◌, ◌-◌, [], ◌∷◌, Ok, true, false, length, take, All, IfOk, OnOk, OnSome, IsTrue, ◌↔◌, slice_index};
+ghost use Rattle.std.specs.Prelude.{◌≡◌, ◌≢◌, ◌<◌, ◌≤◌, ◌-◌, [], ◌∷◌, Ok, true, length, take, All, IfOk, OnOk, OnSome, IsTrue, ◌↔◌, slice_index};
 ghost use Rattle.std.specs.Io.{StartsWith, StopsAt, IsEmptyOrEndsWith, appended_bytes};
 ghost use Rattle.std.specs.Io.KnownBytes.{Consumes, IsAtEnd};
 ghost use Rattle.bcast_text.specs.Lines.{ReadsLines, EndsOrIsLast, BeginsTooLong, unread, text_of, longest_of};

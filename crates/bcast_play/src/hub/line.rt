@@ -9,7 +9,7 @@ use bcast_text::number::{number, positive};
 use bcast_text::script::name::is_name;
 
 /// A line on topics: a command and its arguments, a topic, a number or a follower's name.
-#[derive(Clone, Copy, Debug, PartialEq, Eq)]
+#[derive(Clone, Copy)]
 pub enum Line<'a> {
     /// `open T N`: open the topic with this capacity.
     Open(&'a str, u64),

@@ -49,7 +49,7 @@ pub fn answer_batch<W: Write>(msgs: &[u64], output: &mut W) -> Result<(), Fault>
 }
 
 /// The words of the answer to `reply`, and the number that follows them. None: it has no answer.
-fn words_of(reply: &Reply<u64>) -> Option<(&'static str, Option<u64>)>
+pub fn words_of(reply: &Reply<u64>) -> Option<(&'static str, Option<u64>)>
     ensures some { IfSome result (λ words.
         answer_of reply.now ≡ Some (words_text words.0.now words.1)) }
     ensures none { IsNone result → IsNone (answer_of reply.now) }

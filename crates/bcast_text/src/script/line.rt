@@ -13,7 +13,7 @@ use bcast_model::messages::Messages;
 use std::alloc::{AllocError, Global};
 
 /// A line of a script: a command and its arguments, numbers or receivers' names.
-#[derive(Debug, PartialEq, Drop)]
+#[derive(Drop)]
 pub enum Line<'a> {
     /// `cap N`: make the channel.
     Cap(u64),

@@ -1,5 +1,5 @@
 //! Whether all receivers saw the same messages in the same order.
-ghost use Rattle.std.specs.Prelude.{◌≡◌, ◌↔◌, ◌⊎◌, ◌<◌, ℕ, IfOk, IsTrue, map, length, All, Contains, true, false, replicate, slice_set};
+ghost use Rattle.std.specs.Prelude.{◌≡◌, ◌↔◌, ◌⊎◌, ◌<◌, ℕ, IfOk, IsTrue, map, length, All, Contains, true, slice_set};
 ghost use Rattle.bcast_text.specs.Order.{HoldsEachOnce, IsOneOrder, IsMarked};
 
 use std::alloc::{AllocError, Global};
@@ -32,14 +32,8 @@ fn holds_each_once(alloc: Global, list: &[u64], count: usize) -> Result<bool, Al
     if list.len() != count {
         return Ok(false);
     }
-    let mut held = no_marks(alloc, count)?;
+    let mut held = vec![in alloc; false; count]?;
     Ok(marks_all(list, held.as_mut_slice()))
-}
-
-fn no_marks(alloc: Global, count: usize) -> Result<Vec<bool>, AllocError>
-    ensures { IfOk result (λ held. held.items ≡ replicate count false) }
-{
-    vec![in alloc; false; count]
 }
 
 /// Marks the place of each number in the list, and returns whether all are marked then.

@@ -1,9 +1,19 @@
 -- The first space ends the line's first word.
-use Rattle.std.proofs.Common.{sym, ◌∙◌}
-use Rattle.bcast_text.specs.ScriptLine.{word_of, arguments_of}
-use Rattle.bcast_text.proofs.Spaced.{at_none, Lacks-test}
-use Rattle.bcast_text.proofs.ScriptLines.{plain_word, never_alone}
+use Rattle.std.proofs.Common.{◌≡◌, ◌≢◌, [], None, codes, true, sym, ◌∙◌, arith}
+use Rattle.bcast_text.specs.declared.script.line.Line.{Line}
+use Rattle.bcast_text.specs.declared.script.line.Line.TheVariants.{SendAll}
+use Rattle.bcast_text.specs.ScriptLine.{word_of, arguments_of, IsInForm}
+use Rattle.bcast_text.proofs.Spaced.{lacks, at_none, Lacks-test}
 use Rattle.bcast_text.proofs.script.line.read_line.Goals as goal
+
+-- no word has a space
+plain_word : (line : Line) → lacks 32 (word_of line) ≡ true
+plain_word line = grind arith
+
+-- a list has a number, so its line has arguments
+never_alone : (line : Line) → IsInForm line → arguments_of line ≡ None → word_of line ≢ codes "sendall"
+never_alone (SendAll []) form none e = absurd (omega (arith, form.0))
+never_alone line form none e = absurd cc
 
 pub returns-in-None-clause-none : goal.returns-in-None-clause-none
 returns-in-None-clause-none c none line is same =
