@@ -20,19 +20,12 @@ pub fn read_call(alloc: Global, text: &str) -> Result<Option<Call<u64>>, AllocEr
     ensures { IfOk result (λ read. IfSome read HasPositiveCapacity) }
 {
     match text.split_once(' ') {
-        Some((name, list)) if name == "TryBroadcastAll" => send_all(alloc, list),
+        Some((name, list)) if name == "TryBroadcastAll" => match numbers(alloc, list)? {
+            Some(msgs) => Ok(Some(Call::TryBroadcastAll(msgs))),
+            None => Ok(None),
+        },
         Some((name, arguments)) => Ok(with_arguments(name, arguments)),
         None => Ok(alone(alloc, text)),
-    }
-}
-
-/// The messages of `TryBroadcastAll`, at least one.
-fn send_all(alloc: Global, list: &str) -> Result<Option<Call<u64>>, AllocError>
-    ensures { IfOk result (λ read. IfSome read HasPositiveCapacity) }
-{
-    match numbers(alloc, list)? {
-        Some(msgs) => Ok(Some(Call::TryBroadcastAll(msgs))),
-        None => Ok(None),
     }
 }
 
@@ -73,19 +66,14 @@ fn with_arguments(name: &str, arguments: &str) -> Option<Call<u64>>
 {
     match name {
         "SetCapacity" => Some(Call::SetCapacity(positive(arguments)? as usize)),
-        "SetOverflow" => Some(Call::SetOverflow(flag(arguments)?)),
-        "SetAwaitActive" => Some(Call::SetAwaitActive(flag(arguments)?)),
-        "PollSend" => poll_send(arguments),
+        "SetOverflow" => Some(Call::SetOverflow(arguments.parse::<bool>().ok()?)),
+        "SetAwaitActive" => Some(Call::SetAwaitActive(arguments.parse::<bool>().ok()?)),
+        "PollSend" => {
+            let (place, msg) = arguments.split_once(' ')?;
+            Some(Call::PollSend(number(place)? as usize, number(msg)?))
+        }
         _ => with_number(name, arguments),
     }
-}
-
-/// The call `PollSend`: its place and its message.
-fn poll_send(arguments: &str) -> Option<Call<u64>>
-    ensures { IfSome result HasPositiveCapacity }
-{
-    let (place, msg) = arguments.split_once(' ')?;
-    Some(Call::PollSend(number(place)? as usize, number(msg)?))
 }
 
 /// A call with one number: a message, a key or a place.
@@ -105,15 +93,6 @@ fn with_number(name: &str, argument: &str) -> Option<Call<u64>>
         "Deactivate" => Some(Call::Deactivate(n as usize)),
         "CloneReceiver" => Some(Call::CloneReceiver(n as usize)),
         "DropReceiver" => Some(Call::DropReceiver(n as usize)),
-        _ => None,
-    }
-}
-
-/// A flag, as `true` or `false`.
-fn flag(word: &str) -> Option<bool> {
-    match word {
-        "true" => Some(true),
-        "false" => Some(false),
         _ => None,
     }
 }

@@ -1,14 +1,45 @@
 //! The calls of a trace played as one list.
-use crate::calls::Calls;
+ghost use Rattle.bcast_model.specs.Next.{HasPositiveCapacity};
+ghost use Rattle.bcast_trace.specs.Positive.{AllPositive, AllPositive-prop};
+
 use crate::input::{TakeLine, take_lines};
 use crate::line::{Line, read_line};
 use crate::opening::{Opening, read_opening};
 use crate::reply::write_answer;
-use bcast_core::run;
+use bcast_core::{Call, run};
 use bcast_text::ending::Ending;
 use bcast_text::input::Fault;
-use std::alloc::{Allocator, Global};
+use std::alloc::{AllocError, Allocator, Global};
 use std::io::{Read, Write};
+
+/// Calls with their texts, in order. New capacities are positive.
+#[derive(Drop)]
+pub struct Calls<A: Allocator> {
+    /// The calls.
+    pub list: Vec<Call<u64>, A>,
+    /// The text of each call.
+    pub texts: Vec<String<A>, A>,
+    ghost positive: { AllPositive list.items } by { AllPositive-prop list.items },
+}
+
+impl<A: Allocator + Copy> Calls<A> {
+    /// No calls.
+    pub fn new(alloc: A) -> Self {
+        Calls {
+            list: Vec::new(alloc),
+            texts: Vec::new(alloc),
+        }
+    }
+
+    /// Puts `call`, whose text is `text`, last.
+    pub fn push(&mut self, alloc: A, text: &str, call: Call<u64>) -> Result<(), AllocError>
+        requires { HasPositiveCapacity call }
+    {
+        self.texts.push(String::from_str(alloc, text)?)?;
+        self.list.push(call)?;
+        Ok(())
+    }
+}
 
 /// The channel of a trace, and its calls, of which none is made yet.
 #[derive(Drop)]

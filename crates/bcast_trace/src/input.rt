@@ -23,13 +23,12 @@ pub trait TakeLine {
 ///
 /// What is written is flushed before each read that may wait for more input, and at the end. An
 /// input without lines has a fault in line 1. A line of number `u64::MAX` is not taken.
-pub fn take_lines<A, R, W, T>(alloc: A, input: R, output: &mut W, taker: &mut T) -> Ending
-where
-    A: Allocator + Copy,
-    R: Read + Drop,
-    W: Write,
-    T: TakeLine,
-{
+pub fn take_lines<A: Allocator + Copy, R: Read + Drop, W: Write, T: TakeLine>(
+    alloc: A,
+    input: R,
+    output: &mut W,
+    taker: &mut T,
+) -> Ending {
     let Ok(mut lines) = Lines::new(alloc, input, LONGEST) else {
         return Ending::NoMemory;
     };
@@ -41,13 +40,11 @@ where
 }
 
 /// Takes the lines up to the first one that is not taken.
-fn each_line<A, R, W, T>(lines: &mut Lines<R, A>, output: &mut W, taker: &mut T) -> Ending
-where
-    A: Allocator + Copy,
-    R: Read + Drop,
-    W: Write,
-    T: TakeLine,
-{
+fn each_line<A: Allocator + Copy, R: Read + Drop, W: Write, T: TakeLine>(
+    lines: &mut Lines<R, A>,
+    output: &mut W,
+    taker: &mut T,
+) -> Ending {
     for number in 1..u64::MAX {
         if let Err(ending) = next_line(number, lines, output, taker) {
             return ending;
@@ -57,18 +54,12 @@ where
 }
 
 /// Takes the next line, which has this number, if there is one, or returns how the run ends.
-fn next_line<A, R, W, T>(
+fn next_line<A: Allocator + Copy, R: Read + Drop, W: Write, T: TakeLine>(
     number: u64,
     lines: &mut Lines<R, A>,
     output: &mut W,
     taker: &mut T,
-) -> Result<(), Ending>
-where
-    A: Allocator + Copy,
-    R: Read + Drop,
-    W: Write,
-    T: TakeLine,
-{
+) -> Result<(), Ending> {
     if !lines.is_ahead() && output.flush().is_err() {
         return Err(Ending::OutputFailed);
     }

@@ -4,7 +4,6 @@
 #![tactic(auto)]
 
 pub mod call;
-mod calls;
 mod collector;
 pub mod command;
 mod input;

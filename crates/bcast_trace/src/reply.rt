@@ -1,8 +1,9 @@
 //! The replies of a trace, as text.
 use crate::call::write_messages;
-use bcast_model::error::{HandleError, RecvError, SendError, TryRecvError, TrySendError};
+use bcast_model::error::{HandleError, RecvError, SendError, TrySendError};
 use bcast_model::messages::Messages;
 use bcast_model::run::{Reply, SendPoll};
+use bcast_text::script::answer::words_of;
 use futures::task::Poll;
 use std::alloc::AllocError;
 use std::io;
@@ -26,13 +27,13 @@ pub fn write_answer<W: Write>(text: &str, reply: &Reply<u64>, output: &mut W) ->
 /// - The error of a write that failed.
 pub fn write_reply<W: Write>(reply: &Reply<u64>, output: &mut W) -> io::Result<()> {
     match reply {
-        Reply::TryBroadcast(answer) => sent(answer, output),
+        Reply::TryBroadcast(_) | Reply::TryRecv(_) | Reply::SetCapacity(_) => {
+            as_in_a_script(reply, output)
+        }
         Reply::TryBroadcastAll(answer) => sent_all(answer, output),
         Reply::AttemptSend(answer) | Reply::PollSend(answer) => send_polled(answer, output),
         Reply::BeginSend(Ok(place)) => write!(output, "ok {place}"),
-        Reply::BeginSend(Err(_)) | Reply::SetCapacity(Err(_)) => output.write_all(b"no memory"),
-        Reply::SetCapacity(Ok(())) => output.write_all(b"ok"),
-        Reply::TryRecv(answer) => received(answer, output),
+        Reply::BeginSend(Err(_)) => output.write_all(b"no memory"),
         Reply::PollFuture(answer) => future_polled(answer, output),
         Reply::PollRecv(answer) => stream_polled(answer, output),
         Reply::PollNext(answer) => next_polled(answer, output),
@@ -60,17 +61,12 @@ pub fn write_reply<W: Write>(reply: &Reply<u64>, output: &mut W) -> io::Result<(
     }
 }
 
-/// The reply of a send that doesn't wait.
-fn sent<W: Write>(
-    answer: &Result<Option<u64>, TrySendError<u64>>,
-    output: &mut W,
-) -> io::Result<()> {
-    match answer {
-        Ok(None) => output.write_all(b"ok"),
-        Ok(Some(oldest)) => write!(output, "ok dropped {oldest}"),
-        Err(TrySendError::Full(msg)) => write!(output, "full {msg}"),
-        Err(TrySendError::Closed(msg)) => write!(output, "closed {msg}"),
-        Err(TrySendError::Inactive(msg)) => write!(output, "inactive {msg}"),
+/// A reply in the words of a script's answer, which has none where there was no memory.
+fn as_in_a_script<W: Write>(reply: &Reply<u64>, output: &mut W) -> io::Result<()> {
+    match words_of(reply) {
+        Some((words, None)) => output.write_all(words.as_bytes()),
+        Some((words, Some(number))) => write!(output, "{words}{number}"),
+        None => output.write_all(b"no memory"),
     }
 }
 
@@ -100,20 +96,6 @@ fn send_polled<W: Write>(answer: &SendPoll<u64>, output: &mut W) -> io::Result<(
         SendPoll::Ready(Ok(Some(oldest))) => write!(output, "ready ok dropped {oldest}"),
         SendPoll::Ready(Err(SendError(msg))) => write!(output, "ready senderror {msg}"),
         SendPoll::Wait(msg) => write!(output, "wait {msg}"),
-    }
-}
-
-/// The reply of a receive that doesn't wait.
-fn received<W: Write>(
-    answer: &Result<Result<u64, TryRecvError>, AllocError>,
-    output: &mut W,
-) -> io::Result<()> {
-    match answer {
-        Ok(Ok(msg)) => write!(output, "got {msg}"),
-        Ok(Err(TryRecvError::Overflowed(n))) => write!(output, "overflowed {n}"),
-        Ok(Err(TryRecvError::Empty)) => output.write_all(b"empty"),
-        Ok(Err(TryRecvError::Closed)) => output.write_all(b"closed"),
-        Err(AllocError) => output.write_all(b"no memory"),
     }
 }
 

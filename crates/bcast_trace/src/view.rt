@@ -12,7 +12,6 @@ pub fn write_view<B: Allocator, W: Write>(
     write_messages(seen, output)?;
     write_handles(seen, output)?;
     write_settings(seen, output)?;
-    write_places(seen, output)?;
     write_sends(seen, output)?;
     write_receives(seen, output)
 }
@@ -59,18 +58,13 @@ fn write_settings<B: Allocator, W: Write>(
     write!(output, " room={}", seen.room)
 }
 
-/// The places of pending sends.
-fn write_places<B: Allocator, W: Write>(seen: &Snapshot<u64, B>, output: &mut W) -> io::Result<()> {
+/// The places of pending sends, and of those that wait.
+fn write_sends<B: Allocator, W: Write>(seen: &Snapshot<u64, B>, output: &mut W) -> io::Result<()> {
     output.write_all(b" S={")?;
     for (index, place) in seen.places.as_slice().iter().enumerate() {
         write!(output, "{}{place}", comma(index))?;
     }
-    output.write_all(b"}")
-}
-
-/// The sends that wait.
-fn write_sends<B: Allocator, W: Write>(seen: &Snapshot<u64, B>, output: &mut W) -> io::Result<()> {
-    output.write_all(b" WS=[")?;
+    output.write_all(b"} WS=[")?;
     for (index, place) in seen.waiting_sends.ids.as_slice().iter().enumerate() {
         write!(output, "{}{place}", comma(index))?;
     }
