@@ -1,6 +1,7 @@
 //! Threads that are started one by one, and joined together.
-ghost use Rattle.std.specs.Prelude.{◌≡◌, ◌+◌, ◌<◌, ◌≤◌, [], OnOk, length, vec_len, vec_capacity};
+ghost use Rattle.std.specs.Prelude.{◌≡◌, ◌+◌, ◌<◌, ◌≤◌, [], IfOk, OnOk, length, vec_len, vec_capacity};
 
+use std::alloc::{AllocError, Global};
 use std::io;
 use std::thread::{Builder, JoinHandle, Threads};
 
@@ -8,12 +9,22 @@ use std::thread::{Builder, JoinHandle, Threads};
 pub(crate) struct Group<T> {
     pub(crate) running: Vec<JoinHandle<T>>,
     // For what they return, so that joining them takes no memory.
-    pub(crate) returned: Vec<T>,
+    returned: Vec<T>,
     ghost room: { vec_capacity running ≤ vec_capacity returned },
     ghost none: { returned.items ≡ [] },
 }
 
 impl<T: Send + Drop + 'static> Group<T> {
+    /// No threads yet, and room for `count`.
+    pub(crate) fn with_room(alloc: Global, count: u64) -> Result<Self, AllocError>
+        ensures none { IfOk result (λ group. vec_len group.running ≡ 0) }
+        ensures room { IfOk result (λ group. vec_capacity group.running ≡ count) }
+    {
+        let running = Vec::with_capacity(alloc, count as usize)?;
+        let returned = Vec::with_capacity(alloc, count as usize)?;
+        Ok(Group { running, returned })
+    }
+
     /// Starts a thread that does this work, with this many bytes of stack.
     pub(crate) fn start<R: Threads, F: FnOnce() -> T + Send + Drop + 'static>(
         &mut self,

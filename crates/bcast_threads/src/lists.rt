@@ -4,15 +4,13 @@ ghost use Rattle.std.specs.Bool.{OnTrue};
 ghost use mathlib.Core.List.{IsPrefix};
 ghost use Rattle.bcast_threads.specs.Lists.{AreLists};
 ghost use Rattle.bcast_threads.specs.Closed.{WereSent, IsWhole};
-ghost use Rattle.bcast_history.specs.Reader.{StartsAtTheFirst};
 
 use crate::fault::Fault;
+use crate::group::Group;
 use crate::plan::Plan;
-use crate::started::{Started, clones_of};
+use crate::started::send_to_all;
 use crate::work::Sent;
-use bcast_history::{
-    Channel, HistoryPort, Opened, Seen, TrackedReceiver, TrackedSender, WholeLog, broadcast,
-};
+use bcast_history::{Channel, Opened, Seen, WholeLog, broadcast};
 use std::alloc::Global;
 use std::marker::Brand;
 use std::sync::Wait;
@@ -41,7 +39,8 @@ pub fn lists_of<R: Threads + Wait + Clone + Send + 'static>(
     lists_over::<Brand, R>(rt, alloc, plan, opened)
 }
 
-// Runs the threads over this channel.
+// Runs the threads over this channel. Once `send_to_all` returns no sender is left, so the channel is
+// closed, and all threads end.
 fn lists_over<J: Channel + Send + Sync + 'static, R: Threads + Wait + Clone + Send + 'static>(
     rt: &R,
     alloc: Global,
@@ -54,36 +53,11 @@ fn lists_over<J: Channel + Send + Sync + 'static, R: Threads + Wait + Clone + Se
 {
     let its_rt = rt.clone()?;
     let (sender, receiver) = broadcast::<u64, R, J, _>(its_rt, alloc, opened)?;
-    lists_from(rt, alloc, plan, sender, receiver)
-}
-
-// Runs the threads over these handles, the first ones of their channel. The last thread that sends
-// closes it, by the drop of its sender.
-fn lists_from<J, R, P>(
-    rt: &R,
-    alloc: Global,
-    plan: Plan,
-    sender: TrackedSender<u64, P, J>,
-    receiver: TrackedReceiver<u64, P, J>,
-) -> Result<Vec<Vec<u64>>, Fault>
-where
-    J: Channel + Send + Sync + 'static,
-    R: Threads + Wait + Clone + Send + 'static,
-    P: HistoryPort<u64, J> + Send + 'static,
-    requires start { StartsAtTheFirst J.opening receiver.tracker }
-    ensures { IfOk result (λ lists. AreLists plan (λ list. list.items) lists.items) }
-{
     let seen = receiver.seen();
-    let receivers = clones_of(alloc, receiver, plan.receivers)?;
-    let mut threads = Started::<J>::with_room(alloc, plan)?;
-    let mut sender = sender;
-    let started = threads.start(rt, alloc, plan, &mut sender, receivers);
-    drop(sender);
-    let Started { senders, receivers } = threads;
-    let sent = senders.join(rt);
+    let mut receivers = Group::with_room(alloc, plan.receivers)?;
+    let sent = send_to_all(rt, alloc, plan, sender, receiver, &mut receivers);
     let logs = receivers.join(rt);
-    started?;
-    lists_received(alloc, plan, sent, logs, seen)
+    lists_received(alloc, plan, sent?, logs, seen)
 }
 
 /// The lists of receivers, if each number that was to be sent was sent, and they received nothing

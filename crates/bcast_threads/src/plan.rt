@@ -1,14 +1,13 @@
 //! How many threads are run, and the run of them.
-ghost use Rattle.std.specs.Prelude.{◌≢◌, ◌<◌, ◌≤◌, ◌*◌, false, OnOk};
+ghost use Rattle.std.specs.Prelude.{◌≢◌, ◌<◌, ◌≤◌, ◌*◌};
 ghost use Rattle.std.specs.Io.KnownBytes.{Appends};
-ghost use Rattle.bcast_text.specs.Outcome.{IsEnding, outcome_text, printed_text};
+ghost use Rattle.bcast_text.specs.Outcome.{IsEnding, printed_text};
 
 use crate::fault::Fault;
 use crate::lists::lists_of;
 use bcast_text::ending::Ending;
 use bcast_text::threads::outcome::print_seen;
 use std::alloc::Global;
-use std::io;
 use std::io::Write;
 use std::sync::Wait;
 use std::thread::Threads;
@@ -89,21 +88,10 @@ pub fn run<R: Threads + Wait + Clone + Send + 'static, W: Write>(
 {
     let total = plan.senders * plan.messages;
     match lists_of(rt, alloc, plan) {
+        Ok(lists) => print_seen(alloc, lists.as_slice(), total, output),
+        // Without lists there is no order that all receivers saw.
+        Err(Fault::Missed) => print_seen(alloc, Vec::new(alloc).as_slice(), total, output),
         Err(Fault::NoMemory) => Ending::NoMemory,
         Err(Fault::NoThread) => Ending::NoThread,
-        Err(Fault::Missed) => match write_missed(output) {
-            Ok(()) => Ending::Differ,
-            Err(_) => Ending::OutputFailed,
-        },
-        Ok(lists) => print_seen(alloc, lists.as_slice(), total, output),
     }
-}
-
-/// Writes that the receivers did not see one order, since one missed messages.
-fn write_missed<W: Write>(output: &mut W) -> io::Result<()>
-    ensures { OnOk result (Appends (W.contents output.old) (W.contents output.new)
-        (outcome_text false 0 0)) }
-{
-    output.write_all(b"orders differ\n")?;
-    output.flush()
 }

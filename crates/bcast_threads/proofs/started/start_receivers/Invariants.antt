@@ -1,14 +1,13 @@
 -- Each receiver has its thread, or is still to have one.
 use Rattle.std.proofs.Common.{◌≡◌, ◌+◌, vec_len, vec_capacity, All}
 use Rattle.bcast_history.specs.Reader.{StartsAtTheFirst}
-use Rattle.bcast_threads.proofs.started.Started.start_receivers.Given as goal
+use Rattle.bcast_threads.proofs.started.start_receivers.Given as goal
 
 abbrev pub invariant-loop-receiver : goal.invariant-loop-receiver
 invariant-loop-receiver g l = record {
-  count : vec_len l.self.receivers.running + vec_len l.receivers
-      ≡ vec_len l.initial.self.receivers.running + vec_len l.initial.receivers;
-  room : vec_capacity l.self.receivers.running ≡ vec_capacity l.initial.self.receivers.running;
-  senders : l.self.senders ≡ l.initial.self.senders;
+  count : vec_len l.threads.running + vec_len l.receivers
+      ≡ vec_len l.initial.threads.running + vec_len l.initial.receivers;
+  room : vec_capacity l.threads.running ≡ vec_capacity l.initial.threads.running;
   start : All (λ receiver. StartsAtTheFirst g.J.Channel.opening receiver.tracker) l.receivers.items;
 }
 
