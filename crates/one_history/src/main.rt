@@ -2,13 +2,12 @@
 //! receive all that was sent, and it is proved that both have the same list.
 #![tactic(auto)]
 
-ghost use Rattle.std.specs.Prelude.{◌≡◌, [], IfOk};
-ghost use Rattle.bcast_history.specs.Reader.{StartsAtTheFirst};
+ghost use Rattle.std.specs.Prelude.{◌≡◌, IfOk};
 
 mod order;
 
 use anyhow::Result;
-use bcast_history::{Channel, HistoryPort, Opened, TrackedReceiver, TrackedSender, broadcast};
+use bcast_history::{Channel, HistoryPort, Opened, TrackedSender, broadcast};
 use order::send_both;
 use std::alloc::AllocGlobal;
 use std::marker::Brand;
@@ -31,46 +30,10 @@ fn fan_out<J: Channel + Send + Sync, R: Threads + Wait + Sync + Print + AllocGlo
         × (opened.registry ≡ J.registry) }
     ensures { IfOk result (λ logs. logs.0.items ≡ logs.1.items) }
 {
-    let (mut sender, receiver) = broadcast::<u64, _, J, _>(rt, rt.alloc(), opened)?;
-    let other = sender.clone()?;
-    send_from_two_threads(rt, sender, other)?;
-    receive_in_two_threads(rt, receiver)
-}
-
-fn send_from_two_threads<J, R, P>(
-    rt: &R,
-    sender: TrackedSender<u64, P, J>,
-    other: TrackedSender<u64, P, J>,
-) -> Result<()>
-where
-    J: Channel + Send + Sync,
-    R: Threads + Wait + Sync + Print + AllocGlobal,
-    P: HistoryPort<u64, J> + Send + Sync,
-{
-    let (mut sender, mut other) = (sender, other);
-    let (odd, even) = thread::join(
-        rt,
-        || send_both(&mut sender, 1, 3),
-        || send_both(&mut other, 2, 4),
-    );
-    println!(rt; "1 stands before 3: {odd}")?;
-    println!(rt; "2 stands before 4: {even}")?;
-    Ok(())
-}
-
-fn receive_in_two_threads<J, R, P>(
-    rt: &R,
-    mut receiver: TrackedReceiver<u64, P, J>,
-) -> Result<(Vec<u64>, Vec<u64>)>
-where
-    J: Channel + Send + Sync,
-    R: Threads + Wait + Sync + AllocGlobal,
-    P: HistoryPort<u64, J> + Send + Sync,
-    requires { StartsAtTheFirst J.opening receiver.tracker }
-    ensures { IfOk result (λ logs. logs.0.items ≡ logs.1.items) }
-{
     let alloc = rt.alloc();
+    let (sender, mut receiver) = broadcast::<u64, _, J, _>(rt, alloc, opened)?;
     let mut copy = receiver.clone()?;
+    send_from_two_threads(rt, sender)?;
     let (log, same) = thread::join(
         rt,
         || receiver.recv_all_blocking(rt, alloc, 0),
@@ -79,4 +42,21 @@ where
     let (log, same) = (log?, same?);
     log.agrees_with(&same);
     Ok((log.into_list(), same.into_list()))
+}
+
+fn send_from_two_threads<J, R, P>(rt: &R, mut sender: TrackedSender<u64, P, J>) -> Result<()>
+where
+    J: Channel + Send + Sync,
+    R: Threads + Wait + Sync + Print + AllocGlobal,
+    P: HistoryPort<u64, J> + Send + Sync,
+{
+    let mut other = sender.clone()?;
+    let (odd, even) = thread::join(
+        rt,
+        || send_both(&mut sender, 1, 3),
+        || send_both(&mut other, 2, 4),
+    );
+    println!(rt; "1 stands before 3: {odd}")?;
+    println!(rt; "2 stands before 4: {even}")?;
+    Ok(())
 }
