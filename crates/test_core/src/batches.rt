@@ -1,9 +1,8 @@
 //! Batches of messages, each beside as many single receives on another channel.
-ghost use Rattle.bcast_model.specs.Next.{HasPositiveCapacity};
-
-use bcast_core::{Call, Inner, Reply, SendPoll, Silent, TryRecvError, step};
+use crate::asked::{Asked, ask};
+use bcast_core::{Inner, Reply, SendPoll, Silent, TryRecvError};
 use futures::task::Poll;
-use rows::{Answer, Asked, ROWS, Row};
+use rows::{Answer, ROWS, Row};
 use std::alloc::{AllocError, Global};
 use std::process::Abort;
 use std::test::Fail;
@@ -12,22 +11,6 @@ mod refused;
 mod rows;
 
 type Channel = Inner<u64, Silent>;
-
-fn call_of(asked: Asked) -> Call<u64>
-    ensures { HasPositiveCapacity result }
-{
-    match asked {
-        Asked::SetOverflow => Call::SetOverflow(true),
-        Asked::CloneReceiver => Call::CloneReceiver(0),
-        Asked::DropReceiver(key) => Call::DropReceiver(key),
-        Asked::TryBroadcast(msg) => Call::TryBroadcast(msg),
-        Asked::BeginSend => Call::BeginSend,
-        Asked::PollSend(place, msg) => Call::PollSend(place, msg),
-        Asked::PollRecv(key) => Call::PollRecv(key),
-        Asked::TryRecv(key) => Call::TryRecv(key),
-        Asked::Close => Call::Close,
-    }
-}
 
 fn answer_of(reply: &Reply<u64>) -> Answer {
     match reply {
@@ -46,8 +29,8 @@ fn answer_of(reply: &Reply<u64>) -> Answer {
     }
 }
 
-fn ask(inner: &mut Channel, asked: Asked) -> Answer {
-    answer_of(&step(inner, call_of(asked), Silent))
+fn answered(inner: &mut Channel, asked: Asked) -> Answer {
+    answer_of(&ask(inner, asked))
 }
 
 /// Whether a batch gives these messages, behind one that is there before.
@@ -70,7 +53,7 @@ fn gives(
 fn gives_each(inner: &mut Channel, key: usize, msgs: &[u64]) -> bool {
     let mut gives = true;
     for msg in msgs {
-        gives &= ask(inner, Asked::TryRecv(key)) == Answer::Message(*msg);
+        gives &= answered(inner, Asked::TryRecv(key)) == Answer::Message(*msg);
     }
     gives
 }
@@ -90,7 +73,7 @@ fn holds(
 ) -> Result<bool, AllocError> {
     match row {
         Row::Call(asked, answer) => {
-            Ok(ask(batches, asked) == answer && ask(singles, asked) == answer)
+            Ok(answered(batches, asked) == answer && answered(singles, asked) == answer)
         }
         Row::Batch(key, limit, msgs) => {
             Ok(gives(alloc, batches, key, limit, msgs)? && gives_each(singles, key, msgs))

@@ -1,24 +1,10 @@
 //! Polls of listeners that are told: how many of them follow, and that each listener waits then.
-ghost use Rattle.bcast_model.specs.Next.{HasPositiveCapacity};
-
-use bcast_core::{Call, Inner, Kind, Reply, SendPoll, Silent, Snapshot, step};
+use crate::asked::{Asked, ask};
+use bcast_core::{Inner, Kind, Reply, SendPoll, Silent, Snapshot};
 use futures::task::Poll;
 use std::alloc::{AllocError, Global};
 
 type Channel = Inner<u64, Silent>;
-
-/// A call of this name, with its arguments.
-#[derive(Clone, Copy)]
-enum Asked {
-    TryBroadcast(u64),
-    BeginSend,
-    PollSend(usize, u64),
-    TryRecv(usize),
-    PollFuture(usize),
-    PollRecv(usize),
-    Close,
-    DropReceiver(usize),
-}
 
 /// A name, the calls on a new channel of capacity 1 with the receivers 0, 1 and 2, how many
 /// listeners wait then, and how many polls of told ones follow, each of the first that is told.
@@ -95,25 +81,6 @@ const ROWS: &[Row] = &[
         0,
     ),
 ];
-
-fn call_of(asked: Asked) -> Call<u64>
-    ensures { HasPositiveCapacity result }
-{
-    match asked {
-        Asked::TryBroadcast(msg) => Call::TryBroadcast(msg),
-        Asked::BeginSend => Call::BeginSend,
-        Asked::PollSend(place, msg) => Call::PollSend(place, msg),
-        Asked::TryRecv(key) => Call::TryRecv(key),
-        Asked::PollFuture(key) => Call::PollFuture(key),
-        Asked::PollRecv(key) => Call::PollRecv(key),
-        Asked::Close => Call::Close,
-        Asked::DropReceiver(key) => Call::DropReceiver(key),
-    }
-}
-
-fn ask(inner: &mut Channel, asked: Asked) -> Reply<u64> {
-    step(inner, call_of(asked), Silent)
-}
 
 /// The poll of a pending send.
 fn send_poll(place: &usize) -> Asked {

@@ -1,24 +1,11 @@
 //! Where receivers read on, what they have still to read, and what they missed, after each of
 //! several calls.
-ghost use Rattle.bcast_model.specs.Next.{HasPositiveCapacity};
-
-use bcast_core::{Call, Inner, Silent, step};
+use crate::asked::{Asked, ask};
+use bcast_core::{Inner, Silent};
 use std::process::Abort;
 use std::test::Fail;
 
 type Channel = Inner<u64, Silent>;
-
-/// A call of this name, with its argument. `Shrink` sets the capacity 1.
-#[derive(Clone, Copy)]
-enum Asked {
-    SetOverflow,
-    NewReceiver,
-    TryBroadcast(u64),
-    TryRecv(usize),
-    Shrink,
-    Close,
-    DropReceiver(usize),
-}
 
 /// `cursor`, `unread` and `missed` of a receiver.
 type Seen = (Option<u64>, usize, u64);
@@ -46,20 +33,6 @@ const ROWS: &[Row] = &[
     (Asked::TryRecv(0), (Some(4), 0, 0), (None, 0, 0)),
 ];
 
-fn call_of(asked: Asked) -> Call<u64>
-    ensures { HasPositiveCapacity result }
-{
-    match asked {
-        Asked::SetOverflow => Call::SetOverflow(true),
-        Asked::NewReceiver => Call::NewReceiver,
-        Asked::TryBroadcast(msg) => Call::TryBroadcast(msg),
-        Asked::TryRecv(key) => Call::TryRecv(key),
-        Asked::Shrink => Call::SetCapacity(1),
-        Asked::Close => Call::Close,
-        Asked::DropReceiver(key) => Call::DropReceiver(key),
-    }
-}
-
 fn seen(inner: &Channel, key: usize) -> Seen {
     (inner.cursor(key), inner.unread(key), inner.missed(key))
 }
@@ -69,7 +42,7 @@ fn cursor_unread_and_missed(rt: HostRuntime) -> Result<(), Fail> {
     let (mut inner, first) = Inner::new(rt.alloc(), 2)?;
     assert!(rt; first == 0);
     for (asked, left, right) in ROWS {
-        drop(step(&mut inner, call_of(*asked), Silent));
+        drop(ask(&mut inner, *asked));
         assert!(rt; seen(&inner, 0) == *left);
         assert!(rt; seen(&inner, 1) == *right);
     }

@@ -1,18 +1,5 @@
 //! Calls and batches on a channel of capacity 3, with what each gives.
-
-/// A call of this name, with its arguments.
-#[derive(Clone, Copy)]
-pub(super) enum Asked {
-    SetOverflow,
-    CloneReceiver,
-    DropReceiver(usize),
-    TryBroadcast(u64),
-    BeginSend,
-    PollSend(usize, u64),
-    PollRecv(usize),
-    TryRecv(usize),
-    Close,
-}
+use crate::asked::Asked;
 
 /// What a reply says.
 #[derive(Clone, Copy, PartialEq, Eq)]
