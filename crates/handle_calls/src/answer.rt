@@ -50,6 +50,35 @@ pub enum Answer {
     Done,
 }
 
+impl From<TryRecvError> for Answer {
+    fn from(error: TryRecvError) -> Answer {
+        match error {
+            TryRecvError::Overflowed(n) => Answer::Overflowed(n),
+            TryRecvError::Empty => Answer::Empty,
+            TryRecvError::Closed => Answer::Ended,
+        }
+    }
+}
+
+impl From<RecvError> for Answer {
+    fn from(error: RecvError) -> Answer {
+        match error {
+            RecvError::Overflowed(n) => Answer::Overflowed(n),
+            RecvError::Closed => Answer::Ended,
+        }
+    }
+}
+
+impl From<RecvTimeoutError> for Answer {
+    fn from(error: RecvTimeoutError) -> Answer {
+        match error {
+            RecvTimeoutError::Overflowed(n) => Answer::Overflowed(n),
+            RecvTimeoutError::Timeout => Answer::Timeout,
+            RecvTimeoutError::Closed => Answer::Ended,
+        }
+    }
+}
+
 impl Answer {
     fn accepted(oldest: Option<u64>) -> Self {
         match oldest {
@@ -95,61 +124,24 @@ impl Answer {
         }
     }
 
-    /// What `try_recv` returned.
-    pub fn of_try_recv(answer: Result<Result<u64, TryRecvError>, AllocError>) -> Self {
+    /// What the receive of one message returned.
+    pub fn of_recv<E: Into<Answer>>(answer: Result<Result<u64, E>, AllocError>) -> Self {
         match answer {
             Ok(Ok(msg)) => Answer::Message(msg),
-            Ok(Err(TryRecvError::Overflowed(n))) => Answer::Overflowed(n),
-            Ok(Err(TryRecvError::Empty)) => Answer::Empty,
-            Ok(Err(TryRecvError::Closed)) => Answer::Ended,
+            Ok(Err(error)) => error.into(),
             Err(_) => Answer::NoMemory,
         }
     }
 
-    /// What `recv_timeout` returned.
-    pub fn of_timed_recv(answer: Result<Result<u64, RecvTimeoutError>, AllocError>) -> Self {
+    /// What the receive of a batch returned, with what it put into an empty list.
+    pub fn of_recv_many<E: Into<Answer>>(
+        answer: Result<Result<usize, E>, AllocError>,
+        msgs: &[u64],
+    ) -> Self {
         match answer {
-            Ok(Ok(msg)) => Answer::Message(msg),
-            Ok(Err(RecvTimeoutError::Overflowed(n))) => Answer::Overflowed(n),
-            Ok(Err(RecvTimeoutError::Timeout)) => Answer::Timeout,
-            Ok(Err(RecvTimeoutError::Closed)) => Answer::Ended,
+            Ok(Ok(count)) => Answer::of_batch(count, msgs),
+            Ok(Err(error)) => error.into(),
             Err(_) => Answer::NoMemory,
-        }
-    }
-
-    /// What `try_recv_many` returned, with what it put into an empty list.
-    pub fn of_try_recv_many(
-        answer: Result<Result<usize, TryRecvError>, AllocError>,
-        msgs: &[u64],
-    ) -> Self {
-        match answer {
-            Ok(Ok(count)) => Answer::of_batch(count, msgs),
-            Ok(Err(error)) => Answer::of_try_recv(Ok(Err(error))),
-            Err(refused) => Answer::of_try_recv(Err(refused)),
-        }
-    }
-
-    /// What `recv_many_blocking` returned, with what it put into an empty list.
-    pub fn of_recv_many(
-        answer: Result<Result<usize, RecvError>, AllocError>,
-        msgs: &[u64],
-    ) -> Self {
-        match answer {
-            Ok(Ok(count)) => Answer::of_batch(count, msgs),
-            Ok(Err(error)) => Answer::of_recv(Err(error)),
-            Err(_) => Answer::NoMemory,
-        }
-    }
-
-    /// What `recv_many_timeout` returned, with what it put into an empty list.
-    pub fn of_timed_recv_many(
-        answer: Result<Result<usize, RecvTimeoutError>, AllocError>,
-        msgs: &[u64],
-    ) -> Self {
-        match answer {
-            Ok(Ok(count)) => Answer::of_batch(count, msgs),
-            Ok(Err(error)) => Answer::of_timed_recv(Ok(Err(error))),
-            Err(refused) => Answer::of_timed_recv(Err(refused)),
         }
     }
 
@@ -162,15 +154,6 @@ impl Answer {
             *slot = *msg;
         }
         Answer::Messages(count, first)
-    }
-
-    /// What a receive that may wait returned.
-    pub fn of_recv(answer: Result<u64, RecvError>) -> Self {
-        match answer {
-            Ok(msg) => Answer::Message(msg),
-            Err(RecvError::Overflowed(n)) => Answer::Overflowed(n),
-            Err(RecvError::Closed) => Answer::Ended,
-        }
     }
 
     /// Why a handle was not made.

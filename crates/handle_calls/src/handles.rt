@@ -1,20 +1,41 @@
-//! The handles of one channel, each with its number.
+//! The handles of one channel, each with its number, and the tasks that poll.
 use crate::answer::Answer;
 use async_broadcast::{HandleError, InactiveReceiver, Receiver, Sender, TimedPort};
 use bcast_text::input::Fault;
+use futures::test::MockTask;
 use std::alloc::{Allocator, Global};
 
-/// The handles of one channel. Each kind is numbered in the order of making. The number of a handle
-/// that left is not given again.
+/// The handles of one channel, and the tasks that poll. Each kind of handle is numbered in the
+/// order of making. The number of a handle that left is not given again.
 #[derive(Drop)]
 pub struct Handles<P: TimedPort<u64>, A: Allocator> {
+    pub tasks: Vec<MockTask>,
     pub senders: Vec<Option<Sender<u64, P, A>>>,
     pub receivers: Vec<Option<Receiver<u64, P, A>>>,
     pub inactive: Vec<Option<InactiveReceiver<u64, P, A>>>,
 }
 
-/// Adds a handle, which has the next number.
-fn add<H: Drop>(list: &mut Vec<Option<H>>, made: H) -> Result<Answer, Fault> {
+impl<P: TimedPort<u64>, A: Allocator + Copy> Handles<P, A> {
+    /// No handles yet, and the tasks.
+    pub fn new(alloc: Global, tasks: Vec<MockTask>) -> Self {
+        Handles {
+            tasks,
+            senders: Vec::new(alloc),
+            receivers: Vec::new(alloc),
+            inactive: Vec::new(alloc),
+        }
+    }
+}
+
+/// Adds a handle or a future that was made, with the next number, or returns why there is none.
+pub fn add<H: Drop>(
+    list: &mut Vec<Option<H>>,
+    made: Result<H, HandleError>,
+) -> Result<Answer, Fault> {
+    let made = match made {
+        Ok(made) => made,
+        Err(error) => return Ok(Answer::of_error(error)),
+    };
     let number = list.len();
     match list.push(Some(made)) {
         Ok(()) => Ok(Answer::Made(number)),
@@ -22,46 +43,13 @@ fn add<H: Drop>(list: &mut Vec<Option<H>>, made: H) -> Result<Answer, Fault> {
     }
 }
 
-impl<P: TimedPort<u64>, A: Allocator + Copy> Handles<P, A> {
-    /// No handles yet.
-    pub fn new(alloc: Global) -> Self {
-        Handles {
-            senders: Vec::new(alloc),
-            receivers: Vec::new(alloc),
-            inactive: Vec::new(alloc),
+/// Drops the handle or the future of this number.
+pub fn drop_at<H: Drop>(list: &mut Vec<Option<H>>, index: usize) -> Result<Answer, Fault> {
+    match list.get_mut(index) {
+        Some(slot) => {
+            *slot = None;
+            Ok(Answer::Done)
         }
-    }
-
-    /// Adds a sender that was made, or returns why there is none.
-    pub fn add_sender(
-        &mut self,
-        made: Result<Sender<u64, P, A>, HandleError>,
-    ) -> Result<Answer, Fault> {
-        match made {
-            Ok(made) => add(&mut self.senders, made),
-            Err(error) => Ok(Answer::of_error(error)),
-        }
-    }
-
-    /// Adds a receiver that was made, or returns why there is none.
-    pub fn add_receiver(
-        &mut self,
-        made: Result<Receiver<u64, P, A>, HandleError>,
-    ) -> Result<Answer, Fault> {
-        match made {
-            Ok(made) => add(&mut self.receivers, made),
-            Err(error) => Ok(Answer::of_error(error)),
-        }
-    }
-
-    /// Adds an inactive receiver that was made, or returns why there is none.
-    pub fn add_inactive(
-        &mut self,
-        made: Result<InactiveReceiver<u64, P, A>, HandleError>,
-    ) -> Result<Answer, Fault> {
-        match made {
-            Ok(made) => add(&mut self.inactive, made),
-            Err(error) => Ok(Answer::of_error(error)),
-        }
+        None => Err(Fault::NotACall),
     }
 }

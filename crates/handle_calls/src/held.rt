@@ -1,5 +1,7 @@
 //! Futures that are held between lines: sends, and one receive.
 use crate::answer::Answer;
+use crate::handles::{add, drop_at};
+use crate::line::{Request, Subject};
 use async_broadcast::{NoMemory, Receiver, Recv, Send, Sender, TimedPort};
 use bcast_text::input::Fault;
 use futures::task::Poll;
@@ -55,8 +57,7 @@ fn of_send_poll(polled: SendPoll) -> Answer {
 /// What a poll of a receive returned, as an answer.
 pub fn of_recv_poll(polled: RecvPoll) -> Answer {
     match polled {
-        Poll::Ready(Ok(answer)) => Answer::of_recv(answer),
-        Poll::Ready(Err(_)) => Answer::NoMemory,
+        Poll::Ready(answer) => Answer::of_recv(answer),
         Poll::Pending => Answer::Pending,
     }
 }
@@ -72,31 +73,24 @@ impl<'a, P: TimedPort<u64>, A: Allocator + Copy> Held<'a, P, A> {
         }
     }
 
-    /// Begins a send of this message, or drops the send of this number.
-    pub fn ask_send(
-        &mut self,
-        index: usize,
-        method: &str,
-        msg: Option<u64>,
-    ) -> Result<Answer, Fault> {
-        match (method, msg) {
-            ("begin", Some(msg)) => self.begin_send(msg),
-            ("begin_boxed", Some(msg)) => self.begin_boxed_send(msg),
-            ("drop", None) => self.drop_send(index).ok_or(Fault::NotACall),
-            _ => Err(Fault::NotACall),
-        }
-    }
-
-    /// Begins or drops the receive.
-    pub fn ask_recv(&mut self, method: &str) -> Option<Answer> {
-        match method {
-            "begin" => self.begin_recv(),
-            "begin_boxed" => self.begin_boxed_recv(),
-            "drop" => {
-                self.recvs.pop()?;
-                Some(Answer::Done)
+    /// Begins, polls or drops a send or the receive.
+    pub fn ask(&mut self, tasks: &[MockTask], request: Request<'_>) -> Result<Answer, Fault> {
+        match (request.subject, request.method, request.argument) {
+            (Subject::Send, "begin", Some(msg)) => self.begin_send(msg),
+            (Subject::Send, "begin_boxed", Some(msg)) => self.begin_boxed_send(msg),
+            (Subject::Send, "drop", None) => drop_at(&mut self.sends, request.index),
+            (Subject::Send, "poll", Some(number)) => {
+                let task = tasks.get(number as usize).ok_or(Fault::NotACall)?;
+                self.poll_send(request.index, task).ok_or(Fault::NotACall)
             }
-            _ => None,
+            (Subject::Recv, "begin", None) => self.begin_recv().ok_or(Fault::NotACall),
+            (Subject::Recv, "begin_boxed", None) => self.begin_boxed_recv().ok_or(Fault::NotACall),
+            (Subject::Recv, "drop", None) => self.drop_recv().ok_or(Fault::NotACall),
+            (Subject::Recv, "poll", Some(number)) => {
+                let task = tasks.get(number as usize).ok_or(Fault::NotACall)?;
+                self.poll_recv(task).ok_or(Fault::NotACall)
+            }
+            _ => Err(Fault::NotACall),
         }
     }
 
@@ -117,26 +111,16 @@ impl<'a, P: TimedPort<u64>, A: Allocator + Copy> Held<'a, P, A> {
     }
 
     fn hold(&mut self, send: HeldSend<'a, P, A>) -> Result<Answer, Fault> {
-        let number = self.sends.len();
-        match self.sends.push(Some(send)) {
-            Ok(()) => Ok(Answer::Made(number)),
-            Err(_) => Err(Fault::NoMemory),
-        }
+        add(&mut self.sends, Ok(send))
     }
 
     /// Polls the send of this number.
-    pub fn poll_send(&mut self, index: usize, task: &MockTask) -> Option<Answer> {
+    fn poll_send(&mut self, index: usize, task: &MockTask) -> Option<Answer> {
         match self.sends.get_mut(index) {
             Some(Some(HeldSend::Plain(send))) => Some(of_send_poll(task.poll(send))),
             Some(Some(HeldSend::Boxed(send))) => Some(of_send_poll(task.poll(&mut **send))),
             _ => None,
         }
-    }
-
-    fn drop_send(&mut self, index: usize) -> Option<Answer> {
-        let slot = self.sends.get_mut(index)?;
-        *slot = None;
-        Some(Answer::Done)
     }
 
     fn begin_recv(&mut self) -> Option<Answer> {
@@ -158,8 +142,12 @@ impl<'a, P: TimedPort<u64>, A: Allocator + Copy> Held<'a, P, A> {
         }
     }
 
-    /// Polls the receive.
-    pub fn poll_recv(&mut self, task: &MockTask) -> Option<Answer> {
+    fn drop_recv(&mut self) -> Option<Answer> {
+        self.recvs.pop()?;
+        Some(Answer::Done)
+    }
+
+    fn poll_recv(&mut self, task: &MockTask) -> Option<Answer> {
         match self.recvs.last_mut()? {
             HeldRecv::Plain(recv) => Some(of_recv_poll(task.poll(recv))),
             HeldRecv::Boxed(recv) => Some(of_recv_poll(task.poll(&mut **recv))),

@@ -3,9 +3,6 @@ ghost use Rattle.std.specs.Prelude.{◌<◌};
 
 use bcast_text::number::number;
 
-/// The most bytes that a line may have, its LF aside.
-pub const LONGEST: u32 = 200;
-
 /// What a call is made on.
 #[derive(Clone, Copy)]
 pub enum Subject {
@@ -103,30 +100,17 @@ fn subject_of(word: &str) -> Option<Subject> {
 /// try_broadcast_all MESSAGE ..`.
 pub fn read_request(text: &str) -> Option<Request<'_>> {
     let (word, rest) = text.split_once(' ')?;
-    let subject = subject_of(word)?;
     let (index, rest) = rest.split_once(' ')?;
-    let index = number(index)? as usize;
-    match rest.split_once(' ') {
-        None => Some(Request {
-            subject,
-            index,
-            method: rest,
-            argument: None,
-            list: "",
-        }),
-        Some((method, list)) if method == "try_broadcast_all" => Some(Request {
-            subject,
-            index,
-            method,
-            argument: None,
-            list,
-        }),
-        Some((method, argument)) => Some(Request {
-            subject,
-            index,
-            method,
-            argument: Some(number(argument)?),
-            list: "",
-        }),
-    }
+    let (method, argument, list) = match rest.split_once(' ') {
+        None => (rest, None, ""),
+        Some((method, list)) if method == "try_broadcast_all" => (method, None, list),
+        Some((method, argument)) => (method, Some(number(argument)?), ""),
+    };
+    Some(Request {
+        subject: subject_of(word)?,
+        index: number(index)? as usize,
+        method,
+        argument,
+        list,
+    })
 }

@@ -30,11 +30,17 @@ mod sender;
 mod session;
 mod settings;
 
-use bcast_text::ending::report;
+use bcast_text::ending::{Ending, report};
 use script::play;
+use std::io::Read;
 use std::process::ExitCode;
 
 fn main(rt: HostRuntime) -> ExitCode {
-    let ending = play(&rt, rt.alloc(), rt.stdin(), rt.stdout());
+    let mut text = String::new(rt.alloc());
+    let ending = if rt.stdin().read_to_string(&mut text).is_ok() {
+        play(&rt, rt.alloc(), text.as_str(), rt.stdout())
+    } else {
+        Ending::InputFailed
+    };
     report(ending, &mut rt.stderr())
 }

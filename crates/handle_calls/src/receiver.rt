@@ -1,74 +1,46 @@
 //! Calls on receivers.
 use crate::answer::Answer;
-use crate::handles::Handles;
+use crate::handles::{Handles, add, drop_at};
 use crate::held::of_recv_poll;
-use crate::settings::{by_handle, setting_of};
+use crate::line::Request;
+use crate::settings::by_handle;
 use async_broadcast::{Receiver, TimedPort};
 use bcast_text::input::Fault;
 use futures::StreamExt;
 use futures::task::Poll;
 use futures::test::MockTask;
-use std::alloc::{Allocator, Global};
+use std::alloc::Allocator;
 use std::time::Duration;
 
-/// Makes a call on a receiver: one of its own, or one that every handle has.
+/// Makes a call on a receiver: one of its own, or one that every handle has. A batch is put into
+/// `msgs`, which is empty.
 fn answer<P: TimedPort<u64>, A: Allocator + Copy>(
-    alloc: Global,
     receiver: &mut Receiver<u64, P, A>,
-    method: &str,
-    argument: Option<u64>,
+    request: Request<'_>,
+    msgs: &mut Vec<u64>,
 ) -> Option<Answer> {
-    match (method, argument) {
-        ("try_recv", None) => Some(Answer::of_try_recv(receiver.try_recv())),
-        ("recv_blocking", None) => Some(received(receiver)),
+    match (request.method, request.argument) {
+        ("try_recv", None) => Some(Answer::of_recv(receiver.try_recv())),
+        ("recv_blocking", None) => Some(Answer::of_recv(receiver.recv_blocking())),
         ("recv_timeout", Some(nanoseconds)) => {
             let received = receiver.recv_timeout(Duration::from_nanos(nanoseconds));
-            Some(Answer::of_timed_recv(received))
+            Some(Answer::of_recv(received))
         }
-        ("try_recv_many", Some(limit)) => Some(tried_many(alloc, receiver, limit as usize)),
-        ("recv_many_blocking", Some(limit)) => Some(received_many(alloc, receiver, limit as usize)),
-        ("recv_many_timeout", Some(limit)) => Some(timed_many(alloc, receiver, limit as usize)),
+        ("try_recv_many", Some(limit)) => {
+            let received = receiver.try_recv_many(limit as usize, msgs);
+            Some(Answer::of_recv_many(received, msgs.as_slice()))
+        }
+        ("recv_many_blocking", Some(limit)) => {
+            let received = receiver.recv_many_blocking(limit as usize, msgs);
+            Some(Answer::of_recv_many(received, msgs.as_slice()))
+        }
+        ("recv_many_timeout", Some(limit)) => {
+            let received = receiver.recv_many_timeout(limit as usize, msgs, Duration::ZERO);
+            Some(Answer::of_recv_many(received, msgs.as_slice()))
+        }
         ("is_terminated", None) => Some(Answer::Is(receiver.is_terminated())),
-        _ => Some(by_handle(receiver, setting_of(method, argument)?)),
+        _ => by_handle(receiver, request),
     }
-}
-
-fn received<P: TimedPort<u64>, A: Allocator + Copy>(receiver: &mut Receiver<u64, P, A>) -> Answer {
-    match receiver.recv_blocking() {
-        Ok(answer) => Answer::of_recv(answer),
-        Err(_) => Answer::NoMemory,
-    }
-}
-
-fn tried_many<P: TimedPort<u64>, A: Allocator + Copy>(
-    alloc: Global,
-    receiver: &mut Receiver<u64, P, A>,
-    limit: usize,
-) -> Answer {
-    let mut msgs = Vec::new(alloc);
-    let answer = receiver.try_recv_many(limit, &mut msgs);
-    Answer::of_try_recv_many(answer, msgs.as_slice())
-}
-
-fn received_many<P: TimedPort<u64>, A: Allocator + Copy>(
-    alloc: Global,
-    receiver: &mut Receiver<u64, P, A>,
-    limit: usize,
-) -> Answer {
-    let mut msgs = Vec::new(alloc);
-    let answer = receiver.recv_many_blocking(limit, &mut msgs);
-    Answer::of_recv_many(answer, msgs.as_slice())
-}
-
-// The time is over at once.
-fn timed_many<P: TimedPort<u64>, A: Allocator + Copy>(
-    alloc: Global,
-    receiver: &mut Receiver<u64, P, A>,
-    limit: usize,
-) -> Answer {
-    let mut msgs = Vec::new(alloc);
-    let answer = receiver.recv_many_timeout(limit, &mut msgs, Duration::from_nanos(0));
-    Answer::of_timed_recv_many(answer, msgs.as_slice())
 }
 
 fn poll_recv<P: TimedPort<u64>, A: Allocator + Copy>(
@@ -76,7 +48,7 @@ fn poll_recv<P: TimedPort<u64>, A: Allocator + Copy>(
     receiver: &mut Receiver<u64, P, A>,
 ) -> Answer {
     match task.enter(|cx| receiver.poll_recv(cx)) {
-        Ok(Poll::Ready(Some(answer))) => Answer::of_recv(answer),
+        Ok(Poll::Ready(Some(answer))) => Answer::of_recv(Ok(answer)),
         Ok(Poll::Ready(None)) => Answer::Ended,
         Ok(Poll::Pending) => Answer::Pending,
         Err(_) => Answer::NoMemory,
@@ -104,42 +76,41 @@ fn poll_future<P: TimedPort<u64>, A: Allocator + Copy>(
 }
 
 impl<P: TimedPort<u64>, A: Allocator + Copy> Handles<P, A> {
-    /// Makes a call on the receiver of this number. Batches are put into lists from `alloc`.
-    pub fn by_receiver(
-        &mut self,
-        alloc: Global,
-        index: usize,
-        method: &str,
-        argument: Option<u64>,
-    ) -> Result<Answer, Fault> {
-        let Some(Some(receiver)) = self.receivers.get_mut(index) else {
+    /// Makes a call on a receiver.
+    pub fn by_receiver(&mut self, request: Request<'_>) -> Result<Answer, Fault> {
+        let alloc = *self.receivers.allocator();
+        let Some(Some(receiver)) = self.receivers.get_mut(request.index) else {
             return Err(Fault::NotACall);
         };
-        match method {
+        match request.method {
             "clone" => {
                 let made = receiver.clone();
-                self.add_receiver(made)
+                add(&mut self.receivers, made)
             }
             "new_receiver" => {
                 let made = receiver.new_receiver();
-                self.add_receiver(made)
+                add(&mut self.receivers, made)
             }
             "new_sender" => {
                 let made = receiver.new_sender();
-                self.add_sender(made)
+                add(&mut self.senders, made)
             }
-            "deactivate" => self.deactivate(index),
-            "drop" => self.drop_receiver(index),
-            _ => answer(alloc, receiver, method, argument).ok_or(Fault::NotACall),
+            "deactivate" => self.deactivate(request.index),
+            "drop" => drop_at(&mut self.receivers, request.index),
+            _ => {
+                let mut msgs = Vec::new(alloc);
+                answer(receiver, request, &mut msgs).ok_or(Fault::NotACall)
+            }
         }
     }
 
-    /// Polls the receiver of this number in a task.
-    pub fn poll_receiver(&mut self, index: usize, method: &str, task: &MockTask) -> Option<Answer> {
-        let Some(Some(receiver)) = self.receivers.get_mut(index) else {
+    /// Polls a receiver in a task.
+    pub fn poll_receiver(&mut self, request: Request<'_>) -> Option<Answer> {
+        let task = self.tasks.get(request.argument? as usize)?;
+        let Some(Some(receiver)) = self.receivers.get_mut(request.index) else {
             return None;
         };
-        match method {
+        match request.method {
             "poll_recv" => Some(poll_recv(task, receiver)),
             "poll_next" => Some(poll_next(task, receiver)),
             "poll_future" => Some(poll_future(task, receiver)),
@@ -155,21 +126,11 @@ impl<P: TimedPort<u64>, A: Allocator + Copy> Handles<P, A> {
             return Err(Fault::NotACall);
         };
         match receiver.deactivate() {
-            Ok(made) => self.add_inactive(Ok(made)),
+            Ok(made) => add(&mut self.inactive, Ok(made)),
             Err((back, error)) => {
                 *slot = Some(back);
                 Ok(Answer::of_error(error))
             }
-        }
-    }
-
-    fn drop_receiver(&mut self, index: usize) -> Result<Answer, Fault> {
-        match self.receivers.get_mut(index) {
-            Some(slot) => {
-                *slot = None;
-                Ok(Answer::Done)
-            }
-            None => Err(Fault::NotACall),
         }
     }
 }

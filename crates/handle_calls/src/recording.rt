@@ -10,6 +10,8 @@ use futures::task::Context;
 use replies::{Outcome, answered, reply_to, waited};
 use std::alloc::{AllocError, Allocator, Global};
 use std::cell::Cell;
+use std::io;
+use std::io::Write;
 use std::rc::Rc;
 use std::time::Duration;
 
@@ -18,7 +20,7 @@ mod replies;
 /// The calls since the last look: nothing, one call, two in this order, or this many, of which the
 /// last is kept.
 #[derive(Debug, Drop)]
-pub enum Record {
+enum Record {
     Nothing,
     Once(Call<u64>),
     Twice(Call<u64>, Call<u64>),
@@ -80,9 +82,10 @@ impl Recorder {
         true
     }
 
-    /// The calls since the last look.
-    pub fn look(&self) -> Record {
-        self.state.record.replace(Record::Nothing)
+    /// Writes the calls since the last look.
+    pub fn write_record<W: Write>(&self, output: &mut W) -> io::Result<()> {
+        let record = self.state.record.replace(Record::Nothing);
+        write!(output, " asked {record:?}")
     }
 }
 

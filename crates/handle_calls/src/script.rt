@@ -1,60 +1,47 @@
 //! A script, played line by line.
+use crate::handles::{Handles, add};
 use crate::held::{Held, Makers};
-use crate::line::{Capacity, Futures, LONGEST, Opening, read_opening, read_request};
+use crate::line::{Capacity, Futures, Opening, read_opening, read_request};
 use crate::recording::Recorder;
-use crate::session::{ChannelPorts, Ports, Session, tasks_of};
+use crate::session::tasks_of;
 use async_broadcast::{InactiveReceiver, Receiver, Sender, TimedPort, broadcast};
 use bcast_text::ending::Ending;
 use bcast_text::input::Fault;
-use bcast_text::lines::{Found, Lines};
 use futures::test::MockTask;
 use linked_list_allocator::LocalHeap;
 use std::alloc::{AllocGlobal, Allocator, Global};
-use std::io::{BufWriter, Read, Write};
+use std::io::{BufWriter, Write};
 use std::random::RandomSource;
-use std::str;
+use std::str::Lines;
 use std::sync::Wait;
 use std::time::Clock;
 
-/// The lines of a script, counted.
+/// The lines of a script that are still to be played.
 #[derive(Drop)]
-struct Script<R> {
-    lines: Lines<R>,
+struct Script<'a> {
+    lines: Lines<'a>,
     // The number of the last line that was read.
     number: u64,
-    // Whether a read failed.
-    has_failed: bool,
 }
 
-impl<R: Read + Drop> Script<R> {
+impl<'a> Script<'a> {
     /// The next line. None: there is no more.
-    fn next(&mut self) -> Result<Option<&str>, Fault> {
+    fn next(&mut self) -> Option<&'a str> {
         self.number = self.number.saturating_add(1);
-        match self.lines.next() {
-            Ok(Found::End) => Ok(None),
-            Ok(Found::Line) => match str::from_utf8(self.lines.text()) {
-                Ok(text) => Ok(Some(text)),
-                Err(_) => Err(Fault::NotACall),
-            },
-            Ok(Found::TooLong) => Err(Fault::NotACall),
-            Err(_) => {
-                self.has_failed = true;
-                Err(Fault::NotACall)
-            }
-        }
+        self.lines.next()
     }
 }
 
 /// Plays lines up to the next opening. None: up to the end.
-fn play_lines<S: Ports, P: TimedPort<u64>, A: Allocator + Copy, R: Read + Drop, W: Write>(
-    ports: &S,
-    session: &mut Session<P, A>,
+fn play_lines<P: TimedPort<u64>, A: Allocator + Copy, W: Write>(
+    recorder: Option<&Recorder>,
+    handles: &mut Handles<P, A>,
     held: &mut Held<'_, P, A>,
-    script: &mut Script<R>,
+    script: &mut Script<'_>,
     output: &mut W,
 ) -> Result<Option<Opening>, Fault> {
     for _ in 0..u64::MAX {
-        let Some(text) = script.next()? else {
+        let Some(text) = script.next() else {
             return Ok(None);
         };
         output.write_all(text.as_bytes())?;
@@ -64,9 +51,11 @@ fn play_lines<S: Ports, P: TimedPort<u64>, A: Allocator + Copy, R: Read + Drop, 
         }
         if !text.starts_with('#') {
             let request = read_request(text).ok_or(Fault::NotACall)?;
-            let answer = session.answer(ports, held, request)?;
+            let answer = handles.answer(recorder, held, request)?;
             write!(output, " -> {answer:?}")?;
-            ports.write_record(output)?;
+            if let Some(recorder) = recorder {
+                recorder.write_record(output)?;
+            }
         }
         output.write_all(b"\n")?;
     }
@@ -74,11 +63,11 @@ fn play_lines<S: Ports, P: TimedPort<u64>, A: Allocator + Copy, R: Read + Drop, 
 }
 
 /// Plays the lines of a channel.
-fn play_channel<S: Wait + Clock + RandomSource + AllocGlobal, R: Read + Drop, W: Write>(
+fn play_channel<S: Wait + Clock + RandomSource + AllocGlobal, W: Write>(
     rt: &S,
     alloc: Global,
     (capacity, futures): (Capacity, Futures),
-    script: &mut Script<R>,
+    script: &mut Script<'_>,
     output: &mut W,
 ) -> Result<Option<Opening>, Fault> {
     let tasks = tasks_of(rt, alloc)?;
@@ -87,13 +76,13 @@ fn play_channel<S: Wait + Clock + RandomSource + AllocGlobal, R: Read + Drop, W:
 }
 
 /// Plays the lines of a sender and a receiver.
-fn play_handles<P: TimedPort<u64>, R: Read + Drop, W: Write>(
+fn play_handles<P: TimedPort<u64>, W: Write>(
     alloc: Global,
     tasks: Vec<MockTask>,
     futures: Futures,
     sender: Sender<u64, P>,
     receiver: Receiver<u64, P>,
-    script: &mut Script<R>,
+    script: &mut Script<'_>,
     output: &mut W,
 ) -> Result<Option<Opening>, Fault> {
     let mut makers = Makers {
@@ -105,19 +94,19 @@ fn play_handles<P: TimedPort<u64>, R: Read + Drop, W: Write>(
         Futures::Sends => makers.sender = sender.clone().ok(),
         Futures::Receive => makers.receiver = receiver.clone().ok(),
     }
-    let mut session = Session::new(alloc, tasks);
-    session.handles.add_sender(Ok(sender))?;
-    session.handles.add_receiver(Ok(receiver))?;
+    let mut handles = Handles::new(alloc, tasks);
+    add(&mut handles.senders, Ok(sender))?;
+    add(&mut handles.receivers, Ok(receiver))?;
     let mut held = Held::new(alloc, &mut makers);
-    play_lines(&ChannelPorts, &mut session, &mut held, script, output)
+    play_lines(None, &mut handles, &mut held, script, output)
 }
 
 /// Plays the lines of handles over recording ports. The handles take their memory from `memory`.
-fn play_recorded<A: Allocator + Copy, R: Read + Drop, W: Write>(
+fn play_recorded<A: Allocator + Copy, W: Write>(
     alloc: Global,
     memory: A,
     tasks: Vec<MockTask>,
-    script: &mut Script<R>,
+    script: &mut Script<'_>,
     output: &mut W,
 ) -> Result<Option<Opening>, Fault> {
     let recorder = Recorder::new(alloc)?;
@@ -125,23 +114,23 @@ fn play_recorded<A: Allocator + Copy, R: Read + Drop, W: Write>(
         sender: Some(Sender::from_port(recorder.port(memory)?, memory)),
         receiver: Some(Receiver::from_port(recorder.port(memory)?, 4, memory)),
     };
-    let mut session = Session::new(alloc, tasks);
+    let mut handles = Handles::new(alloc, tasks);
     let sender = Sender::from_port(recorder.port(memory)?, memory);
-    session.handles.add_sender(Ok(sender))?;
+    add(&mut handles.senders, Ok(sender))?;
     let receiver = Receiver::from_port(recorder.port(memory)?, 3, memory);
-    session.handles.add_receiver(Ok(receiver))?;
+    add(&mut handles.receivers, Ok(receiver))?;
     let inactive = InactiveReceiver::from_port(recorder.port(memory)?, memory);
-    session.handles.add_inactive(Ok(inactive))?;
+    add(&mut handles.inactive, Ok(inactive))?;
     let mut held = Held::new(alloc, &mut makers);
-    play_lines(&recorder, &mut session, &mut held, script, output)
+    play_lines(Some(&recorder), &mut handles, &mut held, script, output)
 }
 
 /// Plays the lines up to the next opening.
-fn play_opening<S: Wait + Clock + RandomSource + AllocGlobal, R: Read + Drop, W: Write>(
+fn play_opening<S: Wait + Clock + RandomSource + AllocGlobal, W: Write>(
     rt: &S,
     alloc: Global,
     opening: Opening,
-    script: &mut Script<R>,
+    script: &mut Script<'_>,
     output: &mut W,
 ) -> Result<Option<Opening>, Fault> {
     match opening {
@@ -158,12 +147,12 @@ fn play_opening<S: Wait + Clock + RandomSource + AllocGlobal, R: Read + Drop, W:
 }
 
 /// The first opening, after comments. None: there is none.
-fn first_opening<R: Read + Drop, W: Write>(
-    script: &mut Script<R>,
+fn first_opening<W: Write>(
+    script: &mut Script<'_>,
     output: &mut W,
 ) -> Result<Option<Opening>, Fault> {
     for _ in 0..u64::MAX {
-        let Some(text) = script.next()? else {
+        let Some(text) = script.next() else {
             return Ok(None);
         };
         writeln!(output, "{text}")?;
@@ -178,10 +167,10 @@ fn first_opening<R: Read + Drop, W: Write>(
 }
 
 /// Plays all lines.
-fn play_script<S: Wait + Clock + RandomSource + AllocGlobal, R: Read + Drop, W: Write>(
+fn play_script<S: Wait + Clock + RandomSource + AllocGlobal, W: Write>(
     rt: &S,
     alloc: Global,
-    script: &mut Script<R>,
+    script: &mut Script<'_>,
     output: &mut W,
 ) -> Result<(), Fault> {
     let mut next = first_opening(script, output)?;
@@ -194,23 +183,19 @@ fn play_script<S: Wait + Clock + RandomSource + AllocGlobal, R: Read + Drop, W: 
     Ok(())
 }
 
-/// Plays the script `input`, and writes each line with what its call returned.
-pub fn play<S: Wait + Clock + RandomSource + AllocGlobal, R: Read + Drop, W: Write + Drop>(
+/// Plays the script `text`, and writes each line with what its call returned.
+pub fn play<S: Wait + Clock + RandomSource + AllocGlobal, W: Write + Drop>(
     rt: &S,
     alloc: Global,
-    input: R,
+    text: &str,
     output: W,
 ) -> Ending {
-    let Ok(lines) = Lines::new(alloc, input, LONGEST) else {
-        return Ending::NoMemory;
-    };
     let Ok(mut output) = BufWriter::new(alloc, output) else {
         return Ending::NoMemory;
     };
     let mut script = Script {
-        lines,
+        lines: text.lines(),
         number: 0,
-        has_failed: false,
     };
     let ended = play_script(rt, alloc, &mut script, &mut output);
     match (output.flush(), ended) {
@@ -218,7 +203,6 @@ pub fn play<S: Wait + Clock + RandomSource + AllocGlobal, R: Read + Drop, W: Wri
         (_, Ok(())) => Ending::Done,
         (_, Err(Fault::NoMemory)) => Ending::NoMemory,
         (_, Err(Fault::OutputFailed)) => Ending::OutputFailed,
-        (_, Err(Fault::NotACall)) if script.has_failed => Ending::InputFailed,
         (_, Err(Fault::NotACall)) => Ending::NotACall(script.number),
     }
 }

@@ -36,40 +36,34 @@ impl Seen {
     }
 }
 
-/// What the handles so far have seen: nothing, the same, or not the same.
-#[derive(Clone, Copy)]
-struct Agreed(Answer);
-
-impl Agreed {
-    fn add(&mut self, seen: Seen) {
-        let before = self.0;
-        self.0 = match before {
-            Answer::Done => Answer::All(seen),
-            Answer::All(before) if before == seen => Answer::All(seen),
-            _ => Answer::Differs,
-        };
+/// What the handles so far have seen, and one more. `Done` stands for no handle.
+fn agreed(before: Answer, seen: Seen) -> Answer {
+    match before {
+        Answer::Done => Answer::All(seen),
+        Answer::All(before) if before == seen => Answer::All(seen),
+        _ => Answer::Differs,
     }
 }
 
 impl<P: TimedPort<u64>, A: Allocator + Copy> Handles<P, A> {
     /// What each handle sees of the channel, or that they don't all see the same.
     pub fn seen(&self) -> Answer {
-        let mut agreed = Agreed(Answer::Done);
+        let mut answer = Answer::Done;
         for sender in &self.senders {
             if let Some(sender) = sender {
-                agreed.add(Seen::by(sender));
+                answer = agreed(answer, Seen::by(sender));
             }
         }
         for receiver in &self.receivers {
             if let Some(receiver) = receiver {
-                agreed.add(Seen::by(receiver));
+                answer = agreed(answer, Seen::by(receiver));
             }
         }
         for inactive in &self.inactive {
             if let Some(inactive) = inactive {
-                agreed.add(Seen::by(inactive));
+                answer = agreed(answer, Seen::by(inactive));
             }
         }
-        agreed.0
+        answer
     }
 }

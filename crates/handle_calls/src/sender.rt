@@ -1,7 +1,8 @@
 //! Calls on senders.
 use crate::answer::Answer;
-use crate::handles::Handles;
-use crate::settings::{by_handle, setting_of};
+use crate::handles::{Handles, add, drop_at};
+use crate::line::Request;
+use crate::settings::by_handle;
 use async_broadcast::{Sender, TimedPort};
 use bcast_text::input::Fault;
 use bcast_text::number::numbers;
@@ -11,66 +12,50 @@ use std::time::Duration;
 /// Sends, or makes a call that every handle has.
 fn answer<P: TimedPort<u64>, A: Allocator + Copy>(
     sender: &mut Sender<u64, P, A>,
-    method: &str,
-    argument: Option<u64>,
+    request: Request<'_>,
 ) -> Option<Answer> {
-    match (method, argument) {
+    match (request.method, request.argument) {
         ("try_broadcast", Some(msg)) => Some(Answer::of_try_send(sender.try_broadcast(msg))),
         ("broadcast_blocking", Some(msg)) => Some(Answer::of_send(sender.broadcast_blocking(msg))),
         ("broadcast_timeout", Some(msg)) => {
             let sent = sender.broadcast_timeout(msg, Duration::ZERO);
             Some(Answer::of_timed_send(sent))
         }
-        _ => Some(by_handle(sender, setting_of(method, argument)?)),
+        _ => by_handle(sender, request),
     }
 }
 
 impl<P: TimedPort<u64>, A: Allocator + Copy> Handles<P, A> {
-    /// Makes a call on the sender of this number.
-    pub fn by_sender(
-        &mut self,
-        index: usize,
-        method: &str,
-        argument: Option<u64>,
-    ) -> Result<Answer, Fault> {
-        let Some(Some(sender)) = self.senders.get_mut(index) else {
+    /// Makes a call on a sender.
+    pub fn by_sender(&mut self, request: Request<'_>) -> Result<Answer, Fault> {
+        let Some(Some(sender)) = self.senders.get_mut(request.index) else {
             return Err(Fault::NotACall);
         };
-        match method {
+        match request.method {
             "clone" => {
                 let made = sender.clone();
-                self.add_sender(made)
+                add(&mut self.senders, made)
             }
             "new_receiver" => {
                 let made = sender.new_receiver();
-                self.add_receiver(made)
+                add(&mut self.receivers, made)
             }
-            "drop" => self.drop_sender(index),
-            _ => answer(sender, method, argument).ok_or(Fault::NotACall),
+            "drop" => drop_at(&mut self.senders, request.index),
+            _ => answer(sender, request).ok_or(Fault::NotACall),
         }
     }
 
-    /// Sends a list of messages by the sender of this number.
-    pub fn send_all(&mut self, index: usize, list: &str) -> Result<Answer, Fault> {
+    /// Sends a list of messages by a sender.
+    pub fn send_all(&mut self, request: Request<'_>) -> Result<Answer, Fault> {
         let alloc = *self.senders.allocator();
-        let Some(Some(sender)) = self.senders.get_mut(index) else {
+        let Some(Some(sender)) = self.senders.get_mut(request.index) else {
             return Err(Fault::NotACall);
         };
-        if list.is_empty() {
+        if request.list.is_empty() {
             let none = Vec::new(alloc);
             return Ok(Answer::of_send_all(sender.try_broadcast_all(none)));
         }
-        let msgs = numbers(alloc, list)?.ok_or(Fault::NotACall)?;
+        let msgs = numbers(alloc, request.list)?.ok_or(Fault::NotACall)?;
         Ok(Answer::of_send_all(sender.try_broadcast_all(msgs.into_vec())))
-    }
-
-    fn drop_sender(&mut self, index: usize) -> Result<Answer, Fault> {
-        match self.senders.get_mut(index) {
-            Some(slot) => {
-                *slot = None;
-                Ok(Answer::Done)
-            }
-            None => Err(Fault::NotACall),
-        }
     }
 }

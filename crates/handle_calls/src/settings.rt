@@ -1,58 +1,58 @@
 //! What every handle returns of its channel's settings and sets there.
 use crate::answer::Answer;
-use crate::line::Capacity;
+use crate::line::{Capacity, Request};
 use async_broadcast::{Handle, Role, TimedPort};
 use std::alloc::{AllocError, Allocator};
 
-/// A call that every handle has.
-#[derive(Clone, Copy)]
-pub enum Setting {
-    Capacity,
-    Overflow,
-    AwaitActive,
-    Close,
-    IsClosed,
-    IsEmpty,
-    IsFull,
-    Len,
-    ReceiverCount,
-    InactiveReceiverCount,
-    SenderCount,
-    SetCapacity(Capacity),
-    SetOverflow(bool),
-    SetAwaitActive(bool),
-}
-
-/// The call of this name.
-pub fn setting_of(method: &str, argument: Option<u64>) -> Option<Setting> {
-    match argument {
-        None => plain(method),
-        Some(number) => with_number(method, number),
+/// Makes a call that every handle has. None: it is not one.
+pub fn by_handle<P: TimedPort<u64>, K: Role, A: Allocator + Copy>(
+    handle: &mut Handle<u64, P, K, A>,
+    request: Request<'_>,
+) -> Option<Answer> {
+    match request.argument {
+        None => plain(handle, request.method),
+        Some(number) => with_number(handle, request.method, number),
     }
 }
 
-fn with_number(method: &str, number: u64) -> Option<Setting> {
+fn plain<P: TimedPort<u64>, K: Role, A: Allocator + Copy>(
+    handle: &Handle<u64, P, K, A>,
+    method: &str,
+) -> Option<Answer> {
     match method {
-        "set_capacity" => Some(Setting::SetCapacity(Capacity::new(number)?)),
-        "set_overflow" => Some(Setting::SetOverflow(number != 0)),
-        "set_await_active" => Some(Setting::SetAwaitActive(number != 0)),
+        "capacity" => Some(Answer::Count(handle.capacity())),
+        "overflow" => Some(Answer::Is(handle.overflow())),
+        "await_active" => Some(Answer::Is(handle.await_active())),
+        "close" => Some(Answer::Is(handle.close())),
+        "is_closed" => Some(Answer::Is(handle.is_closed())),
+        "is_empty" => Some(Answer::Is(handle.is_empty())),
+        "is_full" => Some(Answer::Is(handle.is_full())),
+        "len" => Some(Answer::Count(handle.len())),
+        "receiver_count" => Some(Answer::Count(handle.receiver_count())),
+        "inactive_receiver_count" => Some(Answer::Count(handle.inactive_receiver_count())),
+        "sender_count" => Some(Answer::Count(handle.sender_count())),
         _ => None,
     }
 }
 
-fn plain(method: &str) -> Option<Setting> {
+fn with_number<P: TimedPort<u64>, K: Role, A: Allocator + Copy>(
+    handle: &mut Handle<u64, P, K, A>,
+    method: &str,
+    number: u64,
+) -> Option<Answer> {
     match method {
-        "capacity" => Some(Setting::Capacity),
-        "overflow" => Some(Setting::Overflow),
-        "await_active" => Some(Setting::AwaitActive),
-        "close" => Some(Setting::Close),
-        "is_closed" => Some(Setting::IsClosed),
-        "is_empty" => Some(Setting::IsEmpty),
-        "is_full" => Some(Setting::IsFull),
-        "len" => Some(Setting::Len),
-        "receiver_count" => Some(Setting::ReceiverCount),
-        "inactive_receiver_count" => Some(Setting::InactiveReceiverCount),
-        "sender_count" => Some(Setting::SenderCount),
+        "set_capacity" => {
+            let capacity = Capacity::new(number)?;
+            Some(of_set(handle.set_capacity(capacity.count)))
+        }
+        "set_overflow" => {
+            handle.set_overflow(number != 0);
+            Some(Answer::Done)
+        }
+        "set_await_active" => {
+            handle.set_await_active(number != 0);
+            Some(Answer::Done)
+        }
         _ => None,
     }
 }
@@ -61,34 +61,5 @@ fn of_set(answer: Result<(), AllocError>) -> Answer {
     match answer {
         Ok(()) => Answer::Done,
         Err(_) => Answer::NoMemory,
-    }
-}
-
-/// Makes the call by a handle.
-pub fn by_handle<P: TimedPort<u64>, K: Role, A: Allocator + Copy>(
-    handle: &mut Handle<u64, P, K, A>,
-    setting: Setting,
-) -> Answer {
-    match setting {
-        Setting::Capacity => Answer::Count(handle.capacity()),
-        Setting::Overflow => Answer::Is(handle.overflow()),
-        Setting::AwaitActive => Answer::Is(handle.await_active()),
-        Setting::Close => Answer::Is(handle.close()),
-        Setting::IsClosed => Answer::Is(handle.is_closed()),
-        Setting::IsEmpty => Answer::Is(handle.is_empty()),
-        Setting::IsFull => Answer::Is(handle.is_full()),
-        Setting::Len => Answer::Count(handle.len()),
-        Setting::ReceiverCount => Answer::Count(handle.receiver_count()),
-        Setting::InactiveReceiverCount => Answer::Count(handle.inactive_receiver_count()),
-        Setting::SenderCount => Answer::Count(handle.sender_count()),
-        Setting::SetCapacity(capacity) => of_set(handle.set_capacity(capacity.count)),
-        Setting::SetOverflow(on) => {
-            handle.set_overflow(on);
-            Answer::Done
-        }
-        Setting::SetAwaitActive(on) => {
-            handle.set_await_active(on);
-            Answer::Done
-        }
     }
 }

@@ -81,7 +81,7 @@ pub(super) fn reply_to(outcome: Outcome, call: Call<u64>) -> Reply<u64>
     }
 }
 
-fn tried(outcome: Outcome, msg: u64) -> Result<Option<u64>, TrySendError<u64>> {
+fn tried<M: Drop>(outcome: Outcome, msg: M) -> Result<Option<u64>, TrySendError<M>> {
     match outcome {
         Outcome::Grant => Ok(None),
         Outcome::Overflow => Ok(Some(OLDEST)),
@@ -92,12 +92,8 @@ fn tried(outcome: Outcome, msg: u64) -> Result<Option<u64>, TrySendError<u64>> {
 }
 
 fn tried_all(outcome: Outcome, msgs: Messages<u64>) -> Result<(), TrySendError<Messages<u64>>> {
-    match outcome {
-        Outcome::Grant | Outcome::Overflow => Ok(()),
-        Outcome::Refuse | Outcome::Wait => Err(TrySendError::Full(msgs)),
-        Outcome::Close => Err(TrySendError::Closed(msgs)),
-        Outcome::Inactive => Err(TrySendError::Inactive(msgs)),
-    }
+    tried(outcome, msgs)?;
+    Ok(())
 }
 
 /// What a send that needn't wait is given.
