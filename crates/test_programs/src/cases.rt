@@ -2,7 +2,7 @@
 use crate::arguments;
 use crate::failing::{cut_after_each_byte, each_read_and_write_fails, too_little_memory};
 use crate::lock_rows::Tally;
-use crate::play::{Played, Player, in_pieces, play};
+use crate::play::{Played, Player, Text, in_pieces};
 use crate::refused::refused_lines;
 use crate::short::write_refused;
 use crate::told::write_notices;
@@ -25,8 +25,8 @@ pub fn run<R: Wait + RandomSource + AllocGlobal, W: Write>(
     let (kind, name) = head.split_once(' ').unwrap_or((head, ""));
     writeln!(output, "# {head}")?;
     match kind {
-        "script" => script_case(alloc, Player::Script, body, output),
-        "topics" => script_case(alloc, Player::Topics, body, output),
+        "script" => script_case(&Text::new(alloc, Player::Script, body.as_bytes()), output),
+        "topics" => script_case(&Text::new(alloc, Player::Topics, body.as_bytes()), output),
         "trace" => trace_case(rt, alloc, body, tally, output),
         "told" => told_case(rt, alloc, body, tally, output),
         "failing" => failing_case(alloc, name, body, output),
@@ -38,27 +38,16 @@ pub fn run<R: Wait + RandomSource + AllocGlobal, W: Write>(
 }
 
 /// Writes what a script or lines on topics write, and how that ends.
-fn script_case<W: Write>(
-    alloc: Global,
-    player: Player,
-    text: &str,
-    output: &mut W,
-) -> io::Result<()> {
-    let played = play(alloc, alloc, player, text.as_bytes(), in_pieces(8192));
-    write_played(alloc, player, text, &played, output)
+fn script_case<W: Write>(text: &Text<'_>, output: &mut W) -> io::Result<()> {
+    let played = text.play(in_pieces(8192));
+    write_played(text, &played, output)
 }
 
 /// Writes what was written for `text` and how that ended, and which other ways to play it differ.
-fn write_played<W: Write>(
-    alloc: Global,
-    player: Player,
-    text: &str,
-    played: &Played,
-    output: &mut W,
-) -> io::Result<()> {
+fn write_played<W: Write>(text: &Text<'_>, played: &Played, output: &mut W) -> io::Result<()> {
     output.write_all(played.wrote.as_slice())?;
     writeln!(output, "-- {:?}", played.ending)?;
-    write_other_ways(alloc, player, text, played, output)
+    write_other_ways(text, played, output)
 }
 
 /// Writes what a trace writes, and which notices its calls call.
@@ -70,7 +59,7 @@ fn told_case<R: Wait + RandomSource + AllocGlobal, W: Write>(
     output: &mut W,
 ) -> io::Result<()> {
     trace_case(rt, alloc, text, tally, output)?;
-    let played = play(alloc, alloc, Player::Trace, text.as_bytes(), in_pieces(7));
+    let played = Text::new(alloc, Player::Trace, text.as_bytes()).play(in_pieces(7));
     let listed = listed_from(alloc, &played)?;
     write_notices(alloc, text, listed.as_slice(), output)
 }
@@ -84,14 +73,9 @@ fn trace_case<R: Wait + RandomSource + AllocGlobal, W: Write>(
     tally: &mut Tally,
     output: &mut W,
 ) -> io::Result<()> {
-    let played = play(
-        alloc,
-        alloc,
-        Player::Trace,
-        text.as_bytes(),
-        in_pieces(8192),
-    );
-    write_played(alloc, Player::Trace, text, &played, output)?;
+    let trace = Text::new(alloc, Player::Trace, text.as_bytes());
+    let played = trace.play(in_pieces(8192));
+    write_played(&trace, &played, output)?;
     if played.ending == Ending::Done {
         write_refused(alloc, text, output)?;
         tally.play(rt, alloc, text, output)?;
@@ -110,7 +94,7 @@ fn write_listed<W: Write>(
     wanted: &[u8],
     output: &mut W,
 ) -> io::Result<()> {
-    let listed = play(alloc, alloc, Player::List, text.as_bytes(), in_pieces(7));
+    let listed = Text::new(alloc, Player::List, text.as_bytes()).play(in_pieces(7));
     if listed.is(ending, wanted) {
         return output.write_all(b"-- the list: the same without views\n");
     }
@@ -137,21 +121,16 @@ pub fn listed_from(alloc: Global, traced: &Played) -> io::Result<Vec<u8>> {
 
 /// Plays `text` in small pieces, and without its last LF. Writes a line for each way that ends
 /// differently from `played`, or writes something else.
-fn write_other_ways<W: Write>(
-    alloc: Global,
-    player: Player,
-    text: &str,
-    played: &Played,
-    output: &mut W,
-) -> io::Result<()> {
-    let cut = text.strip_suffix('\n').unwrap_or(text);
-    for (name, text, given) in [
-        ("in pieces of 1", text, 1),
-        ("in pieces of 2", text, 2),
-        ("in pieces of 7", text, 7),
+fn write_other_ways<W: Write>(text: &Text<'_>, played: &Played, output: &mut W) -> io::Result<()> {
+    let whole = text.bytes;
+    let cut = whole.strip_suffix(b"\n").unwrap_or(whole);
+    for (name, bytes, given) in [
+        ("in pieces of 1", whole, 1),
+        ("in pieces of 2", whole, 2),
+        ("in pieces of 7", whole, 7),
         ("without the last LF", cut, 7),
     ] {
-        let other = play(alloc, alloc, player, text.as_bytes(), in_pieces(given));
+        let other = Text::new(text.alloc, text.player, bytes).play(in_pieces(given));
         if !other.is(played.ending, played.wrote.as_slice()) {
             other.describe(name, output)?;
         }
@@ -162,27 +141,23 @@ fn write_other_ways<W: Write>(
 /// Plays a script, lines on topics, or else a trace, with reads, writes and requests for memory
 /// that fail in turn.
 fn failing_case<W: Write>(alloc: Global, name: &str, text: &str, output: &mut W) -> io::Result<()> {
+    let bytes = text.as_bytes();
     match name {
-        "script" => failing_lines(alloc, Player::Script, text, output),
-        "topics" => failing_lines(alloc, Player::Topics, text, output),
+        "script" => failing_lines(&Text::new(alloc, Player::Script, bytes), output),
+        "topics" => failing_lines(&Text::new(alloc, Player::Topics, bytes), output),
         _ => {
-            failing(alloc, Player::Trace, text, output)?;
-            failing(alloc, Player::List, text, output)
+            failing(&Text::new(alloc, Player::Trace, bytes), output)?;
+            failing(&Text::new(alloc, Player::List, bytes), output)
         }
     }
 }
 
-fn failing_lines<W: Write>(
-    alloc: Global,
-    player: Player,
-    text: &str,
-    output: &mut W,
-) -> io::Result<()> {
-    cut_after_each_byte(alloc, player, text, output)?;
-    failing(alloc, player, text, output)
+fn failing_lines<W: Write>(text: &Text<'_>, output: &mut W) -> io::Result<()> {
+    cut_after_each_byte(text, output)?;
+    failing(text, output)
 }
 
-fn failing<W: Write>(alloc: Global, player: Player, text: &str, output: &mut W) -> io::Result<()> {
-    each_read_and_write_fails(alloc, player, text, output)?;
-    too_little_memory(alloc, player, text, output)
+fn failing<W: Write>(text: &Text<'_>, output: &mut W) -> io::Result<()> {
+    each_read_and_write_fails(text, output)?;
+    too_little_memory(text, output)
 }

@@ -1,10 +1,10 @@
 //! What is on standard error, and the status, for each way in which a run ends.
-use crate::play::{Player, in_pieces, play};
+use crate::play::{Player, Text, in_pieces, text_of};
 use bcast_text::ending::{Ending, Program, report};
 use std::alloc::Global;
+use std::io;
 use std::io::Write;
 use std::process::ExitCode;
-use std::{io, str};
 
 /// An ending, what must be on standard error, and the status.
 const ENDINGS: &[(Ending, &str, u8)] = &[
@@ -76,7 +76,7 @@ fn ended<W: Write>(
     status: u8,
     output: &mut W,
 ) -> io::Result<()> {
-    let played = play(alloc, alloc, Player::Script, text.as_bytes(), in_pieces(7));
+    let played = Text::new(alloc, Player::Script, text.as_bytes()).play(in_pieces(7));
     write!(output, "{:?} -- ", text_of(played.wrote.as_slice()))?;
     reported(alloc, played.ending, line, status, output)
 }
@@ -99,8 +99,4 @@ fn reported<W: Write>(
         output,
         "{wrote:?}, {code:?}, and not {line:?}, status {status}"
     )
-}
-
-fn text_of(bytes: &[u8]) -> &str {
-    str::from_utf8(bytes).unwrap_or("bytes that are no text")
 }

@@ -1,33 +1,25 @@
 //! Reads, writes and requests for memory that fail, each in turn.
-use crate::play::{Played, Player, Way, in_pieces, play};
+use crate::play::{Played, Player, Text, Way, in_pieces};
 use bcast_text::ending::Ending;
 use linked_list_allocator::LocalHeap;
-use std::alloc::Global;
 use std::io;
 use std::io::Write;
 
 /// Plays `text` with more and more reads before one fails, and so with writes, until none fails.
-pub fn each_read_and_write_fails<W: Write>(
-    alloc: Global,
-    player: Player,
-    text: &str,
-    output: &mut W,
-) -> io::Result<()> {
-    each_call_fails(alloc, player, text, 7, Ending::InputFailed, output)?;
-    each_call_fails(alloc, player, text, 7, Ending::OutputFailed, output)?;
-    each_call_fails(alloc, player, text, 8192, Ending::OutputFailed, output)
+pub fn each_read_and_write_fails<W: Write>(text: &Text<'_>, output: &mut W) -> io::Result<()> {
+    each_call_fails(text, 7, Ending::InputFailed, output)?;
+    each_call_fails(text, 7, Ending::OutputFailed, output)?;
+    each_call_fails(text, 8192, Ending::OutputFailed, output)
 }
 
 /// Plays `text` with more and more calls before one fails, which must end it as `failure`.
 fn each_call_fails<W: Write>(
-    alloc: Global,
-    player: Player,
-    text: &str,
+    text: &Text<'_>,
     given: usize,
     failure: Ending,
     output: &mut W,
 ) -> io::Result<()> {
-    let whole = play(alloc, alloc, player, text.as_bytes(), in_pieces(given));
+    let whole = text.play(in_pieces(given));
     for calls in 0..1000 {
         let mut way = in_pieces(given);
         if failure == Ending::InputFailed {
@@ -35,8 +27,8 @@ fn each_call_fails<W: Write>(
         } else {
             way.writes = calls;
         }
-        if is_played(alloc, player, text, way, &whole, failure, output)? {
-            return write_count(player, failure, calls > 9, output);
+        if is_played(text, way, &whole, failure, output)? {
+            return write_count(text.player, failure, calls > 9, output);
         }
     }
     output.write_all(b"it never ends\n")
@@ -44,34 +36,27 @@ fn each_call_fails<W: Write>(
 
 /// Whether `text` played in this way gives the same as `whole`. If not, it must end as `failure`.
 fn is_played<W: Write>(
-    alloc: Global,
-    player: Player,
-    text: &str,
+    text: &Text<'_>,
     way: Way,
     whole: &Played,
     failure: Ending,
     output: &mut W,
 ) -> io::Result<bool> {
-    let played = play(alloc, alloc, player, text.as_bytes(), way);
+    let played = text.play(way);
     write_unless_failed(&played, whole, failure, output)
 }
 
 /// Plays `text` over larger and larger heaps until there is memory for it.
-pub fn too_little_memory<W: Write>(
-    alloc: Global,
-    player: Player,
-    text: &str,
-    output: &mut W,
-) -> io::Result<()> {
+pub fn too_little_memory<W: Write>(text: &Text<'_>, output: &mut W) -> io::Result<()> {
     // The memory for a line of the greatest length.
-    let least = match player {
+    let least = match text.player {
         Player::Script | Player::Topics => 0,
         Player::Trace | Player::List => 1 << 20,
     };
-    let whole = play(alloc, alloc, player, text.as_bytes(), in_pieces(7));
+    let whole = text.play(in_pieces(7));
     for amount in 1..4096 {
-        if is_played_over(alloc, player, text, least + 16 * amount, &whole, output)? {
-            return write_count(player, Ending::NoMemory, amount > 1000, output);
+        if is_played_over(text, least + 16 * amount, &whole, output)? {
+            return write_count(text.player, Ending::NoMemory, amount > 1000, output);
         }
     }
     output.write_all(b"it never ends\n")
@@ -79,15 +64,13 @@ pub fn too_little_memory<W: Write>(
 
 /// Whether `text` played over a heap of this size gives `whole`. If not, memory must be refused.
 fn is_played_over<W: Write>(
-    alloc: Global,
-    player: Player,
-    text: &str,
+    text: &Text<'_>,
     size: usize,
     whole: &Played,
     output: &mut W,
 ) -> io::Result<bool> {
-    let heap = LocalHeap::new(alloc, size)?;
-    let played = play(alloc, &heap, player, text.as_bytes(), in_pieces(7));
+    let heap = LocalHeap::new(text.alloc, size)?;
+    let played = text.play_over(&heap, in_pieces(7));
     write_unless_failed(&played, whole, Ending::NoMemory, output)
 }
 
@@ -120,16 +103,11 @@ fn write_count<W: Write>(
 
 /// Plays the beginnings of a script, or of lines on topics. Each is done, or ends at the line that
 /// is cut.
-pub fn cut_after_each_byte<W: Write>(
-    alloc: Global,
-    player: Player,
-    text: &str,
-    output: &mut W,
-) -> io::Result<()> {
-    let bytes = text.as_bytes();
+pub fn cut_after_each_byte<W: Write>(text: &Text<'_>, output: &mut W) -> io::Result<()> {
+    let bytes = text.bytes;
     for cut in 0..bytes.len() {
         let beginning = &bytes[..cut];
-        let played = play(alloc, alloc, player, beginning, in_pieces(7));
+        let played = Text::new(text.alloc, text.player, beginning).play(in_pieces(7));
         let lines = beginning.iter().filter(|byte| **byte == b'\n').count() as u64;
         if played.ending != Ending::Done && played.ending != Ending::NotACall(lines + 1) {
             played.describe("a beginning", output)?;

@@ -41,15 +41,19 @@ pub fn with_memory<'a>(
     requires { HasPositiveCapacity call.now }
     ensures { IfOk result (λ made. IfSome made HasPositiveCapacity) }
 {
-    if let Call::TryBroadcastAll(numbers) = call {
-        let msgs = list_with_memory(alloc, heap, numbers.as_slice())?;
-        return Ok(Some(Call::TryBroadcastAll(msgs)));
+    match call {
+        Call::TryBroadcast(number) => Ok(Some(Call::TryBroadcast(Heavy::new(heap, *number)?))),
+        Call::TryBroadcastAll(numbers) => {
+            let msgs = list_with_memory(alloc, heap, numbers.as_slice())?;
+            Ok(Some(Call::TryBroadcastAll(msgs)))
+        }
+        Call::AttemptSend(number) => Ok(Some(Call::AttemptSend(Heavy::new(heap, *number)?))),
+        Call::PollSend(place, number) => {
+            let msg = Heavy::new(heap, *number)?;
+            Ok(Some(Call::PollSend(*place, msg)))
+        }
+        _ => Ok(without_message(call)),
     }
-    let Some(number) = number_of(call) else {
-        return Ok(without_message(call));
-    };
-    let msg = Heavy::new(heap, number)?;
-    Ok(Some(with_message(call, msg)))
 }
 
 /// Messages of these numbers, in a list.
@@ -63,27 +67,6 @@ fn list_with_memory<'a>(
         msgs.push(Heavy::new(heap, *number)?)?;
     }
     Ok(Messages::new(msgs))
-}
-
-/// The number that the call sends, if it sends one.
-fn number_of(call: &Call<u64>) -> Option<u64> {
-    match call {
-        Call::TryBroadcast(number) | Call::AttemptSend(number) | Call::PollSend(_, number) => {
-            Some(*number)
-        }
-        _ => None,
-    }
-}
-
-/// The call with this message, if it sends one.
-fn with_message<'a>(call: &Call<u64>, msg: Heavy<'a>) -> Call<Heavy<'a>>
-    ensures { HasPositiveCapacity result }
-{
-    match call {
-        Call::AttemptSend(_) => Call::AttemptSend(msg),
-        Call::PollSend(place, _) => Call::PollSend(*place, msg),
-        _ => Call::TryBroadcast(msg),
-    }
 }
 
 /// The call, if it has no message and is no accessor.

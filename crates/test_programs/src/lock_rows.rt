@@ -17,7 +17,7 @@ use std::sync::Wait;
 
 mod asking;
 pub mod beside;
-mod seen;
+pub mod seen;
 
 /// The ways in which each trace is played.
 const WAYS: [Way; 4] = [Way::Typed, Way::Data, Way::Waiting, Way::LateLock];

@@ -52,30 +52,48 @@ pub struct Played {
     pub writes: u64,
 }
 
-/// Plays `text` with memory of `alloc`. What is written, and the messages of lists, are in
-/// `memory`.
-pub fn play<A: Allocator + Copy>(
-    memory: Global,
-    alloc: A,
-    player: Player,
-    text: &[u8],
-    way: Way,
-) -> Played {
-    let reader = Pieces {
-        bytes: text,
-        piece: way.given,
-        calls: way.reads,
-    };
-    let mut writer = Taker {
-        taken: Vec::new(memory),
-        piece: way.taken,
-        calls: way.writes,
-    };
-    let ending = buffered(alloc, memory, player, reader, &mut writer);
-    Played {
-        ending,
-        wrote: writer.taken,
-        writes: writer.calls,
+/// A text, and what plays it.
+#[derive(Clone, Copy)]
+pub struct Text<'a> {
+    /// For what is written, and for the messages of lists.
+    pub alloc: Global,
+    pub player: Player,
+    pub bytes: &'a [u8],
+}
+
+impl<'a> Text<'a> {
+    /// A text that `play` plays with memory of `alloc`.
+    pub fn new(alloc: Global, player: Player, bytes: &'a [u8]) -> Self {
+        Text {
+            alloc,
+            player,
+            bytes,
+        }
+    }
+
+    /// Plays it in this way.
+    pub fn play(&self, way: Way) -> Played {
+        self.play_over(self.alloc, way)
+    }
+
+    /// Plays it in this way, with memory of this `alloc`.
+    pub fn play_over<A: Allocator + Copy>(&self, alloc: A, way: Way) -> Played {
+        let reader = Pieces {
+            bytes: self.bytes,
+            piece: way.given,
+            calls: way.reads,
+        };
+        let mut writer = Taker {
+            taken: Vec::new(self.alloc),
+            piece: way.taken,
+            calls: way.writes,
+        };
+        let ending = buffered(alloc, self.alloc, self.player, reader, &mut writer);
+        Played {
+            ending,
+            wrote: writer.taken,
+            writes: writer.calls,
+        }
     }
 }
 
@@ -106,7 +124,11 @@ impl Played {
 
     /// Writes in one line what it wrote, and how it ended.
     pub fn describe<W: Write>(&self, name: &str, output: &mut W) -> io::Result<()> {
-        let wrote = str::from_utf8(self.wrote.as_slice()).unwrap_or("bytes that are no text");
+        let wrote = text_of(self.wrote.as_slice());
         writeln!(output, "-- {name}: {:?} after {wrote:?}", self.ending)
     }
+}
+
+pub fn text_of(bytes: &[u8]) -> &str {
+    str::from_utf8(bytes).unwrap_or("bytes that are no text")
 }

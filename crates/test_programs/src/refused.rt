@@ -1,5 +1,5 @@
 //! Lines that are not calls.
-use crate::play::{Played, Player, in_pieces, play};
+use crate::play::{Played, Player, Text, in_pieces};
 use std::alloc::Global;
 use std::io;
 use std::io::Write;
@@ -40,8 +40,8 @@ pub fn refused<W: Write>(
     let end = if first.is_empty() { "" } else { "\n" };
     let text = format!(in alloc; "{first}{end}{line}\n")?;
     let cut = text.as_str().strip_suffix('\n').unwrap_or("");
-    let whole = play(alloc, alloc, player, text.as_str().as_bytes(), in_pieces(7));
-    let cut = play(alloc, alloc, player, cut.as_bytes(), in_pieces(7));
+    let whole = Text::new(alloc, player, text.as_str().as_bytes()).play(in_pieces(7));
+    let cut = Text::new(alloc, player, cut.as_bytes()).play(in_pieces(7));
     write_both(player, &whole, &cut, output)
 }
 

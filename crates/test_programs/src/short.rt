@@ -2,11 +2,12 @@
 ghost use Rattle.bcast_model.specs.Next.{HasPositiveCapacity};
 
 use crate::heavy::{Heavy, with_memory};
+use crate::lock_rows::seen::accessors_of_inner;
 use bcast_core::{Call, HandleError, Inner, Reply, Silent, step};
 use bcast_trace::line::{Line, read_line};
 use bcast_trace::opening::{Opening, read_opening};
 use linked_list_allocator::LocalHeap;
-use std::alloc::{AllocError, Allocator, Global};
+use std::alloc::{AllocError, Global};
 use std::io;
 use std::io::Write;
 
@@ -24,35 +25,6 @@ enum Outcome {
     Refused(Vec<usize>),
     /// The call of this line had another reply, or changed something.
     Wrong(usize),
-}
-
-/// What all accessors return.
-#[derive(Clone, Copy, PartialEq, Eq)]
-struct Seen {
-    counts: [usize; 5],
-    flags: [bool; 6],
-    end: u64,
-}
-
-fn seen_of<A: Allocator + Copy>(inner: &Inner<Heavy<'_>, Silent, A>) -> Seen {
-    Seen {
-        counts: [
-            inner.capacity(),
-            inner.len(),
-            inner.receiver_count(),
-            inner.inactive_receiver_count(),
-            inner.sender_count(),
-        ],
-        flags: [
-            inner.overflow(),
-            inner.await_active(),
-            inner.is_empty(),
-            inner.is_full(),
-            inner.is_closed(),
-            inner.is_terminated(),
-        ],
-        end: inner.end_number(),
-    }
 }
 
 /// Whether a call was refused memory.
@@ -126,6 +98,11 @@ impl<'a> Pair<'a> {
         })
     }
 
+    /// Whether all accessors return the same of both channels.
+    fn looks_equal(&self) -> bool {
+        accessors_of_inner(&self.short) == accessors_of_inner(&self.other)
+    }
+
     /// Makes the call of a line, if it has one.
     fn play_line(
         &mut self,
@@ -162,7 +139,7 @@ impl<'a> Pair<'a> {
         };
         let taken = fill(alloc, self.heap, left)?;
         let reply = step(&mut self.short, first, Silent);
-        let is_unchanged = seen_of(&self.short) == seen_of(&self.other);
+        let is_unchanged = self.looks_equal();
         drop(taken);
         let wanted = step(&mut self.other, wanted, Silent);
         if reply == wanted {

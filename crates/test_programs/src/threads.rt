@@ -8,7 +8,7 @@ use bcast_text::threads::outcome::print_seen;
 use bcast_threads::plan::{Plan, run as run_plan, threads};
 use bcast_threads::work::{receive_all, send_all};
 use linked_list_allocator::LocalHeap;
-use std::alloc::{AllocError, Global};
+use std::alloc::Global;
 use std::io;
 use std::io::{BufWriter, Write};
 use std::marker::Brand;
@@ -111,19 +111,13 @@ fn compared<W: Write>(alloc: Global, output: &mut W) -> io::Result<()> {
         ([0, 1, 1], [0, 1, 1]),
         ([0, 1, 3], [0, 1, 3]),
     ] {
-        let mut lists = Vec::new(alloc);
-        lists.push(list_of(alloc, first)?)?;
-        lists.push(list_of(alloc, second)?)?;
+        let mut lists: Vec<Vec<u64>> = Vec::new(alloc);
+        lists.push(Vec::from_slice(alloc, &first)?)?;
+        lists.push(Vec::from_slice(alloc, &second)?)?;
         let ending = print_seen(alloc, lists.as_slice(), 3, output);
         writeln!(output, "-- {ending:?} of {first:?} and {second:?}")?;
     }
     Ok(())
-}
-
-fn list_of(alloc: Global, numbers: [u64; 3]) -> Result<Vec<u64>, AllocError> {
-    let mut list = Vec::new(alloc);
-    list.extend_from_slice(&numbers)?;
-    Ok(list)
 }
 
 /// What is done on a channel of its own.

@@ -1,7 +1,7 @@
 //! Lines that a text file does not show, and when answers are written.
-use crate::play::{Played, Player, Way, in_pieces, play};
+use crate::play::{Played, Player, Text, Way, in_pieces};
 use crate::refused::refused;
-use crate::streams::{NoBytes, Pieces, Taker};
+use crate::streams::NoBytes;
 use bcast_play::seeded_hub_script;
 use std::alloc::Global;
 use std::io;
@@ -50,28 +50,19 @@ pub fn run<W: Write>(alloc: Global, output: &mut W) -> io::Result<()> {
 
 /// Plays a line on topics without a seed for the hash of their names.
 fn no_seed<W: Write>(alloc: Global, output: &mut W) -> io::Result<()> {
-    let reader = Pieces {
-        bytes: b"open a 1\n",
-        piece: 7,
-        calls: u64::MAX,
-    };
-    let mut writer = Taker {
-        taken: Vec::new(alloc),
-        piece: 7,
-        calls: 100,
-    };
-    let ending = seeded_hub_script(&NoBytes, alloc, reader, &mut writer);
+    let mut wrote = Vec::new(alloc);
+    let ending = seeded_hub_script(&NoBytes, alloc, b"open a 1\n".as_slice(), &mut wrote);
     let played = Played {
         ending,
-        wrote: writer.taken,
-        writes: writer.calls,
+        wrote,
+        writes: 0,
     };
     played.describe("a line", output)
 }
 
 /// Plays bytes that are not UTF-8 text.
 fn no_text<W: Write>(alloc: Global, player: Player, text: &[u8], output: &mut W) -> io::Result<()> {
-    let played = play(alloc, alloc, player, text, in_pieces(7));
+    let played = Text::new(alloc, player, text).play(in_pieces(7));
     played.describe("bytes that are no text", output)
 }
 
@@ -88,13 +79,7 @@ fn long_line<W: Write>(
     for _ in 0..count {
         text.push_str(byte)?;
     }
-    let played = play(
-        alloc,
-        alloc,
-        player,
-        text.as_str().as_bytes(),
-        in_pieces(8192),
-    );
+    let played = Text::new(alloc, player, text.as_str().as_bytes()).play(in_pieces(8192));
     write!(output, "{player:?} {count} ")?;
     // A view is long, and other cases show what it has.
     if played.wrote.len() > first.len() {
@@ -111,7 +96,7 @@ fn writes<W: Write>(alloc: Global, given: usize, output: &mut W) -> io::Result<(
         reads: u64::MAX,
         writes: 100,
     };
-    let played = play(alloc, alloc, Player::Script, b"cap 1\nclose\nclose\n", way);
+    let played = Text::new(alloc, Player::Script, b"cap 1\nclose\nclose\n").play(way);
     let made = 100u64.saturating_sub(played.writes);
     writeln!(
         output,

@@ -4,8 +4,8 @@ ghost use Rattle.bcast_model.specs.Next.{HasPositiveCapacity};
 use async_broadcast::{Port, RecvError, TaskWaker};
 use bcast_core::{
     AddHandle, AddReceiver, AtOnce, AttemptSend, BeginSend, Call, Change, Close, Count, EndNumber,
-    PollFuture, PollNext, PollRecv, PollSend, Reply, SendPoll, SetCapacity, Test, TryBroadcast,
-    TryBroadcastAll, TryRecv, TryRecvError,
+    PollFuture, PollNext, PollRecv, PollSend, Polls, Reply, SendPoll, SetCapacity, Test,
+    TryBroadcast, TryBroadcastAll, TryRecv, TryRecvError,
 };
 use futures::test::MockTask;
 use std::alloc::AllocError;
@@ -35,11 +35,7 @@ pub(super) fn ask<P: Port<u64>>(
 {
     match way {
         Way::Typed | Way::LateLock => typed(task, port, call),
-        Way::Data => {
-            let mut waker = TaskWaker::new();
-            task.enter(|cx| port.poll(&mut (), call, &mut waker, cx))
-                .ok()
-        }
+        Way::Data => polled(task, port, call),
         Way::Waiting => waiting(task, port, call, wanted),
     }
 }
@@ -49,9 +45,10 @@ fn typed<P: Port<u64>>(task: &MockTask, port: &P, call: Call<u64>) -> Option<Rep
     requires { HasPositiveCapacity call }
 {
     let reply = match call {
-        Call::PollSend(..) | Call::PollFuture(_) | Call::PollRecv(_) | Call::PollNext(_) => {
-            return polled(task, port, call);
-        }
+        Call::PollSend(place, msg) => Reply::PollSend(polled(task, port, PollSend(place, msg))?),
+        Call::PollFuture(key) => Reply::PollFuture(polled(task, port, PollFuture(key))?),
+        Call::PollRecv(key) => Reply::PollRecv(polled(task, port, PollRecv(key))?),
+        Call::PollNext(key) => Reply::PollNext(polled(task, port, PollNext(key))?),
         Call::EndFuture(key) => {
             port.end_future(&mut (), key, false);
             Reply::EndFuture
@@ -82,30 +79,13 @@ pub(super) fn made<P: Port<u64>, C: AtOnce<u64>>(port: &P, call: C) -> C::Answer
     port.ask(&mut (), call)
 }
 
-/// Polls in the task.
-fn polled<P: Port<u64>>(task: &MockTask, port: &P, call: Call<u64>) -> Option<Reply<u64>> {
+/// Makes a call that may have to wait, in the task. None: there was no memory for a notice.
+fn polled<P: Port<u64>, C: Polls<u64>>(task: &MockTask, port: &P, call: C) -> Option<C::Answer>
+    requires { HasPositiveCapacity (C.call call) }
+{
     let mut waker = TaskWaker::new();
-    task.enter(|cx| match call {
-        Call::PollSend(place, msg) => {
-            let poll = port
-                .poll(&mut (), PollSend(place, msg), &mut waker, cx)
-                .ok()?;
-            Some(Reply::PollSend(poll))
-        }
-        Call::PollFuture(key) => {
-            let poll = port.poll(&mut (), PollFuture(key), &mut waker, cx).ok()?;
-            Some(Reply::PollFuture(poll))
-        }
-        Call::PollRecv(key) => {
-            let poll = port.poll(&mut (), PollRecv(key), &mut waker, cx).ok()?;
-            Some(Reply::PollRecv(poll))
-        }
-        Call::PollNext(key) => {
-            let poll = port.poll(&mut (), PollNext(key), &mut waker, cx).ok()?;
-            Some(Reply::PollNext(poll))
-        }
-        _ => None,
-    })
+    task.enter(|cx| port.poll(&mut (), call, &mut waker, cx))
+        .ok()
 }
 
 /// Makes a call that returns nothing, or hands it back if it isn't one.

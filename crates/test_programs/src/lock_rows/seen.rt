@@ -3,7 +3,7 @@ use super::Part;
 use super::asking::made;
 use async_broadcast::{Lock, Port};
 use bcast_core::{Count, EndNumber, Inner, Reply, Silent, Snapshot, Test};
-use std::alloc::{AllocError, Global};
+use std::alloc::{AllocError, Allocator, Global};
 use std::sync::Wait;
 
 /// A port that shows all that is seen of its channel.
@@ -49,7 +49,9 @@ fn accessors_of<P: Port<u64>>(port: &P) -> [Reply<u64>; 12] {
 }
 
 /// What a channel without a lock replies to all accessors.
-fn accessors_of_inner(alone: &Inner<u64, Silent>) -> [Reply<u64>; 12] {
+pub fn accessors_of_inner<T: Drop, A: Allocator + Copy>(
+    alone: &Inner<T, Silent, A>,
+) -> [Reply<u64>; 12] {
     [
         Reply::Overflow(alone.overflow()),
         Reply::AwaitActive(alone.await_active()),
