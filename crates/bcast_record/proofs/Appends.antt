@@ -1,12 +1,11 @@
 -- One more entry keeps the replay.
-use Rattle.std.proofs.Common.{◌≡◌, List, [], ◌∷◌, ◌++◌, map, sym, ap, ◌∙◌, subst, rules}
+use Rattle.std.proofs.Common.{◌≡◌, List, [], ◌∷◌, ◌++◌, map, sym, ap, ◌∙◌, rules}
 use Rattle.std.proofs.lemmas.List.{map-append}
 use Rattle.std.proofs.lemmas.Simd.{map-map}
-use Rattle.bcast_model.specs.Words.{HasPositiveCapacity, IsValid, View, Represents, Answers}
+use Rattle.bcast_model.specs.Words.{HasPositiveCapacity, View, Answers}
 use Rattle.bcast_model.proofs.Lists.{all_append}
 use Rattle.bcast_history.specs.declared.step.Opening.{Opening}
 use Rattle.bcast_history.specs.declared.step.Step.{Step}
-use Rattle.bcast_history.specs.History.{start_of}
 use Rattle.bcast_history.proofs.Appends.{calls_of-more, replays_longer}
 use Rattle.bcast_record.specs.declared.entry.Entry.{Entry}
 use Rattle.bcast_record.specs.Recording.{recording}
@@ -23,12 +22,6 @@ module _ {T : Type 0} where
 
   pub calls_of-entries : (o : Opening) (entries : List (Entry T)) → map (λ e. e.call) entries ≡ calls_of (recording o entries)
   calls_of-entries o entries = sym (map-map (λ s. s.call) (λ e. step_of e) entries)
-
-  -- no call was made on a new channel
-  pub replays_opened : (is_clone : T → T → Type 0) (o : Opening) (entries : List (Entry T)) (seen : View T) → entries ≡ []
-      → Represents seen (start_of o) → IsValid {T = T} (start_of o) → Replays is_clone (recording o entries) seen
-  replays_opened is_clone o entries seen none shown valid =
-      subst (λ es. Replays is_clone (recording o es) seen) (sym none) (record { run = tt; end = shown; valid = valid })
 
   pub replays_push : {is_clone : T → T → Type 0} (o : Opening) (entries longer : List (Entry T)) {seen after : View T} (entry : Entry T)
       → longer ≡ entries ++ entry ∷ [] → Replays is_clone (recording o entries) seen → Answers is_clone seen entry.call entry.reply after

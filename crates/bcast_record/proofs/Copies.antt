@@ -67,8 +67,8 @@ module _ {T : Type 0} where
   answered_list is_clone v after c r answers = legal_list is_clone v c r answers.legal
 
   -- an entry that was made with a copy of the call
-  pub same_entry : (made : Entry T) (seat : ℕ) (copy call : Call T) (r : Reply T) → made ≡ record { seat = seat; call = copy; reply = r } → copy ≡ call → made ≡ record { seat = seat; call = call; reply = r }
-  same_entry made seat copy call r is same = is ∙ (λ i. record { seat = seat; call = same i; reply = r })
+  pub same_entry : {made : Entry T} {seat : ℕ} {copy call : Call T} {r : Reply T} → made ≡ record { seat = seat; call = copy; reply = r } → copy ≡ call → made ≡ record { seat = seat; call = call; reply = r }
+  same_entry {seat = seat} {r = r} is same = is ∙ (λ i. record { seat = seat; call = same i; reply = r })
 
   -- the calls of the entries up to one more
   pub calls_more : (entries : List (Entry T)) (index : ℕ) (entry : Entry T) (copy : Call T) → index < length entries → entry ≡ get_or entries index entry → copy ≡ entry.call

@@ -25,7 +25,7 @@ module _ {T : Type 0} where
       let at = some_of (get v.control.cursors key) (subst (λ k. IsSome (get v.control.cursors k)) same is) in
       none-some at.0 (sym free ∙ at.1)
 
-  pub clone_is_fresh : {is_clone : T → T → Type 0} {v w : View T} {original key : ℕ} → Answers is_clone v (call.CloneReceiver original) (reply.CloneReceiver (Ok key)) w → IsFresh v key
+  clone_is_fresh : {is_clone : T → T → Type 0} {v w : View T} {original key : ℕ} → Answers is_clone v (call.CloneReceiver original) (reply.CloneReceiver (Ok key)) w → IsFresh v key
   clone_is_fresh {v = v} {key = key} a = elim a.legal [
     | inl gone ↦ absurd (let e = gone.1 in cc)
     | inr there ↦ elim there.1 [

@@ -75,24 +75,21 @@ module _ {S : Type 0} where
       ])
 
   -- ---- `new_receiver`
-  -- a new watcher has seen the latest settings
-  pub watched : {is_clone : S → S → Type 0} {v w : View S} {key : ℕ} → Answers is_clone v call.NewReceiver (reply.NewReceiver (Ok key)) w → IsConfig v → Looked v w key × (get w.control.cursors key ≡ Some v.end)
-  watched {v = v} {key = key} a config =
-      after a (λ u. Looked v u key × (get u.control.cursors key ≡ Some v.end)) (λ u s. (told_looked v u key _ s.0, s.1)) (seen_at v key config v.end refl, inserted v.control.cursors key v.end)
-
-  -- what holds after it, whether a watcher was added or not
+  -- what holds after it, whether a watcher was added, which has seen the latest settings, or not
   pub record Watches (v w : View S) (result : Result ℕ HandleError) : Type 0 where
     pub config : IsConfig w
     pub watcher : IfOk result (λ made. get w.control.cursors made ≡ Some v.end)
     pub others : IfOk result (λ made. KeepsOthers v w made)
 
-  pub watches : {is_clone : S → S → Type 0} {v w : View S} (result : Result ℕ HandleError) → Answers is_clone v call.NewReceiver (reply.NewReceiver result) w → IsConfig v → Watches v w result
-  watches (Ok key) a config = let s = watched a config in record { config = s.0.config; watcher = s.1; others = s.0.others }
-  watches {v = v} (Err error) a config = subst (λ u. Watches v u (Err error)) (sym (unchanged a refl refl)) (record { config = config; watcher = tt; others = tt })
+  pub watches : {is_clone : S → S → Type 0} {v w : View S} {result : Result ℕ HandleError} → Answers is_clone v call.NewReceiver (reply.NewReceiver result) w → IsConfig v → Watches v w result
+  watches {v = v} {result = Ok key} a config =
+      let s = after a (λ u. Looked v u key × (get u.control.cursors key ≡ Some v.end)) (λ u s. (told_looked v u key _ s.0, s.1)) (seen_at v key config v.end refl, inserted v.control.cursors key v.end) in
+      record { config = s.0.config; watcher = s.1; others = s.0.others }
+  watches {v = v} {result = Err error} a config = subst (λ u. Watches v u (Err error)) (sym (unchanged a refl refl)) (record { config = config; watcher = tt; others = tt })
 
   -- ---- `try_broadcast`
   -- only the last of the kept messages is left
-  pub latest : {is_clone : S → S → Type 0} {v w : View S} {msg : S} {back : Option S} → Answers is_clone v (call.TryBroadcast msg) (reply.TryBroadcast (Ok back)) w → IsConfig v → (w.queue ≡ msg ∷ []) × (w.end ≡ v.end + 1)
+  latest : {is_clone : S → S → Type 0} {v w : View S} {msg : S} {back : Option S} → Answers is_clone v (call.TryBroadcast msg) (reply.TryBroadcast (Ok back)) w → IsConfig v → (w.queue ≡ msg ∷ []) × (w.end ≡ v.end + 1)
   latest {v = v} {msg = msg} a config =
       let low : ℕ = least (v.end + 1) (values (accepting v.control (v.end + 1)).cursors) in
       let watcher = somebody v.control.cursors config.watchers in
@@ -107,7 +104,7 @@ module _ {S : Type 0} where
       (λ room. let room_at : length v.queue ≡ v.control.capacity → ⊥ = grind (arith, common_steps, room) in let none : length v.queue ≡ 0 = omega (arith, fits, one, room_at) in omega (arith, none, end, reach, behind)) in
       accepted a (λ u. (u.queue ≡ msg ∷ []) × (u.end ≡ v.end + 1)) (λ _ s. s) (drop_at v.queue (msg ∷ []) (max (max v.front (accept v msg).floor) low - v.front) size, refl)
 
-  pub set_latest : {is_clone : S → S → Type 0} {v w : View S} {msg : S} (result : Result (Option S) (TrySendError S)) (kept : Result (Unit {0}) S) → Answers is_clone v (call.TryBroadcast msg) (reply.TryBroadcast result) w → IsConfig v
+  pub set_latest : {is_clone : S → S → Type 0} {v w : View S} {msg : S} {result : Result (Option S) (TrySendError S)} {kept : Result (Unit {0}) S} → Answers is_clone v (call.TryBroadcast msg) (reply.TryBroadcast result) w → IsConfig v
       → kept ≡ set_answer result → OnOk kept ((w.queue ≡ msg ∷ []) × (w.end ≡ v.end + 1))
-  set_latest (Ok back) kept a config is = rw is (latest a config)
-  set_latest (Err error) kept a config is = rw is tt
+  set_latest {result = Ok back} a config is = rw is (latest a config)
+  set_latest {result = Err error} a config is = rw is tt

@@ -27,14 +27,18 @@ module _ {T : Type 0} where
   told_hub : (u : View T) → IsHub u → IsHub (told u)
   told_hub u hub = record { overflow = hub.overflow; sender = hub.sender; inactive = hub.inactive }
 
+  -- a hub of this capacity, open and unused, without subscribers
+  abbrev IsUnused : ℕ → View T → Type 0
+  IsUnused capacity u = IsHub u × (u.control.capacity ≡ capacity) × (u.control.closed ≡ false) × (u.end ≡ 0) × (len u.control.cursors ≡ 0)
+
   -- a new channel whose only receiver is deactivated is a new hub
   pub opened_hub : {v w : View T} {key capacity : ℕ} → Answers NoClone v (call.Deactivate key) (reply.Deactivate (Ok tt)) w → Represents v (opening capacity 0 key) → IsHub w × IsOpened w capacity
   opened_hub {v = v} {w = w} {key = key} {capacity = capacity} a new =
       let first : View T = view_of (opening capacity 0 key) in
-      let left : IsHub w × (w.control.capacity ≡ capacity) × (w.control.closed ≡ false) × (w.end ≡ 0) × (len w.control.cursors ≡ 0) =
-      after a (λ u. IsHub u × (u.control.capacity ≡ capacity) × (u.control.closed ≡ false) × (u.end ≡ 0) × (len u.control.cursors ≡ 0)) (λ u s. (told_hub u s.0, s.1, s.2, s.3, s.4))
-      (subst (λ (x : View T). let y : View T = settle x (sets (deactivate x.control key (cursor_of x.control key))) in IsHub y × (y.control.capacity ≡ capacity) × (y.control.closed ≡ false) × (y.end ≡ 0) × (len y.control.cursors ≡ 0)) (sym new)
-      (subst (λ o. let y : View T = settle first (sets (deactivate first.control key o)) in IsHub y × (y.control.capacity ≡ capacity) × (y.control.closed ≡ false) × (y.end ≡ 0) × (len y.control.cursors ≡ 0)) (sym (inserted none key 0))
+      let left : IsUnused capacity w =
+      after a (IsUnused capacity) (λ u s. (told_hub u s.0, s.1, s.2, s.3, s.4))
+      (subst (λ (x : View T). IsUnused capacity (settle x (sets (deactivate x.control key (cursor_of x.control key))))) (sym new)
+      (subst (λ o. IsUnused capacity (settle first (sets (deactivate first.control key o)))) (sym (inserted none key 0))
       (record { overflow = refl; sender = omega arith; inactive = omega arith }, refl, refl, refl, nobody key))) in
       let end = (valid_after a).end in
       let unused = left.3 in

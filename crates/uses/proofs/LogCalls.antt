@@ -2,14 +2,13 @@
 use Rattle.std.proofs.Common.{◌≡◌, inl, inr, ℕ, ◌+◌, ◌-◌, ◌<◌, ◌≤◌, Bool, true, false, [], ◌∷◌, drop, length, Option, Some, None, Result, Ok, Err, IfOk, refl, sym, ap, ◌∙◌, subst, arith}
 use Rattle.std.proofs.lemmas.List.{drop_more, drop_all}
 use Rattle.std.proofs.lemmas.Option.{slice_get_cases, slice_get_past}
-use Rattle.std.specs.Prelude.{IsOk, alloc_error}
-use Rattle.std.specs.declared.alloc.AllocError.{AllocError}
+use Rattle.std.specs.Prelude.{IsOk}
 use Rattle.std.specs.FinMap.{get}
 use Rattle.bcast_model.specs.declared.error.HandleError.{HandleError}
 use Rattle.bcast_model.specs.declared.error.TryRecvError.{TryRecvError}
 use Rattle.bcast_model.specs.declared.run.Call.TheVariants as call
 use Rattle.bcast_model.specs.declared.run.Reply.TheVariants as reply
-use Rattle.bcast_model.specs.Words.{Found, Control, cursor_of, with_cursor, sets, clone_receiver, IsOwed}
+use Rattle.bcast_model.specs.Words.{Found, Control, cursor_of, with_cursor, sets}
 use Rattle.bcast_model.specs.Words.{recv_reply, receive, try_recv_reply, ClonesEqual, settle, View}
 use Rattle.bcast_model.specs.Words.{kept_at, Answers, IsValidView}
 use Rattle.bcast_model.proofs.Cases.{receive_is, uncloned}
@@ -17,10 +16,10 @@ use Rattle.bcast_model.proofs.Clones.{answers_exact}
 use Rattle.bcast_core.proofs.Settle.{settle_same}
 use Rattle.uses.specs.Log.{kept_from, unread, record_of, IsReader, IsFresh, IsLog, IsRead, KeepsReaders, KeepsUnread}
 use Rattle.uses.specs.Reading.{IsTaken}
-use Rattle.uses.proofs.Called.{told, some_of, valid, after, unchanged}
+use Rattle.uses.proofs.Called.{told, valid, after, unchanged}
 use Rattle.uses.proofs.Exact.{answered, exact_of, reply_at}
-use Rattle.uses.proofs.Logs.{told_log, ReadsFrom, told_reads, reads_from}
-use Rattle.uses.proofs.Added.{clone_is_fresh}
+use Rattle.uses.proofs.Logs.{told_log, reads_from}
+use Rattle.uses.proofs.Added.{cloned}
 
 module _ {T : Type 0} where
   -- ---- `try_recv`
@@ -100,15 +99,10 @@ module _ {T : Type 0} where
     pub fresh : IfOk result (IsFresh v)
     pub readers : KeepsReaders v w
 
-  pub adds : {is_clone : T → T → Type 0} {v w : View T} {key : ℕ} (result : Result ℕ HandleError) → Answers is_clone v (call.CloneReceiver key) (reply.CloneReceiver result) w → IsLog v → Adds v w key result
-  adds {v = v} {w = w} {key = key} (Ok made) a log = elim a.legal [
-    | inl gone ↦ absurd (let e = gone.1 in cc)
-    | inr there ↦
-        let at = some_of (cursor_of v.control key) there.0 in
-        let s : ReadsFrom v w made at.0 = after a (λ u. ReadsFrom v u made at.0) (λ u s. told_reads v u made at.0 s)
-        (subst (λ o. ReadsFrom v (settle v (sets (clone_receiver v.control o (Some made)))) made at.0) (sym at.1) (reads_from v made at.0 log (log.reach key at.0 at.1))) in
-        record { log = s.log; added = s.own ∙ sym (ap (kept_from v) at.1); others = s.others; reader = s.reader; fresh = clone_is_fresh a; readers = s.readers }
-  ]
-  adds {v = v} {w = w} {key = key} (Err error) a log =
+  pub adds : {is_clone : T → T → Type 0} {v w : View T} {key : ℕ} {result : Result ℕ HandleError} → Answers is_clone v (call.CloneReceiver key) (reply.CloneReceiver result) w → IsLog v → Adds v w key result
+  adds {key = key} {result = Ok made} a log =
+      let s = cloned key made a log in
+      record { log = s.log; added = s.starts; others = s.others; reader = s.reader; fresh = s.fresh; readers = s.readers }
+  adds {v = v} {w = w} {key = key} {result = Err error} a log =
       let same : w ≡ v = unchanged a (ap (λ c. sets c) (uncloned v.control (cursor_of v.control key))) refl in
       subst (λ u. Adds v u key (Err error)) (sym same) (record { log = log; added = tt; others = tt; reader = tt; fresh = tt; readers = λ other is. is })

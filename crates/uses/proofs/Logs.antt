@@ -23,8 +23,8 @@ module _ {T : Type 0} where
   told_log u log = record { overflow = log.overflow; reach = log.reach }
 
   -- ---- `broadcast`
-  pub new_log : (v : View T) (capacity key : ℕ) → Represents v (opening capacity 0 key) → IsValid (opening {T = T} capacity 0 key) → IsReader v key × (unread v key ≡ [])
-  new_log v capacity key new is_valid =
+  pub new_log : {v : View T} {capacity : ℕ} (key : ℕ) → Represents v (opening capacity 0 key) → IsValid (opening {T = T} capacity 0 key) → IsReader v key × (unread v key ≡ [])
+  new_log {capacity = capacity} key new is_valid =
       let none = (valid_view (opening {T = T} capacity 0 key) is_valid).end in
       grind (arith, common_steps, new, inserted empty key 0, none, nil_from_length {X = T} (view_of (opening {T = T} capacity 0 key)).queue, drop_all)
 

@@ -1,7 +1,7 @@
 -- What a watcher of settings finds.
 use Rattle.std.proofs.Common.{◌≡◌, inl, inr, ℕ, zero, suc, ◌-◌, ◌≤◌, Bool, true, false, cond, List, [], ◌∷◌, length, max, Option, Some, None, Result, Ok, Err, slice_get, refl, sym, ap, ◌∙◌, subst, arith}
 use Rattle.std.proofs.lemmas.Option.{none-some, same_Some, slice_get_cases}
-use Rattle.std.specs.Prelude.{IfSome, IfNone, alloc_error}
+use Rattle.std.specs.Prelude.{IfSome, IfNone}
 use Rattle.futures.specs.declared.task.Poll.{Poll}
 use Rattle.bcast_model.specs.declared.error.TryRecvError.{TryRecvError}
 use Rattle.bcast_model.specs.declared.error.TryRecvError.TheVariants as unread

@@ -2,7 +2,7 @@
 use Rattle.std.proofs.Common.{◌≡◌, ℕ, ◌+◌, ◌==◌, ◌≤◌, ◌<◌, ◌^◌, true, false, [], ◌∷◌, length, Option, Result, Ok, Err, refl, sym, ap, ◌∙◌, subst, arith, length-append}
 use Rattle.std.proofs.lemmas.Grind.{common_steps}
 use Rattle.std.proofs.lemmas.Bool.{true≢false}
-use Rattle.std.specs.Prelude.{IsOk, is_ok}
+use Rattle.std.specs.Prelude.{is_ok}
 use Rattle.std.specs.FinMap.{empty}
 use Rattle.bcast_model.specs.declared.error.TrySendError.{TrySendError}
 use Rattle.bcast_model.specs.declared.run.Call.TheVariants as call
@@ -36,16 +36,12 @@ module _ {T : Type 0} where
         room = omega (arith, end);
         numbers = omega (arith, few);
       } in
-      let reader = new_log v capacity key new is_valid in
+      let reader = new_log _ new is_valid in
       (subst (λ x. HasRoom x capacity) (sym new) has, reader.0, reader.1)
 
   -- ---- `try_broadcast`
   none_refused : (v : View T) (msg : T) (count : ℕ) → HasRoom v (count + 1) → is_ok (try_broadcast_reply v msg) ≡ true
   none_refused v msg count has = grind (arith, common_steps, has)
-
-  accepted : {is_clone : T → T → Type 0} {v w : View T} {msg : T} (count : ℕ) (r : Result (Option T) (TrySendError T)) → Answers is_clone v (call.TryBroadcast msg) (reply.TryBroadcast r) w → HasRoom v (count + 1) → IsOk r
-  accepted count (Ok back) a has = refl
-  accepted {v = v} {msg = msg} count (Err error) a has = absurd (true≢false (sym (none_refused v msg count has) ∙ ap is_ok (sym (replied a))))
 
   -- what holds after it, apart from the messages
   record Left (v u : View T) (count : ℕ) : Type 0 where
@@ -73,4 +69,4 @@ module _ {T : Type 0} where
         added = written.1;
         readers = rest.readers;
       }
-  sent count (Err error) a has = absurd (let e : false ≡ true = accepted count (Err error) a has in cc)
+  sent {v = v} {msg = msg} count (Err error) a has = absurd (true≢false (sym (none_refused v msg count has) ∙ ap is_ok (sym (replied a))))

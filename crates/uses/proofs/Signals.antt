@@ -53,8 +53,8 @@ module _ {is_clone : Nothing → Nothing → Type 0} {v w : View Nothing} {key :
       ap is_closed_reply (exactly ∙ ap (λ o. Ok (try_recv_reply v o)) at.1) ∙ none_found v (valid a) signal.unused at.0
 
 -- one more worker
-pub added : {is_clone : Nothing → Nothing → Type 0} {v w : View Nothing} (result : Result ℕ HandleError) → Answers is_clone v call.NewReceiver (reply.NewReceiver result) w → IfOk result (AddsWorker (signal_of v) (signal_of w))
-added {v = v} (Ok key) a =
+pub added : {is_clone : Nothing → Nothing → Type 0} {v w : View Nothing} {result : Result ℕ HandleError} → Answers is_clone v call.NewReceiver (reply.NewReceiver result) w → IfOk result (AddsWorker (signal_of v) (signal_of w))
+added {v = v} {result = Ok key} a =
     after a (λ u. AddsWorker (signal_of v) (signal_of u) key) (λ u s. record { holders = s.holders; worker = s.worker; others = s.others; only = s.only })
     (search (rules, inserted v.control.cursors key v.end, some_insert v.control.cursors key v.end, inserted_other v.control.cursors key v.end))
-added (Err error) a = tt
+added {result = Err error} a = tt

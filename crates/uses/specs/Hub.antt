@@ -1,5 +1,6 @@
 -- Events for subscribers that come and go.
-use Rattle.std.specs.Prelude.{◌≡◌, ◌≤◌, ℕ, false, [], Option, Some, None, Result, Ok, Err}
+use Rattle.std.specs.Prelude.{◌≡◌, ◌≤◌, ℕ, false, [], Option, Result, Ok}
+use Rattle.std.specs.Result.{result_ok}
 use Rattle.std.specs.FinMap.{len}
 use Rattle.bcast_model.specs.declared.error.TryRecvError.{TryRecvError}
 use Rattle.bcast_model.specs.declared.run.Call.TheVariants as call
@@ -25,15 +26,10 @@ module _ {E : Type 0} where
     pub opened : Represents made (opening asked 0 first)
     pub left : Answers NoClone made (call.Deactivate first) (reply.Deactivate (Ok tt)) v
 
-  -- `try_recv`: the message that it gives, if any
-  abbrev pub event_of : Result E TryRecvError → Option E
-  event_of (Ok event) = Some event
-  event_of (Err error) = None
-
   -- `try_recv`: a reply to this subscriber, read as an event or none
   pub record IsNextEvent
       (is_clone : E → E → Type 0) (old : View E) (subscriber : ℕ) (found : Option E)
       (new : View E) : Type 0 where
     pub received : Result E TryRecvError
-    pub event : found ≡ event_of received
+    pub event : found ≡ result_ok received
     pub answers : Answers is_clone old (call.TryRecv subscriber) (reply.TryRecv (Ok received)) new

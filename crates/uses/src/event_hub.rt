@@ -4,10 +4,10 @@ ghost use Rattle.bcast_model.specs.Words.{unsent_message, opening, NoClone, IsGi
 ghost use Rattle.bcast_model.specs.Words.{Represents};
 ghost use Rattle.bcast_model.specs.declared.run.Call.TheVariants as call;
 ghost use Rattle.bcast_model.specs.declared.run.Reply.TheVariants as reply;
-ghost use Rattle.uses.specs.Hub.{IsOpened, IsNextEvent, event_of};
+ghost use Rattle.uses.specs.Hub.{IsOpened, IsNextEvent};
 ghost use Rattle.uses.specs.Sends.{send_answer, send_reply};
 
-use bcast_core::{HandleError, Inner, Silent, TryRecvError, TrySendError};
+use bcast_core::{HandleError, Inner, Silent, TrySendError};
 use bcast_laws::states::received_is_given;
 use std::alloc::{AllocError, Global};
 use std::marker::Model;
@@ -129,13 +129,6 @@ impl<E: Clone> EventHub<E> {
         ensures sure { ((event : E) → E.is_infallible event) → IsOk result }
     {
         received_is_given::<E>();
-        Ok(into_event(self.inner.try_recv(subscriber)?))
+        Ok(self.inner.try_recv(subscriber)?.ok())
     }
-}
-
-// The event that a receive gave, if it gave one.
-fn into_event<E: Drop>(received: Result<E, TryRecvError>) -> Option<E>
-    ensures { result ≡ event_of received }
-{
-    received.ok()
 }

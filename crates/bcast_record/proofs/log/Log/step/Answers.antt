@@ -13,7 +13,7 @@ returns-clause-run g c =
     let opening = c.self.inside.opening in
     let entries = c.self.inside.entries.items in
     let entry : Entry g.row.T.Denot = record { seat = c.number.result; call = c.args.call; reply = c.step-reply.result } in
-    let stored : c.into_entries-stored.result.0 ≡ entry = same_entry _ c.number.result c.in-Some.spares.stored c.args.call c.step-reply.result c.into_entries-stored.ensures.stored c.in-Some.ensures.stored in
+    let stored : c.into_entries-stored.result.0 ≡ entry = same_entry c.into_entries-stored.ensures.stored c.in-Some.ensures.stored in
     (replays_push opening entries c.push_reserved.new.self.items entry (c.push_reserved.ensures.items ∙ (λ i. c.room.ensures.items i ++ stored i ∷ []))
     c.self.invariant.0 c.step-reply.ensures.answers).run
 
@@ -37,7 +37,7 @@ invariant_of-result g c =
     let opening = c.self.inside.opening in
     let entries = c.self.inside.entries.items in
     let entry : Entry g.row.T.Denot = record { seat = c.number.result; call = c.args.call; reply = c.step-reply.result } in
-    let given : c.into_entries-stored.result.1 ≡ entry = same_entry _ c.number.result c.in-Some.spares.given c.args.call c.step-reply.result c.into_entries-stored.ensures.given c.in-Some.ensures.given in
+    let given : c.into_entries-stored.result.1 ≡ entry = same_entry c.into_entries-stored.ensures.given c.in-Some.ensures.given in
     let place : length entries ≡ c.len-place.result = omega (arith, c.len-place.ensures, c.room.ensures.len, c.self.inside.entries.ok) in
     let notes : c.append.new.known ≡ notes_of opening (entries ++ entry ∷ []) =
     c.append.ensures.knows ∙ c.append.ensures.appended ∙ (λ i. c.self.invariant.1 i ++ note.Answered (given i) ∷ [])
@@ -51,8 +51,8 @@ invariant_of-self-2 g c =
     let opening = c.self.inside.opening in
     let entries = c.self.inside.entries.items in
     let entry : Entry g.row.T.Denot = record { seat = c.number.result; call = c.args.call; reply = c.step-reply.result } in
-    let stored : c.into_entries-stored.result.0 ≡ entry = same_entry _ c.number.result c.in-Some.spares.stored c.args.call c.step-reply.result c.into_entries-stored.ensures.stored c.in-Some.ensures.stored in
-    let given : c.into_entries-stored.result.1 ≡ entry = same_entry _ c.number.result c.in-Some.spares.given c.args.call c.step-reply.result c.into_entries-stored.ensures.given c.in-Some.ensures.given in
+    let stored : c.into_entries-stored.result.0 ≡ entry = same_entry c.into_entries-stored.ensures.stored c.in-Some.ensures.stored in
+    let given : c.into_entries-stored.result.1 ≡ entry = same_entry c.into_entries-stored.ensures.given c.in-Some.ensures.given in
     let pushed : c.push_reserved.new.self.items ≡ entries ++ entry ∷ [] =
     c.push_reserved.ensures.items ∙ (λ i. c.room.ensures.items i ++ stored i ∷ []) in (
       replays_push opening entries c.push_reserved.new.self.items entry pushed before.0 c.step-reply.ensures.answers,

@@ -7,6 +7,6 @@ invariant_of-self-2 g c = received_hub c.in_ok-try_recv.ensures.answers c.self.i
 pub returns-clause-answers : goal.returns-clause-answers
 returns-clause-answers g c = record {
   received = c.in_ok-try_recv.field-0;
-  event = c.into_event.ensures;
+  event = c.ok.ensures.value;
   answers = rw (← c.self.view_is) c.in_ok-try_recv.ensures.answers;
 }

@@ -2,19 +2,19 @@ use Rattle.uses.proofs.LogCalls.{adds}
 use Rattle.uses.proofs.log_fan_out.Log.add_reader.Goals as goal
 
 pub invariant_of-self : goal.invariant_of-self
-invariant_of-self c = (adds c.clone_receiver.result c.clone_receiver.ensures c.self.invariant).log
+invariant_of-self c = (adds c.clone_receiver.ensures c.self.invariant).log
 
 pub returns-clause-added : goal.returns-clause-added
-returns-clause-added c = rw (← c.self.view_is) (adds c.clone_receiver.result c.clone_receiver.ensures c.self.invariant).added
+returns-clause-added c = rw (← c.self.view_is) (adds c.clone_receiver.ensures c.self.invariant).added
 
 pub returns-clause-others : goal.returns-clause-others
-returns-clause-others c = rw (← c.self.view_is) (adds c.clone_receiver.result c.clone_receiver.ensures c.self.invariant).others
+returns-clause-others c = rw (← c.self.view_is) (adds c.clone_receiver.ensures c.self.invariant).others
 
 pub returns-clause-reader : goal.returns-clause-reader
-returns-clause-reader c = (adds c.clone_receiver.result c.clone_receiver.ensures c.self.invariant).reader
+returns-clause-reader c = (adds c.clone_receiver.ensures c.self.invariant).reader
 
 pub returns-clause-fresh : goal.returns-clause-fresh
-returns-clause-fresh c = rw (← c.self.view_is) (adds c.clone_receiver.result c.clone_receiver.ensures c.self.invariant).fresh
+returns-clause-fresh c = rw (← c.self.view_is) (adds c.clone_receiver.ensures c.self.invariant).fresh
 
 pub returns-clause-readers : goal.returns-clause-readers
-returns-clause-readers c = rw (← c.self.view_is) (adds c.clone_receiver.result c.clone_receiver.ensures c.self.invariant).readers
+returns-clause-readers c = rw (← c.self.view_is) (adds c.clone_receiver.ensures c.self.invariant).readers
