@@ -3,6 +3,9 @@ ghost use Rattle.bcast_model.specs.Next.{HasPositiveCapacity};
 
 use bcast_core::{Call, Inner, Reply, Silent, step};
 
+/// A channel of numbers.
+pub(crate) type Channel = Inner<u64, Silent>;
+
 /// A call of this name, with its arguments.
 #[derive(Clone, Copy)]
 pub(crate) enum Asked {
@@ -43,6 +46,6 @@ fn call_of(asked: Asked) -> Call<u64>
 }
 
 /// Makes the call.
-pub(crate) fn ask(inner: &mut Inner<u64, Silent>, asked: Asked) -> Reply<u64> {
+pub(crate) fn ask(inner: &mut Channel, asked: Asked) -> Reply<u64> {
     step(inner, call_of(asked), Silent)
 }

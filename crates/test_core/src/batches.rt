@@ -1,6 +1,7 @@
 //! Batches of messages, each beside as many single receives on another channel.
-use crate::asked::{Asked, ask};
-use bcast_core::{Inner, Reply, SendPoll, Silent, TryRecvError};
+use crate::asked::{Asked, Channel, ask};
+use crate::channel::channel;
+use bcast_core::{Reply, SendPoll, TryRecvError};
 use futures::task::Poll;
 use rows::{Answer, ROWS, Row};
 use std::alloc::{AllocError, Global};
@@ -9,8 +10,6 @@ use std::test::Fail;
 
 mod refused;
 mod rows;
-
-type Channel = Inner<u64, Silent>;
 
 fn answer_of(reply: &Reply<u64>) -> Answer {
     match reply {
@@ -106,9 +105,8 @@ fn are_alike(alloc: Global, left: &Channel, right: &Channel) -> Result<bool, Fai
 }
 
 fn play(rt: &impl Abort, alloc: Global, name: &str, rows: &[Row]) -> Result<(), Fail> {
-    let (mut batches, first) = Inner::new(alloc, 3)?;
-    let (mut singles, other) = Inner::new(alloc, 3)?;
-    assert!(rt; [first, other] == [0, 0]);
+    let mut batches = channel(rt, alloc, 3)?;
+    let mut singles = channel(rt, alloc, 3)?;
     for (index, row) in rows.iter().enumerate() {
         let is_so = holds(alloc, &mut batches, &mut singles, *row)?;
         assert!(rt; is_so, "{name}, row {index}");

@@ -129,7 +129,7 @@ fn play(
     calls: &[(bool, Step, Answer)],
 ) -> Result<(), AllocError> {
     let refuses = Rc::new(alloc, Cell::new(true))?;
-    let mut inner = channel(rt, alloc)?;
+    let mut inner = channel(rt, alloc, 1)?;
     for (index, (is_refused, call, answer)) in calls.iter().enumerate() {
         refuses.set(*is_refused);
         assert!(rt;

@@ -26,10 +26,8 @@ fn add_receivers<A: Allocator + Copy>(
 
 /// How many receivers there is memory for. None: there is none for a channel.
 fn receivers<A: Allocator + Copy>(rt: &impl Abort, alloc: A) -> Option<usize> {
-    match Inner::new(alloc, 4) {
-        Ok((mut inner, first)) => Some(add_receivers(rt, &mut inner, first)),
-        Err(_) => None,
-    }
+    let (mut inner, first) = Inner::new(alloc, 4).ok()?;
+    Some(add_receivers(rt, &mut inner, first))
 }
 
 #[test]

@@ -1,10 +1,8 @@
 //! Polls of listeners that are told: how many of them follow, and that each listener waits then.
-use crate::asked::{Asked, ask};
-use bcast_core::{Inner, Kind, Reply, SendPoll, Silent, Snapshot};
+use crate::asked::{Asked, Channel, ask};
+use bcast_core::{Inner, Kind, Reply, SendPoll, Snapshot};
 use futures::task::Poll;
 use std::alloc::{AllocError, Global};
-
-type Channel = Inner<u64, Silent>;
 
 /// A name, the calls on a new channel of capacity 1 with the receivers 0, 1 and 2, how many
 /// listeners wait then, and how many polls of told ones follow, each of the first that is told.

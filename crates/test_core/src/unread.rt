@@ -1,11 +1,9 @@
 //! Where receivers read on, what they have still to read, and what they missed, after each of
 //! several calls.
-use crate::asked::{Asked, ask};
-use bcast_core::{Inner, Silent};
+use crate::asked::{Asked, Channel, ask};
+use crate::channel::channel;
 use std::process::Abort;
 use std::test::Fail;
-
-type Channel = Inner<u64, Silent>;
 
 /// `cursor`, `unread` and `missed` of a receiver.
 type Seen = (Option<u64>, usize, u64);
@@ -39,8 +37,7 @@ fn seen(inner: &Channel, key: usize) -> Seen {
 
 #[test]
 fn cursor_unread_and_missed(rt: HostRuntime) -> Result<(), Fail> {
-    let (mut inner, first) = Inner::new(rt.alloc(), 2)?;
-    assert!(rt; first == 0);
+    let mut inner = channel(&rt, rt.alloc(), 2)?;
     for (asked, left, right) in ROWS {
         drop(ask(&mut inner, *asked));
         assert!(rt; seen(&inner, 0) == *left);

@@ -59,11 +59,7 @@ fn fill<A: Allocator + Copy>(alloc: A, most: usize) -> Option<usize> {
     let mut places = Places::new(alloc);
     for count in 0..most {
         if places.add().is_err() {
-            return if places.len() == count {
-                Some(count)
-            } else {
-                None
-            };
+            return (places.len() == count).then_some(count);
         }
     }
     None

@@ -1,21 +1,13 @@
 //! A trace that is played in one of the two ways.
 use bcast_text::ending::Ending;
+use bcast_trace::command::Command;
 use bcast_trace::{list, trace};
 use std::alloc::Global;
 
-/// How a trace is played.
-#[derive(Clone, Copy, PartialEq, Eq)]
-pub enum Way {
-    /// `replay trace`
-    Trace,
-    /// `replay list`
-    List,
-}
-
-/// Plays `text`, writes to `wrote`, and returns how that ended.
-pub fn play(alloc: Global, way: Way, text: &[u8], wrote: &mut Vec<u8>) -> Ending {
-    match way {
-        Way::Trace => trace(alloc, alloc, text, wrote),
-        Way::List => list(alloc, alloc, text, wrote),
+/// Plays `text` as `replay` does by this command, writes to `wrote`, and returns how that ended.
+pub fn play(alloc: Global, command: Command, text: &[u8], wrote: &mut Vec<u8>) -> Ending {
+    match command {
+        Command::Trace => trace(alloc, alloc, text, wrote),
+        Command::List => list(alloc, alloc, text, wrote),
     }
 }

@@ -4,9 +4,10 @@ ghost use Rattle.std.specs.Prelude.{◌<◌, ◌+◌, ◌^◌, IfOk};
 ghost use Rattle.bcast_model.specs.Next.{HasPositiveCapacity};
 
 use crate::calls::{asks, messages, text_of};
-use crate::played::{Way, play};
+use crate::played::play;
 use bcast_core::{Call, Inner, Silent, step};
 use bcast_text::ending::Ending;
+use bcast_trace::command::Command;
 use bcast_trace::opening::read_opening;
 use bcast_trace::reply::write_reply;
 use rand_core::utils::NextWord;
@@ -193,9 +194,9 @@ fn without_views(alloc: Global, text: &str) -> io::Result<Vec<u8>> {
 }
 
 /// Plays `text`, which has no fault, and returns what is written.
-fn played(alloc: Global, way: Way, text: &[u8]) -> io::Result<Vec<u8>> {
+fn played(alloc: Global, command: Command, text: &[u8]) -> io::Result<Vec<u8>> {
     let mut wrote = Vec::new(alloc);
-    if play(alloc, way, text, &mut wrote) != Ending::Done {
+    if play(alloc, command, text, &mut wrote) != Ending::Done {
         wrote.clear();
     }
     Ok(wrote)
@@ -206,7 +207,7 @@ fn random_calls_are_read_back(rt: HostRuntime) -> io::Result<()> {
     let alloc = rt.alloc();
     for number in 0..TRACES {
         let bare = write_trace(alloc, number)?;
-        let whole = played(alloc, Way::Trace, bare.as_slice())?;
+        let whole = played(alloc, Command::Trace, bare.as_slice())?;
         for text in [bare.as_slice(), whole.as_slice()] {
             let text = str::from_utf8(text).unwrap_or("");
             assert!(rt; read_back(alloc, number, text)? == CALLS, "trace {number}");
@@ -219,15 +220,19 @@ fn random_calls_are_read_back(rt: HostRuntime) -> io::Result<()> {
 fn random_traces_are_played_again(rt: HostRuntime) -> io::Result<()> {
     let alloc = rt.alloc();
     for number in 0..TRACES {
-        let whole = played(alloc, Way::Trace, write_trace(alloc, number)?.as_slice())?;
-        let again = played(alloc, Way::Trace, whole.as_slice())?;
+        let whole = played(
+            alloc,
+            Command::Trace,
+            write_trace(alloc, number)?.as_slice(),
+        )?;
+        let again = played(alloc, Command::Trace, whole.as_slice())?;
         assert!(rt;
             again.as_slice() == whole.as_slice(),
             "trace {number}, again"
         );
         let text = str::from_utf8(whole.as_slice()).unwrap_or("");
         let listed = without_views(alloc, text)?;
-        let list = played(alloc, Way::List, whole.as_slice())?;
+        let list = played(alloc, Command::List, whole.as_slice())?;
         assert!(rt;
             list.as_slice() == listed.as_slice(),
             "trace {number}, as a list"

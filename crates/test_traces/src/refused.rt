@@ -1,5 +1,5 @@
 //! Lines that are refused, with the message and the status that they are refused by.
-use crate::played::{Way, play};
+use crate::played::play;
 use bcast_text::ending::{Ending, Program};
 use bcast_trace::command::Command;
 use bcast_trace::line::LONGEST;
@@ -128,16 +128,16 @@ fn says(alloc: Global, ending: Ending, text: &str, status: u8) -> Result<bool, A
     Ok(printed.as_str() == text && ending.status() == status)
 }
 
-/// Whether `text`, played in this way, ends by this message, with status 2, after `wrote`.
+/// Whether `text`, played by this command, ends by this message, with status 2, after `wrote`.
 fn is_refused(
     alloc: Global,
-    way: Way,
+    command: Command,
     text: &[u8],
     message: &str,
     wrote: &str,
 ) -> Result<bool, AllocError> {
     let mut written = Vec::new(alloc);
-    let ending = play(alloc, way, text, &mut written);
+    let ending = play(alloc, command, text, &mut written);
     Ok(says(alloc, ending, message, 2)? && written.as_slice() == wrote.as_bytes())
 }
 
@@ -146,10 +146,10 @@ fn lines_that_open_no_channel(rt: HostRuntime) -> io::Result<()> {
     let alloc = rt.alloc();
     for line in NO_OPENING {
         let text = format!(in alloc; "{line}\nLen\n")?;
-        for way in [Way::Trace, Way::List] {
+        for command in [Command::Trace, Command::List] {
             let told = is_refused(
                 alloc,
-                way,
+                command,
                 text.as_str().as_bytes(),
                 "line 1: not a call",
                 "",
@@ -163,9 +163,9 @@ fn lines_that_open_no_channel(rt: HostRuntime) -> io::Result<()> {
 /// Fails the test unless line 3 of `text` is refused, after what the first two lines write.
 fn expect_third(rt: &impl Abort, alloc: Global, text: &[u8], name: &str) -> io::Result<()> {
     let message = "line 3: not a call";
-    let played = is_refused(alloc, Way::Trace, text, message, "open 2 0\nLen -> 0\n")?;
+    let played = is_refused(alloc, Command::Trace, text, message, "open 2 0\nLen -> 0\n")?;
     assert!(rt; played, "{name:?}, played");
-    let listed = is_refused(alloc, Way::List, text, message, "")?;
+    let listed = is_refused(alloc, Command::List, text, message, "")?;
     assert!(rt; listed, "{name:?}, as a list");
     Ok(())
 }
@@ -190,8 +190,8 @@ fn lines_that_are_no_text_or_too_long(rt: HostRuntime) -> io::Result<()> {
     }
     text.extend_from_slice(b"\nLen\n")?;
     expect_third(&rt, alloc, text.as_slice(), "too long")?;
-    for way in [Way::Trace, Way::List] {
-        let is_told = is_refused(alloc, way, b"", "line 1: not a call", "")?;
+    for command in [Command::Trace, Command::List] {
+        let is_told = is_refused(alloc, command, b"", "line 1: not a call", "")?;
         assert!(rt; is_told, "no line");
     }
     Ok(())
@@ -222,7 +222,7 @@ fn arguments_and_endings(rt: HostRuntime) -> io::Result<()> {
     assert!(rt; is_used, "usage");
     let mut written = Vec::new(alloc);
     let large = b"open 18446744073709551615 0\n".as_slice();
-    let ending = play(alloc, Way::Trace, large, &mut written);
+    let ending = play(alloc, Command::Trace, large, &mut written);
     let is_told = says(alloc, ending, "out of memory", 3)?;
     assert!(rt; is_told, "no memory for the channel");
     Ok(())

@@ -147,7 +147,8 @@ fn handle_row(index: usize) -> Option<Row> {
     })
 }
 
-/// The replies of settings and of what a channel answers of itself. None: there is no row of this index.
+/// The replies of settings and of what a channel answers of itself. None: there is no row of this
+/// index.
 fn setting_row(index: usize) -> Option<Row> {
     Some(match index {
         0 => ("ok", Reply::SetCapacity(Ok(()))),
@@ -194,13 +195,19 @@ fn expect(rt: &impl Abort, alloc: Global, row: &Row) -> io::Result<()> {
     Ok(())
 }
 
+/// Fails the test unless there is a row of this index, and its reply is written so.
+fn expect_row(rt: &impl Abort, alloc: Global, index: usize, row: Option<Row>) -> io::Result<()> {
+    match row {
+        Some(row) => expect(rt, alloc, &row)?,
+        None => assert!(rt; false, "row {index}"),
+    }
+    Ok(())
+}
+
 #[test]
 fn sending_replies(rt: HostRuntime) -> io::Result<()> {
     for index in 0..20 {
-        match sending_row(rt.alloc(), index)? {
-            Some(row) => expect(&rt, rt.alloc(), &row)?,
-            None => assert!(rt; false, "row {index}"),
-        }
+        expect_row(&rt, rt.alloc(), index, sending_row(rt.alloc(), index)?)?;
     }
     Ok(())
 }
@@ -208,10 +215,7 @@ fn sending_replies(rt: HostRuntime) -> io::Result<()> {
 #[test]
 fn receiving_replies(rt: HostRuntime) -> io::Result<()> {
     for index in 0..20 {
-        match receiving_row(index) {
-            Some(row) => expect(&rt, rt.alloc(), &row)?,
-            None => assert!(rt; false, "row {index}"),
-        }
+        expect_row(&rt, rt.alloc(), index, receiving_row(index))?;
     }
     Ok(())
 }
@@ -219,10 +223,7 @@ fn receiving_replies(rt: HostRuntime) -> io::Result<()> {
 #[test]
 fn handle_replies(rt: HostRuntime) -> io::Result<()> {
     for index in 0..31 {
-        match handle_row(index) {
-            Some(row) => expect(&rt, rt.alloc(), &row)?,
-            None => assert!(rt; false, "row {index}"),
-        }
+        expect_row(&rt, rt.alloc(), index, handle_row(index))?;
     }
     Ok(())
 }
@@ -230,10 +231,7 @@ fn handle_replies(rt: HostRuntime) -> io::Result<()> {
 #[test]
 fn setting_replies(rt: HostRuntime) -> io::Result<()> {
     for index in 0..24 {
-        match setting_row(index) {
-            Some(row) => expect(&rt, rt.alloc(), &row)?,
-            None => assert!(rt; false, "row {index}"),
-        }
+        expect_row(&rt, rt.alloc(), index, setting_row(index))?;
     }
     Ok(())
 }

@@ -1,5 +1,4 @@
 //! Settings and their watchers.
-use std::alloc::AllocError;
 use std::test::Fail;
 use uses::config_watcher::Config;
 
@@ -41,35 +40,25 @@ const RUNS: &[(&str, &[Step])] = &[
     ),
 ];
 
-/// Whether a call does what the step says. `watchers` holds the keys.
-fn goes_so(
-    config: &mut Config<u64>,
-    watchers: &mut Vec<usize>,
-    step: Step,
-) -> Result<bool, AllocError> {
-    match step {
-        Step::Set(settings) => Ok(config.set(settings).is_ok()),
+/// Whether a call does what the step says. `watchers` holds the keys. None: there is no such
+/// watcher, or no memory.
+fn goes_so(config: &mut Config<u64>, watchers: &mut Vec<usize>, step: Step) -> Option<bool> {
+    Some(match step {
+        Step::Set(settings) => config.set(settings).is_ok(),
         Step::Watch => {
-            let Ok(key) = config.watch() else {
-                return Ok(false);
-            };
-            watchers.push(key)?;
-            Ok(true)
+            let key = config.watch().ok()?;
+            watchers.push(key).is_ok()
         }
         Step::UpToDate(watcher) => {
-            let Some(key) = watchers.get(watcher) else {
-                return Ok(false);
-            };
-            Ok(config.look(*key)?.is_none())
+            let key = *watchers.get(watcher)?;
+            config.look(key).ok()?.is_none()
         }
         Step::Change(watcher, settings, missed) => {
-            let Some(key) = watchers.get(watcher) else {
-                return Ok(false);
-            };
-            let found = config.look(*key)?;
-            Ok(found.is_some_and(|change| change.settings == settings && change.missed == missed))
+            let key = *watchers.get(watcher)?;
+            let found = config.look(key).ok()?;
+            found.is_some_and(|change| change.settings == settings && change.missed == missed)
         }
-    }
+    })
 }
 
 #[test]
@@ -80,7 +69,7 @@ fn watchers_find_the_latest_settings(rt: HostRuntime) -> Result<(), Fail> {
         watchers.push(first)?;
         for (index, step) in steps.iter().enumerate() {
             assert!(rt;
-                goes_so(&mut config, &mut watchers, *step)?,
+                goes_so(&mut config, &mut watchers, *step) == Some(true),
                 "{name}: step {index}"
             );
         }

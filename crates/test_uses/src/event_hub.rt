@@ -1,6 +1,5 @@
 //! Events and their subscribers.
 use bcast_core::TrySendError;
-use std::alloc::AllocError;
 use std::test::Fail;
 use uses::event_hub::EventHub;
 
@@ -52,47 +51,32 @@ const RUNS: &[(&str, &[Step])] = &[
     ),
 ];
 
-/// Whether a call does what the step says. `subscribers` holds the keys.
-fn goes_so(
-    hub: &mut EventHub<u64>,
-    subscribers: &mut Vec<usize>,
-    step: Step,
-) -> Result<bool, AllocError> {
-    match step {
-        Step::Publish(event) => Ok(hub.publish(event).is_ok()),
-        Step::Full(event) => Ok(hub.publish(event) == Err(TrySendError::Full(event))),
-        Step::Inactive(event) => Ok(hub.publish(event) == Err(TrySendError::Inactive(event))),
+/// Whether a call does what the step says. `subscribers` holds the keys. None: there is no such
+/// subscriber, or no memory.
+fn goes_so(hub: &mut EventHub<u64>, subscribers: &mut Vec<usize>, step: Step) -> Option<bool> {
+    Some(match step {
+        Step::Publish(event) => hub.publish(event).is_ok(),
+        Step::Full(event) => hub.publish(event) == Err(TrySendError::Full(event)),
+        Step::Inactive(event) => hub.publish(event) == Err(TrySendError::Inactive(event)),
         Step::Subscribe => {
-            let Ok(key) = hub.subscribe() else {
-                return Ok(false);
-            };
-            subscribers.push(key)?;
-            Ok(true)
+            let key = hub.subscribe().ok()?;
+            subscribers.push(key).is_ok()
         }
         Step::SubscribeLike(subscriber) => {
-            let Some(like) = subscribers.get(subscriber) else {
-                return Ok(false);
-            };
-            let Ok(key) = hub.subscribe_like(*like) else {
-                return Ok(false);
-            };
-            subscribers.push(key)?;
-            Ok(true)
+            let like = *subscribers.get(subscriber)?;
+            let key = hub.subscribe_like(like).ok()?;
+            subscribers.push(key).is_ok()
         }
         Step::Unsubscribe(subscriber) => {
-            let Some(key) = subscribers.get(subscriber) else {
-                return Ok(false);
-            };
-            hub.unsubscribe(*key);
-            Ok(true)
+            let key = *subscribers.get(subscriber)?;
+            hub.unsubscribe(key);
+            true
         }
         Step::Next(subscriber, event) => {
-            let Some(key) = subscribers.get(subscriber) else {
-                return Ok(false);
-            };
-            Ok(hub.next_event(*key)? == event)
+            let key = *subscribers.get(subscriber)?;
+            hub.next_event(key).ok()? == event
         }
-    }
+    })
 }
 
 #[test]
@@ -102,7 +86,7 @@ fn subscribers_get_their_events(rt: HostRuntime) -> Result<(), Fail> {
         let mut subscribers = Vec::new(rt.alloc());
         for (index, step) in steps.iter().enumerate() {
             assert!(rt;
-                goes_so(&mut hub, &mut subscribers, *step)?,
+                goes_so(&mut hub, &mut subscribers, *step) == Some(true),
                 "{name}: step {index}"
             );
         }

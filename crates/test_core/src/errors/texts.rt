@@ -10,18 +10,12 @@ struct Opaque;
 
 /// Whether `{}` prints the error so.
 fn displays<E: Error>(alloc: Global, error: &E, text: &str) -> bool {
-    match format!(in alloc; "{error}") {
-        Ok(printed) => printed.as_str() == text,
-        Err(_) => false,
-    }
+    format!(in alloc; "{error}").is_ok_and(|printed| printed.as_str() == text)
 }
 
 /// Whether `{:?}` prints the error so.
 fn debugs<E: Error>(alloc: Global, error: &E, text: &str) -> bool {
-    match format!(in alloc; "{error:?}") {
-        Ok(printed) => printed.as_str() == text,
-        Err(_) => false,
-    }
+    format!(in alloc; "{error:?}").is_ok_and(|printed| printed.as_str() == text)
 }
 
 /// Fails the test unless `{}` and `{:?}` print the error so.

@@ -38,10 +38,9 @@ impl Step {
             Step::Send => *call == Call::TryBroadcast(5),
             Step::Receive => *call == Call::TryRecv(0),
             Step::Close => *call == Call::Close,
-            Step::SendAll(msgs) | Step::SendTooMany(msgs) => match call {
-                Call::TryBroadcastAll(list) => list.as_slice() == msgs,
-                _ => false,
-            },
+            Step::SendAll(msgs) | Step::SendTooMany(msgs) => {
+                matches!(call, Call::TryBroadcastAll(list) if list.as_slice() == msgs)
+            }
         }
     }
 

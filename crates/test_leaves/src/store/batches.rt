@@ -1,4 +1,5 @@
 //! Rows of two receivers that are given several messages at once, themselves or as clones.
+use super::fast::push;
 use bcast_store::Store;
 use std::alloc::{AllocError, Global};
 use std::test::Fail;
@@ -99,16 +100,6 @@ fn has(store: &Store<Letter>, letters: &[u8], front: u64) -> bool {
     has
 }
 
-// Appends a message, if there is room for it.
-fn push(store: &mut Store<Letter>, letter: u8) {
-    if !store.has_no_receiver() && store.len() < store.room() && store.end() < 99 {
-        store.push(Letter {
-            letter,
-            is_clone: false,
-        });
-    }
-}
-
 // Whether a row's call gives what it says, and leaves that.
 fn is_right(
     store: &mut Store<Letter>,
@@ -132,8 +123,9 @@ fn first_wrong(
 ) -> Result<Option<&'static str>, AllocError> {
     let mut store = Store::new(alloc, 7, 4)?;
     let keys = [store.add(7)?, store.add(7)?];
-    for letter in letters {
-        push(&mut store, *letter);
+    let is_clone = false;
+    for letter in letters.iter().copied() {
+        push(&mut store, Letter { letter, is_clone });
     }
     for row in rows {
         if !is_right(&mut store, alloc, keys, letters, row)? {

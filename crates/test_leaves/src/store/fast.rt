@@ -1,7 +1,30 @@
 //! The store's calls.
 use super::{Seen, Tried};
 use bcast_store::Store;
-use std::alloc::{AllocError, Global};
+use std::alloc::{AllocError, Allocator, Global};
+
+// Appends a message, if there is a receiver, room and a number for it.
+pub(super) fn push<T: Drop, A: Allocator + Copy>(store: &mut Store<T, A>, msg: T) {
+    if !store.has_no_receiver() && store.len() < store.room() && store.end() < u64::MAX {
+        store.push(msg);
+    }
+}
+
+// What a receiver reads next: the first message, if it is behind. None: there is none for it.
+pub(super) fn read<T: Clone + Drop, A: Allocator + Copy>(
+    store: &mut Store<T, A>,
+    key: usize,
+) -> Result<Option<T>, AllocError> {
+    let Some(cursor) = store.cursor(key) else {
+        return Ok(None);
+    };
+    let number = cursor.max(store.front());
+    if number >= store.end() {
+        return Ok(None);
+    }
+    let msg = store.read(key, number)?;
+    Ok(Some(msg))
+}
 
 impl Tried for Store<u8> {
     fn seen(&self) -> Seen {
@@ -29,9 +52,7 @@ impl Tried for Store<u8> {
     }
 
     fn try_push(&mut self, msg: u8) -> Result<(), AllocError> {
-        if !self.has_no_receiver() && self.len() < self.room() && self.end() < u64::MAX {
-            self.push(msg);
-        }
+        push(self, msg);
         Ok(())
     }
 
@@ -74,14 +95,6 @@ impl Tried for Store<u8> {
     }
 
     fn try_read(&mut self, key: usize) -> Result<Option<u8>, AllocError> {
-        let Some(cursor) = self.cursor(key) else {
-            return Ok(None);
-        };
-        let number = cursor.max(self.front());
-        if number >= self.end() {
-            return Ok(None);
-        }
-        let msg = self.read(key, number)?;
-        Ok(Some(msg))
+        read(self, key)
     }
 }

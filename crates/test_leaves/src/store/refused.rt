@@ -1,4 +1,5 @@
 //! The calls that take memory, made while it is refused.
+use super::fast::{push, read};
 use bcast_store::Store;
 use linked_list_allocator::LocalHeap;
 use std::alloc::{AllocError, Allocator};
@@ -38,12 +39,6 @@ struct Refused {
     is_right: bool,
 }
 
-fn push<T: Drop, A: Allocator + Copy>(store: &mut Store<T, A>, msg: T) {
-    if !store.has_no_receiver() && store.len() < store.room() && store.end() < u64::MAX {
-        store.push(msg);
-    }
-}
-
 fn add<T: Drop, A: Allocator + Copy>(
     store: &mut Store<T, A>,
     cursor: u64,
@@ -61,20 +56,13 @@ fn grow<T: Drop, A: Allocator + Copy>(store: &mut Store<T, A>) -> Option<bool> {
     }
     let is_refused = store.grow(9).is_err();
     let room = if is_refused { 1 } else { 9 };
-    if store.room() == room {
-        Some(is_refused)
-    } else {
-        None
-    }
+    (store.room() == room).then_some(is_refused)
 }
 
-// Whether a receiver is given a message, and it is whole.
+// Whether a receiver is given a message, and it is whole. None: it is given none.
 fn reads<T: Text, A: Allocator + Copy>(store: &mut Store<T, A>, key: usize) -> Option<bool> {
-    let number = store.cursor(key)?.max(store.front());
-    if number >= store.end() {
-        return None;
-    }
-    Some(store.read(key, number).ok()?.is_whole())
+    let msg = read(store, key).ok()??;
+    Some(msg.is_whole())
 }
 
 // A store with room for one message, and the key of its receiver.
@@ -151,7 +139,7 @@ fn refused_receiver<A: Allocator + Copy>(alloc: A) -> Result<Option<usize>, Allo
     for added in 0..64 {
         if add(&mut store, 7).is_err() {
             let is_same = store.receivers() == added && store.end() == 7;
-            return Ok(if is_same { Some(added) } else { None });
+            return Ok(is_same.then_some(added));
         }
     }
     Ok(None)
