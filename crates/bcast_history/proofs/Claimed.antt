@@ -54,12 +54,12 @@ pub record Stands (c : Control) (old new : Cursor) : Type 0 where
 
 pub stands : {shown c : Control} {old new : Cursor} → new ≡ record old { next = next_of shown old.key old.next } → shown ≡ c → Stands c old new
 stands {shown = shown} {c = c} {old = old} {new = new} is same =
+    let here : next_of shown old.key old.next ≡ next_of c old.key old.next = ap (λ c. next_of c old.key old.next) same in
     subst (Stands c old) (sym is) (record {
-      there = ap (λ c. next_of c old.key old.next) same ∙ next_settles c old.key old.next
-          ∙ ap (λ o. next_of c old.key o) (sym (ap (λ c. next_of c old.key old.next) same));
+      there = here ∙ next_settles c old.key old.next ∙ ap (next_of c old.key) (sym here);
       registry = refl;
       key = refl;
-      next = ap (λ c. next_of c old.key old.next) same;
+      next = here;
     })
 
 -- a cursor that was made is where the channel says

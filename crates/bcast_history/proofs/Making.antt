@@ -52,19 +52,6 @@ module _ {T : Type 0} {is_clone : T → T → Type 0} {o : Opening} where
       ap (λ (h : History T). h.control.closed) made.end ∙ closed_after h call.Close r
       ∙ close_is (λ c. c.closed ≡ true) h.control (λ is. is) (λ _. refl)
 
-  module _ {key : ℕ} {known after : Tracker T} (its : IsOf key known) where
-    -- a receiver stays where it is whose call moves none, as one that makes another, or is refused
-    pub unmoved : {c : Call T} {r : Reply T} → Learns is_clone o known c r after → (moved_by c ≡ Some key → ⊥) → Stays known after
-    unmoved {c = c} {r = r} learned apart =
-        let f = learned.follows in
-        stays is_clone its learned (others_stay is_clone (end_of o f.before) c r key (number known.next) f.legal apart (read_there its learned))
-
-    -- and one that can't leave
-    pub active_stays : {error : HandleError} → Learns is_clone o known (call.Deactivate key) (reply.Deactivate (Err error)) after → Stays known after
-    active_stays {error = error} learned =
-        let f = learned.follows in
-        stays is_clone its learned (not_inactive is_clone (end_of o f.before) key (number known.next) (read_there its learned) error f.legal)
-
 -- ---- who makes the calls of a receiver that was added
 module _ {T : Type 0} {o : Opening} {key : ℕ} {maker made : Tracker T} (begins : Begins o key maker made) where
   pub begun_last : cursor_of (end_of o maker.steps).control key ≡ Some (end_number (end_of o maker.steps)) → made.next ≡ Some (end_number (end_of o made.steps))
@@ -125,7 +112,11 @@ module _
   module _ {key : ℕ} {known old after : Tracker T} (is : known ≡ old) (at : key ≡ known.key) (reads : IsReceiver known) where
     -- it stays where it is by a call that moves none
     pub stays_by : {c : Call T} {r : Reply T} → (moved_by c ≡ Some key → ⊥) → MakesCall learns is_clone o known c r after → Stays old after
-    stays_by apart made = subst (λ k. Stays k after) is (unmoved (sym at, reads) (law _ _ _ _ made.once) apart)
+    stays_by {c = c} {r = r} apart made =
+        let its : IsOf key known = (sym at, reads) in
+        let learned = law _ _ _ _ made.once in
+        let f = learned.follows in
+        subst (λ k. Stays k after) is (stays is_clone its learned (others_stay is_clone (end_of o f.before) c r key (number known.next) f.legal apart (read_there its learned)))
 
     -- as by one that makes another receiver, or is refused
     pub adder_stays : (p : Result (Tracker T) HandleError)
@@ -143,4 +134,8 @@ module _
 
     -- it stays if it can't leave
     pub leaves_not : {error : HandleError} → MakesCall learns is_clone o known (call.Deactivate key) (reply.Deactivate (Err error)) after → Stays old after
-    leaves_not made = subst (λ k. Stays k after) is (active_stays (sym at, reads) (law _ _ _ _ made.once))
+    leaves_not {error = error} made =
+        let its : IsOf key known = (sym at, reads) in
+        let learned = law _ _ _ _ made.once in
+        let f = learned.follows in
+        subst (λ k. Stays k after) is (stays is_clone its learned (not_inactive is_clone (end_of o f.before) key (number known.next) (read_there its learned) error f.legal))

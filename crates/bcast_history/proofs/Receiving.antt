@@ -42,10 +42,6 @@ module _ {T : Type 0} {learns : Tracker T → Call T → Reply T → Tracker T �
     each = both_made learns first.steps second.steps old mid new first.each second.each;
   }
 
-  pub receives_none : {old new : Tracker T} → new ≡ old → MakesReceives learns old new
-  receives_none {old = old} same =
-      subst (MakesReceives learns old) (sym same) (record { key = refl; seen = prefix_self old.steps; steps = []; receives = tt; each = refl })
-
   module _ {is_clone : T → T → Type 0} {o : Opening} {old new : Tracker T} where
     -- one receive
     pub receives_one : {c : Call T} {r : Reply T} {found : Found T} → (c ≡ call.TryRecv old.key) ⊎ (c ≡ call.PollRecv old.key)
@@ -61,5 +57,6 @@ module _ {T : Type 0} {learns : Tracker T → Call T → Reply T → Tracker T �
     -- a poll that was out of memory, and made, or not
     pub receives_refused : {error : AllocError} {NotMade : Type 0}
         → ((new ≡ old) × NotMade) ⊎ PollsOnce learns is_clone o old new (Err error) → MakesReceives learns old new
-    receives_refused (inl same) = receives_none same.0
+    receives_refused (inl same) =
+        subst (MakesReceives learns old) (sym same.0) (record { key = refl; seen = prefix_self old.steps; steps = []; receives = tt; each = refl })
     receives_refused (inr by) = receives_one (inr refl) by

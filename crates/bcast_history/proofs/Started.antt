@@ -12,19 +12,16 @@ use Rattle.bcast_model.proofs.Answers.{cursors-next}
 use Rattle.bcast_model.proofs.DeliveryMaps.{inserted}
 use Rattle.bcast_history.specs.declared.step.Opening.{Opening}
 use Rattle.bcast_history.specs.declared.step.Step.{Step}
-use Rattle.bcast_history.specs.History.{start_of, end_of}
+use Rattle.bcast_history.specs.History.{end_of}
 
--- the first receiver starts with the first message
-pub first_there : (T : Type 0) (opened : Opening) → cursor_of (start_of {T = T} opened).control opened.first_key ≡ Some opened.first_number
-first_there T opened = inserted _ opened.first_key opened.first_number
-
--- where the channel is that was opened, no step was made
+-- the first receiver starts with the first message, where the channel is that was opened, and no
+-- step was made
 pub first_tracked : {T : Type 0} {opened named : Opening} {steps : List (Step T)} → opened ≡ named → steps ≡ []
     → (opened.first_number ≡ end_number (end_of named steps)) × (cursor_of (end_of named steps).control opened.first_key ≡ Some opened.first_number)
 first_tracked {T} {opened = o} {named = named} is none =
     let Is : Opening → List (Step T) → Type 0 = λ named steps.
     (o.first_number ≡ end_number (end_of named steps)) × (cursor_of (end_of named steps).control o.first_key ≡ Some o.first_number) in
-    subst (Is named) (sym none) (subst (λ named. Is named []) is (omega arith, first_there T o))
+    subst (Is named) (sym none) (subst (λ named. Is named []) is (omega arith, inserted _ o.first_key o.first_number))
 
 module _ {T : Type 0} (is_clone : T → T → Type 0) (h : History T) (key was : ℕ) (there : cursor_of h.control key ≡ Some was) where
   -- it stays if it can't be counted as inactive

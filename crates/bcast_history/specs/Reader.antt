@@ -73,15 +73,11 @@ module _ {T : Type 0} (is_clone : T → T → Type 0) where
   Takes o old new found =
       Finds (end_of o new.steps) old.key (number old.next) (number new.next) found
 
-  -- what a receiver finds that isn't told what it missed: it skips that, and finds what one does that
-  -- reads on there; or memory was refused
-  abbrev pub FindsNext : History T → ℕ → ℕ → ℕ → Result (Poll (Option T)) AllocError → Type 0
-  FindsNext h key was now (Ok found) =
-      (number : ℕ) × Skips h was number × Finds h key number now (Ok (as_tried found))
-  FindsNext h key was now (Err error) = Skips h was now
-
-  -- `FindsNext`, for a receiver before the poll and after it
+  -- what a receiver finds that isn't told what it missed, before the poll and after it: it skips
+  -- that, and finds what one does that reads on there; or memory was refused
   abbrev pub TakesNext
       : Opening → Tracker T → Tracker T → Result (Poll (Option T)) AllocError → Type 0
-  TakesNext o old new found =
-      FindsNext (end_of o new.steps) old.key (number old.next) (number new.next) found
+  TakesNext o old new (Ok found) =
+      (from : ℕ) × Skips (end_of o new.steps) (number old.next) from
+      × Finds (end_of o new.steps) old.key from (number new.next) (Ok (as_tried found))
+  TakesNext o old new (Err error) = Skips (end_of o new.steps) (number old.next) (number new.next)

@@ -1,11 +1,11 @@
 -- Who makes calls on a channel with a history: what is known of it.
-use Rattle.std.specs.Prelude.{◌≡◌, ◌⊎◌, ℕ, false, List, [], ◌∷◌, ◌++◌, Option, Some, None, Ok}
+use Rattle.std.specs.Prelude.{◌≡◌, ◌⊎◌, ◌-◌, ℕ, false, List, [], ◌∷◌, ◌++◌, Option, Some, None, Ok}
 use Rattle.std.specs.Option.{option_map_or}
 use Rattle.bcast_model.specs.declared.run.Call.{Call}
 use Rattle.bcast_model.specs.declared.run.Call.TheVariants as call
 use Rattle.bcast_model.specs.declared.run.Reply.{Reply}
 use Rattle.bcast_model.specs.declared.run.Reply.TheVariants as reply
-use Rattle.bcast_model.specs.Words.{Control, cursor_of}
+use Rattle.bcast_model.specs.Words.{Control, cursor_of, end_number}
 use Rattle.bcast_history.specs.declared.step.Opening.{Opening}
 use Rattle.bcast_history.specs.declared.step.Step.{Step}
 use Rattle.bcast_history.specs.History.{end_of}
@@ -42,6 +42,10 @@ module _ {T : Type 0} where
   -- the receiver of this key does
   abbrev pub IsOf : ℕ → Tracker T → Type 0
   IsOf key t = (t.key ≡ key) × IsReceiver t
+
+  -- `unread`, `missed`: how many messages there are from a receiver's cursor on, as far as it knows
+  abbrev pub count_behind : Opening → Tracker T → ℕ
+  count_behind o t = end_number (end_of o t.steps) - number t.next
 
   -- who makes the calls of a receiver that was added under this key: it knows as much as who added it
   pub record Begins (o : Opening) (new : ℕ) (maker made : Tracker T) : Type 0 where

@@ -1,12 +1,12 @@
 //! The receiving side.
 ghost use Rattle.std.specs.Prelude.{◌≡◌, true, ◌-◌, ℕ, min, Some, Ok, Err, IfOk, IfErr};
-ghost use Rattle.bcast_model.specs.Words.{cursor_of, end_number};
+ghost use Rattle.bcast_model.specs.Words.{cursor_of};
 ghost use Rattle.async_broadcast.specs.Ports.{as_try_recv};
 ghost use Rattle.async_broadcast.specs.Timed.{as_timed_try};
 ghost use Rattle.bcast_history.specs.History.{IsLawful, end_of};
 ghost use Rattle.bcast_history.specs.Makes.{MakesCall, MakesLast, MakesNone, ReceivesOnce};
 ghost use Rattle.bcast_history.specs.Reader.{StaysAt};
-ghost use Rattle.bcast_history.specs.Tracker.{IsReceiver, number};
+ghost use Rattle.bcast_history.specs.Tracker.{IsReceiver, count_behind};
 
 use crate::caller::{Channel, Seen};
 use crate::inactive::TrackedInactiveReceiver;
@@ -69,15 +69,7 @@ impl<T: Clone, P: HistoryPort<T, J>, J: Channel> TrackedReceiver<T, P, J> {
         inner.invariant_holds();
     }
 
-    /// Receives the next message, if there is one: as `Receiver::try_recv`.
-    ///
-    /// # Errors
-    ///
-    /// - `AllocError`: no memory for a clone of a message that others have still to read. Nothing
-    ///   changed.
-    /// - `Overflowed(n)`: the next `n` messages were dropped. The receiver continues after them.
-    /// - `Empty`: every message was read, and the channel is open.
-    /// - `Closed`: every message was read, and the channel is closed.
+    /// Receives the next message, if there is one: as `Receiver::try_recv`, with its errors.
     #[inline(always)]
     pub fn try_recv(&mut self) -> Result<Result<T, TryRecvError>, AllocError>
         ensures { ReceivesOnce P.learns T.is_clone J.opening
@@ -100,11 +92,8 @@ impl<T: Clone, P: HistoryPort<T, J>, J: Channel> TrackedReceiver<T, P, J> {
         self.port.receive_waiting(caller, key)
     }
 
-    /// Makes another receiver, which has the same messages still to read: as `Receiver::clone`.
-    ///
-    /// # Errors
-    ///
-    /// - `Memory`: no memory for the handle.
+    /// Makes another receiver, which has the same messages still to read: as `Receiver::clone`,
+    /// with its errors.
     pub fn clone(&mut self) -> Result<Self, HandleError>
         ensures same { StaysAt self.old.tracker self.new.tracker }
         ensures made { IfOk result (λ made. (made.tracker.steps ≡ self.new.tracker.steps)
@@ -171,8 +160,7 @@ impl<T: Clone, P: HistoryPort<T, J>, J: Channel> TrackedReceiver<T, P, J> {
         ensures same { StaysAt self.old.tracker self.new.tracker }
         ensures unread { (len : ℕ) × MakesCall P.learns T.is_clone J.opening self.old.tracker
             Call.Len (Reply.Len len) self.new.tracker
-            × (result ≡ min len (end_number (end_of J.opening self.new.tracker.steps)
-            - number self.new.tracker.next)) }
+            × (result ≡ min len (count_behind J.opening self.new.tracker)) }
     {
         let len = self.len();
         len.min(self.behind() as usize)
@@ -184,8 +172,7 @@ impl<T: Clone, P: HistoryPort<T, J>, J: Channel> TrackedReceiver<T, P, J> {
         ensures same { StaysAt self.old.tracker self.new.tracker }
         ensures missed { (len : ℕ) × MakesCall P.learns T.is_clone J.opening self.old.tracker
             Call.Len (Reply.Len len) self.new.tracker
-            × (result ≡ end_number (end_of J.opening self.new.tracker.steps)
-            - number self.new.tracker.next - len) }
+            × (result ≡ count_behind J.opening self.new.tracker - len) }
     {
         let len = self.len();
         self.behind().saturating_sub(len as u64)
@@ -203,8 +190,7 @@ impl<T: Clone, P: HistoryPort<T, J>, J: Channel> TrackedReceiver<T, P, J> {
 
     // How many messages there are from the receiver's cursor on, as far as it knows.
     fn behind(&self) -> u64
-        ensures { result ≡ end_number (end_of J.opening self.now.tracker.steps)
-            - number self.now.tracker.next }
+        ensures { result ≡ count_behind J.opening self.now.tracker }
     {
         self.tracker.inner.caller.end().saturating_sub(self.next())
     }
@@ -213,7 +199,8 @@ impl<T: Clone, P: HistoryPort<T, J>, J: Channel> TrackedReceiver<T, P, J> {
     pub fn next(&self) -> u64
         ensures { Some result ≡ self.now.tracker.next }
     {
-        self.tracker.next()
+        let ReceiverTracker { inner } = &self.tracker;
+        inner.caller.next().unwrap_or(0)
     }
 }
 

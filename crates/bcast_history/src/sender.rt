@@ -1,5 +1,5 @@
 //! The sending side.
-ghost use Rattle.std.specs.Prelude.{◌≡◌, true, None, Ok, IfOk, IfErr};
+ghost use Rattle.std.specs.Prelude.{◌≡◌, true, Ok, IfOk, IfErr};
 ghost use Rattle.bcast_model.specs.Encodings.{in_lists};
 ghost use Rattle.bcast_model.specs.Words.{end_number};
 ghost use Rattle.async_broadcast.specs.Timed.{as_attempt};
@@ -92,12 +92,8 @@ impl<T: Clone, P: HistoryPort<T, J>, J: Channel> TrackedSender<T, P, J> {
         self.tracker.ask(&self.port, Close)
     }
 
-    /// Makes another sender of the channel, which knows as much: as `Sender::clone`.
-    ///
-    /// # Errors
-    ///
-    /// - `Memory`: no memory for the handle. The channel was not called.
-    /// - `TooMany`: the channel can't count one more.
+    /// Makes another sender of the channel, which knows as much: as `Sender::clone`, with its
+    /// errors.
     pub fn clone(&mut self) -> Result<Self, HandleError>
         ensures made { IfOk result (λ made. (made.tracker.steps ≡ self.new.tracker.steps)
             × MakesCall P.learns T.is_clone J.opening self.old.tracker
@@ -112,11 +108,7 @@ impl<T: Clone, P: HistoryPort<T, J>, J: Channel> TrackedSender<T, P, J> {
     }
 
     /// Makes an active receiver, whose first message is the next one that is accepted: as
-    /// `Sender::new_receiver`.
-    ///
-    /// # Errors
-    ///
-    /// - `Memory`: no memory for the handle.
+    /// `Sender::new_receiver`, with its errors.
     pub fn new_receiver(&mut self) -> Result<TrackedReceiver<T, P, J>, HandleError>
         ensures made { IfOk result (λ made. (made.tracker.steps ≡ self.new.tracker.steps)
             × MakesCall P.learns T.is_clone J.opening self.old.tracker

@@ -1,5 +1,5 @@
 //! What a handle knows of its channel, and the calls that it makes.
-ghost use Rattle.std.specs.Prelude.{◌≡◌, Some, Ok, Err, IfSome, IfOk, IfErr};
+ghost use Rattle.std.specs.Prelude.{◌≡◌, Ok, Err, IfSome, IfOk, IfErr};
 ghost use Rattle.bcast_core.specs.Calls.{receiver_call, receiver_reply};
 ghost use Rattle.bcast_model.specs.Words.{HasPositiveCapacity};
 ghost use Rattle.async_broadcast.specs.Ports.{moved_by};
@@ -104,13 +104,4 @@ impl<T: Clone, J: Channel> Model for ReceiverTracker<T, J> {
     ghost view = { λ t. t.inner };
 
     ghost invariant = { λ t. IsReceiver t.inner };
-}
-
-impl<T: Clone, J: Channel> ReceiverTracker<T, J> {
-    /// The number of the message that is read next.
-    pub(crate) fn next(&self) -> u64
-        ensures { Some result ≡ self.now.next }
-    {
-        self.inner.caller.next().unwrap_or(0)
-    }
 }

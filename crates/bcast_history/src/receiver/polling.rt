@@ -18,15 +18,8 @@ use std::alloc::AllocError;
 use std::sync::Wait;
 
 impl<T: Clone, P: HistoryPort<T, J>, J: Channel> TrackedReceiver<T, P, J> {
-    /// Receives the next message, or leaves the task waiting for it: as `Receiver::poll_recv`.
-    ///
-    /// `Ready(None)`: every message was read, and the channel is closed.
-    ///
-    /// # Errors
-    ///
-    /// - `AllocError`: no memory for a notice, or for a clone of a message that others have still
-    ///   to read. Nothing changed.
-    /// - `Overflowed(n)`: the next `n` messages were dropped. The receiver continues after them.
+    /// Receives the next message, or leaves the task waiting for it: as `Receiver::poll_recv`,
+    /// with its errors.
     pub fn poll_recv(
         &mut self,
         cx: &mut Context<'_>,
