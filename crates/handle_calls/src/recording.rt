@@ -17,8 +17,8 @@ use std::time::Duration;
 
 mod replies;
 
-/// The calls since the last look: nothing, one call, two in this order, or this many, of which the
-/// last is kept.
+/// The calls since they were last written: nothing, one call, two in this order, or this many, of
+/// which the last is kept.
 #[derive(Debug, Drop)]
 enum Record {
     Nothing,
@@ -82,7 +82,7 @@ impl Recorder {
         true
     }
 
-    /// Writes the calls since the last look.
+    /// Writes the calls since they were last written.
     pub fn write_record<W: Write>(&self, output: &mut W) -> io::Result<()> {
         let record = self.state.record.replace(Record::Nothing);
         write!(output, " asked {record:?}")

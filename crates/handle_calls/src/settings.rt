@@ -4,7 +4,7 @@ use crate::line::{Capacity, Request};
 use async_broadcast::{Handle, Role, TimedPort};
 use std::alloc::{AllocError, Allocator};
 
-/// Makes a call that every handle has. None: it is not one.
+/// Makes a call that every handle has. None: it is not one, or it sets the capacity 0.
 pub fn by_handle<P: TimedPort<u64>, K: Role, A: Allocator + Copy>(
     handle: &mut Handle<u64, P, K, A>,
     request: Request<'_>,
