@@ -1,5 +1,6 @@
 //! The threads of a run: started over one channel.
-ghost use Rattle.std.specs.Prelude.{◌≡◌, ◌+◌, ◌≤◌, All, IfOk, OnOk, vec_len, vec_capacity};
+ghost use Rattle.std.specs.Prelude.{◌≡◌, ◌+◌, ◌≤◌, true, All, IfOk, IfErr, OnOk, vec_len, vec_capacity};
+ghost use Rattle.bcast_history.specs.History.{end_of};
 ghost use Rattle.bcast_history.specs.Reader.{StartsAtTheFirst};
 
 use crate::fault::Fault;
@@ -12,7 +13,7 @@ use std::sync::Wait;
 use std::thread::Threads;
 
 /// Starts the plan's receivers, clones of this one, and then its senders, and joins these. Drops both
-/// handles. If a sender can't be started, it closes the channel.
+/// handles.
 pub(crate) fn send_to_all<J, R, P>(
     rt: &R,
     alloc: Global,
@@ -34,9 +35,6 @@ where
     start_receivers(rt, alloc, plan, clones, receivers)?;
     let mut senders = Group::with_room(alloc, plan.senders)?;
     let started = start_senders(rt, plan, &mut sender, &mut senders);
-    if started.is_err() {
-        sender.close();
-    }
     drop(sender);
     let sent = senders.join(rt);
     started?;
@@ -71,7 +69,31 @@ where
     Ok(())
 }
 
+// Starts the plan's senders. If one can't be started, it closes the channel, so that the others end.
 fn start_senders<J, R, P>(
+    rt: &R,
+    plan: Plan,
+    sender: &mut TrackedSender<u64, P, J>,
+    threads: &mut Group<Sent<J>>,
+) -> Result<(), Fault>
+where
+    J: Channel + Send + Sync + 'static,
+    R: Threads,
+    P: HistoryPort<u64, J> + Send + 'static,
+    requires none { vec_len threads.old.running ≡ 0 }
+    requires room { vec_capacity threads.old.running ≡ plan.senders }
+    ensures started { OnOk result (vec_len threads.new.running ≡ plan.senders) }
+    ensures closed { IfErr result (λ _.
+        (end_of J.opening sender.new.tracker.steps).control.closed ≡ true) }
+{
+    let started = start_each_sender(rt, plan, sender, threads);
+    if started.is_err() {
+        sender.close();
+    }
+    started
+}
+
+fn start_each_sender<J, R, P>(
     rt: &R,
     plan: Plan,
     sender: &mut TrackedSender<u64, P, J>,

@@ -1,6 +1,6 @@
 -- This many senders have their threads.
 use Rattle.std.proofs.Common.{◌≡◌, vec_len, vec_capacity}
-use Rattle.bcast_threads.proofs.started.start_senders.Given as goal
+use Rattle.bcast_threads.proofs.started.start_each_sender.Given as goal
 
 abbrev pub invariant-loop-number : goal.invariant-loop-number
 invariant-loop-number g l = record {
