@@ -1,5 +1,5 @@
 -- What the receivers of a whole run are given: one order of messages for all of them.
-use Rattle.std.specs.Prelude.{◌≡◌, ℕ, ◌+◌, ◌⊎◌, List, [], ◌∷◌, slice_get, Some, IsSomeAnd}
+use Rattle.std.specs.Prelude.{◌≡◌, ℕ, ◌+◌, ◌⊎◌, List, ◌∷◌, slice_get, Some, IsSomeAnd}
 use Rattle.bcast_model.specs.declared.run.Call.{Call}
 use Rattle.bcast_model.specs.declared.run.Reply.{Reply}
 use Rattle.bcast_model.specs.Words.{cursor_of, History, numbered, IsGiven, ClonesEqual, next}
@@ -21,10 +21,9 @@ module _ {T : Type 0} where
   -- `Holds` at some point of a run: of the state there, and of the calls and replies that follow
   abbrev pub AtSomePoint : (History T → List (Call T) → List (Reply T) → Type 0)
       → History T → List (Call T) → List (Reply T) → Type 0
-  AtSomePoint Holds h [] replies = Holds h [] replies
-  AtSomePoint Holds h (c ∷ calls) [] = Holds h (c ∷ calls) []
   AtSomePoint Holds h (c ∷ calls) (r ∷ replies) =
       Holds h (c ∷ calls) (r ∷ replies) ⊎ AtSomePoint Holds (next h c r) calls replies
+  AtSomePoint Holds h calls replies = Holds h calls replies
 
 -- receivers that are given messages of one number, whenever they were made, are given one accepted
 -- message or clones of it; if a clone equals its original, they are given equal messages
