@@ -1,5 +1,5 @@
 -- Told polls come to rest: polls of told listeners, one after another, come to an end.
-use Rattle.std.specs.Prelude.{◌≡◌, ℕ, ◌+◌, ◌*◌, ◌≤◌, Bool, true, false, not, ◌&&◌, if◌then◌else◌, List, [], ◌∷◌, length}
+use Rattle.std.specs.Prelude.{◌≡◌, ℕ, ◌+◌, ◌*◌, ◌≤◌, Bool, true, false, not, ◌&&◌, if◌then◌else◌, List, ◌∷◌, length}
 use Rattle.bcast_model.specs.Calls.{Call, Reply}
 use Rattle.bcast_model.specs.declared.run.Call.TheVariants as call
 use Rattle.bcast_model.specs.Listeners.{told_ids, is_in}
@@ -40,12 +40,11 @@ module _ {T : Type 0} where
   -- how many calls in a row, from the first on, poll a listener that is told just before, and are
   -- not out of memory
   abbrev pub told_polls : History T → List (Call T) → List (Reply T) → ℕ
-  told_polls h [] replies = 0
-  told_polls h (c ∷ calls) [] = 0
   told_polls h (c ∷ calls) (r ∷ replies) =
       if polls_told h.control c && not (is_out_of_memory r)
       then 1 + told_polls (next h c r) calls replies
       else 0
+  told_polls h calls replies = 0
 
 -- a state, and the calls and replies that follow it
 pub record ComesToRest
