@@ -1,6 +1,5 @@
 -- What a send adds to the accepted messages, and what a refused call leaves as it was.
 use Rattle.std.specs.Prelude.{◌≡◌, ℕ, Bool, true, false, not, List, ◌∷◌, ◌++◌, [], Option, Some, None, Ok, Err}
-use Rattle.bcast_model.specs.declared.error.TrySendError.TheVariants as unsent
 use Rattle.bcast_model.specs.declared.error.TryRecvError.TheVariants as unread
 use Rattle.bcast_model.specs.declared.run.SendPoll.TheVariants as send
 use Rattle.bcast_model.specs.declared.run.Call.{Call}
@@ -27,9 +26,7 @@ module _ {T : Type 0} where
 
   -- `TrySendError`, `SendError`, a `Send` that waits: the message that a reply hands back
   abbrev pub returned_by : Reply T → Option T
-  returned_by (reply.TryBroadcast (Err (unsent.Full msg))) = Some msg
-  returned_by (reply.TryBroadcast (Err (unsent.Closed msg))) = Some msg
-  returned_by (reply.TryBroadcast (Err (unsent.Inactive msg))) = Some msg
+  returned_by (reply.TryBroadcast (Err error)) = Some (unsent_message error)
   returned_by (reply.AttemptSend (send.Ready (Err error))) = Some error.0
   returned_by (reply.AttemptSend (send.Wait msg)) = Some msg
   returned_by (reply.PollSend (send.Ready (Err error))) = Some error.0
