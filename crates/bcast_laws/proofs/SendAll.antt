@@ -1,5 +1,5 @@
 -- An accepted list keeps its numbers, and receivers are given it in one piece.
-use Rattle.std.proofs.Common.{◌≡◌, ℕ, suc, ◌+◌, ◌-◌, ◌≤◌, false, List, [], ◌∷◌, ◌++◌, length, slice_get, nat_lt, Some, None, Ok, refl, sym, ap, ◌∙◌, subst, arith, IsSomeAnd}
+use Rattle.std.proofs.Common.{◌≡◌, ℕ, suc, ◌+◌, ◌-◌, ◌≤◌, false, List, [], ◌∷◌, ◌++◌, length, slice_get, nat_lt, Some, None, Ok, refl, sym, ap, ◌∙◌, subst, arith, IfSome, IsSomeAnd}
 use Rattle.std.proofs.lemmas.Grind.{common_steps}
 use Rattle.std.proofs.lemmas.Option.{same_Some, slice_get_within}
 use Rattle.std.specs.FinMap.{get}
@@ -10,7 +10,7 @@ use Rattle.bcast_model.specs.declared.run.Reply.TheVariants as reply
 use Rattle.bcast_model.specs.Words.{cursor_of, History, view_of, end_number, numbered, Legal}
 use Rattle.bcast_model.specs.Words.{IsGiven, IsValid, IsRun, end_of_run, AreExact, AreAllExact}
 use Rattle.bcast_model.specs.Words.{AtEachPoint, deliveries_of, last_cursor_of}
-use Rattle.bcast_laws.specs.SendAll.{after_list, IsDeliveryOf, StandsInOnePiece}
+use Rattle.bcast_laws.specs.SendAll.{after_list, StandsInOnePiece}
 use Rattle.bcast_model.proofs.Answers.{next_valid, cursors-next}
 use Rattle.bcast_model.proofs.DeliveryLemmas.{deliveries_exact, given_at}
 use Rattle.bcast_model.proofs.DeliveryLists.{past_end}
@@ -50,7 +50,7 @@ module _ {T : Type 0} where
           (deliveries_exact is_clone (after_list h msgs) calls replies (next_valid is_clone h (call.TryBroadcastAll msgs) (reply.TryBroadcastAll (Ok tt)) tt valid legal) run)
 
       delivers : (key start cursor index : ℕ) (msg : T) → cursor_of h.control key ≡ Some start → last_cursor_of key (after_list h msgs) calls replies ≡ Some cursor → end_number h + length msgs ≤ cursor → slice_get msgs index ≡ Some msg
-          → IsSomeAnd (slice_get (deliveries_of key (after_list h msgs) calls replies) (end_number h + index - start)) (IsDeliveryOf is_clone msg)
+          → IsSomeAnd (slice_get (deliveries_of key (after_list h msgs) calls replies) (end_number h + index - start)) (λ delivery. IfSome delivery (IsGiven is_clone msg))
       delivers key start cursor index msg there last past at =
           let given = deliveries_of key (after_list h msgs) calls replies in
           let e : AreExact is_clone (after_list h msgs) key start calls replies = exact key start (same_cursors key ∙ there) in
@@ -59,9 +59,9 @@ module _ {T : Type 0} where
           let reach = (valid.cursors key start there).1 in
           let place : ℕ = end_number h + index - start in
           let number : start + place ≡ end_number h + index = omega (arith, reach) in
-          elim (slice_get given place) as (λ o. slice_get given place ≡ o → IsSomeAnd o (IsDeliveryOf is_clone msg)) [
+          elim (slice_get given place) as (λ o. slice_get given place ≡ o → IsSomeAnd o (λ delivery. IfSome delivery (IsGiven is_clone msg))) [
             | None ↦ λ none. let short = past_end given place none in absurd (omega (arith, short, size, past, within, reach))
-            | Some entry ↦ elim entry as (λ x. slice_get given place ≡ Some x → IsDeliveryOf is_clone msg x) [
+            | Some entry ↦ elim entry as (λ x. slice_get given place ≡ Some x → IfSome x (IsGiven is_clone msg)) [
               | None ↦ λ _. tt
               | Some copy ↦ λ is. subst (λ o. IsSomeAnd o (λ accepted. IsGiven is_clone accepted copy)) (ap (numbered (end_of_run (after_list h msgs) calls replies)) number ∙ keeps_numbers index msg at) (given_at is_clone (after_list h msgs) key start calls replies e place copy is)
             ]
