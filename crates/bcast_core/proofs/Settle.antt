@@ -4,7 +4,7 @@ use Rattle.std.proofs.lemmas.Grind.{common_steps}
 use Rattle.std.specs.Ordering.{nat_cmp}
 use Rattle.std.specs.FinMap.{get, insert, len, values, entries, find, len-entries, get-entries}
 use Rattle.bcast_model.specs.Words.{Control, Cursors, close, close_if_deserted, tell_a_sender}
-use Rattle.bcast_model.specs.Words.{least, front_of, View, sends_are_ready, IsValidView, Effect}
+use Rattle.bcast_model.specs.Words.{least, View, sends_are_ready, IsValidView, Effect}
 use Rattle.bcast_model.specs.Words.{sets, settle, tell_if_ready}
 pub use Rattle.bcast_model.proofs.Cases.{cursors-close, cursors-accepting}
 use Rattle.bcast_model.proofs.Cases.{deserted_is}
@@ -36,7 +36,7 @@ module _ {T : Type 0} where
   same_view a b p q r s = λ i. record { front = p i; queue = q i; end = r i; control = s i }
 
   -- an effect leads to the view with the front that its floor, the end and the cursors give
-  pub settle_to : (v : View T) (e : Effect T) (new : View T) → front_of (max v.front e.floor) (v.end + length e.accepted) e.control.cursors ≡ new.front
+  pub settle_to : (v : View T) (e : Effect T) (new : View T) → max (max v.front e.floor) (least (v.end + length e.accepted) (values e.control.cursors)) ≡ new.front
       → drop (new.front - v.front) (v.queue ++ e.accepted) ≡ new.queue → v.end + length e.accepted ≡ new.end → e.control ≡ new.control → settle v e ≡ new
   settle_to v e new front queue end control = same_view (settle v e) new front (rw front queue) end control
 

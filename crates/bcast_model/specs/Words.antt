@@ -16,7 +16,7 @@ pub use Rattle.bcast_model.specs.HandleReplies.{count_reply, IsMade, IsMadeFrom}
 pub use Rattle.bcast_model.specs.Legal.{Legal}
 pub use Rattle.bcast_model.specs.Replies.{is_receive_refused, is_out_of_memory, chosen_id, HasPositiveCapacity}
 pub use Rattle.bcast_model.specs.Effects.{resize, set_unless_refused, makes, effect}
-pub use Rattle.bcast_model.specs.History.{History, least, front_of, end_number, front_number, numbered, queue_of, view_of, remember, opening}
+pub use Rattle.bcast_model.specs.History.{History, least, end_number, front_number, numbered, queue_of, view_of, remember, opening}
 pub use Rattle.bcast_model.specs.Next.{may_tell, next}
 pub use Rattle.bcast_model.specs.Valid.{AreListed, IsValidControl, WouldWait, NoLostWakeUp, IsValid}
 pub use Rattle.bcast_model.specs.Answers.{Represents, IsShown, IsPossible, Answers}
