@@ -4,10 +4,10 @@ use Rattle.futures.specs.declared.task.Poll.{Poll}
 use Rattle.futures.specs.declared.task.Poll.TheVariants as poll
 use Rattle.std.specs.declared.alloc.AllocError.{AllocError}
 use Rattle.bcast_model.specs.declared.error.RecvError.{RecvError}
-use Rattle.bcast_model.specs.declared.error.RecvError.TheVariants as unreceived
 use Rattle.bcast_model.specs.declared.error.TryRecvError.TheVariants as unread
 use Rattle.bcast_model.specs.declared.error.TryRecvError.{TryRecvError}
 use Rattle.bcast_model.specs.Words.{Found, History, cursor_of, IsDelivery, end_number}
+use Rattle.async_broadcast.specs.Ports.{as_try_recv}
 use Rattle.bcast_history.specs.declared.step.Opening.{Opening}
 use Rattle.bcast_history.specs.History.{end_of}
 use Rattle.bcast_history.specs.Tracker.{Tracker, number}
@@ -40,9 +40,7 @@ module _ {T : Type 0} where
 
   -- what a `poll_recv` finds, as a `try_recv` returns it: `Pending` is `Empty`, the end `Closed`
   abbrev pub as_found : Result (Poll (Option (Result T RecvError))) AllocError → Found T
-  as_found (Ok (poll.Ready (Some (Ok msg)))) = Ok (Ok msg)
-  as_found (Ok (poll.Ready (Some (Err (unreceived.Overflowed n))))) = Ok (Err (unread.Overflowed n))
-  as_found (Ok (poll.Ready (Some (Err unreceived.Closed)))) = Ok (Err unread.Closed)
+  as_found (Ok (poll.Ready (Some received))) = as_try_recv (Ok received)
   as_found (Ok (poll.Ready None)) = Ok (Err unread.Closed)
   as_found (Ok poll.Pending) = Ok (Err unread.Empty)
   as_found (Err error) = Err error
