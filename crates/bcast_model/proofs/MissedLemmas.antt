@@ -7,8 +7,8 @@ use Rattle.std.specs.List.Sorted.{IsStrictlyIncreasing}
 use Rattle.bcast_model.specs.Words.{Call, Reply, History, view_of, cursor_of, Legal}
 use Rattle.bcast_model.specs.Words.{HasPositiveCapacity, next, IsValid, IsRun, end_of_run, given_to}
 use Rattle.bcast_model.specs.Words.{deliveries_of, dropped_by, dropped_in, WasDropped, TellsDropped}
-use Rattle.bcast_model.specs.Words.{MissesOnlyDropped, MissesWhatWasDropped}
-use Rattle.bcast_model.proofs.DeliveryLists.{in_parts}
+use Rattle.bcast_model.specs.Words.{MissesOnlyDropped, MissesWhatIsGone, MissesWhatWasDropped}
+use Rattle.bcast_model.proofs.DeliveryLists.{in_parts, by_index}
 use Rattle.bcast_model.proofs.DeliverySteps.{gives_call}
 use Rattle.bcast_model.proofs.Views.{IsBounded, bounded_valid, floor_under, front-le-cursor}
 use Rattle.bcast_model.proofs.RisingNumbers.{within_rising, increasing}
@@ -29,6 +29,16 @@ module _ {T : Type 0} (is_clone : T → T → Type 0) where
       let kept = gives.kept index msg e in
       let low = floor_under h in
       omega (arith, kept, low)
+
+  -- if what is gone is under the floor, a call counts that as missed, and nothing else
+  misses_gone : (Gone : ℕ → Type 0) (h : History T) (key cursor : ℕ) (c : Call T) (r : Reply T) → IsBounded h → AreGone is_clone Gone h → ((n : ℕ) → Gone n → n < h.floor) → cursor_of h.control key ≡ Some cursor → Legal is_clone (view_of h) c r
+      → MissesWhatIsGone Gone cursor (given_to key c r)
+  misses_gone Gone h key cursor c r bounded gone under is legal =
+      by_index (λ (number : ℕ) (entry : Option T). IsNone entry ↔ Gone number) cursor (given_to key c r) fits
+    where
+      fits : (index : ℕ) (entry : Option T) → slice_get (given_to key c r) index ≡ Some entry → IsNone entry ↔ Gone (cursor + index)
+      fits index None e = (λ _. missed_gone Gone h key cursor index c r bounded gone is legal e, λ _. refl)
+      fits index (Some msg) e = (λ some. cc, λ there. absurd (let kept = given_kept h key cursor index msg c r bounded is legal e in let below = under (cursor + index) there in omega (arith, kept, below)))
 
   -- ---- what a run drops
   pub dropped_rise : (h : History T) (calls : List (Call T)) (replies : List (Reply T)) → IsValid h → AllByRecursion HasPositiveCapacity calls → IsRun is_clone h calls replies → IsStrictlyIncreasing (dropped_in h calls replies)
@@ -106,10 +116,7 @@ module _ {T : Type 0} (is_clone : T → T → Type 0) where
   misses_from dropped h (c ∷ calls) (r ∷ replies) bounded allowed run gone under =
       let drops = drops_next is_clone h c r bounded run.0 in
       let rises = drops.rises in (
-        λ key cursor index entry is at. elim entry as (λ o. slice_get (given_to key c r) index ≡ Some o → IsNone o ↔ Contains dropped (cursor + index)) [
-          | None ↦ λ e. (λ _. missed_gone (Contains dropped) h key cursor index c r bounded gone is run.0 e, λ _. refl)
-          | Some msg ↦ λ e. (λ some. cc, λ there. absurd (let kept = given_kept h key cursor index msg c r bounded is run.0 e in let below = under (cursor + index) there in omega (arith, kept, below)))
-        ] at,
+        λ key cursor is. misses_gone (Contains dropped) h key cursor c r bounded gone under is run.0,
         misses_from (dropped ++ dropped_by h c r) (next h c r) calls replies (bounded-next is_clone h c r allowed.0 bounded run.0) allowed.1 run.1
             (in_all (next h c r) dropped (dropped_by h c r) (gone_next is_clone (Contains dropped) h c r bounded run.0 gone))
             (λ n there. elim (Contains-append_cases dropped (dropped_by h c r) n there) [
