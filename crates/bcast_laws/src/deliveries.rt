@@ -17,7 +17,6 @@ pub fn dropped_numbers_rise<T: Clone>()
 
 /// Law: at each point of each run, what a receive counts as missed was dropped by an earlier call,
 /// and the message that it gives was not.
-#[tactic(auto, using(bcast_model::proofs::MissedLemmas::tells_dropped))]
 pub fn missed_were_dropped<T: Clone>()
     ensures { MissedWereDropped T.is_clone }
 {}

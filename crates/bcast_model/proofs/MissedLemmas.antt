@@ -6,7 +6,7 @@ use Rattle.std.specs.List.{AllByRecursion, Contains}
 use Rattle.std.specs.List.Sorted.{IsStrictlyIncreasing}
 use Rattle.bcast_model.specs.Words.{Call, Reply, History, view_of, cursor_of, Legal}
 use Rattle.bcast_model.specs.Words.{HasPositiveCapacity, next, IsValid, IsRun, end_of_run, given_to}
-use Rattle.bcast_model.specs.Words.{deliveries_of, dropped_by, dropped_in, WasDropped, TellsDropped}
+use Rattle.bcast_model.specs.Words.{deliveries_of, dropped_by, dropped_in, WasDropped}
 use Rattle.bcast_model.specs.Words.{MissesOnlyDropped, MissesWhatIsGone, MissesWhatWasDropped}
 use Rattle.bcast_model.proofs.DeliveryLists.{in_parts, by_index}
 use Rattle.bcast_model.proofs.DeliverySteps.{gives_call}
@@ -45,18 +45,11 @@ module _ {T : Type 0} (is_clone : T → T → Type 0) where
   dropped_rise h calls replies valid allowed run = increasing h.floor (end_of_run h calls replies).floor (dropped_in h calls replies) (rising_run is_clone h calls replies (bounded_valid h valid) allowed run).1
 
   pub tells_dropped : (h : History T) (calls : List (Call T)) (replies : List (Reply T)) (key cursor : ℕ) (c : Call T) (r : Reply T) → IsValid h → AllByRecursion HasPositiveCapacity calls → IsRun is_clone h calls replies
-      → cursor_of (end_of_run h calls replies).control key ≡ Some cursor → Legal is_clone (view_of (end_of_run h calls replies)) c r → TellsDropped h calls replies key cursor c r
+      → cursor_of (end_of_run h calls replies).control key ≡ Some cursor → Legal is_clone (view_of (end_of_run h calls replies)) c r → MissesWhatIsGone (WasDropped h calls replies) cursor (given_to key c r)
   tells_dropped h calls replies key cursor c r valid allowed run is legal =
       let bounded = bounded_valid h valid in
-      let now = end_of_run h calls replies in
-      let there = bounded_run is_clone h calls replies bounded allowed run in
-      record {
-        missed = λ index e. missed_gone (WasDropped h calls replies) now key cursor index c r there (gone_from is_clone h calls replies bounded allowed run) is legal e;
-        given = λ index msg e dropped.
-            let kept = given_kept now key cursor index msg c r there is legal e in
-            let under = under_floor is_clone h calls replies (cursor + index) bounded allowed run dropped in
-            omega (arith, kept, under);
-      }
+      misses_gone (WasDropped h calls replies) (end_of_run h calls replies) key cursor c r (bounded_run is_clone h calls replies bounded allowed run)
+      (gone_from is_clone h calls replies bounded allowed run) (λ n dropped. under_floor is_clone h calls replies n bounded allowed run dropped) is legal
 
   -- ---- all deliveries
   -- what a run tells of the message of this number: it is gone before or dropped, or not under the floor

@@ -11,6 +11,7 @@ use Rattle.bcast_model.specs.Valid.{IsValid}
 use Rattle.bcast_model.specs.Run.{IsRun, end_of_run}
 use Rattle.bcast_model.specs.Deliveries.{given_to, deliveries_of, AreAllExact, AtEachPoint}
 use Rattle.bcast_model.specs.Dropped.{dropped_in}
+use Rattle.bcast_model.specs.Missed.{MissesWhatIsGone}
 
 -- in a run from a valid state the deliveries of every receiver are exact, from the start of the
 -- run or from the call that made it
@@ -26,16 +27,6 @@ module _ {T : Type 0} where
   abbrev pub WasDropped : History T → List (Call T) → List (Reply T) → ℕ → Type 0
   WasDropped h calls replies number =
       (number < h.floor) ⊎ Contains (dropped_in h calls replies) number
-
--- a call after a run: `WasDropped` holds of what it counts as missed for the receiver `key`, and
--- not of what it gives
-pub record TellsDropped
-    {T : Type 0} (h : History T) (calls : List (Call T)) (replies : List (Reply T))
-    (key cursor : ℕ) (c : Call T) (r : Reply T) : Type 0 where
-  pub missed : (index : ℕ) → slice_get (given_to key c r) index ≡ Some None
-      → WasDropped h calls replies (cursor + index)
-  pub given : (index : ℕ) (msg : T) → slice_get (given_to key c r) index ≡ Some (Some msg)
-      → WasDropped h calls replies (cursor + index) → ⊥
 
 -- a run, and a later one that continues it: the deliveries in the later one to the receiver `key`,
 -- whose cursor is `start` when it begins
@@ -73,7 +64,7 @@ MissedWereDropped {T} is_clone =
     → IsValid h → AllByRecursion HasPositiveCapacity calls → IsRun is_clone h calls replies
     → cursor_of (end_of_run h calls replies).control key ≡ Some cursor
     → Legal is_clone (view_of (end_of_run h calls replies)) c r
-    → TellsDropped h calls replies key cursor c r
+    → MissesWhatIsGone (WasDropped h calls replies) cursor (given_to key c r)
 
 -- at each point of each run: all that a receiver counts as missed from there on was dropped, and what
 -- it gets was not

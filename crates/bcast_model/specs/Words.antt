@@ -25,7 +25,7 @@ pub use Rattle.bcast_model.specs.Unread.{unread, missed}
 pub use Rattle.bcast_model.specs.Deliveries.{receives_for, given_by, given_to, deliveries_of, last_cursor_of, AtEachPoint, IsDelivery, AreExact, AreAllExact}
 pub use Rattle.bcast_model.specs.Dropped.{hands_back, dropped_by, dropped_in}
 pub use Rattle.bcast_model.specs.Missed.{MissesWhatIsGone, MissesWhatWasDropped}
-pub use Rattle.bcast_model.specs.DeliveryLaws.{DeliveriesAreExact, WasDropped, TellsDropped, MissesOnlyDropped, DroppedNumbersRise, MissedWereDropped, DeliveriesTile}
+pub use Rattle.bcast_model.specs.DeliveryLaws.{DeliveriesAreExact, WasDropped, MissesOnlyDropped, DroppedNumbersRise, MissedWereDropped, DeliveriesTile}
 pub use Rattle.bcast_model.specs.PollLaws.{must_wait, is_wait_reply, PollsWaitWhereTriesFindNothing, receiver_polled, is_poll, try_finds_nothing, WaitsAsItsTry}
 pub use Rattle.bcast_model.specs.ToldPolls.{listener_count, told_count, polls_listed, polls_told, told_polls, ComesToRest, ToldPollsComeToRest}
 pub use Rattle.bcast_model.specs.ValidView.{IsValidView}
