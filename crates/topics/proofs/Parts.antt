@@ -1,11 +1,11 @@
 -- What one more exchange does to each topic's part of the calls.
-use Rattle.std.proofs.Common.{◌≡◌, ℕ, List, [], ◌∷◌, ◌++◌, Bool, true, false, Option, None, Some, refl, sym, ap, ◌∙◌, subst, append-nil, length}
+use Rattle.std.proofs.Common.{◌≡◌, ℕ, List, [], ◌∷◌, ◌++◌, Bool, true, false, cond, slice_get, Option, None, Some, refl, sym, ap, ◌∙◌, subst, append-nil, length}
 use Rattle.std.specs.Prelude.{is_some}
 use Rattle.std.specs.Option.{option_or}
 use Rattle.std.specs.Str.{bytes_eq}
 use Rattle.std.specs.Cmp.Lexicographic.{bytes_decides}
 use Rattle.std.proofs.lemmas.Bool.{true≢false}
-use Rattle.std.specs.List.{zip}
+use Rattle.std.specs.List.{cons_option, zip}
 use Rattle.bcast_model.specs.declared.run.Call.{Call}
 use Rattle.bcast_model.specs.declared.run.Reply.{Reply}
 use Rattle.bcast_model.specs.Words.{View}
@@ -16,8 +16,8 @@ use Rattle.topics.specs.declared.request.Answer.TheVariants as answer
 use Rattle.topics.specs.declared.hub.Hub.{Hub}
 use Rattle.topics.specs.Request.{name_of, call_of, IsAnswer, IsAnswerTo}
 use Rattle.topics.specs.Hub.{topic_of, IsNew, IsCall, Changes, Asks}
-use Rattle.topics.specs.Part.{Exchange, Called, opens, opened_with, AreAnswers, done_by, done_on, IsTopic, AreTopics}
-use Rattle.topics.proofs.Exchanges.{option_or-None, opened_with-last, done_on-last, answers_more, zip_last}
+use Rattle.topics.specs.Part.{Exchange, Called, on_name, opens, opened_by, AreAnswers, call_done, done_by, IsTopic, AreTopics}
+use Rattle.topics.proofs.Exchanges.{option_or-None, on_name-last, opened_by-last, done_by-last, answers_more, zip_last}
 use Rattle.topics.proofs.PartRuns.{run_of_more, new_run}
 
 module _ {T : Type 0} (is_clone : T → T → Type 0) where
@@ -36,7 +36,7 @@ module _ {T : Type 0} (is_clone : T → T → Type 0) where
   done_more (Some capacity) done (Some before) (Some after) c r topic is = (topic.0, run_of_more is_clone topic.1 is)
   done_more (Some capacity) done old new c r topic is = absurd is
 
-  called : (capacity : Option ℕ) (done : List (Called T)) (old new : Option (View T)) (asked : Option (Call T)) (a : Answer T) → IsTopic is_clone capacity done old → IsCall is_clone asked a old new → IsTopic is_clone (option_or capacity None) (done ++ done_by true asked a) new
+  called : (capacity : Option ℕ) (done : List (Called T)) (old new : Option (View T)) (asked : Option (Call T)) (a : Answer T) → IsTopic is_clone capacity done old → IsCall is_clone asked a old new → IsTopic is_clone (option_or capacity None) (done ++ cons_option (call_done asked a) []) new
   called capacity done old new (Some c) (answer.Done r) topic is = done_more capacity done old new c r topic is
   called capacity done old new None (answer.Done r) topic is = absurd is
   called capacity done old new asked a topic is = kept capacity done old new topic is
@@ -53,28 +53,33 @@ module _ {T A : Type 0} (is_clone : T → T → Type 0) where
   opened (Some capacity) done old new r asked opens_it topic fit is = absurd (opened_once r opens_it (subst (λ b. IsAnswer b r answer.Opened) (is_open is_clone (Some capacity) done old topic) fit))
 
   -- the topic of the request's name
-  here : (capacity : Option ℕ) (done : List (Called T)) (old new : Option (View T)) (r : Request T A) (a : Answer T) → IsTopic is_clone capacity done old → IsAnswer (is_some old) r a → Changes is_clone r a old new → IsTopic is_clone (option_or capacity (opens true r a)) (done ++ done_by true (call_of r) a) new
+  here : (capacity : Option ℕ) (done : List (Called T)) (old new : Option (View T)) (r : Request T A) (a : Answer T) → IsTopic is_clone capacity done old → IsAnswer (is_some old) r a → Changes is_clone r a old new → IsTopic is_clone (option_or capacity (slice_get (cons_option (opens r a) []) 0)) (done ++ cons_option (call_done (call_of r) a) []) new
   here capacity done old new (request.Open name asked) answer.Opened topic fit is = opened capacity done old new (request.Open name asked) asked refl topic fit is
   here capacity done old new (request.Open name asked) a topic fit is = kept is_clone capacity done old new topic is
   here capacity done old new r a topic fit is = called is_clone capacity done old new (call_of r) a topic is
+
+  -- one more request on the topic of these
+  here_last : (mine : List (Exchange T A)) (old new : Option (View T)) (r : Request T A) (a : Answer T) → IsTopic is_clone (opened_by mine) (done_by mine) old → IsAnswer (is_some old) r a → Changes is_clone r a old new → IsTopic is_clone (opened_by (mine ++ (r, a) ∷ [])) (done_by (mine ++ (r, a) ∷ [])) new
+  here_last mine old new r a topic fit is =
+      subst (λ o. IsTopic is_clone o (done_by (mine ++ (r, a) ∷ [])) new) (sym (opened_by-last mine r a))
+      (subst (λ d. IsTopic is_clone (option_or (opened_by mine) (slice_get (cons_option (opens r a) []) 0)) d new) (sym (done_by-last mine r a))
+      (here (opened_by mine) (done_by mine) old new r a topic fit is))
 
 module _ {T A S Hasher : Type 0} (is_clone : T → T → Type 0) where
   -- the topic of any name
   topics_more : (all : List (Exchange T A)) (old new : Hub T A S Hasher) (r : Request T A) (a : Answer T) → AreTopics is_clone all old → Asks is_clone (topic_of old) r a (topic_of new) → AreTopics is_clone (all ++ (r, a) ∷ []) new
   topics_more all old new r a topics asks = λ name.
-      subst (λ o. IsTopic is_clone o (done_on name (all ++ (r, a) ∷ [])) (topic_of new name)) (sym (opened_with-last name all r a))
-      (subst (λ d. IsTopic is_clone (option_or (opened_with name all) (opens (bytes_eq (name_of r) name) r a)) d (topic_of new name)) (sym (done_on-last name all r a))
-      (at name (bytes_eq (name_of r) name) refl))
+      subst (λ (mine : List (Exchange T A)). IsTopic is_clone (opened_by mine) (done_by mine) (topic_of new name)) (sym (on_name-last name all r a)) (at name (bytes_eq (name_of r) name) refl)
     where
-      at : (name : List ℕ) (b : Bool) → bytes_eq (name_of r) name ≡ b → IsTopic is_clone (option_or (opened_with name all) (opens b r a)) (done_on name all ++ done_by b (call_of r) a) (topic_of new name)
-      at name true same = subst (λ n. IsTopic is_clone (option_or (opened_with n all) (opens true r a)) (done_on n all ++ done_by true (call_of r) a) (topic_of new n)) ((bytes_decides (name_of r) name).0 same)
-          (here is_clone (opened_with (name_of r) all) (done_on (name_of r) all) (topic_of old (name_of r)) (topic_of new (name_of r)) r a (topics (name_of r)) asks.answer asks.topic)
-      at name false differs = kept is_clone (opened_with name all) (done_on name all) (topic_of old name) (topic_of new name) (topics name)
-          (asks.others name (λ same. true≢false (sym ((bytes_decides (name_of r) name).1 (sym same)) ∙ differs)))
+      at : (name : List ℕ) (b : Bool) → bytes_eq (name_of r) name ≡ b → IsTopic is_clone (opened_by (on_name name all ++ cond b ((r, a) ∷ []) [])) (done_by (on_name name all ++ cond b ((r, a) ∷ []) [])) (topic_of new name)
+      at name true same = subst (λ n. IsTopic is_clone (opened_by (on_name n all ++ (r, a) ∷ [])) (done_by (on_name n all ++ (r, a) ∷ [])) (topic_of new n)) ((bytes_decides (name_of r) name).0 same)
+          (here_last is_clone (on_name (name_of r) all) (topic_of old (name_of r)) (topic_of new (name_of r)) r a (topics (name_of r)) asks.answer asks.topic)
+      at name false differs = subst (λ (mine : List (Exchange T A)). IsTopic is_clone (opened_by mine) (done_by mine) (topic_of new name)) (sym (append-nil (on_name name all)))
+          (subst (IsTopic is_clone (opened_by (on_name name all)) (done_by (on_name name all))) (sym (asks.others name (λ same. true≢false (sym ((bytes_decides (name_of r) name).1 (sym same)) ∙ differs)))) (topics name))
 
   answer_more : (all : List (Exchange T A)) (old new : Hub T A S Hasher) (r : Request T A) (a : Answer T) → AreTopics is_clone all old → Asks is_clone (topic_of old) r a (topic_of new) → AreAnswers [] all → AreAnswers [] (all ++ (r, a) ∷ [])
   answer_more all old new r a topics asks fit = answers_more [] all r a fit
-      (subst (λ b. IsAnswer b r a) (is_open is_clone (opened_with (name_of r) all) (done_on (name_of r) all) (topic_of old (name_of r)) (topics (name_of r))) asks.answer)
+      (subst (λ b. IsAnswer b r a) (is_open is_clone (opened_by (on_name (name_of r) all)) (done_by (on_name (name_of r) all)) (topic_of old (name_of r)) (topics (name_of r))) asks.answer)
 
 module _ {T A S Hasher : Type 0} (is_clone : T → T → Type 0) (requests : List (Request T A)) (answers more : List (Answer T)) (r : Request T A) (a : Answer T) (old new : Hub T A S Hasher) where
   pub exchanged : more ≡ answers ++ a ∷ [] → length answers ≡ length requests → AreAnswers [] (zip requests answers) → AreTopics is_clone (zip requests answers) old → Asks is_clone (topic_of old) r a (topic_of new)

@@ -1,6 +1,5 @@
 -- Lists of requests: each topic's part of the calls.
-use Rattle.std.specs.Prelude.{◌≡◌, ℕ, List, [], ◌∷◌, ◌++◌, map, Bool, true, Option, None, Some, is_some, Ok}
-use Rattle.std.specs.Option.{option_or}
+use Rattle.std.specs.Prelude.{◌≡◌, ℕ, List, [], ◌∷◌, ◌++◌, map, filter, filter_map, slice_get, Option, None, Some, is_some, Ok}
 use Rattle.std.specs.Str.{bytes_eq}
 use Rattle.bcast_model.specs.declared.run.Call.{Call}
 use Rattle.bcast_model.specs.declared.run.Call.TheVariants as call
@@ -24,35 +23,35 @@ abbrev pub Called : Type 0 → Type 0
 Called T = Call T × Reply T
 
 module _ {T A : Type 0} where
-  -- the capacity with which a request opens its topic, if it is on the topic in question
-  abbrev pub opens : Bool → Request T A → Answer T → Option ℕ
-  opens true (request.Open name capacity) answer.Opened = Some capacity
-  opens is_on_it r a = None
+  -- the requests on this name, with their answers
+  abbrev pub on_name : List ℕ → List (Exchange T A) → List (Exchange T A)
+  on_name name all = filter (λ e. bytes_eq (name_of e.0) name) all
 
-  -- the capacity with which the topic of this name was opened, if it was
-  abbrev pub opened_with : List ℕ → List (Exchange T A) → Option ℕ
-  opened_with name [] = None
-  opened_with name ((r, a) ∷ more) =
-      option_or (opens (bytes_eq (name_of r) name) r a) (opened_with name more)
+  -- the capacity with which a request opened its topic, if it did
+  abbrev pub opens : Request T A → Answer T → Option ℕ
+  opens (request.Open name capacity) answer.Opened = Some capacity
+  opens r a = None
+
+  -- the capacity with which one of these requests, all on one name, opened its topic, if one did
+  abbrev pub opened_by : List (Exchange T A) → Option ℕ
+  opened_by mine = slice_get (filter_map (λ e. opens e.0 e.1) mine) 0
 
   -- each answer fits what was opened before it
   abbrev pub AreAnswers : List (Exchange T A) → List (Exchange T A) → Type 0
   AreAnswers before [] = Unit {0}
   AreAnswers before ((r, a) ∷ more) =
-      IsAnswer (is_some (opened_with (name_of r) before)) r a
+      IsAnswer (is_some (opened_by (on_name (name_of r) before))) r a
       × AreAnswers (before ++ (r, a) ∷ []) more
 
 module _ {T : Type 0} where
-  -- the call of a request that was answered `Done`, if it is on the topic in question
-  abbrev pub done_by : Bool → Option (Call T) → Answer T → List (Called T)
-  done_by true (Some c) (answer.Done r) = (c, r) ∷ []
-  done_by is_on_it c a = []
+  -- the call of a request that was answered `Done`, with its reply
+  abbrev pub call_done : Option (Call T) → Answer T → Option (Called T)
+  call_done (Some c) (answer.Done r) = Some (c, r)
+  call_done asked a = None
 
-  -- the calls of the requests on this name that were answered `Done`, in order
-  abbrev pub done_on : {A : Type 0} → List ℕ → List (Exchange T A) → List (Called T)
-  done_on name [] = []
-  done_on name ((r, a) ∷ more) =
-      done_by (bytes_eq (name_of r) name) (call_of r) a ++ done_on name more
+  -- the calls of these requests that were answered `Done`, in order
+  abbrev pub done_by : {A : Type 0} → List (Exchange T A) → List (Called T)
+  done_by mine = filter_map (λ e. call_done (call_of e.0) e.1) mine
 
   -- a topic's part of the calls: its first receiver is deactivated, then these are done
   abbrev pub part_of : ℕ → List (Called T) → List (Called T)
@@ -78,5 +77,5 @@ module _ {T : Type 0} (is_clone : T → T → Type 0) where
   abbrev pub AreTopics : {A S Hasher : Type 0}
       → List (Exchange T A) → Hub T A S Hasher → Type 0
   AreTopics all hub =
-      (name : List ℕ)
-      → IsTopic (opened_with name all) (done_on name all) (topic_of hub name)
+      (name : List ℕ) → let mine = on_name name all in
+      IsTopic (opened_by mine) (done_by mine) (topic_of hub name)
