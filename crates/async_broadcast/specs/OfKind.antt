@@ -1,10 +1,9 @@
 -- A reply that a channel may give is of its call's kind.
-use Rattle.std.proofs.Common.{inl, inr, ℕ, Bool, true, false, if◌then◌else◌, Option, None, Result, Ok, Err, ◌≡◌, refl, sym, subst}
+use Rattle.std.proofs.Common.{inl, inr, ℕ, Bool, true, false, if◌then◌else◌, Option, Result, Ok, Err, refl}
 use Rattle.std.specs.declared.alloc.AllocError.{AllocError}
 use Rattle.bcast_model.specs.declared.error.TryRecvError.{TryRecvError}
 use Rattle.bcast_model.specs.declared.error.HandleError.{HandleError}
 use Rattle.bcast_model.specs.declared.error.TrySendError.TheVariants as unsent
-use Rattle.bcast_model.specs.declared.run.SendPoll.{SendPoll}
 use Rattle.bcast_model.specs.declared.run.SendPoll.TheVariants as send
 use Rattle.bcast_model.specs.declared.run.Call.{Call}
 use Rattle.bcast_model.specs.declared.run.Call.TheVariants as call
@@ -32,17 +31,6 @@ module _ {T : Type 0} where
   attempt_send-back : (v : View T) (msg : T) → HandsBack msg (attempt_send_reply v msg)
   attempt_send-back v msg =
       attempted-back v.control.closed (has_no_receiver v.control) _ v.control.await_active _ msg
-
-  sent_in : Reply T → SendPoll T
-  sent_in (reply.AttemptSend sent) = sent
-  sent_in other = send.Ready (Ok None)
-
-  -- a message that must wait is the one that was to be sent
-  pub handed_back : (is_clone : T → T → Type 0) (msg back : T)
-      → IsPossible is_clone (call.AttemptSend msg) (reply.AttemptSend (send.Wait back)) → back ≡ msg
-  unfolding sent_in
-  handed_back is_clone msg back may =
-      subst (λ r. HandsBack msg (sent_in r)) (sym may.2) (attempt_send-back (view_of may.0) msg)
 
   poll_send-back : (there : Bool) (v : View T) (msg : T)
       → HandsBack msg (if there then attempt_send_reply v msg else send.Wait msg)
