@@ -16,7 +16,5 @@ pub mod Woken
 pub mod Snapshots
 -- calls with a limit, and a loop that blocks
 pub mod Timed
--- how a view is stored
-pub mod Encodings
 -- several messages in one call
 pub mod Batch

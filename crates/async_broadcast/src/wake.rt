@@ -38,12 +38,9 @@ pub struct TaskWaker {
 }
 
 impl Model for TaskWaker {
-    ghost use Rattle.async_broadcast.specs.Encodings.{task_waker_code};
     ghost use Rattle.async_broadcast.specs.TaskWakers.{TaskWaker as Seen};
 
     ghost Value = { Seen };
-
-    ghost coded = { task_waker_code };
 
     ghost view = { λ task. record { is_refused = task.is_refused } };
 }
