@@ -1,5 +1,5 @@
--- What futures return, by the replies of a port.
-use Rattle.std.specs.Prelude.{◌≡◌, ◌⊎◌, ℕ, List, Option, Some, None, MatchOption, Result, Ok, Err, IfOk, alloc_error}
+-- What futures return, by the replies of a port, and what is seen of a task's waker.
+use Rattle.std.specs.Prelude.{◌≡◌, ◌⊎◌, ℕ, Bool, List, Option, Some, None, MatchOption, Result, Ok, Err, IfOk, alloc_error}
 use Rattle.std.specs.List.{AllByRecursion}
 use Rattle.std.specs.declared.alloc.AllocError.{AllocError}
 use Rattle.futures.specs.declared.task.Poll.TheVariants as poll
@@ -11,6 +11,11 @@ use Rattle.bcast_model.specs.declared.run.Call.{Call}
 use Rattle.bcast_model.specs.declared.run.Call.TheVariants as call
 use Rattle.bcast_model.specs.declared.run.Reply.{Reply}
 use Rattle.bcast_model.specs.declared.run.Reply.TheVariants as reply
+
+-- what a contract sees of a task's waker between polls
+pub record TaskWaker : Type 0 where
+  -- whether memory for a notice was refused at the last poll
+  pub is_refused : Bool
 
 module _ {T P : Type 0} (gave : P → Call T → Reply T → Type 0) (port : P) where
   -- `broadcast_direct`: the port gave a place

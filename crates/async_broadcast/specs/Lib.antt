@@ -4,8 +4,7 @@ pub mod Ports
 pub mod OfKind
 -- handles that are made
 pub mod Handles
--- futures and streams
-pub mod TaskWakers
+-- futures and streams, and the waker of a task
 pub mod Futures
 -- the notice of a poll, made for its task
 pub mod Made

@@ -38,7 +38,7 @@ pub struct TaskWaker {
 }
 
 impl Model for TaskWaker {
-    ghost use Rattle.async_broadcast.specs.TaskWakers.{TaskWaker as Seen};
+    ghost use Rattle.async_broadcast.specs.Futures.{TaskWaker as Seen};
 
     ghost Value = { Seen };
 
