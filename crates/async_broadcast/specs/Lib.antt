@@ -1,4 +1,4 @@
--- what a port may reply, and how handles are seen
+-- what a port may reply, how handles are seen, and what a snapshot through one says
 pub mod Ports
 -- the replies of a channel are of their calls' kinds
 pub mod OfKind
@@ -11,8 +11,6 @@ pub mod Made
 -- how waiting threads are counted, and which of them are woken
 pub mod Counted
 pub mod Woken
--- snapshots through handles
-pub mod Snapshots
 -- calls with a limit, and a loop that blocks
 pub mod Timed
 -- several messages in one call

@@ -9,7 +9,9 @@ use Rattle.bcast_model.specs.declared.run.Call.{Call}
 use Rattle.bcast_model.specs.declared.run.Call.TheVariants as call
 use Rattle.bcast_model.specs.declared.run.Reply.{Reply}
 use Rattle.bcast_model.specs.declared.run.Reply.TheVariants as reply
-use Rattle.bcast_model.specs.Words.{Found}
+use Rattle.bcast_model.specs.Words.{View, IsShown, Found}
+use Rattle.bcast_core.specs.declared.snapshot.Snapshot.{Snapshot}
+use Rattle.bcast_core.specs.Snapshot.{Shows}
 
 -- `Sender::clone` and the like: this port may give exactly the replies that the other may give
 abbrev pub IsSame : {T P : Type 0} → (P → Call T → Reply T → Type 0) → P → P → Type 0
@@ -20,6 +22,10 @@ IsSame {T} {P} gave port other =
 abbrev pub Gives : {T P K : Type 0} → (P → Call T → Reply T → Type 0)
     → (K → Call T → Reply T → K → Type 0) → P → K → Call T → Reply T → K → Type 0
 Gives gave learns port before call reply after = gave port call reply × learns before call reply after
+
+-- `snapshot`: what some valid history shows, with a clone of each message
+abbrev pub ShowsSomeState : {T A : Type 0} → (T → T → Type 0) → Snapshot T A → Type 0
+ShowsSomeState {T} is_clone s = (v : View T) × IsShown v × Shows is_clone s v
 
 -- `recv_blocking`: its result, as `try_recv` returns it
 abbrev pub as_try_recv : {T : Type 0} → Result (Result T RecvError) AllocError

@@ -1,6 +1,6 @@
 //! The channel of several handles, behind one lock.
 ghost use Rattle.std.specs.Prelude.{◌<◌, IfOk};
-ghost use Rattle.async_broadcast.specs.Snapshots.{ShowsSomeState};
+ghost use Rattle.async_broadcast.specs.Ports.{ShowsSomeState};
 
 use crate::inactive::InactiveReceiver;
 use crate::journal::{CallJournal, NoJournal};

@@ -2,7 +2,7 @@
 //! receiver has still to read.
 ghost use Rattle.std.specs.Prelude.{◌≡◌, IfOk};
 ghost use Rattle.bcast_model.specs.Words.{View, IsShown, unread, missed};
-ghost use Rattle.async_broadcast.specs.Snapshots.{ShowsSomeState};
+ghost use Rattle.async_broadcast.specs.Ports.{ShowsSomeState};
 
 use super::channel::{lock, with_channel};
 use super::{Lock, LockReceiver};
