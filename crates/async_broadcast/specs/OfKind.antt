@@ -1,18 +1,14 @@
 -- A reply that a channel may give is of its call's kind.
 use Rattle.std.proofs.Common.{inl, inr, ℕ, Bool, true, false, if◌then◌else◌, Option, Result, Ok, Err, refl}
 use Rattle.std.specs.declared.alloc.AllocError.{AllocError}
-use Rattle.bcast_model.specs.declared.error.TryRecvError.{TryRecvError}
-use Rattle.bcast_model.specs.declared.error.HandleError.{HandleError}
 use Rattle.bcast_model.specs.declared.error.TrySendError.TheVariants as unsent
 use Rattle.bcast_model.specs.declared.run.SendPoll.TheVariants as send
-use Rattle.bcast_model.specs.declared.run.Call.{Call}
 use Rattle.bcast_model.specs.declared.run.Call.TheVariants as call
-use Rattle.bcast_model.specs.declared.run.Reply.{Reply}
 use Rattle.bcast_model.specs.declared.run.Reply.TheVariants as reply
-use Rattle.bcast_model.specs.Words.{Cursors, has_no_receiver, has_place, View, view_of}
-use Rattle.bcast_model.specs.Words.{reply_to_attempt, attempt_send_reply, Legal, IsReceivedBy, worded, IsMade}
-use Rattle.bcast_model.specs.Words.{cursor_of, skipped_to, skipped_count}
-use Rattle.bcast_model.specs.Words.{future_reply, stream_reply, next_reply}
+use Rattle.bcast_model.specs.Words.{TryRecvError, HandleError, Call, Reply, Cursors, View, view_of}
+use Rattle.bcast_model.specs.Words.{has_no_receiver, has_place, cursor_of, skipped_to, skipped_count}
+use Rattle.bcast_model.specs.Words.{reply_to_attempt, attempt_send_reply, Legal, IsReceivedBy}
+use Rattle.bcast_model.specs.Words.{worded, future_reply, stream_reply, next_reply, IsMade}
 use Rattle.bcast_model.specs.Words.{IsMadeFrom, IsPossible}
 use Rattle.bcast_core.specs.Kinds.{IsA, HandsBack, IsOfKind}
 

@@ -2,16 +2,14 @@
 use Rattle.std.specs.Prelude.{◌≡◌, ◌⊎◌, ℕ, List, ◌++◌, codes, Option, Some, None, Result, Ok, Err}
 use Rattle.std.specs.Fmt.{decimal}
 use Rattle.std.specs.declared.alloc.AllocError.{AllocError}
-use Rattle.bcast_model.specs.declared.error.RecvError.{RecvError}
 use Rattle.bcast_model.specs.declared.error.RecvError.TheVariants as unreceived
 use Rattle.bcast_model.specs.declared.error.TryRecvError.TheVariants as unread
-use Rattle.bcast_model.specs.declared.run.SendPoll.{SendPoll}
 use Rattle.bcast_model.specs.declared.run.SendPoll.TheVariants as send
 use Rattle.async_broadcast.specs.declared.timed.SendTimeoutError.{SendTimeoutError}
 use Rattle.async_broadcast.specs.declared.timed.SendTimeoutError.TheVariants as timed_send
 use Rattle.async_broadcast.specs.declared.timed.RecvTimeoutError.{RecvTimeoutError}
 use Rattle.async_broadcast.specs.declared.timed.RecvTimeoutError.TheVariants as timed_receive
-use Rattle.bcast_model.specs.Words.{Found}
+use Rattle.bcast_model.specs.Words.{RecvError, SendPoll, Found}
 
 module _ {T : Type 0} where
   -- `broadcast_timeout`: its result, as the last try returned it, which must wait at the limit
