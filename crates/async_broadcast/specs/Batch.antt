@@ -50,7 +50,6 @@ module _ {T : Type 0} (gave : Call T → Reply T → Type 0) (key limit : ℕ) w
 -- a single receive's message is put last into a list
 abbrev pub PutsLast : {T E : Type 0} → Result (Result T E) AllocError → List T
     → Result (Result ℕ E) AllocError → List T → Type 0
-PutsLast (Ok (Ok msg)) before result after =
-    (result ≡ Ok (Ok 1)) × (after ≡ before ++ msg ∷ [])
+PutsLast (Ok (Ok msg)) before result after = (result ≡ Ok (Ok 1)) × (after ≡ before ++ msg ∷ [])
 PutsLast (Ok (Err error)) before result after = (result ≡ Ok (Err error)) × (after ≡ before)
 PutsLast (Err refused) before result after = (result ≡ Err refused) × (after ≡ before)

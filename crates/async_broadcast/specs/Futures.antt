@@ -58,8 +58,7 @@ module _ {T P : Type 0} (gave : P → Call T → Reply T → Type 0) (port : P) 
       × gave port (call.PollNext key) (reply.PollNext (Ok (poll.Ready (Some next)))))
 
   -- the stream: such items, and the end that the port gave
-  abbrev pub YieldsItems : ℕ → List (Result T AllocError) → Option (Result T AllocError)
-      → Type 0
+  abbrev pub YieldsItems : ℕ → List (Result T AllocError) → Option (Result T AllocError) → Type 0
   YieldsItems key items last =
       AllByRecursion (GivesItem key) items
       × MatchOption last (gave port (call.PollNext key) (reply.PollNext (Ok (poll.Ready None))))

@@ -6,9 +6,9 @@ use Rattle.bcast_model.specs.declared.run.SendPoll.TheVariants as send
 use Rattle.bcast_model.specs.declared.run.Call.TheVariants as call
 use Rattle.bcast_model.specs.declared.run.Reply.TheVariants as reply
 use Rattle.bcast_model.specs.Words.{TryRecvError, HandleError, Call, Reply, Cursors, View, view_of}
-use Rattle.bcast_model.specs.Words.{has_no_receiver, has_place, cursor_of, skipped_to, skipped_count}
-use Rattle.bcast_model.specs.Words.{reply_to_attempt, attempt_send_reply, Legal, IsReceivedBy}
-use Rattle.bcast_model.specs.Words.{worded, future_reply, stream_reply, next_reply, IsMade}
+use Rattle.bcast_model.specs.Words.{has_no_receiver, has_place, cursor_of, skipped_to, Legal}
+use Rattle.bcast_model.specs.Words.{skipped_count, reply_to_attempt, attempt_send_reply, worded}
+use Rattle.bcast_model.specs.Words.{future_reply, stream_reply, next_reply, IsReceivedBy, IsMade}
 use Rattle.bcast_model.specs.Words.{IsMadeFrom, IsPossible}
 use Rattle.bcast_core.specs.Kinds.{IsA, HandsBack, IsOfKind}
 

@@ -25,8 +25,7 @@ abbrev pub ShowsSomeState : {T A : Type 0} → (T → T → Type 0) → Snapshot
 ShowsSomeState {T} is_clone s = (v : View T) × IsShown v × Shows is_clone s v
 
 -- `recv_blocking`: its result, as `try_recv` returns it
-abbrev pub as_try_recv : {T : Type 0} → Result (Result T RecvError) AllocError
-    → Found T
+abbrev pub as_try_recv : {T : Type 0} → Result (Result T RecvError) AllocError → Found T
 as_try_recv (Ok (Ok msg)) = Ok (Ok msg)
 as_try_recv (Ok (Err (unreceived.Overflowed n))) = Ok (Err (unread.Overflowed n))
 as_try_recv (Ok (Err unreceived.Closed)) = Ok (Err unread.Closed)

@@ -19,8 +19,7 @@ module _ {T : Type 0} where
   as_attempt (Err (timed_send.Timeout msg)) = send.Wait msg
 
   -- `recv_timeout`: its result, as `try_recv` returns it, which finds nothing at the limit
-  abbrev pub as_timed_try : Result (Result T RecvTimeoutError) AllocError
-      → Found T
+  abbrev pub as_timed_try : Result (Result T RecvTimeoutError) AllocError → Found T
   as_timed_try (Ok (Ok msg)) = Ok (Ok msg)
   as_timed_try (Ok (Err (timed_receive.Overflowed n))) = Ok (Err (unread.Overflowed n))
   as_timed_try (Ok (Err timed_receive.Timeout)) = Ok (Err unread.Empty)

@@ -17,8 +17,7 @@ KnowsTail v t = 0 < t.caught_up_receivers → t.known ≡ tail_of v
 
 -- if sends are ready and a thread waits to send, one was woken that hasn't tried yet
 abbrev pub HasWokenSender : {T : Type 0} → View T → Threads → Type 0
-HasWokenSender v t =
-    sends_are_ready v ≡ true → 0 < t.senders → t.is_sender_woken ≡ true
+HasWokenSender v t = sends_are_ready v ≡ true → 0 < t.senders → t.is_sender_woken ≡ true
 
 -- if a thread has something to receive, one was woken that hasn't tried yet
 abbrev pub HasWokenReceiver : Threads → Type 0
@@ -34,8 +33,7 @@ ChoosesSender v old new is_woken =
 
 -- the threads that wait to send are as they were
 abbrev pub AreSenders : Threads → Threads → Type 0
-AreSenders old new =
-    (new.senders ≡ old.senders) × (new.is_sender_woken ≡ old.is_sender_woken)
+AreSenders old new = (new.senders ≡ old.senders) × (new.is_sender_woken ≡ old.is_sender_woken)
 
 -- threads that wait for a message have something to receive, if there is more than they know
 abbrev pub MovesReceivers : {T : Type 0} → View T → Threads → Threads → Type 0
