@@ -1,7 +1,6 @@
 //! The type of all handles.
 ghost use Rattle.std.specs.Prelude.{◌≡◌, ◌⊎◌, Ok, Err, IfOk, IfErr};
-ghost use Rattle.bcast_core.specs.Calls.{change_call, change_reply};
-ghost use Rattle.bcast_core.specs.Calls.{receiver_call, receiver_reply};
+ghost use Rattle.bcast_core.specs.Calls.{change_call, change_reply, receiver_call, receiver_reply};
 ghost use Rattle.async_broadcast.specs.Ports.{IsSame};
 
 use crate::port::{Ask, Port};

@@ -1,6 +1,6 @@
 //! Sends that wait in a task.
 ghost use Rattle.std.specs.Prelude.{◌≡◌, ⊤, true, false, alloc_error};
-ghost use Rattle.std.specs.Prelude.{Some, None, IfSome, IsSome, Ok, Err, IfOk, IfErr};
+ghost use Rattle.std.specs.Prelude.{Some, None, IfSome, IsSome, Err, IfOk, IfErr};
 ghost use Rattle.futures.specs.Task.{Covers, Keeps};
 ghost use Rattle.futures.specs.Poll.{IfReady, OnPending};
 ghost use Rattle.async_broadcast.specs.Futures.{BeganSend, GivesSent, MustWait, RefusedSend};

@@ -1,6 +1,5 @@
 //! A receiver as a stream of its messages.
-ghost use Rattle.std.specs.Prelude.{◌≡◌, ◌⊎◌, ⊤, true, false, []};
-ghost use Rattle.std.specs.Prelude.{None, IfSome, OnSome, Ok, Err, IfErr};
+ghost use Rattle.std.specs.Prelude.{◌≡◌, ◌⊎◌, ⊤, true, false, [], IfSome, OnSome, Ok, Err, IfErr};
 ghost use Rattle.futures.specs.Task.{Covers, Keeps};
 ghost use Rattle.futures.specs.Poll.{IfReady, OnPending};
 ghost use Rattle.futures.specs.Runs.{After, Within};

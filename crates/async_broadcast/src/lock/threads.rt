@@ -1,9 +1,8 @@
 //! The threads that wait for the channel, and which of them to wake.
-ghost use Rattle.std.specs.Prelude.{◌≡◌, true, false, IfSome, IfNone};
-ghost use Rattle.async_broadcast.specs.Woken.{HasNoThread, KnowsTail};
-ghost use Rattle.async_broadcast.specs.Woken.{HasWokenSender, HasWokenReceiver};
-ghost use Rattle.async_broadcast.specs.Woken.{AreSenders, Chooses, ChoosesSender};
-ghost use Rattle.async_broadcast.specs.Woken.{ChoosesReceivers, MovesReceivers};
+ghost use Rattle.std.specs.Prelude.{◌≡◌, false, IfSome, IfNone};
+ghost use Rattle.async_broadcast.specs.Woken.{AreSenders, HasNoThread, HasWokenSender, KnowsTail};
+ghost use Rattle.async_broadcast.specs.Woken.{ChoosesReceivers, HasWokenReceiver, MovesReceivers};
+ghost use Rattle.async_broadcast.specs.Woken.{Chooses, ChoosesSender};
 ghost use Rattle.async_broadcast.specs.Counted.{BeginsWait, EndsWait, tail_of};
 
 use crate::wake::Wake;
