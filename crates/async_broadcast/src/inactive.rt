@@ -1,5 +1,6 @@
 //! Receivers that receive nothing, and keep the channel open.
 ghost use Rattle.std.specs.Prelude.{◌≡◌, Ok, Err, IfOk, IfErr};
+ghost use Rattle.bcast_core.specs.declared.calls.changes.Change.TheVariants as change;
 ghost use Rattle.async_broadcast.specs.Handles.{MakesHandle};
 
 use crate::handle::{Handle, Role};
@@ -115,8 +116,6 @@ impl<T: Clone, P: Port<T>, A: Allocator + Copy> InactiveReceiver<T, P, A> {
 }
 
 impl Role for Inactive {
-    ghost use Rattle.bcast_core.specs.declared.calls.changes.Change.TheVariants as change;
-
     ghost leaves = { λ _. change.DropInactive };
 
     #[inline(always)]

@@ -2,6 +2,8 @@
 ghost use Rattle.std.specs.Prelude.{◌≡◌, ◌-◌, IfSome, IfNone};
 ghost use Rattle.std.specs.Iterator.{at_most};
 ghost use Rattle.std.specs.Sync.Forever.{forever_left};
+ghost use Rattle.bcast_model.specs.declared.run.Call.TheVariants as call;
+ghost use Rattle.bcast_model.specs.declared.run.Reply.TheVariants as reply;
 ghost use Rattle.async_broadcast.specs.Ports.{as_try_recv};
 ghost use Rattle.async_broadcast.specs.Timed.{as_received, IsNoEnd, EndsLoop};
 
@@ -85,9 +87,6 @@ impl<T: Clone, P: Port<T>, A: Allocator + Copy> Receiver<T, P, A> {
 impl<T: Clone, P: Port<T>, R: Wait, A: Allocator + Copy> Iterator for Iter<'_, T, P, R, A> {
     type Item = Result<Result<T, RecvError>, AllocError>;
 
-    ghost use Rattle.bcast_model.specs.declared.run.Call.TheVariants as call;
-    ghost use Rattle.bcast_model.specs.declared.run.Reply.TheVariants as reply;
-
     ghost next_gives = { λ old item new. (new.receiver.now ≡ old.receiver.now)
         × IfSome item IsNoEnd
         × P.gave old.receiver.now.port (call.TryRecv old.receiver.now.role.key)
@@ -121,9 +120,6 @@ pub struct TryIter<'a, T: Clone, P: Port<T>, A: Allocator = Global> {
 
 impl<T: Clone, P: Port<T>, A: Allocator + Copy> Iterator for TryIter<'_, T, P, A> {
     type Item = Result<Result<T, RecvError>, AllocError>;
-
-    ghost use Rattle.bcast_model.specs.declared.run.Call.TheVariants as call;
-    ghost use Rattle.bcast_model.specs.declared.run.Reply.TheVariants as reply;
 
     ghost next_gives = { λ old item new. (new.receiver.now ≡ old.receiver.now)
         × (new.turns ≡ old.turns - 1)

@@ -1,9 +1,9 @@
 //! The journal that a lock may keep of the calls on its channel.
-ghost use Rattle.std.specs.Prelude.{◌≡◌, Ok, false, IfSome};
-ghost use Rattle.bcast_model.specs.Words.{Answers, HasPositiveCapacity};
+ghost use Rattle.std.specs.Prelude.{◌≡◌, ⊤, ℕ, Ok, false, IfSome};
+ghost use Rattle.bcast_model.specs.Words.{Call, Reply, Answers, HasPositiveCapacity, View};
 ghost use Rattle.bcast_core.specs.Batch.{ReceivesEach};
 ghost use Rattle.bcast_core.specs.Calls.{receiver_call, receiver_reply};
-ghost use Rattle.async_broadcast.specs.Ports.{moved_by};
+ghost use Rattle.async_broadcast.specs.Ports.{is_answer, moved_by};
 
 use crate::port::Caller;
 use crate::wake::Wake;
@@ -13,12 +13,6 @@ use std::snapshot::Snapshot;
 
 /// What a lock records of the calls on its channel, beside the channel. It is for contracts alone.
 pub trait CallJournal<T: Clone>: Sized + Drop {
-    ghost use Rattle.bcast_model.specs.declared.run.Call.{Call};
-    ghost use Rattle.bcast_model.specs.declared.run.Reply.{Reply};
-    ghost use Rattle.bcast_model.specs.View.{View};
-    ghost use Rattle.async_broadcast.specs.Ports.{is_answer};
-    ghost use Rattle.std.specs.Prelude.{ℕ};
-
     /// Who makes calls on the channel, and what it knows of them.
     type Caller: Caller;
 
@@ -99,8 +93,6 @@ pub trait CallJournal<T: Clone>: Sized + Drop {
 pub struct NoJournal;
 
 impl<T: Clone> CallJournal<T> for NoJournal {
-    ghost use Rattle.std.specs.Prelude.{⊤};
-
     type Caller = ();
 
     ghost learns = { λ before call reply after. ⊤ };

@@ -1,5 +1,5 @@
 //! The channel of several handles, behind one lock.
-ghost use Rattle.std.specs.Prelude.{◌<◌, IfOk};
+ghost use Rattle.std.specs.Prelude.{◌<◌, ⊤, IfOk};
 ghost use Rattle.async_broadcast.specs.Ports.{ShowsSomeState};
 
 use crate::inactive::InactiveReceiver;
@@ -154,8 +154,6 @@ impl<T: Clone, R: Wait + Clone, A: Allocator + Copy, J: CallJournal<T>> Lock<T, 
 
 impl<T: Clone, R: Wait + Clone, A: Allocator + Copy, J: CallJournal<T>> PortFor<T, J::Caller>
     for Lock<T, R, A, J> {
-    ghost use Rattle.std.specs.Prelude.{⊤};
-
     fn send_waiting(&self, caller: &mut J::Caller, msg: T) -> Result<Option<T>, SendError<T>> {
         answer_of_send(self.make_until(caller, &Sends, AttemptSend(msg), &NoLimit))
     }

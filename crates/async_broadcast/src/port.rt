@@ -1,5 +1,6 @@
 //! Ports: how a handle calls its channel.
-ghost use Rattle.std.specs.Prelude.{◌≡◌, ◌≤◌, ◌⊎◌, true, false, IfSome, IfNone, IfOk, IfErr, OnErr};
+ghost use Rattle.std.specs.Prelude.{◌≡◌, ◌≤◌, ◌⊎◌, ⊤, ℕ, true, false};
+ghost use Rattle.std.specs.Prelude.{IfSome, IfNone, IfOk, IfErr, OnErr};
 ghost use Rattle.futures.specs.Task.{IsArmed, Keeps};
 ghost use Rattle.bcast_model.specs.Words.{must_wait, HasPositiveCapacity};
 ghost use Rattle.bcast_core.specs.Batch.{ReceivesInto};
@@ -18,15 +19,11 @@ use std::time::Duration;
 /// A call that moves a receiver, or takes it from the channel, is made by the receiver's owner. `()`
 /// may make every call, and knows nothing.
 pub trait Caller: Drop {
-    ghost use Rattle.std.specs.Prelude.{ℕ};
-
     // Holds of a caller that may move the receiver of this key.
     ghost moves: { Self → ℕ → Type 0 };
 }
 
 impl Caller for () {
-    ghost use Rattle.std.specs.Prelude.{⊤};
-
     ghost moves = { λ _ _. ⊤ };
 }
 

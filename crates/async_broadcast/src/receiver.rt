@@ -1,5 +1,6 @@
 //! The receiving side.
 ghost use Rattle.std.specs.Prelude.{◌≡◌, Ok, Err, IfOk, IfErr};
+ghost use Rattle.bcast_core.specs.declared.calls.changes.Change.TheVariants as change;
 ghost use Rattle.async_broadcast.specs.Handles.{MakesHandle};
 ghost use Rattle.async_broadcast.specs.Ports.{as_try_recv};
 
@@ -262,8 +263,6 @@ impl<T: Clone, P: Port<T>, H: Role, A: Allocator + Copy> Handle<T, P, H, A> {
 }
 
 impl Role for Receiving {
-    ghost use Rattle.bcast_core.specs.declared.calls.changes.Change.TheVariants as change;
-
     ghost leaves = { λ role. change.DropReceiver role.key };
 
     #[inline(always)]

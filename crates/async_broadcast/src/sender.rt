@@ -1,6 +1,7 @@
 //! The sending side.
 ghost use Rattle.std.specs.Prelude.{◌≡◌};
 ghost use Rattle.bcast_model.specs.Encodings.{in_lists};
+ghost use Rattle.bcast_core.specs.declared.calls.changes.Change.TheVariants as change;
 ghost use Rattle.async_broadcast.specs.Handles.{MakesHandle};
 
 use crate::handle::{Handle, Role};
@@ -157,8 +158,6 @@ impl<T: Clone, P: Port<T>, A: Allocator + Copy> Sender<T, P, A> {
 }
 
 impl Role for Sending {
-    ghost use Rattle.bcast_core.specs.declared.calls.changes.Change.TheVariants as change;
-
     ghost leaves = { λ _. change.DropSender };
 
     #[inline(always)]

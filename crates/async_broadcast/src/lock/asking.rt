@@ -3,6 +3,7 @@ ghost use Rattle.std.specs.Prelude.{◌≡◌, true, false, Ok, Err, IfSome, IfO
 ghost use Rattle.futures.specs.Task.{IsArmed, Keeps};
 ghost use Rattle.bcast_model.specs.Words.{Answers, HasPositiveCapacity, IsPossible, must_wait};
 ghost use Rattle.bcast_core.specs.Calls.{receiver_call, receiver_reply};
+ghost use Rattle.async_broadcast.specs.OfKind.{possible};
 ghost use Rattle.async_broadcast.specs.Ports.{moved_by};
 
 use super::Lock;
@@ -50,8 +51,6 @@ fn append_added<T: Clone, J: CallJournal<T>, A: Allocator + Copy>(
 
 impl<T: Clone, R: Wait + Clone, A: Allocator + Copy, J: CallJournal<T>> Ask<T, J::Caller>
     for Lock<T, R, A, J> {
-    ghost use Rattle.async_broadcast.specs.OfKind.{possible};
-
     ghost gave = { λ port call reply. IsPossible T.is_clone call reply };
 
     ghost learns = { J.learns };
