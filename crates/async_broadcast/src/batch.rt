@@ -123,8 +123,7 @@ impl<T: Clone, P: Port<T>, A: Allocator + Copy> Receiver<T, P, A> {
     ) -> Result<Poll<Option<Result<usize, RecvError>>>, AllocError>
         ensures received { PollsMany (P.gave self.old.port) self.old.role.key limit
             msgs.old.items result msgs.new.items }
-        ensures same { (self.new.port ≡ self.old.port)
-            × (self.new.role.key ≡ self.old.role.key) }
+        ensures same { (self.new.port ≡ self.old.port) × (self.new.role.key ≡ self.old.role.key) }
         ensures registered { IfOk result (λ poll. OnPending poll (IsArmed cx.new)) }
         ensures kept { Keeps cx.old cx.new }
     {

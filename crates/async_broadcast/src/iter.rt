@@ -87,8 +87,7 @@ impl<T: Clone, P: Port<T>, A: Allocator + Copy> Receiver<T, P, A> {
 impl<T: Clone, P: Port<T>, R: Wait, A: Allocator + Copy> Iterator for Iter<'_, T, P, R, A> {
     type Item = Result<Result<T, RecvError>, AllocError>;
 
-    ghost next_gives = { λ old item new. (new.receiver.now ≡ old.receiver.now)
-        × IfSome item IsNoEnd
+    ghost next_gives = { λ old item new. (new.receiver.now ≡ old.receiver.now) × IfSome item IsNoEnd
         × P.gave old.receiver.now.port (call.TryRecv old.receiver.now.role.key)
         (reply.TryRecv (as_try_recv (as_received item))) };
 

@@ -119,8 +119,7 @@ pub trait PortFor<T: Clone, K: Caller>: Ask<T, K> {
         key: usize,
     ) -> Result<Result<T, RecvError>, AllocError>
         requires moves { K.moves caller.old key }
-        ensures gave { Self.gave self.now (Call.TryRecv key)
-            (Reply.TryRecv (as_try_recv result)) }
+        ensures gave { Self.gave self.now (Call.TryRecv key) (Reply.TryRecv (as_try_recv result)) }
         ensures learned { Self.learns caller.old (Call.TryRecv key)
             (Reply.TryRecv (as_try_recv result)) caller.new };
 
@@ -175,8 +174,7 @@ pub trait TimedPortFor<T: Clone, K: Caller>: PortFor<T, K> {
         limit: Duration,
     ) -> Result<Result<T, RecvTimeoutError>, AllocError>
         requires moves { K.moves caller.old key }
-        ensures gave { Self.gave self.now (Call.TryRecv key)
-            (Reply.TryRecv (as_timed_try result)) }
+        ensures gave { Self.gave self.now (Call.TryRecv key) (Reply.TryRecv (as_timed_try result)) }
         ensures learned { Self.learns caller.old (Call.TryRecv key)
             (Reply.TryRecv (as_timed_try result)) caller.new };
 }

@@ -110,13 +110,11 @@ impl<T: Clone, P: Ask<T, ()>, A: Allocator + Copy> Receiver<T, P, A> {
     ) -> Result<Poll<Option<Result<T, RecvError>>>, AllocError>
         ensures asked { IfOk result (λ poll. P.gave self.old.port
             (Call.PollRecv self.old.role.key) (Reply.PollRecv (Ok poll))) }
-        ensures same { (self.new.port ≡ self.old.port)
-            × (self.new.role.key ≡ self.old.role.key) }
+        ensures same { (self.new.port ≡ self.old.port) × (self.new.role.key ≡ self.old.role.key) }
         ensures notice { IfOk result (λ poll. OnPending poll
             (self.new.role.waker.is_refused ≡ false)) }
         ensures refused { IfErr result (λ error. (self.new.role.waker.is_refused ≡ true)
-            ⊎ P.gave self.old.port (Call.PollRecv self.old.role.key)
-            (Reply.PollRecv (Err error))) }
+            ⊎ P.gave self.old.port (Call.PollRecv self.old.role.key) (Reply.PollRecv (Err error))) }
         ensures registered { IfOk result (λ poll. OnPending poll (IsArmed cx.new)) }
         ensures kept { Keeps cx.old cx.new }
     {
@@ -154,10 +152,8 @@ impl<T: Clone, P: Ask<T, ()>, A: Allocator + Copy> Future for Recv<'_, T, P, A> 
             (GivesReceived P.gave self.old.receiver.now.port self.old.receiver.now.role.key) }
         ensures again { OnPending result ⊤ }
         ensures same { OnPending result ((out : _)
-            → GivesReceived P.gave self.new.receiver.now.port self.new.receiver.now.role.key
-            out
-            → GivesReceived P.gave self.old.receiver.now.port self.old.receiver.now.role.key
-            out) }
+            → GivesReceived P.gave self.new.receiver.now.port self.new.receiver.now.role.key out
+            → GivesReceived P.gave self.old.receiver.now.port self.old.receiver.now.role.key out) }
         ensures registered { OnPending result (Covers cx.new (λ _. ⊥)) }
         ensures kept { Keeps cx.old cx.new }
 
@@ -173,8 +169,7 @@ impl<T: Clone, P: Ask<T, ()>, A: Allocator + Copy> Future for Recv<'_, T, P, A> 
         ensures receiver { self.new.receiver.ghost_name ≡ self.old.receiver.ghost_name }
         ensures answered { IfReady result (λ out. OnOk out (self.new.is_answered ≡ true)) }
         ensures unanswered { OnPending result (self.new.is_answered ≡ false) }
-        ensures out_of_memory { IfReady result
-            (λ out. OnErr out (self.new.is_answered ≡ false)) }
+        ensures out_of_memory { IfReady result (λ out. OnErr out (self.new.is_answered ≡ false)) }
     {
         self.is_answered = false;
         let receiver = &mut *self.receiver;

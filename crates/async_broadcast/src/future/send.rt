@@ -140,8 +140,7 @@ impl<T: Clone, P: Ask<T, ()>, A: Allocator + Copy> Future for Send<'_, T, P, A> 
             (λ _. (self.new.place ≡ None) × (self.new.msg ≡ None))) }
         ensures refused { IfReady result (λ out. IfErr out
             (λ _. (self.new.place ≡ self.old.place) × (self.new.msg ≡ None))) }
-        ensures memory { IfReady result (λ out. IfErr out
-            (λ _. self.new.waker.is_refused ≡ true)) }
+        ensures memory { IfReady result (λ out. IfErr out (λ _. self.new.waker.is_refused ≡ true)) }
         ensures waits { OnPending result
             (MustWait P.gave self.old.sender.now.port self.old.place self.old.msg) }
         ensures notice { OnPending result (IsSome self.new.place → IsSome self.new.msg

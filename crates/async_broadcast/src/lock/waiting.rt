@@ -28,8 +28,7 @@ impl<T: Clone, R: Wait + Clone, A: Allocator + Copy, J: CallJournal<T>> Lock<T, 
         requires makes { B.makes attempt.now call }
         requires capacity { HasPositiveCapacity (C.call call) }
         requires moves { IfSome (moved_by (C.call call)) (J.Caller.moves caller.old) }
-        ensures learned { J.learns caller.old (C.call call) (C.reply call result)
-            caller.new }
+        ensures learned { J.learns caller.old (C.call call) (C.reply call result) caller.new }
         ensures reply { IsPossible T.is_clone (C.call call) (C.reply call result) }
         ensures answered { L.is_endless → is_answer (C.reply call result) ≡ true }
     {
@@ -62,8 +61,7 @@ impl<T: Clone, R: Wait + Clone, A: Allocator + Copy, J: CallJournal<T>> Lock<T, 
         requires makes { B.makes attempt.now call }
         requires capacity { HasPositiveCapacity (C.call call) }
         requires moves { IfSome (moved_by (C.call call)) (J.Caller.moves caller.old) }
-        ensures learned { J.learns caller.old (C.call call) (C.reply call result.0)
-            caller.new }
+        ensures learned { J.learns caller.old (C.call call) (C.reply call result.0) caller.new }
         ensures reply { IsPossible T.is_clone (C.call call) (C.reply call result.0) }
         ensures endless { L.is_endless → result.1 ≡ false }
     {
