@@ -5,8 +5,8 @@ ghost use Rattle.async_broadcast.specs.Counted.{EndsWait};
 ghost use Rattle.async_broadcast.specs.Ports.{is_answer};
 
 use super::threads::{Side, Threads, WaitingThread};
+use crate::receiver::Received;
 use bcast_core::{AtOnce, AttemptSend, SendPoll, TryRecv, TryRecvError};
-use std::alloc::AllocError;
 use std::snapshot::Snapshot;
 
 /// A call that is made again and again until it needn't wait.
@@ -75,15 +75,11 @@ impl<T: Clone> Attempt<T, TryRecv> for Receives {
         Side::Receivers
     }
 
-    fn must_wait(&self, answer: &Result<Result<T, TryRecvError>, AllocError>) -> bool {
+    fn must_wait(&self, answer: &Received<T, TryRecvError>) -> bool {
         matches!(answer, Ok(Err(TryRecvError::Empty)))
     }
 
-    fn again(
-        &self,
-        _call: &Snapshot<TryRecv>,
-        _answer: Result<Result<T, TryRecvError>, AllocError>,
-    ) -> TryRecv {
+    fn again(&self, _call: &Snapshot<TryRecv>, _answer: Received<T, TryRecvError>) -> TryRecv {
         TryRecv(self.key)
     }
 }

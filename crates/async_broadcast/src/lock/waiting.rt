@@ -9,9 +9,10 @@ use super::attempt::Attempt;
 use super::channel::lock;
 use super::limit::Limit;
 use crate::journal::CallJournal;
+use crate::receiver::Received;
 use crate::timed::{RecvTimeoutError, SendTimeoutError};
 use bcast_core::{AtOnce, RecvError, Reply, SendError, SendPoll, TryRecvError};
-use std::alloc::{AllocError, Allocator};
+use std::alloc::Allocator;
 use std::snapshot::Snapshot;
 use std::sync::Wait;
 use std::thread::yield_now;
@@ -113,9 +114,7 @@ pub(super) fn answer_of_send<T>(sent: SendPoll<T>) -> Result<Option<T>, SendErro
 }
 
 /// What a receive returned that found a message, or that there will be none.
-pub(super) fn answer_of_receive<T>(
-    received: Result<Result<T, TryRecvError>, AllocError>,
-) -> Result<Result<T, RecvError>, AllocError>
+pub(super) fn answer_of_receive<T>(received: Received<T, TryRecvError>) -> Received<T, RecvError>
     requires { is_answer (Reply.TryRecv received) ≡ true }
     ensures { as_try_recv result ≡ received }
 {
@@ -141,8 +140,8 @@ pub(super) fn sent_in_time<T>(sent: SendPoll<T>) -> Result<Option<T>, SendTimeou
 
 /// What a receive returned before its time was over, or that it is over.
 pub(super) fn received_in_time<T>(
-    received: Result<Result<T, TryRecvError>, AllocError>,
-) -> Result<Result<T, RecvTimeoutError>, AllocError>
+    received: Received<T, TryRecvError>,
+) -> Received<T, RecvTimeoutError>
     ensures { as_timed_try result ≡ received }
 {
     match received {
