@@ -1,6 +1,5 @@
 -- Tries of one call, each of which had to wait.
-use Rattle.std.proofs.Common.{◌≡◌, ◌⊎◌, inl, inr, ℕ, false, Option, Some, None, sym, subst}
-use Rattle.std.specs.Prelude.{IfSome}
+use Rattle.std.proofs.Common.{◌≡◌, ◌⊎◌, inl, inr, ℕ, false, Option, Some, None, IfSome, sym, subst}
 use Rattle.bcast_model.specs.Words.{Call, Reply}
 use Rattle.async_broadcast.specs.Ports.{is_answer}
 
@@ -10,15 +9,12 @@ module _ {K T : Type 0} (learns : K → Call T → Reply T → K → Type 0) whe
   Tried start call now =
       (start ≡ now) ⊎ ((r : Reply T) × (is_answer r ≡ false) × learns start call r now)
 
-  abbrev pub Again : Type 0
-  Again =
-      (before between after : K) (call : Call T) (r last : Reply T)
-      → is_answer r ≡ false → learns before call r between
-      → learns between call last after → learns before call last after
-
-  -- who tried learns of the last try
+  -- if who makes a call again learns of the last one, then who tried learns of the last try
   pub at_last
-      : Again → (start now after : K) (call : Call T) (r : Reply T)
+      : ((before between after : K) (call : Call T) (r last : Reply T)
+      → is_answer r ≡ false → learns before call r between → learns between call last after
+      → learns before call last after)
+      → (start now after : K) (call : Call T) (r : Reply T)
       → Tried start call now → learns now call r after → learns start call r after
   at_last again start now after call r (inl same) learned =
       subst (λ k. learns k call r after) (sym same) learned

@@ -67,9 +67,8 @@ module _ {T : Type 0} where
   legal is_clone v (call.PollRecv key) r l =
       received is_clone v key (cursor_of v.control key) reply.PollRecv stream_reply r l
   legal is_clone v (call.PollNext key) r l =
-      let cursor = cursor_of v.control key in
-      received is_clone v key (skipped_to v.front cursor)
-      reply.PollNext (next_reply (skipped_count v.front cursor)) r l
+      received is_clone v key (skipped_to v.front (cursor_of v.control key))
+      reply.PollNext (next_reply (skipped_count v.front (cursor_of v.control key))) r l
   legal is_clone v (call.SetCapacity n) r (inl given) = (_, given)
   legal is_clone v (call.SetCapacity n) r (inr none) = (_, none.0)
   legal is_clone v (call.SetOverflow on) r l = l

@@ -21,8 +21,7 @@ returns-then-is_over-clause-learned g c =
     (rw c.loop.invariant.2 at c.make_or_wait-answer.ensures.learned)
 
 pub returns-then-is_over-clause-reply : goal.returns-then-is_over-clause-reply
-returns-then-is_over-clause-reply g c =
-    rw c.loop.invariant.2 at c.make_or_wait-answer.ensures.reply
+returns-then-is_over-clause-reply g c = rw c.loop.invariant.2 at c.make_or_wait-answer.ensures.reply
 
 pub again-call-requires-clause-reply : goal.again-call-requires-clause-reply
 again-call-requires-clause-reply g c = rw c.of-made.ensures c.make_or_wait-answer.ensures.reply

@@ -1,6 +1,5 @@
 -- The call that is made again is the one that was given, and its caller may still make it.
-use Rattle.std.proofs.Common.{◌≡◌}
-use Rattle.std.specs.Prelude.{IfSome}
+use Rattle.std.proofs.Common.{◌≡◌, IfSome}
 use Rattle.async_broadcast.specs.Ports.{moved_by}
 use Rattle.async_broadcast.proofs.Trying.{Tried}
 use Rattle.async_broadcast.proofs.lock.Lock.make_until.Given as goal
