@@ -122,12 +122,8 @@ impl<T: Clone, R: Wait + Clone, A: Allocator + Copy> Lock<T, R, A> {
 }
 
 impl<T: Clone, R: Wait + Clone, A: Allocator + Copy, J: CallJournal<T>> Lock<T, R, A, J> {
-    /// The port of a channel that the caller made, as `new` makes it. Its lock begins with
-    /// `journal`, which records the calls on the channel.
-    ///
-    /// # Errors
-    ///
-    /// - `AllocError`: no memory for what the ports share. The channel is dropped.
+    /// The port of a channel that the caller made, as `new` makes it, with its errors. Its lock
+    /// begins with `journal`, which records the calls on the channel.
     pub fn with_journal(
         rt: R,
         alloc: A,

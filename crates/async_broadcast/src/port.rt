@@ -147,10 +147,10 @@ pub trait PortFor<T: Clone, K: Caller>: Ask<T, K> {
         ensures refused { IfNone result (lacks_memory self.now) };
 }
 
-/// A port that can also wait with a limit of time. `Lock` is one if its runtime has a clock.
+/// A port that can also wait with a limit of time, after which it tries once more. If the clock
+/// can't be read, the time counts as over. `Lock` is one if its runtime has a clock.
 pub trait TimedPortFor<T: Clone, K: Caller>: PortFor<T, K> {
-    /// Sends as `send_waiting` does, until `limit` has passed. It tries once more then. If the clock
-    /// can't be read, the time counts as over.
+    /// Sends as `send_waiting` does, until `limit` has passed.
     fn send_within(
         &self,
         caller: &mut K,
@@ -162,8 +162,7 @@ pub trait TimedPortFor<T: Clone, K: Caller>: PortFor<T, K> {
         ensures learned { Self.learns caller.old (Call.AttemptSend msg)
             (Reply.AttemptSend (as_attempt result)) caller.new };
 
-    /// Receives as `receive_waiting` does, until `limit` has passed. It tries once more then. If the
-    /// clock can't be read, the time counts as over.
+    /// Receives as `receive_waiting` does, until `limit` has passed.
     fn receive_within(
         &self,
         caller: &mut K,
