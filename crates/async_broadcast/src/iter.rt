@@ -13,10 +13,7 @@ use bcast_core::{RecvError, TryRecvError};
 use std::alloc::{Allocator, Global};
 use std::sync::{Forever, Wait};
 
-/// What a receiver receives, for a loop that blocks the thread while there is no message.
-///
-/// Each item is what `recv_blocking` returns. The loop ends when every message was read and the
-/// channel is closed.
+/// The loop of `Receiver::iter`: each item is what `recv_blocking` returns, until that is `Closed`.
 #[derive(Drop)]
 pub struct Iter<'a, T: Clone, P: Port<T>, R: Wait, A: Allocator = Global> {
     receiver: &'a mut Receiver<T, P, A>,

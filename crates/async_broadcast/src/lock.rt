@@ -136,11 +136,8 @@ impl<T: Clone, R: Wait + Clone, A: Allocator + Copy, J: CallJournal<T>> Lock<T, 
         Ok(Lock { channel, rt })
     }
 
-    /// The view of the channel, as a value. It is allocated from `alloc`.
-    ///
-    /// # Errors
-    ///
-    /// - `AllocError`: no memory for the lists, or for the clone of a message. Nothing changed.
+    /// The view of the channel, as a value: that of `Handle::snapshot`, with its errors. It is
+    /// allocated from `alloc`.
     pub fn snapshot(&self, alloc: A) -> Result<Snapshot<T, A>, AllocError>
         ensures { IfOk result (λ snapshot. ShowsSomeState T.is_clone snapshot) }
     {
