@@ -9,10 +9,9 @@ use Rattle.bcast_model.specs.declared.run.Reply.{Reply}
 use Rattle.bcast_model.specs.Words.{History, View, view_of, next, IsReceivedBy, IsOwed, IsDelivery, IsGiven, effect, may_tell, sends_are_ready, remember}
 use Rattle.bcast_model.specs.Words.{numbered, kept_at, try_recv_reply}
 use Rattle.bcast_model.specs.Steps.{recv_reply}
-use Rattle.bcast_model.proofs.Cases.{tell_is, passed_reply}
+use Rattle.bcast_model.proofs.Cases.{tell_is, lagging_reply, passed_reply}
 use Rattle.bcast_model.proofs.DeliveryMessages.{numbered_stays}
 use Rattle.bcast_model.proofs.DeliverySteps.{found_reached}
-use Rattle.bcast_laws.proofs.Answers.{lagging_answer}
 use Rattle.bcast_history.proofs.Waits.{told_so}
 
 module _ {T : Type 0} where
@@ -50,7 +49,7 @@ module _ {T : Type 0} (is_clone : T → T → Type 0) where
   missed_some v key c n cursor at legal =
       let is : try_recv_reply v (Some c) ≡ Err (unread.Overflowed n) = sym (ap (try_recv_reply v) at) ∙ told_so is_clone v key cursor (unread.Overflowed n) legal in
       elim (cases_lt c v.front) [
-        | inl lags ↦ (let same : n ≡ v.front - c = cc (is, lagging_answer v c lags) in omega (arith, same, lags))
+        | inl lags ↦ (let same : n ≡ v.front - c = cc (is, lagging_reply v c lags) in omega (arith, same, lags))
         | inr passed ↦ absurd (found_reached v.control.closed (kept_at v c) n (sym (passed_reply v c (omega (arith, passed))) ∙ is))
       ]
 

@@ -16,7 +16,7 @@ use Rattle.bcast_model.proofs.Answers.{cursors-next}
 use Rattle.bcast_model.proofs.Views.{valid_view}
 use Rattle.bcast_model.proofs.DeliveryLists.{past_end}
 use Rattle.bcast_model.proofs.Stays.{stays-offer}
-use Rattle.bcast_laws.proofs.Answers.{lagging_answer}
+use Rattle.bcast_model.proofs.Cases.{lagging_reply}
 use Rattle.bcast_core.specs.Kinds.{IsOfKind}
 use Rattle.async_broadcast.specs.OfKind.{possible}
 use Rattle.async_broadcast.specs.Ports.{is_answer}
@@ -42,7 +42,7 @@ module _ {T : Type 0} (is_clone : T → T → Type 0) where
   at_end : (v : View T) (c : ℕ) (e : TryRecvError) → IsValidView v → ((n : ℕ) → e ≡ unread.Overflowed n → ⊥)
       → try_recv_reply v (Some c) ≡ Err e → v.end ≤ c
   at_end v c e valid other is = elim (cases_lt c v.front) [
-    | inl lags ↦ absurd (other (v.front - c) (cc (is, lagging_answer v c lags)))
+    | inl lags ↦ absurd (other (v.front - c) (cc (is, lagging_reply v c lags)))
     | inr passed ↦ (let test : nat_lt c v.front ≡ false = grind (arith, common_steps, passed) in
         let found = sym (ap (λ b. cond b (Err (unread.Overflowed (v.front - c))) (recv_reply v.control.closed (kept_at v c))) test) ∙ is in
         let end = valid.end in

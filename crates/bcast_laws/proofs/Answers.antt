@@ -1,5 +1,5 @@
 -- What a receive returns, by the shared messages and the receiver's own cursor; clones receive alike.
-use Rattle.std.proofs.Common.{◌≡◌, inl, inr, ◌≢◌, ℕ, ◌+◌, ◌-◌, ◌<◌, ◌≤◌, ◌==◌, true, cond, [], ◌++◌, Option, Some, None, Err, nat_lt, slice_get, refl, sym, ap, ◌∙◌, arith, append-nil, Ok, is_some}
+use Rattle.std.proofs.Common.{◌≡◌, inl, inr, ◌≢◌, ℕ, ◌+◌, ◌-◌, ◌≤◌, ◌==◌, true, cond, [], ◌++◌, Option, Some, None, Err, nat_lt, slice_get, refl, sym, ap, ◌∙◌, arith, append-nil, Ok, is_some}
 use Rattle.std.proofs.lemmas.Grind.{common_steps}
 use Rattle.std.proofs.lemmas.Bool.{cases_lt}
 use Rattle.std.specs.FinMap.{get}
@@ -35,10 +35,7 @@ differs_too : (one reader key : ℕ) → (one == reader) ≡ true → reader ≢
 differs_too one reader key same differs e = let is : one ≡ reader = grind (arith, common_steps, same) in differs (sym is ∙ e)
 
 module _ {T : Type 0} where
-  -- a receiver that lags missed messages; one past the front finds the message there, if any
-  pub lagging_answer : (v : View T) (cursor : ℕ) → cursor < v.front → try_recv_reply v (Some cursor) ≡ Err (unread.Overflowed (v.front - cursor))
-  lagging_answer v cursor lags = lagging_reply v cursor lags
-
+  -- a receiver past the front finds the message there, if any
   passed_answer : (h : History T) (cursor : ℕ) → h.first ≤ h.floor → front_number h ≤ cursor → try_recv_reply (view_of h) (Some cursor) ≡ recv_reply h.control.closed (numbered h cursor)
   passed_answer h cursor low passed = passed_reply (view_of h) cursor passed ∙ ap (recv_reply h.control.closed) (sym (numbered-queue h cursor (first_under h low) passed))
 
@@ -57,7 +54,7 @@ module _ {T : Type 0} where
         elim (cases_lt cursor h.floor) [
           | inl lags ↦
               let same : front_number other ≡ front_number h = omega (arith, floor, there, here, lags) in
-              lagging_answer (view_of other) cursor (omega (arith, floor, lags)) ∙ ap (λ n. Err (unread.Overflowed (n - cursor))) same ∙ sym (lagging_answer (view_of h) cursor (omega (arith, lags)))
+              lagging_reply (view_of other) cursor (omega (arith, floor, lags)) ∙ ap (λ n. Err (unread.Overflowed (n - cursor))) same ∙ sym (lagging_reply (view_of h) cursor (omega (arith, lags)))
           | inr passed ↦
               let same : recv_reply other.control.closed (numbered other cursor) ≡ recv_reply h.control.closed (numbered h cursor) = λ i. recv_reply (shared.closed i) (same_number cursor i) in
               passed_answer other cursor (omega (arith, floor, first, low)) (omega (arith, floor, there, passed)) ∙ same ∙ sym (passed_answer h cursor low (omega (arith, here, passed)))

@@ -14,9 +14,8 @@ use Rattle.bcast_laws.specs.Unread.{after_try, GivesInARow, UnreadIsGiven}
 use Rattle.bcast_model.proofs.Answers.{next_valid, cursors-next}
 use Rattle.bcast_model.proofs.Views.{valid_view, floor_under, front-le-cursor}
 use Rattle.bcast_model.proofs.DeliveryMaps.{inserted}
-use Rattle.bcast_laws.proofs.Answers.{lagging_answer}
 use Rattle.bcast_model.proofs.DeliveryLists.{past_end}
-use Rattle.bcast_model.proofs.Cases.{passed_reply, lagging_receive, passed_receive}
+use Rattle.bcast_model.proofs.Cases.{lagging_reply, passed_reply, lagging_receive, passed_receive}
 
 no_message : (T : Type 0) (closed : Bool) → IsErr (recv_reply {T = T} closed None)
 no_message T true = refl
@@ -97,7 +96,7 @@ module _ {T : Type 0} where
       lag = lags_at (cursor_of h.control key) some
 
       counts : try_recv_reply (view_of h) (cursor_of h.control key) ≡ Err (unread_error.Overflowed (missed (view_of h) key))
-      counts = subst (λ o. try_recv_reply (view_of h) o ≡ Err (unread_error.Overflowed (option_map_or (λ number. front_number h - number) o 0))) (sym lag.1) (lagging_answer (view_of h) lag.0 lag.2)
+      counts = subst (λ o. try_recv_reply (view_of h) o ≡ Err (unread_error.Overflowed (option_map_or (λ number. front_number h - number) o 0))) (sym lag.1) (lagging_reply (view_of h) lag.0 lag.2)
 
       left : ReadsNext (after_try h key) key (front_number h)
       left = left_at_front h key valid lag.0 lag.1 lag.2
