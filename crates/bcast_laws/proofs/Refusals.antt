@@ -1,7 +1,6 @@
 -- A refused call changes nothing.
 use Rattle.std.proofs.Common.{◌≡◌, inl, inr, ℕ, ◌+◌, ◌-◌, ◌==◌, ◌&&◌, not, Bool, true, false, cond, max, Option, Some, None, Result, Ok, Err, refl, sym, ap, ◌∙◌, arith, append-nil, alloc_error, is_ok, ◌||◌, is_some}
 use Rattle.std.proofs.lemmas.Option.{slice_get_cases}
-use Rattle.bcast_model.specs.declared.error.TryRecvError.{TryRecvError}
 use Rattle.bcast_model.specs.declared.run.Call.{Call}
 use Rattle.bcast_model.specs.declared.run.Call.TheVariants as call
 use Rattle.bcast_model.specs.declared.run.Reply.{Reply}

@@ -1,5 +1,6 @@
 -- What a send adds, and what it hands back.
-use Rattle.std.proofs.Common.{◌≡◌, ℕ, ◌&&◌, not, Bool, true, false, cond, nat_lt, List, [], ◌∷◌, ◌++◌, length, Option, Some, None, Result, Ok, Err, refl, sym, ap, ◌∙◌, append-nil, is_ok}
+use Rattle.std.proofs.Common.{◌≡◌, ℕ, ◌&&◌, not, Bool, true, false, cond, nat_lt, List, [], ◌∷◌, ◌++◌, length, Option, Some, Result, Ok, Err, refl, sym, ap, ◌∙◌, append-nil, is_ok}
+use Rattle.std.proofs.lemmas.Option.{none-some}
 use Rattle.bcast_model.specs.declared.error.TrySendError.{TrySendError}
 use Rattle.bcast_model.specs.declared.error.TrySendError.TheVariants as unsent
 use Rattle.bcast_model.specs.declared.run.SendPoll.{SendPoll}
@@ -20,9 +21,6 @@ use Rattle.bcast_model.proofs.Polls.{send_waits_unready}
 
 pub apart : {A : Type 0} → false ≡ true → A
 apart e = cc
-
-none_some : {A B : Type 0} (x : A) → None ≡ Some x → B
-none_some x e = cc
 
 module _ {T : Type 0} where
   -- the messages that are added, by whether they were accepted
@@ -123,7 +121,7 @@ module _ {T : Type 0} where
   returned_back is_clone v (call.TryBroadcast m) r msg legal is refused = ap returned_by legal ∙ returned_try v m (sym (ap is_accepted legal) ∙ refused) ∙ is
   returned_back is_clone v (call.AttemptSend m) r msg legal is refused = ap returned_by legal ∙ returned_attempt v m (sym (ap is_accepted legal) ∙ refused) ∙ is
   returned_back is_clone v (call.PollSend place m) r msg legal is refused = ap returned_by legal ∙ returned_poll v (has_place v.control place) m (sym (ap is_accepted legal) ∙ refused) ∙ is
-  returned_back is_clone v c r msg legal is refused = none_some msg is
+  returned_back is_clone v c r msg legal is refused = absurd (none-some msg is)
 
   pub all_returned : (is_clone : T → T → Type 0) (v : View T) (msgs : List T) (r : Reply T) → Legal is_clone v (call.TryBroadcastAll msgs) r → is_accepted r ≡ false → returned_all_by r ≡ Some msgs
   all_returned is_clone v msgs r legal refused = ap returned_all_by legal

@@ -1,22 +1,18 @@
 -- A closed channel that keeps no message gives its receivers nothing.
-use Rattle.std.proofs.Common.{◌≡◌, inl, inr, ℕ, ◌-◌, ◌≤◌, ◌==◌, ◌&&◌, Bool, true, false, cond, length, max, Option, Some, None, Result, Ok, Err, refl, sym, ap, ◌∙◌, arith}
+use Rattle.std.proofs.Common.{◌≡◌, inl, inr, ℕ, ◌-◌, ◌≤◌, ◌==◌, ◌&&◌, true, cond, length, max, Option, Some, None, Ok, Err, refl, sym, ap, ◌∙◌, arith}
 use Rattle.std.proofs.lemmas.Grind.{common_steps}
+use Rattle.std.proofs.lemmas.Bool.{and_parts}
 use Rattle.std.proofs.lemmas.Option.{slice_get_past}
 use Rattle.std.proofs.lemmas.List.{nil_from_length}
-use Rattle.bcast_model.specs.declared.error.TryRecvError.{TryRecvError}
 use Rattle.bcast_model.specs.declared.error.TryRecvError.TheVariants as unread
 use Rattle.bcast_model.specs.declared.run.Call.TheVariants as call
 use Rattle.bcast_model.specs.declared.run.Reply.{Reply}
 use Rattle.bcast_model.specs.declared.run.Reply.TheVariants as reply
-use Rattle.bcast_model.specs.Words.{cursor_of, View, IsValidView, IsOwed, recv_reply, skipped_count}
+use Rattle.bcast_model.specs.Words.{cursor_of, View, IsValidView, recv_reply, skipped_count}
 use Rattle.bcast_model.specs.Words.{skipped_to, future_reply, stream_reply, next_reply}
 use Rattle.bcast_model.specs.Words.{try_recv_reply, Legal, IsReceivedBy, Found, worded}
 use Rattle.bcast_laws.specs.Closing.{AnswersClosed}
 use Rattle.bcast_model.proofs.Cases.{passed_reply}
-
-both : (a b : Bool) → (a && b) ≡ true → (a ≡ true) × (b ≡ true)
-both true b e = (refl, e)
-both false b e = cc
 
 module _ {T : Type 0} where
   closed_at : (v : View T) (cursor : ℕ) → IsValidView v → v.control.closed ≡ true → v.end ≤ cursor → try_recv_reply v (Some cursor) ≡ Err unread.Closed
@@ -28,7 +24,7 @@ module _ {T : Type 0} where
   terminated : (is_clone : T → T → Type 0) (v : View T) → Legal is_clone v call.IsTerminated (reply.IsTerminated true) → (v.control.closed ≡ true) × (length v.queue ≡ 0)
   terminated is_clone v legal =
       let same : true ≡ (v.control.closed && (length v.queue == 0)) = cc in
-      let is = both v.control.closed (length v.queue == 0) (sym same) in
+      let is = and_parts v.control.closed (length v.queue == 0) (sym same) in
       (is.0, let e = is.1 in grind (arith, common_steps, e))
 
   module _ (v : View T) (key : ℕ) (valid : IsValidView v) (closed : v.control.closed ≡ true) (none : length v.queue ≡ 0) where
@@ -44,13 +40,11 @@ module _ {T : Type 0} where
     closed_skipping (Some cursor) at = (let past = read_all cursor at in closed_at v (max cursor v.front) valid closed (omega (arith, past)))
 
     -- no message is owed if none is kept
-    nothing_owed : (cursor : Option ℕ) → IsOwed v key cursor → ⊥
-    nothing_owed cursor owed = (let size = valid.end in let from = owed.kept.0 in let under = owed.kept.1 in absurd (omega (arith, size, none, from, under)))
-
     answers_closed : (is_clone : T → T → Type 0) (cursor : Option ℕ) (spelt : Found T → Reply T) (r : Reply T) → try_recv_reply v cursor ≡ Err unread.Closed
         → IsReceivedBy is_clone v key cursor spelt r → r ≡ spelt (Ok (Err unread.Closed))
     answers_closed is_clone cursor spelt r exact (inl same) = same ∙ ap (λ answer. spelt (Ok answer)) exact
-    answers_closed is_clone cursor spelt r exact (inr (owed, other)) = absurd (nothing_owed cursor owed)
+    answers_closed is_clone cursor spelt r exact (inr (owed, other)) =
+        let size = valid.end in let from = owed.kept.0 in let under = owed.kept.1 in absurd (omega (arith, size, none, from, under))
 
   pub nothing_given : (is_clone : T → T → Type 0) (v : View T) (key : ℕ) (r : Reply T) → IsValidView v → Legal is_clone v call.IsTerminated (reply.IsTerminated true) → AnswersClosed is_clone v key r
   nothing_given is_clone v key r valid legal =
