@@ -14,16 +14,11 @@ use Rattle.bcast_model.proofs.Cases.{lagging_reply, passed_reply}
 
 module _ {T : Type 0} where
   -- the receiver lags by this many
-  record Lags (v : View T) (key n : ℕ) : Type 0 where
-    cursor : ℕ
-    at : cursor_of v.control key ≡ Some cursor
-    low : cursor < v.front
-    count : v.front - cursor ≡ n
-
-  lags_at : (v : View T) (key n : ℕ) (cursor : Option ℕ) → cursor_of v.control key ≡ cursor → try_recv_reply v cursor ≡ Err (unread.Overflowed n) → Lags v key n
+  lags_at : (v : View T) (key n : ℕ) (o : Option ℕ) → cursor_of v.control key ≡ o → try_recv_reply v o ≡ Err (unread.Overflowed n)
+      → (cursor : ℕ) × (cursor_of v.control key ≡ Some cursor) × (cursor < v.front) × (v.front - cursor ≡ n)
   lags_at v key n None at e = absurd (found_reached true None n e)
   lags_at v key n (Some cursor) at e = elim (cases_lt cursor v.front) [
-    | inl lags ↦ record { cursor = cursor; at = at; low = lags; count = (let same = sym (lagging_reply v cursor lags) ∙ e in cc) }
+    | inl lags ↦ (cursor, at, lags, let same = sym (lagging_reply v cursor lags) ∙ e in cc)
     | inr passed ↦ absurd (found_reached v.control.closed (kept_at v cursor) n (sym (passed_reply v cursor passed) ∙ e))
   ]
 
@@ -32,12 +27,10 @@ module _ {T : Type 0} where
       → let after = next h (call.TryRecv key) (reply.TryRecv (Ok (Err (unread.Overflowed n)))) in (1 ≤ n) × IsOk (try_recv_reply (view_of after) (cursor_of after.control key))
   missed_finds h key n valid e =
       let lags = lags_at (view_of h) key n (cursor_of h.control key) refl e in
-      let low = lags.low in
-      let count = lags.count in
-      let reads = left_at_front h key valid lags.cursor lags.at low in
-      let some = lagging (view_of h) (valid_view h valid) key lags.cursor lags.at low in
+      let reads = left_at_front h key valid lags.0 lags.1 lags.2 in
+      let some = lagging (view_of h) (valid_view h valid) key lags.0 lags.1 lags.2 in
       let same = same_end h key valid in (
-        omega (arith, low, count),
+        omega (arith, lags.2, lags.3),
         subst (λ answer. let after = next h (call.TryRecv key) (reply.TryRecv (Ok answer)) in IsOk (try_recv_reply (view_of after) (cursor_of after.control key))) e
             (gives (after_try h key) key (valid_after h key valid) (front_number h) reads.0 reads.1 (omega (arith, some, same))),
       )
