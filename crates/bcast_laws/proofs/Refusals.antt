@@ -17,7 +17,7 @@ use Rattle.bcast_model.specs.Words.{count_reply, deactivate, without_receiver}
 use Rattle.bcast_model.specs.declared.error.HandleError.TheVariants as handle
 use Rattle.bcast_laws.specs.Sends.{is_refused}
 use Rattle.bcast_model.proofs.Views.{valid_view}
-use Rattle.bcast_model.proofs.Cases.{test_is, uncloned, made_is, received_is, receive_is, lagging_reply, passed_reply}
+use Rattle.bcast_model.proofs.Cases.{uncloned, made_is, received_is, receive_is, lagging_reply, passed_reply}
 use Rattle.bcast_laws.proofs.Sends.{apart}
 use Rattle.bcast_model.proofs.Lift.{view_of-end_call}
 
@@ -65,9 +65,6 @@ module _ {T : Type 0} where
       ])
       (λ _ _. refl)
 
-  same_unless : (v : View T) (c : Control) (r : Reply T) → c ≡ v.control → set_unless_refused v r c ≡ sets v.control
-  same_unless v c r same = test_is (λ (e : Effect T). e ≡ sets v.control) (is_out_of_memory r) (sets v.control) (sets c) (λ _. refl) (λ _. ap sets same)
-
   -- a receive is refused if its exact result is a refusal, or memory was refused
   same_received : (is_clone : T → T → Type 0) (v : View T) (key : ℕ) (cursor : Option ℕ) (spelt : Found T → Reply T) (c : Control) (r : Reply T) → let exact = spelt (Ok (try_recv_reply v cursor)) in
       (is_refused exact ≡ true → set_unless_refused v exact c ≡ sets v.control) → ((msg : T) → is_refused (spelt (Ok (Ok msg))) ≡ false) → is_out_of_memory (spelt (Err alloc_error)) ≡ true
@@ -84,9 +81,8 @@ module _ {T : Type 0} where
   same_effect is_clone v call.BeginSend r valid (inl (place, is, free)) e = apart (sym (ap is_refused is) ∙ e)
   same_effect is_clone v call.BeginSend r valid (inr is) e = rw is refl
   same_effect is_clone v (call.TryRecv key) r valid legal e =
-      let c : Control = receive v key (cursor_of v.control key) in
-      same_received is_clone v key (cursor_of v.control key) reply.TryRecv c r
-      (λ refuses. same_unless v c (reply.TryRecv (Ok (try_recv_reply v (cursor_of v.control key)))) (same_receive v key (cursor_of v.control key) valid refuses)) (λ msg. refl) refl legal e
+      let cursor : Option ℕ = cursor_of v.control key in
+      same_received is_clone v key cursor reply.TryRecv (receive v key cursor) r (λ refuses. ap sets (same_receive v key cursor valid refuses)) (λ msg. refl) refl legal e
   same_effect is_clone v (call.PollFuture key) r valid legal e =
       same_received is_clone v key (cursor_of v.control key) (worded reply.PollFuture future_reply) _ r (λ refuses. apart refuses) (λ msg. refl) refl legal e
   same_effect is_clone v (call.PollRecv key) r valid legal e =
