@@ -32,18 +32,13 @@ module _ {T : Type 0} where
     stands_last : (after_list h msgs).accepted ≡ h.accepted ++ msgs
     stands_last = messages_added is_clone h (call.TryBroadcastAll msgs) (reply.TryBroadcastAll (Ok tt)) legal refl
 
-    same_cursors : (key : ℕ) → cursor_of (after_list h msgs).control key ≡ cursor_of h.control key
-    same_cursors key = ap (λ cursors. get cursors key) (cursors-next h (call.TryBroadcastAll msgs) (reply.TryBroadcastAll (Ok tt)) ∙ (stays-offer_all (view_of h) msgs).0)
-
-    numbered_now : (index : ℕ) (msg : T) → slice_get msgs index ≡ Some msg → numbered (after_list h msgs) (end_number h + index) ≡ Some msg
-    numbered_now index msg at =
-        let from : nat_lt (end_number h + index) h.first ≡ false = grind (arith, common_steps) in
-        let place : end_number h + index - h.first ≡ length h.accepted + index = omega arith in
-        rw from (ap (slice_get (after_list h msgs).accepted) place ∙ ap (λ all. slice_get all (length h.accepted + index)) stands_last ∙ second_part h.accepted msgs index ∙ at)
-
     module _ (calls : List (Call T)) (replies : List (Reply T)) (run : IsRun is_clone (after_list h msgs) calls replies) where
       keeps_numbers : (index : ℕ) (msg : T) → slice_get msgs index ≡ Some msg → numbered (end_of_run (after_list h msgs) calls replies) (end_number h + index) ≡ Some msg
-      keeps_numbers index msg at = numbered_stays (after_list h msgs) calls replies (end_number h + index) msg (numbered_now index msg at)
+      keeps_numbers index msg at =
+          let from : nat_lt (end_number h + index) h.first ≡ false = grind (arith, common_steps) in
+          let place : end_number h + index - h.first ≡ length h.accepted + index = omega arith in
+          numbered_stays (after_list h msgs) calls replies (end_number h + index) msg
+          (rw from (ap (slice_get (after_list h msgs).accepted) place ∙ ap (λ all. slice_get all (length h.accepted + index)) stands_last ∙ second_part h.accepted msgs index ∙ at))
 
       exact : AreAllExact is_clone (after_list h msgs) calls replies
       exact = at_first (AreAllExact is_clone) (after_list h msgs) calls replies
@@ -53,7 +48,9 @@ module _ {T : Type 0} where
           → IsSomeAnd (slice_get (deliveries_of key (after_list h msgs) calls replies) (end_number h + index - start)) (λ delivery. IfSome delivery (IsGiven is_clone msg))
       delivers key start cursor index msg there last past at =
           let given = deliveries_of key (after_list h msgs) calls replies in
-          let e : AreExact is_clone (after_list h msgs) key start calls replies = exact key start (same_cursors key ∙ there) in
+          let same : cursor_of (after_list h msgs).control key ≡ cursor_of h.control key =
+          ap (λ cursors. get cursors key) (cursors-next h (call.TryBroadcastAll msgs) (reply.TryBroadcastAll (Ok tt)) ∙ (stays-offer_all (view_of h) msgs).0) in
+          let e : AreExact is_clone (after_list h msgs) key start calls replies = exact key start (same ∙ there) in
           let size : cursor ≡ start + length given = same_Some cursor (start + length given) (sym last ∙ e.0) in
           let within = slice_get_within msgs index msg at in
           let reach = (valid.cursors key start there).1 in
