@@ -36,12 +36,9 @@ module _ {T : Type 0} where
   adds_try v msg (Ok back) = refl
   adds_try v msg (Err error) = refl
 
-  adds_list : (v : View T) (msgs : List T) → (accept_all v msgs).accepted ≡ msgs
-  adds_list v [] = refl
-  adds_list v (msg ∷ msgs) = refl
-
   adds_all : (v : View T) (msgs : List T) (answer : Result (Unit {0}) (TrySendError (List T))) → (cond (is_ok answer) (accept_all v msgs) (sets v.control)).accepted ≡ added (is_accepted {T = T} (reply.TryBroadcastAll answer)) msgs
-  adds_all v msgs (Ok done) = adds_list v msgs
+  adds_all v [] (Ok done) = refl
+  adds_all v (msg ∷ msgs) (Ok done) = refl
   adds_all v msgs (Err error) = refl
 
   adds_attempt : (v : View T) (msg : T) (await : Bool) (answer : Result (Option T) (TrySendError T)) → (cond (is_ok answer) (accept v msg) (sets v.control)).accepted ≡ added (is_accepted (reply.AttemptSend (reply_to_attempt await answer))) (msg ∷ [])
