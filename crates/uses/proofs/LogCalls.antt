@@ -11,13 +11,13 @@ use Rattle.bcast_model.specs.declared.run.Reply.TheVariants as reply
 use Rattle.bcast_model.specs.Words.{Found, Control, cursor_of, with_cursor, sets}
 use Rattle.bcast_model.specs.Words.{recv_reply, receive, try_recv_reply, ClonesEqual, settle, View}
 use Rattle.bcast_model.specs.Words.{kept_at, Answers, IsValidView}
-use Rattle.bcast_model.proofs.Cases.{receive_is, uncloned}
+use Rattle.bcast_model.proofs.Cases.{receive_is, uncloned, passed_reply}
 use Rattle.bcast_model.proofs.Clones.{answers_exact}
 use Rattle.bcast_core.proofs.Settle.{settle_same}
 use Rattle.uses.specs.Log.{kept_from, unread, record_of, IsReader, IsFresh, IsLog, IsRead, KeepsReaders, KeepsUnread}
 use Rattle.uses.specs.Reading.{IsTaken}
 use Rattle.uses.proofs.Called.{told, valid, after, unchanged}
-use Rattle.uses.proofs.Exact.{answered, exact_of, reply_at}
+use Rattle.uses.proofs.Exact.{answered, exact_of}
 use Rattle.uses.proofs.Logs.{told_log, reads_from}
 use Rattle.uses.proofs.Added.{cloned}
 
@@ -44,7 +44,7 @@ module _ {T : Type 0} where
     item_found closed None = refl
 
     item_at : (cursor : ℕ) → v.front ≤ cursor → item_of (try_recv_reply v (Some cursor)) ≡ kept_at v cursor
-    item_at cursor low = ap item_of (reply_at v cursor low) ∙ item_found v.control.closed (kept_at v cursor)
+    item_at cursor low = ap item_of (passed_reply v cursor low) ∙ item_found v.control.closed (kept_at v cursor)
 
     -- the first of what is unread is read
     reads_first : (cursor : ℕ) → get v.control.cursors key ≡ Some cursor → v.front ≤ cursor → cursor < v.end → Leaves (Some cursor) (with_cursor v.control key (cursor + 1))

@@ -1,6 +1,6 @@
 -- What a watcher of settings finds.
 use Rattle.std.proofs.Common.{◌≡◌, inl, inr, ℕ, zero, suc, ◌-◌, ◌≤◌, Bool, true, false, cond, List, [], ◌∷◌, length, max, Option, Some, None, Result, Ok, Err, slice_get, refl, sym, ap, ◌∙◌, subst, arith}
-use Rattle.std.proofs.lemmas.Option.{none-some, same_Some, slice_get_cases}
+use Rattle.std.proofs.lemmas.Option.{none-some, same_Some}
 use Rattle.std.specs.Prelude.{IfSome, IfNone}
 use Rattle.futures.specs.declared.task.Poll.{Poll}
 use Rattle.bcast_model.specs.declared.error.TryRecvError.{TryRecvError}
@@ -10,10 +10,13 @@ use Rattle.bcast_model.specs.declared.run.Reply.TheVariants as reply
 use Rattle.bcast_model.specs.Words.{cursor_of, recv_reply, skipped_count, skipped_to, next_reply}
 use Rattle.bcast_model.specs.Words.{worded, IsGiven, IsReceivedBy, View, kept_at}
 use Rattle.bcast_model.specs.Words.{Answers, IsValidView}
+use Rattle.bcast_model.proofs.Cases.{passed_reply}
+use Rattle.bcast_model.proofs.DeliveryAnswers.{IsAnswer}
+use Rattle.bcast_model.proofs.DeliveryLists.{past_end}
 use Rattle.uses.specs.declared.config_watcher.Change.{Change}
 use Rattle.uses.specs.Config.{IsConfig, IsLatest, IsUpToDate, change_of}
 use Rattle.uses.proofs.Called.{valid}
-use Rattle.uses.proofs.Exact.{IsAnswer, answered, reply_at}
+use Rattle.uses.proofs.Exact.{answered}
 use Rattle.uses.proofs.Configs.{at_end}
 
 module _ {S : Type 0} where
@@ -22,9 +25,6 @@ module _ {S : Type 0} where
   one_kept (first ∷ []) zero item few e = (refl, ap (λ x. x ∷ []) (same_Some first item e))
   one_kept (first ∷ []) (suc index) item few e = absurd (none-some item e)
   one_kept (first ∷ second ∷ items) index item few e = absurd (omega arith)
-
-  none_kept : (items : List S) (index : ℕ) → slice_get items index ≡ None → length items ≤ index
-  none_kept items index none = elim (slice_get_cases items index).1 [ inl some ↦ absurd (none-some some.0 (sym none ∙ some.2)) | inr past ↦ past.0 ]
 
   given_of : (is_clone : S → S → Type 0) (msg : S) (answer : Result S TryRecvError) → IsAnswer is_clone (Ok msg) answer → (given : S) × (answer ≡ Ok given) × IsGiven is_clone msg given
   given_of is_clone msg answer (inl e) = (msg, e, inl refl)
@@ -68,7 +68,7 @@ module _ {S : Type 0} where
           tt,
         )
     found_by cursor polled answer None at is e from =
-        let past = none_kept v.queue (max cursor v.front - v.front) is in
+        let past = past_end v.queue (max cursor v.front - v.front) is in
         let end = valid.end in
         finds None polled (ap change_of e ∙ ap (λ a. change_of (next_reply (v.front - cursor) a)) (error_of is_clone (cond v.control.closed unread.Closed unread.Empty) answer from) ∙ no_change v.control.closed (v.front - cursor))
         (tt, λ seen f. sym (same_Some cursor seen (sym at ∙ f)) ∙ at_end v key config valid cursor at (omega arith))
@@ -77,7 +77,7 @@ module _ {S : Type 0} where
         → IsReceivedBy is_clone v key (skipped_to v.front o) (worded reply.PollNext (next_reply (skipped_count v.front o))) (reply.PollNext (Ok polled)) → Finds polled
     found_at (Some cursor) polled at legal =
         let a = answered is_clone v key (Some (max cursor v.front)) (worded reply.PollNext (next_reply (v.front - cursor))) (reply.PollNext (Ok polled)) (λ e. absurd (cc)) legal in
-        found_by cursor polled a.0 (kept_at v (max cursor v.front)) at refl (let same = a.1 in cc) (subst (λ exact. IsAnswer is_clone exact a.0) (reply_at v (max cursor v.front) (omega arith)) a.2)
+        found_by cursor polled a.0 (kept_at v (max cursor v.front)) at refl (let same = a.1 in cc) (subst (λ exact. IsAnswer is_clone exact a.0) (passed_reply v (max cursor v.front) (omega arith)) a.2)
     found_at None polled at legal =
         let a = answered is_clone v key None (worded reply.PollNext (next_reply 0)) (reply.PollNext (Ok polled)) (λ e. absurd (cc)) legal in
         let is : polled ≡ next_reply 0 a.0 = let same = a.1 in cc in

@@ -11,11 +11,11 @@ use Rattle.bcast_model.specs.declared.run.Call.TheVariants as call
 use Rattle.bcast_model.specs.declared.run.Reply.TheVariants as reply
 use Rattle.bcast_model.specs.Words.{cursor_of, sets, effect, recv_reply, receive, try_recv_reply}
 use Rattle.bcast_model.specs.Words.{View, Answers, IsValidView}
+use Rattle.bcast_model.proofs.Cases.{passed_reply}
 use Rattle.bcast_model.proofs.DeliveryMaps.{inserted_other}
 use Rattle.bcast_core.proofs.Settle.{inserted}
 use Rattle.uses.specs.Signal.{signal_of, IsSignal, AddsWorker, is_closed_reply}
 use Rattle.uses.proofs.Called.{valid, after, unchanged, some_of, some_insert}
-use Rattle.uses.proofs.Exact.{reply_at}
 
 abbrev Nothing : Type 0
 Nothing = Unit {0}
@@ -27,7 +27,7 @@ closed_found false = refl
 module _ (v : View Nothing) (valid : IsValidView v) (unused : v.end ≡ 0) (cursor : ℕ) where
   -- a receive finds nothing
   none_found : is_closed_reply (Ok (try_recv_reply v (Some cursor))) ≡ v.control.closed
-  none_found = grind (arith, common_steps, valid.high, valid.end, unused, reply_at v cursor, slice_get_past v.queue (cursor - v.front), closed_found)
+  none_found = grind (arith, common_steps, valid.high, valid.end, unused, passed_reply v cursor, slice_get_past v.queue (cursor - v.front), closed_found)
 
   -- and moves no cursor
   none_moved : (key : ℕ) → receive v key (Some cursor) ≡ v.control
