@@ -1,9 +1,8 @@
 -- A channel all of whose messages are this one.
-use Rattle.std.proofs.Common.{◌≡◌, ℕ, ◌-◌, [], Option, Some, None, Ok, Result, slice_get, refl, sym, ◌∙◌, subst}
+use Rattle.std.proofs.Common.{◌≡◌, ℕ, ◌-◌, [], Option, Some, None, Ok, slice_get, refl, sym, ◌∙◌, subst}
 use Rattle.std.proofs.lemmas.List.Elements.{All-nil, All-push, All-append, All-drop}
 use Rattle.std.proofs.lemmas.Option.{slice_get_within, get_or_from_slice_get}
 use Rattle.std.specs.Prelude.{All, IsSomeAnd, is_ok}
-use Rattle.bcast_model.specs.declared.error.TryRecvError.{TryRecvError}
 use Rattle.bcast_model.specs.declared.run.Call.{Call}
 use Rattle.bcast_model.specs.declared.run.Call.TheVariants as call
 use Rattle.bcast_model.specs.declared.run.Reply.{Reply}
@@ -23,14 +22,12 @@ module _ {T : Type 0} (msg : T) where
   pub only_new : (v : View T) (capacity key : ℕ) → Represents v (opening capacity 0 key) → Only v
   only_new v capacity key new = subst Only (sym new) (All-drop (λ item. item ≡ msg) _ [] (All-nil (λ item. item ≡ msg)))
 
-  pub only_cloned : {is_clone : T → T → Type 0} {v w : View T} {key : ℕ} {r : Reply T} → Only v → Answers is_clone v (call.CloneReceiver key) r w → Only w
-  only_cloned only a = only_next only a (All-nil (λ item. item ≡ msg))
+  -- after a call that accepts no message
+  pub only_same : {is_clone : T → T → Type 0} {v w : View T} {c : Call T} {r : Reply T} → Only v → Answers is_clone v c r w → (effect v c r).accepted ≡ [] → Only w
+  only_same only a none = only_next only a (subst (All (λ item. item ≡ msg)) (sym none) (All-nil (λ item. item ≡ msg)))
 
   pub only_sent : {is_clone : T → T → Type 0} {v w : View T} {r : Reply T} → Only v → Answers is_clone v (call.TryBroadcast msg) r w → Only w
   only_sent {v = v} only a = only_next only a (test_is (λ (e : Effect T). All (λ item. item ≡ msg) e.accepted) (is_ok (try_broadcast_reply v msg)) (accept v msg) (sets v.control) (λ _. All-push (λ item. item ≡ msg) [] msg (All-nil (λ item. item ≡ msg)) refl) (λ _. All-nil (λ item. item ≡ msg)))
-
-  pub only_received : {is_clone : T → T → Type 0} {v w : View T} {key : ℕ} {received : Result T TryRecvError} → Only v → Answers is_clone v (call.TryRecv key) (reply.TryRecv (Ok received)) w → Only w
-  only_received only a = only_next only a (All-nil (λ item. item ≡ msg))
 
   -- what is handed out is the one message, or a clone of it
   pub given_only : {is_clone : T → T → Type 0} {v w : View T} {key : ℕ} {given : T} → Only v → Answers is_clone v (call.TryRecv key) (reply.TryRecv (Ok (Ok given))) w → ReceivedIsGiven is_clone → IsGiven is_clone msg given
