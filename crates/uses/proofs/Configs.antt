@@ -9,10 +9,10 @@ use Rattle.bcast_model.specs.declared.error.HandleError.{HandleError}
 use Rattle.bcast_model.specs.declared.error.TrySendError.{TrySendError}
 use Rattle.bcast_model.specs.declared.run.Call.TheVariants as call
 use Rattle.bcast_model.specs.declared.run.Reply.TheVariants as reply
-use Rattle.bcast_model.specs.Words.{Listeners, least, stream_of, Control, with_cursor, pair_waits}
+use Rattle.bcast_model.specs.Words.{least, stream_of, Control, with_cursor, pair_waits}
 use Rattle.bcast_model.specs.Words.{pair_answered, cursor_of, accepting, sets, receive, listens}
 use Rattle.bcast_model.specs.Words.{skipped_to, is_empty_reply, try_recv_reply, accept, settle}
-use Rattle.bcast_model.specs.Words.{View, is_full, Answers, IsValidView}
+use Rattle.bcast_model.specs.Words.{View, is_full, Answers, IsValidView, tell_a_sender}
 use Rattle.bcast_model.proofs.Cases.{receive_is, test_is}
 use Rattle.bcast_model.proofs.Least.{least-le-cursor, len_insert}
 use Rattle.bcast_model.proofs.DeliveryMaps.{inserted_other}
@@ -59,16 +59,13 @@ module _ {S : Type 0} where
         (λ _ high. let end = valid.end in let fits = valid.fits in let one = config.capacity in seen_at (max n v.front + 1) (omega (arith, end, fits, one, high)))
         (λ _ late. seen_same (λ m e. sym (same_Some n m (sym at ∙ e)) ∙ at_end valid n at late))
 
-  told_looked : (v u : View S) (key : ℕ) (l : Listeners ℕ) → Looked v u key → Looked v (record u { control = record u.control { waiting_sends = l } }) key
-  told_looked v u key l s = heard v u key (record u.control { waiting_sends = l }) refl refl refl refl s
-
   -- ---- `poll_next`
   pub polled : {is_clone : S → S → Type 0} {v w : View S} {key : ℕ} {found : Poll (Option (S × ℕ))} → Answers is_clone v (call.PollNext key) (reply.PollNext (Ok found)) w → IsConfig v → Looked v w key
   polled {v = v} {key = key} a config =
       let o : Option ℕ = skipped_to v.front (cursor_of v.control key) in
       let c : Control = receive v key o in
       let here = moved v key config (valid a) (cursor_of v.control key) refl in
-      after a (λ u. Looked v u key) (λ u s. told_looked v u key _ s)
+      after a (λ u. Looked v u key) (λ u s. heard v u key (tell_a_sender u.control) refl refl refl refl s)
       (elim (is_empty_reply (try_recv_reply v o)) as (λ b. Looked v (settle v (sets (listens c (stream_of key) b))) key) [
         | true ↦ heard v (settle v (sets c)) key (pair_waits c (stream_of key)) refl refl refl refl here
         | false ↦ heard v (settle v (sets c)) key (pair_answered c (stream_of key)) refl refl refl refl here
@@ -83,7 +80,8 @@ module _ {S : Type 0} where
 
   pub watches : {is_clone : S → S → Type 0} {v w : View S} {result : Result ℕ HandleError} → Answers is_clone v call.NewReceiver (reply.NewReceiver result) w → IsConfig v → Watches v w result
   watches {v = v} {result = Ok key} a config =
-      let s = after a (λ u. Looked v u key × (get u.control.cursors key ≡ Some v.end)) (λ u s. (told_looked v u key _ s.0, s.1)) (seen_at v key config v.end refl, inserted v.control.cursors key v.end) in
+      let s = after a (λ u. Looked v u key × (get u.control.cursors key ≡ Some v.end)) (λ u s. (heard v u key (tell_a_sender u.control) refl refl refl refl s.0, s.1))
+      (seen_at v key config v.end refl, inserted v.control.cursors key v.end) in
       record { config = s.0.config; watcher = s.1; others = s.0.others }
   watches {v = v} {result = Err error} a config = subst (λ u. Watches v u (Err error)) (sym (unchanged a refl refl)) (record { config = config; watcher = tt; others = tt })
 
