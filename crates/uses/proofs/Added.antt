@@ -1,5 +1,5 @@
 -- One more reader: its key is new, and there is as much room as before.
-use Rattle.std.proofs.Common.{◌≡◌, inl, inr, ℕ, ◌-◌, ◌≤◌, false, [], drop, length, List, Some, None, Ok, refl, sym, ap, ◌∙◌, subst, arith, append-nil, length-drop}
+use Rattle.std.proofs.Common.{◌≡◌, inl, inr, ℕ, ◌-◌, ◌≤◌, Bool, true, false, [], drop, length, List, Some, None, Result, Ok, Err, refl, sym, ap, ◌∙◌, subst, arith, append-nil, length-drop}
 use Rattle.std.proofs.lemmas.Grind.{common_steps}
 use Rattle.std.proofs.lemmas.List.{drop_all}
 use Rattle.std.proofs.lemmas.Option.{none-some}
@@ -8,7 +8,8 @@ use Rattle.std.specs.FinMap.{get}
 use Rattle.bcast_model.specs.declared.run.Call.TheVariants as call
 use Rattle.bcast_model.specs.declared.run.Reply.TheVariants as reply
 use Rattle.bcast_model.specs.Words.{cursor_of, with_cursor, has_no_receiver, clone_receiver, sets}
-use Rattle.bcast_model.specs.Words.{settle, View, Answers}
+use Rattle.bcast_model.specs.Words.{settle, View, Answers, Reply, HandleError, IsMadeFrom}
+use Rattle.bcast_model.proofs.Cases.{made_is}
 use Rattle.bcast_model.proofs.Least.{len_some}
 use Rattle.bcast_core.proofs.Offers.{are_unequal}
 use Rattle.bcast_core.proofs.Settle.{inserted}
@@ -25,20 +26,11 @@ module _ {T : Type 0} where
       let at = some_of (get v.control.cursors key) (subst (λ k. IsSome (get v.control.cursors k)) same is) in
       none-some at.0 (sym free ∙ at.1)
 
-  clone_is_fresh : {is_clone : T → T → Type 0} {v w : View T} {original key : ℕ} → Answers is_clone v (call.CloneReceiver original) (reply.CloneReceiver (Ok key)) w → IsFresh v key
-  clone_is_fresh {v = v} {key = key} a = elim a.legal [
-    | inl gone ↦ absurd (let e = gone.1 in cc)
-    | inr there ↦ elim there.1 [
-      | inl made ↦ (let e = made.1 in let same : made.0 ≡ key = cc in is_fresh v key (subst (λ k. get v.control.cursors k ≡ None) same made.2))
-      | inr refused ↦ absurd (let e = refused in cc)
-    ]
-  ]
-
-  new_is_fresh : {is_clone : T → T → Type 0} {v w : View T} {key : ℕ} → Answers is_clone v call.NewReceiver (reply.NewReceiver (Ok key)) w → IsFresh v key
-  new_is_fresh {v = v} {key = key} a = elim a.legal [
-    | inl made ↦ (let e = made.1 in let same : made.0 ≡ key = cc in is_fresh v key (subst (λ k. get v.control.cursors k ≡ None) same made.2))
-    | inr refused ↦ absurd (let e = refused in cc)
-  ]
+  -- a receiver that is made has a key that no other has
+  made_is_fresh : (v : View T) (key : ℕ) (there : Bool) (spelt : Result ℕ HandleError → Reply T) → ((made : Result ℕ HandleError) → spelt made ≡ spelt (Ok key) → made ≡ Ok key) → IsMadeFrom there v.control.cursors spelt (spelt (Ok key)) → IsFresh v key
+  made_is_fresh v key there spelt one legal = made_is (λ (r : Reply T). r ≡ spelt (Ok key) → IsFresh v key) there v.control.cursors spelt (spelt (Ok key)) legal
+      (λ made free e. let same = one (Ok made) e in is_fresh v key (subst (λ k. get v.control.cursors k ≡ None) (let is : made ≡ key = cc in is) free))
+      (λ error e. absurd (let same = one (Err error) e in cc)) refl
 
   -- ---- the room
   record KeepsRoom (v u : View T) : Type 0 where
@@ -101,11 +93,11 @@ module _ {T : Type 0} where
         let at = some_of (cursor_of v.control original) there.0 in
         let s : Adds v w key at.0 = after a (λ u. Adds v u key at.0) (λ u s. told_adds v u key at.0 s)
         (subst (λ o. Adds v (settle v (sets (clone_receiver v.control o (Some key)))) key at.0) (sym at.1) (adds_from v key at.0 log (log.reach original at.0 at.1))) in
-        added (unread v original) s (clone_is_fresh a) (sym (ap (kept_from v) at.1))
+        added (unread v original) s (made_is_fresh v key _ reply.CloneReceiver (λ made e. cc) a.legal) (sym (ap (kept_from v) at.1))
   ]
 
   pub made : {is_clone : T → T → Type 0} {v w : View T} (key : ℕ) → Answers is_clone v call.NewReceiver (reply.NewReceiver (Ok key)) w → IsLog v → IsAdded v w key []
   made {v = v} {w = w} key a log =
       let s : Adds v w key v.end = after a (λ u. Adds v u key v.end) (λ u s. told_adds v u key v.end s) (adds_from v key v.end log (valid a).high) in
       let end = (valid a).end in
-      added [] s (new_is_fresh a) (drop_all (v.end - v.front) v.queue (omega (arith, end)))
+      added [] s (made_is_fresh v key true reply.NewReceiver (λ made e. cc) (inr (refl, a.legal))) (drop_all (v.end - v.front) v.queue (omega (arith, end)))
