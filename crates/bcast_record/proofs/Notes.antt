@@ -22,8 +22,7 @@ module _ {T : Type 0} where
 
   pub notes_of-push : (opening : Opening) (entries : List (Entry T)) (entry : Entry T)
       → notes_of opening (entries ++ entry ∷ []) ≡ notes_of opening entries ++ note.Answered entry ∷ []
-  notes_of-push opening [] entry = refl
-  notes_of-push opening (e ∷ entries) entry = ap (λ notes. note.Opened opening ∷ note.Answered e ∷ notes) (map_push note.Answered entries entry)
+  notes_of-push opening entries entry = ap (λ notes. note.Opened opening ∷ notes) (map_push note.Answered entries entry)
 
   -- the last note is that of the last entry
   pub last_note : (opening : Opening) (entries : List (Entry T)) (entry : Entry T)
