@@ -134,12 +134,7 @@ impl<T: Copy + Clone, R: Ledger + Named, A: Allocator + Copy> Recorder<T, R, A> 
         if seats.len() < self.seats {
             return Err((self, seats));
         }
-        let Recorder {
-            log,
-            opening: _,
-            seats: _,
-            known,
-        } = self;
+        let Recorder { log, known, .. } = self;
         Ok(log.into_inner().finish(&known, seats))
     }
 }

@@ -69,11 +69,7 @@ impl<R: Ledger> Seat<R> {
     fn into_share(self) -> Share<R>
         ensures { (result.parts ≡ 1) × (result.amount ≡ self.count) }
     {
-        let Seat {
-            number: _,
-            count: _,
-            share,
-        } = self;
+        let Seat { share, .. } = self;
         share
     }
 }
