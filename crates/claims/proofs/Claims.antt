@@ -1,5 +1,5 @@
 -- What is claimed, after a key is claimed, or its claim given up.
-use Rattle.std.proofs.Common.{◌≡◌, ℕ, zero, suc, List, [], ◌∷◌, Option, None, refl, ap}
+use Rattle.std.proofs.Common.{◌≡◌, ℕ, zero, suc, List, [], ◌∷◌, Option, refl, ap}
 use Rattle.claims.specs.Claims.{claim_of, put}
 
 -- the key has the claim that was put

@@ -1,6 +1,6 @@
 -- The entries of keys, one at a time: a key is claimed, and a claim changes. Assumes `Logic`.
-use Rattle.std.proofs.Common.{◌≡◌, ℕ, zero, suc, ◌+◌, List, [], ◌∷◌, Option, Some, None, sym, refl, ap, subst, arith}
-use Rattle.std.proofs.Common.{T, is_some}
+use Rattle.std.proofs.Common.{◌≡◌, ℕ, zero, suc, ◌+◌, List, [], ◌∷◌, Option, Some, None, sym, refl, ap, arith}
+use Rattle.std.proofs.lemmas.Option.{none-some}
 use seplogic.Ra.Pcs.{OpDef, OpDef-comm}
 use seplogic.Ra.Ura.{Ura}
 use mathlib.Mathlib.Data.Part.{◌∈◌}
@@ -24,10 +24,6 @@ use Rattle.claims.specs.Owned.{row, held, rows}
 whole_is_all : (v : ℕ) → OpDef halved.op (quarter, v) (full_share, 0) → ⊥
 whole_is_all v d =
     not-OpDef-full_share quarter ((OpDef-comm (pcs shares) {a = quarter} {b = full_share}).0 d.0)
-
--- a claim is not none
-some_is_not_none : (n : ℕ) → Some n ≡ None → ⊥
-some_is_not_none n e = subst (λ (o : Option ℕ). T (is_some o)) e tt
 
 module _ {M : Type 1} {𝓤 : Ura M} (𝓛 : Logic 𝓤) (δ : ℕ) where
   abbrev Pr : Type 2
@@ -94,7 +90,7 @@ module _ {M : Type 1} {𝓤 : Ura M} (𝓛 : Logic 𝓤) (δ : ℕ) where
       settle 𝓛 G (‵ (rows δ (suc k) (put [] i (Some n))) ⊛ ‵ (L j n)) $ split ! $
       suffices ! G (upd_i 𝓤 G) $ move ! (2 ∷ 0 ∷ []) $ join ! $ done !
   claims (None ∷ cs) k zero j n e h = claims_first cs k j n (omega arith)
-  claims (Some m ∷ cs) k zero j n e h = absurd (some_is_not_none m h)
+  claims (Some m ∷ cs) k zero j n e h = absurd (none-some m (sym h))
   claims (c ∷ cs) k (suc i) j n e h = let G : Pr = Claimed k (c ∷ cs) (suc i) j n in
       qed 𝓛 (‵ (row δ k c) ∷ ‵ (rows δ (suc k) cs) ∷ []) ∵ move ! (1 ∷ []) $
       use1 𝓛 (raw (upd 𝓤 (Claimed (suc k) cs i j n))) (claims cs (suc k) i j n (omega arith) h) $
