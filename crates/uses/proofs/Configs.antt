@@ -5,14 +5,13 @@ use Rattle.std.proofs.lemmas.Grind.{common_steps}
 use Rattle.std.proofs.lemmas.Option.{none-some, same_Some}
 use Rattle.std.specs.FinMap.{get, values}
 use Rattle.futures.specs.declared.task.Poll.{Poll}
-use Rattle.bcast_model.specs.declared.error.HandleError.{HandleError}
-use Rattle.bcast_model.specs.declared.error.TrySendError.{TrySendError}
 use Rattle.bcast_model.specs.declared.run.Call.TheVariants as call
 use Rattle.bcast_model.specs.declared.run.Reply.TheVariants as reply
-use Rattle.bcast_model.specs.Words.{least, stream_of, Control, with_cursor, pair_waits}
+use Rattle.bcast_model.specs.Words.{least, stream_of, Control, with_cursor, pair_waits, HandleError}
 use Rattle.bcast_model.specs.Words.{pair_answered, cursor_of, accepting, sets, receive, listens}
 use Rattle.bcast_model.specs.Words.{skipped_to, is_empty_reply, try_recv_reply, accept, settle}
 use Rattle.bcast_model.specs.Words.{View, is_full, Answers, IsValidView, tell_a_sender}
+use Rattle.bcast_model.specs.Words.{TrySendError}
 use Rattle.bcast_model.proofs.Cases.{receive_is, test_is}
 use Rattle.bcast_model.proofs.Least.{least-le-cursor, len_insert}
 use Rattle.bcast_model.proofs.DeliveryMaps.{inserted_other}

@@ -1,14 +1,12 @@
 -- What a watcher of settings finds.
-use Rattle.std.proofs.Common.{◌≡◌, inl, inr, ℕ, zero, suc, ◌-◌, ◌≤◌, Bool, true, false, cond, List, [], ◌∷◌, length, max, Option, Some, None, Result, Ok, Err, slice_get, refl, sym, ap, ◌∙◌, subst, arith}
+use Rattle.std.proofs.Common.{◌≡◌, inl, inr, ℕ, zero, suc, ◌-◌, ◌≤◌, Bool, true, false, cond, List, [], ◌∷◌, length, max, Option, Some, None, Result, Ok, Err, slice_get, refl, sym, ap, ◌∙◌, subst, arith, IfSome, IfNone}
 use Rattle.std.proofs.lemmas.Option.{none-some, same_Some}
-use Rattle.std.specs.Prelude.{IfSome, IfNone}
 use Rattle.futures.specs.declared.task.Poll.{Poll}
-use Rattle.bcast_model.specs.declared.error.TryRecvError.{TryRecvError}
 use Rattle.bcast_model.specs.declared.error.TryRecvError.TheVariants as unread
 use Rattle.bcast_model.specs.declared.run.Call.TheVariants as call
 use Rattle.bcast_model.specs.declared.run.Reply.TheVariants as reply
 use Rattle.bcast_model.specs.Words.{cursor_of, recv_reply, skipped_count, skipped_to, next_reply}
-use Rattle.bcast_model.specs.Words.{worded, IsGiven, IsReceivedBy, View, kept_at}
+use Rattle.bcast_model.specs.Words.{worded, IsGiven, IsReceivedBy, View, kept_at, TryRecvError}
 use Rattle.bcast_model.specs.Words.{Answers, IsValidView}
 use Rattle.bcast_model.proofs.Cases.{passed_reply}
 use Rattle.bcast_model.proofs.DeliveryAnswers.{IsAnswer}

@@ -1,13 +1,10 @@
 -- Sends for which there is room.
-use Rattle.std.proofs.Common.{◌≡◌, ℕ, ◌+◌, ◌==◌, ◌≤◌, ◌<◌, ◌^◌, true, false, [], ◌∷◌, length, Option, Result, Ok, Err, refl, sym, ap, ◌∙◌, subst, arith, length-append}
+use Rattle.std.proofs.Common.{◌≡◌, ℕ, ◌+◌, ◌==◌, ◌≤◌, ◌<◌, ◌^◌, true, false, [], ◌∷◌, length, Option, Result, Ok, Err, refl, sym, ap, ◌∙◌, subst, arith, length-append, true≢false, is_ok}
 use Rattle.std.proofs.lemmas.Grind.{common_steps}
-use Rattle.std.proofs.lemmas.Bool.{true≢false}
-use Rattle.std.specs.Prelude.{is_ok}
 use Rattle.std.specs.FinMap.{empty}
-use Rattle.bcast_model.specs.declared.error.TrySendError.{TrySendError}
 use Rattle.bcast_model.specs.declared.run.Call.TheVariants as call
 use Rattle.bcast_model.specs.declared.run.Reply.TheVariants as reply
-use Rattle.bcast_model.specs.Words.{has_no_receiver, last_end}
+use Rattle.bcast_model.specs.Words.{has_no_receiver, last_end, TrySendError}
 use Rattle.bcast_model.specs.Words.{opening, view_of, try_broadcast_reply, with_message, IsValid}
 use Rattle.bcast_model.specs.Words.{View, Answers, Represents}
 use Rattle.bcast_model.proofs.Least.{len_some}

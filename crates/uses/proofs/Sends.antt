@@ -1,13 +1,9 @@
 -- A message that a channel accepts, and one that it refuses.
-use Rattle.std.proofs.Common.{◌≡◌, ◌∷◌, ◌++◌, [], ◌+◌, ◌&&◌, not, Bool, true, false, cond, Option, None, Result, Ok, Err, refl, sym, ap, subst, rules}
-use Rattle.std.proofs.lemmas.Bool.{true≢false}
-use Rattle.std.specs.Prelude.{is_ok}
-use Rattle.bcast_model.specs.declared.error.TrySendError.{TrySendError}
+use Rattle.std.proofs.Common.{◌≡◌, ◌∷◌, ◌++◌, [], ◌+◌, ◌&&◌, not, Bool, true, false, cond, Option, None, Result, Ok, Err, refl, sym, ap, subst, rules, true≢false, is_ok}
 use Rattle.bcast_model.specs.declared.run.Call.TheVariants as call
 use Rattle.bcast_model.specs.declared.run.Reply.TheVariants as reply
-use Rattle.bcast_model.specs.Words.{has_no_receiver, handed_back, sets}
-use Rattle.bcast_model.specs.Words.{try_broadcast_reply, accept, settle}
-use Rattle.bcast_model.specs.Words.{with_message, View, is_full, Answers}
+use Rattle.bcast_model.specs.Words.{has_no_receiver, handed_back, sets, try_broadcast_reply, accept}
+use Rattle.bcast_model.specs.Words.{settle, with_message, View, is_full, Answers, TrySendError}
 use Rattle.bcast_model.proofs.Cases.{try_is}
 use Rattle.bcast_core.proofs.Offers.{offer_accepted}
 use Rattle.uses.proofs.Called.{told, valid, after}

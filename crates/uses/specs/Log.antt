@@ -1,10 +1,9 @@
 -- A log: what each reader is still to read.
 use Rattle.std.specs.Prelude.{◌≡◌, ◌≢◌, ℕ, ◌-◌, ◌≤◌, false, List, [], ◌∷◌, ◌++◌, drop, Option, Some, None, IsSome, Result, Ok}
 use Rattle.std.specs.FinMap.{get}
-use Rattle.bcast_model.specs.declared.error.TryRecvError.{TryRecvError}
 use Rattle.bcast_model.specs.declared.run.Call.TheVariants as call
 use Rattle.bcast_model.specs.declared.run.Reply.TheVariants as reply
-use Rattle.bcast_model.specs.Words.{Found, NoClone, View, Answers}
+use Rattle.bcast_model.specs.Words.{Found, NoClone, View, Answers, TryRecvError}
 
 module _ {T : Type 0} where
   -- the kept messages from this cursor on

@@ -1,5 +1,4 @@
-use Rattle.std.proofs.Common.{refl, sym, subst}
-use Rattle.std.specs.Prelude.{IsSome}
+use Rattle.std.proofs.Common.{refl, sym, subst, IsSome}
 use Rattle.std.specs.FinMap.{get, empty}
 use Rattle.bcast_model.specs.View.{View}
 use Rattle.bcast_core.proofs.Settle.{inserted}
