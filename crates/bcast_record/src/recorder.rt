@@ -1,6 +1,5 @@
 //! A log behind a lock.
-ghost use Rattle.std.specs.Prelude.{◌≡◌, ◌+◌, ◌<◌, ◌↔◌, IfOk, IfErr, IsErr, OnOk, vec_len, length};
-ghost use Rattle.std.specs.List.{sum_by};
+ghost use Rattle.std.specs.Prelude.{◌≡◌, ◌+◌, ◌<◌, ◌↔◌, IfOk, IfErr, IsErr, OnOk, vec_len, length, sum_by};
 ghost use Rattle.bcast_model.specs.Words.{ClonesEqual, NoClone, HasPositiveCapacity};
 ghost use Rattle.bcast_record.specs.Opened.{Opened};
 ghost use Rattle.bcast_record.specs.Replay.{IsRecordedRun};

@@ -1,6 +1,5 @@
 //! The seats of a recorder, which count their calls.
-ghost use Rattle.std.specs.Prelude.{◌≡◌, ◌+◌, ◌<◌, ◌≤◌, ◌^◌, IfOk, vec_len};
-ghost use Rattle.std.specs.List.{sum_by};
+ghost use Rattle.std.specs.Prelude.{◌≡◌, ◌+◌, ◌<◌, ◌≤◌, ◌^◌, IfOk, vec_len, sum_by};
 ghost use Rattle.bcast_record.specs.Seats.{new_seats};
 
 use std::alloc::{AllocError, Allocator};
