@@ -1,7 +1,5 @@
 -- Marks at the places of numbers.
-use Rattle.std.proofs.Common.{arith, ◌≡◌, ◌↔◌, ◌⊎◌, inl, ℕ, ◌<◌, List, [], ◌∷◌, Bool, true, false, length, slice_set, ⊎_elim}
-use Rattle.std.specs.Prelude.{fold, All, Contains, IsTrue, IfOk, Result, map}
-use Rattle.std.proofs.lemmas.List.{length-set, get_or-set_other}
+use Rattle.std.proofs.Common.{arith, ◌≡◌, ◌↔◌, ◌⊎◌, inl, ℕ, ◌<◌, List, [], ◌∷◌, Bool, true, false, length, slice_set, ⊎_elim, fold, All, Contains, IsTrue, IfOk, Result, map, length-set, get_or-set_other}
 use Rattle.std.proofs.lemmas.List.Elements.{All-map, Contains-append_cases, Contains-append_left, Contains-append_right}
 use Rattle.std.proofs.lemmas.Grind.{common_steps}
 use Rattle.std.proofs.lemmas.Bool.Decides.{eqb_tells}

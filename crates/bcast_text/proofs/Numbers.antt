@@ -1,8 +1,6 @@
 -- What `parse` reads, compared with what `decimal` spells.
-use Rattle.std.proofs.Common.{rules, arith, sym, ap, ◌∙◌, IfSome, ◌≡◌, ◌≢◌, ◌<◌, ◌^◌, ℕ, length, List, get_or, suc, zero}
-use Rattle.std.specs.Prelude.{Result, Ok, Err}
+use Rattle.std.proofs.Common.{rules, arith, sym, ap, ◌∙◌, IfSome, ◌≡◌, ◌≢◌, ◌<◌, ◌^◌, ℕ, length, List, get_or, suc, zero, Result, Ok, Err, decimal}
 use Rattle.std.specs.Result.{result_ok}
-use Rattle.std.specs.Fmt.{decimal}
 use Rattle.std.specs.Str.Parse.{ParsesUnsigned, AllDigits, digits_value}
 use Rattle.std.proofs.lemmas.Fmt.{decimal-digits_value, first_decimal, decimal_digit, decimal_is_IsNumeral}
 use Rattle.std.proofs.lemmas.Str.Parse.{IsNumeralModel, numerals_by_value, parse_plain, not_in_digits, tells_digits}

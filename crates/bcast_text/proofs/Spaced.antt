@@ -1,10 +1,8 @@
 -- Texts that are split at a space.
-use Rattle.std.proofs.Common.{◌-◌, ◌≡◌, ◌≢◌, ◌<◌, ◌^◌, ℕ, List, All, ◌∷◌, ◌++◌, Option, Some, None, Bool, true, eqb, Bor, length, length-append, arith}
+use Rattle.std.proofs.Common.{◌-◌, ◌≡◌, ◌≢◌, ◌<◌, ◌^◌, ℕ, List, All, ◌∷◌, ◌++◌, Option, Some, None, Bool, true, eqb, Bor, length, length-append, arith, MatchOption, not, decimal}
 use Rattle.std.proofs.lemmas.Grind.{common_steps}
-use Rattle.std.specs.Prelude.{MatchOption, not}
 use Rattle.std.proofs.lemmas.List.Sums.{AllPass-from_list_all}
 use Rattle.std.specs.List.{list_all}
-use Rattle.std.specs.Fmt.{decimal}
 use Rattle.std.proofs.Math.Seq.{get_or-append_seam}
 use Rattle.std.proofs.lemmas.List.Elements.{All-from_get_or}
 use Rattle.std.proofs.lemmas.Fmt.{decimal_is_IsNumeral}

@@ -1,6 +1,5 @@
 -- How a run of a program ends, as its user sees it.
-use Rattle.std.specs.Prelude.{ℕ, List, [], ◌++◌, codes}
-use Rattle.std.specs.Fmt.{decimal}
+use Rattle.std.specs.Prelude.{ℕ, List, [], ◌++◌, codes, decimal}
 use Rattle.bcast_text.specs.declared.ending.Program.TheVariants.{Bcast, Replay}
 use Rattle.bcast_text.specs.declared.ending.Ending.{Ending}
 use Rattle.bcast_text.specs.declared.ending.Ending.TheVariants.{Done, Differ, WrongArguments, NotACall, NoMemory, NoThread, InputFailed, OutputFailed}

@@ -1,6 +1,5 @@
 -- What a run of `bcast threads` prints, and how it may end.
-use Rattle.std.specs.Prelude.{ℕ, List, Bool, true, false, [], ◌++◌, ⊤, codes}
-use Rattle.std.specs.Fmt.{decimal}
+use Rattle.std.specs.Prelude.{ℕ, List, Bool, true, false, [], ◌++◌, ⊤, codes, decimal}
 use Rattle.bcast_text.specs.declared.ending.Ending.{Ending}
 use Rattle.bcast_text.specs.declared.ending.Ending.TheVariants.{Done, Differ, NoThread, NoMemory, OutputFailed}
 

@@ -1,6 +1,5 @@
 -- The answer to each reply, as a script's user sees it.
-use Rattle.std.specs.Prelude.{ℕ, List, Option, Some, None, Ok, Err, ◌++◌, codes}
-use Rattle.std.specs.Fmt.{decimal}
+use Rattle.std.specs.Prelude.{ℕ, List, Option, Some, None, Ok, Err, ◌++◌, codes, decimal}
 use Rattle.bcast_model.specs.declared.error.TrySendError.TheVariants as send
 use Rattle.bcast_model.specs.declared.error.TryRecvError.TheVariants as receive
 use Rattle.bcast_model.specs.declared.error.HandleError.TheVariants as handle

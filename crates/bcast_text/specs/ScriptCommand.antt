@@ -1,6 +1,5 @@
 -- The arguments of each command, and the ranges of its numbers.
-use Rattle.std.specs.Prelude.{ℕ, List, [], ◌∷◌, ◌<◌, ◌≤◌, ⊤, codes}
-use Rattle.std.specs.Fmt.{decimal}
+use Rattle.std.specs.Prelude.{ℕ, List, [], ◌∷◌, ◌<◌, ◌≤◌, ⊤, codes, decimal}
 use Rattle.bcast_text.specs.declared.script.command.Command.{Command}
 use Rattle.bcast_text.specs.declared.script.command.Command.TheVariants.{Script, Topics, Threads}
 

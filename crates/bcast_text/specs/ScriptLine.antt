@@ -1,7 +1,6 @@
 -- The text of each line of a script, and which numbers and names are in form.
-use Rattle.std.specs.Prelude.{ℕ, ◌<◌, List, length, Option, Some, None, Bool, true, false, IfSome, ◌++◌, codes}
+use Rattle.std.specs.Prelude.{ℕ, ◌<◌, List, length, Option, Some, None, Bool, true, false, IfSome, ◌++◌, codes, decimal}
 use Rattle.std.specs.List.{AllByRecursion}
-use Rattle.std.specs.Fmt.{decimal}
 use Rattle.bcast_text.specs.Name.{IsName}
 use Rattle.bcast_text.specs.Words.{spaced, numbers_text, IsU64, IsPositive}
 use Rattle.bcast_text.specs.declared.script.line.Line.{Line}

@@ -1,6 +1,5 @@
 -- The words of a line, and its numbers.
-use Rattle.std.specs.Prelude.{ℕ, List, Bool, true, false, Option, Some, None, [], ◌++◌, ◌∷◌, ◌<◌, ◌^◌, codes}
-use Rattle.std.specs.Fmt.{decimal}
+use Rattle.std.specs.Prelude.{ℕ, List, Bool, true, false, Option, Some, None, [], ◌++◌, ◌∷◌, ◌<◌, ◌^◌, codes, decimal}
 
 -- a word, and after one space its arguments, if there are any
 abbrev pub spaced : List ℕ → Option (List ℕ) → List ℕ

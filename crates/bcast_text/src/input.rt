@@ -1,6 +1,5 @@
 //! The run of a program over the lines of its input.
-ghost use Rattle.std.specs.Prelude.{◌≡◌, ◌≢◌, ◌≤◌, ◌⊎◌, ℕ, List, Bool, true, Err, OnOk, IfErr};
-ghost use Rattle.std.specs.Str.{IsUtf8};
+ghost use Rattle.std.specs.Prelude.{◌≡◌, ◌≢◌, ◌≤◌, ◌⊎◌, ℕ, List, Bool, true, Err, OnOk, IfErr, IsUtf8};
 ghost use Rattle.std.specs.Io.KnownBytes.{Appends, Keeps, IsAtEnd};
 ghost use Rattle.bcast_text.specs.Lines.{unread, longest_of};
 ghost use Rattle.bcast_text.specs.Run.{Answered, EndsLines, IsRun, IsRefused, IsNumbered};

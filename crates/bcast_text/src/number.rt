@@ -1,8 +1,7 @@
 //! The numbers of scripts, topics, traces and arguments.
 ghost use Rattle.bcast_text.specs.Words.{numbers_text, IsU64};
 ghost use Rattle.std.specs.List.{AllByRecursion};
-ghost use Rattle.std.specs.Prelude.{◌≡◌, ◌≢◌, ◌<◌, ◌^◌, ℕ, List, length, Some, IsNone, IfOk, IfSome};
-ghost use Rattle.std.specs.Fmt.{decimal};
+ghost use Rattle.std.specs.Prelude.{◌≡◌, ◌≢◌, ◌<◌, ◌^◌, ℕ, List, length, Some, IsNone, IfOk, IfSome, decimal};
 
 use bcast_model::messages::Messages;
 use std::alloc::{AllocError, Global};

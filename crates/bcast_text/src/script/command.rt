@@ -1,6 +1,5 @@
 //! The arguments of `bcast`.
-ghost use Rattle.std.specs.Prelude.{◌≡◌, ◌≢◌, ℕ, [], ◌∷◌, codes, IfSome, IsNone, map, string_bytes};
-ghost use Rattle.std.specs.Fmt.{decimal};
+ghost use Rattle.std.specs.Prelude.{◌≡◌, ◌≢◌, ℕ, [], ◌∷◌, codes, IfSome, IsNone, map, string_bytes, decimal};
 ghost use Rattle.bcast_text.specs.ScriptCommand.{words_of, IsUpTo, IsInRange};
 ghost use Rattle.bcast_text.specs.declared.script.command.Command.{Command};
 

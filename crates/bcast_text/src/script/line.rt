@@ -1,7 +1,6 @@
 //! What a line of a script says.
-ghost use Rattle.std.specs.Prelude.{◌≡◌, ◌≢◌, ℕ, List, Bool, Some, None, IfOk, IfSome, IsNone, ◌++◌, ◌∷◌, codes};
+ghost use Rattle.std.specs.Prelude.{◌≡◌, ◌≢◌, ℕ, List, Bool, Some, None, IfOk, IfSome, IsNone, ◌++◌, ◌∷◌, codes, decimal};
 ghost use Rattle.std.specs.List.{AllByRecursion};
-ghost use Rattle.std.specs.Fmt.{decimal};
 ghost use Rattle.bcast_text.specs.Words.{numbers_text, IsU64, IsPositive};
 ghost use Rattle.bcast_text.specs.Name.{IsName};
 ghost use Rattle.bcast_text.specs.ScriptLine.{flag_text, word_of, name_in, arguments_of, text_of, IsInForm};

@@ -1,7 +1,6 @@
 //! Names: what is one, and what has each of those that are in use.
-ghost use Rattle.std.specs.Prelude.{IsTrue, ◌↔◌, ◌≡◌, ℕ, List, Some, None, OnOk};
+ghost use Rattle.std.specs.Prelude.{IsTrue, ◌↔◌, ◌≡◌, ℕ, List, Some, None, OnOk, bytes_eq};
 ghost use Rattle.std.specs.Map.{update};
-ghost use Rattle.std.specs.Str.{bytes_eq};
 ghost use Rattle.std.specs.BTreeMap.{get_by_text};
 ghost use Rattle.bcast_text.specs.Name.{IsName};
 

@@ -1,5 +1,4 @@
-use Rattle.std.proofs.Common.{rules, refl, arith}
-use Rattle.std.specs.Fmt.{decimal}
+use Rattle.std.proofs.Common.{rules, refl, arith, decimal}
 use Rattle.bcast_text.proofs.NumberLists.{one_read, none_if}
 use Rattle.bcast_text.proofs.Spaced.{at_none, at_some}
 use Rattle.bcast_text.proofs.number.numbers.Goals as goal

@@ -1,7 +1,5 @@
 -- The first space ends the name.
-use Rattle.std.proofs.Common.{None, Some, ◌∷◌, [], refl, sym, subst, ◌∙◌, append_assoc}
-use Rattle.std.proofs.lemmas.Bool.{true≢false}
-use Rattle.std.specs.Fmt.{decimal}
+use Rattle.std.proofs.Common.{None, Some, ◌∷◌, [], refl, sym, subst, ◌∙◌, append_assoc, true≢false, decimal}
 use Rattle.bcast_text.specs.Name.{IsName}
 use Rattle.bcast_text.proofs.Spaced.{at_space, name_space}
 use Rattle.bcast_text.proofs.script.line.name_and_limit.Goals as goal

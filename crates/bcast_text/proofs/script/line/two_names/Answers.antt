@@ -1,6 +1,5 @@
 -- The first space ends the first name.
-use Rattle.std.proofs.Common.{None, Some, ◌∷◌, [], sym, subst, ◌∙◌, append_assoc}
-use Rattle.std.proofs.lemmas.Bool.{true≢false}
+use Rattle.std.proofs.Common.{None, Some, ◌∷◌, [], sym, subst, ◌∙◌, append_assoc, true≢false}
 use Rattle.bcast_text.specs.Name.{IsName}
 use Rattle.bcast_text.proofs.Spaced.{at_space, name_space}
 use Rattle.bcast_text.proofs.script.line.two_names.Goals.{else-is_name-via-then-is_name+else-is_name-2, else-is_name-via-else-is_name}

@@ -1,6 +1,5 @@
 -- The marks so far.
-use Rattle.std.proofs.Common.{◌≡◌, take}
-use Rattle.std.specs.Prelude.{fold}
+use Rattle.std.proofs.Common.{◌≡◌, take, fold}
 use Rattle.bcast_text.proofs.Marks.{with_mark}
 use Rattle.bcast_text.proofs.threads.order.mark_all.Given as goal
 
