@@ -1,6 +1,5 @@
 -- What a batch gives, and what `try_recv` says if it gives none.
-use Rattle.std.proofs.Common.{◌≡◌, inl, inr, ℕ, ◌<◌, ◌-◌, Bool, List, [], ◌∷◌, length, max, Option, Some, None, Ok, Err, sym, ◌∙◌, arith}
-use Rattle.std.specs.Prelude.{IsSomeAnd}
+use Rattle.std.proofs.Common.{◌≡◌, inl, inr, ℕ, ◌<◌, ◌-◌, Bool, List, [], ◌∷◌, length, max, Option, Some, None, Ok, Err, sym, ◌∙◌, arith, IsSomeAnd}
 use Rattle.std.specs.Option.{option_map_or}
 use Rattle.std.proofs.lemmas.Bool.{cases_lt}
 use Rattle.std.proofs.lemmas.Option.{slice_get_past}

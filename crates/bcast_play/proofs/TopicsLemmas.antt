@@ -1,7 +1,5 @@
 -- Lemmas of lines on topics: the names of topics and of followers.
-use Rattle.std.proofs.Common.{◌≡◌, ◌≢◌, inl, inr, ⊎_elim, arith, List, ℕ, Bool, true, false, Option, Some, None, cond, refl, sym, is_some}
-use Rattle.std.specs.Option.{option_map}
-use Rattle.std.proofs.lemmas.Bool.{true≢false}
+use Rattle.std.proofs.Common.{◌≡◌, ◌≢◌, inl, inr, ⊎_elim, arith, List, ℕ, Bool, true, false, Option, Some, None, cond, refl, sym, is_some, option_map, true≢false}
 use Rattle.std.proofs.lemmas.List.Elements.{All-weaker}
 use Rattle.bcast_text.proofs.Spaced.{Lacks}
 use Rattle.topics.specs.Name.{IsName, IsNameByte}

@@ -1,6 +1,5 @@
 -- What is seen of the parts of a program that plays lines.
-use Rattle.std.specs.Prelude.{Option}
-use Rattle.std.specs.Option.{option_map}
+use Rattle.std.specs.Prelude.{Option, option_map}
 use Rattle.std.specs.BTreeMap.{get_by_text}
 use Rattle.bcast_play.specs.ScriptRun.{Named}
 use Rattle.bcast_play.specs.declared.channel.Channel.{Channel}

@@ -1,6 +1,5 @@
 -- The text of each line on topics, and which numbers and names are in form.
-use Rattle.std.specs.Prelude.{ℕ, List, ◌++◌, ◌∷◌, codes}
-use Rattle.std.specs.Fmt.{decimal}
+use Rattle.std.specs.Prelude.{ℕ, List, ◌++◌, ◌∷◌, codes, decimal}
 use Rattle.topics.specs.Name as topic_name
 use Rattle.bcast_text.specs.Name as follower_name
 use Rattle.bcast_text.specs.Words.{IsU64, IsPositive}

@@ -1,8 +1,6 @@
 -- What lines on topics do: the topics, the names of their followers, and the answer to each line.
-use Rattle.std.specs.Prelude.{◌≡◌, ◌≢◌, ◌⊎◌, ℕ, List, [], ◌∷◌, ◌++◌, Option, Some, None, Ok, codes}
+use Rattle.std.specs.Prelude.{◌≡◌, ◌≢◌, ◌⊎◌, ℕ, List, [], ◌∷◌, ◌++◌, Option, Some, None, Ok, codes, bytes_eq, string_bytes}
 use Rattle.std.specs.Map.{update}
-use Rattle.std.specs.Str.{bytes_eq}
-use Rattle.std.specs.String.{string_bytes}
 use Rattle.bcast_model.specs.declared.run.Reply.TheVariants as reply
 use Rattle.topics.specs.declared.request.Request.{Request}
 use Rattle.topics.specs.declared.request.Request.TheVariants as request

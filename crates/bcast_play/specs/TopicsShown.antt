@@ -1,8 +1,6 @@
 -- What is seen of topics whose followers have names.
-use Rattle.std.specs.Option.{option_map}
+use Rattle.std.specs.Prelude.{option_map, String, string_bytes}
 use Rattle.std.specs.BTreeMap.{BTreeMap, get_by_text}
-use Rattle.std.specs.String.{string_bytes}
-use Rattle.std.specs.declared.string.String.{String}
 use Rattle.topics.specs.Hub.{topic_of}
 use Rattle.bcast_play.specs.TopicsRun.{Following, Names, Followed}
 use Rattle.bcast_play.specs.declared.hub.HubSession.{HubSession}

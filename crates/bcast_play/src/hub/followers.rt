@@ -1,7 +1,6 @@
 //! The followers of topics by name, and the requests that lines ask for.
-ghost use Rattle.std.specs.Prelude.{◌≡◌, ◌≢◌, ℕ, List, Some, None, Err, IfOk, OnOk, string_bytes};
+ghost use Rattle.std.specs.Prelude.{◌≡◌, ◌≢◌, ℕ, List, Some, None, Err, IfOk, OnOk, string_bytes, bytes_eq};
 ghost use Rattle.std.specs.Map.{update};
-ghost use Rattle.std.specs.Str.{bytes_eq};
 ghost use Rattle.topics.specs.Request.{OpensPositive};
 ghost use Rattle.bcast_play.specs.TopicsLine.{IsInForm};
 ghost use Rattle.bcast_play.specs.TopicsRun.{IsRequest, IsAboutNobody, names_after};

@@ -1,7 +1,6 @@
 -- All that is there is given, or `try_recv` says why there is none.
-use Rattle.std.proofs.Common.{◌≡◌, ◌++◌, inl, inr, ◌<◌, ◌≤◌, ◌+◌, min, length, ap, ◌∙◌, subst, arith}
+use Rattle.std.proofs.Common.{◌≡◌, ◌++◌, inl, inr, ◌<◌, ◌≤◌, ◌+◌, min, length, ap, ◌∙◌, subst, arith, vec_len, vec_capacity}
 use Rattle.std.proofs.lemmas.Result.{on_ok_weaker}
-use Rattle.std.specs.Prelude.{vec_len, vec_capacity}
 use Rattle.bcast_model.specs.Words.{Answers, NoClone, missed, unread}
 use Rattle.bcast_model.specs.declared.run.Call.TheVariants as call
 use Rattle.bcast_model.specs.declared.run.Reply.TheVariants as reply

@@ -1,6 +1,5 @@
 -- A name that is not in use has no follower.
-use Rattle.std.proofs.Common.{rules, ◌≡◌, false, true, is_some, subst, sym}
-use Rattle.std.specs.String.{string_bytes}
+use Rattle.std.proofs.Common.{rules, ◌≡◌, false, true, is_some, subst, sym, string_bytes}
 use Rattle.std.specs.BTreeMap.{get_by_text}
 use Rattle.topics.specs.declared.request.Request.TheVariants as request
 use Rattle.bcast_play.specs.declared.hub.line.Line.TheVariants as line
