@@ -54,7 +54,7 @@ module _ {T : Type 0} where
   run_exact p h calls replies equal run = run
 
 module _ {T : Type 0} where
-  found_message : (closed : Bool) (o : Option T) (msg : T) → recv_reply closed o ≡ Ok msg → o ≡ Some msg
+  pub found_message : (closed : Bool) (o : Option T) (msg : T) → recv_reply closed o ≡ Ok msg → o ≡ Some msg
   found_message closed (Some other) msg e = cc
   found_message closed None msg e = cc
 

@@ -1,13 +1,13 @@
 -- What a batch gives, and what `try_recv` says if it gives none.
-use Rattle.std.proofs.Common.{◌≡◌, inl, inr, ℕ, ◌<◌, ◌-◌, Bool, List, [], ◌∷◌, length, max, Option, Some, None, Ok, Err, sym, ◌∙◌, arith, IsSomeAnd}
+use Rattle.std.proofs.Common.{◌≡◌, inl, inr, ℕ, ◌<◌, ◌-◌, List, [], ◌∷◌, length, max, Option, Some, None, Ok, Err, sym, ◌∙◌, arith, IsSomeAnd}
 use Rattle.std.specs.Option.{option_map_or}
 use Rattle.std.proofs.lemmas.Bool.{cases_lt}
-use Rattle.std.proofs.lemmas.Option.{slice_get_past}
+use Rattle.std.proofs.lemmas.Option.{none-some, slice_get_past}
 use Rattle.bcast_model.specs.declared.run.Call.TheVariants as call
 use Rattle.bcast_model.specs.declared.run.Reply.TheVariants as reply
-use Rattle.bcast_model.specs.Words.{Found, Answers, ClonesEqual, IsReceivedBy, IsValidView, NoClone, View, cursor_of, kept_at, missed, recv_reply, skipped_count, try_recv_reply, unread}
+use Rattle.bcast_model.specs.Words.{Found, Answers, ClonesEqual, IsReceivedBy, IsValidView, NoClone, View, cursor_of, kept_at, missed, skipped_count, try_recv_reply, unread}
 use Rattle.bcast_model.proofs.Cases.{lagging_reply, passed_reply}
-use Rattle.bcast_model.proofs.Clones.{answers_exact}
+use Rattle.bcast_model.proofs.Clones.{answers_exact, found_message}
 use Rattle.bcast_core.specs.Batch.{MayBeRefused, ReceivesEach}
 use Rattle.bcast_core.proofs.Tail.{valid_shown}
 use Rattle.bcast_text.specs.ScriptAnswer.{answer_of}
@@ -33,17 +33,14 @@ never_refused v key =
     some_and (cursor_of v.control key) (λ cursor. some_and (kept_at v cursor) (λ msg refused. refused tt))
 
 -- ---- a message that `try_recv` gives is there
-none_found : (closed : Bool) (o : Option ℕ) (msg : ℕ) → o ≡ None → recv_reply closed o ≡ Ok msg → ⊥
-none_found closed None msg none e = let is = e in absurd cc
-none_found closed (Some other) msg none e = absurd cc
-
 found_at : (v : View ℕ) → IsValidView v → (o : Option ℕ) (msg : ℕ) → try_recv_reply v o ≡ Ok msg → (skipped_count v.front o ≡ 0) × (0 < option_map_or (λ cursor. v.end - max cursor v.front) o 0)
 found_at v valid None msg e = absurd cc
 found_at v valid (Some cursor) msg e = elim (cases_lt cursor v.front) [
   | inl lags ↦ (let is = sym (lagging_reply v cursor lags) ∙ e in absurd cc)
   | inr passed ↦ elim (cases_lt cursor v.end) [
     | inl there ↦ (omega (arith, passed), omega (arith, passed, there))
-    | inr past ↦ absurd (none_found v.control.closed (kept_at v cursor) msg (slice_get_past v.queue (cursor - v.front) (omega (arith, valid.end, passed, past))) (sym (passed_reply v cursor passed) ∙ e))
+    | inr past ↦ (let none = slice_get_past v.queue (cursor - v.front) (omega (arith, valid.end, passed, past)) in
+        absurd (none-some msg (sym none ∙ found_message v.control.closed (kept_at v cursor) msg (sym (passed_reply v cursor passed) ∙ e))))
   ]
 ]
 
