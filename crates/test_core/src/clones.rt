@@ -1,39 +1,31 @@
 //! Receives whose message can't be cloned.
-ghost use Rattle.std.specs.Prelude.{IfOk};
 ghost use Rattle.bcast_model.specs.Next.{HasPositiveCapacity};
 
 use crate::channel::channel;
-use bcast_core::{Call, Inner, Reply, Silent, TryRecvError, step};
+use bcast_core::{Call, Reply, Silent, TryRecvError, step};
 use futures::task::Poll;
 use std::alloc::{AllocError, Global};
 use std::cell::Cell;
 use std::process::Abort;
-use std::rc::Rc;
-
-/// Whether clones are refused.
-type Refuses = Rc<Cell<bool>>;
 
 /// A message whose clone is refused while `refuses` is true.
 #[derive(Drop)]
-struct Fragile {
+struct Fragile<'a> {
     number: u64,
-    refuses: Refuses,
+    refuses: &'a Cell<bool>,
 }
 
-impl Clone for Fragile {
-    fn clone(&self) -> Result<Fragile, AllocError> {
+impl<'a> Clone for Fragile<'a> {
+    fn clone(&self) -> Result<Fragile<'a>, AllocError> {
         if self.refuses.get() {
             return Err(AllocError);
         }
-        let refuses = self.refuses.clone()?;
         Ok(Fragile {
             number: self.number,
-            refuses,
+            refuses: self.refuses,
         })
     }
 }
-
-type Channel = Inner<Fragile, Silent>;
 
 /// A call, with the number of the message or the receiver's key.
 #[derive(Clone, Copy)]
@@ -58,23 +50,20 @@ enum Answer {
     Other,
 }
 
-fn call_of(step: Step, refuses: &Refuses) -> Result<Call<Fragile>, AllocError>
-    ensures { IfOk result HasPositiveCapacity }
+fn call_of(step: Step, refuses: &Cell<bool>) -> Call<Fragile<'_>>
+    ensures { HasPositiveCapacity result }
 {
-    Ok(match step {
+    match step {
         Step::SetOverflow => Call::SetOverflow(true),
         Step::CloneReceiver => Call::CloneReceiver(0),
-        Step::Send(number) => {
-            let refuses = refuses.clone()?;
-            Call::TryBroadcast(Fragile { number, refuses })
-        }
+        Step::Send(number) => Call::TryBroadcast(Fragile { number, refuses }),
         Step::Receive(key) => Call::TryRecv(key),
         Step::PollRecv(key) => Call::PollRecv(key),
         Step::PollNext(key) => Call::PollNext(key),
-    })
+    }
 }
 
-fn answer_of(reply: &Reply<Fragile>) -> Answer {
+fn answer_of(reply: &Reply<Fragile<'_>>) -> Answer {
     match reply {
         Reply::SetOverflow => Answer::Done,
         Reply::CloneReceiver(Ok(key)) => Answer::Receiver(*key),
@@ -117,25 +106,18 @@ const ROWS: &[(&str, &[(bool, Step, Answer)])] = &[
     ),
 ];
 
-fn ask(inner: &mut Channel, call: Step, refuses: &Refuses) -> Result<Answer, AllocError> {
-    let call = call_of(call, refuses)?;
-    Ok(answer_of(&step(inner, call, Silent)))
-}
-
 fn play(
     rt: &impl Abort,
     alloc: Global,
     name: &str,
     calls: &[(bool, Step, Answer)],
 ) -> Result<(), AllocError> {
-    let refuses = Rc::new(alloc, Cell::new(true))?;
+    let refuses = Cell::new(true);
     let mut inner = channel(rt, alloc, 1)?;
     for (index, (is_refused, call, answer)) in calls.iter().enumerate() {
         refuses.set(*is_refused);
-        assert!(rt;
-            ask(&mut inner, *call, &refuses)? == *answer,
-            "{name}, call {index}"
-        );
+        let reply = step(&mut inner, call_of(*call, &refuses), Silent);
+        assert!(rt; answer_of(&reply) == *answer, "{name}, call {index}");
     }
     Ok(())
 }
