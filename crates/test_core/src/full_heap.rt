@@ -134,18 +134,6 @@ fn holds<A: Allocator + Copy>(
     }
 }
 
-/// Makes the rows' calls.
-fn ask_rows<A: Allocator + Copy>(
-    rt: &impl Abort,
-    alloc: Global,
-    inner: &mut Inner<u64, Silent, A>,
-) -> Result<(), AllocError> {
-    for (index, row) in ROWS.iter().enumerate() {
-        assert!(rt; holds(alloc, inner, *row)?, "row {index}");
-    }
-    Ok(())
-}
-
 /// Makes the rows' calls on a channel of this heap, while there is no free memory in the heap.
 fn ask_on_full_heap(
     rt: &impl Abort,
@@ -156,7 +144,9 @@ fn ask_on_full_heap(
     let _rest = Vec::<u8, &LocalHeap>::with_capacity(heap, heap.free())?;
     let full = heap.free();
     assert!(rt; Vec::<u8, &LocalHeap>::with_capacity(heap, 1).is_err());
-    ask_rows(rt, alloc, inner)?;
+    for (index, row) in ROWS.iter().enumerate() {
+        assert!(rt; holds(alloc, inner, *row)?, "row {index}");
+    }
     assert!(rt; heap.free() == full);
     Ok(())
 }
