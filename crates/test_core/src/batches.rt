@@ -57,11 +57,6 @@ fn gives_each(inner: &mut Channel, key: usize, msgs: &[u64]) -> bool {
     gives
 }
 
-/// What `waiting_sends` of a snapshot says is told.
-fn told_sends(alloc: Global, inner: &Channel) -> Result<usize, AllocError> {
-    Ok(inner.snapshot(alloc)?.waiting_sends.told)
-}
-
 /// Whether a row holds on both channels: on the first by batches, and on the other one by single
 /// receives.
 fn holds(
@@ -77,7 +72,7 @@ fn holds(
         Row::Batch(key, limit, msgs) => {
             Ok(gives(alloc, batches, key, limit, msgs)? && gives_each(singles, key, msgs))
         }
-        Row::ToldSends(told) => Ok(told_sends(alloc, batches)? == told),
+        Row::ToldSends(told) => Ok(batches.snapshot(alloc)?.waiting_sends.told == told),
     }
 }
 
@@ -110,10 +105,8 @@ fn play(rt: &impl Abort, alloc: Global, name: &str, rows: &[Row]) -> Result<(), 
     for (index, row) in rows.iter().enumerate() {
         let is_so = holds(alloc, &mut batches, &mut singles, *row)?;
         assert!(rt; is_so, "{name}, row {index}");
-        assert!(rt;
-            are_alike(alloc, &batches, &singles)?,
-            "{name}, after row {index}"
-        );
+        let is_alike = are_alike(alloc, &batches, &singles)?;
+        assert!(rt; is_alike, "{name}, after row {index}");
     }
     Ok(())
 }
