@@ -95,25 +95,20 @@ fn receive_poll(pair: &(usize, Kind)) -> Asked {
 
 /// The poll of the first listener that is told: of a send, if one is.
 fn first_told(seen: &Snapshot<u64>) -> Option<Asked> {
-    if seen.waiting_sends.told > 0 {
-        return seen.waiting_sends.ids.first().map(|place| send_poll(place));
+    let (sends, receives) = (&seen.waiting_sends, &seen.waiting_receives);
+    if sends.told > 0 {
+        return sends.ids.first().map(|place| send_poll(place));
     }
-    if seen.waiting_receives.told > 0 {
-        return seen
-            .waiting_receives
-            .ids
-            .first()
-            .map(|pair| receive_poll(pair));
+    if receives.told > 0 {
+        return receives.ids.first().map(|pair| receive_poll(pair));
     }
     None
 }
 
 /// How many listeners wait.
 fn listeners(seen: &Snapshot<u64>) -> usize {
-    seen.waiting_sends
-        .ids
-        .len()
-        .saturating_add(seen.waiting_receives.ids.len())
+    let (sends, receives) = (&seen.waiting_sends, &seen.waiting_receives);
+    sends.ids.len().saturating_add(receives.ids.len())
 }
 
 fn must_wait(reply: &Reply<u64>) -> bool {
@@ -127,17 +122,14 @@ fn must_wait(reply: &Reply<u64>) -> bool {
 
 /// Whether each listener that waits must still wait when it is polled.
 fn is_quiet(inner: &mut Channel, seen: &Snapshot<u64>) -> bool {
+    let mut is_quiet = true;
     for place in &seen.waiting_sends.ids {
-        if !must_wait(&ask(inner, send_poll(place))) {
-            return false;
-        }
+        is_quiet &= must_wait(&ask(inner, send_poll(place)));
     }
     for pair in &seen.waiting_receives.ids {
-        if !must_wait(&ask(inner, receive_poll(pair))) {
-            return false;
-        }
+        is_quiet &= must_wait(&ask(inner, receive_poll(pair)));
     }
-    true
+    is_quiet
 }
 
 /// How many polls are made until no listener is told, at most `most`, each of the first told one.
