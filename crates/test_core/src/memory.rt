@@ -106,27 +106,22 @@ fn is_whole<A: Allocator>(seen: &Snapshot<u64, A>) -> bool {
         && seen.waiting_receives.ids.len() == 1
 }
 
-/// Whether there is memory for a snapshot. It must show all of this channel then.
-fn shows<A: Allocator + Copy>(rt: &impl Abort, alloc: A, inner: &Inner<u64, Silent>) -> bool {
-    match inner.snapshot(alloc) {
-        Ok(seen) => {
-            assert!(rt; is_whole(&seen));
-            true
-        }
-        Err(_) => false,
-    }
+/// Whether a snapshot shows all of this channel. None: there is no memory for it.
+fn shows<A: Allocator + Copy>(alloc: A, inner: &Inner<u64, Silent>) -> Option<bool> {
+    Some(is_whole(&inner.snapshot(alloc).ok()?))
 }
 
 #[test]
 fn a_snapshot_is_refused_or_whole(rt: HostRuntime) -> Result<(), Fail> {
     let inner = waited_for(rt.alloc())?;
-    let (mut last, mut is_refused) = (false, false);
+    let (mut last, mut is_refused) = (None, false);
     for size in 0..256 {
         let heap = LocalHeap::new(rt.alloc(), size * 16)?;
-        last = shows(&rt, &heap, &inner);
-        is_refused |= !last;
+        last = shows(&heap, &inner);
+        assert!(rt; last != Some(false));
+        is_refused |= last.is_none();
     }
     assert!(rt; is_refused, "a snapshot was refused");
-    assert!(rt; last);
+    assert!(rt; last == Some(true));
     Ok(())
 }
