@@ -5,7 +5,7 @@ use std::error::Error;
 use std::process::Abort;
 
 /// A message with neither a `Display` nor a `Debug`.
-#[derive(Drop)]
+#[derive(Clone, Copy)]
 struct Opaque;
 
 /// Whether `{}` prints the error so.
@@ -13,15 +13,11 @@ fn displays<E: Error>(alloc: Global, error: &E, text: &str) -> bool {
     format!(in alloc; "{error}").is_ok_and(|printed| printed.as_str() == text)
 }
 
-/// Whether `{:?}` prints the error so.
-fn debugs<E: Error>(alloc: Global, error: &E, text: &str) -> bool {
-    format!(in alloc; "{error:?}").is_ok_and(|printed| printed.as_str() == text)
-}
-
 /// Fails the test unless `{}` and `{:?}` print the error so.
 fn expect_both<E: Error>(rt: &impl Abort, alloc: Global, error: &E, display: &str, debug: &str) {
     assert!(rt; displays(alloc, error, display), "{display}");
-    assert!(rt; debugs(alloc, error, debug), "{debug}");
+    let printed = format!(in alloc; "{error:?}");
+    assert!(rt; printed.is_ok_and(|text| text.as_str() == debug), "{debug}");
 }
 
 #[test]
@@ -30,29 +26,16 @@ fn send_errors_print(rt: HostRuntime) {
     let void = "sending into the void (no active receivers)";
     let full = "sending into a full channel";
     let closed = "sending into a closed channel";
-    expect_both(&rt, alloc, &TrySendError::Full(Opaque), full, "Full(..)");
-    expect_both(
-        &rt,
-        alloc,
-        &TrySendError::Closed(Opaque),
-        closed,
-        "Closed(..)",
-    );
-    expect_both(
-        &rt,
-        alloc,
-        &TrySendError::Inactive(Opaque),
-        void,
-        "Inactive(..)",
-    );
+    let memory = "out of memory";
+    for (error, display, debug) in [
+        (TrySendError::Full(Opaque), full, "Full(..)"),
+        (TrySendError::Closed(Opaque), closed, "Closed(..)"),
+        (TrySendError::Inactive(Opaque), void, "Inactive(..)"),
+    ] {
+        expect_both(&rt, alloc, &error, display, debug);
+    }
     expect_both(&rt, alloc, &SendError(Opaque), closed, "SendError(..)");
-    expect_both(
-        &rt,
-        alloc,
-        &NoMemory(Opaque),
-        "out of memory",
-        "NoMemory(..)",
-    );
+    expect_both(&rt, alloc, &NoMemory(Opaque), memory, "NoMemory(..)");
 }
 
 const TRY_RECV: &[(TryRecvError, &str)] = &[
