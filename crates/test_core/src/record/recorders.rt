@@ -33,12 +33,10 @@ fn has_all<R: Ledger + Named>(
     calls: &[Step],
     receipts: &[Receipt<u64, R>],
 ) -> bool {
+    let mut pairs = calls.iter().zip(receipts);
     finished.entries().len() == calls.len()
         && receipts.len() == calls.len()
-        && calls.iter().zip(receipts).all(|(call, receipt)| call.is_stored(
-            0,
-            finished.entry_of(receipt),
-        ))
+        && pairs.all(|(call, receipt)| call.is_stored(0, finished.entry_of(receipt)))
 }
 
 /// Whether the recorder and one of its two seats are returned, and the entries when both are given.

@@ -146,21 +146,13 @@ fn records<R: Ledger + Named>(
     requires calls { (calls.name ≡ R.name) × (calls.parts ≡ R.parts) × (calls.parts ≡ 2) }
     requires journal { journal ≡ R.book }
 {
-    let (recorder, _, mut seats) = Recorder::<u64, R, &LocalHeap>::new(
-        memory.heap,
-        2,
-        1,
-        calls,
-        journal,
-    )?;
+    let heap = memory.heap;
+    let (recorder, _, mut seats) = Recorder::<u64, R, &LocalHeap>::new(heap, 2, 1, calls, journal)?;
     let seat = seats.first_mut().ok_or(AllocError)?;
     let was_refused = ask_all(rt, alloc, memory, &recorder, seat, steps)?;
     let finished = recorder.finish(seats).ok().ok_or(AllocError)?;
-    Ok(if has_all(&finished, steps) {
-        was_refused
-    } else {
-        None
-    })
+    let has_all = has_all(&finished, steps);
+    Ok(if has_all { was_refused } else { None })
 }
 
 #[test]
@@ -169,10 +161,8 @@ fn a_refused_call_is_made_again(rt: HostRuntime) -> Result<(), AllocError> {
         let (mut was_refused, mut last) = (false, None);
         for size in 0..32 {
             let heap = LocalHeap::new(rt.alloc(), HEAP)?;
-            let memory = Memory {
-                heap: &heap,
-                left: size * 64,
-            };
+            let left = size * 64;
+            let memory = Memory { heap: &heap, left };
             let (ledger, journal) = (Blank::new(2), Journal::new());
             last = records::<Brand>(&rt, rt.alloc(), memory, calls, ledger, journal)?;
             assert!(rt; last.is_some(), "{size}");
