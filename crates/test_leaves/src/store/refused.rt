@@ -3,6 +3,7 @@ use super::fast::{push, read};
 use bcast_store::Store;
 use linked_list_allocator::LocalHeap;
 use std::alloc::{AllocError, Allocator};
+use std::process::Abort;
 use std::test::Fail;
 
 // A message that takes memory.
@@ -28,15 +29,6 @@ impl Text for Message<'_> {
     fn is_whole(&self) -> bool {
         self.bytes.as_slice() == TEXT.as_slice()
     }
-}
-
-// Which calls were refused memory, and whether each left the store as it must.
-#[derive(Clone, Copy, PartialEq, Eq)]
-struct Refused {
-    new: bool,
-    grow: bool,
-    read: bool,
-    is_right: bool,
 }
 
 fn add<T: Drop, A: Allocator + Copy>(
@@ -74,39 +66,34 @@ fn with_receiver<T: Text, A: Allocator + Copy>(
     Ok((store, key))
 }
 
-// Two receivers read a message, with what memory there is.
-fn two_read<T: Text, A: Allocator + Copy>(alloc: A, msg: T) -> Result<Refused, AllocError> {
+// Two receivers read a message, with what memory there is. Returns whether there was some for more
+// room, and for the first one's clone. None: there was none for the store.
+fn two_read<T: Text, A: Allocator + Copy>(
+    rt: &impl Abort,
+    alloc: A,
+    msg: T,
+) -> Result<Option<(bool, bool)>, AllocError> {
     let Ok((mut store, first)) = with_receiver(alloc) else {
-        return Ok(Refused {
-            new: true,
-            grow: false,
-            read: false,
-            is_right: true,
-        });
+        return Ok(None);
     };
     push(&mut store, msg);
     let second = add(&mut store, 7)?;
     let grow = grow(&mut store);
     let read = reads(&mut store, first);
-    let mut is_right = grow.is_some() && read != Some(false) && store.len() == 1;
+    assert!(rt; grow.is_some() && read != Some(false) && store.len() == 1);
     if read.is_none() {
-        is_right &= store.cursor(first) == Some(7);
+        assert!(rt; store.cursor(first) == Some(7));
         store.remove(first);
     }
     // The last reader's read takes no memory.
-    is_right &= reads(&mut store, second) == Some(true) && store.front() == 8;
-    Ok(Refused {
-        new: false,
-        grow: grow == Some(true),
-        read: read.is_none(),
-        is_right,
-    })
+    assert!(rt; reads(&mut store, second) == Some(true) && store.front() == 8);
+    Ok(Some((grow == Some(false), read.is_some())))
 }
 
 // As above, on a heap; an error if the heap has no memory even for the message.
-fn run(heap: &LocalHeap) -> Result<Refused, AllocError> {
+fn run(rt: &impl Abort, heap: &LocalHeap) -> Result<Option<(bool, bool)>, AllocError> {
     let bytes = Vec::from_slice(heap, TEXT.as_slice())?;
-    two_read(heap, Message { bytes })
+    two_read(rt, heap, Message { bytes })
 }
 
 #[test]
@@ -114,22 +101,14 @@ fn refused_memory_changes_nothing(rt: HostRuntime) -> Result<(), Fail> {
     let (mut new, mut both, mut last) = (false, false, None);
     for size in 4..64 {
         let heap = LocalHeap::new(rt.alloc(), size * 16)?;
-        let Ok(refused) = run(&heap) else { continue };
-        assert!(rt; refused.is_right, "{size}");
-        new |= refused.new;
-        both |= refused.grow && refused.read;
-        last = Some(refused);
+        let Ok(made) = run(&rt, &heap) else { continue };
+        new |= made.is_none();
+        both |= made == Some((false, false));
+        last = made;
     }
     assert!(rt; new, "new");
     assert!(rt; both, "grow and read");
-    assert!(rt;
-        last == Some(Refused {
-            new: false,
-            grow: false,
-            read: false,
-            is_right: true
-        })
-    );
+    assert!(rt; last == Some((true, true)));
     Ok(())
 }
 
