@@ -1,6 +1,6 @@
 //! Keys and numbers of a few receivers.
 use bcast_store::cursors::Cursors;
-use std::alloc::{AllocError, Global};
+use std::alloc::AllocError;
 use std::test::Fail;
 
 // A call, and what it must return.
@@ -47,12 +47,7 @@ fn numbers_stand_under_their_keys(rt: HostRuntime) -> Result<(), Fail> {
     for (index, step) in STEPS.iter().enumerate() {
         assert!(rt; is_right(&mut cursors, *step)?, "step {index}");
     }
-    assert!(rt; has_entries(&cursors, rt.alloc())?);
+    let entries = cursors.entries(rt.alloc())?;
+    assert!(rt; entries.as_slice() == [(0, 9), (1, 8)].as_slice());
     Ok(())
-}
-
-// Whether the entries are those after the last step.
-fn has_entries(cursors: &Cursors, alloc: Global) -> Result<bool, AllocError> {
-    let entries = cursors.entries(alloc)?;
-    Ok(entries.as_slice() == [(0, 9), (1, 8)].as_slice())
 }

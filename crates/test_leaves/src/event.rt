@@ -190,10 +190,7 @@ fn first_wrong(alloc: Global, steps: &[Step]) -> Result<Option<usize>, AllocErro
 #[test]
 fn notices_are_called_in_their_order(rt: HostRuntime) -> Result<(), Fail> {
     let tables = [
-        (
-            "each newly told one is called once, front first",
-            FRONT_FIRST,
-        ),
+        ("each newly told is called once, front first", FRONT_FIRST),
         ("a told one that gives up tells the next", GIVES_UP),
         ("the last notice that was made is called", OTHER_NOTICES),
         ("listeners leave in any order", ANY_ORDER),
@@ -236,13 +233,9 @@ fn stays<A: Allocator + Copy>(alloc: A, refused: Id) -> Result<bool, AllocError>
 #[test]
 fn a_refused_reserve_changes_nothing(rt: HostRuntime) -> Result<(), Fail> {
     let heap = LocalHeap::new(rt.alloc(), 1 << 12)?;
-    assert!(rt;
-        stays(&heap, (1 << 12, Kind::Stream))?,
-        "more than the heap has"
-    );
-    assert!(rt;
-        stays(&heap, (usize::MAX, Kind::Future))?,
-        "a number that doesn't fit"
-    );
+    let is_unchanged = stays(&heap, (1 << 12, Kind::Stream))?;
+    assert!(rt; is_unchanged, "more than the heap has");
+    let is_unchanged = stays(&heap, (usize::MAX, Kind::Future))?;
+    assert!(rt; is_unchanged, "a number that doesn't fit");
     Ok(())
 }

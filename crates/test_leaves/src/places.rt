@@ -1,8 +1,7 @@
 //! A few places.
 use bcast_waiting::places::Places;
 use linked_list_allocator::LocalHeap;
-use std::alloc::{AllocError, Allocator, Global};
-use std::process::Abort;
+use std::alloc::{AllocError, Allocator};
 use std::test::Fail;
 
 // A call, and what it must return.
@@ -44,14 +43,9 @@ fn a_place_is_given_again(rt: HostRuntime) -> Result<(), Fail> {
     for (index, step) in STEPS.iter().enumerate() {
         assert!(rt; is_right(&mut places, *step)?, "step {index}");
     }
-    assert!(rt; has_items(&places, rt.alloc())?);
+    let items = places.items(rt.alloc())?;
+    assert!(rt; items.as_slice() == [0, 1].as_slice());
     Ok(())
-}
-
-// Whether the places in use are those after the last step.
-fn has_items(places: &Places, alloc: Global) -> Result<bool, AllocError> {
-    let items = places.items(alloc)?;
-    Ok(items.as_slice() == [0, 1].as_slice())
 }
 
 // Adds places until one is refused. Returns how many there are, if that is as many as were added.

@@ -83,10 +83,8 @@ fn keys_too_great_are_refused(rt: HostRuntime) -> Result<(), Fail> {
     let rows = [("the greatest", usize::MAX), ("its future", usize::MAX / 2)];
     for (name, key) in rows {
         let mut receives = Receives::new(rt.alloc());
-        assert!(rt;
-            receives.reserve_for((key, Kind::Future)).is_err(),
-            "{name}"
-        );
+        let is_refused = receives.reserve_for((key, Kind::Future)).is_err();
+        assert!(rt; is_refused, "{name}");
     }
     Ok(())
 }

@@ -80,11 +80,8 @@ impl<S: Tried> Played<S> {
 
     // The key of a receiver, if there is one.
     fn key(&self, receiver: usize) -> Option<usize> {
-        let count = self.keys.len();
-        if count == 0 {
-            return None;
-        }
-        Some(self.keys[receiver % count])
+        let index = receiver.checked_rem(self.keys.len())?;
+        self.keys.get(index).copied()
     }
 
     // The cursor of a receiver, if there is one.

@@ -22,8 +22,7 @@ pub(super) fn read<T: Clone + Drop, A: Allocator + Copy>(
     if number >= store.end() {
         return Ok(None);
     }
-    let msg = store.read(key, number)?;
-    Ok(Some(msg))
+    Ok(Some(store.read(key, number)?))
 }
 
 impl Tried for Store<u8> {
@@ -78,8 +77,7 @@ impl Tried for Store<u8> {
         if cursor > self.end() {
             return Ok(None);
         }
-        let key = self.add(cursor)?;
-        Ok(Some(key))
+        Ok(Some(self.add(cursor)?))
     }
 
     fn try_remove(&mut self, key: usize) -> bool {

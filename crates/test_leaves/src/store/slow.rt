@@ -31,10 +31,7 @@ impl Plain {
 
     // The number of the first message, or of the next one if there is none.
     fn front(&self) -> u64 {
-        match self.messages.first() {
-            Some(message) => message.0,
-            None => self.next,
-        }
+        self.messages.first().map_or(self.next, |message| message.0)
     }
 
     // Sets the number that a reader reads next.
