@@ -2,7 +2,6 @@
 //! several calls.
 use crate::asked::{Asked, Channel, ask};
 use crate::channel::channel;
-use std::process::Abort;
 use std::test::Fail;
 
 /// `cursor`, `unread` and `missed` of a receiver.
