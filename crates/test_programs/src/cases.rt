@@ -103,14 +103,11 @@ fn write_listed<W: Write>(
 
 /// What `replay list` writes if `replay trace` wrote this: the lines that are not views, or nothing
 /// if a line was not a call.
-pub fn listed_from(alloc: Global, traced: &Played) -> io::Result<Vec<u8>> {
+fn listed_from(alloc: Global, traced: &Played) -> io::Result<Vec<u8>> {
     let mut kept = Vec::new(alloc);
     if traced.ending == Ending::Done {
-        for line in traced
-            .wrote
-            .as_slice()
-            .split_inclusive(|byte| *byte == b'\n')
-        {
+        let wrote = traced.wrote.as_slice();
+        for line in wrote.split_inclusive(|byte| *byte == b'\n') {
             if line.first() != Some(&b'=') {
                 kept.extend_from_slice(line)?;
             }

@@ -40,7 +40,7 @@ enum Outcome {
 }
 
 /// How many traces did the same in all ways, and how many calls they have.
-#[derive(Clone, Copy)]
+#[derive(Clone, Copy, Default)]
 pub struct Tally {
     traces: u64,
     calls: u64,
@@ -171,14 +171,6 @@ fn play<R: Wait + RandomSource + AllocGlobal>(
 }
 
 impl Tally {
-    /// Nothing was played yet.
-    pub fn new() -> Self {
-        Tally {
-            traces: 0,
-            calls: 0,
-        }
-    }
-
     /// Plays a trace in each way, and writes the first call that did something else, if one did.
     pub fn play<R: Wait + RandomSource + AllocGlobal, W: Write>(
         &mut self,

@@ -26,7 +26,7 @@ fn main(rt: HostRuntime) -> io::Result<()> {
     let mut text = String::new(rt.alloc());
     rt.stdin().read_to_string(&mut text)?;
     let mut output = rt.stdout();
-    let mut tally = Tally::new();
+    let mut tally = Tally::default();
     for case in text.as_str().split("# ").skip(1) {
         cases::run(&rt, rt.alloc(), case, &mut tally, &mut output)?;
     }

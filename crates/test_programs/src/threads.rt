@@ -28,12 +28,7 @@ pub fn run<R: Threads + Wait + Clone + Send + 'static, W: Write>(
     no_thread(rt, alloc, output)?;
     write_fails(rt, alloc, output)?;
     compared(alloc, output)?;
-    for its in [
-        Row::Order,
-        Row::NoMemory(100),
-        Row::NoMemory(0),
-        Row::Closed,
-    ] {
+    for its in [Row::Order, Row::Refused(100), Row::Refused(0), Row::Closed] {
         run_row(rt, alloc, its, output)?;
     }
     Ok(())
@@ -128,7 +123,7 @@ enum Row {
     /// A receiver that is refused memory closes the channel, whether it takes memory for so many
     /// messages at first or for one after another, and another receiver can still read what it had
     /// to read.
-    NoMemory(usize),
+    Refused(usize),
     /// A sender ends if the channel is closed.
     Closed,
 }
@@ -156,7 +151,7 @@ fn run_row_over<J: Channel, R: Wait + Clone, W: Write>(
     let (sender, receiver) = broadcast::<u64, R, J, _>(rt.clone()?, alloc, opened)?;
     match row {
         Row::Order => order(rt, alloc, sender, receiver, output),
-        Row::NoMemory(awaited) => no_memory(rt, alloc, sender, receiver, awaited, output),
+        Row::Refused(awaited) => no_memory(rt, alloc, sender, receiver, awaited, output),
         Row::Closed => closed(sender, receiver, output),
     }
 }
@@ -198,12 +193,9 @@ fn no_memory<J: Channel, P: HistoryPort<u64, J>, W: Write>(
     };
     let heap = LocalHeap::new(alloc, 64)?;
     let is_err = receive_all(rt, &heap, &mut receiver, awaited).is_err();
-    let is_closed = !other.close();
-    writeln!(
-        output,
-        "no memory {is_err}, closed {is_closed}, kept {}",
-        other.len()
-    )
+    let is_shut = !other.close();
+    let kept = other.len();
+    writeln!(output, "no memory {is_err}, closed {is_shut}, kept {kept}")
 }
 
 fn try_send<J: Channel, P: HistoryPort<u64, J>, W: Write>(

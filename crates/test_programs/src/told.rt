@@ -49,7 +49,7 @@ impl Noted {
     ) -> io::Result<()> {
         for (index, line) in calls.lines().enumerate() {
             self.run_line(alloc, line, wrote)?;
-            if self.is_any_told() {
+            if self.counts.iter().any(|count| count.get() > 0) {
                 write!(output, "-- line {} tells", index.saturating_add(2))?;
                 self.write_told(output)?;
                 output.write_all(b"\n")?;
@@ -66,10 +66,6 @@ impl Noted {
             }
         }
         Ok(())
-    }
-
-    fn is_any_told(&self) -> bool {
-        self.counts.iter().any(|count| count.get() > 0)
     }
 }
 

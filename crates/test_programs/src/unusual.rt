@@ -1,5 +1,5 @@
 //! Lines that a text file does not show, and when answers are written.
-use crate::play::{Played, Player, Text, Way, in_pieces};
+use crate::play::{Played, Player, Text, in_pieces};
 use crate::refused::refused;
 use crate::streams::NoBytes;
 use bcast_play::seeded_hub_script;
@@ -90,17 +90,11 @@ fn long_line<W: Write>(
 
 /// Plays three lines of six bytes, and writes how many writes were made for their answers.
 fn writes<W: Write>(alloc: Global, given: usize, output: &mut W) -> io::Result<()> {
-    let way = Way {
-        given,
-        taken: 100,
-        reads: u64::MAX,
-        writes: 100,
-    };
+    let mut way = in_pieces(given);
+    way.taken = 100;
+    way.writes = 100;
     let played = Text::new(alloc, Player::Script, b"cap 1\nclose\nclose\n").play(way);
     let made = 100u64.saturating_sub(played.writes);
-    writeln!(
-        output,
-        "in pieces of {given}: {made} -- {:?}",
-        played.ending
-    )
+    let ending = played.ending;
+    writeln!(output, "in pieces of {given}: {made} -- {ending:?}")
 }

@@ -137,10 +137,7 @@ fn waiting<P: Port<u64>>(
         (Call::AttemptSend(msg), Reply::AttemptSend(SendPoll::Ready(_))) => {
             Some(Reply::AttemptSend(SendPoll::Ready(port.send_waiting(&mut (), msg))))
         }
-        (Call::TryRecv(key), Reply::TryRecv(Ok(Ok(_)) | Err(_))) => {
-            Some(Reply::TryRecv(tried(port.receive_waiting(&mut (), key))))
-        }
-        (Call::TryRecv(key), Reply::TryRecv(Ok(Err(unread)))) if *unread != TryRecvError::Empty => {
+        (Call::TryRecv(key), Reply::TryRecv(got)) if *got != Ok(Err(TryRecvError::Empty)) => {
             Some(Reply::TryRecv(tried(port.receive_waiting(&mut (), key))))
         }
         (call, _) => typed(task, port, call),

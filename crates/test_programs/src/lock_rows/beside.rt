@@ -162,11 +162,8 @@ pub fn run<R: Threads + Wait + RandomSource + AllocGlobal + Clone + Send + 'stat
     output: &mut W,
 ) -> io::Result<()> {
     for case in CASES {
-        write!(
-            output,
-            "lock_rows beside a thread that waits for {}: ",
-            case.name
-        )?;
+        let name = case.name;
+        write!(output, "lock_rows beside a thread that waits for {name}: ")?;
         match play(rt, alloc, *case)? {
             None => output.write_all(b"the same\n")?,
             Some(part) => writeln!(output, "other {part:?}")?,
