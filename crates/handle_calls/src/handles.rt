@@ -29,8 +29,8 @@ impl<P: TimedPort<u64>, A: Allocator + Copy> Handles<P, A> {
 
 /// Adds a handle or a future that was made, with the next number, or returns why there is none.
 pub fn add<H: Drop>(
-    list: &mut Vec<Option<H>>,
     made: Result<H, HandleError>,
+    list: &mut Vec<Option<H>>,
 ) -> Result<Answer, Fault> {
     let made = match made {
         Ok(made) => made,
@@ -45,11 +45,7 @@ pub fn add<H: Drop>(
 
 /// Drops the handle or the future of this number.
 pub fn drop_at<H: Drop>(list: &mut Vec<Option<H>>, index: usize) -> Result<Answer, Fault> {
-    match list.get_mut(index) {
-        Some(slot) => {
-            *slot = None;
-            Ok(Answer::Done)
-        }
-        None => Err(Fault::NotACall),
-    }
+    let slot = list.get_mut(index).ok_or(Fault::NotACall)?;
+    *slot = None;
+    Ok(Answer::Done)
 }

@@ -97,7 +97,7 @@ impl<'a, P: TimedPort<u64>, A: Allocator + Copy> Held<'a, P, A> {
     fn begin_send(&mut self, msg: u64) -> Result<Answer, Fault> {
         let sender = self.sender.ok_or(Fault::NotACall)?;
         match sender.broadcast_direct(msg) {
-            Ok(send) => self.hold(HeldSend::Plain(send)),
+            Ok(send) => add(Ok(HeldSend::Plain(send)), &mut self.sends),
             Err(NoMemory(back)) => Ok(Answer::Unsent(back)),
         }
     }
@@ -105,13 +105,9 @@ impl<'a, P: TimedPort<u64>, A: Allocator + Copy> Held<'a, P, A> {
     fn begin_boxed_send(&mut self, msg: u64) -> Result<Answer, Fault> {
         let sender = self.sender.ok_or(Fault::NotACall)?;
         match sender.broadcast(msg) {
-            Ok(send) => self.hold(HeldSend::Boxed(send)),
+            Ok(send) => add(Ok(HeldSend::Boxed(send)), &mut self.sends),
             Err(NoMemory(back)) => Ok(Answer::Unsent(back)),
         }
-    }
-
-    fn hold(&mut self, send: HeldSend<'a, P, A>) -> Result<Answer, Fault> {
-        add(&mut self.sends, Ok(send))
     }
 
     /// Polls the send of this number.
@@ -125,9 +121,8 @@ impl<'a, P: TimedPort<u64>, A: Allocator + Copy> Held<'a, P, A> {
 
     fn begin_recv(&mut self) -> Option<Answer> {
         let receiver = self.receiver.take()?;
-        self.recvs
-            .push(HeldRecv::Plain(receiver.recv_direct()))
-            .ok()?;
+        let recv = HeldRecv::Plain(receiver.recv_direct());
+        self.recvs.push(recv).ok()?;
         Some(Answer::Made(0))
     }
 

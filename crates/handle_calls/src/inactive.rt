@@ -14,14 +14,8 @@ impl<P: TimedPort<u64>, A: Allocator + Copy> Handles<P, A> {
             return Err(Fault::NotACall);
         };
         match request.method {
-            "clone" => {
-                let made = inactive.clone();
-                add(&mut self.inactive, made)
-            }
-            "activate_cloned" => {
-                let made = inactive.activate_cloned();
-                add(&mut self.receivers, made)
-            }
+            "clone" => add(inactive.clone(), &mut self.inactive),
+            "activate_cloned" => add(inactive.activate_cloned(), &mut self.receivers),
             "activate" => self.activate(request.index),
             "drop" => drop_at(&mut self.inactive, request.index),
             _ => by_handle(inactive, request).ok_or(Fault::NotACall),
@@ -29,14 +23,10 @@ impl<P: TimedPort<u64>, A: Allocator + Copy> Handles<P, A> {
     }
 
     fn activate(&mut self, index: usize) -> Result<Answer, Fault> {
-        let Some(slot) = self.inactive.get_mut(index) else {
-            return Err(Fault::NotACall);
-        };
-        let Some(inactive) = slot.take() else {
-            return Err(Fault::NotACall);
-        };
+        let slot = self.inactive.get_mut(index).ok_or(Fault::NotACall)?;
+        let inactive = slot.take().ok_or(Fault::NotACall)?;
         match inactive.activate() {
-            Ok(made) => add(&mut self.receivers, Ok(made)),
+            Ok(made) => add(Ok(made), &mut self.receivers),
             Err((back, error)) => {
                 *slot = Some(back);
                 Ok(Answer::of_error(error))

@@ -83,18 +83,9 @@ impl<P: TimedPort<u64>, A: Allocator + Copy> Handles<P, A> {
             return Err(Fault::NotACall);
         };
         match request.method {
-            "clone" => {
-                let made = receiver.clone();
-                add(&mut self.receivers, made)
-            }
-            "new_receiver" => {
-                let made = receiver.new_receiver();
-                add(&mut self.receivers, made)
-            }
-            "new_sender" => {
-                let made = receiver.new_sender();
-                add(&mut self.senders, made)
-            }
+            "clone" => add(receiver.clone(), &mut self.receivers),
+            "new_receiver" => add(receiver.new_receiver(), &mut self.receivers),
+            "new_sender" => add(receiver.new_sender(), &mut self.senders),
             "deactivate" => self.deactivate(request.index),
             "drop" => drop_at(&mut self.receivers, request.index),
             _ => {
@@ -119,14 +110,10 @@ impl<P: TimedPort<u64>, A: Allocator + Copy> Handles<P, A> {
     }
 
     fn deactivate(&mut self, index: usize) -> Result<Answer, Fault> {
-        let Some(slot) = self.receivers.get_mut(index) else {
-            return Err(Fault::NotACall);
-        };
-        let Some(receiver) = slot.take() else {
-            return Err(Fault::NotACall);
-        };
+        let slot = self.receivers.get_mut(index).ok_or(Fault::NotACall)?;
+        let receiver = slot.take().ok_or(Fault::NotACall)?;
         match receiver.deactivate() {
-            Ok(made) => add(&mut self.inactive, Ok(made)),
+            Ok(made) => add(Ok(made), &mut self.inactive),
             Err((back, error)) => {
                 *slot = Some(back);
                 Ok(Answer::of_error(error))

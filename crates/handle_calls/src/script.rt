@@ -95,8 +95,8 @@ fn play_handles<P: TimedPort<u64>, W: Write>(
         Futures::Receive => makers.receiver = receiver.clone().ok(),
     }
     let mut handles = Handles::new(alloc, tasks);
-    add(&mut handles.senders, Ok(sender))?;
-    add(&mut handles.receivers, Ok(receiver))?;
+    add(Ok(sender), &mut handles.senders)?;
+    add(Ok(receiver), &mut handles.receivers)?;
     let mut held = Held::new(alloc, &mut makers);
     play_lines(None, &mut handles, &mut held, script, output)
 }
@@ -116,11 +116,11 @@ fn play_recorded<A: Allocator + Copy, W: Write>(
     };
     let mut handles = Handles::new(alloc, tasks);
     let sender = Sender::from_port(recorder.port(memory)?, memory);
-    add(&mut handles.senders, Ok(sender))?;
+    add(Ok(sender), &mut handles.senders)?;
     let receiver = Receiver::from_port(recorder.port(memory)?, 3, memory);
-    add(&mut handles.receivers, Ok(receiver))?;
+    add(Ok(receiver), &mut handles.receivers)?;
     let inactive = InactiveReceiver::from_port(recorder.port(memory)?, memory);
-    add(&mut handles.inactive, Ok(inactive))?;
+    add(Ok(inactive), &mut handles.inactive)?;
     let mut held = Held::new(alloc, &mut makers);
     play_lines(Some(&recorder), &mut handles, &mut held, script, output)
 }

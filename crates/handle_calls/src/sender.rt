@@ -32,14 +32,8 @@ impl<P: TimedPort<u64>, A: Allocator + Copy> Handles<P, A> {
             return Err(Fault::NotACall);
         };
         match request.method {
-            "clone" => {
-                let made = sender.clone();
-                add(&mut self.senders, made)
-            }
-            "new_receiver" => {
-                let made = sender.new_receiver();
-                add(&mut self.receivers, made)
-            }
+            "clone" => add(sender.clone(), &mut self.senders),
+            "new_receiver" => add(sender.new_receiver(), &mut self.receivers),
             "drop" => drop_at(&mut self.senders, request.index),
             _ => answer(sender, request).ok_or(Fault::NotACall),
         }
