@@ -37,10 +37,8 @@ pub fn add<H: Drop>(
         Err(error) => return Ok(Answer::of_error(error)),
     };
     let number = list.len();
-    match list.push(Some(made)) {
-        Ok(()) => Ok(Answer::Made(number)),
-        Err(_) => Err(Fault::NoMemory),
-    }
+    list.push(Some(made)).ok().ok_or(Fault::NoMemory)?;
+    Ok(Answer::Made(number))
 }
 
 /// Drops the handle or the future of this number.

@@ -98,9 +98,7 @@ impl<P: TimedPort<u64>, A: Allocator + Copy> Handles<P, A> {
     /// Polls a receiver in a task.
     pub fn poll_receiver(&mut self, request: Request<'_>) -> Option<Answer> {
         let task = self.tasks.get(request.argument? as usize)?;
-        let Some(Some(receiver)) = self.receivers.get_mut(request.index) else {
-            return None;
-        };
+        let receiver = self.receivers.get_mut(request.index)?.as_mut()?;
         match request.method {
             "poll_recv" => Some(poll_recv(task, receiver)),
             "poll_next" => Some(poll_next(task, receiver)),

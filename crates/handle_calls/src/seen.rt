@@ -36,34 +36,30 @@ impl Seen {
     }
 }
 
-/// What the handles so far have seen, and one more. `Done` stands for no handle.
-fn agreed(before: Answer, seen: Seen) -> Answer {
-    match before {
-        Answer::Done => Answer::All(seen),
-        Answer::All(before) if before == seen => Answer::All(seen),
-        _ => Answer::Differs,
+/// What the handles so far have seen, and those of a list. `Done` stands for no handle.
+fn agreed<P: TimedPort<u64>, K: Role, A: Allocator + Copy>(
+    before: Answer,
+    handles: &[Option<Handle<u64, P, K, A>>],
+) -> Answer {
+    let mut answer = before;
+    for handle in handles {
+        if let Some(handle) = handle {
+            let seen = Seen::by(handle);
+            answer = match answer {
+                Answer::Done => Answer::All(seen),
+                Answer::All(before) if before == seen => Answer::All(seen),
+                _ => Answer::Differs,
+            };
+        }
     }
+    answer
 }
 
 impl<P: TimedPort<u64>, A: Allocator + Copy> Handles<P, A> {
     /// What each handle sees of the channel, or that they don't all see the same.
     pub fn seen(&self) -> Answer {
-        let mut answer = Answer::Done;
-        for sender in &self.senders {
-            if let Some(sender) = sender {
-                answer = agreed(answer, Seen::by(sender));
-            }
-        }
-        for receiver in &self.receivers {
-            if let Some(receiver) = receiver {
-                answer = agreed(answer, Seen::by(receiver));
-            }
-        }
-        for inactive in &self.inactive {
-            if let Some(inactive) = inactive {
-                answer = agreed(answer, Seen::by(inactive));
-            }
-        }
-        answer
+        let by_senders = agreed(Answer::Done, self.senders.as_slice());
+        let by_receivers = agreed(by_senders, self.receivers.as_slice());
+        agreed(by_receivers, self.inactive.as_slice())
     }
 }

@@ -52,9 +52,7 @@ pub fn tasks_of<R: RandomSource + AllocGlobal>(
     let mut tasks = Vec::new(alloc);
     for _ in 0..4 {
         let task = MockTask::new(rt)?;
-        if tasks.push(task).is_err() {
-            return Err(Fault::NoMemory);
-        }
+        tasks.push(task).ok().ok_or(Fault::NoMemory)?;
     }
     Ok(tasks)
 }

@@ -2,7 +2,7 @@
 use crate::answer::Answer;
 use crate::line::{Capacity, Request};
 use async_broadcast::{Handle, Role, TimedPort};
-use std::alloc::{AllocError, Allocator};
+use std::alloc::Allocator;
 
 /// Makes a call that every handle has. None: it is not one, or it sets the capacity 0.
 pub fn by_handle<P: TimedPort<u64>, K: Role, A: Allocator + Copy>(
@@ -43,7 +43,8 @@ fn with_number<P: TimedPort<u64>, K: Role, A: Allocator + Copy>(
     match method {
         "set_capacity" => {
             let capacity = Capacity::new(number)?;
-            Some(of_set(handle.set_capacity(capacity.count)))
+            let set = handle.set_capacity(capacity.count);
+            Some(set.map_or(Answer::NoMemory, |_| Answer::Done))
         }
         "set_overflow" => {
             handle.set_overflow(number != 0);
@@ -54,12 +55,5 @@ fn with_number<P: TimedPort<u64>, K: Role, A: Allocator + Copy>(
             Some(Answer::Done)
         }
         _ => None,
-    }
-}
-
-fn of_set(answer: Result<(), AllocError>) -> Answer {
-    match answer {
-        Ok(()) => Answer::Done,
-        Err(_) => Answer::NoMemory,
     }
 }

@@ -122,10 +122,8 @@ fn begun(outcome: Outcome) -> Result<usize, AllocError> {
 }
 
 fn grown(outcome: Outcome) -> Result<(), AllocError> {
-    match outcome {
-        Outcome::Grant | Outcome::Wait => Ok(()),
-        _ => Err(AllocError),
-    }
+    begun(outcome)?;
+    Ok(())
 }
 
 fn received(outcome: Outcome) -> Result<Result<u64, TryRecvError>, AllocError> {
