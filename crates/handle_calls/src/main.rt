@@ -32,15 +32,16 @@ mod settings;
 
 use bcast_text::ending::{Ending, report};
 use script::play;
-use std::io::Read;
+use std::io::{ErrorKind, Read};
 use std::process::ExitCode;
 
 fn main(rt: HostRuntime) -> ExitCode {
     let mut text = String::new(rt.alloc());
-    let ending = if rt.stdin().read_to_string(&mut text).is_ok() {
-        play(&rt, rt.alloc(), text.as_str(), rt.stdout())
-    } else {
-        Ending::InputFailed
+    let read = rt.stdin().read_to_string(&mut text);
+    let ending = match read {
+        Ok(_) => play(&rt, rt.alloc(), text.as_str(), rt.stdout()),
+        Err(error) if error.kind() == ErrorKind::OutOfMemory => Ending::NoMemory,
+        Err(_) => Ending::InputFailed,
     };
     report(ending, &mut rt.stderr())
 }
