@@ -68,10 +68,8 @@ fn watchers_find_the_latest_settings(rt: HostRuntime) -> Result<(), Fail> {
         let mut watchers = Vec::new(rt.alloc());
         watchers.push(first)?;
         for (index, step) in steps.iter().enumerate() {
-            assert!(rt;
-                goes_so(&mut config, &mut watchers, *step) == Some(true),
-                "{name}: step {index}"
-            );
+            let goes_so = goes_so(&mut config, &mut watchers, *step);
+            assert!(rt; goes_so == Some(true), "{name}: step {index}");
         }
     }
     Ok(())

@@ -85,10 +85,8 @@ fn subscribers_get_their_events(rt: HostRuntime) -> Result<(), Fail> {
         let mut hub = EventHub::new(rt.alloc(), 1).ok().ok_or("no hub")?;
         let mut subscribers = Vec::new(rt.alloc());
         for (index, step) in steps.iter().enumerate() {
-            assert!(rt;
-                goes_so(&mut hub, &mut subscribers, *step) == Some(true),
-                "{name}: step {index}"
-            );
+            let goes_so = goes_so(&mut hub, &mut subscribers, *step);
+            assert!(rt; goes_so == Some(true), "{name}: step {index}");
         }
     }
     Ok(())

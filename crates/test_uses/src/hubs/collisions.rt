@@ -72,13 +72,9 @@ fn colliding_names_make_no_seeded_hub_slow(rt: HostRuntime) -> Result<(), Fail> 
     let other = time_to_open(&rt, Hub::new(alloc), OTHER)?;
     let seeded = Hub::with_hasher(alloc, RandomState::new(&rt)?);
     let seeded = time_to_open(&rt, seeded, COLLIDING)?;
-    assert!(rt;
-        seeded.saturating_mul(4) < attacked,
-        "{seeded}, attacked {attacked}"
-    );
-    assert!(rt;
-        seeded < other.saturating_mul(4),
-        "{seeded}, other names {other}"
-    );
+    let is_faster = seeded.saturating_mul(4) < attacked;
+    assert!(rt; is_faster, "{seeded}, attacked {attacked}");
+    let is_like_others = seeded < other.saturating_mul(4);
+    assert!(rt; is_like_others, "{seeded}, other names {other}");
     Ok(())
 }

@@ -73,12 +73,8 @@ fn runs<A: Allocator + Copy>(rt: &impl Abort, alloc: A) -> Option<bool> {
             Some(true)
         }
         Err(requests) => {
-            assert!(rt;
-                matches!(
-                    requests.as_slice(),
-                    [Request::Publish(_, 7), Request::Close(_)]
-                )
-            );
+            let back = requests.as_slice();
+            assert!(rt; matches!(back, [Request::Publish(_, 7), Request::Close(_)]));
             Some(false)
         }
     }

@@ -25,10 +25,8 @@ fn ask_each(rt: &impl Abort, alloc: Global, name: &str, rows: &[Row]) -> Result<
     let mut keys = Vec::new(alloc);
     for (index, (topic, asked, expected)) in rows.iter().enumerate() {
         let answer = hub.ask(request(alloc, keys.as_slice(), topic, *asked)?);
-        assert!(rt;
-            is_answer(&mut keys, &answer, *expected)?,
-            "{name}: row {index}"
-        );
+        let is_so = is_answer(&mut keys, &answer, *expected)?;
+        assert!(rt; is_so, "{name}: row {index}");
     }
     Ok(keys)
 }
@@ -45,15 +43,11 @@ fn ask_all(
         return Err(Fail::from("the list was refused"));
     };
     let mut again = Vec::new(alloc);
-    assert!(rt;
-        answers.len() == rows.len(),
-        "{name}: as many answers as rows"
-    );
+    let is_whole = answers.len() == rows.len();
+    assert!(rt; is_whole, "{name}: as many answers as rows");
     for (index, (answer, (_, _, expected))) in answers.iter().zip(rows).enumerate() {
-        assert!(rt;
-            is_answer(&mut again, answer, *expected)?,
-            "{name}: row {index} of the list"
-        );
+        let is_so = is_answer(&mut again, answer, *expected)?;
+        assert!(rt; is_so, "{name}: row {index} of the list");
     }
     assert!(rt; again.as_slice() == keys, "{name}: the same keys");
     Ok(())
