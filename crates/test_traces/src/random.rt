@@ -220,29 +220,20 @@ fn random_calls_are_read_back(rt: HostRuntime) -> io::Result<()> {
 fn random_traces_are_played_again(rt: HostRuntime) -> io::Result<()> {
     let alloc = rt.alloc();
     for number in 0..TRACES {
-        let whole = played(
-            alloc,
-            Command::Trace,
-            write_trace(alloc, number)?.as_slice(),
-        )?;
+        let bare = write_trace(alloc, number)?;
+        let whole = played(alloc, Command::Trace, bare.as_slice())?;
         let again = played(alloc, Command::Trace, whole.as_slice())?;
-        assert!(rt;
-            again.as_slice() == whole.as_slice(),
-            "trace {number}, again"
-        );
+        let is_same = again.as_slice() == whole.as_slice();
+        assert!(rt; is_same, "trace {number}, again");
         let text = str::from_utf8(whole.as_slice()).unwrap_or("");
         let listed = without_views(alloc, text)?;
         let list = played(alloc, Command::List, whole.as_slice())?;
-        assert!(rt;
-            list.as_slice() == listed.as_slice(),
-            "trace {number}, as a list"
-        );
+        let is_listed = list.as_slice() == listed.as_slice();
+        assert!(rt; is_listed, "trace {number}, as a list");
         let first = text.lines().next().unwrap_or("");
         let wanted = answered(alloc, number, first)?;
-        assert!(rt;
-            wanted.as_slice() == listed.as_slice(),
-            "trace {number}, its replies"
-        );
+        let is_answered = wanted.as_slice() == listed.as_slice();
+        assert!(rt; is_answered, "trace {number}, its replies");
     }
     Ok(())
 }

@@ -146,14 +146,9 @@ fn lines_that_open_no_channel(rt: HostRuntime) -> io::Result<()> {
     let alloc = rt.alloc();
     for line in NO_OPENING {
         let text = format!(in alloc; "{line}\nLen\n")?;
+        let text = text.as_str().as_bytes();
         for command in [Command::Trace, Command::List] {
-            let told = is_refused(
-                alloc,
-                command,
-                text.as_str().as_bytes(),
-                "line 1: not a call",
-                "",
-            )?;
+            let told = is_refused(alloc, command, text, "line 1: not a call", "")?;
             assert!(rt; told, "{line:?}");
         }
     }

@@ -179,35 +179,28 @@ fn setting_row(index: usize) -> Option<Row> {
     })
 }
 
-/// Fails the test unless the reply is written so, alone and after its call.
-fn expect(rt: &impl Abort, alloc: Global, row: &Row) -> io::Result<()> {
-    let (text, reply) = row;
+/// Fails the test unless there is a row of this index, and its reply is written so, alone and after
+/// its call.
+fn expect(rt: &impl Abort, alloc: Global, index: usize, row: &Option<Row>) -> io::Result<()> {
+    assert!(rt; row.is_some(), "row {index}");
+    let Some((text, reply)) = row else {
+        return Ok(());
+    };
     let mut wrote = Vec::new(alloc);
     write_reply(reply, &mut wrote)?;
     assert!(rt; wrote.as_slice() == text.as_bytes(), "{text}");
     let mut line = Vec::new(alloc);
     write_answer("its call", reply, &mut line)?;
     let wanted = format!(in alloc; "its call -> {text}\n")?;
-    assert!(rt;
-        line.as_slice() == wanted.as_str().as_bytes(),
-        "the line of {text}"
-    );
-    Ok(())
-}
-
-/// Fails the test unless there is a row of this index, and its reply is written so.
-fn expect_row(rt: &impl Abort, alloc: Global, index: usize, row: Option<Row>) -> io::Result<()> {
-    match row {
-        Some(row) => expect(rt, alloc, &row)?,
-        None => assert!(rt; false, "row {index}"),
-    }
+    let is_line = line.as_slice() == wanted.as_str().as_bytes();
+    assert!(rt; is_line, "the line of {text}");
     Ok(())
 }
 
 #[test]
 fn sending_replies(rt: HostRuntime) -> io::Result<()> {
     for index in 0..20 {
-        expect_row(&rt, rt.alloc(), index, sending_row(rt.alloc(), index)?)?;
+        expect(&rt, rt.alloc(), index, &sending_row(rt.alloc(), index)?)?;
     }
     Ok(())
 }
@@ -215,7 +208,7 @@ fn sending_replies(rt: HostRuntime) -> io::Result<()> {
 #[test]
 fn receiving_replies(rt: HostRuntime) -> io::Result<()> {
     for index in 0..20 {
-        expect_row(&rt, rt.alloc(), index, receiving_row(index))?;
+        expect(&rt, rt.alloc(), index, &receiving_row(index))?;
     }
     Ok(())
 }
@@ -223,7 +216,7 @@ fn receiving_replies(rt: HostRuntime) -> io::Result<()> {
 #[test]
 fn handle_replies(rt: HostRuntime) -> io::Result<()> {
     for index in 0..31 {
-        expect_row(&rt, rt.alloc(), index, handle_row(index))?;
+        expect(&rt, rt.alloc(), index, &handle_row(index))?;
     }
     Ok(())
 }
@@ -231,7 +224,7 @@ fn handle_replies(rt: HostRuntime) -> io::Result<()> {
 #[test]
 fn setting_replies(rt: HostRuntime) -> io::Result<()> {
     for index in 0..24 {
-        expect_row(&rt, rt.alloc(), index, setting_row(index))?;
+        expect(&rt, rt.alloc(), index, &setting_row(index))?;
     }
     Ok(())
 }
