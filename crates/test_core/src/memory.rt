@@ -44,22 +44,16 @@ fn a_channel_and_its_receivers_are_refused_in_turn(rt: HostRuntime) -> Result<()
     Ok(())
 }
 
-/// Whether these are the two calls of a run.
-fn are_ours(calls: &[Call<u64>]) -> bool {
-    matches!(calls, [Call::TryBroadcast(7), Call::Close])
-}
-
 /// Whether there was memory for a run of two calls. If not, they were returned. None: there is no
 /// memory for the calls.
 fn runs<A: Allocator + Copy>(rt: &impl Abort, alloc: A) -> Option<bool> {
     let calls = vec![in alloc; Call::TryBroadcast(7), Call::Close].ok()?;
     let made = run(alloc, 1, 0, calls);
-    assert!(rt;
-        match &made {
-            Ok(made) => made.channel.is_closed() && made.replies.len() == 2,
-            Err(calls) => are_ours(calls.as_slice()),
-        }
-    );
+    let is_right = match &made {
+        Ok(made) => made.channel.is_closed() && made.replies.len() == 2,
+        Err(calls) => matches!(calls.as_slice(), [Call::TryBroadcast(7), Call::Close]),
+    };
+    assert!(rt; is_right);
     Some(made.is_ok())
 }
 

@@ -77,9 +77,7 @@ fn take_all(rt: &impl Abort, alloc: Global, inner: &mut Inner<Heavy<'_>, Silent>
         if count == 0 && taken < MESSAGES {
             assert!(rt; inner.try_recv(0).is_err());
         }
-        if first.is_none() {
-            first = Some(count);
-        }
+        first = first.or(Some(count));
     }
     let first = first.unwrap_or(0);
     assert!(rt; taken == if first == 0 { 0 } else { MESSAGES });
