@@ -179,10 +179,8 @@ impl<A: Allocator + Copy> PortFor<u64, ()> for RecordingPort<A> {
             return None;
         }
         let state = self.state.clone().ok()?;
-        Some(RecordingPort {
-            state,
-            alloc: self.alloc,
-        })
+        let alloc = self.alloc;
+        Some(RecordingPort { state, alloc })
     }
 }
 

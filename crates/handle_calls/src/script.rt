@@ -193,16 +193,13 @@ pub fn play<S: Wait + Clock + RandomSource + AllocGlobal, W: Write + Drop>(
     let Ok(mut output) = BufWriter::new(alloc, output) else {
         return Ending::NoMemory;
     };
-    let mut script = Script {
-        lines: text.lines(),
-        number: 0,
-    };
+    let lines = text.lines();
+    let mut script = Script { lines, number: 0 };
     let ended = play_script(rt, alloc, &mut script, &mut output);
     match (output.flush(), ended) {
-        (Err(_), _) => Ending::OutputFailed,
+        (Err(_), _) | (_, Err(Fault::OutputFailed)) => Ending::OutputFailed,
         (_, Ok(())) => Ending::Done,
         (_, Err(Fault::NoMemory)) => Ending::NoMemory,
-        (_, Err(Fault::OutputFailed)) => Ending::OutputFailed,
         (_, Err(Fault::NotACall)) => Ending::NotACall(script.number),
     }
 }

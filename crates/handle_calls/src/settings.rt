@@ -43,17 +43,13 @@ fn with_number<P: TimedPort<u64>, K: Role, A: Allocator + Copy>(
     match method {
         "set_capacity" => {
             let capacity = Capacity::new(number)?;
-            let set = handle.set_capacity(capacity.count);
-            Some(set.map_or(Answer::NoMemory, |_| Answer::Done))
+            if handle.set_capacity(capacity.count).is_err() {
+                return Some(Answer::NoMemory);
+            }
         }
-        "set_overflow" => {
-            handle.set_overflow(number != 0);
-            Some(Answer::Done)
-        }
-        "set_await_active" => {
-            handle.set_await_active(number != 0);
-            Some(Answer::Done)
-        }
-        _ => None,
+        "set_overflow" => handle.set_overflow(number != 0),
+        "set_await_active" => handle.set_await_active(number != 0),
+        _ => return None,
     }
+    Some(Answer::Done)
 }
