@@ -23,10 +23,8 @@ impl<'a> Heavy<'a> {
 impl<'a> Clone for Heavy<'a> {
     fn clone(&self) -> Result<Heavy<'a>, AllocError> {
         let bytes = self.bytes.clone()?;
-        Ok(Heavy {
-            number: self.number,
-            bytes,
-        })
+        let number = self.number;
+        Ok(Heavy { number, bytes })
     }
 }
 

@@ -84,10 +84,8 @@ pub fn write_notices<W: Write>(
         return output.write_all(b"-- no channel\n");
     };
     let (inner, _) = Inner::starting_at(alloc, opening.capacity, opening.first)?;
-    let mut noted = Noted {
-        inner,
-        counts: Vec::new(alloc),
-    };
+    let counts = Vec::new(alloc);
+    let mut noted = Noted { inner, counts };
     let mut wrote = Vec::new(alloc);
     writeln!(&mut wrote, "{first}")?;
     noted.run_lines(alloc, calls, &mut wrote, output)?;
