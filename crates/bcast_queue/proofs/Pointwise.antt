@@ -2,9 +2,8 @@
 use Rattle.std.proofs.Common.{◌≡◌, ℕ, zero, suc, ◌+◌, ◌-◌, ◌<◌, ◌≤◌, cond, eqb, nat_le, List, [], ◌∷◌, length, get_or, count_by, refl, ap, arith}
 use Rattle.std.proofs.lemmas.Grind.{common_steps}
 use Rattle.std.proofs.lemmas.List.{length-map, get_or-map}
-use Rattle.std.proofs.lemmas.List.Sums.{sum_by-cons}
 use Rattle.bcast_queue.specs.Queue.{one_more_from, one_fewer_from}
-use Rattle.bcast_queue.proofs.Front.{nobody}
+use Rattle.bcast_queue.proofs.Front.{nobody, count_head}
 
 pub length-one_fewer_from : (i : ℕ) (ns : List ℕ) → length (one_fewer_from i ns) ≡ length ns
 length-one_fewer_from zero ns = length-map ns (λ n. n - 1)
@@ -25,20 +24,17 @@ get_or-one_fewer_from (suc i) (n ∷ ns) (suc j) h some =
     let e = get_or-one_fewer_from i ns j (omega arith) (λ l. some (omega arith)) in
     grind (arith, common_steps, e)
 
-count_cons : (n : ℕ) (ns : List ℕ) → count_by nobody (n ∷ ns) ≡ cond (eqb n 0) 1 0 + count_by nobody ns
-count_cons n ns = sum_by-cons (λ m. cond (nobody m) 1 0) n ns
-
 -- if none is 0 from m on, at most m are
 few_gone : (m : ℕ) (ns : List ℕ) → ((i : ℕ) → m ≤ i → i < length ns → 1 ≤ get_or ns i 0) → count_by nobody ns ≤ m
 few_gone m [] some = omega arith
 few_gone zero (n ∷ ns) some =
     let h : 1 ≤ n = some 0 (omega arith) (omega arith) in
     let r = few_gone zero ns (λ i l b. some (suc i) (omega arith) (omega arith)) in
-    let e = count_cons n ns in
+    let e = count_head n ns (eqb n 0) refl in
     grind (arith, common_steps, h, r, e)
 few_gone (suc m) (n ∷ ns) some =
     let r = few_gone m ns (λ i l b. some (suc i) (omega arith) (omega arith)) in
-    let e = count_cons n ns in
+    let e = count_head n ns (eqb n 0) refl in
     grind (arith, common_steps, r, e)
 
 -- and if m are, they are those before m
@@ -47,9 +43,9 @@ gone_before zero ns many some i h = absurd (omega arith)
 gone_before (suc m) [] many some i h = absurd (omega arith)
 gone_before (suc m) (n ∷ ns) many some zero h =
     let r = few_gone m ns (λ i l b. some (suc i) (omega arith) (omega arith)) in
-    let e = count_cons n ns in
+    let e = count_head n ns (eqb n 0) refl in
     grind (arith, common_steps, r, e, many)
 gone_before (suc m) (n ∷ ns) many some (suc i) h =
-    let e = count_cons n ns in
+    let e = count_head n ns (eqb n 0) refl in
     let enough : m ≤ count_by nobody ns = grind (arith, common_steps, e, many) in
     gone_before m ns enough (λ i l b. some (suc i) (omega arith) (omega arith)) i (omega arith)
