@@ -1,8 +1,8 @@
 //! The messages that some receiver has still to read, in the order of their numbers.
 #![tactic(auto)]
 
-ghost use Rattle.std.specs.Prelude.{◌≡◌, ◌+◌, ◌^◌, ◌<◌, ◌≤◌, ◌↔◌, [], ◌∷◌, ◌++◌, length, All};
-ghost use Rattle.std.specs.Prelude.{slice_get, IsTrue, IfOk, IfNone, OnOk, OnErr, OnSome};
+ghost use Rattle.std.specs.Prelude.{◌≡◌, ◌+◌, ◌^◌, ◌<◌, ◌≤◌, [], ◌∷◌, ◌++◌, length, All};
+ghost use Rattle.std.specs.Prelude.{slice_get, IfOk, IfNone, OnOk, OnErr, OnSome};
 ghost use Rattle.std.specs.List.Sorted.{IsNonDecreasing};
 ghost use Rattle.std.specs.Option.{ForSome, option_copied};
 ghost use Rattle.bcast_queue.specs.Queue.{last_item, queue_with, without};
@@ -87,13 +87,6 @@ impl<T, A: Allocator> Queue<T, A> {
         ensures { result ≡ length self.now.messages }
     {
         self.ring.len()
-    }
-
-    /// Whether there is no message.
-    pub fn is_empty(&self) -> bool
-        ensures { IsTrue result ↔ (self.now.messages ≡ []) }
-    {
-        self.ring.is_empty()
     }
 
     /// The number of the first message, or of the next one if there is none.
