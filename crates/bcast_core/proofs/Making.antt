@@ -1,5 +1,5 @@
 -- What the calls that make or drop a handle do to the view, by their cases.
-use Rattle.std.proofs.Common.{◌≡◌, ℕ, ◌+◌, ◌-◌, ◌<◌, ◌≤◌, ◌==◌, true, false, Option, Some, None, Ok, Err, is_some, refl, arith}
+use Rattle.std.proofs.Common.{◌≡◌, ℕ, ◌+◌, ◌-◌, ◌<◌, ◌≤◌, ◌==◌, true, false, Option, Some, None, Ok, Err, is_some, refl, arith, eq-eqb, ne_eqb}
 use Rattle.std.proofs.lemmas.Grind.{common_steps}
 use Rattle.bcast_model.specs.declared.error.HandleError.TheVariants as handle
 use Rattle.bcast_model.specs.declared.run.Call.TheVariants as call
@@ -8,12 +8,6 @@ use Rattle.bcast_model.specs.Words.{has_next, NoClone, View, IsValidView, close_
 use Rattle.bcast_core.specs.Parts.{Does}
 use Rattle.bcast_core.proofs.Does.{does_sets, does_nothing}
 use Rattle.bcast_core.proofs.Settle.{low_close_if_deserted}
-
-pub none_left : (n : ℕ) → n ≡ 0 → (n == 0) ≡ true
-none_left n e = grind (arith, common_steps, e)
-
-pub some_left : (n : ℕ) → (n ≡ 0 → ⊥) → (n == 0) ≡ false
-some_left n e = grind (arith, common_steps, e)
 
 pub at_most : (n : ℕ) → n ≡ 18446744073709551615 → has_next n ≡ false
 at_most n e = grind (arith, common_steps, e)
@@ -47,41 +41,41 @@ module _ {T : Type 0} where
 
   pub no_inactive : {v : View T} → IsValidView v → v.control.inactive ≡ 0 → Does NoClone v call.CloneInactive (reply.CloneInactive (Err handle.Gone)) v
   no_inactive {v = v} valid e =
-      let none = none_left v.control.inactive e in
+      let none : (v.control.inactive == 0) ≡ true = eq-eqb v.control.inactive 0 e in
       does_nothing valid (rw none refl) (rw none refl) refl
 
   pub full_inactive : {v : View T} → IsValidView v → (v.control.inactive ≡ 0 → ⊥) → v.control.inactive ≡ 18446744073709551615 → Does NoClone v call.CloneInactive (reply.CloneInactive (Err handle.TooMany)) v
   full_inactive {v = v} valid is e =
-      let some = some_left v.control.inactive is in
+      let some : (v.control.inactive == 0) ≡ false = ne_eqb v.control.inactive 0 is in
       let most = at_most v.control.inactive e in
       does_nothing valid (rw (some, most) refl) (rw (some, most) refl) refl
 
   pub more_inactive : {v : View T} → IsValidView v → (v.control.inactive ≡ 0 → ⊥) → (v.control.inactive ≡ 18446744073709551615 → ⊥)
       → Does NoClone v call.CloneInactive (reply.CloneInactive (Ok tt)) (record v { control = record v.control { inactive = v.control.inactive + 1 } })
   more_inactive {v = v} valid is e =
-      let some = some_left v.control.inactive is in
+      let some : (v.control.inactive == 0) ≡ false = ne_eqb v.control.inactive 0 is in
       let below = below_most v.control.inactive valid.control.inactive_fit e in
       does_sets (record v.control { inactive = v.control.inactive + 1 }) (rw (some, below) refl) (rw (some, below) refl) valid.low refl
 
   -- ---- one fewer
   pub fewer_senders : {v : View T} → IsValidView v → 0 < v.control.senders → Does NoClone v call.DropSender reply.DropSender (record v { control = close_if_deserted (record v.control { senders = v.control.senders - 1 }) })
   fewer_senders {v = v} valid is =
-      let some = some_left v.control.senders (λ e. omega (arith, is, e)) in
+      let some : (v.control.senders == 0) ≡ false = ne_eqb v.control.senders 0 (λ e. omega (arith, is, e)) in
       let left = record v.control { senders = v.control.senders - 1 } in
       does_sets (close_if_deserted left) refl (rw some refl) (low_close_if_deserted v left valid.low) refl
 
   pub no_senders : {v : View T} → IsValidView v → v.control.senders ≤ 0 → Does NoClone v call.DropSender reply.DropSender v
   no_senders {v = v} valid is =
-      let none = none_left v.control.senders (omega (arith, is)) in
+      let none : (v.control.senders == 0) ≡ true = eq-eqb v.control.senders 0 (omega (arith, is)) in
       does_nothing valid refl (rw none refl) refl
 
   pub fewer_inactive : {v : View T} → IsValidView v → 0 < v.control.inactive → Does NoClone v call.DropInactive reply.DropInactive (record v { control = close_if_deserted (record v.control { inactive = v.control.inactive - 1 }) })
   fewer_inactive {v = v} valid is =
-      let some = some_left v.control.inactive (λ e. omega (arith, is, e)) in
+      let some : (v.control.inactive == 0) ≡ false = ne_eqb v.control.inactive 0 (λ e. omega (arith, is, e)) in
       let left = record v.control { inactive = v.control.inactive - 1 } in
       does_sets (close_if_deserted left) refl (rw some refl) (low_close_if_deserted v left valid.low) refl
 
   pub none_inactive : {v : View T} → IsValidView v → v.control.inactive ≤ 0 → Does NoClone v call.DropInactive reply.DropInactive v
   none_inactive {v = v} valid is =
-      let none = none_left v.control.inactive (omega (arith, is)) in
+      let none : (v.control.inactive == 0) ≡ true = eq-eqb v.control.inactive 0 (omega (arith, is)) in
       does_nothing valid refl (rw none refl) refl

@@ -1,5 +1,5 @@
 -- What an offered message does to the view.
-use Rattle.std.proofs.Common.{◌≡◌, ℕ, ◌+◌, ◌-◌, ◌<◌, ◌≤◌, ◌==◌, true, false, cond, List, [], ◌∷◌, length, max, Option, Some, None, refl, sym, ap, ◌∙◌, arith}
+use Rattle.std.proofs.Common.{◌≡◌, ℕ, ◌+◌, ◌-◌, ◌<◌, ◌≤◌, ◌==◌, true, false, cond, List, [], ◌∷◌, length, max, Option, Some, None, refl, sym, ap, ◌∙◌, arith, eqb-true}
 use Rattle.std.proofs.lemmas.Grind.{common_steps}
 use Rattle.std.specs.Prelude.{is_ok, IfSome, OnSome, IfNone}
 use Rattle.std.specs.FinMap.{values}
@@ -11,18 +11,8 @@ use Rattle.bcast_model.specs.Words.{offer_all}
 use Rattle.bcast_core.specs.Parts.{seen_of}
 use Rattle.bcast_core.proofs.Settle.{settle_to, settle_same, least_raised, cursors-accepting}
 
--- the test whether two numbers are equal
-pub are_equal : (a b : ℕ) → a ≡ b → (a == b) ≡ true
-are_equal a b same = grind (arith, common_steps, same)
-
-pub are_unequal : (a b : ℕ) → (a ≡ b → ⊥) → (a == b) ≡ false
-are_unequal a b other = grind (arith, common_steps, other)
-
 pub not_zero : (n : ℕ) → (n == 0) ≡ false → 0 < n
 not_zero n e = grind (arith, common_steps, e)
-
-is_zero : (n : ℕ) → (n == 0) ≡ true → n ≡ 0
-is_zero n e = grind (arith, common_steps, e)
 
 module _ {T : Type 0} where
   -- if there is a receiver, the end may rise and the front stays
@@ -49,7 +39,7 @@ module _ {T : Type 0} where
   -- without a message nothing changes
   pub offer_all_nothing : (v : View T) (msgs : List T) → IsValidView v → v.control.closed ≡ false → has_no_receiver v.control ≡ false → (length msgs == 0) ≡ true → settle v (offer_all v msgs) ≡ v
   offer_all_nothing v [] valid opened some n = grind (arith, common_steps, settle_same)
-  offer_all_nothing v (msg ∷ rest) valid opened some n = let none = is_zero (length (msg ∷ rest)) n in absurd (omega (arith, none))
+  offer_all_nothing v (msg ∷ rest) valid opened some n = let none = eqb-true (length (msg ∷ rest)) 0 n in absurd (omega (arith, none))
 
   -- a list that is refused changes nothing
   pub offer_all_refused : (v : View T) (msgs : List T) → IsValidView v → is_ok (try_broadcast_all_reply v msgs) ≡ false → settle v (offer_all v msgs) ≡ v

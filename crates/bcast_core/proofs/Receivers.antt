@@ -1,5 +1,5 @@
 -- What the calls that add or remove a receiver do to the view, by their cases.
-use Rattle.std.proofs.Common.{◌≡◌, inl, inr, ℕ, ◌+◌, ◌-◌, ◌^◌, ◌<◌, not, true, false, Some, None, Result, Ok, Err, is_some, refl, sym, ap, ◌∙◌, subst}
+use Rattle.std.proofs.Common.{◌≡◌, inl, inr, ℕ, ◌+◌, ◌-◌, ◌^◌, ◌<◌, not, true, false, Some, None, Result, Ok, Err, is_some, refl, sym, ap, ◌∙◌, subst, eq-eqb, ne_eqb}
 use Rattle.std.specs.Prelude.{is_ok}
 use Rattle.std.specs.FinMap.{len}
 use Rattle.bcast_model.specs.declared.error.HandleError.{HandleError}
@@ -12,7 +12,7 @@ use Rattle.bcast_model.specs.Words.{without_receiver}
 use Rattle.bcast_model.proofs.Cases.{close_is, deserted_is}
 use Rattle.bcast_core.specs.Parts.{Adds, Does}
 use Rattle.bcast_core.proofs.Does.{does_nothing}
-use Rattle.bcast_core.proofs.Making.{none_left, some_left, at_most, below_most, is_there, is_gone}
+use Rattle.bcast_core.proofs.Making.{at_most, below_most, is_there, is_gone}
 
 module _ {T : Type 0} where
   pub added_fits : {v : View T} (new : View T) (cursor : ℕ) (r : Result ℕ HandleError) → IsValidView v → Adds v cursor r new → len new.control.cursors < 2 ^ 64
@@ -33,21 +33,21 @@ module _ {T : Type 0} where
   pub not_activated : {v : View T} → IsValidView v → v.control.inactive ≡ 0
       → Does NoClone v call.Activate (reply.Activate (Err handle.Gone)) v × Does NoClone v call.ActivateCloned (reply.ActivateCloned (Err handle.Gone)) v
   not_activated {v = v} valid e =
-      let none = ap not (none_left v.control.inactive e) in
+      let none = ap not (eq-eqb v.control.inactive 0 e) in
       (does_nothing valid (inl (none, refl)) refl refl, does_nothing valid (inl (none, refl)) refl refl)
 
   pub cloned_activated : {v new : View T} (end : ℕ) (r : Result ℕ HandleError) → IsValidView v → (v.control.inactive ≡ 0 → ⊥) → end ≡ v.end → Adds v end r new → Does NoClone v call.ActivateCloned (reply.ActivateCloned r) new
-  cloned_activated {v = v} end (Ok key) valid is at adds = record { legal = inr (ap not (some_left v.control.inactive is), inl (key, refl, adds.0)); effect = adds.1 ∙ ap (λ n. settle v (sets (with_cursor v.control key n))) at }
-  cloned_activated {v = v} end (Err e) valid is at adds = does_nothing valid (inr (ap not (some_left v.control.inactive is), inr (ap (λ x. reply.ActivateCloned (Err x)) adds.0))) refl adds.1
+  cloned_activated {v = v} end (Ok key) valid is at adds = record { legal = inr (ap not (ne_eqb v.control.inactive 0 is), inl (key, refl, adds.0)); effect = adds.1 ∙ ap (λ n. settle v (sets (with_cursor v.control key n))) at }
+  cloned_activated {v = v} end (Err e) valid is at adds = does_nothing valid (inr (ap not (ne_eqb v.control.inactive 0 is), inr (ap (λ x. reply.ActivateCloned (Err x)) adds.0))) refl adds.1
 
   pub not_added : {v new : View T} (end : ℕ) (r : Result ℕ HandleError) → IsValidView v → (v.control.inactive ≡ 0 → ⊥) → is_ok r ≡ false → Adds v end r new → Does NoClone v call.Activate (reply.Activate r) new
   not_added end (Ok key) valid is fails adds = cc
-  not_added {v = v} end (Err e) valid is fails adds = does_nothing valid (inr (ap not (some_left v.control.inactive is), inr (ap (λ x. reply.Activate (Err x)) adds.0))) refl adds.1
+  not_added {v = v} end (Err e) valid is fails adds = does_nothing valid (inr (ap not (ne_eqb v.control.inactive 0 is), inr (ap (λ x. reply.Activate (Err x)) adds.0))) refl adds.1
 
   pub activated : {v : View T} (new : View T) (end : ℕ) (r : Result ℕ HandleError) → (v.control.inactive ≡ 0 → ⊥) → end ≡ v.end → is_ok r ≡ true → Adds v end r new
       → Does NoClone v call.Activate (reply.Activate r) (record new { control = record new.control { inactive = new.control.inactive - 1 } })
   activated {v = v} new end (Ok key) is at succeeds adds = record {
-    legal = inr (ap not (some_left v.control.inactive is), inl (key, refl, adds.0));
+    legal = inr (ap not (ne_eqb v.control.inactive 0 is), inl (key, refl, adds.0));
     effect = ap (λ (x : View T). record x { control = record x.control { inactive = x.control.inactive - 1 } }) (adds.1 ∙ ap (λ n. settle v (sets (with_cursor v.control key n))) at);
   }
   activated new end (Err e) is at succeeds adds = cc

@@ -1,6 +1,6 @@
 -- The last step of a call, which tells listeners. The proofs of state calls take their lemmas
 -- from here.
-use Rattle.std.proofs.Common.{◌≡◌, ℕ, ◌+◌, ◌≤◌, ◌==◌, Bool, true, false, not, cond, refl, sym, ap, ◌∙◌, subst, arith}
+use Rattle.std.proofs.Common.{◌≡◌, ℕ, ◌+◌, ◌≤◌, ◌==◌, Bool, true, false, not, cond, refl, sym, ap, ◌∙◌, subst, arith, eq-eqb, ne_eqb}
 use Rattle.std.proofs.lemmas.Grind.{common_steps}
 use Rattle.std.specs.FinMap.{len}
 use Rattle.bcast_model.specs.declared.run.Call.{Call}
@@ -79,17 +79,10 @@ module _ {T : Type 0} where
   pub tail_nobody : (news : Bool) (v : View T) → NobodyWaits v.control → tell_if_ready true (tell_news news v) ≡ v
   tail_nobody news v alone = ap (tell_if_ready true) (news_nobody news v alone) ∙ told_none v true alone.sends
 
-pub same_number : (n : ℕ) → (n == n) ≡ true
-same_number n = grind (arith, common_steps)
-
-pub other_number : (n m more : ℕ) → m ≡ n + more → 1 ≤ more → (m == n) ≡ false
-other_number n m more is some = grind (arith, common_steps, is, some)
-
-module _ {T : Type 0} where
   -- there is no news if the end is the same
   pub no_news : (v : View T) → tell_news (not (v.end == v.end)) v ≡ v
-  no_news v = ap (λ b. tell_news (not b) v) (same_number v.end)
+  no_news v = ap (λ b. tell_news (not b) v) (eq-eqb v.end v.end refl)
 
   -- and there is if it rose
   pub some_news : (v new : View T) (more : ℕ) → new.end ≡ v.end + more → 1 ≤ more → tell_news (not (new.end == v.end)) new ≡ tell_news true new
-  some_news v new more is some = ap (λ b. tell_news (not b) new) (other_number v.end new.end more is some)
+  some_news v new more is some = ap (λ b. tell_news (not b) new) (ne_eqb new.end v.end (λ same. omega (arith, is, some, same)))

@@ -1,5 +1,5 @@
 -- One more reader: its key is new, and there is as much room as before.
-use Rattle.std.proofs.Common.{◌≡◌, inl, inr, ℕ, ◌-◌, ◌≤◌, Bool, true, false, [], drop, length, List, Some, None, Result, Ok, Err, refl, sym, ap, ◌∙◌, subst, arith, append-nil, length-drop, IsSome}
+use Rattle.std.proofs.Common.{◌≡◌, inl, inr, ℕ, ◌-◌, ◌≤◌, Bool, true, false, [], drop, length, List, Some, None, Result, Ok, Err, refl, sym, ap, ◌∙◌, subst, arith, append-nil, length-drop, IsSome, ne_eqb}
 use Rattle.std.proofs.lemmas.Grind.{common_steps}
 use Rattle.std.proofs.lemmas.List.{drop_all}
 use Rattle.std.proofs.lemmas.Option.{none-some}
@@ -10,7 +10,6 @@ use Rattle.bcast_model.specs.Words.{cursor_of, with_cursor, has_no_receiver, clo
 use Rattle.bcast_model.specs.Words.{settle, View, Answers, Reply, HandleError, IsMadeFrom}
 use Rattle.bcast_model.proofs.Cases.{made_is}
 use Rattle.bcast_model.proofs.Least.{len_some}
-use Rattle.bcast_core.proofs.Offers.{are_unequal}
 use Rattle.bcast_core.proofs.Settle.{inserted}
 use Rattle.uses.specs.Log.{kept_from, unread, IsFresh, IsLog}
 use Rattle.uses.specs.Reading.{HasRoom}
@@ -70,7 +69,7 @@ module _ {T : Type 0} where
       let some = len_some u.control.cursors key number (inserted v.control.cursors key number) in
       record {
         reads = reads_from v key number log low;
-        room = record { is_open = refl; receivers = are_unequal _ _ (λ e. omega (arith, some, e)); queue = grind (arith, common_steps, append-nil, length-drop); capacity = refl; end = omega arith };
+        room = record { is_open = refl; receivers = ne_eqb _ _ (λ e. omega (arith, some, e)); queue = grind (arith, common_steps, append-nil, length-drop); capacity = refl; end = omega arith };
       }
 
   added : {v w : View T} {key number : ℕ} (start : List T) → Adds v w key number → IsFresh v key → drop (number - v.front) v.queue ≡ start → IsAdded v w key start

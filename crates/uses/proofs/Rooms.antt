@@ -1,5 +1,5 @@
 -- Sends for which there is room.
-use Rattle.std.proofs.Common.{◌≡◌, ℕ, ◌+◌, ◌==◌, ◌≤◌, ◌<◌, ◌^◌, true, false, [], ◌∷◌, length, Option, Result, Ok, Err, refl, sym, ap, ◌∙◌, subst, arith, length-append, true≢false, is_ok}
+use Rattle.std.proofs.Common.{◌≡◌, ℕ, ◌+◌, ◌==◌, ◌≤◌, ◌<◌, ◌^◌, true, false, [], ◌∷◌, length, Option, Result, Ok, Err, refl, sym, ap, ◌∙◌, subst, arith, length-append, true≢false, is_ok, ne_eqb}
 use Rattle.std.proofs.lemmas.Grind.{common_steps}
 use Rattle.std.specs.FinMap.{empty}
 use Rattle.bcast_model.specs.declared.run.Call.TheVariants as call
@@ -9,7 +9,6 @@ use Rattle.bcast_model.specs.Words.{opening, view_of, try_broadcast_reply, with_
 use Rattle.bcast_model.specs.Words.{View, Answers, Represents}
 use Rattle.bcast_model.proofs.Least.{len_some}
 use Rattle.bcast_model.proofs.Views.{valid_view}
-use Rattle.bcast_core.proofs.Offers.{are_unequal}
 use Rattle.bcast_core.proofs.Settle.{inserted}
 use Rattle.uses.specs.Log.{unread, IsReader, KeepsReaders}
 use Rattle.uses.specs.Reading.{HasRoom, IsSent}
@@ -29,7 +28,7 @@ module _ {T : Type 0} where
       let has : HasRoom u capacity = record {
         log = record { overflow = refl; reach = λ reader cursor e. omega (arith, high) };
         is_open = refl;
-        receivers = are_unequal _ _ (λ e. omega (arith, some, e));
+        receivers = ne_eqb _ _ (λ e. omega (arith, some, e));
         room = omega (arith, end);
         numbers = omega (arith, few);
       } in

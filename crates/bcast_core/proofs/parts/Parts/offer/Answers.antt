@@ -1,10 +1,10 @@
 -- A message is accepted where there is room for it, or where the oldest one makes room.
-use Rattle.std.proofs.Common.{◌≡◌, true, false, length, refl, sym, ap, ◌∙◌, arith}
+use Rattle.std.proofs.Common.{◌≡◌, true, false, length, refl, sym, ap, ◌∙◌, arith, eq-eqb, ne_eqb}
 use Rattle.std.proofs.lemmas.Grind.{common_steps}
 use Rattle.bcast_model.specs.Words.{has_no_receiver, is_full, offer, settle, View, with_message}
 use Rattle.bcast_core.specs.Parts.{control_of, seen_of}
 use Rattle.bcast_core.specs.Telling.{tell_news}
-use Rattle.bcast_core.proofs.Offers.{are_equal, are_unequal, offer_accepted, offer_dropping}
+use Rattle.bcast_core.proofs.Offers.{offer_accepted, offer_dropping}
 use Rattle.bcast_core.proofs.parts.Parts.offer.Goals as goal
 use Rattle.bcast_core.proofs.parts.Parts.offer.Goals.{then-len-self+else-not-self, else-len-self, then-number, else-number}
 
@@ -27,13 +27,13 @@ returns-clause-effect g c =
     accepted
     ∙ elim c.if-len-self.branch as (λ _. with_message mid c.args.msg ≡ settle v (offer v c.args.msg)) [
       | then-len-self+else-not-self w ↦
-          let full : is_full v ≡ true = sym (ap is_full c.self.view_is) ∙ are_equal (length p.store.queue) p.capacity (sym c.len.ensures ∙ w.if-len-self.true) in
+          let full : is_full v ≡ true = sym (ap is_full c.self.view_is) ∙ eq-eqb (length p.store.queue) p.capacity (sym c.len.ensures ∙ w.if-len-self.true) in
           let drops : v.control.overflow ≡ true = sym (ap (λ (x : View g.row.T.Denot). x.control.overflow) c.self.view_is) ∙ w.if-not-self.false in
           let oldest = w.pop-oldest.ensures in
           ap (λ inside. with_message (seen_of inside.store (control_of inside.store inside.sends inside.receives inside.senders inside.inactive inside.closed inside.overflow inside.await_active inside.capacity)) c.args.msg) w.self-inside-is
           ∙ sym (offer_dropping p.store w.pop-oldest.new.self (λ s. control_of s p.sends p.receives p.senders p.inactive p.closed p.overflow p.await_active p.capacity) v c.args.msg w.pop-oldest.result (λ _ _. refl) c.self.view_is c.requires (rw (closed, nobody, full, drops) refl) nobody full oldest.oldest oldest.rest oldest.empty)
       | else-len-self w ↦
-          let full : is_full v ≡ false = sym (ap is_full c.self.view_is) ∙ are_unequal (length p.store.queue) p.capacity (λ e. w.if-len-self.false (c.len.ensures ∙ e)) in
+          let full : is_full v ≡ false = sym (ap is_full c.self.view_is) ∙ ne_eqb (length p.store.queue) p.capacity (λ e. w.if-len-self.false (c.len.ensures ∙ e)) in
           ap (λ inside. with_message (seen_of inside.store (control_of inside.store inside.sends inside.receives inside.senders inside.inactive inside.closed inside.overflow inside.await_active inside.capacity)) c.args.msg) w.self-inside-is
           ∙ ap (λ (x : View g.row.T.Denot). with_message x c.args.msg) c.self.view_is
           ∙ sym (offer_accepted v c.args.msg c.requires (rw (closed, nobody, full) refl) nobody full)
