@@ -1,31 +1,20 @@
 -- What a poll of a pending send does to the view.
-use Rattle.std.proofs.Common.{◌≡◌, ℕ, Bool, true, false, cond, not, Result, Ok, Err, IfOk, OnOk, OnErr, refl, sym, ap, ◌∙◌, subst, arith}
+use Rattle.std.proofs.Common.{◌≡◌, ℕ, Bool, true, false, cond, Result, Ok, Err, IfOk, OnOk, OnErr, refl, sym, ap, ◌∙◌, subst, arith}
+use Rattle.std.proofs.lemmas.Bool.{not-false, not-true}
 use Rattle.std.proofs.lemmas.Grind.{common_steps}
 use Rattle.bcast_model.specs.declared.run.SendPoll.{SendPoll}
 use Rattle.bcast_model.specs.declared.run.SendPoll.TheVariants as send
 use Rattle.bcast_model.specs.declared.run.Call.TheVariants as call
 use Rattle.bcast_model.specs.declared.run.Reply.TheVariants as reply
-use Rattle.bcast_model.specs.Words.{consume, same_place, has_place, place_answered}
-use Rattle.bcast_model.specs.Words.{place_waits, tell_a_sender}
-use Rattle.bcast_model.specs.Words.{with_place_answered, offer, attempt_send_reply}
-use Rattle.bcast_model.specs.Words.{poll_send, View, sends_are_ready, Answers}
-use Rattle.bcast_model.specs.Words.{IsShown, IsValidView, NoClone, sets, tell_if_ready, settle}
-use Rattle.bcast_model.specs.Words.{must_wait}
+use Rattle.bcast_model.specs.Words.{consume, same_place, has_place, place_answered, place_waits}
+use Rattle.bcast_model.specs.Words.{tell_a_sender, with_place_answered, offer, attempt_send_reply}
+use Rattle.bcast_model.specs.Words.{poll_send, View, sends_are_ready, Answers, IsShown, must_wait}
+use Rattle.bcast_model.specs.Words.{IsValidView, NoClone, sets, tell_if_ready, settle}
 use Rattle.bcast_model.proofs.Polls.{attempt_waits}
 use Rattle.bcast_model.proofs.Answers.{shown_after}
-use Rattle.bcast_core.specs.Telling.{NobodyWaits}
-use Rattle.bcast_core.specs.Telling.{tell_news}
-use Rattle.bcast_core.proofs.Tail.{told_none}
+use Rattle.bcast_core.specs.Telling.{NobodyWaits, tell_news}
 use Rattle.bcast_core.proofs.Settle.{settle_stays, settle_same}
-use Rattle.bcast_core.proofs.Tail.{ends, news_nobody, told_valid}
-
-not_false : (b : Bool) → false ≡ not b → b ≡ true
-not_false true e = refl
-not_false false e = cc
-
-not_true : (b : Bool) → true ≡ not b → b ≡ false
-not_true true e = cc
-not_true false e = refl
+use Rattle.bcast_core.proofs.Tail.{told_none, ends, news_nobody, told_valid}
 
 module _ {T : Type 0} where
   -- whether an attempt must wait
@@ -47,7 +36,7 @@ module _ {T : Type 0} where
   pub poll_answered : (v mid new : View T) (place : ℕ) (msg : T) (answer : _) → has_place v.control place ≡ true → attempt_send_reply v msg ≡ send.Ready answer
       → mid ≡ settle v (offer v msg) → new ≡ tell_if_ready true (record mid { control = place_answered mid.control place }) → new ≡ tell_if_ready true (settle v (poll_send v place msg))
   poll_answered v mid new place msg answer there is mid_is new_is =
-      let ready = not_false (sends_are_ready v) (sym (ap waits is) ∙ attempt_waits v msg) in
+      let ready = not-false (sends_are_ready v) (sym (attempt_waits v msg) ∙ ap waits is) in
       new_is ∙ ap (tell_if_ready true) (ap (λ (x : View T). record x { control = place_answered x.control place }) mid_is
       ∙ sym (ap (λ b. settle v (cond b (cond (sends_are_ready v) (with_place_answered (offer v msg) place) (sets (place_waits v.control place))) (sets v.control))) there
       ∙ ap (λ b. settle v (cond b (with_place_answered (offer v msg) place) (sets (place_waits v.control place)))) ready))
@@ -64,7 +53,7 @@ module _ {T : Type 0} where
   pub poll_waits : (v mid new : View T) (place : ℕ) (msg again : T) → IsValidView v → has_place v.control place ≡ true → attempt_send_reply v msg ≡ send.Wait again
       → mid ≡ settle v (offer v msg) → new ≡ record mid { control = place_waits mid.control place } → new ≡ tell_if_ready true (settle v (poll_send v place msg))
   poll_waits v mid new place msg again valid there is mid_is new_is =
-      let blocked = not_true (sends_are_ready v) (sym (ap waits is) ∙ attempt_waits v msg) in
+      let blocked = not-true (sends_are_ready v) (sym (attempt_waits v msg) ∙ ap waits is) in
       let waiting : View T = record v { control = place_waits v.control place } in
       new_is ∙ ap (λ (x : View T). record x { control = place_waits x.control place }) (attempt_stays v mid msg again valid is mid_is)
       ∙ sym (ap (λ b. cond b (record waiting { control = tell_a_sender waiting.control }) waiting) blocked)

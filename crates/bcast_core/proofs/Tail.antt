@@ -13,9 +13,8 @@ pub use Rattle.bcast_model.proofs.Answers.{answers_as, shown_after}
 use Rattle.bcast_model.proofs.Calls.{keeps_valid}
 use Rattle.bcast_model.proofs.Cases.{close_is, deserted_is}
 use Rattle.bcast_model.proofs.WaitingSends.{OneIsTold}
-use Rattle.bcast_core.specs.Telling.{NobodyWaits}
+use Rattle.bcast_core.specs.Telling.{NobodyWaits, tell_news}
 use Rattle.bcast_core.specs.Parts.{Does}
-use Rattle.bcast_core.specs.Telling.{tell_news}
 pub use Rattle.bcast_core.proofs.Does.{valid_shown, does_begin, does_resize, does_sets, does_nothing}
 
 module _ {T : Type 0} where
