@@ -1,5 +1,5 @@
 -- There is room for each receiver's listeners, while receivers are added, read and leave.
-use Rattle.std.proofs.Common.{◌≡◌, ℕ, ◌+◌, ◌*◌, ◌<◌, ◌≤◌, Bool, true, false, cond, Option, Some, None, is_some, Result, Ok, Err, IsSomeAnd, OnOk, OnErr, refl, sym, ap, ◌∙◌, subst, arith}
+use Rattle.std.proofs.Common.{◌≡◌, ℕ, ◌+◌, ◌*◌, ◌<◌, ◌≤◌, Bool, true, false, cond, Some, None, is_some, Result, Ok, Err, OnOk, OnErr, refl, sym, ap, ◌∙◌, subst, arith}
 use Rattle.std.proofs.lemmas.Grind.{common_steps}
 use Rattle.std.proofs.lemmas.Bool.{true≢false}
 use Rattle.std.specs.Ordering.{nat_cmp, eq_by_cmp}
@@ -9,10 +9,6 @@ use Rattle.bcast_model.specs.Words.{Cursors, least}
 use Rattle.bcast_model.proofs.Tests.{test_place}
 use Rattle.bcast_store.specs.Stored.{Stored, end_of, with_cursors}
 use Rattle.bcast_core.specs.Parts.{HaveRoom}
-
-pub some_and : (P : ℕ → Type 0) (o : Option ℕ) → IsSomeAnd o P → is_some o ≡ true
-some_and P None p = absurd p
-some_and P (Some cursor) p = refl
 
 same_key : (q key : ℕ) → eq_by_cmp nat_cmp q key ≡ true → q ≡ key
 same_key q key e = test_place.no q key (sym (unsigned_tied q key) ∙ e)
