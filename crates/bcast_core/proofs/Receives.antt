@@ -1,13 +1,13 @@
 -- What receives do to the view.
-use Rattle.std.proofs.Common.{◌≡◌, ◌⊎◌, inl, inr, ℕ, ◌+◌, ◌-◌, ◌<◌, ◌≤◌, Bool, true, false, cond, length, Option, Some, None, Result, Ok, Err, is_some, nat_lt, slice_get, List, refl, sym, ap, ◌∙◌, arith}
+use Rattle.std.proofs.Common.{◌≡◌, ◌⊎◌, inl, inr, ℕ, ◌+◌, ◌-◌, ◌<◌, ◌≤◌, true, Option, Some, None, Result, Ok, Err, is_some, refl, sym, ap, ◌∙◌, arith}
 use Rattle.std.proofs.lemmas.Grind.{common_steps}
-use Rattle.std.proofs.lemmas.Option.{none-some, slice_get_cases, slice_get_past}
+use Rattle.std.proofs.lemmas.Option.{none-some, slice_get_past}
 use Rattle.bcast_model.specs.declared.error.TryRecvError.{TryRecvError}
 use Rattle.bcast_model.specs.declared.error.TryRecvError.TheVariants as unread
 use Rattle.bcast_model.specs.Words.{Pair, pair_waits, cursor_of, recv_reply, receive, with_cursor}
 use Rattle.bcast_model.specs.Words.{skipped_to, is_empty_reply, listens, receive_poll}
-use Rattle.bcast_model.specs.Words.{try_recv_reply, IsReceivedBy, View, kept_at, IsValidView, sets}
-use Rattle.bcast_model.specs.Words.{settle}
+use Rattle.bcast_model.specs.Words.{try_recv_reply, IsReceivedBy, View, IsValidView, sets, settle}
+use Rattle.bcast_model.proofs.Receives.{empty_at as is_empty_at}
 use Rattle.bcast_core.proofs.Settle.{settle_stays, settle_same}
 
 module _ {T : Type 0} (v : View T) (key : ℕ) (at : Option ℕ) (cursor : ℕ) (is : at ≡ Some cursor) (from : v.front ≤ cursor) where
@@ -20,10 +20,6 @@ module _ {T : Type 0} (v : View T) (key : ℕ) (at : Option ℕ) (cursor : ℕ) 
   receive_one below = grind (arith, common_steps)
 
 module _ {T : Type 0} where
-  -- one that lags goes on at the front
-  pub receive_lagging : (v : View T) (key : ℕ) (at : Option ℕ) (cursor : ℕ) → at ≡ Some cursor → cursor < v.front → receive v key at ≡ with_cursor v.control key v.front
-  receive_lagging v key at cursor is lags = grind (arith, common_steps)
-
   -- whether a receive returns `Empty` doesn't depend on clones
   pub empty_exactly : {is_clone : T → T → Type 0} (v : View T) (key : ℕ) (at : Option ℕ) (answer : Result T TryRecvError)
       → IsReceivedBy is_clone v key at (λ found. found) (Ok answer) → is_empty_reply answer ≡ is_empty_reply (try_recv_reply v at)
@@ -39,24 +35,10 @@ module _ {T : Type 0} where
   pub at_end : (v : View T) (at : Option ℕ) (cursor : ℕ) → IsValidView v → at ≡ Some cursor → v.front ≤ cursor → v.end ≤ cursor → try_recv_reply v at ≡ recv_reply v.control.closed None
   at_end v at cursor valid is from beyond = grind (arith, common_steps, slice_get_past)
 
-  found_none : (closed : Bool) (o : Option T) → is_empty_reply (recv_reply closed o) ≡ true → o ≡ None
-  found_none closed None e = refl
-  found_none closed (Some msg) e = cc
-
-  past : (items : List T) (i : ℕ) → slice_get items i ≡ None → length items ≤ i
-  past items i none = elim (slice_get_cases items i).1 [ inl some ↦ absurd (none-some some.0 (sym none ∙ some.2)) | inr beyond ↦ beyond.0 ]
-
   -- a receive that finds nothing is at the end
   pub empty_at : (v : View T) (at : Option ℕ) → IsValidView v → is_empty_reply (try_recv_reply v at) ≡ true → (cursor : ℕ) × (at ≡ Some cursor) × (v.front ≤ cursor) × (v.end ≤ cursor)
   empty_at v None valid e = cc
-  empty_at v (Some cursor) valid e = elim (nat_lt cursor v.front) as (λ b. nat_lt cursor v.front ≡ b → is_empty_reply (cond b (Err (unread.Overflowed (v.front - cursor))) (recv_reply v.control.closed (kept_at v cursor))) ≡ true → (c : ℕ) × (Some cursor ≡ Some c) × (v.front ≤ c) × (v.end ≤ c)) [
-    | true ↦ λ _ e. cc
-    | false ↦ λ t e.
-        let none = found_none v.control.closed (kept_at v cursor) e in
-        let from : v.front ≤ cursor = grind (arith, common_steps, t) in
-        let p = past v.queue (cursor - v.front) none in
-        (cursor, refl, from, omega (arith, p, valid.end))
-  ] refl e
+  empty_at v (Some cursor) valid e = let a = is_empty_at v cursor e in (cursor, refl, a.kept, omega (arith, a.kept, a.read, valid.end))
 
   -- the receiver is there
   pub is_there : (v : View T) (key : ℕ) (o at : Option ℕ) (cursor : ℕ) → at ≡ Some cursor → (at ≡ o) ⊎ (at ≡ skipped_to v.front o) → is_some o ≡ true

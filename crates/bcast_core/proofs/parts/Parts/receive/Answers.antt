@@ -2,8 +2,9 @@ use Rattle.std.proofs.Common.{◌+◌, ◌<◌, ◌≤◌, None, Ok, inl, sym, a
 use Rattle.std.proofs.lemmas.Grind.{common_steps}
 use Rattle.std.specs.FinMap.{get, insert}
 use Rattle.std.proofs.lemmas.Result.{on_ok_weaker}
-use Rattle.bcast_model.specs.Words.{View, sets, settle, cursor_of, with_cursor, recv_reply}
-use Rattle.bcast_core.proofs.Receives.{lagging, at_end, is_there, receive_lagging, receive_one}
+use Rattle.bcast_model.specs.Words.{View, sets, settle, cursor_of, with_cursor, receive, recv_reply}
+use Rattle.bcast_model.proofs.Cases.{lagging_receive}
+use Rattle.bcast_core.proofs.Receives.{lagging, at_end, is_there, receive_one}
 use Rattle.bcast_store.specs.Stored.{Stored}
 use Rattle.bcast_core.specs.Parts.{HaveRoom, control_of, seen_of}
 use Rattle.bcast_core.proofs.Rooms.{room_inserted, room_read}
@@ -23,7 +24,7 @@ returns-then-cursor-front-clause-ok g c =
     ap (λ s. seen_of s (control_of s p.sends p.receives p.senders p.inactive p.closed p.overflow p.await_active p.capacity)) c.skip.ensures
     ∙ ap (λ (x : View g.row.T.Denot). record x { control = with_cursor x.control c.args.key x.front }) c.self.view_is
     ∙ sym (settle_stays v (with_cursor v.control c.args.key v.front) (low_inserted v.end v.front v.control.cursors c.args.key v.front (omega arith)))
-    ∙ ap (λ m. settle v (sets m)) (sym (receive_lagging v c.args.key c.args.at c.in-Some.cursor c.in-Some.is lags))
+    ∙ ap (λ m. settle v (sets m)) (sym (ap (receive v c.args.key) c.in-Some.is ∙ lagging_receive v c.args.key c.in-Some.cursor lags))
 
 pub invariant_of-self : goal.invariant_of-self
 invariant_of-self g c =
