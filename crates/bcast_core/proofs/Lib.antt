@@ -10,7 +10,6 @@ pub mod Receivers
 pub mod Accessors
 pub mod Runs
 pub mod Opened
-pub mod Untold
 pub mod Tail
 pub mod ReceivePolls
 pub mod SendPolls

@@ -1,13 +1,17 @@
 -- What receives do to the view.
-use Rattle.std.proofs.Common.{◌≡◌, ◌⊎◌, inl, inr, ℕ, ◌+◌, ◌-◌, ◌<◌, ◌≤◌, true, Option, Some, None, Result, Ok, Err, is_some, refl, sym, ap, ◌∙◌, arith}
+use Rattle.std.proofs.Common.{◌≡◌, ◌⊎◌, inl, inr, ℕ, ◌+◌, ◌-◌, ◌<◌, ◌≤◌, true, Option, Some, None, Result, Ok, Err, is_some, max, refl, sym, ap, ◌∙◌, arith}
 use Rattle.std.proofs.lemmas.Grind.{common_steps}
 use Rattle.std.proofs.lemmas.Option.{none-some, slice_get_past}
+use Rattle.std.specs.FinMap.{get}
 use Rattle.bcast_model.specs.declared.error.TryRecvError.{TryRecvError}
 use Rattle.bcast_model.specs.declared.error.TryRecvError.TheVariants as unread
 use Rattle.bcast_model.specs.Words.{Pair, pair_waits, cursor_of, recv_reply, receive, with_cursor}
 use Rattle.bcast_model.specs.Words.{skipped_to, is_empty_reply, listens, receive_poll}
 use Rattle.bcast_model.specs.Words.{try_recv_reply, IsReceivedBy, View, IsValidView, sets, settle}
-use Rattle.bcast_model.proofs.Receives.{empty_at as is_empty_at}
+use Rattle.bcast_model.proofs.Lists.{all_in}
+use Rattle.bcast_model.proofs.Receives.{empty_at as is_empty_at, empty_at_end}
+use Rattle.bcast_model.proofs.Tests.{test_pair}
+use Rattle.bcast_core.specs.Telling.{is_untold}
 use Rattle.bcast_core.proofs.Settle.{settle_stays, settle_same}
 
 module _ {T : Type 0} (v : View T) (key : ℕ) (at : Option ℕ) (cursor : ℕ) (is : at ≡ Some cursor) (from : v.front ≤ cursor) where
@@ -64,3 +68,13 @@ module _ {T : Type 0} where
       ∙ sym (settle_stays v (pair_waits v.control pair) valid.low)
       ∙ ap (λ c. settle v (sets (pair_waits c pair))) (sym (receive_empty v pair.0 at valid e))
       ∙ ap (λ b. settle v (sets (listens (receive v pair.0 at) pair b))) (sym e)
+
+  -- ---- a listener that is listed and not told
+  reads_end : (v : View T) (key : ℕ) (at : Option ℕ) → v.front ≤ v.end → get v.control.cursors key ≡ Some v.end → (at ≡ cursor_of v.control key) ⊎ (at ≡ skipped_to v.front (cursor_of v.control key)) → at ≡ Some v.end
+  reads_end v key at high is (inl e) = e ∙ is
+  reads_end v key at high is (inr e) = let greater : max v.end v.front ≡ v.end = grind (arith, common_steps, high) in e ∙ ap (skipped_to v.front) is ∙ ap (λ n. Some n) greater
+
+  -- a poll by it finds nothing, since no wake-up is lost
+  pub untold_empty : (v : View T) (pair : Pair) (at : Option ℕ) → IsValidView v → is_untold v.control pair ≡ true
+      → (at ≡ cursor_of v.control pair.0) ⊎ (at ≡ skipped_to v.front (cursor_of v.control pair.0)) → try_recv_reply v at ≡ Err unread.Empty
+  untold_empty v pair at valid untold is = grind (arith, common_steps, all_in, test_pair, reads_end, empty_at_end)

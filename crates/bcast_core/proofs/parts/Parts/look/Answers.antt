@@ -1,8 +1,7 @@
 use Rattle.std.proofs.Common.{refl, sym, ap, ◌∙◌, arith}
 use Rattle.std.proofs.lemmas.Grind.{common_steps}
 use Rattle.bcast_model.specs.Receiving.{is_empty_reply}
-use Rattle.bcast_core.proofs.Receives.{settle_empty}
-use Rattle.bcast_core.proofs.Untold.{untold_empty}
+use Rattle.bcast_core.proofs.Receives.{settle_empty, untold_empty}
 use Rattle.bcast_core.proofs.parts.Parts.look.Goals as goal
 
 pub returns-then-is_untold-clause-found : goal.returns-then-is_untold-clause-found
