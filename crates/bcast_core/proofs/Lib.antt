@@ -1,5 +1,4 @@
 pub mod Settle
-pub mod Stores
 pub mod Views
 pub mod Offers
 pub mod Receives
