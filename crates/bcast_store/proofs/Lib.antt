@@ -11,6 +11,5 @@ pub mod WithCursors
 pub mod Messages
 pub mod Dropping
 pub mod Reading
-pub mod HandedOut
 pub mod ReadingMany
 pub mod Leaving

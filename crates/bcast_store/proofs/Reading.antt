@@ -1,5 +1,5 @@
--- The counts stay right when a receiver skips or reads.
-use Rattle.std.proofs.Common.{◌≡◌, ℕ, ◌+◌, ◌-◌, ◌<◌, ◌≤◌, true, false, cond, eqb, length, max, Some, get_or, set, nat_le, refl, sym, subst, ap, ◌∙◌, arith, length-drop, eqb-true}
+-- The counts stay right when a receiver skips or reads, and what a read gives.
+use Rattle.std.proofs.Common.{◌≡◌, ℕ, ◌+◌, ◌-◌, ◌<◌, ◌≤◌, true, false, cond, eqb, length, max, Some, get_or, set, slice_get, nat_le, refl, sym, subst, ap, ◌∙◌, arith, rules, length-drop, eqb-true}
 use Rattle.std.specs.Prelude.{IsSomeAnd}
 use Rattle.std.proofs.lemmas.Grind.{common_steps}
 use Rattle.std.proofs.lemmas.Bool.{cases_lt}
@@ -9,9 +9,9 @@ use Rattle.bcast_model.specs.Control.{Cursors}
 use Rattle.bcast_queue.specs.Queue.{Queued, one_fewer_from, passed, without, read_at}
 use Rattle.bcast_queue.proofs.Reading.{passed_one}
 use Rattle.bcast_queue.proofs.Pointwise.{length-one_fewer_from, get_or-one_more_from, get_or-one_fewer_from}
-use Rattle.bcast_store.specs.Stored.{Stored, end_of, with_cursors}
+use Rattle.bcast_store.specs.Stored.{Stored, IsHandedOut, IsOwed, end_of, with_cursors}
 use Rattle.bcast_store.specs.Sound.{IsSound, store_of, owing_at}
-use Rattle.bcast_store.proofs.Owing.{owing-rises, owing-moved, owing-left, reached, found}
+use Rattle.bcast_store.proofs.Owing.{owing-rises, owing-moved, owing-left, another, reached, found}
 use Rattle.bcast_store.proofs.Counted.{IsCounted, owed_at}
 use Rattle.bcast_store.proofs.WithCursors.{with_cursors-queue}
 
@@ -112,3 +112,12 @@ module _ {T : Type 0} where
           | false ↦ λ t sound counted.
               with_cursors-queue q (record q { owed = set q.owed i (get_or q.owed i 0 - 1) }) cursors (insert cursors key (number + 1)) 0 (omega arith) refl refl (omega arith) sound counted (λ h. absurd (omega arith))
         ] refl (sound_read n) after
+
+    -- ---- what it gives
+    -- a message that is owed more than once is owed by another receiver
+    pub owed_by_another : 1 < get_or q.owed i 0 → IsOwed (store_of q cursors) key number
+    owed_by_another more = search (rules, another)
+
+    pub handed_out : (is_clone : T → T → Type 0) (given : T) → IsCounted q → (get_or q.owed i 0 ≡ 1 → slice_get q.messages i ≡ Some given) → (1 < get_or q.owed i 0 → IsSomeAnd (slice_get q.messages i) (λ msg. is_clone msg given))
+        → IsHandedOut is_clone (store_of q cursors) key number given
+    handed_out is_clone given n moved cloned = grind (arith, common_steps, cases_lt, owed_by_another, owed_at)

@@ -9,8 +9,7 @@ use Rattle.bcast_store.specs.Stored.{Stored, with_cursors, IsOwed, IsHandedOut}
 use Rattle.bcast_store.proofs.Counted.{IsCounted}
 use Rattle.bcast_store.proofs.Least.{insert_twice, insert_there}
 use Rattle.bcast_store.proofs.Messages.{same_sound, same_store}
-use Rattle.bcast_store.proofs.Reading.{is_reading, reading_up, sound_read, store_read}
-use Rattle.bcast_store.proofs.HandedOut.{owed_by_another, handed_out}
+use Rattle.bcast_store.proofs.Reading.{is_reading, reading_up, sound_read, store_read, owed_by_another, handed_out}
 use Rattle.bcast_store.proofs.Store.read.Goals as goal
 
 -- a cursor that is put back
