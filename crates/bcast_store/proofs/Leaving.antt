@@ -10,8 +10,7 @@ use Rattle.bcast_queue.proofs.Pointwise.{length-one_fewer_from, get_or-one_more_
 use Rattle.bcast_store.specs.Stored.{with_cursors}
 use Rattle.bcast_store.specs.Sound.{IsSound, store_of, owing_at}
 use Rattle.bcast_store.proofs.Owing.{owing-joined, owing-left, owes_counts, reached, stayed}
-use Rattle.bcast_store.proofs.Counted.{IsCounted, owed_at}
-use Rattle.bcast_store.proofs.WithCursors.{with_cursors-queue}
+use Rattle.bcast_store.proofs.Counted.{IsCounted, owed_at, with_cursors-queue}
 
 module _ {T : Type 0} where
   pub sound_joined : (q : Queued T) (cursors : Cursors) (key cursor : ℕ) → IsSound q cursors → length q.owed ≡ length q.messages → get cursors key ≡ None → cursor ≤ q.front + length q.messages → IsSound (with_reader (cursor - q.front) q) (insert cursors key cursor)

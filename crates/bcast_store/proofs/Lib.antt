@@ -6,7 +6,6 @@ pub mod Least
 pub mod Owing
 -- the counts of a store, and what follows from them
 pub mod Counted
-pub mod WithCursors
 -- what the calls do to the counts
 pub mod Messages
 pub mod Dropping

@@ -12,8 +12,7 @@ use Rattle.bcast_queue.proofs.Pointwise.{length-one_fewer_from, get_or-one_more_
 use Rattle.bcast_store.specs.Stored.{Stored, IsHandedOut, IsOwed, end_of, with_cursors}
 use Rattle.bcast_store.specs.Sound.{IsSound, store_of, owing_at}
 use Rattle.bcast_store.proofs.Owing.{owing-rises, owing-moved, owing-left, another, reached, found}
-use Rattle.bcast_store.proofs.Counted.{IsCounted, owed_at}
-use Rattle.bcast_store.proofs.WithCursors.{with_cursors-queue}
+use Rattle.bcast_store.proofs.Counted.{IsCounted, owed_at, with_cursors-queue}
 
 -- the receiver reads this number, at this index: that of its cursor, or the oldest if it lags
 pub record IsReading {T : Type 0} (q : Queued T) (cursors : Cursors) (key number i : ℕ) : Type 0 where

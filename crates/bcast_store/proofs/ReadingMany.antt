@@ -17,9 +17,8 @@ use Rattle.bcast_store.specs.Stored.{AreHandedOut, IsOwed, with_cursors}
 use Rattle.bcast_store.specs.Sound.{IsSound, store_of, owing_at}
 use Rattle.bcast_store.proofs.Least.{insert_twice}
 use Rattle.bcast_store.proofs.Owing.{owing-moved, reached, another, found}
-use Rattle.bcast_store.proofs.Counted.{IsCounted}
+use Rattle.bcast_store.proofs.Counted.{IsCounted, with_cursors-queue}
 use Rattle.bcast_store.proofs.Reading.{steps_up, sound_passed}
-use Rattle.bcast_store.proofs.WithCursors.{with_cursors-queue}
 
 -- ---- lists
 module _ {T : Type 0} where
