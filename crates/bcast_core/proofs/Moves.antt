@@ -1,14 +1,15 @@
 -- What is seen once a receiver has moved on, and a send was told.
-use Rattle.std.proofs.Common.{◌≡◌, inl, inr, ℕ, ◌+◌, ◌-◌, ◌≤◌, ◌==◌, true, false, cond, not, ◌&&◌, ◌||◌, [], ◌++◌, length, max, min, drop, Some, slice_get, List, refl, sym, ap, ◌∙◌, arith, append-nil, length-drop}
+use Rattle.std.proofs.Common.{◌≡◌, inl, inr, ℕ, ◌+◌, ◌-◌, ◌≤◌, ◌==◌, true, false, cond, not, ◌&&◌, ◌||◌, [], ◌++◌, length, max, min, drop, Some, slice_get, refl, sym, ap, ◌∙◌, arith, append-nil, length-drop}
 use Rattle.std.proofs.lemmas.Bool.{cases_eq}
 use Rattle.std.proofs.lemmas.Grind.{common_steps}
-use Rattle.std.proofs.lemmas.List.{drop-drop, get_or-drop}
-use Rattle.std.proofs.lemmas.Option.{same_Some, slice_get_within, slice_get_read, get_or_from_slice_get}
+use Rattle.std.proofs.lemmas.List.{drop-drop}
+use Rattle.std.proofs.lemmas.Option.{same_Some}
 use Rattle.std.specs.FinMap.{get, insert, len, values}
 use Rattle.bcast_model.specs.Words.{Cursors, Listeners, View, cursor_of, kept_at, least, sends_are_ready, sets, settle, tell, tell_a_sender, tell_if_ready, with_cursor}
 use Rattle.bcast_model.proofs.Cases.{test_is}
 use Rattle.bcast_model.proofs.DeliveryMaps.{inserted, inserted_other}
 use Rattle.bcast_model.proofs.Least.{least-le-cursor, least-le-limit, least-greatest, len_insert, len_some}
+use Rattle.bcast_model.proofs.Views.{slice_get-drop}
 use Rattle.bcast_store.proofs.Least.{insert_twice}
 use Rattle.bcast_core.proofs.Settle.{settle_to}
 
@@ -104,15 +105,10 @@ module _ {T : Type 0} where
   pub front_reached : (v : View T) (key to : ℕ) → v.front ≤ to → (moved v key to).front ≤ to
   front_reached v key to reached = let own = least-le-cursor (v.end + 0) (insert v.control.cursors key to) key to (inserted v.control.cursors key to) in omega (arith, own, reached)
 
-  left_at : (items : List T) (from i : ℕ) (msg : T) → slice_get items (from + i) ≡ Some msg → slice_get (drop from items) i ≡ Some msg
-  left_at items from i msg at =
-      slice_get_read (drop from items) (length (drop from items)) i msg refl (omega (arith, slice_get_within items (from + i) msg at, length-drop from items))
-      (sym (get_or_from_slice_get items (from + i) msg msg at) ∙ sym (get_or-drop from items i msg))
-
   -- the messages from there on are kept
   pub kept_moved : (v : View T) (key to number : ℕ) (msg : T) → v.front ≤ to → to ≤ number → kept_at v number ≡ Some msg → kept_at (moved v key to) number ≡ Some msg
   kept_moved v key to number msg reached from at =
       let w = moved v key to in
       let low = front_reached v key to reached in
       let index : w.front - v.front + (number - w.front) ≡ number - v.front = omega (arith, low, from) in
-      left_at (v.queue ++ []) (w.front - v.front) (number - w.front) msg (ap (λ items. slice_get items (w.front - v.front + (number - w.front))) (append-nil v.queue) ∙ ap (slice_get v.queue) index ∙ at)
+      slice_get-drop (w.front - v.front) (number - w.front) (v.queue ++ []) ∙ ap (λ items. slice_get items (w.front - v.front + (number - w.front))) (append-nil v.queue) ∙ ap (slice_get v.queue) index ∙ at

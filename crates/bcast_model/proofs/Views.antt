@@ -9,7 +9,7 @@ use Rattle.bcast_model.specs.Words.{IsValid, View, IsValidView, cursor_of}
 use Rattle.bcast_model.proofs.Least.{least-le-limit, least-le-cursor}
 
 -- ---- messages by their numbers
-slice_get-drop : {A : Type 0} (n i : ℕ) (items : List A) → slice_get (drop n items) i ≡ slice_get items (n + i)
+pub slice_get-drop : {A : Type 0} (n i : ℕ) (items : List A) → slice_get (drop n items) i ≡ slice_get items (n + i)
 slice_get-drop zero i items = ap (slice_get items) (omega arith)
 slice_get-drop (suc n) i [] = refl
 slice_get-drop (suc n) i (item ∷ items) = slice_get-drop n i items ∙ (let e : suc n + i ≡ suc (n + i) = omega arith in ap (slice_get (item ∷ items)) (sym e))

@@ -4,14 +4,15 @@ use Rattle.std.specs.Prelude.{IsSomeAnd}
 use Rattle.std.specs.List.{AppendsClones}
 use Rattle.std.specs.List.Sorted.{IsNonDecreasing}
 use Rattle.std.specs.Option.{MatchOption}
-use Rattle.std.proofs.lemmas.Bool.{cases_lt}
 use Rattle.std.proofs.lemmas.Grind.{common_steps}
-use Rattle.std.proofs.lemmas.List.{get_or-drop, get_or-take, get_or_append_left, get_or-append-add, drop-drop}
-use Rattle.std.proofs.lemmas.Option.{slice_get_within, slice_get_read, get_or_from_slice_get}
+use Rattle.std.proofs.lemmas.List.{get_or-drop, take-append-drop, drop-drop}
+use Rattle.std.proofs.lemmas.Option.{slice_get_within}
 use Rattle.std.proofs.lemmas.Slice.Zip.{AllZip-right, AllZip-long}
 use Rattle.std.specs.FinMap.{get, insert}
 use Rattle.bcast_model.specs.Control.{Cursors}
+use Rattle.bcast_model.proofs.DeliveryLists.{in_longer, in_parts}
 use Rattle.bcast_model.proofs.DeliveryMaps.{inserted}
+use Rattle.bcast_model.proofs.Views.{slice_get-drop}
 use Rattle.bcast_queue.specs.Queue.{Queued, passed, without}
 use Rattle.bcast_store.specs.Stored.{AreHandedOut, IsOwed, with_cursors}
 use Rattle.bcast_store.specs.Sound.{IsSound, store_of, owing_at}
@@ -20,31 +21,9 @@ use Rattle.bcast_store.proofs.Owing.{owing-moved, reached, another, found}
 use Rattle.bcast_store.proofs.Counted.{IsCounted, with_cursors-queue}
 use Rattle.bcast_store.proofs.Reading.{steps_up, sound_passed}
 
--- ---- lists
-module _ {T : Type 0} where
-  -- an item of a part of a list
-  pub rest_at : (xs : List T) (from i : ℕ) (x : T) → slice_get (drop from xs) i ≡ Some x → slice_get xs (from + i) ≡ Some x
-  rest_at xs from i x at =
-      slice_get_read xs (length xs) (from + i) x refl (omega (arith, slice_get_within (drop from xs) i x at, length-drop from xs))
-      (sym (get_or_from_slice_get (drop from xs) i x x at) ∙ get_or-drop from xs i x)
-
-  first_at : (xs : List T) (n i : ℕ) (x : T) → slice_get (take n xs) i ≡ Some x → slice_get xs i ≡ Some x
-  first_at xs n i x at =
-      let within = slice_get_within (take n xs) i x at in
-      let long = length-take n xs in
-      slice_get_read xs (length xs) i x refl (omega (arith, within, long)) (sym (get_or_from_slice_get (take n xs) i x x at) ∙ get_or-take n xs i x (omega (arith, within, long)))
-
-  -- an item of two lists in a row
-  left_at : (xs ys : List T) (i : ℕ) (x : T) → slice_get (xs ++ ys) i ≡ Some x → i < length xs → slice_get xs i ≡ Some x
-  left_at xs ys i x at h =
-      slice_get_read xs (length xs) i x refl h (sym (get_or_from_slice_get (xs ++ ys) i x x at) ∙ get_or_append_left xs ys x i h)
-
-  right_at : (xs ys : List T) (i : ℕ) (x : T) → slice_get (xs ++ ys) i ≡ Some x → length xs ≤ i → slice_get ys (i - length xs) ≡ Some x
-  right_at xs ys i x at h =
-      let within = slice_get_within (xs ++ ys) i x at in
-      let index : i ≡ length xs + (i - length xs) = omega (arith, h) in
-      slice_get_read ys (length ys) (i - length xs) x refl (omega (arith, within, h, length-append xs ys))
-      (sym (get_or_from_slice_get (xs ++ ys) i x x at) ∙ ap (λ k. get_or (xs ++ ys) k x) index ∙ get_or-append-add xs ys (i - length xs) x)
+-- an item of the first part of a list
+first_at : {T : Type 0} (xs : List T) (n i : ℕ) (x : T) → slice_get (take n xs) i ≡ Some x → slice_get xs i ≡ Some x
+first_at xs n i x at = subst (λ ys. slice_get ys i ≡ Some x) (take-append-drop n xs) (in_longer (take n xs) (drop n xs) i x at)
 
 -- ---- the counts
 -- a receiver reads from its cursor on: first so many messages that are its alone, then so many that
@@ -133,21 +112,22 @@ module _ {T : Type 0} (q : Queued T) (cursors : Cursors) (key number i own share
         given = mine ++ made.0;
         put = made.1 ∙ ap (λ xs. xs ++ made.0) mid_is ∙ append_assoc before mine made.0;
         counted = omega (arith, length-append mine made.0, long, others);
-        each = λ j msg at. elim (cases_lt j own) [
-          | inl below ↦
-              let index : j ≡ number + j - q.front = omega (arith, r.is, r.first (omega (arith, below))) in
-              inl (ap (slice_get q.messages) (sym index) ∙ first_at q.messages own j msg (left_at mine made.0 j msg at (omega (arith, below, long))))
-          | inr from ↦
+        each = λ j msg at. elim (in_parts mine made.0 j msg at) [
+          | inl moved ↦
+              let below = slice_get_within mine j msg moved in
+              let index : j ≡ number + j - q.front = omega (arith, r.is, r.first (omega (arith, below, long))) in
+              inl (ap (slice_get q.messages) (sym index) ∙ first_at q.messages own j msg moved)
+          | inr cloned ↦
+              let from : own ≤ j = omega (arith, cloned.0, long) in
               let within = slice_get_within (mine ++ made.0) j msg at in
               let some : own < own + shared = omega (arith, within, from, length-append mine made.0, long, others) in
-              let last = right_at mine made.0 j msg at (omega (arith, from, long)) in
-              let clone = subst (λ o. MatchOption o (Unit {0}) (λ y. IsSomeAnd (slice_get (take shared (drop i (drop own q.messages))) (j - length mine)) (λ x. is_clone x y))) last
+              let clone = subst (λ o. MatchOption o (Unit {0}) (λ y. IsSomeAnd (slice_get (take shared (drop i (drop own q.messages))) (j - length mine)) (λ x. is_clone x y))) cloned.1
               (AllZip-right is_clone (take shared (drop i (drop own q.messages))) made.0 made.2 (j - length mine)) in
               let kept = found (slice_get (take shared (drop i (drop own q.messages))) (j - length mine)) (λ x. is_clone x msg) clone in
               let index : own + i + (j - length mine) ≡ number + j - q.front = omega (arith, r.is, long, from) in
               let there : slice_get q.messages (own + i + (j - length mine)) ≡ Some kept.0 =
-              rest_at q.messages (own + i) (j - length mine) kept.0
-              (ap (λ xs. slice_get xs (j - length mine)) (sym (drop-drop i own q.messages)) ∙ first_at (drop i (drop own q.messages)) shared (j - length mine) kept.0 kept.1) in
+              sym (slice_get-drop (own + i) (j - length mine) q.messages)
+              ∙ ap (λ xs. slice_get xs (j - length mine)) (sym (drop-drop i own q.messages)) ∙ first_at (drop i (drop own q.messages)) shared (j - length mine) kept.0 kept.1 in
               inr (
                 owed_shared rises (more (omega (arith, some))) j from (omega (arith, within, length-append mine made.0, long, others, r.within)),
                 subst (λ o. IsSomeAnd o (λ kept. is_clone kept msg)) (sym (ap (slice_get q.messages) (sym index) ∙ there)) kept.2,

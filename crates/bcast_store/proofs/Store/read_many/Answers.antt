@@ -3,13 +3,14 @@ use Rattle.std.proofs.Common.{◌≡◌, ◌+◌, ◌-◌, ◌<◌, Some, take, 
 use Rattle.std.specs.Prelude.{IsSomeAnd}
 use Rattle.std.specs.List.{AppendsClones}
 use Rattle.std.specs.FinMap.{get, insert}
+use Rattle.bcast_model.proofs.Views.{slice_get-drop}
 use Rattle.bcast_queue.specs.Queue.{passed, without}
 use Rattle.bcast_store.specs.Stored.{Stored, AreHandedOut, end_of, with_cursors}
 use Rattle.bcast_store.proofs.Counted.{IsCounted}
 use Rattle.bcast_store.proofs.Messages.{same_sound, same_store}
 use Rattle.bcast_store.proofs.Owing.{found}
 use Rattle.bcast_store.proofs.Reading.{steps_up}
-use Rattle.bcast_store.proofs.ReadingMany.{ReadsMany, steps_own, sound_many, store_many, handed_many, rest_at}
+use Rattle.bcast_store.proofs.ReadingMany.{ReadsMany, steps_own, sound_many, store_many, handed_many}
 use Rattle.bcast_store.proofs.Store.read_many.Goals as goal
 use Rattle.bcast_store.proofs.Store.read_many.Goals.{After-front, After-put_clones-shared, After-replace}
 
@@ -52,7 +53,8 @@ returns-clause-refused g c = λ fewer.
     let index = c.args.number - c.front.result in
     let P : g.row.T.Denot → Type 0 = λ msg. g.T.Clone.is_infallible msg → ⊥ in
     let stopped = found (slice_get c.take_own-own.new.self.messages (index + c.put_clones-shared.result)) P (c.put_clones-shared.ensures.refused (omega (arith, fewer))) in
-    let there = rest_at q.messages c.take_own-own.result (index + c.put_clones-shared.result) stopped.0 (ap (λ p. slice_get p.messages (index + c.put_clones-shared.result)) (sym c.take_own-own.ensures.rest) ∙ stopped.1) in
+    let there : slice_get q.messages (c.take_own-own.result + (index + c.put_clones-shared.result)) ≡ Some stopped.0 =
+    sym (slice_get-drop c.take_own-own.result (index + c.put_clones-shared.result) q.messages) ∙ ap (λ p. slice_get p.messages (index + c.put_clones-shared.result)) (sym c.take_own-own.ensures.rest) ∙ stopped.1 in
     let number : c.take_own-own.result + (index + c.put_clones-shared.result) ≡ c.args.number + (c.take_own-own.result + c.put_clones-shared.result) - q.front = omega (arith, is g here.After-front) in
     subst (λ (s : Stored g.row.T.Denot). IsSomeAnd (slice_get s.queue (c.args.number + (c.take_own-own.result + c.put_clones-shared.result) - s.front)) P) c.self.view_is
     (subst (λ o. IsSomeAnd o P) (sym (ap (slice_get q.messages) (sym number) ∙ there)) stopped.2)
