@@ -9,10 +9,11 @@ use Rattle.bcast_model.specs.declared.run.Reply.TheVariants as reply
 use Rattle.bcast_model.specs.Words.{Answers, IsReceivedBy, IsShown, View, cursor_of, kept_at, sets, settle, tell_a_sender, tell_if_ready, try_recv_reply, unread}
 use Rattle.bcast_model.proofs.Answers.{shown_after}
 use Rattle.bcast_model.proofs.DeliveryMaps.{inserted, inserted_other}
+use Rattle.bcast_store.specs.Stored.{AreHandedOut}
 use Rattle.bcast_store.proofs.Least.{insert_there}
 use Rattle.bcast_store.proofs.Owing.{found}
 use Rattle.bcast_core.specs.Batch.{ReceivesEach, ReceivesInto}
-use Rattle.bcast_core.specs.Parts.{AreHandedOut, IsHandedOut}
+use Rattle.bcast_core.specs.Parts.{IsHandedOut}
 use Rattle.bcast_core.proofs.Moves.{moved, after, after_twice, told_is, front_reached, kept_moved}
 use Rattle.bcast_core.proofs.Receives.{receive_one}
 use Rattle.bcast_core.proofs.Settle.{settle_same}
@@ -114,7 +115,7 @@ module _ {T : Type 0} {is_clone : T → T → Type 0} where
   pub into_shown : {key n : ℕ} {old new : View T} {before after : List T} → IsShown old → ReceivesInto (Answers is_clone) key old before n after new → IsShown new
   into_shown {key = key} {old = old} {new = new} shown r = each_shown is_clone key old new r.given shown r.each
 
-  pub into_given : {was v new : View T} {key cursor n : ℕ} {before put : List T} → was ≡ v → IsShown was → StandsAt was key cursor → cursor + n ≤ was.end → AreHandedOut is_clone was key cursor before n put → new ≡ after was key (cursor + n)
+  pub into_given : {was v new : View T} {key cursor n : ℕ} {before put : List T} → was ≡ v → IsShown was → StandsAt was key cursor → cursor + n ≤ was.end → AreHandedOut (IsHandedOut is_clone was key) cursor before n put → new ≡ after was key (cursor + n)
       → ReceivesInto (Answers is_clone) key v before n put new
   into_given {was = was} {new = new} {key = key} {cursor = cursor} {n = n} {before = before} {put = put} same shown at within handed new_is =
       let each = each_given is_clone was key cursor handed.given shown at (omega (arith, within, handed.counted)) handed.each in

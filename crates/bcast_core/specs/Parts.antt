@@ -1,6 +1,5 @@
 -- How the state of a channel is put together. No public clause cites this module.
-use Rattle.std.specs.Prelude.{◌≡◌, ℕ, ◌+◌, ◌*◌, ◌^◌, ◌<◌, ◌⊎◌, Bool, true, false, is_some, None, Result, Ok, Err}
-use Rattle.std.specs.Prelude.{List, ◌++◌, length, slice_get, Some, IsSomeAnd}
+use Rattle.std.specs.Prelude.{◌≡◌, ℕ, ◌+◌, ◌*◌, ◌^◌, ◌<◌, ◌⊎◌, Bool, true, false, is_some, None, Some, IsSomeAnd, Result, Ok, Err}
 use Rattle.std.specs.FinMap.{get, len}
 use Rattle.bcast_model.specs.Words.{Found, Control, Cursors, View, Legal, effect, settle}
 use Rattle.bcast_model.specs.Words.{Pair, is_empty_reply, kept_at, IsOwed, cursor_of, with_cursor, sets}
@@ -73,13 +72,3 @@ abbrev pub IsHandedOut : {T : Type 0} → (T → T → Type 0) → View T → �
 IsHandedOut is_clone v key number given =
     (kept_at v number ≡ Some given)
     ⊎ (IsOwed v key (Some number) × IsSomeAnd (kept_at v number) (λ msg. is_clone msg given))
-
--- what a receiver is given for `count` messages, from this number on: it was put last into a list
-pub record AreHandedOut
-    {T : Type 0} (is_clone : T → T → Type 0) (v : View T) (key cursor : ℕ) (before : List T)
-    (count : ℕ) (after : List T) : Type 0 where
-  pub given : List T
-  pub put : after ≡ before ++ given
-  pub counted : length given ≡ count
-  pub each : (i : ℕ) (msg : T) → slice_get given i ≡ Some msg
-      → IsHandedOut is_clone v key (cursor + i) msg

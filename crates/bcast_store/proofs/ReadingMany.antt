@@ -14,7 +14,7 @@ use Rattle.bcast_model.proofs.DeliveryLists.{in_longer, in_parts}
 use Rattle.bcast_model.proofs.DeliveryMaps.{inserted}
 use Rattle.bcast_model.proofs.Views.{slice_get-drop}
 use Rattle.bcast_queue.specs.Queue.{Queued, passed, without}
-use Rattle.bcast_store.specs.Stored.{AreHandedOut, IsOwed, with_cursors}
+use Rattle.bcast_store.specs.Stored.{AreHandedOut, IsHandedOut, IsOwed, with_cursors}
 use Rattle.bcast_store.specs.Sound.{IsSound, store_of, owing_at}
 use Rattle.bcast_store.proofs.Least.{insert_twice}
 use Rattle.bcast_store.proofs.Owing.{owing-moved, reached, another, found}
@@ -103,7 +103,7 @@ module _ {T : Type 0} (q : Queued T) (cursors : Cursors) (key number i own share
       }
 
   pub handed_many : (is_clone : T → T → Type 0) (before mid after : List T) → IsNonDecreasing q.owed → (0 < shared → 1 < get_or q.owed (i + own) 0) → mid ≡ before ++ take own q.messages
-      → AppendsClones is_clone mid after (take shared (drop i (drop own q.messages))) → AreHandedOut is_clone (store_of q cursors) key number before (own + shared) after
+      → AppendsClones is_clone mid after (take shared (drop i (drop own q.messages))) → AreHandedOut (IsHandedOut is_clone (store_of q cursors) key) number before (own + shared) after
   handed_many is_clone before mid after rises more mid_is made =
       let mine = take own q.messages in
       let long : length mine ≡ own = omega (arith, length-take own q.messages, r.within) in

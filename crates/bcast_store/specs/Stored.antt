@@ -44,15 +44,14 @@ module _ {T : Type 0} where
       ⊎ (IsOwed s key number
       × IsSomeAnd (slice_get s.queue (number - s.front)) (λ msg. is_clone msg given))
 
-  -- what a receiver is given for `count` messages, from this number on: it was put last into a list
+  -- for each of `count` numbers, from this one on, what may be given was put last into a list
   pub record AreHandedOut
-      (is_clone : T → T → Type 0) (s : Stored T) (key number : ℕ) (before : List T) (count : ℕ)
-      (after : List T) : Type 0 where
+      (IsGiven : ℕ → T → Type 0) (number : ℕ) (before : List T) (count : ℕ) (after : List T)
+      : Type 0 where
     pub given : List T
     pub put : after ≡ before ++ given
     pub counted : length given ≡ count
-    pub each : (i : ℕ) (msg : T) → slice_get given i ≡ Some msg
-        → IsHandedOut is_clone s key (number + i) msg
+    pub each : (i : ℕ) (msg : T) → slice_get given i ≡ Some msg → IsGiven (number + i) msg
 
 -- what always holds: some receiver is to read each kept message, and no cursor is past the end
 pub record IsSettled {T : Type 0} (s : Stored T) : Type 0 where

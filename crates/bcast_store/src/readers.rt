@@ -112,7 +112,7 @@ impl<T: Clone, A: Allocator + Copy> Store<T, A> {
         requires within { number + count ≤ end_of self.old }
         requires room { vec_len msgs.old + count ≤ vec_capacity msgs.old }
         ensures at_most { result ≤ count }
-        ensures given { AreHandedOut T.is_clone self.old key number
+        ensures given { AreHandedOut (IsHandedOut T.is_clone self.old key) number
             msgs.old.items result msgs.new.items }
         ensures passed { self.new
             ≡ with_cursors self.old (map.insert self.old.cursors key (number + result)) }

@@ -5,7 +5,7 @@ use Rattle.std.specs.List.{AppendsClones}
 use Rattle.std.specs.FinMap.{get, insert}
 use Rattle.bcast_model.proofs.Views.{slice_get-drop}
 use Rattle.bcast_queue.specs.Queue.{passed, without}
-use Rattle.bcast_store.specs.Stored.{Stored, AreHandedOut, end_of, with_cursors}
+use Rattle.bcast_store.specs.Stored.{Stored, AreHandedOut, IsHandedOut, end_of, with_cursors}
 use Rattle.bcast_store.proofs.Counted.{IsCounted}
 use Rattle.bcast_store.proofs.Messages.{same_sound, same_store}
 use Rattle.bcast_store.proofs.Owing.{found}
@@ -42,7 +42,7 @@ returns-clause-given g c =
     let own = c.take_own-own.ensures in
     let shared = c.put_clones-shared.ensures in
     let made = subst (λ ms. AppendsClones g.T.Clone.is_clone c.take_own-own.new.msgs.items c.put_clones-shared.new.msgs.items (take c.put_clones-shared.result (drop index ms))) (ap (λ p. p.messages) own.rest) shared.given in
-    subst (λ s. AreHandedOut g.T.Clone.is_clone s c.args.key c.args.number c.args.msgs.now.items (c.take_own-own.result + c.put_clones-shared.result) c.put_clones-shared.new.msgs.items) c.self.view_is
+    subst (λ (s : Stored g.row.T.Denot). AreHandedOut (IsHandedOut g.T.Clone.is_clone s c.args.key) c.args.number c.args.msgs.now.items (c.take_own-own.result + c.put_clones-shared.result) c.put_clones-shared.new.msgs.items) c.self.view_is
     (handed_many q c.self.inside.cursors c.args.key c.args.number index c.take_own-own.result c.put_clones-shared.result (reads g here.After-put_clones-shared (at g here.After-front) (is g here.After-front))
     g.T.Clone.is_clone c.args.msgs.now.items c.take_own-own.new.msgs.items c.put_clones-shared.new.msgs.items c.invariant_holds.ensures.never_falls (λ some. own.shared (omega (arith, some, shared.at_most))) own.taken made)
 

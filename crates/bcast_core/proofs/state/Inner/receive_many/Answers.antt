@@ -4,8 +4,8 @@ use Rattle.std.specs.Prelude.{IsSomeAnd}
 use Rattle.std.proofs.lemmas.Bool.{cases_lt}
 use Rattle.std.specs.FinMap.{insert}
 use Rattle.bcast_model.specs.Words.{IsShown, View, cursor_of, kept_at, tell_if_ready}
-use Rattle.bcast_store.specs.Stored.{Stored}
-use Rattle.bcast_core.specs.Parts.{AreHandedOut, HaveRoom, IsHandedOut}
+use Rattle.bcast_store.specs.Stored.{Stored, AreHandedOut}
+use Rattle.bcast_core.specs.Parts.{HaveRoom, IsHandedOut}
 use Rattle.bcast_core.proofs.Moves.{after}
 use Rattle.bcast_core.proofs.Batches.{StandsAt, into_given, into_shown, unread_is, next_refused}
 use Rattle.bcast_core.proofs.Rooms.{room_inserted}
@@ -32,7 +32,7 @@ returns-clause-received g c =
     let end = (valid_shown c.self.invariant).reach c.args.key c.in-Some.cursor at.there in
     let last = c.end.ensures ∙ ap (λ inside. inside.parts.end) c.self-inside.view_is in
     let given = c.read_many-given.ensures.given in
-    let handed : AreHandedOut g.T.Clone.is_clone c.self.inside.parts c.args.key c.in-Some.cursor c.args.msgs.now.items c.read_many-given.result c.read_many-given.new.msgs.items = record {
+    let handed : AreHandedOut (IsHandedOut g.T.Clone.is_clone c.self.inside.parts c.args.key) c.in-Some.cursor c.args.msgs.now.items c.read_many-given.result c.read_many-given.new.msgs.items = record {
       given = given.given;
       put = subst (λ items. c.read_many-given.new.msgs.items ≡ items ++ given.given) c.reserve.ensures.items given.put;
       counted = given.counted;
