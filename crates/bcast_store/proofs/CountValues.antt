@@ -1,5 +1,5 @@
 -- How many cursors pass a test, after a change of the map.
-use Rattle.std.proofs.Common.{◌≡◌, ℕ, ◌+◌, ◌<◌, Bool, true, false, cond, eqb, List, [], ◌∷◌, Option, Some, None, count_by, refl, sym, ap, ◌∙◌, arith, T, Ordering, eqb-true, eq-eqb}
+use Rattle.std.proofs.Common.{◌≡◌, ℕ, ◌+◌, ◌<◌, Bool, true, false, cond, List, [], ◌∷◌, Option, Some, None, count_by, refl, sym, ap, ◌∙◌, arith, T, Ordering, eqb-true, eq-eqb, ne_eqb}
 use Rattle.std.specs.declared.cmp.Ordering.TheVariants.{Less, Equal, Greater}
 use Rattle.std.specs.Ordering.{nat_cmp, is_eq, eq_by_cmp}
 use Rattle.std.specs.Cmp.{nat_cmp_total, ranked, unsigned_tied}
@@ -30,11 +30,8 @@ module _ {V : Type 0} (p : V → Bool) where
   missing k j [] h below = refl
   missing k j (e ∷ es) h below =
       let above = below-lt j e.0 (both_true _ _ below).0 in
-      let apart : eq_by_cmp nat_cmp k e.0 ≡ false = unsigned_tied k e.0 ∙ differ k e.0 (omega arith) in
+      let apart : eq_by_cmp nat_cmp k e.0 ≡ false = unsigned_tied k e.0 ∙ ne_eqb k e.0 (λ same. omega (arith, h, above, same)) in
       ap (λ b. cond b (Some e.1) (find nat_cmp k es)) apart ∙ missing k j es h (both_true _ _ below).1
-    where
-      differ : (x y : ℕ) → x < y → eqb x y ≡ false
-      differ x y l = grind arith
 
   -- the new value is counted, and the old one no more
   count-put : (k : ℕ) (v : V) (es : List (ℕ × V)) → T (map.is_sorted nat_cmp es) → count_by passing (put nat_cmp k v es) + one_if p (find nat_cmp k es) ≡ count_by passing es + cond (p v) 1 0
