@@ -4,7 +4,7 @@ ghost use Rattle.std.specs.FinSet as set;
 ghost use Rattle.std.specs.List.{AllZip};
 ghost use Rattle.std.specs.Ordering.{nat_cmp};
 ghost use Rattle.std.specs.List.Sorted.{IsStrictlyIncreasing};
-ghost use Rattle.bcast_core.specs.Snapshot.{Shows, listeners_of};
+ghost use Rattle.bcast_core.specs.Snapshot.{Shows};
 
 use crate::parts::Parts;
 use bcast_model::listener::Kind;

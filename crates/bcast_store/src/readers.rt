@@ -1,5 +1,5 @@
 //! Receivers are added, leave, and read.
-ghost use Rattle.std.specs.Prelude.{◌≡◌, ◌+◌, ◌-◌, ◌<◌, ◌≤◌, ◌↔◌, None, Some, if◌then◌else◌};
+ghost use Rattle.std.specs.Prelude.{◌≡◌, ◌+◌, ◌-◌, ◌<◌, ◌≤◌, None, Some, if◌then◌else◌};
 ghost use Rattle.std.specs.Prelude.{IfOk, IsOk, OnOk, OnErr, IsSomeAnd, max};
 ghost use Rattle.std.specs.Prelude.{length, take, drop, slice_get, vec_len, vec_capacity};
 ghost use Rattle.std.specs.List.{AppendsClones};
