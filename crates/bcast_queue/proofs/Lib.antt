@@ -1,8 +1,6 @@
 -- The lemmas, in the order in which they build on one another.
--- counts that never fall
+-- counts that never fall, and those at the front
 pub mod Owed
--- those at the front
-pub mod Front
 -- the counts of a changed queue, index by index, for the crates above
 pub mod Pointwise
 -- the counts of owing readers, by how many read each message next

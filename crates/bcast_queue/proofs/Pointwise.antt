@@ -3,7 +3,7 @@ use Rattle.std.proofs.Common.{◌≡◌, ℕ, zero, suc, ◌+◌, ◌-◌, ◌<�
 use Rattle.std.proofs.lemmas.Grind.{common_steps}
 use Rattle.std.proofs.lemmas.List.{length-map, get_or-map}
 use Rattle.bcast_queue.specs.Queue.{one_more_from, one_fewer_from}
-use Rattle.bcast_queue.proofs.Front.{nobody, count_head}
+use Rattle.bcast_queue.proofs.Owed.{nobody, count_head}
 
 pub length-one_fewer_from : (i : ℕ) (ns : List ℕ) → length (one_fewer_from i ns) ≡ length ns
 length-one_fewer_from zero ns = length-map ns (λ n. n - 1)

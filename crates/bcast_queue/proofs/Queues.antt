@@ -7,8 +7,7 @@ use Rattle.circular_buffer.specs.Buffer.{Buffer}
 use Rattle.bcast_queue.specs.declared.entry.Entry.{Entry}
 use Rattle.bcast_queue.specs.Queue.{one_fewer_from, Queued, queue_with, without_reader}
 use Rattle.bcast_queue.specs.Entries.{counts, messages, next_of, owed_by, queue_of, AreCounted, IsSound}
-use Rattle.bcast_queue.proofs.Owed.{RisesFrom, at_least}
-use Rattle.bcast_queue.proofs.Front.{none_gone}
+use Rattle.bcast_queue.proofs.Owed.{RisesFrom, at_least, none_gone}
 use Rattle.bcast_queue.proofs.Entries.{next_at}
 use Rattle.bcast_queue.proofs.OwedBy.{RisesFrom-owed_by, length-owed_by, get_or-owed_by, reader_of}
 use Rattle.bcast_queue.proofs.Unowed.{AreUnowed}

@@ -6,7 +6,7 @@ use Rattle.std.proofs.lemmas.List.{get_or-set_other}
 use Rattle.std.proofs.lemmas.List.Sums.{sum_by-cons, sum_by-set}
 use Rattle.bcast_queue.specs.Queue.{one_fewer_from}
 use Rattle.bcast_queue.specs.Entries.{owed_by, AreCounted}
-use Rattle.bcast_queue.proofs.Front.{nobody, none_gone, count_head}
+use Rattle.bcast_queue.proofs.Owed.{nobody, none_gone, count_head}
 use Rattle.bcast_queue.proofs.OwedBy.{RisesFrom-owed_by, owed_by-fewer}
 
 -- the counts that are left of `ns` when a reader that is counted at the index i leaves

@@ -4,7 +4,7 @@ use Rattle.std.proofs.lemmas.Grind.{common_steps}
 use Rattle.std.specs.List.{prefix_len}
 use Rattle.std.proofs.lemmas.List.{length-map}
 use Rattle.bcast_queue.specs.Entries.{counts, messages, next_of, message_of}
-use Rattle.bcast_queue.proofs.Front.{nobody}
+use Rattle.bcast_queue.proofs.Owed.{nobody}
 use Rattle.bcast_queue.proofs.OwedBy.{RisesFrom-owed_by}
 use Rattle.bcast_queue.proofs.Unowed.{AreUnowed-front, AreLeft, AreLeft-set}
 use Rattle.bcast_queue.proofs.Queues.{IsQueue-seen, reader_at, sound-kept, left_at_end, left_behind, left_front, same_queue}

@@ -4,7 +4,7 @@ use Rattle.std.specs.List.{prefix_len}
 use Rattle.std.proofs.lemmas.List.{length-map, drop-map, drop-drop, set-get_or}
 use Rattle.std.proofs.lemmas.List.Sums.{sum_by-take-drop}
 use Rattle.bcast_queue.specs.Entries.{counts, messages, next_of, message_of}
-use Rattle.bcast_queue.proofs.Front.{nobody, one_nobody}
+use Rattle.bcast_queue.proofs.Owed.{nobody, one_nobody}
 use Rattle.bcast_queue.proofs.counts.drop_unowed.Goals as goal
 
 pub loop-next-preserved : goal.loop-next-preserved

@@ -2,7 +2,7 @@
 use Rattle.std.proofs.Common.{◌≡◌, ◌+◌, ◌≤◌, ◌<◌, ◌^◌, length, drop, get_or, sum}
 use Rattle.std.specs.List.{prefix_len}
 use Rattle.bcast_queue.specs.Entries.{counts, messages}
-use Rattle.bcast_queue.proofs.Front.{nobody}
+use Rattle.bcast_queue.proofs.Owed.{nobody}
 use Rattle.bcast_queue.proofs.counts.drop_unowed.Given as goal
 
 -- once the rest is dropped, the same messages and counts are left
