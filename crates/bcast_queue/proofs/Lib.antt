@@ -11,7 +11,5 @@ pub mod Unowed
 pub mod Entries
 -- what a contract sees of a queue
 pub mod Queues
--- a reader moves on, past messages that others owe too
+-- the first message goes; a reader moves on, past messages that others owe too
 pub mod Reading
--- the first message goes
-pub mod Popped

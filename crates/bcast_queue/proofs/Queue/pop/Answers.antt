@@ -1,5 +1,5 @@
 -- The first message goes, and those that read it next read the one behind it.
-use Rattle.bcast_queue.proofs.Popped.{sound-popped, seen-popped}
+use Rattle.bcast_queue.proofs.Reading.{sound-popped, seen-popped}
 use Rattle.bcast_queue.proofs.Queue.pop.Goals as goal
 
 pub returns-clause-some : goal.returns-clause-some
