@@ -1,12 +1,12 @@
 -- What the calls of a queue do to what a contract sees of it.
-use Rattle.std.proofs.Common.{◌≡◌, ◌≢◌, ℕ, zero, suc, ◌+◌, ◌-◌, ◌<◌, ◌≤◌, ◌^◌, get_or, [], ◌∷◌, drop, length, List, slice_get, Some, refl, ap, arith}
+use Rattle.std.proofs.Common.{◌≡◌, ◌≢◌, ℕ, zero, suc, ◌+◌, ◌-◌, ◌<◌, ◌≤◌, ◌^◌, get_or, [], ◌∷◌, drop, length, List, slice_get, Some, refl, sym, ap, arith}
 use Rattle.std.proofs.lemmas.Grind.{common_steps}
 use Rattle.std.proofs.lemmas.List.{length-map}
 use Rattle.std.proofs.lemmas.Option.{slice_get-map}
 use Rattle.circular_buffer.specs.Buffer.{Buffer}
 use Rattle.bcast_queue.specs.declared.entry.Entry.{Entry}
 use Rattle.bcast_queue.specs.Queue.{one_fewer_from, Queued, queue_with, without_reader}
-use Rattle.bcast_queue.specs.Entries.{counts, messages, next_of, owed_by, queue_of, AreCounted, IsSound}
+use Rattle.bcast_queue.specs.Entries.{counts, messages, message_of, next_of, owed_by, queue_of, AreCounted, IsSound}
 use Rattle.bcast_queue.proofs.Owed.{RisesFrom, at_least, none_gone}
 use Rattle.bcast_queue.proofs.Entries.{next_at}
 use Rattle.bcast_queue.proofs.OwedBy.{RisesFrom-owed_by, length-owed_by, get_or-owed_by, reader_of}
@@ -32,8 +32,12 @@ module _ {X : Type 0} where
   IsQueue-seen front total room ring q sound seen = grind (arith, common_steps, RisesFrom-owed_by, length-owed_by, length-map)
 
   -- a reader is counted at a message that more owe than the one before it
-  pub reader_at : (front total room : ℕ) (ring : Buffer (Entry X)) (q : Queued X) (i : ℕ) → IsSound front total room ring → queue_of front ring room ≡ q → i < length ring.items → (0 < i → get_or q.owed (i - 1) 0 < get_or q.owed i 0) → 0 < get_or (counts ring) i 0
-  reader_at front total room ring q i sound seen inside before = reader_of total i (counts ring) sound.counted (omega (arith, inside, length-map ring.items next_of)) (rw (← seen) at before)
+  pub reader_at : (front total room : ℕ) (ring : Buffer (Entry X)) (q : Queued X) (i : ℕ) → IsSound front total room ring → queue_of front ring room ≡ q → i < length ring.items → (0 < i → i < length q.messages → get_or q.owed (i - 1) 0 < get_or q.owed i 0) → 0 < get_or (counts ring) i 0
+  reader_at front total room ring q i sound seen inside before =
+      let long = ap (λ p. length p.messages) seen in
+      let within : i < length q.messages = omega (arith, inside, sym long, length-map ring.items message_of) in
+      let above : 0 < i → get_or q.owed (i - 1) 0 < get_or q.owed i 0 = λ some. before some within in
+      reader_of total i (counts ring) sound.counted (omega (arith, inside, length-map ring.items next_of)) (rw (← seen) at above)
 
   -- a ring of which messages may have gone
   pub sound-kept : (front f total t room : ℕ) (ring after : Buffer (Entry X)) → IsSound front total room ring → AreCounted t (counts after) → f + length after.items < 2 ^ 64 → length (messages after) ≤ length (messages ring) → after.capacity ≡ ring.capacity → IsSound f t room after

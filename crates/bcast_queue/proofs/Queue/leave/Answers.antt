@@ -19,11 +19,8 @@ returns-then-index-len-clause-left g c =
 
 reader : (g : _) (c : Else-index-len g) → 0 < get_or (counts c.self.inside.ring) c.args.index 0
 reader g c =
-    let ring = c.self.inside.ring in
-    let inside : c.args.index < length ring.items = omega (arith, c.if-index-len.false, c.len.ensures.len) in
-    let long = ap (λ q. length q.messages) c.self.view_is in
-    reader_at _ _ _ ring c.args.self.now c.args.index c.self.invariant c.self.view_is inside
-    (λ some. c.requires.owed some (omega (arith, inside, sym long, length-map ring.items message_of)))
+    let inside : c.args.index < length c.self.inside.ring.items = omega (arith, c.if-index-len.false, c.len.ensures.len) in
+    reader_at _ _ _ c.self.inside.ring c.args.self.now c.args.index c.self.invariant c.self.view_is inside c.requires.owed
 
 pub change_at-next-requires-clause-enough : goal.change_at-next-requires-clause-enough
 change_at-next-requires-clause-enough g c = reader g (goal.at.change_at-next-requires-clause-enough g c).Else-index-len

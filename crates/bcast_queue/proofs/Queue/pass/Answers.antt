@@ -17,11 +17,7 @@ inside g c =
     omega (arith, c.requires.within, c.if-count-eq0.false, sym long, length-map c.self.inside.ring.items message_of)
 
 reader : (g : _) (c : Else-count-eq0 g) → 0 < get_or (counts c.self.inside.ring) c.args.index 0
-reader g c =
-    let ring = c.self.inside.ring in
-    let long = ap (λ q. length q.messages) c.self.view_is in
-    reader_at _ _ _ ring c.args.self.now c.args.index c.self.invariant c.self.view_is (inside g c)
-    (λ some. c.requires.owed some (omega (arith, inside g c, sym long, length-map ring.items message_of)))
+reader g c = reader_at _ _ _ c.self.inside.ring c.args.self.now c.args.index c.self.invariant c.self.view_is (inside g c) c.requires.owed
 
 -- the counts without the reader
 fewer : (g : _) (c : After-change_at g) (w : Else-count-eq0 g) → 0 < get_or (counts c.self.inside.ring) c.args.index 0 → c.args.index < length c.self.inside.ring.items

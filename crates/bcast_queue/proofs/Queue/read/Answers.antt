@@ -95,7 +95,7 @@ reader : (g : _) (c : After-clone g) → 0 < c.change-next.new.self.next
 reader g c =
     let here = at g c in
     let items = c.self.inside.ring.items in
-    let some = reader_at _ _ _ _ c.args.self.now c.args.index c.self.invariant c.self.view_is (slice_get_within items c.args.index c.change-next.new.self here) c.requires.owed in
+    let some = reader_at _ _ _ _ c.args.self.now c.args.index c.self.invariant c.self.view_is (slice_get_within items c.args.index c.change-next.new.self here) (λ above _. c.requires.owed above) in
     omega (arith, some, next_at items c.args.index c.change-next.new.self here)
 
 pub change-requires-clause-enough : goal.change-requires-clause-enough
