@@ -7,9 +7,8 @@ use Rattle.std.specs.List.{AllByRecursion}
 use Rattle.std.proofs.lemmas.List.Edits.{length-remove}
 use Rattle.bcast_model.specs.Listeners.{is_in, consume, untold_ids, AreInOrder}
 use Rattle.bcast_waiting.specs.Words.{is_told, Slots, listed, front, has, listeners_of, IsKept}
-use Rattle.bcast_waiting.proofs.Position.{IsFirstAt}
 use Rattle.bcast_model.proofs.Lists.{all_more, all_append, all_absent}
-use Rattle.bcast_waiting.proofs.Listed.{all_remove}
+use Rattle.bcast_waiting.proofs.Listed.{IsFirstAt, all_remove}
 use Rattle.bcast_waiting.proofs.Few.{at_most}
 use Rattle.bcast_waiting.proofs.Listeners.{is_told_first, untold_is, consume_first, AreInOrder-removed, AreInOrder-join}
 use Rattle.bcast_waiting.proofs.InSlots.{front_less, front_mono, front_push, listed_push, listed_left, front_left, front_kept, is_some-has, has_within, first_listed}

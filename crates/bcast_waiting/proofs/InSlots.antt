@@ -10,7 +10,7 @@ use Rattle.std.proofs.lemmas.List.Elements.{filter_map-append}
 use Rattle.bcast_model.specs.Listeners.{is_in, IsDistinct}
 use Rattle.bcast_waiting.specs.Words.{listed, front, has, slot_id}
 use Rattle.bcast_waiting.specs.declared.slots.Listener.{Listener}
-use Rattle.bcast_waiting.proofs.Position.{IsFirstAt}
+use Rattle.bcast_waiting.proofs.Listed.{IsFirstAt}
 
 module _ {I : Type 0} where
   -- ---- how many are listed before a position

@@ -1,14 +1,20 @@
--- A list of ids after an id was taken out, or was put last.
-use Rattle.std.proofs.Common.{◌≡◌, ℕ, zero, suc, ◌≤◌, Bool, true, false, ◌||◌, ltb, List, [], ◌∷◌, ◌++◌, take, drop, refl, sym, ap, ◌∙◌, arith}
+-- The position of an id in a list, and the list after the id was taken out, or was put last.
+use Rattle.std.proofs.Common.{◌≡◌, ℕ, zero, suc, ◌<◌, ◌≤◌, Bool, true, false, ◌||◌, ltb, List, [], ◌∷◌, ◌++◌, length, take, drop, refl, sym, ap, ◌∙◌, arith}
 use Rattle.std.proofs.lemmas.Grind.{common_steps}
-use Rattle.std.specs.Prelude.{remove}
+use Rattle.std.specs.Prelude.{remove, slice_index_or}
 use Rattle.std.specs.List.{AllByRecursion}
 use Rattle.std.specs.Cmp.{IsEquivalence}
 use Rattle.std.proofs.lemmas.Bool.{true≢false}
 use Rattle.std.proofs.lemmas.List.{take-append-drop}
 use Rattle.bcast_model.specs.Listeners.{is_in, without, IsDistinct}
 use Rattle.bcast_model.proofs.Lists.{all_more, all_left, all_append, all_dropped, all_absent, absent, without_absent}
-use Rattle.bcast_waiting.proofs.Position.{IsFirstAt}
+
+module _ {I : Type 0} (same : I → I → Bool) (id : I) (ids : List I) where
+  -- the id at the position is the same, and none before it is
+  pub record IsFirstAt (position : ℕ) : Type 0 where
+    pub within : position < length ids
+    pub found : same id (slice_index_or ids position id) ≡ true
+    pub before : (k : ℕ) → k < position → same id (slice_index_or ids k id) ≡ false
 
 module _ {I : Type 0} (same : I → I → Bool) where
   abbrev Differs : I → I → Type 0
@@ -20,6 +26,10 @@ module _ {I : Type 0} (same : I → I → Bool) where
 
   pub absent_drop : (id : I) (n : ℕ) (ids : List I) → is_in same id ids ≡ false → is_in same id (drop n ids) ≡ false
   absent_drop id n ids h = absent same id (drop n ids) (all_dropped (Differs id) n ids (all_absent same id ids h))
+
+  pub absent_without : (id : I) (ids : List I) → is_in same id (without same id ids) ≡ false
+  absent_without id [] = refl
+  absent_without id (x ∷ ids) = grind (arith, common_steps, absent_without id ids)
 
   -- ---- an id that is in the list
   later : (id x : I) (ids : List I) (i : ℕ) → IsFirstAt same id (x ∷ ids) (suc i) → IsFirstAt same id ids i

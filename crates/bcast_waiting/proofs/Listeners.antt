@@ -6,9 +6,8 @@ use Rattle.std.specs.Cmp.{IsEquivalence}
 use Rattle.std.proofs.lemmas.List.Edits.{length-remove}
 use Rattle.bcast_model.specs.Listeners.{Listeners, untold_ids, is_in, consume, join, AreInOrder}
 use Rattle.bcast_waiting.specs.Event.{is_told}
-use Rattle.bcast_waiting.proofs.Position.{IsFirstAt}
 use Rattle.bcast_model.proofs.Lists.{without_absent}
-use Rattle.bcast_waiting.proofs.Listed.{absent_take, absent_drop, apart_parts, is_in-take, is_in-drop, without-first, IsDistinct-remove, IsDistinct-push}
+use Rattle.bcast_waiting.proofs.Listed.{IsFirstAt, absent_take, absent_drop, apart_parts, is_in-take, is_in-drop, without-first, IsDistinct-remove, IsDistinct-push}
 
 module _ {I : Type 0} (same : I → I → Bool) where
   -- ---- what is told
