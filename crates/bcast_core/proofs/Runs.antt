@@ -17,14 +17,12 @@ module _ {T : Type 0} where
   pub run_more : (is_clone : T → T → Type 0) (h : History T) (calls : List (Call T)) (replies : List (Reply T)) (c : Call T) (r : Reply T) → IsRun is_clone h calls replies → Legal is_clone (view_of (end_of_run h calls replies)) c r → IsRun is_clone h (calls ++ c ∷ []) (replies ++ r ∷ [])
   run_more is_clone h [] [] c r run l = (l, tt)
   run_more is_clone h (d ∷ calls) (s ∷ replies) c r run l = (run.0, run_more is_clone (next h d s) calls replies c r run.1 l)
-  run_more is_clone h [] (s ∷ replies) c r run l = absurd run
-  run_more is_clone h (d ∷ calls) [] c r run l = absurd run
+  run_more is_clone h calls replies c r run l = absurd run
 
   pub end_more : (is_clone : T → T → Type 0) (h : History T) (calls : List (Call T)) (replies : List (Reply T)) (c : Call T) (r : Reply T) → IsRun is_clone h calls replies → end_of_run h (calls ++ c ∷ []) (replies ++ r ∷ []) ≡ next (end_of_run h calls replies) c r
   end_more is_clone h [] [] c r run = refl
   end_more is_clone h (d ∷ calls) (s ∷ replies) c r run = end_more is_clone (next h d s) calls replies c r run.1
-  end_more is_clone h [] (s ∷ replies) c r run = absurd run
-  end_more is_clone h (d ∷ calls) [] c r run = absurd run
+  end_more is_clone h calls replies c r run = absurd run
 
   -- ---- each point
   -- the state is valid
@@ -35,8 +33,7 @@ module _ {T : Type 0} where
     pub valid_more : (h : History T) (calls : List (Call T)) (replies : List (Reply T)) (c : Call T) (r : Reply T) → IsRun is_clone h calls replies → AreValid h calls replies → IsValid (next (end_of_run h calls replies) c r) → AreValid h (calls ++ c ∷ []) (replies ++ r ∷ [])
     valid_more h [] [] c r run valid last = (valid, last)
     valid_more h (d ∷ calls) (s ∷ replies) c r run valid last = (valid.0, valid_more (next h d s) calls replies c r run.1 valid.1 last)
-    valid_more h [] (s ∷ replies) c r run valid last = absurd run
-    valid_more h (d ∷ calls) [] c r run valid last = absurd run
+    valid_more h calls replies c r run valid last = absurd run
 
     pub valid_end : (h : History T) (calls : List (Call T)) (replies : List (Reply T)) → IsRun is_clone h calls replies → AreValid h calls replies → IsValid (end_of_run h calls replies)
     valid_end h [] replies run valid = valid
