@@ -70,6 +70,10 @@ module _ {T : Type 0} where
   unchanged {is_clone = is_clone} {was = was} {old = old} {c = c} {r = r} same shown new_is range does =
       subst (λ v. Answers is_clone old c r v) (sym new_is) (ends same shown range does (sym (told_valid was (valid_shown shown))))
 
+  -- the parts that a call reads or changes by themselves are those of a state that is shown
+  pub inside_shown : {inside was old : View T} → inside ≡ was → was ≡ old → IsShown was → (inside ≡ old) × IsShown inside
+  inside_shown here same shown = (here ∙ same, subst IsShown (sym here) shown)
+
   -- if no one waits, no one is told of a message
   pub news_nobody : (news : Bool) (v : View T) → NobodyWaits v.control → tell_news news v ≡ v
   news_nobody false v alone = refl

@@ -1,23 +1,18 @@
-use Rattle.std.proofs.Common.{sym, ap, ◌∙◌, subst}
-use Rattle.bcast_model.specs.Words.{IsShown}
+use Rattle.std.proofs.Common.{sym, ap, ◌∙◌}
 use Rattle.bcast_core.proofs.Making.{fewer_inactive, none_inactive}
-use Rattle.bcast_core.proofs.Tail.{ends, shown_after, told_left, unchanged, valid_shown}
+use Rattle.bcast_core.proofs.Tail.{ends, inside_shown, shown_after, told_left, unchanged, valid_shown}
 use Rattle.bcast_core.proofs.state.Inner.drop_inactive.Goals as goal
 
 pub returns-then-self-gt0 : goal.returns-then-self-gt0
 returns-then-self-gt0 g c =
-    let was = ap (λ inside. inside.parts) c.self-inside.view_is in
-    let shown = subst IsShown (sym was) c.self.invariant in
-    let valid = valid_shown shown in
-    ends (was ∙ c.self.view_is) shown tt (fewer_inactive valid c.if-self-gt0.true)
-    (c.close_if_deserted.ensures ∙ sym (told_left _ _ _ valid))
+    let here = inside_shown (ap (λ inside. inside.parts) c.self-inside.view_is) c.self.view_is c.self.invariant in
+    let valid = valid_shown here.1 in
+    ends here.0 here.1 tt (fewer_inactive valid c.if-self-gt0.true) (c.close_if_deserted.ensures ∙ sym (told_left _ _ _ valid))
 
 pub returns-else-self-gt0 : goal.returns-else-self-gt0
 returns-else-self-gt0 g c =
-    let was = ap (λ inside. inside.parts) c.self-inside.view_is in
-    let shown = subst IsShown (sym was) c.self.invariant in
-    let same = was ∙ c.self.view_is in
-    unchanged same shown (sym same) tt (none_inactive (valid_shown shown) c.if-self-gt0.false)
+    let here = inside_shown (ap (λ inside. inside.parts) c.self-inside.view_is) c.self.view_is c.self.invariant in
+    unchanged here.0 here.1 (sym here.0) tt (none_inactive (valid_shown here.1) c.if-self-gt0.false)
 
 pub invariant_of-self : goal.invariant_of-self
 invariant_of-self g c = shown_after (returns-then-self-gt0 g c)
