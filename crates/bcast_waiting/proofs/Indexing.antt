@@ -10,6 +10,13 @@ use Rattle.bcast_model.proofs.Tests.{test_place}
 use Rattle.bcast_waiting.specs.Words.{listed, has, IsAt, IsIndexed}
 use Rattle.bcast_waiting.proofs.InSlots.{absent_slots}
 
+-- the entry of a number after that of another was written, and after its own was
+other_written : (positions : List ℕ) (n m k p : ℕ) → m ≢ n → IsAt positions m p → IsAt (set positions n k) m p
+other_written positions n m k p apart at = record { within = omega (arith, at.within, length-set positions n k); at = get_or-set_other positions n m k 0 apart ∙ at.at }
+
+own_written : (positions : List ℕ) (n m k p : ℕ) → m ≡ n → n < length positions → k ≡ p → IsAt (set positions n k) m p
+own_written positions n m k p own within is = record { within = omega (arith, own, within, length-set positions n k); at = get_or-set_at positions n m k 0 own within ∙ is }
+
 module _ {I : Type 0} where
   -- what holds of each id that is listed holds of the id in a slot
   pub in_slot : (P : I → Type 0) (ids : List (Option I)) (p : ℕ) (x : I) → AllByRecursion P (listed ids) → get_or ids p None ≡ Some x → P x
@@ -64,18 +71,11 @@ module _ {I : Type 0} where
           | true ↦ λ t.
               let less : p < length ids = grind (arith, t) in
               let was = sym (get_or_append_left ids (Some id ∷ []) None p less) ∙ e in
-              let at = indexed p x was in
-              record {
-                within = omega (arith, at.within, length-set positions (number id) (length ids));
-                at = get_or-set_other positions (number id) (number x) (length ids) 0 (two_numbers id x (absent_at id ids p x absent was)) ∙ at.at;
-              }
+              other_written positions (number id) (number x) (length ids) p (two_numbers id x (absent_at id ids p x absent was)) (indexed p x was)
           | false ↦ λ t.
               let past : length ids ≤ p = grind (arith, t) in
               let last = pushed_at ids id p x e past in
-              record {
-                within = subst (λ x. number x < length (set positions (number id) (length ids))) last.1 (omega (arith, within, length-set positions (number id) (length ids)));
-                at = get_or-set_at positions (number id) (number x) (length ids) 0 (ap number (sym last.1)) within ∙ sym last.0;
-              }
+              own_written positions (number id) (number x) (length ids) p (ap number (sym last.1)) within (sym last.0)
         ] refl
 
       -- ---- entries are written one after another
@@ -85,19 +85,12 @@ module _ {I : Type 0} where
       entries_more ids positions k id d within e before p x h f = elim (ltb p k) as (λ b. ltb p k ≡ b → IsAt (set positions (number id) k) (number x) p) [
         | true ↦ λ t.
             let less : p < k = grind (arith, t) in
-            let at = before p x less f in
             let apart = two_numbers x id (apart_at ids p k x id d less f e) in
-            record {
-              within = omega (arith, at.within, length-set positions (number id) k);
-              at = get_or-set_other positions (number id) (number x) k 0 (λ n. apart (sym n)) ∙ at.at;
-            }
+            other_written positions (number id) (number x) k p (λ n. apart (sym n)) (before p x less f)
         | false ↦ λ t.
             let here : p ≡ k = grind (arith, t, h) in
             let one = same_Some x id (sym f ∙ ap (λ p. get_or ids p None) here ∙ e) in
-            record {
-              within = subst (λ x. number x < length (set positions (number id) k)) (sym one) (omega (arith, within, length-set positions (number id) k));
-              at = get_or-set_at positions (number id) (number x) k 0 (ap number one) within ∙ sym here;
-            }
+            own_written positions (number id) (number x) k p (ap number one) within (sym here)
       ] refl
 
   -- an empty slot has no entry
