@@ -22,7 +22,7 @@ module _ {V : Type 0} (p : V → Bool) where
   abbrev counted : FinMap nat_cmp V → ℕ
   counted = count_values p
 
-  count_cons : (e : ℕ × V) (es : List (ℕ × V)) → count_by passing (e ∷ es) ≡ cond (p e.1) 1 0 + count_by passing es
+  pub count_cons : (e : ℕ × V) (es : List (ℕ × V)) → count_by passing (e ∷ es) ≡ cond (p e.1) 1 0 + count_by passing es
   count_cons e es = sum_by-cons (λ x. cond (passing x) 1 0) e es
 
   -- a key below each key is not found

@@ -9,17 +9,17 @@ use Rattle.std.specs.Ordering.{nat_cmp}
 use Rattle.std.specs.Cmp.{nat_cmp_total, unsigned_tied}
 use Rattle.std.specs.FinMap.{get, insert, remove, len, entries, entries_sorted, find, is_sorted, get-entries, len-entries, len-insert, get-insert, get-remove}
 use Rattle.bcast_store.specs.CountValues.{passes}
-use Rattle.bcast_store.proofs.CountValues.{one_if, count_values-insert, count_values-remove}
+use Rattle.bcast_store.proofs.CountValues.{one_if, count_cons, count_values-insert, count_values-remove}
 use Rattle.std.specs.FinMap.Entries.{below_all}
 use Rattle.bcast_model.specs.Control.{Cursors}
 use Rattle.bcast_store.specs.Sound.{owes, owing_at}
-use Rattle.bcast_store.proofs.Least.{cursors_ext, count_by-cons, find_head, both_true, later}
+use Rattle.bcast_store.proofs.Least.{cursors_ext, find_head, both_true, later}
 
 found_owing : (n : ℕ) (es : List (ℕ × ℕ)) → T (is_sorted nat_cmp es) → 1 ≤ count_by (passes (owes n)) es → (k : ℕ) × (c : ℕ) × (find nat_cmp k es ≡ Some c) × (c ≤ n)
 found_owing n [] s h = absurd (omega arith)
 found_owing n (e ∷ es) s h =
     let p : T (below_all nat_cmp e.0 es) × T (is_sorted nat_cmp es) = both_true _ _ s in
-    let a : count_by (passes (owes n)) (e ∷ es) ≡ cond (nat_le e.1 n) 1 0 + count_by (passes (owes n)) es = count_by-cons (passes (owes n)) e es in
+    let a : count_by (passes (owes n)) (e ∷ es) ≡ cond (nat_le e.1 n) 1 0 + count_by (passes (owes n)) es = count_cons (owes n) e es in
     elim (nat_le e.1 n) as (λ b. nat_le e.1 n ≡ b → (k : ℕ) × (c : ℕ) × (find nat_cmp k (e ∷ es) ≡ Some c) × (c ≤ n)) [
       | true ↦ λ t. (e.0, e.1, find_head e es, grind (arith, common_steps, t))
       | false ↦ λ t.
@@ -39,7 +39,7 @@ each_owes : (n : ℕ) (es : List (ℕ × ℕ)) → T (is_sorted nat_cmp es) → 
 each_owes n [] s h = refl
 each_owes n (e ∷ es) s h =
     let p : T (below_all nat_cmp e.0 es) × T (is_sorted nat_cmp es) = both_true _ _ s in
-    let a : count_by (passes (owes n)) (e ∷ es) ≡ cond (nat_le e.1 n) 1 0 + count_by (passes (owes n)) es = count_by-cons (passes (owes n)) e es in
+    let a : count_by (passes (owes n)) (e ∷ es) ≡ cond (nat_le e.1 n) 1 0 + count_by (passes (owes n)) es = count_cons (owes n) e es in
     let l : e.1 ≤ n = h e.0 e.1 (find_head e es) in
     let t : nat_le e.1 n ≡ true = grind (arith, common_steps, l) in
     let z : ◌≡◌ {A = ℕ} (cond (nat_le e.1 n) 1 0) 1 = ap (λ b. cond b 1 0) t in
