@@ -2,9 +2,11 @@
 //! the channel, which only grows.
 //!
 //! `Opened` makes a channel with a journal of the steps on it, each a call with its reply, and
-//! `broadcast` its first handles: a `TrackedSender` and a `TrackedReceiver`. They make the calls of
-//! the handles of `async_broadcast`, under the same names. A function over them is written over
-//! their port, a `HistoryPort<T, J>`.
+//! `broadcast` its first handles: a `TrackedSender` and a `TrackedReceiver`. They have some of the
+//! calls of the handles of `async_broadcast`, under the same names: the sender all that send but
+//! for futures, `new_receiver`, the settings, the counts and `snapshot`; the receiver all that
+//! receive but for futures, `deactivate`, `len`, `unread` and `missed`; both have `clone` and
+//! `close`. A function over them is written over their port, a `HistoryPort<T, J>`.
 //!
 //! A handle knows a beginning of the steps. It makes each call once, and no other with it
 //! (`MakesCall`), and knows after it the steps that others made meanwhile, too, and last its own
