@@ -12,9 +12,7 @@ use Rattle.bcast_model.specs.declared.run.Reply.TheVariants as reply
 use Rattle.bcast_model.specs.Words.{Answers, History, View, Cursors, IsMadeFrom, Legal, effect, next, view_of, cursor_of, clone_receiver, end_number}
 use Rattle.bcast_model.proofs.Answers.{cursors-next}
 use Rattle.bcast_model.proofs.DeliveryMaps.{inserted}
-use Rattle.bcast_history.specs.declared.step.Opening.{Opening}
-use Rattle.bcast_history.specs.declared.step.Step.{Step}
-use Rattle.bcast_history.specs.History.{Replays, end_of}
+use Rattle.bcast_history.specs.History.{Opening, Step, Replays, end_of}
 use Rattle.bcast_history.proofs.Appends.{end_of-more}
 use Rattle.claims.specs.Claims.{claim_of, put_changed}
 use Rattle.claims.proofs.Claims.{put_other}

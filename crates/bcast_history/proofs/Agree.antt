@@ -2,9 +2,7 @@
 use Rattle.std.proofs.Common.{◌≡◌, inl, inr, List, sym, ◌∙◌}
 use mathlib.Core.List.{IsPrefix}
 use Rattle.bcast_model.specs.Words.{ClonesEqual}
-use Rattle.bcast_history.specs.declared.step.Opening.{Opening}
-use Rattle.bcast_history.specs.declared.step.Step.{Step}
-use Rattle.bcast_history.specs.History.{accepted_by}
+use Rattle.bcast_history.specs.History.{Opening, Step, accepted_by}
 use Rattle.bcast_history.specs.Log.{IsWholeLog}
 use Rattle.bcast_history.proofs.Closed.{closed_keeps}
 use Rattle.bcast_history.proofs.Logged.{logs_are_accepted}

@@ -6,9 +6,7 @@ use Rattle.bcast_model.specs.declared.run.Reply.{Reply}
 use Rattle.bcast_model.specs.Words.{view_of, next, IsRun, end_of_run, IsValid}
 use Rattle.bcast_model.specs.Words.{View, Legal, Represents, Answers}
 use Rattle.bcast_core.proofs.Runs.{run_more, end_more}
-use Rattle.bcast_history.specs.declared.step.Step.{Step}
-use Rattle.bcast_history.specs.declared.step.Opening.{Opening}
-use Rattle.bcast_history.specs.History.{Replays, IsHistory, calls_of, replies_of, start_of, end_of}
+use Rattle.bcast_history.specs.History.{Opening, Step, Replays, IsHistory, calls_of, replies_of, start_of, end_of}
 
 module _ {T : Type 0} where
   pub calls_of-more : (steps : List (Step T)) (step : Step T) → calls_of (steps ++ step ∷ []) ≡ calls_of steps ++ step.call ∷ []

@@ -10,8 +10,7 @@ use Rattle.async_broadcast.proofs.Batches.{each_weaker}
 use Rattle.bcast_history.specs.Reader.{Takes}
 use Rattle.async_broadcast.specs.Batch.{PutsLast}
 use Rattle.std.specs.declared.alloc.AllocError.{AllocError}
-use Rattle.bcast_history.specs.declared.step.Opening.{Opening}
-use Rattle.bcast_history.specs.History.{IsLawful, end_of}
+use Rattle.bcast_history.specs.History.{Opening, IsLawful, end_of}
 use Rattle.bcast_history.specs.Batch.{AreDeliveries, TakesInto, TakesMany}
 use Rattle.bcast_history.specs.Makes.{IsReceive, MakesReceives, ReceivesOnce}
 use Rattle.bcast_history.specs.Tracker.{IsReceiver, Tracker, Learns, number}

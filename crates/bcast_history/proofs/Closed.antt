@@ -16,9 +16,7 @@ use Rattle.std.proofs.lemmas.Option.{slice_get_past}
 use Rattle.bcast_laws.specs.Sends.{is_accepted, messages_of}
 use Rattle.bcast_laws.proofs.Closing.{IsClosed, run_stays, try_refused, all_refused, attempt_refused, poll_refused}
 use Rattle.bcast_laws.proofs.Sends.{messages_added, nothing_added}
-use Rattle.bcast_history.specs.declared.step.Opening.{Opening}
-use Rattle.bcast_history.specs.declared.step.Step.{Step}
-use Rattle.bcast_history.specs.History.{IsHistory, calls_of, replies_of, start_of, end_of, accepted_by}
+use Rattle.bcast_history.specs.History.{Opening, Step, IsHistory, calls_of, replies_of, start_of, end_of, accepted_by}
 use Rattle.bcast_history.specs.Reader.{Takes, TakesNext}
 use Rattle.bcast_history.specs.Tracker.{Tracker, number}
 use Rattle.bcast_history.specs.Closed.{HasReadAll, ClosedIsLast, EndIsLast}

@@ -13,9 +13,7 @@ use Rattle.bcast_model.specs.declared.run.Reply.{Reply}
 use Rattle.bcast_model.specs.Words.{History, View, view_of, next, Legal, Answers, Represents, HasPositiveCapacity, Control, Cursors, cursor_of, end_number}
 use Rattle.bcast_model.specs.Encodings.{view_code}
 use Rattle.bcast_model.proofs.Lists.{all_append}
-use Rattle.bcast_history.specs.declared.step.Opening.{Opening}
-use Rattle.bcast_history.specs.declared.step.Step.{Step}
-use Rattle.bcast_history.specs.History.{IsLawful, Replays, calls_of, end_of}
+use Rattle.bcast_history.specs.History.{Opening, Step, IsLawful, Replays, calls_of, end_of}
 use Rattle.bcast_history.specs.Follows.{Follows}
 use Rattle.bcast_history.specs.Cursors.{AreCursors}
 use Rattle.bcast_history.specs.Tracker.{IsOf, Tracker, Learns, next_of}

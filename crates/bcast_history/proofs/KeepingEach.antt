@@ -7,9 +7,7 @@ use Rattle.bcast_model.specs.declared.run.Call.TheVariants as call
 use Rattle.bcast_model.specs.declared.run.Reply.TheVariants as reply
 use Rattle.bcast_model.specs.Words.{Answers, History, Legal, View, cursor_of}
 use Rattle.bcast_core.specs.Batch.{ReceivesEach}
-use Rattle.bcast_history.specs.declared.step.Opening.{Opening}
-use Rattle.bcast_history.specs.declared.step.Step.{Step}
-use Rattle.bcast_history.specs.History.{IsLawful, Replays, end_of}
+use Rattle.bcast_history.specs.History.{Opening, Step, IsLawful, Replays, end_of}
 use Rattle.bcast_history.specs.Batch.{received}
 use Rattle.bcast_history.specs.Cursors.{AreCursors}
 use Rattle.bcast_history.specs.Tracker.{IsOf, Tracker, Learns, next_of}

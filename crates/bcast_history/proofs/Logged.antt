@@ -9,9 +9,7 @@ use Rattle.bcast_model.specs.declared.error.TryRecvError.TheVariants as unread
 use Rattle.bcast_model.specs.declared.run.Call.{Call}
 use Rattle.bcast_model.specs.declared.run.Reply.{Reply}
 use Rattle.bcast_model.specs.Words.{History, IsGiven, ClonesEqual, numbered, next, end_of_run}
-use Rattle.bcast_history.specs.declared.step.Opening.{Opening}
-use Rattle.bcast_history.specs.declared.step.Step.{Step}
-use Rattle.bcast_history.specs.History.{IsHistory, calls_of, replies_of, start_of, end_of}
+use Rattle.bcast_history.specs.History.{Opening, Step, IsHistory, calls_of, replies_of, start_of, end_of}
 use Rattle.bcast_history.proofs.Prefixes.{prefix_shorter, prefix_whole}
 use Rattle.bcast_history.specs.Log.{IsLog, IsWholeLog, LogsAreAccepted}
 use Rattle.bcast_history.specs.Batch.{AreDeliveries, TakesInto}

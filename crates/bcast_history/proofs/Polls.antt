@@ -18,7 +18,7 @@ use Rattle.bcast_model.specs.Words.{Found, Pair, receive, listens, stream_reply,
 use Rattle.bcast_model.proofs.Answers.{cursors-next, next_valid}
 use Rattle.bcast_model.proofs.Cases.{receive_is}
 use Rattle.bcast_model.proofs.DeliveryMaps.{cursors-listens}
-use Rattle.bcast_history.specs.declared.step.Opening.{Opening}
+use Rattle.bcast_history.specs.History.{Opening}
 use Rattle.bcast_history.specs.Batch.{TakesMany}
 use Rattle.bcast_history.specs.Reader.{Takes, as_found}
 use Rattle.bcast_history.specs.Tracker.{Tracker}

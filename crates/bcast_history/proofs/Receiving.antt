@@ -9,8 +9,7 @@ use Rattle.bcast_model.specs.declared.run.Reply.{Reply}
 use Rattle.bcast_model.specs.Words.{Found}
 use Rattle.bcast_model.proofs.Lists.{all_append}
 use Rattle.bcast_core.specs.Batch.{ReceivesEach}
-use Rattle.bcast_history.specs.declared.step.Opening.{Opening}
-use Rattle.bcast_history.specs.declared.step.Step.{Step}
+use Rattle.bcast_history.specs.History.{Opening, Step}
 use Rattle.bcast_history.specs.Makes.{IsReceive, MakesEach, MakesReceives, PollsOnce, ReceivesBy}
 use Rattle.bcast_history.specs.Tracker.{Tracker}
 use Rattle.bcast_history.proofs.Prefixes.{prefix_self, prefix_trans}

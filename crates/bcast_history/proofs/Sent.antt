@@ -4,12 +4,9 @@ use mathlib.Core.List.{IsPrefix}
 use Rattle.bcast_model.specs.Words.{History, next, end_of_run, numbered, IsDelivery, IsGiven}
 use Rattle.bcast_model.proofs.DeliveryMessages.{numbered_stays}
 use Rattle.bcast_laws.proofs.Sends.{messages_added}
-use Rattle.bcast_history.specs.declared.step.Opening.{Opening}
-use Rattle.bcast_history.specs.declared.step.Step.{Step}
-use Rattle.bcast_history.specs.History.{calls_of, replies_of, start_of, end_of}
+use Rattle.bcast_history.specs.History.{Opening, Step, calls_of, replies_of, start_of, end_of, accepted_by}
 use Rattle.bcast_history.proofs.Prefixes.{prefix_self, prefix_trans}
 use Rattle.bcast_history.proofs.Told.{still_some}
-use Rattle.bcast_history.specs.History.{accepted_by}
 use Rattle.bcast_history.specs.Laws.{MessagesStay, SendsStandLast}
 
 module _ {T : Type 0} where

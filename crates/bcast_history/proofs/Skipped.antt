@@ -11,9 +11,7 @@ use Rattle.bcast_model.specs.declared.error.TryRecvError.TheVariants as unread
 use Rattle.bcast_model.specs.declared.run.Call.{Call}
 use Rattle.bcast_model.specs.declared.run.Reply.{Reply}
 use Rattle.bcast_model.specs.Words.{History, next, end_of_run}
-use Rattle.bcast_history.specs.declared.step.Opening.{Opening}
-use Rattle.bcast_history.specs.declared.step.Step.{Step}
-use Rattle.bcast_history.specs.History.{calls_of, replies_of, start_of, end_of}
+use Rattle.bcast_history.specs.History.{Opening, Step, calls_of, replies_of, start_of, end_of}
 use Rattle.bcast_history.specs.Makes.{MakesReceives}
 use Rattle.bcast_history.specs.Reader.{Finds, Skips, Takes, TakesNext, as_found, as_tried}
 use Rattle.bcast_history.specs.Tracker.{Tracker, number}

@@ -10,9 +10,7 @@ use Rattle.bcast_model.specs.declared.run.Reply.TheVariants as reply
 use Rattle.bcast_model.specs.Words.{History, view_of, next, Legal, Cursors, cursor_of, end_number, deactivate, without_receiver, has_next, count_reply}
 use Rattle.bcast_model.proofs.Answers.{cursors-next}
 use Rattle.bcast_model.proofs.DeliveryMaps.{inserted}
-use Rattle.bcast_history.specs.declared.step.Opening.{Opening}
-use Rattle.bcast_history.specs.declared.step.Step.{Step}
-use Rattle.bcast_history.specs.History.{end_of}
+use Rattle.bcast_history.specs.History.{Opening, Step, end_of}
 
 -- the first receiver starts with the first message, where the channel is that was opened, and no
 -- step was made

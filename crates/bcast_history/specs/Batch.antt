@@ -4,9 +4,7 @@ use Rattle.std.specs.declared.alloc.AllocError.{AllocError}
 use Rattle.bcast_model.specs.declared.run.Call.TheVariants as call
 use Rattle.bcast_model.specs.declared.run.Reply.TheVariants as reply
 use Rattle.bcast_model.specs.Words.{Found, History, IsDelivery}
-use Rattle.bcast_history.specs.declared.step.Opening.{Opening}
-use Rattle.bcast_history.specs.declared.step.Step.{Step}
-use Rattle.bcast_history.specs.History.{end_of}
+use Rattle.bcast_history.specs.History.{Opening, Step, end_of}
 use Rattle.bcast_history.specs.Tracker.{Tracker, number}
 
 -- a receive by the receiver `key` that gave this message

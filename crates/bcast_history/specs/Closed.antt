@@ -5,8 +5,7 @@ use mathlib.Core.List.{IsPrefix}
 use Rattle.futures.specs.declared.task.Poll.TheVariants as poll
 use Rattle.bcast_model.specs.declared.error.TryRecvError.TheVariants as unread
 use Rattle.bcast_model.specs.Words.{end_number}
-use Rattle.bcast_history.specs.declared.step.Opening.{Opening}
-use Rattle.bcast_history.specs.History.{IsHistory, end_of}
+use Rattle.bcast_history.specs.History.{Opening, IsHistory, end_of}
 use Rattle.bcast_history.specs.Reader.{Takes, TakesNext}
 use Rattle.bcast_history.specs.Tracker.{Tracker, number}
 

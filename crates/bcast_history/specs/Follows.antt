@@ -4,9 +4,7 @@ use mathlib.Core.List.{IsPrefix}
 use Rattle.bcast_model.specs.declared.run.Call.{Call}
 use Rattle.bcast_model.specs.declared.run.Reply.{Reply}
 use Rattle.bcast_model.specs.Words.{view_of, Legal, next, IsValid}
-use Rattle.bcast_history.specs.declared.step.Opening.{Opening}
-use Rattle.bcast_history.specs.declared.step.Step.{Step}
-use Rattle.bcast_history.specs.History.{IsLawful, end_of}
+use Rattle.bcast_history.specs.History.{Opening, Step, IsLawful, end_of}
 
 -- a call by a caller who knew a beginning of the steps, and what it knows then: the steps before
 -- the call, those of others among them, and the call with its reply, all of them a run

@@ -5,8 +5,8 @@ use Rattle.bcast_model.specs.declared.run.Call.{Call}
 use Rattle.bcast_model.specs.declared.run.Reply.{Reply}
 use Rattle.bcast_model.specs.Words.{History, opening, IsRun, end_of_run}
 use Rattle.bcast_model.specs.Words.{IsValid, View, Represents, HasPositiveCapacity}
-use Rattle.bcast_history.specs.declared.step.Opening.{Opening}
-use Rattle.bcast_history.specs.declared.step.Step.{Step}
+pub use Rattle.bcast_history.specs.declared.step.Opening.{Opening}
+pub use Rattle.bcast_history.specs.declared.step.Step.{Step}
 
 module _ {T : Type 0} where
   abbrev pub calls_of : List (Step T) → List (Call T)

@@ -5,8 +5,7 @@ use mathlib.Core.List.{IsPrefix}
 use Rattle.bcast_model.specs.declared.run.Call.{Call}
 use Rattle.bcast_model.specs.declared.run.Reply.{Reply}
 use Rattle.async_broadcast.specs.Ports.{is_answer}
-use Rattle.bcast_history.specs.declared.step.Opening.{Opening}
-use Rattle.bcast_history.specs.History.{end_of}
+use Rattle.bcast_history.specs.History.{Opening, end_of}
 use Rattle.bcast_history.specs.Tracker.{Tracker, IsOf, Learns, next_of, number}
 
 pub prefix_trans

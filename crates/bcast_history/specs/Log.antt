@@ -7,10 +7,8 @@ use Rattle.bcast_model.specs.declared.error.TryRecvError.TheVariants as unread
 use Rattle.bcast_model.specs.declared.run.Call.{Call}
 use Rattle.bcast_model.specs.declared.run.Reply.{Reply}
 use Rattle.bcast_model.specs.Words.{ClonesEqual, end_number, recv_error_text}
-use Rattle.bcast_history.specs.declared.step.Opening.{Opening}
-use Rattle.bcast_history.specs.declared.step.Step.{Step}
 use Rattle.bcast_history.specs.Batch.{AreDeliveries}
-use Rattle.bcast_history.specs.History.{IsHistory, end_of, accepted_by}
+use Rattle.bcast_history.specs.History.{Opening, Step, IsHistory, end_of, accepted_by}
 use Rattle.bcast_history.specs.Makes.{ReceivesOnce}
 use Rattle.bcast_history.specs.Tracker.{Tracker, number}
 

@@ -8,8 +8,7 @@ use Rattle.bcast_model.specs.declared.error.TryRecvError.TheVariants as unread
 use Rattle.bcast_model.specs.declared.error.TryRecvError.{TryRecvError}
 use Rattle.bcast_model.specs.Words.{Found, History, cursor_of, IsDelivery, end_number}
 use Rattle.async_broadcast.specs.Ports.{as_try_recv}
-use Rattle.bcast_history.specs.declared.step.Opening.{Opening}
-use Rattle.bcast_history.specs.History.{end_of}
+use Rattle.bcast_history.specs.History.{Opening, end_of}
 use Rattle.bcast_history.specs.Tracker.{Tracker, number}
 
 module _ {T : Type 0} where
