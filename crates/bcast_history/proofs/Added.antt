@@ -1,8 +1,7 @@
 -- A receiver that a call adds: its key was free, and it reads on somewhere.
-use Rattle.std.proofs.Common.{◌≡◌, ℕ, Bool, true, List, [], ◌∷◌, ◌++◌, Option, Some, None, Result, Ok, inl, inr, refl, sym, ap, ◌∙◌, subst}
+use Rattle.std.proofs.Common.{◌≡◌, ℕ, Bool, true, List, [], ◌∷◌, ◌++◌, Option, Some, None, Result, Ok, inl, inr, refl, sym, ap, ◌∙◌, subst, IfSome, is_some}
 use Rattle.std.proofs.lemmas.Option.{none-some}
 use Rattle.std.specs.FinMap.{get, insert}
-use Rattle.std.specs.Prelude.{IfSome, is_some}
 use Rattle.bcast_core.specs.declared.calls.handles.AddReceiver.{AddReceiver}
 use Rattle.bcast_core.specs.declared.calls.handles.AddReceiver.TheVariants as receiver
 use Rattle.bcast_core.specs.Calls.{receiver_call, receiver_reply}

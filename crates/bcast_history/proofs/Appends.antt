@@ -3,8 +3,7 @@ use Rattle.std.proofs.Common.{◌≡◌, List, [], ◌∷◌, ◌++◌, sym, ◌
 use Rattle.std.proofs.lemmas.List.{map-append}
 use Rattle.bcast_model.specs.declared.run.Call.{Call}
 use Rattle.bcast_model.specs.declared.run.Reply.{Reply}
-use Rattle.bcast_model.specs.Words.{view_of, next, IsRun, end_of_run, IsValid}
-use Rattle.bcast_model.specs.Words.{View, Legal, Represents, Answers}
+use Rattle.bcast_model.specs.Words.{view_of, next, IsRun, end_of_run, IsValid, View, Legal, Represents, Answers}
 use Rattle.bcast_core.proofs.Runs.{run_more, end_more}
 use Rattle.bcast_history.specs.History.{Opening, Step, Replays, IsHistory, calls_of, replies_of, start_of, end_of}
 

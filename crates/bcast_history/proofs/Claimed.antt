@@ -1,7 +1,6 @@
 -- What is claimed is where the receivers read on, and stays so.
-use Rattle.std.proofs.Common.{◌≡◌, ℕ, List, [], Option, Some, None, inl, inr, refl, sym, ap, ◌∙◌, subst}
+use Rattle.std.proofs.Common.{◌≡◌, ℕ, List, [], Option, Some, None, inl, inr, refl, sym, ap, ◌∙◌, subst, IfSome}
 use Rattle.std.proofs.lemmas.Bool.{cases_eq}
-use Rattle.std.specs.Prelude.{IfSome}
 use Rattle.claims.specs.Claims.{claim_of, put, put_changed}
 use Rattle.claims.proofs.Claims.{put_same, put_other}
 use Rattle.bcast_model.specs.Words.{Control, cursor_of}

@@ -8,8 +8,7 @@ use Rattle.bcast_model.specs.declared.error.TryRecvError.TheVariants as unread
 use Rattle.bcast_model.specs.declared.run.Call.{Call}
 use Rattle.bcast_model.specs.declared.run.Reply.{Reply}
 use Rattle.bcast_model.specs.declared.run.Reply.TheVariants as reply
-use Rattle.bcast_model.specs.Words.{History, view_of, next, IsValid, Found, IsReceivedBy, Legal, IsDelivery, given_by, given_to, front_number}
-use Rattle.bcast_model.specs.Words.{cursor_of, end_number, kept_at, receive, try_recv_reply, Control, Cursors}
+use Rattle.bcast_model.specs.Words.{History, view_of, next, IsValid, Found, IsReceivedBy, Legal, IsDelivery, given_by, given_to, front_number, cursor_of, end_number, kept_at, receive, try_recv_reply, Control, Cursors}
 use Rattle.bcast_model.specs.Steps.{recv_reply}
 use Rattle.bcast_model.proofs.Cases.{passed_reply}
 use Rattle.bcast_model.proofs.Views.{valid_view, front-le-cursor}

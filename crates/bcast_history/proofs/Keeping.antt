@@ -1,10 +1,9 @@
 -- One more step is kept.
-use Rattle.std.proofs.Common.{◌≡◌, ℕ, Option, Some, None, refl, List, [], ◌∷◌, ◌++◌, sym, ◌∙◌, ap, subst}
+use Rattle.std.proofs.Common.{◌≡◌, ℕ, Option, Some, None, refl, List, [], ◌∷◌, ◌++◌, sym, ◌∙◌, ap, subst, IfSome}
 use Rattle.std.proofs.Math.Logic.{∥∥₁_elim}
 use Rattle.std.specs.Coded.{Coded}
 use Rattle.std.proofs.lemmas.Option.{same_Some}
 use Rattle.std.specs.FinMap.{get}
-use Rattle.std.specs.Prelude.{IfSome}
 use Rattle.std.specs.List.{AllByRecursion}
 use base.Stored.{Coded-set}
 use mathlib.Core.List.{IsPrefix}

@@ -1,7 +1,6 @@
 -- A `try_recv`, and a poll of a stream, as receives.
-use Rattle.std.proofs.Common.{◌≡◌, ℕ, ◌<◌, ◌==◌, List, Bool, true, false, cond, if◌then◌else◌, is_ok, [], Option, Some, None, Result, Ok, Err, refl, sym, ap, ◌∙◌, subst, arith}
+use Rattle.std.proofs.Common.{◌≡◌, ℕ, ◌<◌, ◌==◌, List, Bool, true, false, cond, if◌then◌else◌, is_ok, [], Option, Some, None, Result, Ok, Err, refl, sym, ap, ◌∙◌, subst, arith, alloc_error}
 use Rattle.std.proofs.lemmas.Grind.{common_steps}
-use Rattle.std.specs.Prelude.{alloc_error}
 use Rattle.std.specs.declared.alloc.AllocError.{AllocError}
 use Rattle.futures.specs.declared.task.Poll.{Poll}
 use Rattle.futures.specs.declared.task.Poll.TheVariants as poll
@@ -13,8 +12,7 @@ use Rattle.bcast_model.specs.declared.run.Call.TheVariants as call
 use Rattle.bcast_model.specs.declared.run.Reply.{Reply}
 use Rattle.bcast_model.specs.declared.run.Reply.TheVariants as reply
 use Rattle.bcast_model.specs.ListenerId.{stream_of}
-use Rattle.bcast_model.specs.Words.{History, View, view_of, next, Control, IsValid, Legal, cursor_of, given_by}
-use Rattle.bcast_model.specs.Words.{Found, Pair, receive, listens, stream_reply, worded, try_recv_reply, is_empty_reply}
+use Rattle.bcast_model.specs.Words.{History, View, view_of, next, Control, IsValid, Legal, cursor_of, given_by, Found, Pair, receive, listens, stream_reply, worded, try_recv_reply, is_empty_reply}
 use Rattle.bcast_model.proofs.Answers.{cursors-next, next_valid}
 use Rattle.bcast_model.proofs.Cases.{receive_is}
 use Rattle.bcast_model.proofs.DeliveryMaps.{cursors-listens}

@@ -1,6 +1,5 @@
 -- Where the first receiver starts, and that one stays which can't leave.
-use Rattle.std.proofs.Common.{◌≡◌, ℕ, ◌+◌, Bool, true, false, if◌then◌else◌, List, [], Some, Ok, Err, refl, sym, ap, ◌∙◌, subst, arith}
-use Rattle.std.specs.Prelude.{is_some}
+use Rattle.std.proofs.Common.{◌≡◌, ℕ, ◌+◌, Bool, true, false, if◌then◌else◌, List, [], Some, Ok, Err, refl, sym, ap, ◌∙◌, subst, arith, is_some}
 use Rattle.std.specs.FinMap.{get}
 use Rattle.bcast_model.specs.declared.error.HandleError.{HandleError}
 use Rattle.bcast_model.specs.declared.error.HandleError.TheVariants as handle

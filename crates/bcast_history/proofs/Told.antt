@@ -1,13 +1,11 @@
 -- What the reply of a receive tells of its channel.
-use Rattle.std.proofs.Common.{◌≡◌, inl, inr, ℕ, ◌-◌, ◌<◌, Bool, true, false, [], ◌∷◌, Option, Some, None, Ok, Err, refl, sym, ap, ◌∙◌, subst, arith}
+use Rattle.std.proofs.Common.{◌≡◌, inl, inr, ℕ, ◌-◌, ◌<◌, Bool, true, false, [], ◌∷◌, Option, Some, None, Ok, Err, refl, sym, ap, ◌∙◌, subst, arith, IsSomeAnd}
 use Rattle.std.proofs.lemmas.Bool.{cases_lt}
-use Rattle.std.specs.Prelude.{IsSomeAnd}
 use Rattle.std.specs.declared.alloc.AllocError.{AllocError}
 use Rattle.bcast_model.specs.declared.error.TryRecvError.TheVariants as unread
 use Rattle.bcast_model.specs.declared.run.Call.{Call}
 use Rattle.bcast_model.specs.declared.run.Reply.{Reply}
-use Rattle.bcast_model.specs.Words.{History, View, view_of, next, IsReceivedBy, IsOwed, IsDelivery, IsGiven, effect, may_tell, sends_are_ready, remember}
-use Rattle.bcast_model.specs.Words.{numbered, kept_at, try_recv_reply}
+use Rattle.bcast_model.specs.Words.{History, View, view_of, next, IsReceivedBy, IsOwed, IsDelivery, IsGiven, effect, may_tell, sends_are_ready, remember, numbered, kept_at, try_recv_reply}
 use Rattle.bcast_model.specs.Steps.{recv_reply}
 use Rattle.bcast_model.proofs.Cases.{tell_is, lagging_reply, passed_reply}
 use Rattle.bcast_model.proofs.DeliveryMessages.{numbered_stays}
