@@ -64,21 +64,6 @@ module _ {T : Type 0} {is_clone : T → T → Type 0} {o : Opening} where
         end = new.valid;
       }
 
-  follows : {known steps longer after : List (Step T)} {before : View T} {call : Call T} {reply : Reply T}
-      → after ≡ longer → longer ≡ steps ++ record { call = call; reply = reply } ∷ [] → IsPrefix known steps
-      → Replays is_clone o steps before → Legal is_clone before call reply → IsLawful is_clone o longer
-      → Follows is_clone o known call reply after
-  follows {steps = steps} {call = call} {reply = reply} same pushed begins replays legal lawful =
-      record {
-        before = steps;
-        begins = begins;
-        last = same ∙ pushed;
-        lawful = subst (IsLawful is_clone o) (sym same) lawful;
-        valid = replays.valid;
-        legal = subst (λ v. Legal is_clone v call reply) replays.end legal;
-        end = ap (end_of o) (same ∙ pushed) ∙ end_of-more is_clone o steps (record { call = call; reply = reply }) replays.run;
-      }
-
   -- after a call each claim is where its receiver reads on
   pub cursors_kept : (claims : List (Option ℕ)) {known now : Tracker T} {steps longer : List (Step T)} {before after : View T} {call : Call T} {reply : Reply T} {later : List (Option ℕ)} {at : Option ℕ}
       → known ≡ now → longer ≡ steps ++ record { call = call; reply = reply } ∷ []
@@ -105,10 +90,17 @@ module _ {T : Type 0} {is_clone : T → T → Type 0} {o : Opening} where
       → Replays is_clone o steps before → Legal is_clone before call reply → IsLawful is_clone o longer
       → known.next ≡ next_of (end_of o steps).control known.key known.next → after.key ≡ known.key
       → after.next ≡ next_of (end_of o after.steps).control known.key known.next → Learns is_clone o now call reply after
-  unfolding follows
   learned {known = known} {after = after} {steps = steps} {call = call} {reply = reply} is_now same pushed begins run legal lawful there key at =
-      let made = follows same pushed begins run legal lawful in
       let was = end_of o steps in
+      let made : Follows is_clone o known.steps call reply after.steps = record {
+        before = steps;
+        begins = begins;
+        last = same ∙ pushed;
+        lawful = subst (IsLawful is_clone o) (sym same) lawful;
+        valid = run.valid;
+        legal = subst (λ v. Legal is_clone v call reply) run.end legal;
+        end = ap (end_of o) (same ∙ pushed) ∙ end_of-more is_clone o steps (record { call = call; reply = reply }) run.run;
+      } in
       subst (λ k. Learns is_clone o k call reply after) is_now (record {
         follows = made;
         there = there;
