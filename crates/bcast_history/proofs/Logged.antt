@@ -8,8 +8,9 @@ use Rattle.bcast_model.specs.declared.error.TryRecvError.TheVariants as unread
 use Rattle.bcast_model.specs.declared.run.Call.{Call}
 use Rattle.bcast_model.specs.declared.run.Reply.{Reply}
 use Rattle.bcast_model.specs.Words.{History, IsGiven, ClonesEqual, numbered, next, end_of_run}
+use Rattle.bcast_core.proofs.Runs.{all_made}
 use Rattle.bcast_history.specs.History.{Opening, Step, IsHistory, calls_of, replies_of, start_of, end_of}
-use Rattle.bcast_history.proofs.Prefixes.{prefix_shorter, prefix_whole}
+use Rattle.bcast_history.proofs.Prefixes.{prefix_shorter}
 use Rattle.bcast_history.specs.Log.{IsLog, IsWholeLog, LogsAreAccepted}
 use Rattle.bcast_history.specs.Batch.{AreDeliveries, TakesInto}
 use Rattle.bcast_history.specs.Makes.{ReceivesOnce}
@@ -103,4 +104,5 @@ module _ {T : Type 0} where
       let grown = accepted_grows o ended later ends in
       let same : (end_of o ended).first ≡ o.first_number = first_kept (start_of o) ended in
       let size : length log ≡ length (end_of o ended).accepted = omega (arith, end, same) in
-      prefix_whole log (end_of o ended).accepted (prefix_shorter log (end_of o ended).accepted h.accepted begins grown (omega (arith, size))) (omega (arith, size))
+      let begun = prefix_shorter log (end_of o ended).accepted h.accepted begins grown (omega (arith, size)) in
+      all_made log begun.0 (end_of o ended).accepted (omega (arith, size, length-append log begun.0, ap length begun.1)) begun.1
