@@ -10,7 +10,7 @@ use Rattle.bcast_history.specs.Follows.{Follows}
 use Rattle.bcast_history.specs.History.{Opening, Step, IsLawful, end_of}
 use Rattle.bcast_history.specs.Reader.{Finds, StaysAt, Takes, as_found}
 use Rattle.bcast_history.specs.Tracker.{Tracker, IsOf, IsReceiver, Learns, next_of, number}
-use Rattle.bcast_history.proofs.Found.{finds}
+use Rattle.bcast_history.proofs.Found.{FoundAt, finds}
 use Rattle.bcast_history.proofs.Polls.{Polled, try_receives, poll_receives}
 use Rattle.bcast_history.proofs.Prefixes.{prefix_trans}
 
@@ -60,9 +60,7 @@ module _
     {T : Type 0} (is_clone : T → T → Type 0) {o : Opening} {key : ℕ} {known after : Tracker T}
     (its : IsOf key known) where
   received : {c : Call T} {r : Reply T} (found : Found T) (learned : Learns is_clone o known c r after)
-      → (now : ℕ) × (cursor_of (next (end_of o learned.follows.before) c r).control key ≡ Some now)
-      × Finds is_clone (next (end_of o learned.follows.before) c r) key (number known.next) now found
-      → Received is_clone o key known after found
+      → FoundAt is_clone (end_of o learned.follows.before) key c r (number known.next) found → Received is_clone o key known after found
   received found learned (now, at, finds_so) =
       let on = reads_on its learned at in record {
         still = (learned.key ∙ its.0, reads_there after on);
