@@ -10,7 +10,7 @@ use Rattle.bcast_model.specs.declared.run.Call.TheVariants as call
 use Rattle.bcast_model.specs.declared.run.Reply.{Reply}
 use Rattle.bcast_model.specs.declared.run.Reply.TheVariants as reply
 use Rattle.bcast_model.specs.declared.run.SendPoll.TheVariants as send
-use Rattle.bcast_model.specs.Words.{Found, History, view_of, Legal, next, IsRun, end_of_run, end_number, numbered, IsDelivery, IsGiven, has_place, attempt_send_reply}
+use Rattle.bcast_model.specs.Words.{Found, History, view_of, Legal, next, IsRun, end_of_run, end_number, numbered, IsDelivery, IsGiven, ClonesEqual, has_place, attempt_send_reply}
 use Rattle.std.proofs.lemmas.Option.{slice_get_past}
 use Rattle.bcast_laws.specs.Sends.{is_accepted, messages_of}
 use Rattle.bcast_laws.proofs.Closing.{IsClosed, run_stays, try_refused, all_refused, attempt_refused, poll_refused}
@@ -19,7 +19,9 @@ use Rattle.bcast_history.specs.History.{Opening, Step, IsHistory, calls_of, repl
 use Rattle.bcast_history.specs.Reader.{Takes, TakesNext}
 use Rattle.bcast_history.specs.Tracker.{Tracker, number}
 use Rattle.bcast_history.specs.Closed.{HasReadAll, ClosedIsLast, EndIsLast}
-use Rattle.bcast_history.proofs.Logged.{first_kept}
+use Rattle.bcast_history.specs.Log.{IsWholeLog}
+use Rattle.bcast_history.proofs.Logged.{first_kept, logs_are_accepted}
+use Rattle.bcast_history.proofs.Prefixes.{meet, prefix_self}
 
 module _ {T : Type 0} (is_clone : T → T → Type 0) where
   -- a call that sends nothing adds nothing
@@ -130,3 +132,16 @@ module _ {T : Type 0} (is_clone : T → T → Type 0) where
           let end = (still_all o old new.steps read begins run).1 in
           let behind = skips.0 in
           absurd (none_after (end_of o new.steps) at msg (omega (arith, end, behind)) found.0)
+
+-- a whole log is all that its channel had accepted, so whole logs of one channel are one list
+module _ {T : Type 0} {is_clone : T → T → Type 0} (equal : ClonesEqual is_clone) where
+  pub log_is_accepted : {o : Opening} {log : List T} {steps : List (Step T)} → IsWholeLog is_clone o log steps → log ≡ accepted_by o steps
+  log_is_accepted {o = o} {log = log} {steps = steps} whole =
+      logs_are_accepted is_clone equal o steps steps steps log (prefix_self steps) (prefix_self steps) whole.messages whole.whole
+
+  pub agree : {o : Opening} {log other : List T} {known later : List (Step T)} (both : List (Step T))
+      → IsPrefix known both → IsPrefix later both → IsWholeLog is_clone o log known → IsWholeLog is_clone o other later → log ≡ other
+  agree {o = o} {known = known} {later = later} both begins too one two = log_is_accepted one ∙ elim (meet known later both begins too) [
+    | inl sooner ↦ closed_keeps is_clone o known later one.closed sooner two.run
+    | inr after ↦ sym (closed_keeps is_clone o later known two.closed after one.run)
+  ] ∙ sym (log_is_accepted two)

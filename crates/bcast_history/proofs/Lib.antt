@@ -27,4 +27,3 @@ pub mod Sent
 pub mod Given
 pub mod Logged
 pub mod Closed
-pub mod Agree

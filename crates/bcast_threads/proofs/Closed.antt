@@ -9,8 +9,7 @@ use Rattle.bcast_history.specs.declared.step.Step.{Step}
 use Rattle.bcast_history.specs.History.{IsHistory}
 use Rattle.bcast_history.proofs.Prefixes.{meet, prefix_trans}
 use Rattle.bcast_history.specs.History.{accepted_by}
-use Rattle.bcast_history.proofs.Closed.{closed_keeps}
-use Rattle.bcast_history.proofs.Agree.{agree, log_is_accepted}
+use Rattle.bcast_history.proofs.Closed.{closed_keeps, agree, log_is_accepted}
 use Rattle.bcast_threads.specs.Lists.{HasAll, IsOneList}
 use Rattle.bcast_threads.specs.Closed.{AreBeforeClosing, WereSent, IsWhole}
 use Rattle.bcast_threads.proofs.Sent.{all_stay, contained, joined}

@@ -1,6 +1,6 @@
 -- Both are all that the channel had accepted.
 use Rattle.std.proofs.Common.{sym, ap, ◌∙◌}
-use Rattle.bcast_history.proofs.Agree.{agree}
+use Rattle.bcast_history.proofs.Closed.{agree}
 use Rattle.bcast_history.proofs.log.WholeLog.agrees_with.Goals as goal
 
 pub returns : goal.returns
