@@ -24,6 +24,5 @@ pub mod Started
 pub mod Making
 -- laws
 pub mod Sent
-pub mod Given
 pub mod Logged
 pub mod Closed

@@ -1,13 +1,15 @@
--- Where messages stand.
-use Rattle.std.proofs.Common.{◌≡◌, ℕ, List, [], ◌∷◌, ◌++◌, Some, refl, ap, ◌∙◌, subst}
+-- Where messages stand, and what a call gives each receiver.
+use Rattle.std.proofs.Common.{◌≡◌, ℕ, ◌+◌, List, [], ◌∷◌, ◌++◌, Option, Some, None, refl, sym, ap, ◌∙◌, subst}
 use mathlib.Core.List.{IsPrefix}
-use Rattle.bcast_model.specs.Words.{History, next, end_of_run, numbered, IsDelivery, IsGiven}
+use Rattle.bcast_model.specs.Words.{History, next, end_of_run, numbered, IsDelivery, IsGiven, given_to}
+use Rattle.bcast_model.proofs.DeliveryLists.{by_index}
 use Rattle.bcast_model.proofs.DeliveryMessages.{numbered_stays}
+use Rattle.bcast_model.proofs.DeliverySteps.{gives_call}
 use Rattle.bcast_laws.proofs.Sends.{messages_added}
 use Rattle.bcast_history.specs.History.{Opening, Step, calls_of, replies_of, start_of, end_of, accepted_by}
 use Rattle.bcast_history.proofs.Prefixes.{prefix_self, prefix_trans}
 use Rattle.bcast_history.proofs.Told.{still_some}
-use Rattle.bcast_history.specs.Laws.{MessagesStay, SendsStandLast}
+use Rattle.bcast_history.specs.Laws.{MessagesStay, SendsStandLast, ReadsOn, ReceiversReadOn}
 
 module _ {T : Type 0} where
   -- accepted messages stay, and more come after them
@@ -46,3 +48,21 @@ module _ {T : Type 0} where
     accepted_grows o known follows.before follows.begins,
     ap (λ h. h.accepted) follows.end ∙ messages_added is_clone (end_of o follows.before) call reply follows.legal accepted,
   )
+
+module _ {T : Type 0} (is_clone : T → T → Type 0) where
+  -- an entry is a message of its number, or none
+  delivered : (h : History T) (number : ℕ) (entry : Option T)
+      → ((msg : T) → entry ≡ Some msg → IsDelivery is_clone h number (Some msg)) → IsDelivery is_clone h number entry
+  delivered h number None is = tt
+  delivered h number (Some msg) is = is msg refl
+
+  pub read_on : ReceiversReadOn is_clone
+  read_on o known after call reply key cursor follows at =
+      let before = end_of o follows.before in
+      let given = given_to key call reply in
+      let gives = gives_call is_clone before key cursor call reply follows.valid.floor_low at follows.legal in
+      subst (λ h. ReadsOn is_clone before h key cursor given) (sym follows.end) (record {
+        each = by_index (IsDelivery is_clone before) cursor given
+            (λ index entry found. delivered before (cursor + index) entry (λ msg is. gives.each index msg (rw is at found)));
+        next = gives.cursor_after;
+      })
