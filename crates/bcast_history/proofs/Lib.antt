@@ -19,8 +19,7 @@ pub mod Skipped
 -- several messages in one call
 pub mod KeepingEach
 pub mod Batches
--- where a receiver starts
-pub mod Started
+-- receivers that are made, that leave, and that stay
 pub mod Making
 -- laws
 pub mod Sent

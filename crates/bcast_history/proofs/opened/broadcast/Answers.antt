@@ -2,7 +2,7 @@
 use Rattle.std.proofs.Common.{ap, ◌∙◌, refl}
 use Rattle.bcast_history.specs.History.{start_of, end_of}
 use Rattle.bcast_history.proofs.Claimed.{first_claimed, placed}
-use Rattle.bcast_history.proofs.Started.{first_tracked}
+use Rattle.bcast_history.proofs.Added.{first_tracked}
 use Rattle.bcast_history.proofs.opened.broadcast.Goals as goal
 
 pub new-steps-requires-clause-cursors : goal.new-steps-requires-clause-cursors
