@@ -9,6 +9,7 @@ pub mod Appends
 pub mod Added
 pub mod Waits
 pub mod Keeping
+pub mod KeepingEach
 -- what a receiver finds
 pub mod Told
 pub mod Found
@@ -16,9 +17,6 @@ pub mod Polls
 pub mod Received
 pub mod Receiving
 pub mod Skipped
--- several messages in one call
-pub mod KeepingEach
-pub mod Batches
 -- receivers that are made, that leave, and that stay
 pub mod Making
 -- laws

@@ -1,7 +1,7 @@
 -- What was learned of each receive is what the receiver takes.
 use Rattle.std.proofs.Common.{arith}
 use Rattle.std.proofs.lemmas.Grind.{common_steps}
-use Rattle.bcast_history.proofs.Batches.{batched}
+use Rattle.bcast_history.proofs.Receiving.{batched}
 use Rattle.bcast_history.proofs.receiver.TrackedReceiver.receive_kept.Goals as goal
 
 pub invariant_of-inner : goal.invariant_of-inner

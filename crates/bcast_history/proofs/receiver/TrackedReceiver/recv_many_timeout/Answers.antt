@@ -1,8 +1,7 @@
 -- Nothing was there, so one receive says what the receiver takes.
 use Rattle.std.proofs.Common.{inl, refl}
 use Rattle.async_broadcast.specs.Timed.{as_timed_try}
-use Rattle.bcast_history.proofs.Batches.{takes_last}
-use Rattle.bcast_history.proofs.Receiving.{receives_on, receives_one}
+use Rattle.bcast_history.proofs.Receiving.{receives_on, receives_one, takes_last}
 use Rattle.bcast_history.proofs.receiver.TrackedReceiver.recv_many_timeout.Goals as goal
 
 pub returns-in-None-clause-takes : goal.returns-in-None-clause-takes
