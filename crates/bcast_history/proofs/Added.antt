@@ -14,7 +14,7 @@ use Rattle.bcast_model.specs.Words.{Answers, History, View, Cursors, IsMadeFrom,
 use Rattle.bcast_model.proofs.Answers.{cursors-next}
 use Rattle.bcast_model.proofs.DeliveryMaps.{inserted}
 use Rattle.bcast_history.specs.History.{Opening, Step, Replays, end_of}
-use Rattle.bcast_history.proofs.Appends.{end_of-more}
+use Rattle.bcast_history.proofs.Keeping.{end_of-more}
 use Rattle.claims.specs.Claims.{claim_of, put_changed}
 use Rattle.claims.proofs.Claims.{put_other}
 

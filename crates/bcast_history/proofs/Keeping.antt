@@ -2,6 +2,7 @@
 use Rattle.std.proofs.Common.{◌≡◌, ℕ, Option, Some, None, refl, List, [], ◌∷◌, ◌++◌, sym, ◌∙◌, ap, subst, IfSome}
 use Rattle.std.proofs.Math.Logic.{∥∥₁_elim}
 use Rattle.std.specs.Coded.{Coded}
+use Rattle.std.proofs.lemmas.List.{map-append}
 use Rattle.std.proofs.lemmas.Option.{same_Some}
 use Rattle.std.specs.FinMap.{get}
 use Rattle.std.specs.List.{AllByRecursion}
@@ -9,19 +10,49 @@ use base.Stored.{Coded-set}
 use mathlib.Core.List.{IsPrefix}
 use Rattle.bcast_model.specs.declared.run.Call.{Call}
 use Rattle.bcast_model.specs.declared.run.Reply.{Reply}
-use Rattle.bcast_model.specs.Words.{History, View, view_of, next, Legal, Answers, Represents, HasPositiveCapacity, Control, Cursors, cursor_of, end_number}
+use Rattle.bcast_model.specs.Words.{History, View, view_of, next, Legal, Answers, Represents, HasPositiveCapacity, Control, Cursors, cursor_of, end_number, IsRun, end_of_run, IsValid}
 use Rattle.bcast_model.specs.Encodings.{view_code}
 use Rattle.bcast_model.proofs.Lists.{all_append}
-use Rattle.bcast_history.specs.History.{Opening, Step, IsLawful, Replays, calls_of, end_of}
+use Rattle.bcast_core.proofs.Runs.{run_more, end_more}
+use Rattle.bcast_history.specs.History.{Opening, Step, IsHistory, IsLawful, Replays, calls_of, replies_of, start_of, end_of}
 use Rattle.bcast_history.specs.Follows.{Follows}
 use Rattle.bcast_history.specs.Cursors.{AreCursors}
 use Rattle.bcast_history.specs.Tracker.{IsOf, Tracker, Learns, next_of}
 use Rattle.async_broadcast.specs.Ports.{moved_by}
 use Rattle.claims.specs.Claims.{put_changed}
-use Rattle.bcast_history.proofs.Appends.{replays_longer, end_of-more, calls_of-more}
 use Rattle.bcast_history.proofs.Claimed.{claims_read_on}
 use Rattle.bcast_history.proofs.Others.{others_stay}
 use Rattle.bcast_history.proofs.Waits.{waits_in_place}
+
+module _ {T : Type 0} where
+  pub calls_of-more : (steps : List (Step T)) (step : Step T) → calls_of (steps ++ step ∷ []) ≡ calls_of steps ++ step.call ∷ []
+  calls_of-more steps step = map-append (λ s. s.call) steps (step ∷ [])
+
+  pub replies_of-more : (steps : List (Step T)) (step : Step T) → replies_of (steps ++ step ∷ []) ≡ replies_of steps ++ step.reply ∷ []
+  replies_of-more steps step = map-append (λ s. s.reply) steps (step ∷ [])
+
+  -- a step that continues a run leads to the next state
+  pub end_of-more : (is_clone : T → T → Type 0) (o : Opening) (steps : List (Step T)) (step : Step T)
+      → IsHistory is_clone o steps → end_of o (steps ++ step ∷ []) ≡ next (end_of o steps) step.call step.reply
+  end_of-more is_clone o steps step history =
+      (λ i. end_of_run (start_of o) (calls_of-more steps step i) (replies_of-more steps step i))
+      ∙ end_more is_clone (start_of o) (calls_of steps) (replies_of steps) step.call step.reply history
+
+  -- the steps that were kept replay to what the channel shows, and so they do with one more
+  pub replays_longer : {is_clone : T → T → Type 0} {o : Opening} {steps longer : List (Step T)} {before after : View T} {call : Call T} {reply : Reply T}
+      → longer ≡ steps ++ record { call = call; reply = reply } ∷ []
+      → Replays is_clone o steps before → Answers is_clone before call reply after → Replays is_clone o longer after
+  replays_longer {is_clone = is_clone} {o = o} {steps = steps} {after = after} {call = call} {reply = reply} pushed old answers =
+      let step : Step T = record { call = call; reply = reply } in
+      let legal = subst (λ v. Legal is_clone v call reply) old.end answers.legal in
+      let run = run_more is_clone (start_of o) (calls_of steps) (replies_of steps) call reply old.run legal in
+      let end = end_of-more is_clone o steps step old.run in
+      subst (λ ss. Replays is_clone o ss after) (sym pushed) (record {
+        run = subst (λ cs. IsRun is_clone (start_of o) cs (replies_of (steps ++ step ∷ []))) (sym (calls_of-more steps step))
+            (subst (λ rs. IsRun is_clone (start_of o) (calls_of steps ++ call ∷ []) rs) (sym (replies_of-more steps step)) run);
+        end = subst (Represents after) (sym end) (answers.represents (end_of o steps) old.valid old.end);
+        valid = subst IsValid (sym end) (answers.valid (end_of o steps) old.valid old.end);
+      })
 
 same_place : (one two : Control) (key : ℕ) (next : Option ℕ) → one.cursors ≡ two.cursors → next_of one key next ≡ next_of two key next
 same_place one two key None same = refl

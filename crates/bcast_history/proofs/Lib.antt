@@ -5,7 +5,6 @@ pub mod Chains
 pub mod Others
 pub mod Claimed
 -- runs that go on
-pub mod Appends
 pub mod Added
 pub mod Waits
 pub mod Keeping

@@ -6,7 +6,7 @@ use Rattle.bcast_model.specs.Words.{HasPositiveCapacity, View, Answers}
 use Rattle.bcast_model.proofs.Lists.{all_append}
 use Rattle.bcast_history.specs.declared.step.Opening.{Opening}
 use Rattle.bcast_history.specs.declared.step.Step.{Step}
-use Rattle.bcast_history.proofs.Appends.{calls_of-more, replays_longer}
+use Rattle.bcast_history.proofs.Keeping.{calls_of-more, replays_longer}
 use Rattle.bcast_record.specs.declared.entry.Entry.{Entry}
 use Rattle.bcast_record.specs.Recording.{recording}
 use Rattle.bcast_record.specs.Replay.{Replays, MayRunAgain, calls_of, steps_of}

@@ -2,8 +2,7 @@
 use Rattle.std.proofs.Common.{refl, ◌∙◌}
 use Rattle.bcast_history.specs.History.{end_of}
 use Rattle.bcast_history.proofs.Claimed.{claimed_there, stands}
-use Rattle.bcast_history.proofs.Appends.{replays_longer}
-use Rattle.bcast_history.proofs.Keeping.{replays, lawful_longer, knows, cursors_kept, learned}
+use Rattle.bcast_history.proofs.Keeping.{replays, replays_longer, lawful_longer, knows, cursors_kept, learned}
 use Rattle.bcast_history.proofs.steps.StepJournalCallJournal.append.Goals as goal
 
 pub invariant_of-self : goal.invariant_of-self

@@ -7,8 +7,7 @@ use Rattle.bcast_history.specs.History.{end_of}
 use Rattle.bcast_history.specs.Cursors.{AreCursors}
 use Rattle.bcast_history.proofs.Added.{kept_added, still_free}
 use Rattle.bcast_history.proofs.Claimed.{claimed_there, claims_cursor, placed, stands, unclaimed}
-use Rattle.bcast_history.proofs.Appends.{replays_longer}
-use Rattle.bcast_history.proofs.Keeping.{replays, lawful_longer, knows, cursors_kept, learned}
+use Rattle.bcast_history.proofs.Keeping.{replays, replays_longer, lawful_longer, knows, cursors_kept, learned}
 use Rattle.bcast_history.proofs.steps.StepJournalCallJournal.append_receiver.Goals as goal
 
 pub returns-clause-records : goal.returns-clause-records
