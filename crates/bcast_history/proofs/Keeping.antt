@@ -14,8 +14,7 @@ use Rattle.bcast_model.specs.Words.{History, View, view_of, next, Legal, Answers
 use Rattle.bcast_model.specs.Encodings.{view_code}
 use Rattle.bcast_model.proofs.Lists.{all_append}
 use Rattle.bcast_core.proofs.Runs.{run_more, end_more}
-use Rattle.bcast_history.specs.History.{Opening, Step, IsHistory, IsLawful, Replays, calls_of, replies_of, start_of, end_of}
-use Rattle.bcast_history.specs.Follows.{Follows}
+use Rattle.bcast_history.specs.History.{Opening, Step, Follows, IsHistory, IsLawful, Replays, calls_of, replies_of, start_of, end_of}
 use Rattle.bcast_history.specs.Cursors.{AreCursors}
 use Rattle.bcast_history.specs.Tracker.{IsOf, Tracker, Learns, next_of}
 use Rattle.async_broadcast.specs.Ports.{moved_by}

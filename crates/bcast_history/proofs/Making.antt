@@ -6,8 +6,7 @@ use Rattle.bcast_model.specs.declared.run.Call.TheVariants as call
 use Rattle.bcast_model.specs.declared.run.Reply.{Reply}
 use Rattle.bcast_model.specs.declared.run.Reply.TheVariants as reply
 use Rattle.bcast_model.specs.Words.{Found, History, cursor_of, end_number}
-use Rattle.bcast_history.specs.History.{Opening, Step, IsLawful, end_of}
-use Rattle.bcast_history.specs.Follows.{Follows}
+use Rattle.bcast_history.specs.History.{Opening, Step, Follows, IsLawful, end_of}
 use Rattle.bcast_history.specs.Makes.{MakesCall, PollsOnce, ReceivesBy, ReceivesOnce}
 use Rattle.bcast_history.specs.Tracker.{Tracker, Begins, IsOf, IsReceiver, Learns, number}
 use Rattle.async_broadcast.specs.Ports.{moved_by}

@@ -6,8 +6,7 @@ use Rattle.bcast_model.specs.declared.run.Call.TheVariants as call
 use Rattle.bcast_model.specs.declared.run.Reply.{Reply}
 use Rattle.bcast_model.specs.declared.run.Reply.TheVariants as reply
 use Rattle.bcast_model.specs.Words.{Found, History, next, cursor_of}
-use Rattle.bcast_history.specs.Follows.{Follows}
-use Rattle.bcast_history.specs.History.{Opening, Step, IsLawful, end_of}
+use Rattle.bcast_history.specs.History.{Opening, Step, Follows, IsLawful, end_of}
 use Rattle.bcast_history.specs.Reader.{Finds, StaysAt, Takes, as_found}
 use Rattle.bcast_history.specs.Tracker.{Tracker, IsOf, IsReceiver, Learns, next_of, number}
 use Rattle.bcast_history.proofs.Found.{FoundAt, finds}

@@ -1,9 +1,10 @@
--- Steps on a channel, and whether they are a run of it.
-use Rattle.std.specs.Prelude.{List, map}
+-- Steps on a channel, whether they are a run of it, and what a call tells its caller of them.
+use Rattle.std.specs.Prelude.{◌≡◌, List, [], ◌∷◌, ◌++◌, map}
 use Rattle.std.specs.List.{AllByRecursion}
+use mathlib.Core.List.{IsPrefix}
 use Rattle.bcast_model.specs.declared.run.Call.{Call}
 use Rattle.bcast_model.specs.declared.run.Reply.{Reply}
-use Rattle.bcast_model.specs.Words.{History, opening, IsRun, end_of_run}
+use Rattle.bcast_model.specs.Words.{History, opening, IsRun, end_of_run, view_of, Legal, next}
 use Rattle.bcast_model.specs.Words.{IsValid, View, Represents, HasPositiveCapacity}
 pub use Rattle.bcast_history.specs.declared.step.Opening.{Opening}
 pub use Rattle.bcast_history.specs.declared.step.Step.{Step}
@@ -47,3 +48,17 @@ module _ {T : Type 0} where
     pub capacities : AllByRecursion HasPositiveCapacity (calls_of steps)
     pub run : IsHistory is_clone o steps
     pub end : IsValid (end_of o steps)
+
+-- a call by a caller who knew a beginning of the steps, and what it knows then: the steps before
+-- the call, those of others among them, and the call with its reply, all of them a run
+pub record Follows
+    {T : Type 0} (is_clone : T → T → Type 0) (o : Opening) (known : List (Step T))
+    (call : Call T) (reply : Reply T) (after : List (Step T)) : Type 0 where
+  pub before : List (Step T)
+  pub begins : IsPrefix known before
+  pub last : after ≡ before ++ record { call = call; reply = reply } ∷ []
+  pub lawful : IsLawful is_clone o after
+  -- the state before the call is valid, the reply is legal in it, and leads to the state after it
+  pub valid : IsValid (end_of o before)
+  pub legal : Legal is_clone (view_of (end_of o before)) call reply
+  pub end : end_of o after ≡ next (end_of o before) call reply

@@ -6,8 +6,7 @@ use Rattle.bcast_model.specs.declared.run.Call.{Call}
 use Rattle.bcast_model.specs.declared.run.Reply.{Reply}
 use Rattle.bcast_model.specs.Words.{History, cursor_of, IsDelivery, numbered, given_to}
 use Rattle.bcast_laws.specs.Sends.{messages_of, is_accepted}
-use Rattle.bcast_history.specs.History.{Opening, Step, end_of, accepted_by}
-use Rattle.bcast_history.specs.Follows.{Follows}
+use Rattle.bcast_history.specs.History.{Opening, Step, Follows, end_of, accepted_by}
 
 -- a message that has a number keeps it
 abbrev pub MessagesStay : Type 0 → Type 0

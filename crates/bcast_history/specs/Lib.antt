@@ -1,9 +1,8 @@
 -- the book behind a journal
 pub mod Book
--- steps on a channel, and whether they are a run of it
+-- steps on a channel, whether they are a run of it, and what a call tells its caller of them
 pub mod History
--- what a call tells its caller, and who calls
-pub mod Follows
+-- who calls
 pub mod Tracker
 pub mod Cursors
 pub mod Learning

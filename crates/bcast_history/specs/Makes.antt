@@ -12,8 +12,7 @@ use Rattle.bcast_model.specs.declared.error.HandleError.{HandleError}
 use Rattle.bcast_model.specs.declared.error.RecvError.{RecvError}
 use Rattle.bcast_model.specs.declared.run.Reply.{Reply}
 use Rattle.bcast_model.specs.Words.{Found}
-use Rattle.bcast_history.specs.History.{Opening, Step}
-use Rattle.bcast_history.specs.Follows.{Follows}
+use Rattle.bcast_history.specs.History.{Opening, Step, Follows}
 use Rattle.bcast_history.specs.Reader.{Takes, as_found}
 use Rattle.bcast_history.specs.Tracker.{Tracker}
 

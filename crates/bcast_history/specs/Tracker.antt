@@ -6,8 +6,7 @@ use Rattle.bcast_model.specs.declared.run.Call.TheVariants as call
 use Rattle.bcast_model.specs.declared.run.Reply.{Reply}
 use Rattle.bcast_model.specs.declared.run.Reply.TheVariants as reply
 use Rattle.bcast_model.specs.Words.{Control, cursor_of, end_number}
-use Rattle.bcast_history.specs.History.{Opening, Step, end_of}
-use Rattle.bcast_history.specs.Follows.{Follows}
+use Rattle.bcast_history.specs.History.{Opening, Step, Follows, end_of}
 use Rattle.async_broadcast.specs.Ports.{is_answer}
 
 -- a beginning of the steps; and if a receiver makes the calls, its key, and the number of the

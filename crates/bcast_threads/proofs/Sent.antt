@@ -16,8 +16,7 @@ use Rattle.bcast_model.specs.declared.run.Reply.{Reply}
 use Rattle.bcast_laws.specs.Sends.{is_accepted}
 use Rattle.bcast_history.specs.declared.step.Opening.{Opening}
 use Rattle.bcast_history.specs.declared.step.Step.{Step}
-use Rattle.bcast_history.specs.Follows.{Follows}
-use Rattle.bcast_history.specs.History.{accepted_by}
+use Rattle.bcast_history.specs.History.{Follows, accepted_by}
 use Rattle.bcast_history.specs.Laws.{SendsStandLast}
 use Rattle.bcast_history.proofs.Prefixes.{prefix_trans}
 use Rattle.bcast_history.proofs.Sent.{accepted_grows}

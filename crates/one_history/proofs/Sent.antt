@@ -7,7 +7,7 @@ use Rattle.bcast_model.specs.declared.run.Reply.TheVariants as reply
 use Rattle.bcast_laws.specs.Sends.{is_accepted}
 use Rattle.bcast_history.specs.declared.step.Opening.{Opening}
 use Rattle.bcast_history.specs.declared.step.Step.{Step}
-use Rattle.bcast_history.specs.Follows.{Follows}
+use Rattle.bcast_history.specs.History.{Follows}
 use Rattle.bcast_history.specs.Laws.{SendsStandLast}
 use Rattle.one_history.specs.Order.{StandInOrder}
 
