@@ -1,5 +1,5 @@
 -- Steps on a channel, whether they are a run of it, and what a call tells its caller of them.
-use Rattle.std.specs.Prelude.{◌≡◌, List, [], ◌∷◌, ◌++◌, map}
+use Rattle.std.specs.Prelude.{◌≡◌, ℕ, List, [], ◌∷◌, ◌++◌, map}
 use Rattle.std.specs.List.{AllByRecursion}
 use mathlib.Core.List.{IsPrefix}
 use Rattle.bcast_model.specs.declared.run.Call.{Call}
@@ -8,6 +8,7 @@ use Rattle.bcast_model.specs.Words.{History, opening, IsRun, end_of_run, view_of
 use Rattle.bcast_model.specs.Words.{IsValid, View, Represents, HasPositiveCapacity}
 pub use Rattle.bcast_history.specs.declared.step.Opening.{Opening}
 pub use Rattle.bcast_history.specs.declared.step.Step.{Step}
+use Rattle.bcast_history.specs.Book.{Chain}
 
 module _ {T : Type 0} where
   abbrev pub calls_of : List (Step T) → List (Call T)
@@ -62,3 +63,10 @@ pub record Follows
   pub valid : IsValid (end_of o before)
   pub legal : Legal is_clone (view_of (end_of o before)) call reply
   pub end : end_of o after ≡ next (end_of o before) call reply
+
+-- what is seen of a channel that has no name yet, and what a name has to say of it: its journal,
+-- what it was opened with, and the registry in which its receivers' cursors are claimed
+pub record Opened : Type 0 where
+  pub book : Chain
+  pub opening : Opening
+  pub registry : ℕ

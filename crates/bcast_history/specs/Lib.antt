@@ -1,6 +1,7 @@
 -- the book behind a journal
 pub mod Book
--- steps on a channel, whether they are a run of it, and what a call tells its caller of them
+-- steps on a channel, whether they are a run of it, and what a call tells its caller of them;
+-- a channel before it has a name
 pub mod History
 -- who calls
 pub mod Tracker
@@ -16,5 +17,3 @@ pub mod Batch
 -- a log of what a receiver is given, and that nothing comes after `Closed`
 pub mod Log
 pub mod Closed
--- a channel before it has a name
-pub mod Opened

@@ -30,8 +30,7 @@ pub struct Opened<T: Clone, A: Allocator = Global> {
 impl<T: Clone, A: Allocator> Model for Opened<T, A> {
     ghost use Rattle.std.specs.Prelude.{◌≡◌, []};
     ghost use Rattle.bcast_model.specs.Words.{IsValid, Represents};
-    ghost use Rattle.bcast_history.specs.History.{start_of};
-    ghost use Rattle.bcast_history.specs.Opened.{Opened};
+    ghost use Rattle.bcast_history.specs.History.{Opened, start_of};
 
     ghost Value = { Opened };
 
