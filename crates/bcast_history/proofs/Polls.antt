@@ -1,6 +1,5 @@
 -- A `try_recv`, and a poll of a stream, as receives.
-use Rattle.std.proofs.Common.{◌≡◌, ℕ, ◌<◌, ◌==◌, List, Bool, true, false, cond, if◌then◌else◌, is_ok, [], Option, Some, None, Result, Ok, Err, refl, sym, ap, ◌∙◌, subst, arith, alloc_error}
-use Rattle.std.proofs.lemmas.Grind.{common_steps}
+use Rattle.std.proofs.Common.{◌≡◌, ℕ, ◌<◌, List, Bool, true, false, cond, if◌then◌else◌, is_ok, [], Option, Some, None, Result, Ok, Err, refl, sym, ap, ◌∙◌, subst, alloc_error}
 use Rattle.std.specs.declared.alloc.AllocError.{AllocError}
 use Rattle.futures.specs.declared.task.Poll.{Poll}
 use Rattle.futures.specs.declared.task.Poll.TheVariants as poll
@@ -11,10 +10,10 @@ use Rattle.bcast_model.specs.declared.error.TryRecvError.TheVariants as unread
 use Rattle.bcast_model.specs.declared.run.Call.TheVariants as call
 use Rattle.bcast_model.specs.declared.run.Reply.{Reply}
 use Rattle.bcast_model.specs.declared.run.Reply.TheVariants as reply
-use Rattle.bcast_model.specs.ListenerId.{stream_of}
-use Rattle.bcast_model.specs.Words.{History, View, view_of, next, Control, IsValid, Legal, cursor_of, given_by, Found, Pair, receive, listens, stream_reply, worded, try_recv_reply, is_empty_reply}
+use Rattle.bcast_model.specs.Words.{History, View, view_of, next, Control, IsValid, Legal, cursor_of, given_by, Found, Pair, receive, listens, stream_reply, worded, try_recv_reply, is_empty_reply, stream_of}
 use Rattle.bcast_model.proofs.Answers.{cursors-next, next_valid}
 use Rattle.bcast_model.proofs.Cases.{receive_is}
+use Rattle.bcast_model.proofs.DeliveryCursors.{same_key}
 use Rattle.bcast_model.proofs.DeliveryMaps.{cursors-listens}
 use Rattle.bcast_history.specs.History.{Opening}
 use Rattle.bcast_history.specs.Batch.{TakesMany}
@@ -30,9 +29,6 @@ Polled T = Result (Poll (Option (Result T RecvError))) AllocError
 listens_closed : (c : Control) (pair : Pair) (waits : Bool) → (listens c pair waits).closed ≡ c.closed
 listens_closed c pair true = refl
 listens_closed c pair false = refl
-
-same_key : (key : ℕ) → (key == key) ≡ true
-same_key key = grind (arith, common_steps)
 
 module _ {T : Type 0} where
   abbrev polled_in : Reply T → Found T

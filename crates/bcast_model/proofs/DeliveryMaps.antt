@@ -42,25 +42,25 @@ cursors-begin_send c (Some place) = refl
 
 -- ---- how a call may change it
 -- of a channel with this front and this end: the cursors stay, that of the call's receiver rises,
--- one is made at the end or at another one, or one is gone
-pub data CursorsChange (front end : ℕ) (receives : ℕ → Bool) (old new : Cursors) : Type 0 where
-  stay : new ≡ old → CursorsChange front end receives old new
-  rise : (key from to : ℕ) → receives key ≡ true → get old key ≡ Some from → from ≤ to → (to ≤ front) ⊎ (to ≤ end) → new ≡ insert old key to → CursorsChange front end receives old new
-  make : (key at : ℕ) → get old key ≡ None → (at ≡ end) ⊎ ((other : ℕ) × (get old other ≡ Some at)) → new ≡ insert old key at → CursorsChange front end receives old new
-  leave : (key : ℕ) → new ≡ remove old key → CursorsChange front end receives old new
+-- one is made at the end or at another one, or one is gone that leaves by the call
+pub data CursorsChange (front end : ℕ) (receives : ℕ → Bool) (Leaves : ℕ → Type 0) (old new : Cursors) : Type 0 where
+  stay : new ≡ old → CursorsChange front end receives Leaves old new
+  rise : (key from to : ℕ) → receives key ≡ true → get old key ≡ Some from → from ≤ to → (to ≤ front) ⊎ (to ≤ end) → new ≡ insert old key to → CursorsChange front end receives Leaves old new
+  make : (key at : ℕ) → get old key ≡ None → (at ≡ end) ⊎ ((other : ℕ) × (get old other ≡ Some at)) → new ≡ insert old key at → CursorsChange front end receives Leaves old new
+  leave : (key : ℕ) → Leaves key → new ≡ remove old key → CursorsChange front end receives Leaves old new
 
 -- ---- what follows at one receiver
 true_or_false : {A : Type 0} (b : Bool) → b ≡ true → b ≡ false → A
 true_or_false b e f = cc
 
 -- a receiver that the call doesn't receive for keeps its cursor, or leaves
-pub stands_or_left : (front end : ℕ) (receives : ℕ → Bool) (old new : Cursors) (key cursor : ℕ) → CursorsChange front end receives old new → receives key ≡ false → get old key ≡ Some cursor → (get new key ≡ Some cursor) ⊎ (get new key ≡ None)
+pub stands_or_left : (front end : ℕ) (receives : ℕ → Bool) {Leaves : ℕ → Type 0} (old new : Cursors) (key cursor : ℕ) → CursorsChange front end receives Leaves old new → receives key ≡ false → get old key ≡ Some cursor → (get new key ≡ Some cursor) ⊎ (get new key ≡ None)
 stands_or_left front end receives old new key cursor (stay same) reads is = inl (ap (λ m. get m key) same ∙ is)
 stands_or_left front end receives old new key cursor (rise other from to read found le high same) reads is =
     inl (ap (λ m. get m key) same ∙ inserted_other old other to key (λ e. true_or_false (receives key) (ap receives e ∙ read) reads) ∙ is)
 stands_or_left front end receives old new key cursor (make made at free source same) reads is =
     inl (ap (λ m. get m key) same ∙ inserted_other old made at key (λ e. none-some cursor (sym free ∙ ap (get old) (sym e) ∙ is)) ∙ is)
-stands_or_left front end receives old new key cursor (leave other same) reads is =
+stands_or_left front end receives old new key cursor (leave other leaves same) reads is =
     elim (got_remove old other key) [ inl e ↦ inl (ap (λ m. get m key) same ∙ e ∙ is) | inr e ↦ inr (ap (λ m. get m key) same ∙ e) ]
 
 -- a cursor after a call is at the end, or one was there or before it already
@@ -74,7 +74,7 @@ pub record StoodBefore (front end : ℕ) (old : Cursors) (cursor : ℕ) : Type 0
 stood : (front end : ℕ) (old : Cursors) (key cursor : ℕ) → get old key ≡ Some cursor → StoodBefore front end old cursor
 stood front end old key cursor is = record { key = key; before = cursor; found = is; low = omega arith; high = inl (omega arith) }
 
-pub came_from : (front end : ℕ) (receives : ℕ → Bool) (old new : Cursors) (key cursor : ℕ) → CursorsChange front end receives old new → get new key ≡ Some cursor → (cursor ≡ end) ⊎ StoodBefore front end old cursor
+pub came_from : (front end : ℕ) (receives : ℕ → Bool) {Leaves : ℕ → Type 0} (old new : Cursors) (key cursor : ℕ) → CursorsChange front end receives Leaves old new → get new key ≡ Some cursor → (cursor ≡ end) ⊎ StoodBefore front end old cursor
 came_from front end receives old new key cursor (stay same) is = inr (stood front end old key cursor (ap (λ m. get m key) (sym same) ∙ is))
 came_from front end receives old new key cursor (rise other from to reads found le high same) is =
     inr (elim (got_insert old other to key cursor (ap (λ m. get m key) (sym same) ∙ is)) [
@@ -86,7 +86,7 @@ came_from front end receives old new key cursor (make made at free source same) 
       | inl e ↦ elim source [ inl last ↦ inl (e.1 ∙ last) | inr other ↦ inr (stood front end old other.0 cursor (other.1 ∙ ap Some (sym e.1))) ]
       | inr e ↦ inr (stood front end old key cursor e)
     ]
-came_from front end receives old new key cursor (leave other same) is =
+came_from front end receives old new key cursor (leave other leaves same) is =
     elim (got_remove old other key) [
       | inl e ↦ inr (stood front end old key cursor (sym e ∙ ap (λ m. get m key) (sym same) ∙ is))
       | inr e ↦ absurd (none-some cursor (sym e ∙ ap (λ m. get m key) (sym same) ∙ is))

@@ -17,7 +17,7 @@ use Rattle.bcast_model.proofs.DeliveryCursors.{changes}
 use Rattle.bcast_model.proofs.DeliveryAnswers.{Gives, entries_of, IsAnswer, gives_nothing, gives_answer, ok_err}
 use Rattle.bcast_model.proofs.Cases.{received_is, passed_reply}
 
-same_reader : (reader key : ℕ) → (reader == key) ≡ true → reader ≡ key
+pub same_reader : (reader key : ℕ) → (reader == key) ≡ true → reader ≡ key
 same_reader reader key reads = grind (arith, common_steps, reads)
 
 module _ {T : Type 0} where
