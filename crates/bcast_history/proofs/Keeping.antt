@@ -19,8 +19,7 @@ use Rattle.bcast_history.specs.Cursors.{AreCursors}
 use Rattle.bcast_history.specs.Tracker.{IsOf, Tracker, Learns, next_of}
 use Rattle.async_broadcast.specs.Ports.{moved_by}
 use Rattle.claims.specs.Claims.{put_changed}
-use Rattle.bcast_history.proofs.Claimed.{claims_read_on}
-use Rattle.bcast_history.proofs.Others.{others_stay}
+use Rattle.bcast_history.proofs.Claimed.{others_stay, claims_read_on}
 use Rattle.bcast_history.proofs.Waits.{waits_in_place}
 
 module _ {T : Type 0} where

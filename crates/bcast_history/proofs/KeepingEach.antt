@@ -11,8 +11,7 @@ use Rattle.bcast_history.specs.Batch.{received}
 use Rattle.bcast_history.specs.Cursors.{AreCursors}
 use Rattle.bcast_history.specs.Tracker.{IsOf, Tracker, Learns, next_of}
 use Rattle.claims.specs.Claims.{put_changed}
-use Rattle.bcast_history.proofs.Claimed.{claims_read_on, next_settles}
-use Rattle.bcast_history.proofs.Others.{others_stay}
+use Rattle.bcast_history.proofs.Claimed.{others_stay, claims_read_on, next_settles}
 use Rattle.bcast_history.proofs.Keeping.{end_of-more, replays_longer, lawful_longer, learned}
 use Rattle.bcast_history.proofs.Prefixes.{prefix_self}
 use Rattle.bcast_history.proofs.Received.{tried}

@@ -2,7 +2,6 @@
 pub mod Prefixes
 pub mod Chains
 -- claims: a call moves no receiver but its caller's own
-pub mod Others
 pub mod Claimed
 -- runs that go on
 pub mod Added

@@ -19,7 +19,7 @@ use Rattle.bcast_model.proofs.Cases.{close_is}
 use Rattle.bcast_history.proofs.Told.{closed_after}
 use Rattle.bcast_history.proofs.Received.{Received, Stays, polled, read_there, stays, tried}
 use Rattle.bcast_history.proofs.Polls.{Polled}
-use Rattle.bcast_history.proofs.Others.{others_stay}
+use Rattle.bcast_history.proofs.Claimed.{others_stay}
 use Rattle.bcast_history.proofs.Added.{added, starts_at, not_inactive}
 
 module _ {T : Type 0} {is_clone : T → T → Type 0} {o : Opening} where
