@@ -13,10 +13,10 @@ use Rattle.bcast_model.specs.Words.{History, View, view_of, next, IsValid, Legal
 use Rattle.bcast_model.specs.ValidView.{IsValidView}
 use Rattle.bcast_model.specs.Steps.{recv_reply}
 use Rattle.bcast_model.proofs.Answers.{cursors-next}
+use Rattle.bcast_model.proofs.Cases.{lagging_reply}
 use Rattle.bcast_model.proofs.Views.{valid_view}
 use Rattle.bcast_model.proofs.DeliveryLists.{past_end}
 use Rattle.bcast_model.proofs.Stays.{stays-offer}
-use Rattle.bcast_model.proofs.Cases.{lagging_reply}
 use Rattle.bcast_core.specs.Kinds.{IsOfKind}
 use Rattle.async_broadcast.specs.OfKind.{possible}
 use Rattle.async_broadcast.specs.Ports.{is_answer}
