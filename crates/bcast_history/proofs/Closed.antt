@@ -1,7 +1,6 @@
 -- A closed channel accepts nothing, so a receiver that has read all of it is given nothing.
 use Rattle.std.proofs.Common.{◌≡◌, ◌⊎◌, inl, inr, ℕ, ◌-◌, ◌≤◌, true, false, cond, nat_lt, List, [], ◌∷◌, ◌++◌, length, slice_get, Option, Some, None, Result, Ok, Err, refl, sym, ap, ◌∙◌, subst, arith, append-nil, IsSomeAnd}
 use Rattle.std.specs.declared.alloc.AllocError.{AllocError}
-use mathlib.Core.List.{IsPrefix}
 use Rattle.futures.specs.declared.task.Poll.{Poll}
 use Rattle.futures.specs.declared.task.Poll.TheVariants as poll
 use Rattle.bcast_model.specs.declared.error.TryRecvError.TheVariants as unread
@@ -21,7 +20,7 @@ use Rattle.bcast_history.specs.Tracker.{Tracker, number}
 use Rattle.bcast_history.specs.Closed.{HasReadAll, ClosedIsLast, EndIsLast}
 use Rattle.bcast_history.specs.Log.{IsWholeLog}
 use Rattle.bcast_history.proofs.Logged.{first_kept, logs_are_accepted}
-use Rattle.bcast_history.proofs.Prefixes.{meet, prefix_self}
+use Rattle.bcast_history.proofs.Prefixes.{IsPrefix, meet, prefix_self}
 
 module _ {T : Type 0} (is_clone : T → T → Type 0) where
   -- a call that sends nothing adds nothing

@@ -1,7 +1,6 @@
 -- Several receives in one call: the steps that are kept, and what their caller learns.
 use Rattle.std.proofs.Common.{◌≡◌, ◌≢◌, ℕ, ◌<◌, List, [], ◌∷◌, ◌++◌, length, map, Option, Some, Ok, refl, sym, ap, ◌∙◌, subst, arith, append_assoc, append-nil, IfSome}
 use Rattle.std.proofs.lemmas.Option.{same_Some}
-use mathlib.Core.List.{IsPrefix}
 use Rattle.bcast_model.specs.declared.run.Call.TheVariants as call
 use Rattle.bcast_model.specs.declared.run.Reply.TheVariants as reply
 use Rattle.bcast_model.specs.Words.{Answers, History, Legal, View, cursor_of}
@@ -13,7 +12,7 @@ use Rattle.bcast_history.specs.Tracker.{IsOf, Tracker, Learns, next_of}
 use Rattle.claims.specs.Claims.{put_changed}
 use Rattle.bcast_history.proofs.Claimed.{others_stay, claims_read_on, next_settles}
 use Rattle.bcast_history.proofs.Keeping.{end_of-more, replays_longer, lawful_longer, learned}
-use Rattle.bcast_history.proofs.Prefixes.{prefix_self}
+use Rattle.bcast_history.proofs.Prefixes.{IsPrefix, prefix_self}
 use Rattle.bcast_history.proofs.Received.{tried}
 
 -- one more, and others behind it

@@ -3,14 +3,13 @@ use Rattle.std.proofs.Common.{◌≡◌, ◌⊎◌, inl, inr, ℕ, zero, suc, �
 use Rattle.std.proofs.lemmas.Grind.{common_steps}
 use Rattle.std.proofs.lemmas.Option.{none-some, same_Some}
 use Rattle.std.specs.declared.alloc.AllocError.{AllocError}
-use mathlib.Core.List.{IsPrefix}
 use Rattle.bcast_model.specs.declared.error.TryRecvError.TheVariants as unread
 use Rattle.bcast_model.specs.declared.run.Call.{Call}
 use Rattle.bcast_model.specs.declared.run.Reply.{Reply}
 use Rattle.bcast_model.specs.Words.{History, IsGiven, ClonesEqual, numbered, next, end_of_run}
 use Rattle.bcast_core.proofs.Runs.{all_made}
 use Rattle.bcast_history.specs.History.{Opening, Step, IsHistory, calls_of, replies_of, start_of, end_of}
-use Rattle.bcast_history.proofs.Prefixes.{prefix_shorter}
+use Rattle.bcast_history.proofs.Prefixes.{IsPrefix, prefix_shorter}
 use Rattle.bcast_history.specs.Log.{IsLog, IsWholeLog, LogsAreAccepted}
 use Rattle.bcast_history.specs.Batch.{AreDeliveries, TakesInto}
 use Rattle.bcast_history.specs.Makes.{ReceivesOnce}

@@ -1,6 +1,5 @@
 -- What the receives of a `TrackedReceiver` take.
 use Rattle.std.proofs.Common.{◌≡◌, ◌⊎◌, inr, ℕ, List, Some, Result, Ok, Err, sym, ap, ◌∙◌, subst, IfOk, IfErr}
-use mathlib.Core.List.{IsPrefix}
 use Rattle.bcast_model.specs.declared.run.Call.{Call}
 use Rattle.bcast_model.specs.declared.run.Call.TheVariants as call
 use Rattle.bcast_model.specs.declared.run.Reply.{Reply}
@@ -11,7 +10,7 @@ use Rattle.bcast_history.specs.Reader.{Finds, StaysAt, Takes, as_found}
 use Rattle.bcast_history.specs.Tracker.{Tracker, IsOf, IsReceiver, Learns, next_of, number}
 use Rattle.bcast_history.proofs.Found.{FoundAt, finds}
 use Rattle.bcast_history.proofs.Polls.{Polled, try_receives, poll_receives}
-use Rattle.bcast_history.proofs.Prefixes.{prefix_trans}
+use Rattle.bcast_history.proofs.Prefixes.{IsPrefix, prefix_trans}
 
 module _ {T : Type 0} where
   -- there it read on before a call

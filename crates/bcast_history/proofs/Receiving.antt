@@ -2,7 +2,6 @@
 use Rattle.std.proofs.Common.{◌≡◌, ◌⊎◌, inl, inr, ℕ, ◌+◌, ◌<◌, List, [], ◌∷◌, ◌++◌, length, Result, Ok, Err, refl, sym, ap, ◌∙◌, subst, arith}
 use Rattle.std.specs.List.{AllByRecursion}
 use Rattle.std.specs.declared.alloc.AllocError.{AllocError}
-use mathlib.Core.List.{IsPrefix}
 use Rattle.bcast_model.specs.declared.run.Call.TheVariants as call
 use Rattle.bcast_model.specs.declared.run.Reply.TheVariants as reply
 use Rattle.bcast_model.specs.declared.run.Call.{Call}
@@ -17,7 +16,7 @@ use Rattle.bcast_history.specs.Batch.{AreDeliveries, TakesInto, TakesMany}
 use Rattle.bcast_history.specs.Makes.{IsReceive, MakesEach, MakesReceives, PollsOnce, ReceivesBy, ReceivesOnce}
 use Rattle.bcast_history.specs.Reader.{Takes}
 use Rattle.bcast_history.specs.Tracker.{IsReceiver, Tracker, Learns, number}
-use Rattle.bcast_history.proofs.Prefixes.{prefix_self, prefix_trans}
+use Rattle.bcast_history.proofs.Prefixes.{IsPrefix, prefix_self, prefix_trans}
 use Rattle.bcast_history.proofs.Received.{IsPlace, tried}
 use Rattle.bcast_history.proofs.Sent.{delivery_stays}
 

@@ -1,13 +1,12 @@
 -- Where messages stand, and what a call gives each receiver.
 use Rattle.std.proofs.Common.{◌≡◌, ℕ, ◌+◌, List, [], ◌∷◌, ◌++◌, Option, Some, None, refl, sym, ap, ◌∙◌, subst}
-use mathlib.Core.List.{IsPrefix}
 use Rattle.bcast_model.specs.Words.{History, next, end_of_run, numbered, IsDelivery, IsGiven, given_to}
 use Rattle.bcast_model.proofs.DeliveryLists.{by_index}
 use Rattle.bcast_model.proofs.DeliveryMessages.{numbered_stays}
 use Rattle.bcast_model.proofs.DeliverySteps.{gives_call}
 use Rattle.bcast_laws.proofs.Sends.{messages_added}
 use Rattle.bcast_history.specs.History.{Opening, Step, calls_of, replies_of, start_of, end_of, accepted_by}
-use Rattle.bcast_history.proofs.Prefixes.{prefix_self, prefix_trans}
+use Rattle.bcast_history.proofs.Prefixes.{IsPrefix, prefix_self, prefix_trans}
 use Rattle.bcast_history.proofs.Told.{still_some}
 use Rattle.bcast_history.specs.Laws.{MessagesStay, SendsStandLast, ReadsOn, ReceiversReadOn}
 

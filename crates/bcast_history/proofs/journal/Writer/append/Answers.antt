@@ -1,8 +1,7 @@
 use Rattle.std.proofs.Common.{◌≡◌, [], ◌∷◌, ◌++◌, sym, ◌∙◌, ap, subst}
 use Rattle.std.specs.List.{cons_option}
-use mathlib.Core.List.{IsPrefix}
 use Rattle.bcast_history.specs.Book.{notes_of, turn_of, Lacks}
-use Rattle.bcast_history.proofs.Prefixes.{prefix_trans}
+use Rattle.bcast_history.proofs.Prefixes.{IsPrefix, prefix_trans}
 use Rattle.bcast_history.proofs.Chains.{adds_moves, notes_begin, as_it_was, one_more}
 use Rattle.bcast_history.proofs.journal.Writer.append.Goals as goal
 
