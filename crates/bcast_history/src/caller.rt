@@ -80,14 +80,12 @@ impl<T, J: Channel> TrackedCaller<T, J> {
         }
     }
 
-    /// What is known.
     pub(crate) fn seen(&self) -> Seen<T, J>
         ensures { result ≡ self.now.steps }
     {
         self.seen.same()
     }
 
-    /// The number of the message that comes next.
     #[inline(always)]
     pub(crate) fn end(&self) -> u64
         ensures { result ≡ end_number (end_of J.opening self.now.steps) }
@@ -95,7 +93,6 @@ impl<T, J: Channel> TrackedCaller<T, J> {
         self.end
     }
 
-    /// The receiver's key, if there is one.
     #[inline(always)]
     pub(crate) fn key(&self) -> usize
         ensures { result ≡ self.now.key }
@@ -103,7 +100,6 @@ impl<T, J: Channel> TrackedCaller<T, J> {
         self.cursor.key()
     }
 
-    /// The number of the message that the receiver reads next. `None`: there is no receiver.
     #[inline(always)]
     pub(crate) fn next(&self) -> Option<u64>
         ensures { result ≡ self.now.next }

@@ -70,7 +70,6 @@ impl<T: Clone, J: Channel> Tracker<T, J> {
         Ok(Tracker { caller: made })
     }
 
-    /// The receiver's key, if there is one.
     #[inline(always)]
     pub(crate) fn key(&self) -> usize
         ensures { result ≡ self.now.key }
