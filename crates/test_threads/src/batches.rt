@@ -1,13 +1,11 @@
 //! Threads that take batches of what another one sends.
-use crate::steps::{Receiving, Sending, pause, wait_for};
+use crate::steps::{Ends, Host, Receiving, Sending, pause, wait_for};
 use async_broadcast::{Port, RecvError, broadcast};
-use std::alloc::Global;
-use std::process::Abort;
+use std::sync::Arc;
 use std::sync::atomic::{AtomicU64, Ordering};
-use std::sync::{Arc, Wait};
 use std::test::Fail;
 use std::thread;
-use std::thread::{JoinHandle, Threads};
+use std::thread::JoinHandle;
 
 /// How many messages are sent.
 const MESSAGES: u64 = 1000;
@@ -26,7 +24,7 @@ const ROWS: &[Row] = &[
 ];
 
 /// Sends the messages of these numbers.
-fn send<P: Port<u64>>(rt: &impl Abort, sender: &Sending<P>, first: u64, end: u64) {
+fn send<P: Port<u64>>(rt: &impl Host, sender: &Sending<P>, first: u64, end: u64) {
     for msg in first..end {
         assert!(rt; sender.broadcast_blocking(msg).is_ok());
     }
@@ -44,14 +42,9 @@ fn are_next(msgs: &[u64], next: &mut u64) -> bool {
 
 /// Takes batches until the channel is closed. A message's number is how many came before it or were
 /// missed. Returns how many were missed.
-fn take_all<P: Port<u64>>(
-    rt: &impl Abort,
-    alloc: Global,
-    name: &str,
-    mut receiver: Receiving<P>,
-) -> u64 {
+fn take_all<P: Port<u64>>(rt: &impl Host, name: &str, mut receiver: Receiving<P>) -> u64 {
     let (mut next, mut missed) = (0u64, 0u64);
-    let mut msgs = Vec::new(alloc);
+    let mut msgs = Vec::new(rt.alloc());
     for _ in 0..=MESSAGES {
         match receiver.recv_many_blocking(LIMIT, &mut msgs) {
             Ok(Ok(count)) => {
@@ -75,44 +68,34 @@ fn take_all<P: Port<u64>>(
 }
 
 /// Starts a thread that takes all messages, and counts it when it is finished.
-fn start<R, P>(
+fn start<R: Host + 'static, P: Port<u64> + Send + 'static>(
     rt: R,
-    alloc: Global,
     receiver: Receiving<P>,
     finished: &Arc<AtomicU64>,
     row: Row,
-) -> Result<JoinHandle<()>, Fail>
-where
-    R: Threads + Wait + Abort + Copy + Send + Drop + 'static,
-    P: Port<u64> + Send + 'static,
-{
+) -> Result<JoinHandle<()>, Fail> {
     let own = Arc::try_clone(finished)?;
     let (name, _, _, (least, most)) = row;
     Ok(thread::spawn(&rt, move || {
-        let missed = take_all(&rt, alloc, name, receiver);
+        let missed = take_all(&rt, name, receiver);
         assert!(&rt; least <= missed && missed <= most, "{name}");
         own.fetch_add(1, Ordering::SeqCst);
     })?)
 }
 
 /// Has two threads take what this one sends.
-fn play<R, P>(
+fn play<R: Host + 'static, P: Port<u64> + Send + 'static>(
     rt: R,
-    alloc: Global,
-    (mut sender, receiver): (Sending<P>, Receiving<P>),
+    (mut sender, receiver): Ends<P>,
     row: Row,
-) -> Result<(), Fail>
-where
-    R: Threads + Wait + Abort + Copy + Send + Drop + 'static,
-    P: Port<u64> + Send + 'static,
-{
+) -> Result<(), Fail> {
     let (name, overflows, before, _) = row;
     let other = receiver.clone()?;
     sender.set_overflow(overflows);
     send(&rt, &sender, 0, before);
-    let finished = Arc::new(alloc, AtomicU64::new(0))?;
-    let first = start(rt, alloc, receiver, &finished, row)?;
-    let second = start(rt, alloc, other, &finished, row)?;
+    let finished = Arc::new(rt.alloc(), AtomicU64::new(0))?;
+    let first = start(rt, receiver, &finished, row)?;
+    let second = start(rt, other, &finished, row)?;
     send(&rt, &sender, before, MESSAGES);
     drop(sender);
     wait_for(&rt, &finished, 2, name);
@@ -124,23 +107,18 @@ where
 #[test]
 fn batches_of_threads_have_all_messages_in_order(rt: HostRuntime) -> Result<(), Fail> {
     for row in ROWS {
-        play(rt, rt.alloc(), broadcast(rt, rt.alloc(), 16)?, *row)?;
+        play(rt, broadcast(rt, rt.alloc(), 16)?, *row)?;
     }
     Ok(())
 }
 
 /// Fills a channel of capacity 2, so that a thread sleeps in its send, and takes one batch.
-fn wakes_by_a_batch<R, P>(
+fn wakes_by_a_batch<R: Host + 'static, P: Port<u64> + Send + 'static>(
     rt: R,
-    alloc: Global,
-    (sender, mut receiver): (Sending<P>, Receiving<P>),
-) -> Result<(), Fail>
-where
-    R: Threads + Wait + Abort + Copy + Send + Drop + 'static,
-    P: Port<u64> + Send + 'static,
-{
+    (sender, mut receiver): Ends<P>,
+) -> Result<(), Fail> {
     send(&rt, &sender, 0, 2);
-    let steps = Arc::new(alloc, AtomicU64::new(0))?;
+    let steps = Arc::new(rt.alloc(), AtomicU64::new(0))?;
     let own = Arc::try_clone(&steps)?;
     let thread = thread::spawn(&rt, move || {
         own.fetch_add(1, Ordering::SeqCst);
@@ -150,7 +128,7 @@ where
     wait_for(&rt, &steps, 1, "it begins");
     pause();
     assert!(&rt; steps.load(Ordering::SeqCst) == 1, "it waits");
-    let mut msgs = Vec::new(alloc);
+    let mut msgs = Vec::new(rt.alloc());
     assert!(&rt; receiver.try_recv_many(2, &mut msgs)? == Ok(2));
     wait_for(&rt, &steps, 2, "the message is sent");
     thread.join(&rt);
@@ -159,5 +137,5 @@ where
 
 #[test]
 fn a_batch_wakes_a_sender_that_sleeps(rt: HostRuntime) -> Result<(), Fail> {
-    wakes_by_a_batch(rt, rt.alloc(), broadcast(rt, rt.alloc(), 2)?)
+    wakes_by_a_batch(rt, broadcast(rt, rt.alloc(), 2)?)
 }

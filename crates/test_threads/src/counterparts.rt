@@ -2,14 +2,9 @@
 use crate::answers::{Answer, of_try_recv};
 use crate::hands::{Change, Hands, Script, Step};
 use crate::scripts::{Shared, start};
-use crate::steps::{Receiving, Sending, wait_for};
+use crate::steps::{Ends, Host, wait_for};
 use async_broadcast::{TimedPort, broadcast};
-use std::alloc::Global;
-use std::process::Abort;
-use std::sync::Wait;
 use std::test::Fail;
-use std::thread::Threads;
-use std::time::Clock;
 
 const PARALLEL_SENDS: Script = &[
     (Step::Change(Change::CloneSender), Answer::Done),
@@ -72,24 +67,17 @@ const WAITING_RECEIVES: Script = &[
 ];
 
 /// Plays a thread that sends, and one that receives, over a channel of capacity 2.
-fn play_two<R>(rt: R, alloc: Global, sends: Script, receives: Script) -> Result<(), Fail>
-where
-    R: Threads + Wait + Clock + Abort + Copy + Send + Drop + 'static,
-{
-    play(rt, alloc, broadcast(rt, alloc, 2)?, sends, receives)
+fn play_two<R: Host + 'static>(rt: R, sends: Script, receives: Script) -> Result<(), Fail> {
+    play(rt, broadcast(rt, rt.alloc(), 2)?, sends, receives)
 }
 
-fn play<R, P>(
+fn play<R: Host + 'static, P: TimedPort<u64> + Send + 'static>(
     rt: R,
-    alloc: Global,
-    (sender, receiver): (Sending<P>, Receiving<P>),
+    (sender, receiver): Ends<P>,
     sends: Script,
     receives: Script,
-) -> Result<(), Fail>
-where
-    R: Threads + Wait + Abort + Copy + Send + Drop + 'static,
-    P: TimedPort<u64> + Send + 'static,
-{
+) -> Result<(), Fail> {
+    let alloc = rt.alloc();
     let shared = Shared::new(alloc, &[2, 2, 2])?;
     let first = start(rt, &shared, Hands::receiving(alloc, receiver)?, receives)?;
     let second = start(rt, &shared, Hands::sending(alloc, sender)?, sends)?;
@@ -102,13 +90,13 @@ where
 // A full channel refuses, what was sent is received, and the drop of the last sender closes.
 #[test]
 fn parallel(rt: HostRuntime) -> Result<(), Fail> {
-    play_two(rt, rt.alloc(), PARALLEL_SENDS, PARALLEL_RECEIVES)
+    play_two(rt, PARALLEL_SENDS, PARALLEL_RECEIVES)
 }
 
 // As in `parallel`, with both sides waiting, and with two more messages.
 #[test]
 fn parallel_async(rt: HostRuntime) -> Result<(), Fail> {
-    play_two(rt, rt.alloc(), WAITING_SENDS, WAITING_RECEIVES)
+    play_two(rt, WAITING_SENDS, WAITING_RECEIVES)
 }
 
 const OVERFLOW_SENDS: Script = &[
@@ -137,21 +125,15 @@ const OVERFLOW_SECOND: Script = &[
 // A receiver that reads nothing misses what is dropped, and others get all messages.
 #[test]
 fn overflow(rt: HostRuntime) -> Result<(), Fail> {
-    let (sender, lagging) = broadcast(rt, rt.alloc(), 2)?;
-    one_lags(rt, rt.alloc(), sender, lagging)
+    one_lags(rt, broadcast(rt, rt.alloc(), 2)?)
 }
 
-fn one_lags<R, P>(
+fn one_lags<R: Host + 'static, P: TimedPort<u64> + Send + 'static>(
     rt: R,
-    alloc: Global,
-    sender: Sending<P>,
-    mut lagging: Receiving<P>,
-) -> Result<(), Fail>
-where
-    R: Threads + Wait + Abort + Copy + Send + Drop + 'static,
-    P: TimedPort<u64> + Send + 'static,
-{
+    (sender, mut lagging): Ends<P>,
+) -> Result<(), Fail> {
     lagging.set_overflow(true);
+    let alloc = rt.alloc();
     let shared = Shared::new(alloc, &[3, 2])?;
     let first = start(
         rt,
@@ -206,5 +188,5 @@ const OPEN_RECEIVES: Script = &[
 // Sends that may wait do so while the only receiver is inactive, and the others are refused.
 #[test]
 fn open_channel(rt: HostRuntime) -> Result<(), Fail> {
-    play_two(rt, rt.alloc(), OPEN_SENDS, OPEN_RECEIVES)
+    play_two(rt, OPEN_SENDS, OPEN_RECEIVES)
 }

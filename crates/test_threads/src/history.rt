@@ -3,19 +3,17 @@ ghost use Rattle.std.specs.Prelude.{◌≡◌, ◌<◌};
 ghost use Rattle.bcast_history.specs.Reader.{StartsAtTheFirst};
 
 use crate::readings::{Reading, read};
+use crate::steps::Host;
 use crate::timed::runs::{RUNS, run};
 use bcast_history::{
     Channel, HistoryPort, Opened, TimedHistoryPort, TrackedReceiver, TrackedSender, broadcast,
 };
-use std::alloc::{AllocError, AllocGlobal, Global};
+use std::alloc::AllocError;
 use std::marker::Brand;
 use std::process::Abort;
-use std::random::RandomSource;
-use std::sync::Wait;
 use std::test::Fail;
 use std::thread;
-use std::thread::{JoinHandle, Threads};
-use std::time::Clock;
+use std::thread::JoinHandle;
 
 /// How many messages each sender sends.
 const SHARE: u64 = 2000;
@@ -36,9 +34,7 @@ pub enum Row {
 }
 
 /// Does this on a new channel that keeps at most `capacity` messages.
-pub fn run_row<R>(rt: R, capacity: usize, row: Row) -> Result<(), Fail>
-where
-    R: Threads + Wait + Clock + Abort + RandomSource + AllocGlobal + Copy + Send + Drop + 'static,
+pub fn run_row<R: Host + 'static>(rt: R, capacity: usize, row: Row) -> Result<(), Fail>
     requires { 0 < capacity }
 {
     let opened = Opened::new(rt.alloc(), capacity)?;
@@ -48,7 +44,7 @@ where
 fn run_over<J, R>(rt: R, opened: Opened<u64>, row: Row) -> Result<(), Fail>
 where
     J: Channel + Send + Sync + 'static,
-    R: Threads + Wait + Clock + Abort + RandomSource + AllocGlobal + Copy + Send + Drop + 'static,
+    R: Host + 'static,
     requires { (opened.book ≡ J.book) × (opened.opening ≡ J.opening)
         × (opened.registry ≡ J.registry) }
 {
@@ -64,13 +60,13 @@ fn do_row<J, R, P>(
 ) -> Result<(), Fail>
 where
     J: Channel + Send + Sync + 'static,
-    R: Threads + Wait + Clock + Abort + RandomSource + AllocGlobal + Copy + Send + Drop + 'static,
+    R: Host + 'static,
     P: TimedHistoryPort<u64, J> + Send + 'static,
     requires { StartsAtTheFirst J.opening receiver.tracker }
 {
     match row {
-        Row::Run(number) => run_handles(rt, rt.alloc(), number, sender, receiver),
-        Row::Share => run_both(rt, rt.alloc(), sender, receiver),
+        Row::Run(number) => run_handles(rt, number, sender, receiver),
+        Row::Share => run_both(rt, sender, receiver),
         Row::Read(reading) => read(&rt, reading, &mut sender, &mut receiver),
     }
 }
@@ -86,19 +82,18 @@ fn a_thousand_runs_over_a_history_end(rt: HostRuntime) -> Result<(), Fail> {
 
 fn run_handles<J, R, P>(
     rt: R,
-    alloc: Global,
     number: u64,
     mut sender: TrackedSender<u64, P, J>,
     mut receiver: TrackedReceiver<u64, P, J>,
 ) -> Result<(), Fail>
 where
     J: Channel + Send + Sync + 'static,
-    R: Threads + Wait + Abort + Copy + Send + Drop + 'static,
+    R: Host + 'static,
     P: TimedHistoryPort<u64, J> + Send + 'static,
 {
     sender.set_overflow(number % 2 == 1);
     let (other, copy) = (sender.clone()?, receiver.clone()?);
-    run(rt, alloc, number, (other, sender), (copy, receiver))
+    run(rt, number, (other, sender), (copy, receiver))
 }
 
 // Each sender is told at which number of the history each of its messages stands, and there both
@@ -110,17 +105,16 @@ fn messages_stand_where_their_senders_were_told(rt: HostRuntime) -> Result<(), F
 
 fn run_both<J, R, P>(
     rt: R,
-    alloc: Global,
     sender: TrackedSender<u64, P, J>,
     receiver: TrackedReceiver<u64, P, J>,
 ) -> Result<(), Fail>
 where
     J: Channel + Send + Sync + 'static,
-    R: Threads + Wait + Abort + Copy + Send + Drop + 'static,
+    R: Host + 'static,
     P: HistoryPort<u64, J> + Send + 'static,
 {
-    let logs = start_receivers(rt, alloc, receiver)?;
-    let places = start_senders(rt, alloc, sender)?;
+    let logs = start_receivers(rt, receiver)?;
+    let places = start_senders(rt, sender)?;
     let (first, second) = (places.0.join(&rt)?, places.1.join(&rt)?);
     let (log, same) = (logs.0.join(&rt)?, logs.1.join(&rt)?);
     assert!(&rt; log == same && log.len() as u64 == 2 * SHARE);
@@ -130,46 +124,38 @@ where
 }
 
 /// Starts two threads that receive all messages.
-fn start_receivers<J, R, P>(
-    rt: R,
-    alloc: Global,
-    mut receiver: TrackedReceiver<u64, P, J>,
-) -> Result<Pair, Fail>
+fn start_receivers<J, R, P>(rt: R, mut receiver: TrackedReceiver<u64, P, J>) -> Result<Pair, Fail>
 where
     J: Channel + Send + Sync + 'static,
-    R: Threads + Wait + Copy + Send + Drop + 'static,
+    R: Host + 'static,
     P: HistoryPort<u64, J> + Send + 'static,
 {
     let other = receiver.clone()?;
-    let first = thread::spawn(&rt, move || receive_all(&rt, alloc, receiver))?;
-    let second = thread::spawn(&rt, move || receive_all(&rt, alloc, other))?;
+    let first = thread::spawn(&rt, move || receive_all(&rt, receiver))?;
+    let second = thread::spawn(&rt, move || receive_all(&rt, other))?;
     Ok((first, second))
 }
 
 /// Starts two threads that send, the second one the messages from `SHARE` on.
-fn start_senders<J, R, P>(
-    rt: R,
-    alloc: Global,
-    mut sender: TrackedSender<u64, P, J>,
-) -> Result<Pair, Fail>
+fn start_senders<J, R, P>(rt: R, mut sender: TrackedSender<u64, P, J>) -> Result<Pair, Fail>
 where
     J: Channel + Send + Sync + 'static,
-    R: Threads + Wait + Copy + Send + Drop + 'static,
+    R: Host + 'static,
     P: HistoryPort<u64, J> + Send + 'static,
 {
     let other = sender.clone()?;
-    let first = thread::spawn(&rt, move || send_all(alloc, sender, 0))?;
-    let second = thread::spawn(&rt, move || send_all(alloc, other, SHARE))?;
+    let first = thread::spawn(&rt, move || send_all(&rt, sender, 0))?;
+    let second = thread::spawn(&rt, move || send_all(&rt, other, SHARE))?;
     Ok((first, second))
 }
 
 /// Sends the messages from `first` on, and returns the number at which each stands.
 fn send_all<J: Channel, P: HistoryPort<u64, J>>(
-    alloc: Global,
+    rt: &impl Host,
     mut sender: TrackedSender<u64, P, J>,
     first: u64,
 ) -> List {
-    let mut places = Vec::new(alloc);
+    let mut places = Vec::new(rt.alloc());
     for msg in first..first.wrapping_add(SHARE) {
         if sender.broadcast_blocking(msg).is_ok() {
             places.push(sender.end().wrapping_sub(1))?;
@@ -180,11 +166,10 @@ fn send_all<J: Channel, P: HistoryPort<u64, J>>(
 
 /// Receives until the channel is closed.
 fn receive_all<J: Channel, P: HistoryPort<u64, J>>(
-    rt: &impl Wait,
-    alloc: Global,
+    rt: &impl Host,
     mut receiver: TrackedReceiver<u64, P, J>,
 ) -> List {
-    let mut log = Vec::new(alloc);
+    let mut log = Vec::new(rt.alloc());
     for _ in rt.forever() {
         match receiver.recv_blocking()? {
             Ok(msg) => log.push(msg)?,

@@ -1,14 +1,13 @@
 //! Threads that are woken and wake the next one: by finding nothing to receive, or by a send.
-use crate::steps::{pause, wait_for};
+use crate::steps::{Host, pause, wait_for};
 use async_broadcast::{Lock, Port, PortFor, TimedPort};
 use bcast_core::{AddReceiver, Close, Inner, TryBroadcast, TryRecv, TryRecvError};
-use std::alloc::{AllocError, Global};
-use std::process::Abort;
+use std::alloc::AllocError;
+use std::sync::Arc;
 use std::sync::atomic::{AtomicU64, Ordering};
-use std::sync::{Arc, Wait};
 use std::test::Fail;
 use std::thread;
-use std::thread::{JoinHandle, Threads};
+use std::thread::JoinHandle;
 use std::time::Duration;
 
 /// How many threads began their receive, how many got the message, and how many saw that the
@@ -46,19 +45,14 @@ fn receive<P: TimedPort<u64>>(port: P, key: usize, limit: Option<Duration>, coun
 }
 
 /// Starts threads that wait for the messages of these receivers, each when those before it sleep.
-pub fn start<R, P>(
+pub fn start<R: Host + 'static, P: TimedPort<u64> + Send + 'static>(
     rt: R,
-    alloc: Global,
     port: &P,
     keys: &[usize],
     limit: Option<Duration>,
     counts: &Arc<Counts>,
-) -> Result<Vec<JoinHandle<()>>, Fail>
-where
-    R: Threads + Wait + Abort + Copy + Send + Drop + 'static,
-    P: TimedPort<u64> + Send + 'static,
-{
-    let mut threads = Vec::new(alloc);
+) -> Result<Vec<JoinHandle<()>>, Fail> {
+    let mut threads = Vec::new(rt.alloc());
     for (index, key) in keys.iter().enumerate() {
         let (own, key) = (port.try_clone().ok_or("no port")?, *key);
         let shared = Arc::try_clone(counts)?;
@@ -71,17 +65,17 @@ where
 
 /// Sends to three threads of two receivers, and closes the channel when two of them got the
 /// message.
-fn all_go_on<R, P>(rt: R, alloc: Global, port: P, key: usize) -> Result<(), Fail>
+fn all_go_on<R, P>(rt: R, port: P, key: usize) -> Result<(), Fail>
 where
-    R: Threads + Wait + Abort + Copy + Send + Drop + 'static,
+    R: Host + 'static,
     P: TimedPort<u64> + Send + 'static,
 {
     let other = port
         .ask(&mut (), AddReceiver::New)
         .ok()
         .ok_or("no receiver")?;
-    let counts = Arc::new(alloc, Counts::none())?;
-    let threads = start(rt, alloc, &port, &[key, key, other], None, &counts)?;
+    let counts = Arc::new(rt.alloc(), Counts::none())?;
+    let threads = start(rt, &port, &[key, key, other], None, &counts)?;
     assert!(&rt; counts.received.load(Ordering::SeqCst) == 0, "all wait");
     assert!(&rt; matches!(port.ask(&mut (), TryBroadcast(7)), Ok(None)));
     wait_for(
@@ -103,7 +97,7 @@ where
 #[test]
 fn a_thread_that_finds_nothing_wakes_the_next(rt: HostRuntime) -> Result<(), Fail> {
     let (inner, key) = Inner::new(rt.alloc(), 1)?;
-    all_go_on(rt, rt.alloc(), Lock::new(rt, rt.alloc(), inner)?, key)
+    all_go_on(rt, Lock::new(rt, rt.alloc(), inner)?, key)
 }
 
 /// Waits until it can send a message, and makes no call then.
@@ -114,9 +108,9 @@ fn send<P: Port<u64>>(port: P, counts: &Counts) {
 
 /// Has a receiver wait that has read everything, and a sender for which the other receiver has to
 /// make room.
-fn goes_on_by_a_send<R, P>(rt: R, alloc: Global, port: P, key: usize) -> Result<(), Fail>
+fn goes_on_by_a_send<R, P>(rt: R, port: P, key: usize) -> Result<(), Fail>
 where
-    R: Threads + Wait + Abort + Copy + Send + Drop + 'static,
+    R: Host + 'static,
     P: TimedPort<u64> + Send + 'static,
 {
     let late = port
@@ -126,8 +120,8 @@ where
     assert!(&rt; matches!(port.ask(&mut (), TryBroadcast(1)), Ok(None)));
     let first: Result<Result<u64, TryRecvError>, AllocError> = port.ask(&mut (), TryRecv(key));
     assert!(&rt; first == Ok(Ok(1)));
-    let counts = Arc::new(alloc, Counts::none())?;
-    let receivers = start(rt, alloc, &port, &[key], None, &counts)?;
+    let counts = Arc::new(rt.alloc(), Counts::none())?;
+    let receivers = start(rt, &port, &[key], None, &counts)?;
     let (own, shared) = (port.try_clone().ok_or("no port")?, Arc::try_clone(&counts)?);
     let sender = thread::spawn(&rt, move || send(own, &shared))?;
     wait_for(&rt, &counts.begun, 2, "both begin");
@@ -146,5 +140,5 @@ where
 #[test]
 fn a_send_that_waited_wakes_a_receiver(rt: HostRuntime) -> Result<(), Fail> {
     let (inner, key) = Inner::new(rt.alloc(), 1)?;
-    goes_on_by_a_send(rt, rt.alloc(), Lock::new(rt, rt.alloc(), inner)?, key)
+    goes_on_by_a_send(rt, Lock::new(rt, rt.alloc(), inner)?, key)
 }

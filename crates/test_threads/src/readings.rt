@@ -5,18 +5,15 @@ use crate::answers::{
     Answer, of_poll_recv, of_recv, of_recv_timeout, of_send_timeout, of_try_recv,
 };
 use crate::history::{Row, run_row};
+use crate::steps::Host;
 use batches::take_batches;
 use bcast_history::{Channel, TimedHistoryPort, TrackedReceiver, TrackedSender};
 use futures::task::{Context, Poll};
 use futures::test::MockTask;
 use logs::{take_cut_logs, take_whole_log};
 use settings::set_each;
-use std::alloc::AllocGlobal;
-use std::process::Abort;
-use std::random::RandomSource;
-use std::sync::Wait;
 use std::test::Fail;
-use std::time::{Clock, Duration, Instant};
+use std::time::{Duration, Instant};
 
 mod batches;
 mod logs;
@@ -30,7 +27,7 @@ fn recv_in<J: Channel, P: TimedHistoryPort<u64, J>>(
 }
 
 fn next_in<J: Channel, P: TimedHistoryPort<u64, J>>(
-    rt: &impl Wait,
+    rt: &impl Host,
     receiver: &mut TrackedReceiver<u64, P, J>,
     task: &MockTask,
 ) -> Answer {
@@ -38,7 +35,7 @@ fn next_in<J: Channel, P: TimedHistoryPort<u64, J>>(
 }
 
 fn poll_next<J: Channel, P: TimedHistoryPort<u64, J>>(
-    rt: &impl Wait,
+    rt: &impl Host,
     receiver: &mut TrackedReceiver<u64, P, J>,
     cx: &mut Context<'_>,
 ) -> Answer {
@@ -107,16 +104,12 @@ fn a_sender_sets_and_counts(rt: HostRuntime) -> Result<(), Fail> {
     run_row(rt, 2, Row::Read(Reading::Set))
 }
 
-pub fn read<J, R, P>(
-    rt: &R,
+pub fn read<J: Channel, P: TimedHistoryPort<u64, J>>(
+    rt: &impl Host,
     reading: Reading,
     sender: &mut TrackedSender<u64, P, J>,
     receiver: &mut TrackedReceiver<u64, P, J>,
 ) -> Result<(), Fail>
-where
-    J: Channel,
-    R: Wait + Clock + Abort + RandomSource + AllocGlobal,
-    P: TimedHistoryPort<u64, J>,
     requires { StartsAtTheFirst J.opening receiver.old.tracker }
 {
     match reading {
@@ -132,16 +125,11 @@ where
     }
 }
 
-fn take_each<J, R, P>(
-    rt: &R,
+fn take_each<J: Channel, P: TimedHistoryPort<u64, J>>(
+    rt: &impl Host,
     sender: &mut TrackedSender<u64, P, J>,
     receiver: &mut TrackedReceiver<u64, P, J>,
-) -> Result<(), Fail>
-where
-    J: Channel,
-    R: Wait + Abort + RandomSource + AllocGlobal,
-    P: TimedHistoryPort<u64, J>,
-{
+) -> Result<(), Fail> {
     sender.set_overflow(true);
     let task = MockTask::new(&rt)?;
     let limit = Duration::from_millis(1);
@@ -175,23 +163,18 @@ where
 
 /// Sends a message for which there is room, or one that drops the oldest.
 fn send<J: Channel, P: TimedHistoryPort<u64, J>>(
-    rt: &impl Abort,
+    rt: &impl Host,
     sender: &mut TrackedSender<u64, P, J>,
     msg: u64,
 ) {
     assert!(rt; sender.try_broadcast(msg).is_ok(), "{msg} is sent");
 }
 
-fn start_each<J, R, P>(
-    rt: &R,
+fn start_each<J: Channel, P: TimedHistoryPort<u64, J>>(
+    rt: &impl Host,
     sender: &mut TrackedSender<u64, P, J>,
     first: &mut TrackedReceiver<u64, P, J>,
-) -> Result<(), Fail>
-where
-    J: Channel,
-    R: Wait + Abort,
-    P: TimedHistoryPort<u64, J>,
-{
+) -> Result<(), Fail> {
     send(rt, sender, 1);
     let mut cloned = first.clone()?;
     let mut made = sender.new_receiver()?;
@@ -207,16 +190,11 @@ where
     Ok(())
 }
 
-fn make_each<J, R, P>(
-    rt: &R,
+fn make_each<J: Channel, P: TimedHistoryPort<u64, J>>(
+    rt: &impl Host,
     sender: &mut TrackedSender<u64, P, J>,
     first: &mut TrackedReceiver<u64, P, J>,
-) -> Result<(), Fail>
-where
-    J: Channel,
-    R: Wait + Abort,
-    P: TimedHistoryPort<u64, J>,
-{
+) -> Result<(), Fail> {
     let inactive = sender.new_receiver()?.deactivate().ok().ok_or("no handle")?;
     let activated = inactive.activate().ok().ok_or("no handle")?;
     assert!(rt; sender.receiver_count() == 2 && sender.inactive_receiver_count() == 0);
@@ -235,16 +213,11 @@ where
     Ok(())
 }
 
-fn count_each<J, R, P>(
-    rt: &R,
+fn count_each<J: Channel, P: TimedHistoryPort<u64, J>>(
+    rt: &impl Host,
     sender: &mut TrackedSender<u64, P, J>,
     receiver: &mut TrackedReceiver<u64, P, J>,
-) -> Result<(), Fail>
-where
-    J: Channel,
-    R: Wait + Abort,
-    P: TimedHistoryPort<u64, J>,
-{
+) -> Result<(), Fail> {
     sender.set_overflow(true);
     for msg in 1..=3 {
         send(rt, sender, msg);
@@ -268,16 +241,11 @@ where
     Ok(())
 }
 
-fn wait_each<J, R, P>(
-    rt: &R,
+fn wait_each<J: Channel, P: TimedHistoryPort<u64, J>>(
+    rt: &impl Host,
     sender: &mut TrackedSender<u64, P, J>,
     receiver: &mut TrackedReceiver<u64, P, J>,
-) -> Result<(), Fail>
-where
-    J: Channel,
-    R: Clock + Abort,
-    P: TimedHistoryPort<u64, J>,
-{
+) -> Result<(), Fail> {
     let limit = Duration::from_millis(2);
     let start = Instant::now(rt)?;
     assert!(rt; of_recv_timeout(receiver.recv_timeout(limit)) == Answer::Empty);

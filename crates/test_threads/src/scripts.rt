@@ -1,14 +1,14 @@
 //! Threads that make lists of calls on their handles, and meet in between.
 use crate::answers::Answer;
 use crate::hands::{Hands, Script, Step};
+use crate::steps::Host;
 use async_broadcast::TimedPort;
 use std::alloc::Global;
-use std::process::Abort;
 use std::sync::atomic::{AtomicU64, Ordering};
 use std::sync::{Arc, Barrier, Wait};
 use std::test::Fail;
 use std::thread;
-use std::thread::{JoinHandle, Threads};
+use std::thread::JoinHandle;
 
 /// What threads share: the barriers, and how many threads are finished.
 #[derive(Drop)]
@@ -36,12 +36,7 @@ impl Shared {
 }
 
 /// Does the steps of a thread, each of which must return its answer.
-fn play<R: Abort + Wait, P: TimedPort<u64>>(
-    rt: &R,
-    shared: &Shared,
-    mut hands: Hands<P>,
-    script: Script,
-) {
+fn play<P: TimedPort<u64>>(rt: &impl Host, shared: &Shared, mut hands: Hands<P>, script: Script) {
     for (index, (step, answer)) in script.iter().enumerate() {
         let made = match *step {
             Step::Meet(number) => shared.meet(rt, number),
@@ -53,16 +48,12 @@ fn play<R: Abort + Wait, P: TimedPort<u64>>(
 }
 
 /// Starts a thread that plays a script.
-pub fn start<R, P>(
+pub fn start<R: Host + 'static, P: TimedPort<u64> + Send + 'static>(
     rt: R,
     shared: &Arc<Shared>,
     hands: Hands<P>,
     script: Script,
-) -> Result<JoinHandle<()>, Fail>
-where
-    R: Threads + Wait + Abort + Copy + Send + Drop + 'static,
-    P: TimedPort<u64> + Send + 'static,
-{
+) -> Result<JoinHandle<()>, Fail> {
     let own = Arc::try_clone(shared)?;
     Ok(thread::spawn(&rt, move || play(&rt, &own, hands, script))?)
 }

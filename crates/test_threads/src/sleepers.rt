@@ -1,11 +1,11 @@
 //! Threads that each sleep in one call, while another makes the calls that wake them.
 use crate::answers::Answer;
 use crate::hands::{Hands, Script, Step};
-use crate::steps::{pause, wait_for};
+use crate::steps::{Host, pause, wait_for};
 use async_broadcast::TimedPort;
 use std::process::Abort;
+use std::sync::Arc;
 use std::sync::atomic::{AtomicU64, Ordering};
-use std::sync::{Arc, Wait};
 use std::test::Fail;
 use std::thread;
 use std::thread::{JoinHandle, Threads};
@@ -41,16 +41,12 @@ fn sleep<P: TimedPort<u64>>(
 }
 
 /// Starts a thread that makes a call.
-fn start_one<R, P>(
+fn start_one<R: Host + 'static, P: TimedPort<u64> + Send + 'static>(
     rt: R,
     counts: &Arc<Counts>,
     hands: &Hands<P>,
     call: (Step, Answer),
-) -> Result<JoinHandle<()>, Fail>
-where
-    R: Threads + Wait + Abort + Copy + Send + Drop + 'static,
-    P: TimedPort<u64> + Send + 'static,
-{
+) -> Result<JoinHandle<()>, Fail> {
     let own = Arc::try_clone(counts)?;
     let made = hands.cloned_for(call.0).ok_or("no handles")?;
     Ok(thread::spawn(&rt, move || sleep(&rt, &own, made, call))?)
@@ -60,7 +56,7 @@ impl Sleepers {
     /// Starts a thread for each of these calls.
     pub fn start<R, P>(rt: R, hands: &Hands<P>, calls: Script) -> Result<Sleepers, Fail>
     where
-        R: Threads + Wait + Abort + Copy + Send + Drop + 'static,
+        R: Host + 'static,
         P: TimedPort<u64> + Send + 'static,
     {
         let (begun, ended) = (AtomicU64::new(0), AtomicU64::new(0));
@@ -94,16 +90,12 @@ impl Sleepers {
 
 /// Plays a row: its threads must sleep until the last calls are made, and then all
 /// of them must wake and end their calls. Makes the calls `after` in the end.
-pub fn wakes<R, P>(
+pub fn wakes<R: Host + 'static, P: TimedPort<u64> + Send + 'static>(
     rt: R,
     mut hands: Hands<P>,
     (name, before, asleep, calls): Row,
     after: Script,
-) -> Result<(), Fail>
-where
-    R: Threads + Wait + Abort + Copy + Send + Drop + 'static,
-    P: TimedPort<u64> + Send + 'static,
-{
+) -> Result<(), Fail> {
     hands.make_all(&rt, name, before);
     let sleepers = Sleepers::start(rt, &hands, asleep)?;
     sleepers.wait_for_sleep(&rt, name);

@@ -8,14 +8,10 @@ use crate::hands::Polled::{Future, HeldFuture, HeldSend, Next, Recv, Woken};
 use crate::hands::Step::{Change, Poll, Receive, TryRecv, TrySend, TrySendBoth};
 use crate::hands::{Hands, Polled, Script, Step};
 use crate::sleepers::{Row, wakes};
-use crate::steps::{Receiving, Sending};
+use crate::steps::{Ends, Host};
 use async_broadcast::{TimedPort, broadcast};
 use futures::test::MockTask;
-use std::alloc::Global;
-use std::process::Abort;
-use std::sync::Wait;
 use std::test::Fail;
-use std::thread::Threads;
 
 /// Two threads that must get this message.
 const RECEIVE: Script = &[(Receive(0), Message(7)); 2];
@@ -152,18 +148,13 @@ const SENDERS: &[Row] = &[
 ];
 
 /// Plays a row over a new channel.
-fn play<R, P>(
+fn play<R: Host + 'static, P: TimedPort<u64> + Send + 'static>(
     rt: R,
-    alloc: Global,
     task: MockTask,
-    channel: (Sending<P>, Receiving<P>),
+    ends: Ends<P>,
     row: Row,
-) -> Result<(), Fail>
-where
-    R: Threads + Wait + Abort + Copy + Send + Drop + 'static,
-    P: TimedPort<u64> + Send + 'static,
-{
-    let mut hands = Hands::both(alloc, channel)?;
+) -> Result<(), Fail> {
+    let mut hands = Hands::both(rt.alloc(), ends)?;
     hands.task = Some(task);
     wakes(rt, hands, row, &[])
 }
@@ -174,7 +165,7 @@ fn sleeping_receivers_go_on(rt: HostRuntime) -> Result<(), Fail> {
     for (name, asleep, calls) in RECEIVERS {
         let row: Row = (*name, &[], *asleep, *calls);
         let task = MockTask::new(&rt)?;
-        play(rt, rt.alloc(), task, broadcast(rt, rt.alloc(), 2)?, row)?;
+        play(rt, task, broadcast(rt, rt.alloc(), 2)?, row)?;
     }
     Ok(())
 }
@@ -184,7 +175,7 @@ fn sleeping_receivers_go_on(rt: HostRuntime) -> Result<(), Fail> {
 fn sleeping_senders_go_on(rt: HostRuntime) -> Result<(), Fail> {
     for row in SENDERS {
         let task = MockTask::new(&rt)?;
-        play(rt, rt.alloc(), task, broadcast(rt, rt.alloc(), 1)?, *row)?;
+        play(rt, task, broadcast(rt, rt.alloc(), 1)?, *row)?;
     }
     Ok(())
 }

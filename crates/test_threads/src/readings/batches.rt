@@ -1,15 +1,13 @@
 //! What a `TrackedReceiver` is given several at once.
 use super::send;
+use crate::steps::Host;
 use async_broadcast::RecvTimeoutError;
 use bcast_core::{RecvError, TryRecvError};
 use bcast_history::{Channel, TimedHistoryPort, TrackedReceiver, TrackedSender};
 use futures::task::Poll;
 use futures::test::MockTask;
-use std::alloc::AllocGlobal;
-use std::process::Abort;
-use std::random::RandomSource;
 use std::test::Fail;
-use std::time::{Clock, Duration, Instant};
+use std::time::{Duration, Instant};
 
 /// More messages than the channel keeps.
 const MANY: usize = 3;
@@ -28,16 +26,11 @@ fn poll_in<J: Channel, P: TimedHistoryPort<u64, J>>(
 }
 
 /// Receives all that is there, in each way, on a channel of capacity 2.
-pub(super) fn take_batches<J, R, P>(
-    rt: &R,
+pub(super) fn take_batches<J: Channel, P: TimedHistoryPort<u64, J>>(
+    rt: &impl Host,
     sender: &mut TrackedSender<u64, P, J>,
     receiver: &mut TrackedReceiver<u64, P, J>,
-) -> Result<(), Fail>
-where
-    J: Channel,
-    R: Clock + Abort + RandomSource + AllocGlobal,
-    P: TimedHistoryPort<u64, J>,
-{
+) -> Result<(), Fail> {
     let mut msgs = Vec::new(rt.alloc());
     send(rt, sender, 1);
     send(rt, sender, 2);
@@ -64,16 +57,11 @@ where
 }
 
 /// Waits for a message that doesn't come, until the time is over.
-fn wait_for_batch<J, R, P>(
-    rt: &R,
+fn wait_for_batch<J: Channel, P: TimedHistoryPort<u64, J>>(
+    rt: &impl Host,
     receiver: &mut TrackedReceiver<u64, P, J>,
     msgs: &mut Vec<u64>,
-) -> Result<(), Fail>
-where
-    J: Channel,
-    R: Clock + Abort,
-    P: TimedHistoryPort<u64, J>,
-{
+) -> Result<(), Fail> {
     let limit = Duration::from_millis(2);
     let start = Instant::now(rt)?;
     let received = receiver.recv_many_timeout(MANY, msgs, limit)?;

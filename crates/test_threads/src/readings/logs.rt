@@ -3,10 +3,8 @@ ghost use Rattle.bcast_history.specs.Reader.{StartsAtTheFirst};
 
 use super::{Reading, send};
 use crate::history::{Row, run_row};
+use crate::steps::Host;
 use bcast_history::{Channel, TimedHistoryPort, TrackedReceiver, TrackedSender};
-use std::alloc::AllocGlobal;
-use std::process::Abort;
-use std::sync::Wait;
 use std::test::Fail;
 
 #[test]
@@ -20,15 +18,11 @@ fn a_log_that_is_cut_short_says_why(rt: HostRuntime) -> Result<(), Fail> {
 }
 
 /// Receives all of two messages, on a channel that is closed.
-pub(super) fn take_whole_log<J, R, P>(
-    rt: &R,
+pub(super) fn take_whole_log<J: Channel, P: TimedHistoryPort<u64, J>>(
+    rt: &impl Host,
     sender: &mut TrackedSender<u64, P, J>,
     receiver: &mut TrackedReceiver<u64, P, J>,
 ) -> Result<(), Fail>
-where
-    J: Channel,
-    R: Wait + Abort + AllocGlobal,
-    P: TimedHistoryPort<u64, J>,
     requires { StartsAtTheFirst J.opening receiver.old.tracker }
 {
     send(rt, sender, 1);
@@ -41,15 +35,11 @@ where
 
 /// Receives while there is no memory for so many messages; and on a channel of capacity 2, whose
 /// first message was dropped.
-pub(super) fn take_cut_logs<J, R, P>(
-    rt: &R,
+pub(super) fn take_cut_logs<J: Channel, P: TimedHistoryPort<u64, J>>(
+    rt: &impl Host,
     sender: &mut TrackedSender<u64, P, J>,
     receiver: &mut TrackedReceiver<u64, P, J>,
 ) -> Result<(), Fail>
-where
-    J: Channel,
-    R: Wait + Abort + AllocGlobal,
-    P: TimedHistoryPort<u64, J>,
     requires { StartsAtTheFirst J.opening receiver.old.tracker }
 {
     let mut other = receiver.clone()?;

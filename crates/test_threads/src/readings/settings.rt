@@ -1,16 +1,13 @@
 //! What a `TrackedSender` sets, counts and sends as a whole.
+use crate::steps::Host;
 use bcast_history::{Channel, HistoryPort, TrackedSender};
-use std::alloc::AllocGlobal;
-use std::process::Abort;
 use std::test::Fail;
 
 /// Makes each call on a channel that has one receiver, and no message.
-pub(super) fn set_each<J, R, P>(rt: &R, sender: &mut TrackedSender<u64, P, J>) -> Result<(), Fail>
-where
-    J: Channel,
-    R: Abort + AllocGlobal,
-    P: HistoryPort<u64, J>,
-{
+pub(super) fn set_each<J: Channel, P: HistoryPort<u64, J>>(
+    rt: &impl Host,
+    sender: &mut TrackedSender<u64, P, J>,
+) -> Result<(), Fail> {
     sender.set_capacity(3)?;
     sender.set_await_active(false);
     assert!(rt; sender.capacity() == 3 && !sender.overflow() && !sender.await_active());

@@ -3,16 +3,13 @@ use crate::answers::{Answer, of_recv_timeout};
 use crate::hands::{Change, Hands, Script, Step};
 use crate::passing_on::{Counts, start};
 use crate::sleepers::{Row, Sleepers};
-use crate::steps::{Receiving, Sending, wait_for};
+use crate::steps::{Ends, Host, wait_for};
 use crate::timed::clock::{Dial, SetClock};
 use async_broadcast::{Lock, TimedPort, broadcast};
 use bcast_core::{Inner, TryBroadcast};
-use std::alloc::Global;
-use std::process::Abort;
+use std::sync::Arc;
 use std::sync::atomic::Ordering;
-use std::sync::{Arc, Wait};
 use std::test::Fail;
-use std::thread::Threads;
 use std::time::Duration;
 
 /// The limit of each call, in seconds.
@@ -39,31 +36,19 @@ const SENDS: Row = (
 
 // Two calls whose time is over when they are woken: each tries once more, and the first wakes the
 // other. Makes the calls `after` in the end.
-fn all_end<R>(rt: R, alloc: Global, row: Row, after: Script) -> Result<(), Fail>
-where
-    R: Threads + Wait + Abort + Copy + Send + Drop + 'static,
-{
-    let (clock, dial) = SetClock::new(rt, alloc, u64::MAX)?;
-    play(
-        rt,
-        &dial,
-        Hands::both(alloc, broadcast(clock, alloc, 1)?)?,
-        row,
-        after,
-    )
+fn all_end<R: Host + 'static>(rt: R, row: Row, after: Script) -> Result<(), Fail> {
+    let (clock, dial) = SetClock::new(rt, rt.alloc(), u64::MAX)?;
+    play(rt, &dial, broadcast(clock, rt.alloc(), 1)?, row, after)
 }
 
-fn play<R, P>(
+fn play<R: Host + 'static, P: TimedPort<u64> + Send + 'static>(
     rt: R,
     dial: &Dial,
-    mut hands: Hands<P>,
+    ends: Ends<P>,
     (name, before, asleep, calls): Row,
     after: Script,
-) -> Result<(), Fail>
-where
-    R: Threads + Wait + Abort + Copy + Send + Drop + 'static,
-    P: TimedPort<u64> + Send + 'static,
-{
+) -> Result<(), Fail> {
+    let mut hands = Hands::both(rt.alloc(), ends)?;
     hands.limit = Duration::from_secs(LIMIT);
     hands.make_all(&rt, name, before);
     let sleepers = Sleepers::start(rt, &hands, asleep)?;
@@ -77,13 +62,13 @@ where
 
 #[test]
 fn late_receives_try_and_wake_the_next(rt: HostRuntime) -> Result<(), Fail> {
-    all_end(rt, rt.alloc(), RECEIVES, &[])
+    all_end(rt, RECEIVES, &[])
 }
 
 #[test]
 fn late_sends_try_and_wake_the_next(rt: HostRuntime) -> Result<(), Fail> {
     let after = &[(Step::Keeps(3), Answer::Is(true))];
-    all_end(rt, rt.alloc(), SENDS, after)
+    all_end(rt, SENDS, after)
 }
 
 // Of two threads with one receiver, one gets the message. The other is woken too, finds nothing,
@@ -92,23 +77,17 @@ fn late_sends_try_and_wake_the_next(rt: HostRuntime) -> Result<(), Fail> {
 fn a_wait_goes_on_to_its_limit(rt: HostRuntime) -> Result<(), Fail> {
     let (inner, key) = Inner::new(rt.alloc(), 1)?;
     let (clock, dial) = SetClock::new(rt, rt.alloc(), u64::MAX)?;
-    one_goes_on(
-        rt,
-        rt.alloc(),
-        &dial,
-        Lock::new(clock, rt.alloc(), inner)?,
-        key,
-    )
+    one_goes_on(rt, &dial, Lock::new(clock, rt.alloc(), inner)?, key)
 }
 
-fn one_goes_on<R, P>(rt: R, alloc: Global, dial: &Dial, port: P, key: usize) -> Result<(), Fail>
+fn one_goes_on<R, P>(rt: R, dial: &Dial, port: P, key: usize) -> Result<(), Fail>
 where
-    R: Threads + Wait + Abort + Copy + Send + Drop + 'static,
+    R: Host + 'static,
     P: TimedPort<u64> + Send + 'static,
 {
-    let counts = Arc::new(alloc, Counts::none())?;
+    let counts = Arc::new(rt.alloc(), Counts::none())?;
     let limit = Some(Duration::from_secs(LIMIT));
-    let threads = start(rt, alloc, &port, &[key, key], limit, &counts)?;
+    let threads = start(rt, &port, &[key, key], limit, &counts)?;
     wait_for(&rt, &dial.reads, BOTH_SLEEP, "both sleep");
     dial.seconds.store(LIMIT - 1, Ordering::SeqCst);
     assert!(&rt; matches!(port.ask(&mut (), TryBroadcast(7)), Ok(None)));
@@ -133,10 +112,7 @@ fn without_a_clock_no_call_waits(rt: HostRuntime) -> Result<(), Fail> {
     Ok(())
 }
 
-fn ends_at_once<P: TimedPort<u64>>(
-    rt: &impl Abort,
-    (_sender, mut receiver): (Sending<P>, Receiving<P>),
-) {
+fn ends_at_once<P: TimedPort<u64>>(rt: &impl Host, (_sender, mut receiver): Ends<P>) {
     let received = receiver.recv_timeout(Duration::from_secs(LIMIT));
     assert!(rt; of_recv_timeout(received) == Answer::Empty);
 }

@@ -1,27 +1,25 @@
 //! What the calls return when nobody else makes one: each answer, at once or when the time is over.
 use crate::answers::Answer;
 use crate::hands::{Change, Hands, Script, Step};
-use crate::steps::{Receiving, Sending};
+use crate::steps::{Ends, Host};
 use async_broadcast::{RecvTimeoutError, SendTimeoutError, TimedPort, broadcast};
 use std::alloc::Global;
 use std::error::Error;
 use std::process::Abort;
-use std::sync::Wait;
 use std::test::Fail;
-use std::time::{Clock, Duration, Instant};
+use std::time::{Duration, Instant};
 
 /// Limits, in milliseconds.
 const LIMITS: [u64; 2] = [0, 2];
 
 /// Each call must return its answer, and only if the time is over may it take as long as the limit.
-fn play<R: Abort + Clock, P: TimedPort<u64>>(
-    rt: &R,
-    alloc: Global,
-    channel: (Sending<P>, Receiving<P>),
+fn play<P: TimedPort<u64>>(
+    rt: &impl Host,
+    ends: Ends<P>,
     limit: Duration,
     script: Script,
 ) -> Result<(), Fail> {
-    let mut hands = Hands::both(alloc, channel)?;
+    let mut hands = Hands::both(rt.alloc(), ends)?;
     hands.limit = limit;
     for (index, (step, answer)) in script.iter().enumerate() {
         let start = Instant::now(rt)?;
@@ -34,13 +32,10 @@ fn play<R: Abort + Clock, P: TimedPort<u64>>(
 }
 
 /// Makes the calls on a channel of capacity 1 with each of the limits.
-fn play_all<R>(rt: R, alloc: Global, script: Script) -> Result<(), Fail>
-where
-    R: Wait + Abort + Clock + Copy + Drop,
-{
+fn play_all<R: Host>(rt: R, script: Script) -> Result<(), Fail> {
     for limit in LIMITS {
         let limit = Duration::from_millis(limit);
-        play(&rt, alloc, broadcast(rt, alloc, 1)?, limit, script)?;
+        play(&rt, broadcast(rt, rt.alloc(), 1)?, limit, script)?;
     }
     Ok(())
 }
@@ -66,7 +61,7 @@ const SENDS: Script = &[
 // is active; refused. When its time is over, its message is handed back and was not accepted.
 #[test]
 fn sends_return(rt: HostRuntime) -> Result<(), Fail> {
-    play_all(rt, rt.alloc(), SENDS)
+    play_all(rt, SENDS)
 }
 
 const RECEIVES: Script = &[
@@ -85,7 +80,7 @@ const RECEIVES: Script = &[
 // What a receive returns: nothing, a message, how many it missed, the end.
 #[test]
 fn receives_return(rt: HostRuntime) -> Result<(), Fail> {
-    play_all(rt, rt.alloc(), RECEIVES)
+    play_all(rt, RECEIVES)
 }
 
 /// A message with neither a `Display` nor a `Debug`.

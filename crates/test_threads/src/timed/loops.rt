@@ -1,11 +1,8 @@
 //! A loop over a receiver, which blocks the thread while there is no message.
-use crate::steps::{Receiving, Sending};
+use crate::steps::{Ends, Host, Receiving, Sending};
 use async_broadcast::{Port, RecvError, broadcast};
-use std::process::Abort;
-use std::sync::Wait;
 use std::test::Fail;
 use std::thread;
-use std::thread::Threads;
 
 /// How many messages are sent.
 const MESSAGES: u64 = 100;
@@ -16,27 +13,23 @@ fn a_loop_gets_each_message(rt: HostRuntime) -> Result<(), Fail> {
     gets_each_message(rt, broadcast(rt, rt.alloc(), 1)?)
 }
 
-fn gets_each_message<R, P>(
+fn gets_each_message<R: Host + 'static, P: Port<u64> + Send + 'static>(
     rt: R,
-    (sender, mut receiver): (Sending<P>, Receiving<P>),
-) -> Result<(), Fail>
-where
-    R: Threads + Wait + Abort + Copy + Send + Drop + 'static,
-    P: Port<u64> + Send + 'static,
-{
+    (sender, mut receiver): Ends<P>,
+) -> Result<(), Fail> {
     let thread = thread::spawn(&rt, move || send_all(&rt, sender))?;
     receive_all(&rt, &mut receiver);
     thread.join(&rt);
     Ok(())
 }
 
-fn send_all<P: Port<u64>>(rt: &impl Abort, sender: Sending<P>) {
+fn send_all<P: Port<u64>>(rt: &impl Host, sender: Sending<P>) {
     for msg in 0..MESSAGES {
         assert!(rt; sender.broadcast_blocking(msg).is_ok());
     }
 }
 
-fn receive_all<R: Abort + Wait, P: Port<u64>>(rt: &R, receiver: &mut Receiving<P>) {
+fn receive_all<P: Port<u64>>(rt: &impl Host, receiver: &mut Receiving<P>) {
     let mut next = 0u64;
     for received in receiver.iter(rt) {
         assert!(rt; matches!(received, Ok(Ok(msg)) if msg == next));
@@ -52,10 +45,7 @@ fn a_loop_says_what_was_missed(rt: HostRuntime) -> Result<(), Fail> {
     Ok(())
 }
 
-fn says_what_was_missed<R: Abort + Wait, P: Port<u64>>(
-    rt: &R,
-    (mut sender, mut receiver): (Sending<P>, Receiving<P>),
-) {
+fn says_what_was_missed<P: Port<u64>>(rt: &impl Host, (mut sender, mut receiver): Ends<P>) {
     sender.set_overflow(true);
     for msg in 0..5u64 {
         assert!(rt; sender.try_broadcast(msg).is_ok());

@@ -1,16 +1,13 @@
 //! A thousand runs of threads of which some wait with random limits, and the others without one.
 use crate::answers::Answer;
-use crate::steps::wait_for;
+use crate::steps::{Ends, Host, wait_for};
 use crate::timed::patience::{Patience, Receives, Sends};
-use async_broadcast::{Receiver, Sender, TimedPort, broadcast};
-use std::alloc::{AllocGlobal, Global};
-use std::process::Abort;
+use async_broadcast::{TimedPort, broadcast};
+use std::sync::Arc;
 use std::sync::atomic::{AtomicU64, Ordering};
-use std::sync::{Arc, Wait};
 use std::test::Fail;
 use std::thread;
-use std::thread::{JoinHandle, Threads};
-use std::time::Clock;
+use std::thread::JoinHandle;
 
 pub const RUNS: u64 = 1000;
 
@@ -18,8 +15,8 @@ pub const RUNS: u64 = 1000;
 const MESSAGES: u64 = 8;
 
 /// Sends the messages from `first` on.
-fn send_all<R: Wait + Abort, S: Sends>(
-    rt: &R,
+fn send_all<S: Sends>(
+    rt: &impl Host,
     first: u64,
     mut sender: S,
     mut patience: Patience,
@@ -38,8 +35,8 @@ fn send_all<R: Wait + Abort, S: Sends>(
 
 /// Receives until the channel is closed. Each message must come once, in the order of its sender,
 /// or be counted as missed.
-fn receive_all<R: Wait + Abort, Q: Receives>(
-    rt: &R,
+fn receive_all<Q: Receives>(
+    rt: &impl Host,
     mut receiver: Q,
     mut patience: Patience,
     ended: &AtomicU64,
@@ -66,50 +63,36 @@ fn receive_all<R: Wait + Abort, Q: Receives>(
 }
 
 /// Starts a thread that receives.
-fn start_receiver<R, Q>(
+fn start_receiver<R: Host + 'static, Q: Receives + Send + 'static>(
     rt: R,
     receiver: Q,
     patience: Patience,
     ended: &Arc<AtomicU64>,
-) -> Result<JoinHandle<()>, Fail>
-where
-    R: Threads + Wait + Abort + Copy + Send + Drop + 'static,
-    Q: Receives + Send + 'static,
-{
+) -> Result<JoinHandle<()>, Fail> {
     let own = Arc::try_clone(ended)?;
     Ok(thread::spawn(&rt, move || receive_all(&rt, receiver, patience, &own))?)
 }
 
 /// Starts a thread that sends the messages from `first` on.
-fn start_sender<R, S>(
+fn start_sender<R: Host + 'static, S: Sends + Send + 'static>(
     rt: R,
     first: u64,
     sender: S,
     patience: Patience,
     ended: &Arc<AtomicU64>,
-) -> Result<JoinHandle<()>, Fail>
-where
-    R: Threads + Wait + Abort + Copy + Send + Drop + 'static,
-    S: Sends + Send + 'static,
-{
+) -> Result<JoinHandle<()>, Fail> {
     let own = Arc::try_clone(ended)?;
     Ok(thread::spawn(&rt, move || send_all(&rt, first, sender, patience, &own))?)
 }
 
 /// Two threads send, and two receive. Of each two, one has random limits.
-pub fn run<R, S, Q>(
+pub fn run<R: Host + 'static, S: Sends + Send + 'static, Q: Receives + Send + 'static>(
     rt: R,
-    alloc: Global,
     number: u64,
     senders: (S, S),
     receivers: (Q, Q),
-) -> Result<(), Fail>
-where
-    R: Threads + Wait + Abort + Copy + Send + Drop + 'static,
-    S: Sends + Send + 'static,
-    Q: Receives + Send + 'static,
-{
-    let ended = Arc::new(alloc, AtomicU64::new(0))?;
+) -> Result<(), Fail> {
+    let ended = Arc::new(rt.alloc(), AtomicU64::new(0))?;
     let (one, other) = receivers;
     let first = start_receiver(rt, one, Patience::random(number, 1), &ended)?;
     let second = start_receiver(rt, other, Patience::Endless, &ended)?;
@@ -123,29 +106,19 @@ where
     Ok(())
 }
 
-fn run_over<R>(rt: R, number: u64) -> Result<(), Fail>
-where
-    R: Threads + Wait + Clock + Abort + AllocGlobal + Copy + Send + Drop + 'static,
-{
+fn run_over<R: Host + 'static>(rt: R, number: u64) -> Result<(), Fail> {
     let capacity = if number % 4 < 2 { 1 } else { 2 };
-    let (sender, receiver) = broadcast(rt, rt.alloc(), capacity)?;
-    run_handles(rt, rt.alloc(), number, sender, receiver)
+    run_handles(rt, number, broadcast(rt, rt.alloc(), capacity)?)
 }
 
-fn run_handles<R, P>(
+fn run_handles<R: Host + 'static, P: TimedPort<u64> + Send + 'static>(
     rt: R,
-    alloc: Global,
     number: u64,
-    mut sender: Sender<u64, P>,
-    receiver: Receiver<u64, P>,
-) -> Result<(), Fail>
-where
-    R: Threads + Wait + Abort + Copy + Send + Drop + 'static,
-    P: TimedPort<u64> + Send + 'static,
-{
+    (mut sender, receiver): Ends<P>,
+) -> Result<(), Fail> {
     sender.set_overflow(number % 2 == 1);
     let (other, copy) = (sender.clone()?, receiver.clone()?);
-    run(rt, alloc, number, (other, sender), (copy, receiver))
+    run(rt, number, (other, sender), (copy, receiver))
 }
 
 // Every run ends, in half of them in overflow mode. No wake-up is lost by a thread whose time is

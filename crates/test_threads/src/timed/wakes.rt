@@ -2,42 +2,31 @@
 use crate::answers::Answer;
 use crate::hands::{Change, Hands, Script, Step};
 use crate::sleepers::{Row, wakes};
-use crate::steps::{Receiving, Sending};
+use crate::steps::{Ends, Host};
 use async_broadcast::{TimedPort, broadcast};
-use std::alloc::Global;
-use std::process::Abort;
-use std::sync::Wait;
 use std::test::Fail;
-use std::thread::Threads;
-use std::time::{Clock, Duration};
+use std::time::Duration;
 
 /// Limits that are longer than a test may take, in seconds.
 const LONG: [u64; 2] = [3600, u64::MAX];
 
 /// Plays a row on a channel of capacity 1 with each of the limits, and makes the calls `after` in
 /// the end.
-fn all_go_on<R>(rt: R, alloc: Global, row: Row, after: Script) -> Result<(), Fail>
-where
-    R: Threads + Wait + Clock + Abort + Copy + Send + Drop + 'static,
-{
+fn all_go_on<R: Host + 'static>(rt: R, row: Row, after: Script) -> Result<(), Fail> {
     for limit in LONG {
-        play(rt, alloc, limit, broadcast(rt, alloc, 1)?, (row, after))?;
+        play(rt, limit, broadcast(rt, rt.alloc(), 1)?, row, after)?;
     }
     Ok(())
 }
 
-fn play<R, P>(
+fn play<R: Host + 'static, P: TimedPort<u64> + Send + 'static>(
     rt: R,
-    alloc: Global,
     limit: u64,
-    channel: (Sending<P>, Receiving<P>),
-    (row, after): (Row, Script),
-) -> Result<(), Fail>
-where
-    R: Threads + Wait + Abort + Copy + Send + Drop + 'static,
-    P: TimedPort<u64> + Send + 'static,
-{
-    let mut hands = Hands::both(alloc, channel)?;
+    ends: Ends<P>,
+    row: Row,
+    after: Script,
+) -> Result<(), Fail> {
+    let mut hands = Hands::both(rt.alloc(), ends)?;
     hands.limit = Duration::from_secs(limit);
     wakes(rt, hands, row, after)
 }
@@ -51,7 +40,7 @@ const RECEIVE: Row = (
 
 #[test]
 fn a_message_wakes_a_receive(rt: HostRuntime) -> Result<(), Fail> {
-    all_go_on(rt, rt.alloc(), RECEIVE, &[])
+    all_go_on(rt, RECEIVE, &[])
 }
 
 const SEND: Row = (
@@ -64,7 +53,7 @@ const SEND: Row = (
 #[test]
 fn room_wakes_a_send(rt: HostRuntime) -> Result<(), Fail> {
     let after = &[(Step::TryRecv(0), Answer::Message(8))];
-    all_go_on(rt, rt.alloc(), SEND, after)
+    all_go_on(rt, SEND, after)
 }
 
 // One of two receivers has read the message, and waits for the next; a send waits for the other.
@@ -84,5 +73,5 @@ const BOTH: Row = (
 
 #[test]
 fn the_end_wakes_both_sides(rt: HostRuntime) -> Result<(), Fail> {
-    all_go_on(rt, rt.alloc(), BOTH, &[])
+    all_go_on(rt, BOTH, &[])
 }
