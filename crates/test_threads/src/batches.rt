@@ -1,11 +1,7 @@
 //! Threads that take batches of what another one sends.
-use crate::steps::{Ends, Host, Receiving, Sending, pause, wait_for};
+use crate::steps::{Ends, Group, Host, Receiving, Sending};
 use async_broadcast::{Port, RecvError, broadcast};
-use std::sync::Arc;
-use std::sync::atomic::{AtomicU64, Ordering};
 use std::test::Fail;
-use std::thread;
-use std::thread::JoinHandle;
 
 /// How many messages are sent.
 const MESSAGES: u64 = 1000;
@@ -41,8 +37,9 @@ fn are_next(msgs: &[u64], next: &mut u64) -> bool {
 }
 
 /// Takes batches until the channel is closed. A message's number is how many came before it or were
-/// missed. Returns how many were missed.
-fn take_all<P: Port<u64>>(rt: &impl Host, name: &str, mut receiver: Receiving<P>) -> u64 {
+/// missed, and no more or fewer are missed than the row says.
+fn take_all<P: Port<u64>>(rt: &impl Host, mut receiver: Receiving<P>, row: Row) {
+    let (name, _, _, (least, most)) = row;
     let (mut next, mut missed) = (0u64, 0u64);
     let mut msgs = Vec::new(rt.alloc());
     for _ in 0..=MESSAGES {
@@ -64,23 +61,7 @@ fn take_all<P: Port<u64>>(rt: &impl Host, name: &str, mut receiver: Receiving<P>
         }
     }
     assert!(rt; next == MESSAGES, "{name}: all numbers are given or missed");
-    missed
-}
-
-/// Starts a thread that takes all messages, and counts it when it is finished.
-fn start<R: Host + 'static, P: Port<u64> + Send + 'static>(
-    rt: R,
-    receiver: Receiving<P>,
-    finished: &Arc<AtomicU64>,
-    row: Row,
-) -> Result<JoinHandle<()>, Fail> {
-    let own = Arc::try_clone(finished)?;
-    let (name, _, _, (least, most)) = row;
-    Ok(thread::spawn(&rt, move || {
-        let missed = take_all(&rt, name, receiver);
-        assert!(&rt; least <= missed && missed <= most, "{name}");
-        own.fetch_add(1, Ordering::SeqCst);
-    })?)
+    assert!(rt; least <= missed && missed <= most, "{name}");
 }
 
 /// Has two threads take what this one sends.
@@ -93,14 +74,12 @@ fn play<R: Host + 'static, P: Port<u64> + Send + 'static>(
     let other = receiver.clone()?;
     sender.set_overflow(overflows);
     send(&rt, &sender, 0, before);
-    let finished = Arc::new(rt.alloc(), AtomicU64::new(0))?;
-    let first = start(rt, receiver, &finished, row)?;
-    let second = start(rt, other, &finished, row)?;
+    let mut group = Group::new(rt.alloc())?;
+    group.start(&rt, move || take_all(&rt, receiver, row))?;
+    group.start(&rt, move || take_all(&rt, other, row))?;
     send(&rt, &sender, before, MESSAGES);
     drop(sender);
-    wait_for(&rt, &finished, 2, name);
-    first.join(&rt);
-    second.join(&rt);
+    group.join(&rt, name);
     Ok(())
 }
 
@@ -118,20 +97,12 @@ fn wakes_by_a_batch<R: Host + 'static, P: Port<u64> + Send + 'static>(
     (sender, mut receiver): Ends<P>,
 ) -> Result<(), Fail> {
     send(&rt, &sender, 0, 2);
-    let steps = Arc::new(rt.alloc(), AtomicU64::new(0))?;
-    let own = Arc::try_clone(&steps)?;
-    let thread = thread::spawn(&rt, move || {
-        own.fetch_add(1, Ordering::SeqCst);
-        send(&rt, &sender, 2, 3);
-        own.fetch_add(1, Ordering::SeqCst);
-    })?;
-    wait_for(&rt, &steps, 1, "it begins");
-    pause();
-    assert!(&rt; steps.load(Ordering::SeqCst) == 1, "it waits");
+    let mut group = Group::new(rt.alloc())?;
+    group.start(&rt, move || send(&rt, &sender, 2, 3))?;
+    group.wait_for_sleep(&rt, "it begins");
     let mut msgs = Vec::new(rt.alloc());
     assert!(&rt; receiver.try_recv_many(2, &mut msgs)? == Ok(2));
-    wait_for(&rt, &steps, 2, "the message is sent");
-    thread.join(&rt);
+    group.join(&rt, "the message is sent");
     Ok(())
 }
 

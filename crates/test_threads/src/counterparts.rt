@@ -1,8 +1,8 @@
 //! Counterparts of those tests of async-broadcast that have threads.
 use crate::answers::{Answer, of_try_recv};
 use crate::hands::{Change, Hands, Script, Step};
-use crate::scripts::{Shared, start};
-use crate::steps::{Ends, Host, wait_for};
+use crate::scripts::{Barriers, start};
+use crate::steps::{Ends, Group, Host};
 use async_broadcast::{TimedPort, broadcast};
 use std::test::Fail;
 
@@ -78,12 +78,12 @@ fn play<R: Host + 'static, P: TimedPort<u64> + Send + 'static>(
     receives: Script,
 ) -> Result<(), Fail> {
     let alloc = rt.alloc();
-    let shared = Shared::new(alloc, &[2, 2, 2])?;
-    let first = start(rt, &shared, Hands::receiving(alloc, receiver)?, receives)?;
-    let second = start(rt, &shared, Hands::sending(alloc, sender)?, sends)?;
-    wait_for(&rt, &shared.finished, 2, "all threads end");
-    first.join(&rt);
-    second.join(&rt);
+    let (mut group, barriers) = (Group::new(alloc)?, Barriers::new(alloc, &[2, 2, 2])?);
+    let hands = Hands::receiving(alloc, receiver)?;
+    start(rt, &mut group, &barriers, hands, receives)?;
+    let hands = Hands::sending(alloc, sender)?;
+    start(rt, &mut group, &barriers, hands, sends)?;
+    group.join(&rt, "all threads end");
     Ok(())
 }
 
@@ -134,24 +134,14 @@ fn one_lags<R: Host + 'static, P: TimedPort<u64> + Send + 'static>(
 ) -> Result<(), Fail> {
     lagging.set_overflow(true);
     let alloc = rt.alloc();
-    let shared = Shared::new(alloc, &[3, 2])?;
-    let first = start(
-        rt,
-        &shared,
-        Hands::receiving(alloc, lagging.clone()?)?,
-        OVERFLOW_FIRST,
-    )?;
-    let second = start(
-        rt,
-        &shared,
-        Hands::receiving(alloc, lagging.clone()?)?,
-        OVERFLOW_SECOND,
-    )?;
-    let third = start(rt, &shared, Hands::sending(alloc, sender)?, OVERFLOW_SENDS)?;
-    wait_for(&rt, &shared.finished, 3, "all threads end");
-    for thread in [first, second, third] {
-        thread.join(&rt);
+    let (mut group, barriers) = (Group::new(alloc)?, Barriers::new(alloc, &[3, 2])?);
+    for script in [OVERFLOW_FIRST, OVERFLOW_SECOND] {
+        let hands = Hands::receiving(alloc, lagging.clone()?)?;
+        start(rt, &mut group, &barriers, hands, script)?;
     }
+    let hands = Hands::sending(alloc, sender)?;
+    start(rt, &mut group, &barriers, hands, OVERFLOW_SENDS)?;
+    group.join(&rt, "all threads end");
     for answer in [Answer::Missed(1), Answer::Message(8), Answer::Message(9)] {
         assert!(&rt; of_try_recv(lagging.try_recv()) == answer);
     }

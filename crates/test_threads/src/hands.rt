@@ -93,7 +93,7 @@ pub struct Hands<P: TimedPort<u64>> {
     pub task: Option<MockTask>,
     /// The limit of calls that have one.
     pub limit: Duration,
-    pub alloc: Global,
+    alloc: Global,
 }
 
 impl<P: TimedPort<u64>> Hands<P> {

@@ -1,13 +1,9 @@
 //! Two threads that reply to each other over two channels.
 use crate::answers::Answer;
-use crate::steps::{Ends, Host, wait_for};
+use crate::steps::{Ends, Group, Host};
 use crate::timed::patience::Patience;
 use async_broadcast::{TimedPort, broadcast};
-use std::sync::Arc;
-use std::sync::atomic::{AtomicU64, Ordering};
 use std::test::Fail;
-use std::thread;
-use std::thread::JoinHandle;
 
 /// How many messages each thread sends.
 const ROUNDS: u64 = 500;
@@ -35,25 +31,13 @@ fn play_both<R: Host + 'static, P: TimedPort<u64> + Send + 'static>(
     back: Ends<P>,
     patience: (Patience, Patience),
 ) -> Result<(), Fail> {
-    let finished = Arc::new(rt.alloc(), AtomicU64::new(0))?;
-    let first = start(rt, true, (there.0, back.1), patience.0, &finished)?;
-    let second = start(rt, false, (back.0, there.1), patience.1, &finished)?;
-    wait_for(&rt, &finished, 2, "both threads finish");
-    first.join(&rt);
-    second.join(&rt);
+    let (asking, answering) = ((there.0, back.1), (back.0, there.1));
+    let (first, second) = patience;
+    let mut group = Group::new(rt.alloc())?;
+    group.start(&rt, move || play(&rt, true, asking, first))?;
+    group.start(&rt, move || play(&rt, false, answering, second))?;
+    group.join(&rt, "both threads finish");
     Ok(())
-}
-
-/// Starts a thread that asks, or one that answers.
-fn start<R: Host + 'static, P: TimedPort<u64> + Send + 'static>(
-    rt: R,
-    asks: bool,
-    ends: Ends<P>,
-    patience: Patience,
-    finished: &Arc<AtomicU64>,
-) -> Result<JoinHandle<()>, Fail> {
-    let own = Arc::try_clone(finished)?;
-    Ok(thread::spawn(&rt, move || play(&rt, asks, ends, patience, &own))?)
 }
 
 // Sends each number, and waits until it is sent back; or waits for each number, and sends it back.
@@ -62,7 +46,6 @@ fn play<P: TimedPort<u64>>(
     asks: bool,
     (mut sender, mut receiver): Ends<P>,
     mut patience: Patience,
-    finished: &AtomicU64,
 ) {
     for number in 1..=ROUNDS {
         if asks {
@@ -73,5 +56,4 @@ fn play<P: TimedPort<u64>>(
             assert!(rt; patience.send(rt, &mut sender, number) == Answer::Done);
         }
     }
-    finished.fetch_add(1, Ordering::SeqCst);
 }

@@ -1,12 +1,13 @@
-//! The steps of threads, which a test waits for.
+//! The threads of a test, and their steps, which it waits for.
 use async_broadcast::{Receiver, Sender};
 use std::alloc::{AllocGlobal, Global};
 use std::process::Abort;
 use std::random::RandomSource;
-use std::sync::Wait;
 use std::sync::atomic::{AtomicU64, Ordering};
+use std::sync::{Arc, Wait};
+use std::test::Fail;
 use std::thread;
-use std::thread::Threads;
+use std::thread::{JoinHandle, Threads};
 use std::time::Clock;
 
 /// A runtime that threads can be given, with what tests need of it.
@@ -39,8 +40,72 @@ pub fn wait_for(rt: &impl Abort, count: &AtomicU64, target: u64, what: &str) {
 }
 
 /// Lets other threads run, so that those that wait are asleep.
-pub fn pause() {
+fn pause() {
     for _ in 0..2000u64 {
         thread::yield_now();
+    }
+}
+
+/// How many threads began their work, and how many ended it.
+#[derive(Drop)]
+struct Counts {
+    begun: AtomicU64,
+    ended: AtomicU64,
+}
+
+/// Threads that are started one by one, counted, and joined together.
+#[derive(Drop)]
+pub struct Group {
+    counts: Arc<Counts>,
+    threads: Vec<JoinHandle<()>>,
+}
+
+impl Group {
+    /// No threads yet.
+    pub fn new(alloc: Global) -> Result<Group, Fail> {
+        let (begun, ended) = (AtomicU64::new(0), AtomicU64::new(0));
+        let counts = Arc::new(alloc, Counts { begun, ended })?;
+        let threads = Vec::new(alloc);
+        Ok(Group { counts, threads })
+    }
+
+    /// Starts a thread that does this work.
+    pub fn start<R: Threads, F: FnOnce() + Send + Drop + 'static>(
+        &mut self,
+        rt: &R,
+        work: F,
+    ) -> Result<(), Fail>
+        requires { F.pre work }
+    {
+        let own = Arc::try_clone(&self.counts)?;
+        let counted = move ||
+            requires { F.pre work }
+        {
+            own.begun.fetch_add(1, Ordering::SeqCst);
+            work();
+            own.ended.fetch_add(1, Ordering::SeqCst);
+        };
+        let thread = thread::spawn(rt, counted)?;
+        self.threads.push(thread)?;
+        Ok(())
+    }
+
+    /// Waits until all of them sleep in their work.
+    pub fn wait_for_sleep(&self, rt: &impl Abort, name: &str) {
+        let threads = self.threads.len() as u64;
+        wait_for(rt, &self.counts.begun, threads, name);
+        pause();
+        let ended = self.counts.ended.load(Ordering::SeqCst);
+        assert!(rt; ended == 0, "{name}: all wait");
+    }
+
+    /// Waits until all of them ended their work.
+    pub fn join(self, rt: &(impl Threads + Abort), name: &str) {
+        let Group { counts, threads } = self;
+        let count = threads.len() as u64;
+        wait_for(rt, &counts.ended, count, name);
+        for thread in threads {
+            thread.join(rt);
+        }
     }
 }

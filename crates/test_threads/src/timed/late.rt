@@ -1,14 +1,14 @@
 //! Threads that are woken when their time is over, or for nothing; and a clock that can't be read.
 use crate::answers::{Answer, of_recv_timeout};
 use crate::hands::{Change, Hands, Script, Step};
-use crate::passing_on::{Counts, start};
-use crate::sleepers::{Row, Sleepers};
+use crate::passing_on::start;
+use crate::sleepers::{Row, start_all};
 use crate::steps::{Ends, Host, wait_for};
 use crate::timed::clock::{Dial, SetClock};
 use async_broadcast::{Lock, TimedPort, broadcast};
 use bcast_core::{Inner, TryBroadcast};
 use std::sync::Arc;
-use std::sync::atomic::Ordering;
+use std::sync::atomic::{AtomicU64, Ordering};
 use std::test::Fail;
 use std::time::Duration;
 
@@ -51,11 +51,11 @@ fn play<R: Host + 'static, P: TimedPort<u64> + Send + 'static>(
     let mut hands = Hands::both(rt.alloc(), ends)?;
     hands.limit = Duration::from_secs(LIMIT);
     hands.make_all(&rt, name, before);
-    let sleepers = Sleepers::start(rt, &hands, asleep)?;
+    let group = start_all(rt, &hands, asleep)?;
     wait_for(&rt, &dial.reads, BOTH_SLEEP, name);
     dial.seconds.store(LIMIT, Ordering::SeqCst);
     hands.make_all(&rt, name, calls);
-    sleepers.wait_for_end(&rt, name);
+    group.join(&rt, name);
     hands.make_all(&rt, name, after);
     Ok(())
 }
@@ -85,20 +85,18 @@ where
     R: Host + 'static,
     P: TimedPort<u64> + Send + 'static,
 {
-    let counts = Arc::new(rt.alloc(), Counts::none())?;
+    let received = Arc::new(rt.alloc(), AtomicU64::new(0))?;
     let limit = Some(Duration::from_secs(LIMIT));
-    let threads = start(rt, &port, &[key, key], limit, &counts)?;
+    let group = start(rt, &port, &[key, key], limit, &received)?;
     wait_for(&rt, &dial.reads, BOTH_SLEEP, "both sleep");
     dial.seconds.store(LIMIT - 1, Ordering::SeqCst);
     assert!(&rt; matches!(port.ask(&mut (), TryBroadcast(7)), Ok(None)));
-    wait_for(&rt, &counts.received, 1, "one receives");
+    wait_for(&rt, &received, 1, "one receives");
     // Each has read whether its time is over, and the other twice more, to sleep for a second.
     wait_for(&rt, &dial.reads, BOTH_SLEEP + 4, "the other sleeps again");
     dial.seconds.store(LIMIT, Ordering::SeqCst);
-    wait_for(&rt, &counts.ended, 1, "and not for longer than its limit");
-    for thread in threads {
-        thread.join(&rt);
-    }
+    group.join(&rt, "and not for longer than its limit");
+    assert!(&rt; received.load(Ordering::SeqCst) == 1, "only one got it");
     Ok(())
 }
 

@@ -1,13 +1,9 @@
 //! A thousand runs of threads of which some wait with random limits, and the others without one.
 use crate::answers::Answer;
-use crate::steps::{Ends, Host, wait_for};
+use crate::steps::{Ends, Group, Host};
 use crate::timed::patience::{Patience, Receives, Sends};
 use async_broadcast::{TimedPort, broadcast};
-use std::sync::Arc;
-use std::sync::atomic::{AtomicU64, Ordering};
 use std::test::Fail;
-use std::thread;
-use std::thread::JoinHandle;
 
 pub const RUNS: u64 = 1000;
 
@@ -15,13 +11,7 @@ pub const RUNS: u64 = 1000;
 const MESSAGES: u64 = 8;
 
 /// Sends the messages from `first` on.
-fn send_all<S: Sends>(
-    rt: &impl Host,
-    first: u64,
-    mut sender: S,
-    mut patience: Patience,
-    ended: &AtomicU64,
-) {
+fn send_all<S: Sends>(rt: &impl Host, first: u64, mut sender: S, mut patience: Patience) {
     for index in 0..MESSAGES {
         let msg = first.wrapping_add(index);
         let sent = patience.send(rt, &mut sender, msg);
@@ -30,17 +20,11 @@ fn send_all<S: Sends>(
             "{msg} is sent"
         );
     }
-    ended.fetch_add(1, Ordering::SeqCst);
 }
 
 /// Receives until the channel is closed. Each message must come once, in the order of its sender,
 /// or be counted as missed.
-fn receive_all<Q: Receives>(
-    rt: &impl Host,
-    mut receiver: Q,
-    mut patience: Patience,
-    ended: &AtomicU64,
-) {
+fn receive_all<Q: Receives>(rt: &impl Host, mut receiver: Q, mut patience: Patience) {
     let (mut first, mut second, mut known) = (0, MESSAGES, 0u64);
     for _ in 0..=2 * MESSAGES {
         match patience.receive(rt, &mut receiver) {
@@ -59,30 +43,6 @@ fn receive_all<Q: Receives>(
         }
     }
     assert!(rt; known == 2 * MESSAGES, "{known} were received or missed");
-    ended.fetch_add(1, Ordering::SeqCst);
-}
-
-/// Starts a thread that receives.
-fn start_receiver<R: Host + 'static, Q: Receives + Send + 'static>(
-    rt: R,
-    receiver: Q,
-    patience: Patience,
-    ended: &Arc<AtomicU64>,
-) -> Result<JoinHandle<()>, Fail> {
-    let own = Arc::try_clone(ended)?;
-    Ok(thread::spawn(&rt, move || receive_all(&rt, receiver, patience, &own))?)
-}
-
-/// Starts a thread that sends the messages from `first` on.
-fn start_sender<R: Host + 'static, S: Sends + Send + 'static>(
-    rt: R,
-    first: u64,
-    sender: S,
-    patience: Patience,
-    ended: &Arc<AtomicU64>,
-) -> Result<JoinHandle<()>, Fail> {
-    let own = Arc::try_clone(ended)?;
-    Ok(thread::spawn(&rt, move || send_all(&rt, first, sender, patience, &own))?)
 }
 
 /// Two threads send, and two receive. Of each two, one has random limits.
@@ -92,17 +52,16 @@ pub fn run<R: Host + 'static, S: Sends + Send + 'static, Q: Receives + Send + 's
     senders: (S, S),
     receivers: (Q, Q),
 ) -> Result<(), Fail> {
-    let ended = Arc::new(rt.alloc(), AtomicU64::new(0))?;
-    let (one, other) = receivers;
-    let first = start_receiver(rt, one, Patience::random(number, 1), &ended)?;
-    let second = start_receiver(rt, other, Patience::Endless, &ended)?;
-    let (one, other) = senders;
-    let third = start_sender(rt, 0, one, Patience::random(number, 2), &ended)?;
-    let fourth = start_sender(rt, MESSAGES, other, Patience::Endless, &ended)?;
-    wait_for(&rt, &ended, 4, "all threads end");
-    for thread in [first, second, third, fourth] {
-        thread.join(&rt);
-    }
+    let mut group = Group::new(rt.alloc())?;
+    let (one, two) = receivers;
+    let (random, endless) = (Patience::random(number, 1), Patience::Endless);
+    group.start(&rt, move || receive_all(&rt, one, random))?;
+    group.start(&rt, move || receive_all(&rt, two, endless))?;
+    let (one, two) = senders;
+    let (random, endless) = (Patience::random(number, 2), Patience::Endless);
+    group.start(&rt, move || send_all(&rt, 0, one, random))?;
+    group.start(&rt, move || send_all(&rt, MESSAGES, two, endless))?;
+    group.join(&rt, "all threads end");
     Ok(())
 }
 
