@@ -6,12 +6,11 @@ use crate::hands::Change::{
 };
 use crate::hands::Polled::{Future, HeldFuture, HeldSend, Next, Recv, Woken};
 use crate::hands::Step::{Change, Poll, Receive, TryRecv, TrySend, TrySendBoth};
-use crate::hands::{Hands, Polled, Script, Step};
+use crate::hands::{Polled, Script, Step};
 use crate::sleepers::{Row, wakes};
-use crate::steps::{Ends, Host};
-use async_broadcast::{TimedPort, broadcast};
-use futures::test::MockTask;
+use async_broadcast::broadcast;
 use std::test::Fail;
+use std::time::Duration;
 
 /// Two threads that must get this message.
 const RECEIVE: Script = &[(Receive(0), Message(7)); 2];
@@ -147,25 +146,12 @@ const SENDERS: &[Row] = &[
     ),
 ];
 
-/// Plays a row over a new channel.
-fn play<R: Host + 'static, P: TimedPort<u64> + Send + 'static>(
-    rt: R,
-    task: MockTask,
-    ends: Ends<P>,
-    row: Row,
-) -> Result<(), Fail> {
-    let mut hands = Hands::both(rt.alloc(), ends)?;
-    hands.task = Some(task);
-    wakes(rt, hands, row, &[])
-}
-
 // A thread that sleeps in `recv_blocking` is woken by what it can receive, and wakes the next.
 #[test]
 fn sleeping_receivers_go_on(rt: HostRuntime) -> Result<(), Fail> {
     for (name, asleep, calls) in RECEIVERS {
         let row: Row = (*name, &[], *asleep, *calls);
-        let task = MockTask::new(&rt)?;
-        play(rt, task, broadcast(rt, rt.alloc(), 2)?, row)?;
+        wakes(rt, broadcast(rt, rt.alloc(), 2)?, Duration::ZERO, row, &[])?;
     }
     Ok(())
 }
@@ -174,8 +160,7 @@ fn sleeping_receivers_go_on(rt: HostRuntime) -> Result<(), Fail> {
 #[test]
 fn sleeping_senders_go_on(rt: HostRuntime) -> Result<(), Fail> {
     for row in SENDERS {
-        let task = MockTask::new(&rt)?;
-        play(rt, task, broadcast(rt, rt.alloc(), 1)?, *row)?;
+        wakes(rt, broadcast(rt, rt.alloc(), 1)?, Duration::ZERO, *row, &[])?;
     }
     Ok(())
 }

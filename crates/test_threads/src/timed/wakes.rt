@@ -1,9 +1,9 @@
 //! Threads that sleep in a call with a limit, and are woken before it is over.
 use crate::answers::Answer;
-use crate::hands::{Change, Hands, Script, Step};
+use crate::hands::{Change, Script, Step};
 use crate::sleepers::{Row, wakes};
-use crate::steps::{Ends, Host};
-use async_broadcast::{TimedPort, broadcast};
+use crate::steps::Host;
+use async_broadcast::broadcast;
 use std::test::Fail;
 use std::time::Duration;
 
@@ -14,21 +14,10 @@ const LONG: [u64; 2] = [3600, u64::MAX];
 /// the end.
 fn all_go_on<R: Host + 'static>(rt: R, row: Row, after: Script) -> Result<(), Fail> {
     for limit in LONG {
-        play(rt, limit, broadcast(rt, rt.alloc(), 1)?, row, after)?;
+        let limit = Duration::from_secs(limit);
+        wakes(rt, broadcast(rt, rt.alloc(), 1)?, limit, row, after)?;
     }
     Ok(())
-}
-
-fn play<R: Host + 'static, P: TimedPort<u64> + Send + 'static>(
-    rt: R,
-    limit: u64,
-    ends: Ends<P>,
-    row: Row,
-    after: Script,
-) -> Result<(), Fail> {
-    let mut hands = Hands::both(rt.alloc(), ends)?;
-    hands.limit = Duration::from_secs(limit);
-    wakes(rt, hands, row, after)
 }
 
 const RECEIVE: Row = (
