@@ -15,17 +15,6 @@ pub struct Dial {
     most: u64,
 }
 
-impl Dial {
-    /// At 0, for this many readings.
-    fn new(most: u64) -> Dial {
-        Dial {
-            seconds: AtomicU64::new(0),
-            reads: AtomicU64::new(0),
-            most,
-        }
-    }
-}
-
 /// A runtime whose clock shows what is set.
 #[derive(Clone, Drop)]
 pub struct SetClock<R: Wait> {
@@ -34,9 +23,14 @@ pub struct SetClock<R: Wait> {
 }
 
 impl<R: Wait + Drop> SetClock<R> {
-    /// A clock that can be read `most` times, and its dial.
+    /// A clock that shows 0 and can be read `most` times, and its dial.
     pub fn new(rt: R, alloc: Global, most: u64) -> Result<(Self, Arc<Dial>), AllocError> {
-        let dial = Arc::new(alloc, Dial::new(most))?;
+        let made = Dial {
+            seconds: AtomicU64::new(0),
+            reads: AtomicU64::new(0),
+            most,
+        };
+        let dial = Arc::new(alloc, made)?;
         let own = Arc::try_clone(&dial)?;
         Ok((SetClock { rt, dial: own }, dial))
     }
