@@ -1,15 +1,13 @@
 //! Batches that one receiver takes, beside another one that receives one by one.
 use crate::channels::{Borrows, Host, Lent, Play, on_a_channel};
+use crate::short_of_memory::slots::SlotPort;
 use async_broadcast::{Lock, Port, PortFor, Receiver, RecvError, Sender, TryRecvError};
 use bcast_core::Inner;
 use futures::task::Poll;
 use futures::test::MockTask;
-use one_by_one::OneByOne;
 use std::alloc::{AllocError, Global};
 use std::process::Abort;
 use std::test::Fail;
-
-mod one_by_one;
 
 /// What a receiver of batches is given.
 type Given = Result<&'static [u64], TryRecvError>;
@@ -122,7 +120,7 @@ fn plays_one_by_one<P: Port<u64>>(
     port: P,
     key: usize,
 ) -> Result<(), Fail> {
-    let port = OneByOne { port };
+    let port = SlotPort { port, alloc };
     let other = port.try_clone().ok_or("no memory")?;
     let sender = Sender::from_port(port, alloc);
     let mut receiver = Receiver::from_port(other, key, alloc);

@@ -12,7 +12,7 @@ use std::random::RandomSource;
 use std::sync::Wait;
 use std::test::Fail;
 
-mod slots;
+pub mod slots;
 
 /// The size of a channel's heap in bytes.
 const HEAP: usize = 4096;

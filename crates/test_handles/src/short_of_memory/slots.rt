@@ -1,11 +1,11 @@
-//! A port that takes memory for the notice of each poll.
+//! A port that takes memory for the notice of each poll, and can't make several calls at once.
 use async_broadcast::{Ask, Port, PortFor, RecvError, SendError, TaskWaker};
 use bcast_core::{AtOnce, Polls};
 use futures::task::Context;
 use std::alloc::{AllocError, Allocator};
 
 /// Makes its calls on another port. Takes memory for each poll before it makes it, where that of a
-/// lock takes none.
+/// lock takes none. It has no `receive_many` of its own.
 #[derive(Drop)]
 pub struct SlotPort<P, A: Allocator> {
     pub port: P,
