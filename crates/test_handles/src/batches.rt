@@ -6,7 +6,6 @@ use bcast_core::Inner;
 use futures::task::Poll;
 use futures::test::MockTask;
 use std::alloc::{AllocError, Global};
-use std::process::Abort;
 use std::test::Fail;
 
 /// What a receiver of batches is given.
@@ -95,15 +94,14 @@ fn batches_give_what_single_receives_give(rt: HostRuntime) -> Result<(), Fail> {
 
 /// Takes three messages by batches, of which each gives one.
 fn gives_one_a_call<P: Port<u64>>(
-    rt: &impl Abort,
-    alloc: Global,
+    rt: &impl Host,
     sender: &Sender<u64, P>,
     receiver: &mut Receiver<u64, P>,
 ) -> Result<(), Fail> {
     for msg in [7, 8, 9] {
         assert!(rt; sender.try_broadcast(msg).is_ok());
     }
-    let mut msgs = Vec::new(alloc);
+    let mut msgs = Vec::new(rt.alloc());
     assert!(rt; receiver.try_recv_many(0, &mut msgs)? == Ok(0));
     assert!(rt; receiver.try_recv_many(3, &mut msgs)? == Ok(1));
     assert!(rt; receiver.recv_many_blocking(3, &mut msgs)? == Ok(1));
@@ -114,24 +112,20 @@ fn gives_one_a_call<P: Port<u64>>(
 }
 
 /// Makes handles over a port that can't make several calls at once. `port` is that of a new channel.
-fn plays_one_by_one<P: Port<u64>>(
-    rt: &impl Abort,
-    alloc: Global,
-    port: P,
-    key: usize,
-) -> Result<(), Fail> {
+fn plays_one_by_one<P: Port<u64>>(rt: &impl Host, port: P, key: usize) -> Result<(), Fail> {
+    let alloc = rt.alloc();
     let port = SlotPort { port, alloc };
     let other = port.try_clone().ok_or("no memory")?;
     let sender = Sender::from_port(port, alloc);
     let mut receiver = Receiver::from_port(other, key, alloc);
-    gives_one_a_call(rt, alloc, &sender, &mut receiver)
+    gives_one_a_call(rt, &sender, &mut receiver)
 }
 
 #[test]
 fn a_port_without_batches_gives_one_a_call(rt: HostRuntime) -> Result<(), Fail> {
     let (inner, key) = Inner::new(rt.alloc(), 3)?;
     let port = Lock::new(&rt, rt.alloc(), inner)?;
-    plays_one_by_one(&rt, rt.alloc(), port, key)
+    plays_one_by_one(&rt, port, key)
 }
 
 /// Polls for a batch in a task.

@@ -1,12 +1,10 @@
 //! Two receives that wait in tasks, one of which is dropped.
+use crate::channels::Host;
 use async_broadcast::{
     Kind, LockReceiver, LockSender, Port, Receiver, Recv, Sender, Snapshot, broadcast,
 };
 use futures::task::Poll;
 use futures::test::MockTask;
-use std::alloc::AllocGlobal;
-use std::process::Abort;
-use std::random::RandomSource;
 use std::sync::Wait;
 use std::test::Fail;
 
@@ -24,7 +22,7 @@ fn is_pending<P: Port<u64>>(task: &MockTask, receive: &mut Recv<'_, u64, P>) -> 
 
 /// Sends a message, which wakes the task of the receive that was kept, and no other.
 fn wakes_who_stayed<P: Port<u64>>(
-    rt: &impl Abort,
+    rt: &impl Host,
     sender: &Sender<u64, P>,
     (left, stayed): (&MockTask, &MockTask),
     receive: &mut Recv<'_, u64, P>,
@@ -36,8 +34,8 @@ fn wakes_who_stayed<P: Port<u64>>(
 }
 
 /// Lets both receivers wait, and drops the receive of one of them.
-fn drops_one<R: Abort + RandomSource + AllocGlobal, W: Wait + Clone>(
-    rt: &R,
+fn drops_one<W: Wait + Clone>(
+    rt: &impl Host,
     sender: &LockSender<u64, W>,
     leaving: &mut LockReceiver<u64, W>,
     staying: &mut LockReceiver<u64, W>,

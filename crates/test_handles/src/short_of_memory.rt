@@ -1,4 +1,5 @@
 //! Handles of a channel whose heap is full: what is refused is handed back, and nothing is lost.
+use crate::channels::Host;
 use async_broadcast::{Lock, NoMemory, Port, PortFor, Receiver, Send, Sender, Snapshot, broadcast};
 use bcast_core::Inner;
 use futures::StreamExt;
@@ -6,10 +7,7 @@ use futures::task::Poll;
 use futures::test::MockTask;
 use linked_list_allocator::LocalHeap;
 use slots::SlotPort;
-use std::alloc::{AllocError, AllocGlobal, Allocator, Global};
-use std::process::Abort;
-use std::random::RandomSource;
-use std::sync::Wait;
+use std::alloc::{AllocError, Allocator, Global};
 use std::test::Fail;
 
 pub mod slots;
@@ -63,9 +61,8 @@ fn a_stream_goes_on_after_a_refused_clone(rt: HostRuntime) -> Result<(), Fail> {
 }
 
 // The message's type is a parameter, so that the handles' types name no heap.
-fn goes_on<R, T>(rt: &R, heap: &LocalHeap, msg: T, wanted: &T) -> Result<(), Fail>
+fn goes_on<T>(rt: &impl Host, heap: &LocalHeap, msg: T, wanted: &T) -> Result<(), Fail>
 where
-    R: Abort + Wait + RandomSource + AllocGlobal,
     T: Clone + PartialEq,
 {
     let (sender, mut one) = broadcast(rt, rt.alloc(), 1)?;
@@ -74,18 +71,12 @@ where
     gives_the_message_later(rt, heap, (&mut one, &mut two), wanted)
 }
 
-fn gives_the_message_later<R, T, A, P>(
-    rt: &R,
+fn gives_the_message_later<T: Clone + PartialEq, A: Allocator + Copy, P: Port<T>>(
+    rt: &impl Host,
     heap: &LocalHeap,
     (one, two): (&mut Receiver<T, P, A>, &mut Receiver<T, P, A>),
     msg: &T,
-) -> Result<(), Fail>
-where
-    R: Abort + Wait + RandomSource + AllocGlobal,
-    T: Clone + PartialEq,
-    A: Allocator + Copy,
-    P: Port<T>,
-{
+) -> Result<(), Fail> {
     let task = MockTask::new(rt)?;
     let taken = fill(rt.alloc(), heap)?;
     let refused = task.poll(&mut one.next());
@@ -115,7 +106,7 @@ fn gives<T: Clone + PartialEq>(polled: &Poll<Option<Result<T, AllocError>>>, msg
 fn a_send_without_a_box_frees_its_place(rt: HostRuntime) -> Result<(), Fail> {
     let heap = LocalHeap::new(rt.alloc(), HEAP)?;
     let (sender, _receiver) = broadcast(&rt, &heap, 1)?;
-    hands_back_without_a_box(&rt, rt.alloc(), &heap, &sender)?;
+    hands_back_without_a_box(&rt, &heap, &sender)?;
     expect_places(&rt, &sender.snapshot()?, &[]);
     let _send = sender.broadcast_direct(8)?;
     expect_places(&rt, &sender.snapshot()?, &[0]);
@@ -123,21 +114,20 @@ fn a_send_without_a_box_frees_its_place(rt: HostRuntime) -> Result<(), Fail> {
 }
 
 fn hands_back_without_a_box<A: Allocator + Copy, P: Port<u64>>(
-    rt: &impl Abort,
-    alloc: Global,
+    rt: &impl Host,
     heap: &LocalHeap,
     sender: &Sender<u64, P, A>,
 ) -> Result<(), Fail> {
     // The channel keeps the memory of a place, so that only the box is refused.
     drop(sender.broadcast_direct(1)?);
-    let _taken = fill(alloc, heap)?;
+    let _taken = fill(rt.alloc(), heap)?;
     assert!(rt; sender.broadcast_direct(2).is_ok(), "a place");
     assert!(rt; matches!(sender.broadcast(7), Err(NoMemory(7))), "no box");
     Ok(())
 }
 
 /// Fails the test unless sends have these places, and none of them waits.
-fn expect_places(rt: &impl Abort, seen: &Snapshot<u64, &LocalHeap>, places: &[usize]) {
+fn expect_places(rt: &impl Host, seen: &Snapshot<u64, &LocalHeap>, places: &[usize]) {
     assert!(rt; seen.places.as_slice() == places);
     assert!(rt; seen.waiting_sends.ids.is_empty());
 }
@@ -165,16 +155,11 @@ fn a_send_without_a_notice_keeps_its_place(rt: HostRuntime) -> Result<(), Fail> 
     Ok(())
 }
 
-fn hands_back_without_a_notice<R, A, P>(
-    rt: &R,
+fn hands_back_without_a_notice<A: Allocator + Copy, P: Port<u64>>(
+    rt: &impl Host,
     heap: &LocalHeap,
     send: &mut Send<'_, u64, P, A>,
-) -> Result<(), Fail>
-where
-    R: Abort + RandomSource + AllocGlobal,
-    A: Allocator + Copy,
-    P: Port<u64>,
-{
+) -> Result<(), Fail> {
     let task = MockTask::new(rt)?;
     let _taken = fill(rt.alloc(), heap)?;
     assert!(rt;
@@ -186,7 +171,7 @@ where
 }
 
 fn is_pending<A: Allocator + Copy, P: Port<u64>>(
-    rt: &(impl RandomSource + AllocGlobal),
+    rt: &impl Host,
     send: &mut Send<'_, u64, P, A>,
 ) -> Result<bool, Fail> {
     let task = MockTask::new(rt)?;

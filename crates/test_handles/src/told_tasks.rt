@@ -1,14 +1,12 @@
 //! Tasks that all wait for one channel: how many polls follow after a call tells some of them.
+use crate::channels::Host;
 use crate::snapshots::Sees;
 use async_broadcast::{Port, Receiver, Send, Sender, Snapshot, broadcast};
 use futures::executor::{LocalPool, LocalSpawner};
 use futures::task::{Context, Poll, Source, Waker};
 use futures::test::MockTask;
 use futures::{Future, Stream};
-use std::alloc::{AllocGlobal, Global};
-use std::process::Abort;
-use std::random::RandomSource;
-use std::sync::Wait;
+use std::alloc::Global;
 use std::sync::atomic::{AtomicU64, Ordering};
 use std::test::Fail;
 
@@ -177,25 +175,19 @@ fn waiting(seen: &Snapshot<u64>) -> (u64, u64) {
 }
 
 /// Plays a row on a channel of its own.
-fn play<R: Wait + AllocGlobal + RandomSource>(
-    rt: &R,
-    alloc: Global,
-    row: &Row,
-) -> Result<Seen, Fail> {
-    let (sender, mut reader) = broadcast(rt, alloc, 1)?;
+fn play(rt: &impl Host, row: &Row) -> Result<Seen, Fail> {
+    let (sender, mut reader) = broadcast(rt, rt.alloc(), 1)?;
     play_on(rt, &sender, &mut reader, row)
 }
 
 /// Plays a row over any port. The channel is new, and its capacity is 1.
-fn play_on<R, P>(
-    rt: &R,
+fn play_on<P: Port<u64>>(
+    rt: &impl Host,
     sender: &Sender<u64, P>,
     reader: &mut Receiver<u64, P>,
     (_, streams, sends, asks, _): &Row,
 ) -> Result<Seen, Fail>
 where
-    R: Wait + AllocGlobal + RandomSource,
-    P: Port<u64>,
     Sender<u64, P>: Sees<Global>,
 {
     if *sends > 0 {
@@ -219,7 +211,7 @@ where
 
 /// Whether a task is woken by the drop of receives, each of which it polls once.
 fn is_woken_by_drops<P: Port<u64>>(
-    rt: &(impl AllocGlobal + RandomSource),
+    rt: &impl Host,
     receiver: &mut Receiver<u64, P>,
     receives: u64,
 ) -> Result<bool, Fail> {
@@ -241,7 +233,7 @@ fn is_woken_by_drops<P: Port<u64>>(
 fn told_tasks_come_to_rest(rt: HostRuntime) -> Result<(), Fail> {
     for row in ROWS {
         let (name, streams, sends, _, polls) = *row;
-        let seen = play(&rt, rt.alloc(), row)?;
+        let seen = play(&rt, row)?;
         assert!(rt; seen.listeners == streams + sends, "{name}: all wait");
         assert!(rt; seen.polls == polls && seen.told == 0, "{name}: {seen:?}");
         assert!(rt;

@@ -3,7 +3,6 @@ use crate::channels::{Host, Lent, Pair};
 use async_broadcast::{NoMemory, Port, TryRecvError, TrySendError};
 use futures::StreamExt;
 use futures::executor::block_on;
-use std::process::Abort;
 use std::test::Fail;
 
 // Of `broadcast`.
@@ -25,7 +24,7 @@ pub fn plays_two<P: Port<u64>>(rt: &impl Host, (sender, mut one): Pair<P>) -> Re
 }
 
 // Of the crate, on its errors.
-pub fn refuses<P: Port<u64>>(rt: &impl Abort, (sender, receiver): Lent<'_, P>) -> Result<(), Fail> {
+pub fn refuses<P: Port<u64>>(rt: &impl Host, (sender, receiver): Lent<'_, P>) -> Result<(), Fail> {
     let error = receiver.try_recv()?.err().ok_or("received")?;
     assert!(rt; error.is_empty() && !error.is_closed() && !error.is_overflowed());
     assert!(rt; sender.try_broadcast(1).is_ok());

@@ -1,11 +1,10 @@
 //! Of `inactive.rt`.
-use crate::channels::Pair;
+use crate::channels::{Host, Pair};
 use async_broadcast::Port;
-use std::process::Abort;
 use std::test::Fail;
 
 // Of `activate`.
-pub fn activates<P: Port<u64>>(rt: &impl Abort, (sender, receiver): Pair<P>) -> Result<(), Fail> {
+pub fn activates<P: Port<u64>>(rt: &impl Host, (sender, receiver): Pair<P>) -> Result<(), Fail> {
     let inactive = receiver.deactivate().ok().ok_or("no handle")?;
     let mut receiver = inactive.activate().ok().ok_or("no handle")?;
     assert!(rt; sender.try_broadcast(1).is_ok());
@@ -15,7 +14,7 @@ pub fn activates<P: Port<u64>>(rt: &impl Abort, (sender, receiver): Pair<P>) -> 
 
 // Of `activate_cloned`.
 pub fn activates_clones<P: Port<u64>>(
-    rt: &impl Abort,
+    rt: &impl Host,
     (sender, receiver): Pair<P>,
 ) -> Result<(), Fail> {
     let inactive = receiver.deactivate().ok().ok_or("no handle")?;
@@ -29,7 +28,7 @@ pub fn activates_clones<P: Port<u64>>(
 
 // Of `clone`.
 pub fn keeps_it_open<P: Port<u64>>(
-    rt: &impl Abort,
+    rt: &impl Host,
     (sender, receiver): Pair<P>,
 ) -> Result<(), Fail> {
     let one = receiver.deactivate().ok().ok_or("no handle")?;

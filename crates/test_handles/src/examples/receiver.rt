@@ -3,8 +3,6 @@ use crate::channels::{Host, Lent, Pair};
 use async_broadcast::{Port, Receiver, RecvError, SendError, TryRecvError, TrySendError};
 use futures::StreamExt;
 use futures::executor::block_on;
-use std::process::Abort;
-use std::sync::Wait;
 use std::test::Fail;
 
 // Of `Receiver`, as a stream.
@@ -17,7 +15,7 @@ pub fn streams<P: Port<u64>>(rt: &impl Host, (sender, mut receiver): Pair<P>) ->
 }
 
 // Of `try_recv`.
-pub fn tries<P: Port<u64>>(rt: &impl Abort, (sender, mut receiver): Pair<P>) {
+pub fn tries<P: Port<u64>>(rt: &impl Host, (sender, mut receiver): Pair<P>) {
     assert!(rt; matches!(receiver.try_recv(), Ok(Err(TryRecvError::Empty))));
     assert!(rt; sender.try_broadcast(1).is_ok());
     drop(sender);
@@ -26,7 +24,7 @@ pub fn tries<P: Port<u64>>(rt: &impl Abort, (sender, mut receiver): Pair<P>) {
 }
 
 // Of `recv_blocking`.
-pub fn blocks<P: Port<u64>>(rt: &impl Abort, (sender, mut receiver): Pair<P>) {
+pub fn blocks<P: Port<u64>>(rt: &impl Host, (sender, mut receiver): Pair<P>) {
     assert!(rt; sender.try_broadcast(1).is_ok());
     drop(sender);
     assert!(rt; matches!(receiver.recv_blocking(), Ok(Ok(1))));
@@ -34,10 +32,7 @@ pub fn blocks<P: Port<u64>>(rt: &impl Abort, (sender, mut receiver): Pair<P>) {
 }
 
 // Of `iter`.
-pub fn loops<R: Abort + Wait, P: Port<u64>>(
-    rt: &R,
-    (sender, mut receiver): Pair<P>,
-) -> Result<(), Fail> {
+pub fn loops<P: Port<u64>>(rt: &impl Host, (sender, mut receiver): Pair<P>) -> Result<(), Fail> {
     assert!(rt; sender.try_broadcast(1).is_ok());
     assert!(rt; sender.try_broadcast(2).is_ok());
     drop(sender);
@@ -52,7 +47,7 @@ pub fn loops<R: Abort + Wait, P: Port<u64>>(
 
 // Of `try_iter`.
 pub fn loops_over_what_is_there<P: Port<u64>>(
-    rt: &impl Abort,
+    rt: &impl Host,
     (sender, receiver): Lent<'_, P>,
 ) -> Result<(), Fail> {
     assert!(rt; sender.try_broadcast(1).is_ok());
@@ -68,7 +63,7 @@ pub fn loops_over_what_is_there<P: Port<u64>>(
 }
 
 // Of `is_terminated`.
-pub fn sees_the_end<P: Port<u64>>(rt: &impl Abort, (sender, mut receiver): Pair<P>) {
+pub fn sees_the_end<P: Port<u64>>(rt: &impl Host, (sender, mut receiver): Pair<P>) {
     assert!(rt; sender.try_broadcast(1).is_ok());
     drop(sender);
     assert!(rt; !receiver.is_terminated());
@@ -77,7 +72,7 @@ pub fn sees_the_end<P: Port<u64>>(rt: &impl Abort, (sender, mut receiver): Pair<
 }
 
 // Of `clone`.
-pub fn clones<P: Port<u64>>(rt: &impl Abort, (sender, one): Lent<'_, P>) -> Result<(), Fail> {
+pub fn clones<P: Port<u64>>(rt: &impl Host, (sender, one): Lent<'_, P>) -> Result<(), Fail> {
     assert!(rt; sender.try_broadcast(1).is_ok());
     let mut two = one.clone()?;
     assert!(rt; matches!(one.try_recv(), Ok(Ok(1))));
@@ -87,7 +82,7 @@ pub fn clones<P: Port<u64>>(rt: &impl Abort, (sender, one): Lent<'_, P>) -> Resu
 
 // Of `new_receiver`.
 pub fn adds_a_receiver<P: Port<u64>>(
-    rt: &impl Abort,
+    rt: &impl Host,
     (sender, one): Lent<'_, P>,
 ) -> Result<(), Fail> {
     assert!(rt; sender.try_broadcast(1).is_ok());
@@ -99,7 +94,7 @@ pub fn adds_a_receiver<P: Port<u64>>(
 
 // Of `new_sender`.
 pub fn adds_a_sender<P: Port<u64>>(
-    rt: &impl Abort,
+    rt: &impl Host,
     (sender, mut receiver): Pair<P>,
 ) -> Result<(), Fail> {
     let other = receiver.new_sender()?;
@@ -110,7 +105,7 @@ pub fn adds_a_sender<P: Port<u64>>(
 }
 
 // Of `deactivate`.
-pub fn pauses<P: Port<u64>>(rt: &impl Abort, (sender, receiver): Pair<P>) -> Result<(), Fail> {
+pub fn pauses<P: Port<u64>>(rt: &impl Host, (sender, receiver): Pair<P>) -> Result<(), Fail> {
     let inactive = receiver.deactivate().ok().ok_or("no handle")?;
     assert!(rt; matches!(sender.try_broadcast(1), Err(TrySendError::Inactive(1))));
     let mut receiver = inactive.activate().ok().ok_or("no handle")?;

@@ -1,12 +1,10 @@
 //! Of `sender.rt`.
-use crate::channels::{Lent, Pair};
+use crate::channels::{Host, Lent, Pair};
 use async_broadcast::{Port, SendError, TryRecvError, TrySendError};
-use std::alloc::AllocGlobal;
-use std::process::Abort;
 use std::test::Fail;
 
 // Of `try_broadcast`.
-pub fn tries<P: Port<u64>>(rt: &impl Abort, (sender, receiver): Pair<P>) -> Result<(), Fail> {
+pub fn tries<P: Port<u64>>(rt: &impl Host, (sender, receiver): Pair<P>) -> Result<(), Fail> {
     assert!(rt; matches!(sender.try_broadcast(1), Ok(None)));
     assert!(rt; matches!(sender.try_broadcast(2), Err(TrySendError::Full(2))));
     let inactive = receiver.deactivate().ok().ok_or("no handle")?;
@@ -18,7 +16,7 @@ pub fn tries<P: Port<u64>>(rt: &impl Abort, (sender, receiver): Pair<P>) -> Resu
 
 // Of `try_broadcast_all`.
 pub fn sends_a_list<P: Port<u64>>(
-    rt: &(impl Abort + AllocGlobal),
+    rt: &impl Host,
     (sender, receiver): Lent<'_, P>,
 ) -> Result<(), Fail> {
     assert!(rt; sender.try_broadcast_all(vec![in rt.alloc(); 1, 2]?).is_ok());
@@ -32,7 +30,7 @@ pub fn sends_a_list<P: Port<u64>>(
 }
 
 // Of `broadcast_blocking`.
-pub fn blocks<P: Port<u64>>(rt: &impl Abort, (sender, mut receiver): Pair<P>) {
+pub fn blocks<P: Port<u64>>(rt: &impl Host, (sender, mut receiver): Pair<P>) {
     assert!(rt; sender.broadcast_blocking(7).is_ok());
     assert!(rt; matches!(receiver.try_recv(), Ok(Ok(7))));
     assert!(rt; sender.broadcast_blocking(8).is_ok());
@@ -42,7 +40,7 @@ pub fn blocks<P: Port<u64>>(rt: &impl Abort, (sender, mut receiver): Pair<P>) {
 }
 
 // Of `clone`.
-pub fn clones<P: Port<u64>>(rt: &impl Abort, (sender, mut receiver): Pair<P>) -> Result<(), Fail> {
+pub fn clones<P: Port<u64>>(rt: &impl Host, (sender, mut receiver): Pair<P>) -> Result<(), Fail> {
     let other = sender.clone()?;
     drop(sender);
     assert!(rt; other.try_broadcast(1).is_ok());
@@ -54,7 +52,7 @@ pub fn clones<P: Port<u64>>(rt: &impl Abort, (sender, mut receiver): Pair<P>) ->
 
 // Of `new_receiver`.
 pub fn adds_a_receiver<P: Port<u64>>(
-    rt: &impl Abort,
+    rt: &impl Host,
     (sender, one): Lent<'_, P>,
 ) -> Result<(), Fail> {
     assert!(rt; sender.try_broadcast(1).is_ok());

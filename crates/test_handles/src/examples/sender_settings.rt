@@ -1,16 +1,15 @@
 //! Of `sender/settings.rt`.
-use crate::channels::{Lent, Pair};
+use crate::channels::{Host, Lent, Pair};
 use async_broadcast::{Port, Receiver, SendError, Sender, TryRecvError};
-use std::process::Abort;
 use std::test::Fail;
 
 // Of the calls that return the channel's settings and counts.
-pub fn says<P: Port<u64>>(rt: &impl Abort, (sender, receiver): Pair<P>) -> Result<(), Fail> {
+pub fn says<P: Port<u64>>(rt: &impl Host, (sender, receiver): Pair<P>) -> Result<(), Fail> {
     says_what_is_kept(rt, &sender);
     counts_handles(rt, &sender, receiver)
 }
 
-fn says_what_is_kept<P: Port<u64>>(rt: &impl Abort, sender: &Sender<u64, P>) {
+fn says_what_is_kept<P: Port<u64>>(rt: &impl Host, sender: &Sender<u64, P>) {
     assert!(rt; sender.capacity() == 1);
     assert!(rt; sender.is_empty());
     assert!(rt; !sender.is_full());
@@ -21,7 +20,7 @@ fn says_what_is_kept<P: Port<u64>>(rt: &impl Abort, sender: &Sender<u64, P>) {
 }
 
 fn counts_handles<P: Port<u64>>(
-    rt: &impl Abort,
+    rt: &impl Host,
     sender: &Sender<u64, P>,
     receiver: Receiver<u64, P>,
 ) -> Result<(), Fail> {
@@ -36,7 +35,7 @@ fn counts_handles<P: Port<u64>>(
 }
 
 // Of `overflow`, `await_active` and `close`.
-pub fn changes_modes<P: Port<u64>>(rt: &impl Abort, sender: &mut Sender<u64, P>) {
+pub fn changes_modes<P: Port<u64>>(rt: &impl Host, sender: &mut Sender<u64, P>) {
     assert!(rt; !sender.overflow());
     sender.set_overflow(true);
     assert!(rt; sender.overflow());
@@ -48,14 +47,14 @@ pub fn changes_modes<P: Port<u64>>(rt: &impl Abort, sender: &mut Sender<u64, P>)
 }
 
 // Of `is_closed`.
-pub fn sees_the_end<P: Port<u64>>(rt: &impl Abort, (sender, receiver): Lent<'_, P>) {
+pub fn sees_the_end<P: Port<u64>>(rt: &impl Host, (sender, receiver): Lent<'_, P>) {
     assert!(rt; !sender.is_closed());
     receiver.close();
     assert!(rt; sender.is_closed());
 }
 
 // Of `set_capacity`.
-pub fn shrinks<P: Port<u64>>(rt: &impl Abort, (sender, receiver): Lent<'_, P>) -> Result<(), Fail> {
+pub fn shrinks<P: Port<u64>>(rt: &impl Host, (sender, receiver): Lent<'_, P>) -> Result<(), Fail> {
     assert!(rt; sender.try_broadcast(1).is_ok());
     assert!(rt; sender.try_broadcast(2).is_ok());
     sender.set_capacity(1)?;
@@ -65,7 +64,7 @@ pub fn shrinks<P: Port<u64>>(rt: &impl Abort, (sender, receiver): Lent<'_, P>) -
 }
 
 // Of `set_overflow`.
-pub fn overflows<P: Port<u64>>(rt: &impl Abort, (sender, receiver): Lent<'_, P>) {
+pub fn overflows<P: Port<u64>>(rt: &impl Host, (sender, receiver): Lent<'_, P>) {
     sender.set_overflow(true);
     assert!(rt; matches!(sender.try_broadcast(1), Ok(None)));
     assert!(rt; matches!(sender.try_broadcast(2), Ok(Some(1))));
@@ -75,7 +74,7 @@ pub fn overflows<P: Port<u64>>(rt: &impl Abort, (sender, receiver): Lent<'_, P>)
 
 // Of `set_await_active`.
 pub fn awaits_nobody<P: Port<u64>>(
-    rt: &impl Abort,
+    rt: &impl Host,
     (mut sender, receiver): Pair<P>,
 ) -> Result<(), Fail> {
     let _inactive = receiver.deactivate().ok().ok_or("no handle")?;
