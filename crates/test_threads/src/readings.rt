@@ -8,7 +8,7 @@ use crate::history::{Row, run_row};
 use crate::steps::Host;
 use batches::take_batches;
 use bcast_history::{Channel, TimedHistoryPort, TrackedReceiver, TrackedSender};
-use futures::task::{Context, Poll};
+use futures::task::Poll;
 use futures::test::MockTask;
 use logs::{take_cut_logs, take_whole_log};
 use settings::set_each;
@@ -31,15 +31,7 @@ fn next_in<J: Channel, P: TimedHistoryPort<u64, J>>(
     receiver: &mut TrackedReceiver<u64, P, J>,
     task: &MockTask,
 ) -> Answer {
-    task.enter(|cx| poll_next(rt, receiver, cx))
-}
-
-fn poll_next<J: Channel, P: TimedHistoryPort<u64, J>>(
-    rt: &impl Host,
-    receiver: &mut TrackedReceiver<u64, P, J>,
-    cx: &mut Context<'_>,
-) -> Answer {
-    match receiver.poll_next(rt, cx) {
+    match task.enter(|cx| receiver.poll_next(rt, cx)) {
         Ok(Poll::Ready(Some(msg))) => Answer::Message(msg),
         Ok(Poll::Ready(None)) => Answer::Ended,
         Ok(Poll::Pending) => Answer::Pending,
