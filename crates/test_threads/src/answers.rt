@@ -1,4 +1,4 @@
-//! What the calls of threads and tasks return.
+//! What the calls of threads and tasks return: `of_recv` makes an answer of what `recv` returned.
 use async_broadcast::{
     NoMemory, RecvError, RecvTimeoutError, SendError, SendTimeoutError, TryRecvError, TrySendError,
 };
@@ -30,7 +30,6 @@ pub enum Answer {
     NoMemory,
 }
 
-/// What a send that doesn't wait returned.
 pub fn of_try_send(answer: Result<Option<u64>, TrySendError<u64>>) -> Answer {
     match answer {
         Ok(None) => Answer::Done,
@@ -41,7 +40,6 @@ pub fn of_try_send(answer: Result<Option<u64>, TrySendError<u64>>) -> Answer {
     }
 }
 
-/// What a send that may wait returned.
 pub fn of_send(answer: Result<Option<u64>, SendError<u64>>) -> Answer {
     match answer {
         Ok(None) => Answer::Done,
@@ -50,7 +48,6 @@ pub fn of_send(answer: Result<Option<u64>, SendError<u64>>) -> Answer {
     }
 }
 
-/// What a send with a limit of time returned.
 pub fn of_send_timeout(answer: Result<Option<u64>, SendTimeoutError<u64>>) -> Answer {
     match answer {
         Ok(None) => Answer::Done,
@@ -60,7 +57,6 @@ pub fn of_send_timeout(answer: Result<Option<u64>, SendTimeoutError<u64>>) -> An
     }
 }
 
-/// What a receive with a limit of time returned.
 pub fn of_recv_timeout(answer: Result<Result<u64, RecvTimeoutError>, AllocError>) -> Answer {
     match answer {
         Ok(Ok(msg)) => Answer::Message(msg),
@@ -71,7 +67,6 @@ pub fn of_recv_timeout(answer: Result<Result<u64, RecvTimeoutError>, AllocError>
     }
 }
 
-/// What a receive that doesn't wait returned.
 pub fn of_try_recv(answer: Result<Result<u64, TryRecvError>, AllocError>) -> Answer {
     match answer {
         Ok(Ok(msg)) => Answer::Message(msg),
@@ -82,7 +77,6 @@ pub fn of_try_recv(answer: Result<Result<u64, TryRecvError>, AllocError>) -> Ans
     }
 }
 
-/// What a receive that may wait returned.
 pub fn of_recv(answer: Result<Result<u64, RecvError>, AllocError>) -> Answer {
     match answer {
         Ok(Ok(msg)) => Answer::Message(msg),
@@ -92,7 +86,6 @@ pub fn of_recv(answer: Result<Result<u64, RecvError>, AllocError>) -> Answer {
     }
 }
 
-/// What a poll of a send returned.
 pub fn of_poll_send(
     polled: Poll<Result<Result<Option<u64>, SendError<u64>>, NoMemory<u64>>>,
 ) -> Answer {
@@ -103,7 +96,6 @@ pub fn of_poll_send(
     }
 }
 
-/// What a poll of a receive returned.
 pub fn of_poll_future(polled: Poll<Result<Result<u64, RecvError>, AllocError>>) -> Answer {
     match polled {
         Poll::Ready(answer) => of_recv(answer),
@@ -111,7 +103,6 @@ pub fn of_poll_future(polled: Poll<Result<Result<u64, RecvError>, AllocError>>) 
     }
 }
 
-/// What a poll of a stream returned.
 pub fn of_poll_next(polled: Poll<Option<Result<u64, AllocError>>>) -> Answer {
     match polled {
         Poll::Ready(Some(Ok(msg))) => Answer::Message(msg),
@@ -121,7 +112,6 @@ pub fn of_poll_next(polled: Poll<Option<Result<u64, AllocError>>>) -> Answer {
     }
 }
 
-/// What `poll_recv` returned.
 pub fn of_poll_recv(polled: Result<Poll<Option<Result<u64, RecvError>>>, AllocError>) -> Answer {
     match polled {
         Ok(Poll::Ready(Some(answer))) => of_recv(Ok(answer)),

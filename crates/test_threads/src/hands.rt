@@ -109,14 +109,12 @@ impl<P: TimedPort<u64>> Hands<P> {
         }
     }
 
-    /// A sender.
     pub fn sending(alloc: Global, sender: Sending<P>) -> Result<Self, AllocError> {
         let mut hands = Hands::new(alloc);
         hands.senders.push(sender)?;
         Ok(hands)
     }
 
-    /// A receiver.
     pub fn receiving(alloc: Global, receiver: Receiving<P>) -> Result<Self, AllocError> {
         let mut hands = Hands::new(alloc);
         hands.receivers.push(receiver)?;

@@ -25,12 +25,10 @@ impl Counts {
         }
     }
 
-    /// The polls of all receivers.
     pub fn receive_polls(&self) -> u64 {
         self.receive_polls.load(Ordering::SeqCst)
     }
 
-    /// The polls of all sends.
     pub fn send_polls(&self) -> u64 {
         self.send_polls.load(Ordering::SeqCst)
     }
