@@ -1,8 +1,6 @@
 //! Two receives that wait in tasks, one of which is dropped.
 use crate::channels::Host;
-use async_broadcast::{
-    Kind, LockReceiver, LockSender, Port, Receiver, Recv, Sender, Snapshot, broadcast,
-};
+use async_broadcast::{Kind, LockReceiver, LockSender, Port, Recv, Sender, Snapshot, broadcast};
 use futures::task::Poll;
 use futures::test::MockTask;
 use std::sync::Wait;

@@ -1,6 +1,6 @@
 //! Of `receiver.rt` and `iter.rt`, and one of a setting of the channel that a receiver makes.
 use crate::channels::{Host, Lent, Pair};
-use async_broadcast::{Port, Receiver, RecvError, SendError, TryRecvError, TrySendError};
+use async_broadcast::{Port, RecvError, SendError, TryRecvError, TrySendError};
 use futures::StreamExt;
 use futures::executor::block_on;
 use std::test::Fail;
