@@ -13,6 +13,8 @@ pub(crate) enum Asked {
     SetOverflow,
     /// Sets the capacity 1.
     Shrink,
+    /// Sets the capacity 2.
+    Grow,
     NewReceiver,
     /// Clones the receiver 0.
     CloneReceiver,
@@ -20,6 +22,7 @@ pub(crate) enum Asked {
     TryBroadcast(u64),
     BeginSend,
     PollSend(usize, u64),
+    EndSend(usize),
     TryRecv(usize),
     PollFuture(usize),
     PollRecv(usize),
@@ -32,12 +35,14 @@ fn call_of(asked: Asked) -> Call<u64>
     match asked {
         Asked::SetOverflow => Call::SetOverflow(true),
         Asked::Shrink => Call::SetCapacity(1),
+        Asked::Grow => Call::SetCapacity(2),
         Asked::NewReceiver => Call::NewReceiver,
         Asked::CloneReceiver => Call::CloneReceiver(0),
         Asked::DropReceiver(key) => Call::DropReceiver(key),
         Asked::TryBroadcast(msg) => Call::TryBroadcast(msg),
         Asked::BeginSend => Call::BeginSend,
         Asked::PollSend(place, msg) => Call::PollSend(place, msg),
+        Asked::EndSend(place) => Call::EndSend(place),
         Asked::TryRecv(key) => Call::TryRecv(key),
         Asked::PollFuture(key) => Call::PollFuture(key),
         Asked::PollRecv(key) => Call::PollRecv(key),

@@ -18,6 +18,8 @@ mod memory;
 #[cfg(test)]
 mod record;
 #[cfg(test)]
+mod sends;
+#[cfg(test)]
 mod told_polls;
 #[cfg(test)]
 mod unread;

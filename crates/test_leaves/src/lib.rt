@@ -12,6 +12,4 @@ mod queue;
 #[cfg(test)]
 mod receives;
 #[cfg(test)]
-mod sends;
-#[cfg(test)]
 mod store;
