@@ -1,14 +1,15 @@
--- There is room for each receiver's listeners, while receivers are added, read and leave.
-use Rattle.std.proofs.Common.{◌≡◌, ℕ, ◌+◌, ◌*◌, ◌<◌, ◌≤◌, Bool, true, false, cond, Some, None, is_some, Result, Ok, Err, OnOk, OnErr, refl, sym, ap, ◌∙◌, subst, arith}
+-- There is room for each receiver's listeners and each pending send, while they come and go.
+use Rattle.std.proofs.Common.{◌≡◌, ℕ, ◌+◌, ◌*◌, ◌<◌, ◌≤◌, Bool, true, false, cond, not, ◌&&◌, ◌||◌, Option, Some, None, is_some, Result, Ok, Err, OnOk, OnErr, refl, sym, ap, ◌∙◌, subst, arith}
 use Rattle.std.proofs.lemmas.Grind.{common_steps}
 use Rattle.std.proofs.lemmas.Bool.{true≢false}
 use Rattle.std.specs.Ordering.{nat_cmp, eq_by_cmp}
 use Rattle.std.specs.Cmp.{nat_cmp_total, unsigned_tied}
 use Rattle.std.specs.FinMap.{nat_cmp-IsAntisymmetric, get, insert, remove, empty, values, get-empty, get-insert, get-remove, same_map}
-use Rattle.bcast_model.specs.Words.{Cursors, least}
+use Rattle.std.specs.FinSet as set
+use Rattle.bcast_model.specs.Words.{Cursors, Places, least}
 use Rattle.bcast_model.proofs.Tests.{test_place}
 use Rattle.bcast_store.specs.Stored.{Stored, end_of, with_cursors}
-use Rattle.bcast_core.specs.Parts.{HaveRoom}
+use Rattle.bcast_core.specs.Parts.{AllHaveRoom, AreBelow, HaveRoom}
 
 same_key : (q key : ℕ) → eq_by_cmp nat_cmp q key ≡ true → q ≡ key
 same_key q key e = test_place.no q key (sym (unsigned_tied q key) ∙ e)
@@ -55,3 +56,44 @@ module _ {T : Type 0} where
   pub taken_back : (s : Stored T) (key cursor : ℕ) → get s.cursors key ≡ None → least (end_of s) (values s.cursors) ≤ s.front
       → with_cursors s (remove (insert s.cursors key cursor) key) ≡ s
   taken_back s key cursor fresh low = ap (with_cursors s) (remove-insert s.cursors key cursor fresh) ∙ with_own_cursors s low
+
+-- ---- pending sends
+-- without places no room is needed
+pub below_none : (places : Places) (room : ℕ) → places ≡ set.empty → AreBelow places room
+below_none places room none place h = absurd (true≢false (sym h ∙ ap (λ (s : Places). set.contains s place) none ∙ set.contains-empty nat_cmp place))
+
+-- a place that was taken and given back at once doesn't change the places
+pub place_taken_back : (places : Places) (place : ℕ) → set.contains places place ≡ false → set.remove (set.insert places place) place ≡ places
+place_taken_back places place fresh =
+    set.same_set nat_cmp_total nat_cmp-IsAntisymmetric _ _ (λ q.
+    set.contains-remove nat_cmp_total (set.insert places place) place q
+    ∙ ap (λ b. not (eq_by_cmp nat_cmp q place) && b) (set.contains-insert nat_cmp_total places place q)
+    ∙ by_key q (eq_by_cmp nat_cmp q place) refl)
+  where
+    by_key : (q : ℕ) (b : Bool) → eq_by_cmp nat_cmp q place ≡ b → (not b && (b || set.contains places q)) ≡ set.contains places q
+    by_key q true e = sym (ap (set.contains places) (same_key q place e) ∙ fresh)
+    by_key q false e = refl
+
+module _ {cursors : Cursors} {receives : ℕ} where
+  -- the places stay, and the room doesn't fall
+  pub places_kept : (places now : Places) (room more : ℕ) → now ≡ places → room ≤ more → AllHaveRoom cursors receives places room → AllHaveRoom cursors receives now more
+  places_kept places now room more same rises all =
+      record { receivers = all.receivers; sends = λ place h. (let own = all.sends place (ap (λ (s : Places). set.contains s place) (sym same) ∙ h) in omega (arith, own, rises)) }
+
+  -- a place for which there is room is taken
+  pub place_taken : (places now : Places) (place room more : ℕ) → now ≡ set.insert places place → place < more → room ≤ more → AllHaveRoom cursors receives places room → AllHaveRoom cursors receives now more
+  place_taken places now place room more is own rises all =
+      record { receivers = all.receivers; sends = λ other h. by_key other (eq_by_cmp nat_cmp other place) refl (sym (set.contains-insert nat_cmp_total places place other) ∙ ap (λ (s : Places). set.contains s other) (sym is) ∙ h) }
+    where
+      by_key : (other : ℕ) (b : Bool) → eq_by_cmp nat_cmp other place ≡ b → (b || set.contains places other) ≡ true → other < more
+      by_key other true e h = let one = same_key other place e in omega (arith, one, own)
+      by_key other false e h = let old = all.sends other h in omega (arith, old, rises)
+
+  -- a place is given back, and the room stays
+  pub place_freed : (places now : Places) (place room next : ℕ) → now ≡ set.remove places place → next ≡ room → AllHaveRoom cursors receives places room → AllHaveRoom cursors receives now next
+  place_freed places now place room next is room_is all =
+      record { receivers = all.receivers; sends = λ other h. subst (λ n. other < n) (sym room_is) (all.sends other (second other (not (eq_by_cmp nat_cmp other place)) (sym (set.contains-remove nat_cmp_total places place other) ∙ ap (λ (s : Places). set.contains s other) (sym is) ∙ h))) }
+    where
+      second : (other : ℕ) (b : Bool) → (b && set.contains places other) ≡ true → set.contains places other ≡ true
+      second other true h = h
+      second other false h = absurd (true≢false (sym h))

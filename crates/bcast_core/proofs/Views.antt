@@ -1,10 +1,10 @@
 -- The view of the state's parts.
 use Rattle.std.proofs.Common.{◌≡◌, ℕ, ◌+◌, ◌-◌, Bool, length, max, drop, refl, sym, ap, ◌∙◌, arith, append-nil, length-drop}
 use Rattle.std.specs.FinMap.{values}
-use Rattle.bcast_model.specs.Words.{Control, Cursors, View, least, sets, settle, Pair}
+use Rattle.bcast_model.specs.Words.{Control, Cursors, Places, View, least, sets, settle, Pair}
 use Rattle.bcast_model.proofs.Least.{least-le-limit}
 use Rattle.bcast_store.specs.Stored.{Stored, end_of, with_cursors}
-use Rattle.bcast_waiting.specs.Words.{Event, Sends}
+use Rattle.bcast_waiting.specs.Words.{Event}
 use Rattle.bcast_core.specs.Parts.{control_of, seen_of}
 use Rattle.bcast_core.proofs.Settle.{settle_to}
 
@@ -20,12 +20,12 @@ module _ {T : Type 0} where
       settle_to (seen_of s was) (sets c) (seen_of (with_cursors s c.cursors) c) front (ap (drop (max s.front (least (end_of s) (values c.cursors)) - s.front)) (append-nil s.queue)) last refl
 
   -- other cursors lead to the view that their effect settles to
-  pub view-with_cursors : (s now : Stored T) (sends : Sends) (receives : Event Pair) (senders inactive : ℕ) (closed overflow await_active : Bool) (capacity : ℕ) (moves : Cursors → Cursors) (v : View T)
+  pub view-with_cursors : (s now : Stored T) (places : Places) (sends : Event ℕ) (receives : Event Pair) (senders inactive : ℕ) (closed overflow await_active : Bool) (capacity : ℕ) (moves : Cursors → Cursors) (v : View T)
       → now ≡ with_cursors s (moves s.cursors)
-      → seen_of s (control_of s sends receives senders inactive closed overflow await_active capacity) ≡ v
-      → seen_of now (control_of now sends receives senders inactive closed overflow await_active capacity) ≡ settle v (sets (record v.control { cursors = moves v.control.cursors }))
-  view-with_cursors s now sends receives senders inactive closed overflow await_active capacity moves v is seen =
-      let was : Control = control_of s sends receives senders inactive closed overflow await_active capacity in
-      ap (λ x. seen_of x (control_of x sends receives senders inactive closed overflow await_active capacity)) is
+      → seen_of s (control_of s places sends receives senders inactive closed overflow await_active capacity) ≡ v
+      → seen_of now (control_of now places sends receives senders inactive closed overflow await_active capacity) ≡ settle v (sets (record v.control { cursors = moves v.control.cursors }))
+  view-with_cursors s now places sends receives senders inactive closed overflow await_active capacity moves v is seen =
+      let was : Control = control_of s places sends receives senders inactive closed overflow await_active capacity in
+      ap (λ x. seen_of x (control_of x places sends receives senders inactive closed overflow await_active capacity)) is
       ∙ sym (settle-with_cursors s was (record was { cursors = moves s.cursors }))
       ∙ ap (λ (x : View T). settle x (sets (record x.control { cursors = moves x.control.cursors }))) seen

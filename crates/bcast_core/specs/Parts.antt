@@ -1,7 +1,8 @@
 -- How the state of a channel is put together. No public clause cites this module.
 use Rattle.std.specs.Prelude.{◌≡◌, ℕ, ◌+◌, ◌*◌, ◌^◌, ◌<◌, ◌⊎◌, Bool, true, false, is_some, None, Some, IsSomeAnd, Result, Ok, Err}
 use Rattle.std.specs.FinMap.{get, len}
-use Rattle.bcast_model.specs.Words.{Found, Control, Cursors, View, Legal, effect, settle}
+use Rattle.std.specs.FinSet as set
+use Rattle.bcast_model.specs.Words.{Found, Control, Cursors, Places, View, Legal, effect, settle}
 use Rattle.bcast_model.specs.Words.{Pair, is_empty_reply, kept_at, IsOwed, cursor_of, with_cursor, sets}
 use Rattle.bcast_model.specs.declared.error.HandleError.{HandleError}
 use Rattle.bcast_model.specs.declared.error.HandleError.TheVariants as handle
@@ -11,24 +12,25 @@ use Rattle.bcast_model.specs.declared.run.Call.{Call}
 use Rattle.bcast_model.specs.declared.run.Reply.{Reply}
 use Rattle.bcast_core.specs.Tries.{tries_of}
 use Rattle.bcast_store.specs.Stored.{Stored, end_of}
-use Rattle.bcast_waiting.specs.Words.{Event, Sends}
+use Rattle.bcast_waiting.specs.Words.{Event}
 
 -- what stands beside the messages
-abbrev pub control_of : {T : Type 0} → Stored T → Sends → Event Pair
+abbrev pub control_of : {T : Type 0} → Stored T → Places → Event ℕ → Event Pair
     → ℕ → ℕ → Bool → Bool → Bool → ℕ → Control
-control_of store sends receives senders inactive closed overflow await_active capacity = record {
-  cursors = store.cursors;
-  senders = senders;
-  inactive = inactive;
-  closed = closed;
-  overflow = overflow;
-  await_active = await_active;
-  capacity = capacity;
-  room = store.room;
-  places = sends.places;
-  waiting_sends = sends.waiting;
-  waiting_receives = receives.listeners;
-}
+control_of store places sends receives senders inactive closed overflow await_active capacity =
+    record {
+      cursors = store.cursors;
+      senders = senders;
+      inactive = inactive;
+      closed = closed;
+      overflow = overflow;
+      await_active = await_active;
+      capacity = capacity;
+      room = store.room;
+      places = places;
+      waiting_sends = sends.listeners;
+      waiting_receives = receives.listeners;
+    }
 
 abbrev pub seen_of : {T : Type 0} → Stored T → Control → View T
 seen_of store control = record {
@@ -41,6 +43,16 @@ seen_of store control = record {
 -- each receiver's stream and future find room among the listeners
 abbrev pub HaveRoom : Cursors → ℕ → Type 0
 HaveRoom cursors room = (key : ℕ) → is_some (get cursors key) ≡ true → 2 * key + 1 < room
+
+-- each pending send finds room among those that wait
+abbrev pub AreBelow : Places → ℕ → Type 0
+AreBelow places room = (place : ℕ) → set.contains places place ≡ true → place < room
+
+-- there is room for all that may wait
+pub record AllHaveRoom
+    (cursors : Cursors) (receives_room : ℕ) (places : Places) (sends_room : ℕ) : Type 0 where
+  pub receivers : HaveRoom cursors receives_room
+  pub sends : AreBelow places sends_room
 
 -- a call and its reply, but for telling a sender
 pub record Does

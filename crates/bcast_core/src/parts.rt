@@ -4,7 +4,7 @@ ghost use Rattle.std.specs.Prelude.{◌≡◌, true};
 use bcast_model::listener::Kind;
 use bcast_store::Store;
 use bcast_waiting::notice::Notice;
-use bcast_waiting::{Event, SendList};
+use bcast_waiting::{Event, Places};
 use std::alloc::{Allocator, Global};
 use std::marker::Model;
 
@@ -18,7 +18,9 @@ pub use send::is_accepted;
 #[derive(Drop)]
 pub struct Parts<T, N: Notice, A: Allocator = Global> {
     pub(crate) store: Store<T, A>,
-    pub(crate) sends: SendList<N, A>,
+    // The places of pending sends, and the listeners of those that wait.
+    pub(crate) places: Places<A>,
+    pub(crate) sends: Event<usize, N, A>,
     pub(crate) receives: Event<(usize, Kind), N, A>,
     pub(crate) senders: usize,
     pub(crate) inactive: usize,
@@ -37,13 +39,13 @@ impl<T, N: Notice, A: Allocator> Model for Parts<T, N, A> {
     ghost coded = { view_code T.code };
 
     ghost view = { λ p. seen_of p.store
-        (control_of p.store p.sends p.receives p.senders p.inactive p.closed p.overflow
+        (control_of p.store p.places p.sends p.receives p.senders p.inactive p.closed p.overflow
         p.await_active p.capacity) };
 
-    ghost use Rattle.bcast_core.specs.Parts.{HaveRoom};
+    ghost use Rattle.bcast_core.specs.Parts.{AllHaveRoom};
 
-    // There is room to list both listeners of each receiver.
-    ghost invariant = { λ p. HaveRoom p.store.cursors p.receives.room };
+    // There is room to list both listeners of each receiver, and each pending send.
+    ghost invariant = { λ p. AllHaveRoom p.store.cursors p.receives.room p.places p.sends.room };
 }
 
 impl<T: Drop, N: Notice, A: Allocator + Copy> Parts<T, N, A> {
@@ -66,7 +68,7 @@ impl<T: Drop, N: Notice, A: Allocator + Copy> Parts<T, N, A> {
     pub fn nobody_waits(&self) -> bool
         ensures { result ≡ true → NobodyWaits self.now.control }
     {
-        self.sends.nobody_waits() && self.receives.is_empty()
+        self.sends.is_empty() && self.receives.is_empty()
     }
 
     /// The last step of a call: tells the first send that waits, if sends are ready now and none is
@@ -78,7 +80,7 @@ impl<T: Drop, N: Notice, A: Allocator + Copy> Parts<T, N, A> {
     pub fn tell_a_sender(&mut self)
         ensures { self.new ≡ tell_if_ready true self.old }
     {
-        if !self.sends.nobody_waits() {
+        if !self.sends.is_empty() {
             self.tell_first_sender();
         }
     }
@@ -89,7 +91,7 @@ impl<T: Drop, N: Notice, A: Allocator + Copy> Parts<T, N, A> {
         ensures { self.new ≡ tell_if_ready true self.old }
     {
         if self.sends_are_ready() {
-            self.sends.tell_one();
+            self.sends.tell(1);
         }
     }
 

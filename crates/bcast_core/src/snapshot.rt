@@ -73,7 +73,7 @@ impl<T: Clone, N: Notice, A: Allocator + Copy> Parts<T, N, A> {
             await_active: self.await_active,
             capacity: self.capacity,
             room: self.store.room(),
-            places: rising(self.sends.places(alloc)?),
+            places: rising(self.places.items(alloc)?),
             waiting_sends: Waiting {
                 ids: self.sends.ids(alloc)?,
                 told: self.sends.told(),

@@ -10,7 +10,7 @@ use crate::snapshot::Snapshot;
 use bcast_model::listener::Kind;
 use bcast_store::Store;
 use bcast_waiting::notice::Notice;
-use bcast_waiting::{Event, SendList};
+use bcast_waiting::{Event, Places};
 use std::alloc::{AllocError, Allocator, Global};
 use std::marker::Model;
 
@@ -91,7 +91,8 @@ impl<T: Drop, N: Notice, A: Allocator + Copy> Inner<T, N, A> {
         // Put together last: a larger value would be copied at each step that may be refused.
         let parts = Parts {
             store,
-            sends: SendList::new(alloc),
+            places: Places::new(alloc),
+            sends: Event::new(alloc),
             receives,
             senders: 1,
             inactive: 0,

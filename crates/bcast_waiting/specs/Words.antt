@@ -1,6 +1,4 @@
 -- The definitions that clauses name, from one place.
-pub use Rattle.bcast_waiting.specs.Sends.{Sends, sends_code}
-pub use Rattle.bcast_waiting.specs.SendsInvariant.{sends_of, AreBelow}
 pub use Rattle.bcast_waiting.specs.Keys.{key_of, keys_in}
 pub use Rattle.bcast_waiting.specs.Event.{Event, is_told}
 pub use Rattle.bcast_waiting.specs.Slots.{Slots, listed, front, has}

@@ -100,7 +100,7 @@ impl<T: Drop, N: Notice, A: Allocator + Copy> Parts<T, N, A> {
         }
     }
 
-    /// Gives a place to a send that is to wait.
+    /// Gives a place to a send that is to wait, and makes room to list it.
     #[inline(always)]
     pub fn begin_send(&mut self) -> Result<usize, AllocError>
         ensures free { IfOk result (λ place. has_place self.old.control place ≡ false) }
@@ -108,7 +108,12 @@ impl<T: Drop, N: Notice, A: Allocator + Copy> Parts<T, N, A> {
             ≡ record self.old { control = with_place self.old.control place }) }
         ensures err { OnErr result (self.new ≡ self.old) }
     {
-        self.sends.begin()
+        let place = self.places.add()?;
+        let Ok(()) = self.sends.reserve_for(place) else {
+            self.places.remove(place);
+            return Err(AllocError);
+        };
+        Ok(place)
     }
 
     /// The send of this place is dropped. What it was told is passed on.
@@ -116,7 +121,17 @@ impl<T: Drop, N: Notice, A: Allocator + Copy> Parts<T, N, A> {
     pub fn place_ended(&mut self, place: usize)
         ensures { self.new ≡ record self.old { control = place_ended self.old.control place } }
     {
-        self.sends.ended(place);
+        let _ = self.sends.abandon(place);
+        self.places.remove(place);
+    }
+
+    // The send of this place is answered.
+    #[inline(always)]
+    fn place_answered(&mut self, place: usize)
+        ensures { self.new ≡ record self.old { control = place_answered self.old.control place } }
+    {
+        self.sends.consume(place);
+        self.places.remove(place);
     }
 
     /// A poll of a pending send, whose notice is made if it must wait.
@@ -142,7 +157,7 @@ impl<T: Drop, N: Notice, A: Allocator + Copy> Parts<T, N, A> {
         ensures same { OnErr result (self.new ≡ self.old) }
         ensures refused { OnErr result (M.refused maker.old maker.new) }
     {
-        if !self.sends.has(place) {
+        if !self.places.contains(place) {
             let Ok(_) = maker.make() else {
                 return Err(msg);
             };
@@ -151,14 +166,14 @@ impl<T: Drop, N: Notice, A: Allocator + Copy> Parts<T, N, A> {
         match self.attempt(msg) {
             SendPoll::Ready(answer) => {
                 if self.nobody_waits() {
-                    self.sends.answered(place);
+                    self.place_answered(place);
                     return Ok(SendPoll::Ready(answer));
                 }
                 self.tell_of_send(place, answer.is_ok());
                 Ok(SendPoll::Ready(answer))
             }
             SendPoll::Wait(msg) => {
-                let Ok(()) = self.sends.wait(place, maker) else {
+                let Ok(()) = self.sends.wait_again(place, maker) else {
                     return Err(msg);
                 };
                 Ok(SendPoll::Wait(msg))
@@ -173,7 +188,7 @@ impl<T: Drop, N: Notice, A: Allocator + Copy> Parts<T, N, A> {
             ≡ tell_if_ready true (record told { control = place_answered told.control place }) }
     {
         self.tell_news(news);
-        self.sends.answered(place);
+        self.place_answered(place);
         self.tell_a_sender();
     }
 

@@ -90,7 +90,7 @@ impl<T: Drop, N: Notice, A: Allocator + Copy> Inner<T, N, A> {
     {
         let end = self.parts.store.end();
         let made = self.parts.add_receiver(end);
-        if !self.parts.sends.nobody_waits() {
+        if !self.parts.sends.is_empty() {
             self.parts.tell_a_sender();
         }
         made
@@ -160,7 +160,7 @@ impl<T: Drop, N: Notice, A: Allocator + Copy> Inner<T, N, A> {
             return Err(HandleError::Gone);
         };
         let made = self.parts.add_receiver(cursor);
-        if !self.parts.sends.nobody_waits() {
+        if !self.parts.sends.is_empty() {
             self.parts.tell_a_sender();
         }
         made
@@ -206,7 +206,7 @@ impl<T: Drop, N: Notice, A: Allocator + Copy> Inner<T, N, A> {
             return;
         }
         self.parts.close_if_deserted();
-        if !self.parts.sends.nobody_waits() {
+        if !self.parts.sends.is_empty() {
             self.parts.tell_a_sender();
         }
     }

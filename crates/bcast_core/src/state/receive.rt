@@ -45,7 +45,7 @@ impl<T: Clone, N: Notice, A: Allocator + Copy> Inner<T, N, A> {
     {
         let at = self.parts.store.cursor(key);
         let received = self.parts.receive(key, at, &mut Uncounted);
-        if !self.parts.sends.nobody_waits() {
+        if !self.parts.sends.is_empty() {
             self.parts.tell_a_sender();
         }
         received

@@ -3,5 +3,5 @@ use Rattle.std.proofs.Common.{arith}
 use Rattle.std.proofs.lemmas.Grind.{common_steps}
 use Rattle.bcast_core.proofs.parts.Parts.nobody_waits.Goals as goal
 
-pub returns-then-nobody_waits : goal.returns-then-nobody_waits
-returns-then-nobody_waits g c empty = grind (arith, common_steps)
+pub returns-then-is_empty : goal.returns-then-is_empty
+returns-then-is_empty g c empty = grind (arith, common_steps)

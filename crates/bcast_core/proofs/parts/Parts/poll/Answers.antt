@@ -16,7 +16,7 @@ wait_again-requires g c =
     let empty = sym (empty_exactly c.args.self.now c.args.key c.args.at c.in-Ok.answer c.in-Ok.ensures.found) ∙ sym c.is_empty.ensures ∙ c.if-is_empty.true in
     let there = ap (λ (v : View g.row.T.Denot). is_some (get v.control.cursors c.args.key)) (c.self.view_is ∙ settle_empty c.args.self.now c.look.new.self c.args.key c.args.at c.requires.valid empty c.in-Ok.ensures.ok)
     ∙ empty_there c.args.self.now c.args.key c.args.at c.requires.valid c.requires.at empty in
-    let room = c.self.invariant c.args.key there in
+    let room = c.self.invariant.receivers c.args.key there in
     grind (arith, common_steps, room)
 
 pub returns-in_err-wait_again-clause-same : goal.returns-in_err-wait_again-clause-same
@@ -24,7 +24,7 @@ returns-in_err-wait_again-clause-same g c =
     let empty = sym (empty_exactly c.args.self.now c.args.key c.args.at c.in-Ok.answer c.in-Ok.ensures.found) ∙ sym c.is_empty.ensures ∙ c.if-is_empty.true in
     let p = c.self.inside in
     on_err c.from_residual.result
-    (ap (λ receives. seen_of p.store (control_of p.store p.sends receives p.senders p.inactive p.closed p.overflow p.await_active p.capacity)) c.in_err-wait_again.ensures.same
+    (ap (λ receives. seen_of p.store (control_of p.store p.places p.sends receives p.senders p.inactive p.closed p.overflow p.await_active p.capacity)) c.in_err-wait_again.ensures.same
     ∙ c.self.view_is ∙ settle_empty c.args.self.now c.look.new.self c.args.key c.args.at c.requires.valid empty c.in-Ok.ensures.ok)
 
 pub returns-then-is_empty-clause-ok : goal.returns-then-is_empty-clause-ok
@@ -32,7 +32,7 @@ returns-then-is_empty-clause-ok g c =
     let empty = sym (empty_exactly c.args.self.now c.args.key c.args.at c.in-Ok.answer c.in-Ok.ensures.found) ∙ sym c.is_empty.ensures ∙ c.if-is_empty.true in
     let p = c.self.inside in
     poll_listens c.args.self.now c.look.new.self _ (c.args.key, c.args.kind) c.args.at c.requires.valid empty c.in-Ok.ensures.ok
-    (ap (λ receives. seen_of p.store (control_of p.store p.sends receives p.senders p.inactive p.closed p.overflow p.await_active p.capacity)) c.in_ok-wait_again.ensures.waits
+    (ap (λ receives. seen_of p.store (control_of p.store p.places p.sends receives p.senders p.inactive p.closed p.overflow p.await_active p.capacity)) c.in_ok-wait_again.ensures.waits
     ∙ ap (λ (v : View g.row.T.Denot). record v { control = pair_waits v.control (c.args.key, c.args.kind) }) c.self.view_is)
 
 pub returns-then-nobody_waits-clause-ok : goal.returns-then-nobody_waits-clause-ok

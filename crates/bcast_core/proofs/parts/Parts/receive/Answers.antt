@@ -21,7 +21,7 @@ returns-then-cursor-front-clause-ok g c =
     let v = c.args.self.now in
     let p = c.self.inside in
     let lags : c.in-Some.cursor < v.front = omega (arith, c.if-cursor-front.true, c.front-front.ensures, ap (λ (x : View g.row.T.Denot). x.front) c.self.view_is) in
-    ap (λ s. seen_of s (control_of s p.sends p.receives p.senders p.inactive p.closed p.overflow p.await_active p.capacity)) c.skip.ensures
+    ap (λ s. seen_of s (control_of s p.places p.sends p.receives p.senders p.inactive p.closed p.overflow p.await_active p.capacity)) c.skip.ensures
     ∙ ap (λ (x : View g.row.T.Denot). record x { control = with_cursor x.control c.args.key x.front }) c.self.view_is
     ∙ sym (settle_stays v (with_cursor v.control c.args.key v.front) (low_inserted v.end v.front v.control.cursors c.args.key v.front (omega arith)))
     ∙ ap (λ m. settle v (sets m)) (sym (ap (receive v c.args.key) c.in-Some.is ∙ lagging_receive v c.args.key c.in-Some.cursor lags))
@@ -30,14 +30,20 @@ pub invariant_of-self : goal.invariant_of-self
 invariant_of-self g c =
     let there = is_there c.args.self.now c.args.key (cursor_of c.args.self.now.control c.args.key) c.args.at c.in-Some.cursor c.in-Some.is c.requires.at in
     let some = ap (λ (v : View g.row.T.Denot). is_some (get v.control.cursors c.args.key)) c.self.view_is ∙ there in
-    subst (λ (s : Stored g.row.T.Denot). HaveRoom s.cursors c.self.inside.receives.room) (sym c.skip.ensures)
-    (room_inserted c.self.inside.store.cursors c.args.key c.self.inside.store.front c.self.inside.receives.room (c.self.invariant c.args.key some) c.self.invariant)
+    record {
+      receivers = subst (λ (s : Stored g.row.T.Denot). HaveRoom s.cursors c.self.inside.receives.room) (sym c.skip.ensures)
+          (room_inserted c.self.inside.store.cursors c.args.key c.self.inside.store.front c.self.inside.receives.room (c.self.invariant.receivers c.args.key some) c.self.invariant.receivers);
+      sends = c.self.invariant.sends;
+    }
 
 pub invariant_of-self-then-index-len : goal.invariant_of-self-then-index-len
 invariant_of-self-then-index-len g c =
     let there = is_there c.args.self.now c.args.key (cursor_of c.args.self.now.control c.args.key) c.args.at c.in-Some.cursor c.in-Some.is c.requires.at in
     let some = ap (λ (v : View g.row.T.Denot). is_some (get v.control.cursors c.args.key)) c.self.view_is ∙ there in
-    room_read c.read.result c.self.inside.store c.read.new.self c.args.key (c.in-Some.cursor + 1) c.self.inside.receives.room some c.read.ensures.ok c.read.ensures.err c.self.invariant
+    record {
+      receivers = room_read c.read.result c.self.inside.store c.read.new.self c.args.key (c.in-Some.cursor + 1) c.self.inside.receives.room some c.read.ensures.ok c.read.ensures.err c.self.invariant.receivers;
+      sends = c.self.invariant.sends;
+    }
 
 pub returns-then-index-len-clause-ok : goal.returns-then-index-len-clause-ok
 returns-then-index-len-clause-ok g c =
@@ -45,7 +51,7 @@ returns-then-index-len-clause-ok g c =
     let above : v.front ≤ c.in-Some.cursor = omega (arith, c.if-cursor-front.false, c.front-front.ensures, ap (λ (x : View g.row.T.Denot). x.front) c.self.view_is) in
     let below : c.in-Some.cursor < v.end = omega (arith, c.if-index-len.true, c.len.ensures, c.front-front.ensures, ap (λ (x : View g.row.T.Denot). x.end) c.self.view_is) in
     let ok = on_ok_weaker c.read.result
-    (λ is. view-with_cursors c.self.inside.store c.read.new.self _ c.self.inside.receives _ _ _ _ _ _ (λ m. insert m c.args.key (c.in-Some.cursor + 1)) v is c.self.view_is
+    (λ is. view-with_cursors c.self.inside.store c.read.new.self _ c.self.inside.sends c.self.inside.receives _ _ _ _ _ _ (λ m. insert m c.args.key (c.in-Some.cursor + 1)) v is c.self.view_is
     ∙ ap (λ m. settle v (sets m)) (sym (receive_one v c.args.key c.args.at c.in-Some.cursor c.in-Some.is above below)))
     c.read.ensures.ok in
     elim c.match-read.branch [

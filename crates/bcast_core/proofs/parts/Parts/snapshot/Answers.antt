@@ -19,7 +19,7 @@ returns g c =
       await_active = ap (λ v. v.control.await_active) is;
       capacity = ap (λ v. v.control.capacity) is;
       room = c.room.ensures ∙ ap (λ v. v.control.room) is;
-      places = c.rising.ensures.same ∙ (c.in_ok-places.ensures ∙ ap (λ v. v.control.places) is);
+      places = c.rising.ensures.same ∙ (c.in_ok-items.ensures ∙ ap (λ v. v.control.places) is);
       rising = c.rising.ensures.rising;
       waiting_sends = (λ i. record { ids = c.in_ok-ids.ensures i; told = c.told.ensures i }) ∙ ap (λ v. v.control.waiting_sends) is;
       waiting_receives = (λ i. record { ids = c.in_ok-ids-2.ensures i; told = c.told-2.ensures i }) ∙ ap (λ v. v.control.waiting_receives) is;

@@ -3,5 +3,5 @@ use Rattle.std.proofs.lemmas.Grind.{common_steps}
 use Rattle.bcast_core.proofs.Tail.{told_none}
 use Rattle.bcast_core.proofs.parts.Parts.tell_a_sender.Goals as goal
 
-pub returns-else-not-nobody_waits : goal.returns-else-not-nobody_waits
-returns-else-not-nobody_waits g c = grind (arith, common_steps, told_none)
+pub returns-else-not-is_empty : goal.returns-else-not-is_empty
+returns-else-not-is_empty g c = grind (arith, common_steps, told_none)

@@ -7,5 +7,5 @@ pub returns : goal.returns
 returns g c =
     let p = c.self.inside in
     c.tell_a_sender.ensures
-    ∙ ap (tell_if_ready true) (ap (λ receives. seen_of p.store (control_of p.store p.sends receives p.senders p.inactive p.closed p.overflow p.await_active p.capacity)) c.consume.ensures.rest
+    ∙ ap (tell_if_ready true) (ap (λ receives. seen_of p.store (control_of p.store p.places p.sends receives p.senders p.inactive p.closed p.overflow p.await_active p.capacity)) c.consume.ensures.rest
     ∙ ap (λ (v : View g.row.T.Denot). record v { control = pair_answered v.control (c.args.key, c.args.kind) }) c.self.view_is)

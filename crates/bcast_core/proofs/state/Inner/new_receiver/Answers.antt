@@ -6,19 +6,19 @@ use Rattle.bcast_core.proofs.state.Inner.new_receiver.Goals as goal
 pub add_receiver-made-requires-clause-valid : goal.add_receiver-made-requires-clause-valid
 add_receiver-made-requires-clause-valid g c = valid_shown c.self.invariant
 
-pub returns-then-not-nobody_waits : goal.returns-then-not-nobody_waits
-returns-then-not-nobody_waits g c =
+pub returns-then-not-is_empty : goal.returns-then-not-is_empty
+returns-then-not-is_empty g c =
     let valid = valid_shown c.self.invariant in
     ends c.self.view_is c.self.invariant (added_fits _ _ _ valid c.add_receiver-made.ensures) (new_added _ _ valid (c.end-end.ensures ∙ ap (λ inside. inside.parts.end) c.self-inside.view_is) c.add_receiver-made.ensures) c.tell_a_sender.ensures
 
-pub returns-else-not-nobody_waits : goal.returns-else-not-nobody_waits
-returns-else-not-nobody_waits g c =
+pub returns-else-not-is_empty : goal.returns-else-not-is_empty
+returns-else-not-is_empty g c =
     let valid = valid_shown c.self.invariant in
     ends c.self.view_is c.self.invariant (added_fits _ _ _ valid c.add_receiver-made.ensures) (new_added _ _ valid (c.end-end.ensures ∙ ap (λ inside. inside.parts.end) c.self-inside.view_is) c.add_receiver-made.ensures)
-    (sym (told_none c.add_receiver-made.new.self true (sym (ap (λ inside. inside.parts.control.waiting_sends) c.self-inside-2.view_is) ∙ c.nobody_waits.ensures.0 c.if-not-nobody_waits.false)))
+    (sym (told_none c.add_receiver-made.new.self true (sym (ap (λ inside. inside.parts.control.waiting_sends) c.self-inside-2.view_is) ∙ c.is_empty.ensures.0 c.if-not-is_empty.false)))
 
 pub invariant_of-self : goal.invariant_of-self
-invariant_of-self g c = shown_after (returns-then-not-nobody_waits g c)
+invariant_of-self g c = shown_after (returns-then-not-is_empty g c)
 
-pub invariant_of-self-else-not-nobody_waits : goal.invariant_of-self-else-not-nobody_waits
-invariant_of-self-else-not-nobody_waits g c = shown_after (returns-else-not-nobody_waits g c)
+pub invariant_of-self-else-not-is_empty : goal.invariant_of-self-else-not-is_empty
+invariant_of-self-else-not-is_empty g c = shown_after (returns-else-not-is_empty g c)

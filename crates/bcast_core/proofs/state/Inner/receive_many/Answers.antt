@@ -23,7 +23,7 @@ stands g c = record {
 new_is : (g : _) (c : After-tell_a_sender g) → c.tell_a_sender.new.self ≡ after c.self.inside.parts c.args.key (c.in-Some.cursor + c.read_many-given.result)
 new_is g c =
     c.tell_a_sender.ensures
-    ∙ ap (tell_if_ready true) (view-with_cursors _ c.read_many-given.new.self _ c.self-inside.inside.0.0.receives _ _ _ _ _ _ (λ m. insert m c.args.key (c.in-Some.cursor + c.read_many-given.result)) c.self.inside.parts c.read_many-given.ensures.passed (ap (λ inside. inside.parts) c.self-inside.view_is))
+    ∙ ap (tell_if_ready true) (view-with_cursors _ c.read_many-given.new.self _ c.self-inside.inside.0.0.sends c.self-inside.inside.0.0.receives _ _ _ _ _ _ (λ m. insert m c.args.key (c.in-Some.cursor + c.read_many-given.result)) c.self.inside.parts c.read_many-given.ensures.passed (ap (λ inside. inside.parts) c.self-inside.view_is))
 
 pub returns-clause-received : goal.returns-clause-received
 returns-clause-received g c =
@@ -47,8 +47,11 @@ pub invariant_of-self-inside : goal.invariant_of-self-inside
 invariant_of-self-inside g c =
     let p = c.self-inside.inside.0.0 in
     let there = sym (ap is_some c.cursor.ensures) ∙ ap is_some c.in-Some.is in
-    subst (λ (s : Stored g.row.T.Denot). HaveRoom s.cursors p.receives.room) (sym c.read_many-given.ensures.passed)
-    (room_inserted p.store.cursors c.args.key (c.in-Some.cursor + c.read_many-given.result) p.receives.room (c.self-inside.invariant c.args.key there) c.self-inside.invariant)
+    record {
+      receivers = subst (λ (s : Stored g.row.T.Denot). HaveRoom s.cursors p.receives.room) (sym c.read_many-given.ensures.passed)
+          (room_inserted p.store.cursors c.args.key (c.in-Some.cursor + c.read_many-given.result) p.receives.room (c.self-inside.invariant.receivers c.args.key there) c.self-inside.invariant.receivers);
+      sends = c.self-inside.invariant.sends;
+    }
 
 pub returns-clause-sure : goal.returns-clause-sure
 returns-clause-sure g c = λ none room.
