@@ -28,7 +28,7 @@ wait_again-requires g c =
     let there = sym (ap (λ (v : View g.row.T.Denot). has_place v.control c.args.place) c.self.view_is) ∙ sym c.contains.ensures ∙ c.if-not-contains.false in
     let same = ap (λ r. tell_news (is_accepted r) c.attempt.new.self) (sym c.in-Wait.is) ∙ c.attempt.ensures.effect in
     let stays = attempt_stays c.args.self.now c.attempt.new.self c.args.msg c.in-Wait.msg c.requires (sym c.attempt.ensures.reply ∙ c.in-Wait.is) same in
-    c.self-in-Wait.invariant.sends c.args.place (ap (λ (v : View g.row.T.Denot). has_place v.control c.args.place) (c.self-in-Wait.view_is ∙ stays) ∙ there)
+    record { room = c.self-in-Wait.invariant.sends c.args.place (ap (λ (v : View g.row.T.Denot). has_place v.control c.args.place) (c.self-in-Wait.view_is ∙ stays) ∙ there) }
 
 pub returns-in-Ok-wait_again-clause-effect : goal.returns-in-Ok-wait_again-clause-effect
 returns-in-Ok-wait_again-clause-effect g c =
