@@ -3,7 +3,7 @@ use Rattle.std.proofs.Common.{◌≡◌, inl, inr, ℕ, ◌-◌, ◌≤◌, Bool
 use Rattle.std.proofs.lemmas.Grind.{common_steps}
 use Rattle.std.proofs.lemmas.List.{drop_all}
 use Rattle.std.proofs.lemmas.Option.{none-some}
-use Rattle.std.specs.FinMap.{get}
+use Rattle.std.specs.FinMap.{get, len}
 use Rattle.bcast_model.specs.declared.run.Call.TheVariants as call
 use Rattle.bcast_model.specs.declared.run.Reply.TheVariants as reply
 use Rattle.bcast_model.specs.Words.{cursor_of, with_cursor, has_no_receiver, clone_receiver, sets}
@@ -69,7 +69,7 @@ module _ {T : Type 0} where
       let some = len_some u.control.cursors key number (inserted v.control.cursors key number) in
       record {
         reads = reads_from v key number log low;
-        room = record { is_open = refl; receivers = ne_eqb _ _ (λ e. omega (arith, some, e)); queue = grind (arith, common_steps, append-nil, length-drop); capacity = refl; end = omega arith };
+        room = record { is_open = refl; receivers = ne_eqb (len u.control.cursors) 0 (λ e. omega (arith, some, e)); queue = grind (arith, common_steps, append-nil, length-drop); capacity = refl; end = omega arith };
       }
 
   added : {v w : View T} {key number : ℕ} (start : List T) → Adds v w key number → IsFresh v key → drop (number - v.front) v.queue ≡ start → IsAdded v w key start

@@ -1,7 +1,7 @@
 -- Sends for which there is room.
 use Rattle.std.proofs.Common.{◌≡◌, ℕ, ◌+◌, ◌==◌, ◌≤◌, ◌<◌, ◌^◌, true, false, [], ◌∷◌, length, Option, Result, Ok, Err, refl, sym, ap, ◌∙◌, subst, arith, length-append, true≢false, is_ok, ne_eqb}
 use Rattle.std.proofs.lemmas.Grind.{common_steps}
-use Rattle.std.specs.FinMap.{empty}
+use Rattle.std.specs.FinMap.{empty, len}
 use Rattle.bcast_model.specs.declared.run.Call.TheVariants as call
 use Rattle.bcast_model.specs.declared.run.Reply.TheVariants as reply
 use Rattle.bcast_model.specs.Words.{has_no_receiver, last_end, TrySendError}
@@ -28,7 +28,7 @@ module _ {T : Type 0} where
       let has : HasRoom u capacity = record {
         log = record { overflow = refl; reach = λ reader cursor e. omega (arith, high) };
         is_open = refl;
-        receivers = ne_eqb _ _ (λ e. omega (arith, some, e));
+        receivers = ne_eqb (len u.control.cursors) 0 (λ e. omega (arith, some, e));
         room = omega (arith, end);
         numbers = omega (arith, few);
       } in
