@@ -2,7 +2,9 @@
 use Rattle.std.proofs.Common.{◌≡◌, ℕ, List, [], ◌∷◌, length, drop, refl, ap, ◌∙◌, subst}
 use Rattle.std.specs.Prelude.{⊤}
 use Rattle.std.proofs.Math.Seq.{drop-append_seam}
-use Rattle.bcast_model.specs.Words.{Call, Reply, Answers, IsPossible, View}
+use Rattle.bcast_model.specs.declared.run.Call.{Call}
+use Rattle.bcast_model.specs.declared.run.Reply.{Reply}
+use Rattle.bcast_model.specs.Words.{Answers, IsPossible, View}
 use Rattle.bcast_model.proofs.Answers.{possible}
 use Rattle.bcast_core.specs.Batch.{ReceivesEach, ReceivesInto}
 use Rattle.async_broadcast.specs.Batch.{Receives}

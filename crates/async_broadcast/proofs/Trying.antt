@@ -1,6 +1,7 @@
 -- Tries of one call, each of which had to wait.
 use Rattle.std.proofs.Common.{◌≡◌, ◌⊎◌, inl, inr, ℕ, false, Option, Some, None, IfSome, sym, subst}
-use Rattle.bcast_model.specs.Words.{Call, Reply}
+use Rattle.bcast_model.specs.declared.run.Call.{Call}
+use Rattle.bcast_model.specs.declared.run.Reply.{Reply}
 use Rattle.async_broadcast.specs.Ports.{is_answer}
 
 module _ {K T : Type 0} (learns : K → Call T → Reply T → K → Type 0) where

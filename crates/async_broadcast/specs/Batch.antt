@@ -6,7 +6,10 @@ use Rattle.futures.specs.declared.task.Poll.TheVariants as poll
 use Rattle.bcast_model.specs.declared.run.Call.TheVariants as call
 use Rattle.bcast_model.specs.declared.run.Reply.TheVariants as reply
 use Rattle.bcast_core.specs.Batch.{ReceivesInto}
-use Rattle.bcast_model.specs.Words.{RecvError, Call, Reply, Found}
+use Rattle.bcast_model.specs.declared.error.RecvError.{RecvError}
+use Rattle.bcast_model.specs.declared.run.Call.{Call}
+use Rattle.bcast_model.specs.declared.run.Reply.{Reply}
+use Rattle.bcast_model.specs.Words.{Found}
 
 -- so many `try_recv`s in a row, each of which gave a message that was put last into a list
 abbrev pub Receives : {T : Type 0} → (Call T → Reply T → Type 0) → ℕ → List T → ℕ → List T → Type 0

@@ -8,7 +8,9 @@ use Rattle.bcast_model.specs.declared.error.SendError.{SendError}
 use Rattle.bcast_model.specs.declared.run.SendPoll.TheVariants as send
 use Rattle.bcast_model.specs.declared.run.Call.TheVariants as call
 use Rattle.bcast_model.specs.declared.run.Reply.TheVariants as reply
-use Rattle.bcast_model.specs.Words.{RecvError, Call, Reply}
+use Rattle.bcast_model.specs.declared.error.RecvError.{RecvError}
+use Rattle.bcast_model.specs.declared.run.Call.{Call}
+use Rattle.bcast_model.specs.declared.run.Reply.{Reply}
 
 -- what a contract sees of a task's waker between polls
 pub record TaskWaker : Type 0 where

@@ -5,7 +5,11 @@ use Rattle.bcast_model.specs.declared.error.TrySendError.TheVariants as unsent
 use Rattle.bcast_model.specs.declared.run.SendPoll.TheVariants as send
 use Rattle.bcast_model.specs.declared.run.Call.TheVariants as call
 use Rattle.bcast_model.specs.declared.run.Reply.TheVariants as reply
-use Rattle.bcast_model.specs.Words.{TryRecvError, HandleError, Call, Reply, Cursors, View, view_of}
+use Rattle.bcast_model.specs.declared.error.TryRecvError.{TryRecvError}
+use Rattle.bcast_model.specs.declared.error.HandleError.{HandleError}
+use Rattle.bcast_model.specs.declared.run.Call.{Call}
+use Rattle.bcast_model.specs.declared.run.Reply.{Reply}
+use Rattle.bcast_model.specs.Words.{Cursors, View, view_of}
 use Rattle.bcast_model.specs.Words.{has_no_receiver, has_place, cursor_of, skipped_to, Legal}
 use Rattle.bcast_model.specs.Words.{skipped_count, reply_to_attempt, attempt_send_reply, worded}
 use Rattle.bcast_model.specs.Words.{future_reply, stream_reply, next_reply, IsReceivedBy, IsMade}

@@ -6,7 +6,10 @@ use Rattle.bcast_model.specs.declared.error.TryRecvError.TheVariants as unread
 use Rattle.bcast_model.specs.declared.run.SendPoll.TheVariants as send
 use Rattle.bcast_model.specs.declared.run.Call.TheVariants as call
 use Rattle.bcast_model.specs.declared.run.Reply.TheVariants as reply
-use Rattle.bcast_model.specs.Words.{RecvError, Call, Reply, View, IsShown, Found}
+use Rattle.bcast_model.specs.declared.error.RecvError.{RecvError}
+use Rattle.bcast_model.specs.declared.run.Call.{Call}
+use Rattle.bcast_model.specs.declared.run.Reply.{Reply}
+use Rattle.bcast_model.specs.Words.{View, IsShown, Found}
 use Rattle.bcast_core.specs.declared.snapshot.Snapshot.{Snapshot}
 use Rattle.bcast_core.specs.Snapshot.{Shows}
 

@@ -9,7 +9,9 @@ use Rattle.async_broadcast.specs.declared.timed.SendTimeoutError.{SendTimeoutErr
 use Rattle.async_broadcast.specs.declared.timed.SendTimeoutError.TheVariants as timed_send
 use Rattle.async_broadcast.specs.declared.timed.RecvTimeoutError.{RecvTimeoutError}
 use Rattle.async_broadcast.specs.declared.timed.RecvTimeoutError.TheVariants as timed_receive
-use Rattle.bcast_model.specs.Words.{RecvError, SendPoll, Found}
+use Rattle.bcast_model.specs.declared.error.RecvError.{RecvError}
+use Rattle.bcast_model.specs.declared.run.SendPoll.{SendPoll}
+use Rattle.bcast_model.specs.Words.{Found}
 
 module _ {T : Type 0} where
   -- `broadcast_timeout`: its result, as the last try returned it, which must wait at the limit

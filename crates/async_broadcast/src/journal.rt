@@ -1,6 +1,8 @@
 //! The journal that a lock may keep of the calls on its channel.
 ghost use Rattle.std.specs.Prelude.{◌≡◌, ⊤, ℕ, Ok, false, IfSome};
-ghost use Rattle.bcast_model.specs.Words.{Call, Reply, Answers, HasPositiveCapacity, View};
+ghost use Rattle.bcast_model.specs.declared.run.Call.{Call};
+ghost use Rattle.bcast_model.specs.declared.run.Reply.{Reply};
+ghost use Rattle.bcast_model.specs.Words.{Answers, HasPositiveCapacity, View};
 ghost use Rattle.bcast_core.specs.Batch.{ReceivesEach};
 ghost use Rattle.bcast_core.specs.Calls.{receiver_call, receiver_reply};
 ghost use Rattle.async_broadcast.specs.Ports.{is_answer, moved_by};

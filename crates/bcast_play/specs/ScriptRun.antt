@@ -3,8 +3,10 @@ use Rattle.std.specs.Prelude.{◌≡◌, ◌≢◌, ◌<◌, ◌⊎◌, ℕ, min
 use Rattle.std.specs.Map.{update}
 use Rattle.bcast_model.specs.declared.run.Call.TheVariants as call
 use Rattle.bcast_model.specs.declared.run.Reply.TheVariants as reply
-use Rattle.bcast_model.specs.Words.{View, opening, unread, Answers, Represents, NoClone, Call}
-use Rattle.bcast_model.specs.Words.{TryRecvError, Reply}
+use Rattle.bcast_model.specs.declared.run.Call.{Call}
+use Rattle.bcast_model.specs.Words.{View, opening, unread, Answers, Represents, NoClone}
+use Rattle.bcast_model.specs.declared.error.TryRecvError.{TryRecvError}
+use Rattle.bcast_model.specs.declared.run.Reply.{Reply}
 use Rattle.bcast_core.specs.Batch.{ReceivesEach}
 use Rattle.bcast_text.specs.declared.script.line.Line.{Line}
 use Rattle.bcast_text.specs.declared.script.line.Line.TheVariants.{Cap}

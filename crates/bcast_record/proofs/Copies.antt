@@ -4,8 +4,10 @@ use Rattle.std.proofs.lemmas.List.{map_push, take_more}
 use Rattle.bcast_model.specs.declared.error.TrySendError.TheVariants as unsent
 use Rattle.bcast_model.specs.declared.run.Call.TheVariants as call
 use Rattle.bcast_model.specs.declared.run.Reply.TheVariants as reply
-use Rattle.bcast_model.specs.Words.{has_no_receiver, View, free_room, Legal, Answers, worded, Call}
-use Rattle.bcast_model.specs.Words.{cursor_of, skipped_to, skipped_count, future_reply, Reply}
+use Rattle.bcast_model.specs.declared.run.Call.{Call}
+use Rattle.bcast_model.specs.Words.{has_no_receiver, View, free_room, Legal, Answers, worded}
+use Rattle.bcast_model.specs.declared.run.Reply.{Reply}
+use Rattle.bcast_model.specs.Words.{cursor_of, skipped_to, skipped_count, future_reply}
 use Rattle.bcast_model.specs.Words.{stream_reply, next_reply}
 use Rattle.bcast_record.specs.declared.entry.Entry.{Entry}
 use Rattle.bcast_model.proofs.Cases.{made_is, received_is}

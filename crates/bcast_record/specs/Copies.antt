@@ -1,6 +1,8 @@
 -- The list of messages that a copy of a call or of its reply needs. No public clause names this.
 use Rattle.std.specs.Prelude.{◌≡◌, List, Option, Some, None, Err}
-use Rattle.bcast_model.specs.Words.{Call, Reply, unsent_message}
+use Rattle.bcast_model.specs.declared.run.Call.{Call}
+use Rattle.bcast_model.specs.declared.run.Reply.{Reply}
+use Rattle.bcast_model.specs.Words.{unsent_message}
 use Rattle.bcast_model.specs.declared.run.Call.TheVariants as call
 use Rattle.bcast_model.specs.declared.run.Reply.TheVariants as reply
 

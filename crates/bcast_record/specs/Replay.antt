@@ -1,7 +1,8 @@
 -- The recorded history replays.
 use Rattle.std.specs.Prelude.{◌<◌, List, map}
 use Rattle.std.specs.List.{AllByRecursion}
-use Rattle.bcast_model.specs.Words.{HasPositiveCapacity, View, Call}
+use Rattle.bcast_model.specs.declared.run.Call.{Call}
+use Rattle.bcast_model.specs.Words.{HasPositiveCapacity, View}
 use Rattle.bcast_history.specs.declared.step.Step.{Step}
 use Rattle.bcast_history.specs.History as history
 use Rattle.bcast_record.specs.Recording.{Recording}

@@ -1,7 +1,8 @@
 -- The call that each line asks for, and the names in use after it.
 use Rattle.std.specs.Prelude.{ℕ, List, Option, Some, None, is_some, option_map, Ok, if◌then◌else◌, bytes_eq}
 use Rattle.std.specs.Map.{update}
-use Rattle.bcast_model.specs.Words.{Call, Reply}
+use Rattle.bcast_model.specs.declared.run.Call.{Call}
+use Rattle.bcast_model.specs.declared.run.Reply.{Reply}
 use Rattle.bcast_model.specs.declared.run.Call.TheVariants as call
 use Rattle.bcast_model.specs.declared.run.Reply.TheVariants as reply
 use Rattle.bcast_text.specs.declared.script.line.Line.{Line}

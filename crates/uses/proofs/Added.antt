@@ -7,7 +7,9 @@ use Rattle.std.specs.FinMap.{get, len}
 use Rattle.bcast_model.specs.declared.run.Call.TheVariants as call
 use Rattle.bcast_model.specs.declared.run.Reply.TheVariants as reply
 use Rattle.bcast_model.specs.Words.{cursor_of, with_cursor, has_no_receiver, clone_receiver, sets}
-use Rattle.bcast_model.specs.Words.{settle, View, Answers, Reply, HandleError, IsMadeFrom}
+use Rattle.bcast_model.specs.declared.run.Reply.{Reply}
+use Rattle.bcast_model.specs.declared.error.HandleError.{HandleError}
+use Rattle.bcast_model.specs.Words.{settle, View, Answers, IsMadeFrom}
 use Rattle.bcast_model.proofs.Cases.{made_is}
 use Rattle.bcast_model.proofs.Least.{len_some}
 use Rattle.bcast_core.proofs.Settle.{inserted}

@@ -5,7 +5,9 @@ use Rattle.std.specs.Ordering.{nat_cmp, eq_by_cmp}
 use Rattle.std.specs.Cmp.{nat_cmp_total}
 use Rattle.std.specs.FinMap.{get, insert, get-insert}
 use Rattle.bcast_model.specs.Words.{Cursors, tell_a_sender, sets, effect, settle, may_tell, tell_if_ready}
-use Rattle.bcast_model.specs.Words.{View, sends_are_ready, Answers, IsValidView, Call, Reply}
+use Rattle.bcast_model.specs.declared.run.Call.{Call}
+use Rattle.bcast_model.specs.declared.run.Reply.{Reply}
+use Rattle.bcast_model.specs.Words.{View, sends_are_ready, Answers, IsValidView}
 use Rattle.bcast_model.proofs.Answers.{shown_after}
 use Rattle.bcast_model.proofs.Cases.{test_is}
 use Rattle.bcast_model.proofs.Steps.{steps}

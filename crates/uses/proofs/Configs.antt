@@ -9,7 +9,9 @@ use Rattle.bcast_model.specs.declared.run.Call.TheVariants as call
 use Rattle.bcast_model.specs.declared.run.Reply.TheVariants as reply
 use Rattle.bcast_model.specs.Words.{least, sets, listens, accept, settle, View, is_full, Answers}
 use Rattle.bcast_model.specs.Words.{stream_of, Control, cursor_of, accepting, receive, skipped_to}
-use Rattle.bcast_model.specs.Words.{with_cursor, pair_waits, HandleError, IsValidView, TrySendError}
+use Rattle.bcast_model.specs.declared.error.HandleError.{HandleError}
+use Rattle.bcast_model.specs.declared.error.TrySendError.{TrySendError}
+use Rattle.bcast_model.specs.Words.{with_cursor, pair_waits, IsValidView}
 use Rattle.bcast_model.specs.Words.{pair_answered, is_empty_reply, try_recv_reply, tell_a_sender}
 use Rattle.bcast_model.proofs.Cases.{receive_is, test_is}
 use Rattle.bcast_model.proofs.Least.{least-le-cursor, len_insert}

@@ -1,6 +1,8 @@
 -- What a receive gives: what it found, or a clone of it.
 use Rattle.std.proofs.Common.{◌≡◌, ◌≢◌, inl, inr, ℕ, Option, Result, Ok, Err, alloc_error, refl, sym, ap, ◌∙◌}
-use Rattle.bcast_model.specs.Words.{Found, IsReceivedBy, View, try_recv_reply, TryRecvError, Reply}
+use Rattle.bcast_model.specs.declared.error.TryRecvError.{TryRecvError}
+use Rattle.bcast_model.specs.declared.run.Reply.{Reply}
+use Rattle.bcast_model.specs.Words.{Found, IsReceivedBy, View, try_recv_reply}
 use Rattle.bcast_model.specs.Words.{ClonesEqual}
 use Rattle.bcast_model.proofs.DeliveryAnswers.{IsAnswer}
 

@@ -5,9 +5,11 @@ use Rattle.std.proofs.lemmas.Option.{slice_get_cases, slice_get_past}
 use Rattle.std.specs.FinMap.{get}
 use Rattle.bcast_model.specs.declared.run.Call.TheVariants as call
 use Rattle.bcast_model.specs.declared.run.Reply.TheVariants as reply
-use Rattle.bcast_model.specs.Words.{Found, Control, cursor_of, with_cursor, sets, HandleError}
+use Rattle.bcast_model.specs.declared.error.HandleError.{HandleError}
+use Rattle.bcast_model.specs.Words.{Found, Control, cursor_of, with_cursor, sets}
 use Rattle.bcast_model.specs.Words.{recv_reply, receive, try_recv_reply, ClonesEqual, settle, View}
-use Rattle.bcast_model.specs.Words.{kept_at, Answers, IsValidView, TryRecvError}
+use Rattle.bcast_model.specs.declared.error.TryRecvError.{TryRecvError}
+use Rattle.bcast_model.specs.Words.{kept_at, Answers, IsValidView}
 use Rattle.bcast_model.proofs.Cases.{receive_is, uncloned, passed_reply}
 use Rattle.bcast_model.proofs.Clones.{answers_exact}
 use Rattle.bcast_core.proofs.Settle.{settle_same}

@@ -6,7 +6,8 @@ use Rattle.bcast_model.specs.declared.error.TryRecvError.TheVariants as unread
 use Rattle.bcast_model.specs.declared.run.Call.TheVariants as call
 use Rattle.bcast_model.specs.declared.run.Reply.TheVariants as reply
 use Rattle.bcast_model.specs.Words.{cursor_of, recv_reply, skipped_count, skipped_to, next_reply}
-use Rattle.bcast_model.specs.Words.{worded, IsGiven, IsReceivedBy, View, kept_at, TryRecvError}
+use Rattle.bcast_model.specs.declared.error.TryRecvError.{TryRecvError}
+use Rattle.bcast_model.specs.Words.{worded, IsGiven, IsReceivedBy, View, kept_at}
 use Rattle.bcast_model.specs.Words.{Answers, IsValidView}
 use Rattle.bcast_model.proofs.Cases.{passed_reply}
 use Rattle.bcast_model.proofs.DeliveryAnswers.{IsAnswer}

@@ -4,7 +4,8 @@ use Rattle.std.proofs.lemmas.Grind.{common_steps}
 use Rattle.std.specs.FinMap.{empty, len}
 use Rattle.bcast_model.specs.declared.run.Call.TheVariants as call
 use Rattle.bcast_model.specs.declared.run.Reply.TheVariants as reply
-use Rattle.bcast_model.specs.Words.{has_no_receiver, last_end, TrySendError}
+use Rattle.bcast_model.specs.declared.error.TrySendError.{TrySendError}
+use Rattle.bcast_model.specs.Words.{has_no_receiver, last_end}
 use Rattle.bcast_model.specs.Words.{opening, view_of, try_broadcast_reply, with_message, IsValid}
 use Rattle.bcast_model.specs.Words.{View, Answers, Represents}
 use Rattle.bcast_model.proofs.Least.{len_some}

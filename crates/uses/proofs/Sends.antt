@@ -3,7 +3,8 @@ use Rattle.std.proofs.Common.{◌≡◌, ◌∷◌, ◌++◌, [], ◌+◌, ◌&&
 use Rattle.bcast_model.specs.declared.run.Call.TheVariants as call
 use Rattle.bcast_model.specs.declared.run.Reply.TheVariants as reply
 use Rattle.bcast_model.specs.Words.{has_no_receiver, handed_back, sets, try_broadcast_reply, accept}
-use Rattle.bcast_model.specs.Words.{settle, with_message, View, is_full, Answers, TrySendError}
+use Rattle.bcast_model.specs.declared.error.TrySendError.{TrySendError}
+use Rattle.bcast_model.specs.Words.{settle, with_message, View, is_full, Answers}
 use Rattle.bcast_model.proofs.Cases.{try_is}
 use Rattle.bcast_core.proofs.Offers.{offer_accepted}
 use Rattle.uses.proofs.Called.{told, valid, after}

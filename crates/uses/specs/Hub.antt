@@ -4,7 +4,8 @@ use Rattle.std.specs.Result.{result_ok}
 use Rattle.std.specs.FinMap.{len}
 use Rattle.bcast_model.specs.declared.run.Call.TheVariants as call
 use Rattle.bcast_model.specs.declared.run.Reply.TheVariants as reply
-use Rattle.bcast_model.specs.Words.{View, opening, NoClone, Answers, Represents, TryRecvError}
+use Rattle.bcast_model.specs.declared.error.TryRecvError.{TryRecvError}
+use Rattle.bcast_model.specs.Words.{View, opening, NoClone, Answers, Represents}
 
 module _ {E : Type 0} where
   -- a full hub refuses, and the hub itself has a sender and an inactive receiver, which keep the

@@ -3,7 +3,9 @@ use Rattle.std.specs.Prelude.{◌≡◌, ℕ, ◌+◌, ◌^◌, ◌<◌, ◌≤�
 use Rattle.bcast_model.specs.declared.run.Call.TheVariants as call
 use Rattle.bcast_model.specs.declared.run.Reply.TheVariants as reply
 use Rattle.bcast_model.specs.Words.{has_no_receiver, opening, NoClone, ClonesEqual, IsValid, View}
-use Rattle.bcast_model.specs.Words.{Answers, Represents, TryRecvError, TrySendError}
+use Rattle.bcast_model.specs.declared.error.TryRecvError.{TryRecvError}
+use Rattle.bcast_model.specs.declared.error.TrySendError.{TrySendError}
+use Rattle.bcast_model.specs.Words.{Answers, Represents}
 use Rattle.uses.specs.Log.{unread, record_of, IsReader, IsLog, KeepsReaders, AddsUnread, KeepsUnread}
 
 module _ {T : Type 0} where

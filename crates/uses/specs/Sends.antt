@@ -1,7 +1,8 @@
 -- What a send returns if nothing overflows.
 use Rattle.std.specs.Prelude.{◌==◌, if◌then◌else◌, length, Option, None, Result, Ok, Err}
 use Rattle.bcast_model.specs.declared.error.TrySendError.TheVariants as unsent
-use Rattle.bcast_model.specs.Words.{has_no_receiver, View, TrySendError}
+use Rattle.bcast_model.specs.declared.error.TrySendError.{TrySendError}
+use Rattle.bcast_model.specs.Words.{has_no_receiver, View}
 
 module _ {T : Type 0} where
   -- `try_broadcast`: the first of its reasons to refuse that holds, or none
