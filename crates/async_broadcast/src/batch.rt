@@ -8,7 +8,7 @@ ghost use Rattle.async_broadcast.specs.Ports.{as_try_recv};
 ghost use Rattle.async_broadcast.specs.Timed.{as_timed_try};
 
 use crate::port::{Port, TimedPort};
-use crate::receiver::{Received, Receiver};
+use crate::receiver::{Receiver, RecvResult};
 use crate::timed::RecvTimeoutError;
 use bcast_core::{RecvError, TryRecvError};
 use futures::task::{Context, Poll};
@@ -50,7 +50,7 @@ impl<T: Clone, P: Port<T>, A: Allocator + Copy> Receiver<T, P, A> {
         &mut self,
         limit: usize,
         msgs: &mut Vec<T, B>,
-    ) -> Received<usize, TryRecvError>
+    ) -> RecvResult<usize, TryRecvError>
         ensures received { ReceivesMany (P.gave self.old.port) (λ tried. tried)
             self.old.role.key limit msgs.old.items result msgs.new.items }
         ensures same { self.new ≡ self.old }
@@ -81,7 +81,7 @@ impl<T: Clone, P: Port<T>, A: Allocator + Copy> Receiver<T, P, A> {
         &mut self,
         limit: usize,
         msgs: &mut Vec<T, B>,
-    ) -> Received<usize, RecvError>
+    ) -> RecvResult<usize, RecvError>
         ensures received { ReceivesMany (P.gave self.old.port) as_try_recv
             self.old.role.key limit msgs.old.items result msgs.new.items }
         ensures same { self.new ≡ self.old }
@@ -170,7 +170,7 @@ impl<T: Clone, P: TimedPort<T>, A: Allocator + Copy> Receiver<T, P, A> {
         limit: usize,
         msgs: &mut Vec<T, B>,
         time: Duration,
-    ) -> Received<usize, RecvTimeoutError>
+    ) -> RecvResult<usize, RecvTimeoutError>
         ensures received { ReceivesMany (P.gave self.old.port) as_timed_try
             self.old.role.key limit msgs.old.items result msgs.new.items }
         ensures same { self.new ≡ self.old }
@@ -210,9 +210,9 @@ fn receive_kept<T: Clone, P: Port<T>, B: Allocator>(
 /// messages these are: 1, or what the receive returned in place of a message. It is for receivers
 /// over ports, as `TrackedReceiver` of `bcast_history`.
 pub fn put_last<T, E, B: Allocator>(
-    received: Received<T, E>,
+    received: RecvResult<T, E>,
     msgs: &mut Vec<T, B>,
-) -> Received<usize, E>
+) -> RecvResult<usize, E>
     requires { vec_len msgs.old < vec_capacity msgs.old }
     ensures { PutsLast received msgs.old.items result msgs.new.items }
 {

@@ -8,7 +8,7 @@ ghost use Rattle.async_broadcast.specs.Ports.{as_try_recv};
 ghost use Rattle.async_broadcast.specs.Timed.{as_received, IsNoEnd, EndsLoop};
 
 use crate::port::Port;
-use crate::receiver::{Received, Receiver};
+use crate::receiver::{Receiver, RecvResult};
 use bcast_core::{RecvError, TryRecvError};
 use std::alloc::{Allocator, Global};
 use std::sync::{Forever, Wait};
@@ -82,7 +82,7 @@ impl<T: Clone, P: Port<T>, A: Allocator + Copy> Receiver<T, P, A> {
 }
 
 impl<T: Clone, P: Port<T>, R: Wait, A: Allocator + Copy> Iterator for Iter<'_, T, P, R, A> {
-    type Item = Received<T, RecvError>;
+    type Item = RecvResult<T, RecvError>;
 
     ghost next_gives = { λ old item new. (new.receiver.now ≡ old.receiver.now) × IfSome item IsNoEnd
         × P.gave old.receiver.now.port (call.TryRecv old.receiver.now.role.key)
@@ -90,7 +90,7 @@ impl<T: Clone, P: Port<T>, R: Wait, A: Allocator + Copy> Iterator for Iter<'_, T
 
     ghost remaining = { λ iter. at_most (forever_left iter.turns) };
 
-    fn next(&mut self) -> Option<Received<T, RecvError>> {
+    fn next(&mut self) -> Option<RecvResult<T, RecvError>> {
         self.turns.next();
         match self.receiver.recv_blocking() {
             Ok(Err(RecvError::Closed)) => None,
@@ -115,7 +115,7 @@ pub struct TryIter<'a, T: Clone, P: Port<T>, A: Allocator = Global> {
 }
 
 impl<T: Clone, P: Port<T>, A: Allocator + Copy> Iterator for TryIter<'_, T, P, A> {
-    type Item = Received<T, RecvError>;
+    type Item = RecvResult<T, RecvError>;
 
     ghost next_gives = { λ old item new. (new.receiver.now ≡ old.receiver.now)
         × (new.turns ≡ old.turns - 1)
@@ -127,7 +127,7 @@ impl<T: Clone, P: Port<T>, A: Allocator + Copy> Iterator for TryIter<'_, T, P, A
 
     ghost remaining = { λ iter. at_most iter.turns };
 
-    fn next(&mut self) -> Option<Received<T, RecvError>> {
+    fn next(&mut self) -> Option<RecvResult<T, RecvError>> {
         self.turns = self.turns.checked_sub(1)?;
         match self.receiver.try_recv() {
             Ok(Ok(msg)) => Some(Ok(Ok(msg))),

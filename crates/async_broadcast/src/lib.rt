@@ -46,7 +46,7 @@ pub use iter::{Iter, TryIter};
 pub use journal::{CallJournal, NoJournal};
 pub use lock::{Lock, LockInactiveReceiver, LockReceiver, LockSender, broadcast};
 pub use port::{Ask, Caller, Port, PortFor, TimedPort, TimedPortFor};
-pub use receiver::{Received, Receiver, Receiving};
+pub use receiver::{Receiver, Receiving, RecvResult};
 pub use sender::{Sender, Sending};
 pub use timed::{RecvTimeoutError, SendTimeoutError};
 pub use wake::{TaskWaker, Wake};

@@ -5,7 +5,7 @@ ghost use Rattle.async_broadcast.specs.Ports.{ShowsSomeState};
 use crate::inactive::InactiveReceiver;
 use crate::journal::{CallJournal, NoJournal};
 use crate::port::{PortFor, TimedPortFor};
-use crate::receiver::{Received, Receiver};
+use crate::receiver::{Receiver, RecvResult};
 use crate::sender::Sender;
 use crate::timed::{RecvTimeoutError, SendTimeoutError};
 use crate::wake::Wake;
@@ -151,7 +151,7 @@ impl<T: Clone, R: Wait + Clone, A: Allocator + Copy, J: CallJournal<T>> PortFor<
         answer_of_send(self.make_until(caller, &Sends, AttemptSend(msg), &NoLimit))
     }
 
-    fn receive_waiting(&self, caller: &mut J::Caller, key: usize) -> Received<T, RecvError> {
+    fn receive_waiting(&self, caller: &mut J::Caller, key: usize) -> RecvResult<T, RecvError> {
         answer_of_receive(self.make_until(caller, &Receives { key }, TryRecv(key), &NoLimit))
     }
 
@@ -207,7 +207,7 @@ impl<T: Clone, R: Wait + Clone + Clock, A: Allocator + Copy, J: CallJournal<T>> 
         caller: &mut J::Caller,
         key: usize,
         limit: Duration,
-    ) -> Received<T, RecvTimeoutError> {
+    ) -> RecvResult<T, RecvTimeoutError> {
         let limit = TimeLimit::from_now(&self.rt, limit);
         received_in_time(self.make_until(caller, &Receives { key }, TryRecv(key), &limit))
     }

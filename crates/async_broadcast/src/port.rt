@@ -7,7 +7,7 @@ ghost use Rattle.bcast_core.specs.Batch.{ReceivesInto};
 ghost use Rattle.async_broadcast.specs.Ports.{Gives, IsSame, as_try_recv, moved_by};
 ghost use Rattle.async_broadcast.specs.Timed.{as_attempt, as_timed_try};
 
-use crate::receiver::Received;
+use crate::receiver::RecvResult;
 use crate::timed::{RecvTimeoutError, SendTimeoutError};
 use crate::wake::{TaskWaker, Wake};
 use bcast_core::{AtOnce, Call, Change, Polls, RecvError, Reply, SendError, SendPoll};
@@ -114,7 +114,7 @@ pub trait PortFor<T: Clone, K: Caller>: Ask<T, K> {
             (Reply.AttemptSend (SendPoll.Ready result)) caller.new };
 
     /// Makes a `TryRecv` again and again, and waits between, until it doesn't find `Empty`.
-    fn receive_waiting(&self, caller: &mut K, key: usize) -> Received<T, RecvError>
+    fn receive_waiting(&self, caller: &mut K, key: usize) -> RecvResult<T, RecvError>
         requires moves { K.moves caller.old key }
         ensures gave { Self.gave self.now (Call.TryRecv key) (Reply.TryRecv (as_try_recv result)) }
         ensures learned { Self.learns caller.old (Call.TryRecv key)
@@ -168,7 +168,7 @@ pub trait TimedPortFor<T: Clone, K: Caller>: PortFor<T, K> {
         caller: &mut K,
         key: usize,
         limit: Duration,
-    ) -> Received<T, RecvTimeoutError>
+    ) -> RecvResult<T, RecvTimeoutError>
         requires moves { K.moves caller.old key }
         ensures gave { Self.gave self.now (Call.TryRecv key) (Reply.TryRecv (as_timed_try result)) }
         ensures learned { Self.learns caller.old (Call.TryRecv key)

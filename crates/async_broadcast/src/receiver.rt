@@ -39,7 +39,7 @@ use std::alloc::{AllocError, Allocator, Global};
 pub type Receiver<T, P, A = Global> = Handle<T, P, Receiving, A>;
 
 /// What a receive returns: a message, or how many, or why there is none; or memory was refused.
-pub type Received<T, E> = Result<Result<T, E>, AllocError>;
+pub type RecvResult<T, E> = Result<Result<T, E>, AllocError>;
 
 /// The role of a `Receiver`.
 #[derive(Drop)]
@@ -96,7 +96,7 @@ impl<T: Clone, P: Port<T>, A: Allocator + Copy> Receiver<T, P, A> {
     ///
     /// Source: `Receiver::try_recv` of async-broadcast 0.7.2, which never refuses for memory.
     #[inline(always)]
-    pub fn try_recv(&mut self) -> Received<T, TryRecvError>
+    pub fn try_recv(&mut self) -> RecvResult<T, TryRecvError>
         ensures asked { P.gave self.old.port (Call.TryRecv self.old.role.key)
             (Reply.TryRecv result) }
         ensures same { self.new ≡ self.old }
@@ -123,7 +123,7 @@ impl<T: Clone, P: Port<T>, A: Allocator + Copy> Receiver<T, P, A> {
     /// ```
     ///
     /// Source: `Receiver::recv_blocking` of async-broadcast 0.7.2, which never refuses for memory.
-    pub fn recv_blocking(&mut self) -> Received<T, RecvError>
+    pub fn recv_blocking(&mut self) -> RecvResult<T, RecvError>
         ensures asked { P.gave self.old.port (Call.TryRecv self.old.role.key)
             (Reply.TryRecv (as_try_recv result)) }
         ensures same { self.new ≡ self.old }

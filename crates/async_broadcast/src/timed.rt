@@ -5,7 +5,7 @@ ghost use Rattle.async_broadcast.specs.Timed.{send_timeout_text, send_timeout_de
 ghost use Rattle.async_broadcast.specs.Timed.{recv_timeout_text};
 
 use crate::port::TimedPort;
-use crate::receiver::{Received, Receiver};
+use crate::receiver::{Receiver, RecvResult};
 use crate::sender::Sender;
 use bcast_core::{Call, Reply};
 use std::alloc::Allocator;
@@ -77,7 +77,7 @@ impl<T: Clone, P: TimedPort<T>, A: Allocator + Copy> Receiver<T, P, A> {
     /// let ended = receiver.recv_timeout(limit);
     /// assert!(&rt; matches!(ended, Ok(Err(RecvTimeoutError::Closed))));
     /// ```
-    pub fn recv_timeout(&mut self, limit: Duration) -> Received<T, RecvTimeoutError>
+    pub fn recv_timeout(&mut self, limit: Duration) -> RecvResult<T, RecvTimeoutError>
         ensures asked { P.gave self.old.port (Call.TryRecv self.old.role.key)
             (Reply.TryRecv (as_timed_try result)) }
         ensures same { self.new ≡ self.old }

@@ -6,7 +6,7 @@ ghost use Rattle.async_broadcast.specs.Futures.{GivesReceived};
 
 use crate::handle::Handle;
 use crate::port::Ask;
-use crate::receiver::{Received, Receiver, Receiving};
+use crate::receiver::{Receiver, Receiving, RecvResult};
 use bcast_core::{Call, PollFuture, PollRecv, RecvError, Reply};
 use futures::Future;
 use futures::task::{Context, Poll};
@@ -143,11 +143,11 @@ impl<T: Clone, P: Ask<T, ()>, A: Allocator> Drop for Recv<'_, T, P, A> {
 }
 
 impl<T: Clone, P: Ask<T, ()>, A: Allocator + Copy> Future for Recv<'_, T, P, A> {
-    type Output = Received<T, RecvError>;
+    type Output = RecvResult<T, RecvError>;
 
     ghost gives = { λ r. GivesReceived P.gave r.receiver.now.port r.receiver.now.role.key };
 
-    fn poll(&mut self, cx: &mut Context<'_>) -> Poll<Received<T, RecvError>>
+    fn poll(&mut self, cx: &mut Context<'_>) -> Poll<RecvResult<T, RecvError>>
         ensures value { IfReady result
             (GivesReceived P.gave self.old.receiver.now.port self.old.receiver.now.role.key) }
         ensures again { OnPending result ⊤ }

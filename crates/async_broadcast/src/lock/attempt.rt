@@ -5,7 +5,7 @@ ghost use Rattle.async_broadcast.specs.Counted.{EndsWait};
 ghost use Rattle.async_broadcast.specs.Ports.{is_answer};
 
 use super::threads::{Side, Threads, WaitingThread};
-use crate::receiver::Received;
+use crate::receiver::RecvResult;
 use bcast_core::{AtOnce, AttemptSend, SendPoll, TryRecv, TryRecvError};
 use std::snapshot::Snapshot;
 
@@ -75,11 +75,11 @@ impl<T: Clone> Attempt<T, TryRecv> for Receives {
         Side::Receivers
     }
 
-    fn must_wait(&self, answer: &Received<T, TryRecvError>) -> bool {
+    fn must_wait(&self, answer: &RecvResult<T, TryRecvError>) -> bool {
         matches!(answer, Ok(Err(TryRecvError::Empty)))
     }
 
-    fn again(&self, _call: &Snapshot<TryRecv>, _answer: Received<T, TryRecvError>) -> TryRecv {
+    fn again(&self, _call: &Snapshot<TryRecv>, _answer: RecvResult<T, TryRecvError>) -> TryRecv {
         TryRecv(self.key)
     }
 }

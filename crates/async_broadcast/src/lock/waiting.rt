@@ -9,7 +9,7 @@ use super::attempt::Attempt;
 use super::channel::lock;
 use super::limit::Limit;
 use crate::journal::CallJournal;
-use crate::receiver::Received;
+use crate::receiver::RecvResult;
 use crate::timed::{RecvTimeoutError, SendTimeoutError};
 use bcast_core::{AtOnce, RecvError, Reply, SendError, SendPoll, TryRecvError};
 use std::alloc::Allocator;
@@ -114,7 +114,9 @@ pub(super) fn answer_of_send<T>(sent: SendPoll<T>) -> Result<Option<T>, SendErro
 }
 
 /// What a receive returned that found a message, or that there will be none.
-pub(super) fn answer_of_receive<T>(received: Received<T, TryRecvError>) -> Received<T, RecvError>
+pub(super) fn answer_of_receive<T>(
+    received: RecvResult<T, TryRecvError>,
+) -> RecvResult<T, RecvError>
     requires { is_answer (Reply.TryRecv received) ≡ true }
     ensures { as_try_recv result ≡ received }
 {
@@ -140,8 +142,8 @@ pub(super) fn sent_in_time<T>(sent: SendPoll<T>) -> Result<Option<T>, SendTimeou
 
 /// What a receive returned before its time was over, or that it is over.
 pub(super) fn received_in_time<T>(
-    received: Received<T, TryRecvError>,
-) -> Received<T, RecvTimeoutError>
+    received: RecvResult<T, TryRecvError>,
+) -> RecvResult<T, RecvTimeoutError>
     ensures { as_timed_try result ≡ received }
 {
     match received {
