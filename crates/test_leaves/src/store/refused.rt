@@ -66,12 +66,13 @@ fn with_receiver<T: Text, A: Allocator + Copy>(
     Ok((store, key))
 }
 
-// Two receivers read a message, with what memory there is. Returns whether there was some for more
-// room, and for the first one's clone. None: there was none for the store.
+// Two receivers read a message, with what memory there is; a failure prints `size`. Returns whether
+// there was some for more room, and for the first one's clone. None: there was none for the store.
 fn two_read<T: Text, A: Allocator + Copy>(
     rt: &impl Abort,
     alloc: A,
     msg: T,
+    size: usize,
 ) -> Result<Option<(bool, bool)>, AllocError> {
     let Ok((mut store, first)) = with_receiver(alloc) else {
         return Ok(None);
@@ -80,20 +81,21 @@ fn two_read<T: Text, A: Allocator + Copy>(
     let second = add(&mut store, 7)?;
     let grow = grow(&mut store);
     let read = reads(&mut store, first);
-    assert!(rt; grow.is_some() && read != Some(false) && store.len() == 1);
+    let mut is_right = grow.is_some() && read != Some(false) && store.len() == 1;
     if read.is_none() {
-        assert!(rt; store.cursor(first) == Some(7));
+        is_right &= store.cursor(first) == Some(7);
         store.remove(first);
     }
     // The last reader's read takes no memory.
-    assert!(rt; reads(&mut store, second) == Some(true) && store.front() == 8);
+    is_right &= reads(&mut store, second) == Some(true) && store.front() == 8;
+    assert!(rt; is_right, "{size}");
     Ok(Some((grow == Some(false), read.is_some())))
 }
 
 // As above, on a heap; an error if the heap has no memory even for the message.
-fn run(rt: &impl Abort, heap: &LocalHeap) -> Result<Option<(bool, bool)>, AllocError> {
+fn run(rt: &impl Abort, heap: &LocalHeap, size: usize) -> Result<Option<(bool, bool)>, AllocError> {
     let bytes = Vec::from_slice(heap, TEXT.as_slice())?;
-    two_read(rt, heap, Message { bytes })
+    two_read(rt, heap, Message { bytes }, size)
 }
 
 #[test]
@@ -101,10 +103,11 @@ fn refused_memory_changes_nothing(rt: HostRuntime) -> Result<(), Fail> {
     let (mut new, mut both, mut last) = (false, false, None);
     for size in 4..64 {
         let heap = LocalHeap::new(rt.alloc(), size * 16)?;
-        let Ok(made) = run(&rt, &heap) else { continue };
-        new |= made.is_none();
-        both |= made == Some((false, false));
-        last = made;
+        if let Ok(made) = run(&rt, &heap, size) {
+            new |= made.is_none();
+            both |= made == Some((false, false));
+            last = made;
+        }
     }
     assert!(rt; new, "new");
     assert!(rt; both, "grow and read");
