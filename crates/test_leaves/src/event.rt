@@ -191,7 +191,7 @@ fn first_wrong(alloc: Global, steps: &[Step]) -> Result<Option<usize>, AllocErro
 #[test]
 fn notices_are_called_in_their_order(rt: HostRuntime) -> Result<(), Fail> {
     let tables = [
-        ("each newly told is called once, front first", FRONT_FIRST),
+        ("newly told ones are called once, front first", FRONT_FIRST),
         ("a told one that gives up tells the next", GIVES_UP),
         ("the last notice that was made is called", OTHER_NOTICES),
         ("listeners leave in any order", ANY_ORDER),
