@@ -117,6 +117,7 @@ const ANY_ORDER: &[Step] = &[
     Step::Called(12356),
     Step::IsTold(FAR, Some(true)),
     Step::Consume(FAR, Some(true)),
+    Step::Consume(OTHER, None),
     Step::Told(2),
     Step::Len(2),
 ];
