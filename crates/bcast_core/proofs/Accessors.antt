@@ -1,22 +1,23 @@
 -- Calls that only read, and calls under another name.
-use Rattle.std.proofs.Common.{◌≡◌, not, sym, ap, ◌∙◌, subst}
+use Rattle.std.proofs.Common.{◌≡◌, sym, ap, ◌∙◌, subst}
 use Rattle.bcast_model.specs.declared.run.Call.{Call}
 use Rattle.bcast_model.specs.declared.run.Reply.{Reply}
-use Rattle.bcast_model.specs.Words.{may_tell, tell_if_ready, HasRange, View, sends_are_ready}
+use Rattle.bcast_model.specs.Words.{tell_if_ready, HasRange, View}
 use Rattle.bcast_model.specs.Words.{IsShown, Answers, Legal, effect, sets, settle}
 use Rattle.std.specs.FinMap.{len}
 use Rattle.bcast_model.proofs.Answers.{answers}
-use Rattle.bcast_core.proofs.Settle.{settle_same, told_nobody}
+use Rattle.bcast_model.proofs.Cases.{told_valid}
+use Rattle.bcast_core.proofs.Settle.{settle_same}
 use Rattle.bcast_core.proofs.Does.{valid_shown}
 
 module _ {T : Type 0} where
   -- a call that only reads doesn't change the state
-  pub answers_read : {is_clone : T → T → Type 0} {v : View T} {c : Call T} {r : Reply T} → IsShown v → Legal is_clone v c r → effect v c r ≡ sets v.control → may_tell v.control (sends_are_ready v) c ≡ not (sends_are_ready v)
+  pub answers_read : {is_clone : T → T → Type 0} {v : View T} {c : Call T} {r : Reply T} → IsShown v → Legal is_clone v c r → effect v c r ≡ sets v.control
       → HasRange c (len v.control.cursors) → Answers is_clone v c r v
-  answers_read {v = v} {c = c} {r = r} shown legal idle may range =
+  answers_read {v = v} {c = c} {r = r} shown legal idle range =
       answers range shown (record {
         legal = legal;
-        next = sym (ap (λ x. tell_if_ready x (settle v (effect v c r))) may ∙ ap (λ (w : View T). tell_if_ready (not (sends_are_ready v)) w) (ap (settle v) idle ∙ settle_same v (valid_shown shown)) ∙ told_nobody v);
+        next = sym (ap tell_if_ready (ap (settle v) idle ∙ settle_same v (valid_shown shown)) ∙ told_valid v (valid_shown shown));
       })
 
   -- a call has its answer under another name, too

@@ -1,5 +1,5 @@
 -- Receives in a row: what they give, and where they lead.
-use Rattle.std.proofs.Common.{◌≡◌, inl, inr, ℕ, suc, ◌+◌, ◌-◌, ◌<◌, ◌≤◌, true, max, List, [], ◌∷◌, length, slice_get, Some, Ok, refl, sym, ap, ◌∙◌, subst, arith}
+use Rattle.std.proofs.Common.{◌≡◌, inl, inr, ℕ, suc, ◌+◌, ◌-◌, ◌<◌, ◌≤◌, max, List, [], ◌∷◌, length, slice_get, Some, Ok, refl, sym, ap, ◌∙◌, subst, arith}
 use Rattle.std.specs.Prelude.{IsSomeAnd}
 use Rattle.std.specs.Option.{option_map_or}
 use Rattle.std.proofs.lemmas.Grind.{common_steps}
@@ -90,8 +90,8 @@ module _ {T : Type 0} (is_clone : T → T → Type 0) where
   each_given v key cursor [] shown at within each =
       let none : cursor + 0 ≡ cursor = omega arith in
       ap (after v key) none
-      ∙ ap (λ m. tell_if_ready true (settle v (sets (record v.control { cursors = m })))) (insert_there v.control.cursors key cursor at.there)
-      ∙ ap (tell_if_ready true) (settle_same v (valid_shown shown)) ∙ told_valid v (valid_shown shown)
+      ∙ ap (λ m. tell_if_ready (settle v (sets (record v.control { cursors = m })))) (insert_there v.control.cursors key cursor at.there)
+      ∙ ap tell_if_ready (settle_same v (valid_shown shown)) ∙ told_valid v (valid_shown shown)
   each_given v key cursor (msg ∷ given) shown at within each =
       let none : cursor + 0 ≡ cursor = omega arith in
       let here = subst (λ n. IsHandedOut is_clone v key n msg) none (each 0 msg refl) in

@@ -6,7 +6,7 @@ use Rattle.std.proofs.lemmas.List.{drop-drop}
 use Rattle.std.proofs.lemmas.Option.{same_Some}
 use Rattle.std.specs.FinMap.{get, insert, len, values}
 use Rattle.bcast_model.specs.Words.{Cursors, Listeners, View, cursor_of, kept_at, least, sends_are_ready, sets, settle, tell, tell_a_sender, tell_if_ready, with_cursor}
-use Rattle.bcast_model.proofs.Cases.{test_is}
+pub use Rattle.bcast_model.proofs.Cases.{told_is}
 use Rattle.bcast_model.proofs.DeliveryMaps.{inserted, inserted_other}
 use Rattle.bcast_model.proofs.Least.{least-le-cursor, least-le-limit, least-greatest, len_insert, len_some}
 use Rattle.bcast_model.proofs.Views.{slice_get-drop}
@@ -37,7 +37,7 @@ module _ {T : Type 0} where
 
   -- and one send was told, if sends are ready
   abbrev pub after : View T → ℕ → ℕ → View T
-  after v key to = tell_if_ready true (moved v key to)
+  after v key to = tell_if_ready (moved v key to)
 
   front_moved : (v : View T) (key from to : ℕ) → from ≤ to → (moved (moved v key from) key to).front ≡ (moved v key to).front
   front_moved v key from to rises =
@@ -77,9 +77,9 @@ module _ {T : Type 0} where
       ] refl
 
   -- ---- a send is told once
-  told_moved : (w : View T) (key to : ℕ) → (sends_are_ready w ≡ true → sends_are_ready (moved w key to) ≡ true) → after (tell_if_ready true w) key to ≡ after w key to
+  told_moved : (w : View T) (key to : ℕ) → (sends_are_ready w ≡ true → sends_are_ready (moved w key to) ≡ true) → after (tell_if_ready w) key to ≡ after w key to
   told_moved w key to stays =
-      elim (sends_are_ready w) as (λ b. sends_are_ready w ≡ b → tell_if_ready true (moved (cond b (record w { control = tell_a_sender w.control }) w) key to) ≡ tell_if_ready true (moved w key to)) [
+      elim (sends_are_ready w) as (λ b. sends_are_ready w ≡ b → tell_if_ready (moved (cond b (record w { control = tell_a_sender w.control }) w) key to) ≡ tell_if_ready (moved w key to)) [
         | true ↦ λ ready.
             let r = stays ready in
             let told = moved (record w { control = tell_a_sender w.control }) key to in
@@ -95,13 +95,9 @@ module _ {T : Type 0} where
       let kept = length-drop (w.front - v.front) (v.queue ++ []) in
       let all = ap length (append-nil v.queue) in
       told_moved w key to (ready_moved w key from to (inserted v.control.cursors key from) (omega (arith, kept, all, fits)))
-      ∙ ap (tell_if_ready true) (moved_twice v key from to rises)
+      ∙ ap tell_if_ready (moved_twice v key from to rises)
 
   -- ---- what stays
-  -- what telling doesn't change
-  pub told_is : (P : View T → Type 0) (w : View T) → P (record w { control = tell_a_sender w.control }) → P w → P (tell_if_ready true w)
-  told_is P w told same = test_is P (sends_are_ready w) (record w { control = tell_a_sender w.control }) w (λ _. told) (λ _. same)
-
   pub front_reached : (v : View T) (key to : ℕ) → v.front ≤ to → (moved v key to).front ≤ to
   front_reached v key to reached = let own = least-le-cursor (v.end + 0) (insert v.control.cursors key to) key to (inserted v.control.cursors key to) in omega (arith, own, reached)
 

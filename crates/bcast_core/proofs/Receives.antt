@@ -10,7 +10,7 @@ use Rattle.bcast_model.specs.Words.{skipped_to, is_empty_reply, listens, receive
 use Rattle.bcast_model.specs.Words.{try_recv_reply, IsReceivedBy, View, IsValidView, sets, settle}
 use Rattle.bcast_model.proofs.Lists.{all_in}
 use Rattle.bcast_model.proofs.Receives.{empty_at as is_empty_at, empty_at_end}
-use Rattle.bcast_model.proofs.Tests.{test_pair}
+use Rattle.bcast_model.proofs.Waiting.{test_pair}
 use Rattle.bcast_core.specs.Telling.{is_untold}
 use Rattle.bcast_core.proofs.Settle.{settle_stays, settle_same}
 

@@ -7,7 +7,7 @@ use Rattle.std.specs.Cmp.{nat_cmp_total, unsigned_tied}
 use Rattle.std.specs.FinMap.{nat_cmp-IsAntisymmetric, get, insert, remove, empty, values, get-empty, get-insert, get-remove, same_map}
 use Rattle.std.specs.FinSet as set
 use Rattle.bcast_model.specs.Words.{Cursors, Places, least}
-use Rattle.bcast_model.proofs.Tests.{test_place}
+use Rattle.bcast_model.proofs.Waiting.{test_place}
 use Rattle.bcast_store.specs.Stored.{Stored, end_of, with_cursors}
 use Rattle.bcast_core.specs.Parts.{AllHaveRoom, AreBelow, HaveRoom}
 

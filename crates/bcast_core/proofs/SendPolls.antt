@@ -29,42 +29,42 @@ module _ {T : Type 0} where
   attempt_stays v mid msg again valid is mid_is = mid_is ∙ is_refused v msg again is ∙ settle_same v valid
 
   -- a poll of a place that is not in use changes nothing
-  pub poll_unplaced : (v : View T) (place : ℕ) (msg : T) → IsValidView v → has_place v.control place ≡ false → v ≡ tell_if_ready true (settle v (poll_send v place msg))
+  pub poll_unplaced : (v : View T) (place : ℕ) (msg : T) → IsValidView v → has_place v.control place ≡ false → v ≡ tell_if_ready (settle v (poll_send v place msg))
   poll_unplaced v place msg valid none = grind (arith, common_steps, told_valid, settle_same)
 
   -- a poll that is answered frees its place last
   pub poll_answered : (v mid new : View T) (place : ℕ) (msg : T) (answer : _) → has_place v.control place ≡ true → attempt_send_reply v msg ≡ send.Ready answer
-      → mid ≡ settle v (offer v msg) → new ≡ tell_if_ready true (record mid { control = place_answered mid.control place }) → new ≡ tell_if_ready true (settle v (poll_send v place msg))
+      → mid ≡ settle v (offer v msg) → new ≡ tell_if_ready (record mid { control = place_answered mid.control place }) → new ≡ tell_if_ready (settle v (poll_send v place msg))
   poll_answered v mid new place msg answer there is mid_is new_is =
       let ready = not-false (sends_are_ready v) (sym (attempt_waits v msg) ∙ ap waits is) in
-      new_is ∙ ap (tell_if_ready true) (ap (λ (x : View T). record x { control = place_answered x.control place }) mid_is
+      new_is ∙ ap tell_if_ready (ap (λ (x : View T). record x { control = place_answered x.control place }) mid_is
       ∙ sym (ap (λ b. settle v (cond b (cond (sends_are_ready v) (with_place_answered (offer v msg) place) (sets (place_waits v.control place))) (sets v.control))) there
       ∙ ap (λ b. settle v (cond b (with_place_answered (offer v msg) place) (sets (place_waits v.control place)))) ready))
 
   -- if no one waits, no one is told of it
   pub poll_nobody : (v mid new : View T) (place : ℕ) (msg : T) (answer : _) (news : Bool) → has_place v.control place ≡ true → attempt_send_reply v msg ≡ send.Ready answer → NobodyWaits mid.control
-      → tell_news news mid ≡ settle v (offer v msg) → new ≡ record mid { control = place_answered mid.control place } → new ≡ tell_if_ready true (settle v (poll_send v place msg))
+      → tell_news news mid ≡ settle v (offer v msg) → new ≡ record mid { control = place_answered mid.control place } → new ≡ tell_if_ready (settle v (poll_send v place msg))
   poll_nobody v mid new place msg answer news there is alone mid_is new_is =
       let freed : View T = record mid { control = place_answered mid.control place } in
       poll_answered v mid new place msg answer there is (sym (news_nobody news mid alone) ∙ mid_is)
-      (new_is ∙ sym (told_none freed true (ap (consume same_place place) alone.sends)))
+      (new_is ∙ sym (told_none freed (ap (consume same_place place) alone.sends)))
 
   -- a poll that is not answered waits, and no one is told
   pub poll_waits : (v mid new : View T) (place : ℕ) (msg again : T) → IsValidView v → has_place v.control place ≡ true → attempt_send_reply v msg ≡ send.Wait again
-      → mid ≡ settle v (offer v msg) → new ≡ record mid { control = place_waits mid.control place } → new ≡ tell_if_ready true (settle v (poll_send v place msg))
+      → mid ≡ settle v (offer v msg) → new ≡ record mid { control = place_waits mid.control place } → new ≡ tell_if_ready (settle v (poll_send v place msg))
   poll_waits v mid new place msg again valid there is mid_is new_is =
       let blocked = not-true (sends_are_ready v) (sym (attempt_waits v msg) ∙ ap waits is) in
       let waiting : View T = record v { control = place_waits v.control place } in
       new_is ∙ ap (λ (x : View T). record x { control = place_waits x.control place }) (attempt_stays v mid msg again valid is mid_is)
       ∙ sym (ap (λ b. cond b (record waiting { control = tell_a_sender waiting.control }) waiting) blocked)
-      ∙ ap (tell_if_ready true) (sym (settle_stays v (place_waits v.control place) valid.low)
+      ∙ ap tell_if_ready (sym (settle_stays v (place_waits v.control place) valid.low)
       ∙ sym (ap (λ b. settle v (cond b (cond (sends_are_ready v) (with_place_answered (offer v msg) place) (sets (place_waits v.control place))) (sets v.control))) there
       ∙ ap (λ b. settle v (cond b (with_place_answered (offer v msg) place) (sets (place_waits v.control place)))) blocked))
 
   -- each is what the call returns
   pub polled : (old v new : View T) (place : ℕ) (msg : T) (r : Result (SendPoll T) T) → v ≡ old → IsShown v
       → IfOk r (λ sent. sent ≡ cond (has_place v.control place) (attempt_send_reply v msg) (send.Wait msg))
-      → OnOk r (new ≡ tell_if_ready true (settle v (poll_send v place msg))) → IfOk r (λ sent. Answers NoClone old (call.PollSend place msg) (reply.PollSend sent) new)
+      → OnOk r (new ≡ tell_if_ready (settle v (poll_send v place msg))) → IfOk r (λ sent. Answers NoClone old (call.PollSend place msg) (reply.PollSend sent) new)
   polled old v new place msg (Ok sent) same shown is ok = ends {mid = settle v (poll_send v place msg)} same shown tt (record { legal = ap reply.PollSend is; effect = refl }) ok
   polled old v new place msg (Err back) same shown is ok = tt
 

@@ -1,69 +1,51 @@
 -- The last step of a call, which tells listeners. The proofs of state calls take their lemmas
 -- from here.
-use Rattle.std.proofs.Common.{◌≡◌, ℕ, ◌+◌, ◌≤◌, ◌==◌, Bool, true, false, not, cond, refl, sym, ap, ◌∙◌, subst, arith, eq-eqb, ne_eqb}
+use Rattle.std.proofs.Common.{◌≡◌, ℕ, ◌+◌, ◌≤◌, ◌==◌, Bool, true, false, not, refl, sym, ap, ◌∙◌, subst, arith, eq-eqb, ne_eqb}
 use Rattle.std.proofs.lemmas.Grind.{common_steps}
 use Rattle.std.specs.FinMap.{len}
 use Rattle.bcast_model.specs.declared.run.Call.{Call}
 use Rattle.bcast_model.specs.declared.run.Reply.{Reply}
 use Rattle.bcast_model.specs.Words.{no_listeners, Pair, Cursors, Control, closing, close_if_deserted}
-use Rattle.bcast_model.specs.Words.{tell_a_sender, pair_waits, effect, HasRange, IsValidView}
-use Rattle.bcast_model.specs.Words.{may_tell, tell_if_ready, Steps}
-use Rattle.bcast_model.specs.Words.{settle, View, sends_are_ready, Answers, IsShown}
+use Rattle.bcast_model.specs.Words.{pair_waits, effect, HasRange, IsValidView}
+use Rattle.bcast_model.specs.Words.{tell_if_ready, Steps}
+use Rattle.bcast_model.specs.Words.{View, Answers, IsShown}
 pub use Rattle.bcast_model.proofs.Answers.{answers_as, shown_after}
-use Rattle.bcast_model.proofs.Calls.{keeps_valid}
-use Rattle.bcast_model.proofs.Cases.{close_is, deserted_is}
-use Rattle.bcast_model.proofs.WaitingSends.{OneIsTold}
+pub use Rattle.bcast_model.proofs.Cases.{told_valid}
+use Rattle.bcast_model.proofs.Cases.{told_is, told_already, close_is, deserted_is}
 use Rattle.bcast_core.specs.Telling.{NobodyWaits, tell_news}
 use Rattle.bcast_core.specs.Parts.{Does}
 pub use Rattle.bcast_core.proofs.Does.{valid_shown, does_begin, does_resize, does_sets, does_nothing}
 
 module _ {T : Type 0} where
   -- no send is told if none waits
-  pub told_none : (v : View T) (may : Bool) → v.control.waiting_sends ≡ no_listeners → tell_if_ready may v ≡ v
-  told_none v may nobody = grind (arith, common_steps)
-
-  -- so every call may tell one last: if it needn't, one is told already, or sends are not ready
-  tell_once : (may : Bool) (w : View T) → (may ≡ false → sends_are_ready w ≡ true → OneIsTold w.control.waiting_sends) → tell_if_ready true w ≡ tell_if_ready may w
-  tell_once true w told = refl
-  tell_once false w told = grind (arith, common_steps)
-
-  -- in a valid state no further send is told
-  pub told_valid : (v : View T) → IsValidView v → tell_if_ready true v ≡ v
-  told_valid v valid = tell_once false v (λ _. valid.wake_ups.sends)
+  pub told_none : (v : View T) → v.control.waiting_sends ≡ no_listeners → tell_if_ready v ≡ v
+  told_none v nobody = grind (arith, common_steps)
 
   -- no further send is told once a receiver waits in a valid state
-  pub told_waiting : (v : View T) (pair : Pair) → IsValidView v → tell_if_ready true (record v { control = pair_waits v.control pair }) ≡ record v { control = pair_waits v.control pair }
-  told_waiting v pair valid = tell_once false (record v { control = pair_waits v.control pair }) (λ _. valid.wake_ups.sends)
+  pub told_waiting : (v : View T) (pair : Pair) → IsValidView v → tell_if_ready (record v { control = pair_waits v.control pair }) ≡ record v { control = pair_waits v.control pair }
+  told_waiting v pair valid = told_already (record v { control = pair_waits v.control pair }) valid.wake_ups.sends
 
   -- nor once the senders and inactive receivers are counted anew
-  pub told_counted : (v : View T) (senders inactive : ℕ) → IsValidView v → tell_if_ready true (record v { control = record v.control { senders = senders; inactive = inactive } }) ≡ record v { control = record v.control { senders = senders; inactive = inactive } }
-  told_counted v senders inactive valid = tell_once false (record v { control = record v.control { senders = senders; inactive = inactive } }) (λ _. valid.wake_ups.sends)
+  pub told_counted : (v : View T) (senders inactive : ℕ) → IsValidView v → tell_if_ready (record v { control = record v.control { senders = senders; inactive = inactive } }) ≡ record v { control = record v.control { senders = senders; inactive = inactive } }
+  told_counted v senders inactive valid = told_already (record v { control = record v.control { senders = senders; inactive = inactive } }) valid.wake_ups.sends
 
   -- nor if the channel is closed then, since all sends are told
-  pub told_left : (v : View T) (senders inactive : ℕ) → IsValidView v → tell_if_ready true (record v { control = close_if_deserted (record v.control { senders = senders; inactive = inactive }) }) ≡ record v { control = close_if_deserted (record v.control { senders = senders; inactive = inactive }) }
+  pub told_left : (v : View T) (senders inactive : ℕ) → IsValidView v → tell_if_ready (record v { control = close_if_deserted (record v.control { senders = senders; inactive = inactive }) }) ≡ record v { control = close_if_deserted (record v.control { senders = senders; inactive = inactive }) }
   told_left v senders inactive valid =
       let left : Control = record v.control { senders = senders; inactive = inactive } in
-      let Told : Control → Type 0 = λ c. tell_if_ready true (record v { control = c }) ≡ record v { control = c } in
+      let Told : Control → Type 0 = λ c. tell_if_ready (record v { control = c }) ≡ record v { control = c } in
       let counted = told_counted v senders inactive valid in
-      let closed : Told (closing left) = tell_once false (record v { control = closing left }) (λ _ _ some. some) in
+      let closed : Told (closing left) = told_already (record v { control = closing left }) (λ _ some. some) in
       deserted_is Told left (close_is Told left (λ _. counted) (λ _. closed)) (λ _. counted)
 
-  pub told_last : {is_clone : T → T → Type 0} {old mid new : View T} {c : Call T} {r : Reply T} → IsValidView old → HasRange c (len mid.control.cursors) → Does is_clone old c r mid → new ≡ tell_if_ready true mid → Steps is_clone old c r new
-  told_last {is_clone = is_clone} {old = old} {c = c} {r = r} valid range does new_is =
-      let few = subst (λ (v : View T). HasRange c (len v.control.cursors)) does.effect range in
-      let keeps = keeps_valid is_clone c r old valid few does.legal in
-      record {
-        legal = does.legal;
-        next = new_is ∙ ap (tell_if_ready true) does.effect ∙ tell_once (may_tell old.control (sends_are_ready old) c) (settle old (effect old c r)) keeps.told;
-      }
+  pub told_last : {is_clone : T → T → Type 0} {old mid new : View T} {c : Call T} {r : Reply T} → Does is_clone old c r mid → new ≡ tell_if_ready mid → Steps is_clone old c r new
+  told_last does new_is = record { legal = does.legal; next = new_is ∙ ap tell_if_ready does.effect }
 
-  cursors_told : (v : View T) → (tell_if_ready true v).control.cursors ≡ v.control.cursors
-  cursors_told v = elim (sends_are_ready v) as (λ b. (cond b (record v { control = tell_a_sender v.control }) v).control.cursors ≡ v.control.cursors) [ true ↦ refl | false ↦ refl ]
-
-  pub ends : {is_clone : T → T → Type 0} {was old mid new : View T} {c : Call T} {r : Reply T} → was ≡ old → IsShown was → HasRange c (len mid.control.cursors) → Does is_clone was c r mid → new ≡ tell_if_ready true mid → Answers is_clone old c r new
+  pub ends : {is_clone : T → T → Type 0} {was old mid new : View T} {c : Call T} {r : Reply T} → was ≡ old → IsShown was → HasRange c (len mid.control.cursors) → Does is_clone was c r mid → new ≡ tell_if_ready mid → Answers is_clone old c r new
   ends {mid = mid} {c = c} same shown range does new_is =
-      let fits = subst (λ (cursors : Cursors). HasRange c (len cursors)) (sym (ap (λ (v : View T). v.control.cursors) new_is ∙ cursors_told mid)) range in
-      answers_as same fits shown (told_last (valid_shown shown) range does new_is)
+      let told = told_is (λ (v : View T). v.control.cursors ≡ mid.control.cursors) mid refl refl in
+      let fits = subst (λ (cursors : Cursors). HasRange c (len cursors)) (sym (ap (λ (v : View T). v.control.cursors) new_is ∙ told)) range in
+      answers_as same fits shown (told_last does new_is)
 
   -- a call that changes nothing
   pub unchanged : {is_clone : T → T → Type 0} {was old new : View T} {c : Call T} {r : Reply T} → was ≡ old → IsShown was → new ≡ was → HasRange c (len was.control.cursors) → Does is_clone was c r was → Answers is_clone old c r new
@@ -79,8 +61,8 @@ module _ {T : Type 0} where
   news_nobody false v alone = refl
   news_nobody true v alone = grind (arith, common_steps)
 
-  pub tail_nobody : (news : Bool) (v : View T) → NobodyWaits v.control → tell_if_ready true (tell_news news v) ≡ v
-  tail_nobody news v alone = ap (tell_if_ready true) (news_nobody news v alone) ∙ told_none v true alone.sends
+  pub tail_nobody : (news : Bool) (v : View T) → NobodyWaits v.control → tell_if_ready (tell_news news v) ≡ v
+  tail_nobody news v alone = ap tell_if_ready (news_nobody news v alone) ∙ told_none v alone.sends
 
   -- there is no news if the end is the same
   pub no_news : (v : View T) → tell_news (not (v.end == v.end)) v ≡ v

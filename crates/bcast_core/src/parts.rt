@@ -78,7 +78,7 @@ impl<T: Drop, N: Notice, A: Allocator + Copy> Parts<T, N, A> {
     /// may wait, as the drop of a notice may, the compiler adds a test.
     #[inline(always)]
     pub fn tell_a_sender(&mut self)
-        ensures { self.new ≡ tell_if_ready true self.old }
+        ensures { self.new ≡ tell_if_ready self.old }
     {
         if !self.sends.is_empty() {
             self.tell_first_sender();
@@ -88,7 +88,7 @@ impl<T: Drop, N: Notice, A: Allocator + Copy> Parts<T, N, A> {
     // In a function of its own, so that a call while no send waits costs one test.
     #[inline(never)]
     fn tell_first_sender(&mut self)
-        ensures { self.new ≡ tell_if_ready true self.old }
+        ensures { self.new ≡ tell_if_ready self.old }
     {
         if self.sends_are_ready() {
             self.sends.tell(1);
@@ -99,7 +99,7 @@ impl<T: Drop, N: Notice, A: Allocator + Copy> Parts<T, N, A> {
     /// told first.
     #[inline(always)]
     pub fn tell_of_message(&mut self, is_accepted: bool)
-        ensures { self.new ≡ tell_if_ready true (tell_news is_accepted self.old) }
+        ensures { self.new ≡ tell_if_ready (tell_news is_accepted self.old) }
     {
         if !self.nobody_waits() {
             self.tell_waiting(is_accepted);
@@ -109,7 +109,7 @@ impl<T: Drop, N: Notice, A: Allocator + Copy> Parts<T, N, A> {
     // In a function of its own, so that a call while nobody waits costs two tests.
     #[inline(never)]
     fn tell_waiting(&mut self, is_accepted: bool)
-        ensures { self.new ≡ tell_if_ready true (tell_news is_accepted self.old) }
+        ensures { self.new ≡ tell_if_ready (tell_news is_accepted self.old) }
     {
         self.tell_news(is_accepted);
         self.tell_first_sender();

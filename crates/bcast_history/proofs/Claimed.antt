@@ -33,14 +33,14 @@ receiver_moved key (call.PollNext reader) reads = ap Some (same_reader reader ke
 receiver_moved key c reads = absurd (false≢true reads)
 
 -- who doesn't receive by the call, and doesn't leave by it, stays
-spared : (front end : ℕ) (receives : ℕ → Bool) (Leaves : ℕ → Type 0) (old new : Cursors) (key at : ℕ) → CursorsChange front end receives Leaves old new
+spared : (front end : ℕ) (receives : ℕ → Bool) (Leaves : ℕ → Type 0) (Legal : Type 0) (old new : Cursors) (key at : ℕ) → CursorsChange front end receives Leaves Legal old new → Legal
     → ((other : ℕ) → receives other ≡ true → key ≢ other) → ((other : ℕ) → Leaves other → key ≢ other) → get old key ≡ Some at → get new key ≡ Some at
-spared front end receives Leaves old new key at (stay same) others gone is = ap (λ (m : Cursors). get m key) same ∙ is
-spared front end receives Leaves old new key at (rise other from to reads found le high same) others gone is =
+spared front end receives Leaves Legal old new key at (stay same) legal others gone is = ap (λ (m : Cursors). get m key) same ∙ is
+spared front end receives Leaves Legal old new key at (rise other from to reads found le high same) legal others gone is =
     ap (λ (m : Cursors). get m key) same ∙ inserted_other old other to key (others other reads) ∙ is
-spared front end receives Leaves old new key at (make made to free source same) others gone is =
-    ap (λ (m : Cursors). get m key) same ∙ inserted_other old made to key (λ e. none-some at (sym free ∙ ap (get old) (sym e) ∙ is)) ∙ is
-spared front end receives Leaves old new key at (leave other leaves same) others gone is =
+spared front end receives Leaves Legal old new key at (make made to free source same) legal others gone is =
+    ap (λ (m : Cursors). get m key) same ∙ inserted_other old made to key (λ e. none-some at (sym (free legal) ∙ ap (get old) (sym e) ∙ is)) ∙ is
+spared front end receives Leaves Legal old new key at (leave other leaves same) legal others gone is =
     ap (λ (m : Cursors). get m key) same ∙ removed_other old other key (gone other leaves) ∙ is
 
 pub others_stay
@@ -48,7 +48,7 @@ pub others_stay
     → (moved_by c ≡ Some key → ⊥) → cursor_of h.control key ≡ Some at → cursor_of (next h c r).control key ≡ Some at
 others_stay is_clone h c r key at legal apart is =
     ap (λ (m : Cursors). get m key) (cursors-next h c r)
-    ∙ spared (front_number h) (end_number h) (λ key. receives_for key c) (TakesOut c) h.control.cursors (effect (view_of h) c r).control.cursors key at (changes is_clone (view_of h) c r legal)
+    ∙ spared (front_number h) (end_number h) (λ key. receives_for key c) (TakesOut c) (Legal is_clone (view_of h) c r) h.control.cursors (effect (view_of h) c r).control.cursors key at (changes is_clone (view_of h) c r).cursors legal
     (λ other reads same. apart (receiver_moved other c reads ∙ ap Some (sym same)))
     (λ other left same. (let moved : moved_by c ≡ Some other = elim left [ inl e ↦ ap moved_by e | inr e ↦ ap moved_by e ] in apart (moved ∙ ap Some (sym same)))) is
 

@@ -12,7 +12,7 @@ use Rattle.bcast_model.specs.declared.run.SendPoll.TheVariants as send
 use Rattle.bcast_model.specs.Words.{Found, History, view_of, Legal, next, IsRun, end_of_run, end_number, numbered, IsDelivery, IsGiven, ClonesEqual, has_place, attempt_send_reply}
 use Rattle.std.proofs.lemmas.Option.{slice_get_past}
 use Rattle.bcast_laws.specs.Sends.{is_accepted, messages_of}
-use Rattle.bcast_laws.proofs.Closing.{IsClosed, run_stays, try_refused, all_refused, attempt_refused, poll_refused}
+use Rattle.bcast_laws.proofs.Closing.{IsClosed, run_stays, stays_closed}
 use Rattle.bcast_laws.proofs.Sends.{messages_added, nothing_added}
 use Rattle.bcast_history.specs.History.{Opening, Step, IsHistory, calls_of, replies_of, start_of, end_of, accepted_by}
 use Rattle.bcast_history.specs.Reader.{Takes, TakesNext}
@@ -31,12 +31,12 @@ module _ {T : Type 0} (is_clone : T → T → Type 0) where
   ] refl
 
   closed_next : (h : History T) (c : Call T) (r : Reply T) → IsClosed h.control → Legal is_clone (view_of h) c r → (next h c r).accepted ≡ h.accepted
-  closed_next h (call.TryBroadcast msg) r is legal = nothing_added is_clone h (call.TryBroadcast msg) r legal (ap is_accepted (try_refused is_clone (view_of h) msg r is legal))
-  closed_next h (call.TryBroadcastAll msgs) r is legal = nothing_added is_clone h (call.TryBroadcastAll msgs) r legal (ap is_accepted (all_refused is_clone (view_of h) msgs r is legal))
-  closed_next h (call.AttemptSend msg) r is legal = nothing_added is_clone h (call.AttemptSend msg) r legal (ap is_accepted (attempt_refused is_clone (view_of h) msg r is legal))
+  closed_next h (call.TryBroadcast msg) r is legal = nothing_added is_clone h (call.TryBroadcast msg) r legal (ap is_accepted ((stays_closed is_clone).try_broadcast (view_of h) msg r is legal))
+  closed_next h (call.TryBroadcastAll msgs) r is legal = nothing_added is_clone h (call.TryBroadcastAll msgs) r legal (ap is_accepted ((stays_closed is_clone).try_broadcast_all (view_of h) msgs r is legal))
+  closed_next h (call.AttemptSend msg) r is legal = nothing_added is_clone h (call.AttemptSend msg) r legal (ap is_accepted ((stays_closed is_clone).attempt_send (view_of h) msg r is legal))
   closed_next h (call.PollSend place msg) r is legal = nothing_added is_clone h (call.PollSend place msg) r legal
       (elim (has_place h.control place) as (λ b. has_place h.control place ≡ b → is_accepted r ≡ false) [
-        | true ↦ λ known. ap is_accepted (poll_refused is_clone (view_of h) msg r is place known legal)
+        | true ↦ λ known. ap is_accepted ((stays_closed is_clone).poll_send (view_of h) place msg r is known legal)
         | false ↦ λ unknown. ap is_accepted (legal ∙ ap (λ b. reply.PollSend (cond b (attempt_send_reply (view_of h) msg) (send.Wait msg))) unknown)
       ] refl)
   closed_next h c r is legal = no_message h c r refl legal

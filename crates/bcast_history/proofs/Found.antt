@@ -9,11 +9,12 @@ use Rattle.bcast_model.specs.declared.run.Call.{Call}
 use Rattle.bcast_model.specs.declared.run.Reply.{Reply}
 use Rattle.bcast_model.specs.declared.run.Reply.TheVariants as reply
 use Rattle.bcast_model.specs.Words.{History, view_of, next, IsValid, Found, IsReceivedBy, Legal, IsDelivery, given_by, given_to, front_number, cursor_of, end_number, kept_at, receive, try_recv_reply, Control, Cursors}
-use Rattle.bcast_model.specs.Steps.{recv_reply}
+use Rattle.bcast_model.specs.Words.{recv_reply}
 use Rattle.bcast_model.proofs.Cases.{passed_reply}
 use Rattle.bcast_model.proofs.Views.{valid_view, front-le-cursor}
 use Rattle.bcast_model.proofs.DeliverySteps.{gives_call}
-use Rattle.bcast_model.proofs.DeliveryAnswers.{Gives}
+use Rattle.bcast_model.proofs.DeliveryAnswers.{IsGivenAt, Gives}
+use Rattle.bcast_model.proofs.DeliveryLists.{at_index}
 use Rattle.bcast_laws.specs.Sends.{is_accepted}
 use Rattle.bcast_laws.proofs.Sends.{nothing_added}
 use Rattle.bcast_history.specs.Reader.{Finds}
@@ -63,9 +64,8 @@ module _ {T : Type 0} (is_clone : T → T → Type 0) where
     -- what it finds
     pub finds : (found : Found T) → Receives h key c r found → FoundAt h key c r was found
     finds (Ok (Ok msg)) made =
-        let its : was + 0 ≡ was = omega arith in
         let found = gives made in
-        let delivered : IsDelivery is_clone h was (Some msg) = subst (λ n. IsDelivery is_clone h n (Some msg)) its (found.each 0 msg refl) in
+        let delivered : IsDelivery is_clone h was (Some msg) = found.each.0.1 in
         elim found.cursor_after [
           | inl moved ↦ (was + 1, moved, (delivered_stays is_clone h c r was msg delivered, refl))
           | inr left ↦ absurd (cc left.1)
@@ -77,7 +77,7 @@ module _ {T : Type 0} (is_clone : T → T → Type 0) where
         elim found.cursor_after [
           | inl moved ↦ (let at : cursor_of (next h c r).control key ≡ Some (was + n) = moved ∙ ap (λ m. Some (was + m)) size in
               let most = (valid_view (next h c r) made.valid).reach key (was + n) at in
-              (was + n, at, (some, refl, (omega arith, λ number from below. gone (next h c r) n number below found.missed from (omega arith)), most)))
+              (was + n, at, (some, refl, (omega arith, λ number from below. gone (next h c r) n number below (λ index is. at_index (IsGivenAt is_clone h) was (replicate n None) found.each index None is) from (omega arith)), most)))
           | inr left ↦ absurd (let none = ap length left.1 in omega (arith, some, none, size))
         ]
       where

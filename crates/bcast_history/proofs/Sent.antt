@@ -1,8 +1,9 @@
 -- Where messages stand, and what a call gives each receiver.
 use Rattle.std.proofs.Common.{◌≡◌, ℕ, ◌+◌, List, [], ◌∷◌, ◌++◌, Option, Some, None, refl, sym, ap, ◌∙◌, subst}
 use Rattle.bcast_model.specs.Words.{History, next, end_of_run, numbered, IsDelivery, IsGiven, given_to}
-use Rattle.bcast_model.proofs.DeliveryLists.{by_index}
-use Rattle.bcast_model.proofs.DeliveryMessages.{numbered_stays}
+use Rattle.bcast_model.proofs.DeliveryLists.{all_from_more}
+use Rattle.bcast_model.proofs.DeliveryAnswers.{IsGivenAt}
+use Rattle.bcast_model.proofs.DeliveryLemmas.{numbered_stays}
 use Rattle.bcast_model.proofs.DeliverySteps.{gives_call}
 use Rattle.bcast_laws.proofs.Sends.{messages_added}
 use Rattle.bcast_history.specs.History.{Opening, Step, calls_of, replies_of, start_of, end_of, accepted_by}
@@ -49,11 +50,9 @@ module _ {T : Type 0} where
   )
 
 module _ {T : Type 0} (is_clone : T → T → Type 0) where
-  -- an entry is a message of its number, or none
-  delivered : (h : History T) (number : ℕ) (entry : Option T)
-      → ((msg : T) → entry ≡ Some msg → IsDelivery is_clone h number (Some msg)) → IsDelivery is_clone h number entry
-  delivered h number None is = tt
-  delivered h number (Some msg) is = is msg refl
+  delivered : (h : History T) (number : ℕ) (entry : Option T) → IsGivenAt is_clone h number entry → IsDelivery is_clone h number entry
+  delivered h number None given = tt
+  delivered h number (Some msg) given = given.1
 
   pub read_on : ReceiversReadOn is_clone
   read_on o known after call reply key cursor follows at =
@@ -61,7 +60,6 @@ module _ {T : Type 0} (is_clone : T → T → Type 0) where
       let given = given_to key call reply in
       let gives = gives_call is_clone before key cursor call reply follows.valid.floor_low at follows.legal in
       subst (λ h. ReadsOn is_clone before h key cursor given) (sym follows.end) (record {
-        each = by_index (IsDelivery is_clone before) cursor given
-            (λ index entry found. delivered before (cursor + index) entry (λ msg is. gives.each index msg (rw is at found)));
+        each = all_from_more (IsGivenAt is_clone before) (IsDelivery is_clone before) cursor given (λ number entry _. delivered before number entry) gives.each;
         next = gives.cursor_after;
       })

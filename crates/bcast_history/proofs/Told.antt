@@ -5,10 +5,10 @@ use Rattle.std.specs.declared.alloc.AllocError.{AllocError}
 use Rattle.bcast_model.specs.declared.error.TryRecvError.TheVariants as unread
 use Rattle.bcast_model.specs.declared.run.Call.{Call}
 use Rattle.bcast_model.specs.declared.run.Reply.{Reply}
-use Rattle.bcast_model.specs.Words.{History, View, view_of, next, IsReceivedBy, IsOwed, IsDelivery, IsGiven, effect, may_tell, sends_are_ready, remember, numbered, kept_at, try_recv_reply}
-use Rattle.bcast_model.specs.Steps.{recv_reply}
-use Rattle.bcast_model.proofs.Cases.{tell_is, lagging_reply, passed_reply}
-use Rattle.bcast_model.proofs.DeliveryMessages.{numbered_stays}
+use Rattle.bcast_model.specs.Words.{History, View, view_of, next, IsReceivedBy, IsOwed, IsDelivery, IsGiven, effect, numbered, kept_at, try_recv_reply}
+use Rattle.bcast_model.specs.Words.{recv_reply}
+use Rattle.bcast_model.proofs.Cases.{next_is, lagging_reply, passed_reply}
+use Rattle.bcast_model.proofs.DeliveryLemmas.{numbered_stays}
 use Rattle.bcast_model.proofs.DeliverySteps.{found_reached}
 use Rattle.bcast_history.proofs.Waits.{told_so}
 
@@ -25,8 +25,7 @@ module _ {T : Type 0} where
 
   -- telling a sender closes nothing
   pub closed_after : (h : History T) (c : Call T) (r : Reply T) → (next h c r).control.closed ≡ (effect (view_of h) c r).control.closed
-  closed_after h c r = tell_is (λ (now : History T). now.control.closed ≡ (effect (view_of h) c r).control.closed)
-      (may_tell h.control (sends_are_ready (view_of h)) c) (remember h (effect (view_of h) c r)) (λ _. refl) (λ _. refl)
+  closed_after h c r = next_is (λ now. now.closed ≡ (effect (view_of h) c r).control.closed) h c r refl refl
 
   -- what is there stays
   pub still_some : (o later : Option T) (P : T → Type 0) → ((msg : T) → o ≡ Some msg → later ≡ Some msg) → IsSomeAnd o P → IsSomeAnd later P

@@ -11,12 +11,12 @@ use Rattle.bcast_model.specs.declared.run.Reply.TheVariants as reply
 use Rattle.bcast_model.specs.declared.run.SendPoll.TheVariants as send
 use Rattle.bcast_model.specs.Words.{History, View, view_of, next, IsValid, Legal, Found, IsReceivedBy, Control, cursor_of, end_number, kept_at, receive, with_cursor, try_recv_reply}
 use Rattle.bcast_model.specs.ValidView.{IsValidView}
-use Rattle.bcast_model.specs.Steps.{recv_reply}
+use Rattle.bcast_model.specs.Words.{recv_reply}
 use Rattle.bcast_model.proofs.Answers.{cursors-next}
 use Rattle.bcast_model.proofs.Cases.{lagging_reply}
 use Rattle.bcast_model.proofs.Views.{valid_view}
 use Rattle.bcast_model.proofs.DeliveryLists.{past_end}
-use Rattle.bcast_model.proofs.Stays.{stays-offer}
+use Rattle.bcast_model.proofs.SendAll.{stays-offer}
 use Rattle.bcast_core.specs.Kinds.{IsOfKind}
 use Rattle.async_broadcast.specs.OfKind.{possible}
 use Rattle.async_broadcast.specs.Ports.{is_answer}

@@ -1,10 +1,9 @@
 -- What follows from what calls tell.
 use Rattle.std.specs.Prelude.{◌≡◌, ◌⊎◌, ℕ, ◌+◌, true, List, [], ◌++◌, length, Option, Some, None}
-use Rattle.std.specs.List.{AllZip, range_with_len}
 use mathlib.Core.List.{IsPrefix}
 use Rattle.bcast_model.specs.declared.run.Call.{Call}
 use Rattle.bcast_model.specs.declared.run.Reply.{Reply}
-use Rattle.bcast_model.specs.Words.{History, cursor_of, IsDelivery, numbered, given_to}
+use Rattle.bcast_model.specs.Words.{History, cursor_of, AllFrom, IsDelivery, numbered, given_to}
 use Rattle.bcast_laws.specs.Sends.{messages_of, is_accepted}
 use Rattle.bcast_history.specs.History.{Opening, Step, Follows, end_of, accepted_by}
 
@@ -30,7 +29,7 @@ SendsStandLast {T} is_clone =
 pub record ReadsOn
     {T : Type 0} (is_clone : T → T → Type 0) (before after : History T) (key cursor : ℕ)
     (given : List (Option T)) : Type 0 where
-  pub each : AllZip (IsDelivery is_clone before) (range_with_len cursor (length given)) given
+  pub each : AllFrom (IsDelivery is_clone before) cursor given
   pub next : (cursor_of after.control key ≡ Some (cursor + length given))
       ⊎ ((cursor_of after.control key ≡ None) × (given ≡ []))
 

@@ -8,14 +8,14 @@ use Rattle.bcast_model.specs.declared.run.Call.{Call}
 use Rattle.bcast_model.specs.declared.run.Call.TheVariants as call
 use Rattle.bcast_model.specs.declared.run.Reply.{Reply}
 use Rattle.bcast_model.specs.Words.{Pair, stream_of, future_of, Control, pair_waits, pair_answered}
-use Rattle.bcast_model.specs.Words.{cursor_of, View, sends_are_ready, Effect, sets, receive}
+use Rattle.bcast_model.specs.Words.{cursor_of, View, Effect, sets, receive}
 use Rattle.bcast_model.specs.Words.{listens, skipped_to, receive_poll, is_empty_reply, recv_reply}
 use Rattle.bcast_model.specs.Words.{try_recv_reply, set_unless_refused, effect, History, view_of}
-use Rattle.bcast_model.specs.Words.{remember, front_number, numbered, is_out_of_memory, may_tell}
+use Rattle.bcast_model.specs.Words.{front_number, numbered, is_out_of_memory}
 use Rattle.bcast_model.specs.Words.{next, receives_for, clone_receiver, Legal, IsValid}
 use Rattle.bcast_model.specs.declared.run.Reply.TheVariants as reply
 use Rattle.bcast_laws.specs.Receives.{ShareMessages}
-use Rattle.bcast_model.proofs.Cases.{test_is, receive_is, tell_is, lagging_reply, passed_reply}
+use Rattle.bcast_model.proofs.Cases.{test_is, receive_is, next_is, lagging_reply, passed_reply}
 use Rattle.bcast_model.proofs.Views.{numbered-queue, first_under, front-le-cursor}
 use Rattle.bcast_model.proofs.DeliveryMaps.{inserted_other, inserted}
 use Rattle.bcast_model.proofs.Answers.{cursors-next}
@@ -93,8 +93,7 @@ module _ {T : Type 0} where
   others_answer h key reader c r low reads differs =
       let leaves = leaves_other (view_of h) key reader c r reads differs in
       let floor = leaves.floor in
-      let control : KeepsOther h.control key (next h c r).control =
-      tell_is (λ (now : History T). KeepsOther h.control key now.control) (may_tell h.control (sends_are_ready (view_of h)) c) (remember h (effect (view_of h) c r)) (λ _. leaves.control) (λ _. leaves.control) in
+      let control = next_is (KeepsOther h.control key) h c r leaves.control leaves.control in
       own_answer h (next h c r) key low (record { first = refl; accepted = ap (◌++◌ h.accepted) leaves.accepted ∙ append-nil h.accepted; floor = omega (arith, floor); closed = control.0 }) control.1
 
 record IsFresh (c : Control) (key fresh : ℕ) : Type 0 where

@@ -1,34 +1,29 @@
 -- A refused call changes nothing.
-use Rattle.std.proofs.Common.{◌≡◌, inl, inr, ℕ, ◌+◌, ◌-◌, ◌==◌, ◌&&◌, not, Bool, true, false, cond, max, Option, Some, None, Result, Ok, Err, refl, sym, ap, ◌∙◌, arith, append-nil, alloc_error, is_ok, ◌||◌, is_some}
+use Rattle.std.proofs.Common.{◌≡◌, inl, inr, ℕ, ◌+◌, ◌-◌, ◌==◌, not, Bool, true, false, cond, max, Option, Some, None, Result, Ok, Err, refl, sym, ap, ◌∙◌, arith, append-nil, alloc_error, is_ok, ◌||◌, is_some}
 use Rattle.std.proofs.lemmas.Option.{slice_get_cases}
 use Rattle.bcast_model.specs.declared.run.Call.{Call}
 use Rattle.bcast_model.specs.declared.run.Call.TheVariants as call
 use Rattle.bcast_model.specs.declared.run.Reply.{Reply}
 use Rattle.bcast_model.specs.declared.run.Reply.TheVariants as reply
-use Rattle.bcast_model.specs.Words.{Control, tell_a_sender, closing, cursor_of, View}
-use Rattle.bcast_model.specs.Words.{sends_are_ready, Effect, sets, try_broadcast_reply}
+use Rattle.bcast_model.specs.Words.{Control, closing, cursor_of, View, Effect, sets}
+use Rattle.bcast_model.specs.Words.{try_broadcast_reply}
 use Rattle.bcast_model.specs.Words.{reply_to_attempt, accept, try_broadcast_all_reply, accept_all}
 use Rattle.bcast_model.specs.Words.{receive, recv_reply, skipped_count, skipped_to, future_reply}
 use Rattle.bcast_model.specs.Words.{stream_reply, next_reply, worded, Found, try_recv_reply, Legal}
 use Rattle.bcast_model.specs.Words.{IsReceivedBy, set_unless_refused, effect, History, view_of}
-use Rattle.bcast_model.specs.Words.{remember, with_control, is_out_of_memory, tell_if_ready}
-use Rattle.bcast_model.specs.Words.{end_call, may_tell, next, IsValid, IsValidView, has_next}
+use Rattle.bcast_model.specs.Words.{remember, with_control, is_out_of_memory}
+use Rattle.bcast_model.specs.Words.{end_call, next, IsValid, IsValidView, has_next}
 use Rattle.bcast_model.specs.Words.{count_reply, deactivate, without_receiver}
 use Rattle.bcast_model.specs.declared.error.HandleError.TheVariants as handle
-use Rattle.bcast_laws.specs.Sends.{is_refused}
+use Rattle.bcast_laws.specs.Sends.{is_refused, RefusedChangesNothing}
 use Rattle.bcast_model.proofs.Views.{valid_view}
-use Rattle.bcast_model.proofs.Cases.{uncloned, made_is, received_is, receive_is, lagging_reply, passed_reply}
-use Rattle.bcast_laws.proofs.Sends.{apart}
+use Rattle.bcast_model.proofs.Cases.{told_valid, uncloned, made_is, received_is, receive_is, lagging_reply, passed_reply}
+use Rattle.bcast_laws.proofs.Sends.{apart, returned_back, all_returned}
 use Rattle.bcast_model.proofs.Lift.{view_of-end_call}
 
 not_not : (b : Bool) → not (not b) ≡ true → b ≡ true
 not_not true e = refl
 not_not false e = apart e
-
--- if sends are as ready as before, no sender is told
-quiet : {A : Type 0} (b : Bool) (x y : A) → cond (not b && b) x y ≡ y
-quiet true x y = refl
-quiet false x y = refl
 
 -- ---- calls that make handles
 same_cloned : (T : Type 0) (none has : Bool) (c more : Control) → is_refused {T = T} (reply.CloneInactive (cond (not none) (cond has (Ok tt) (Err handle.TooMany)) (Err handle.Gone))) ≡ true → cond (none || not has) c more ≡ c
@@ -104,19 +99,17 @@ module _ {T : Type 0} where
       made_is (λ r. is_refused r ≡ true → effect v (call.CloneReceiver other) r ≡ sets v.control) _ v.control.cursors reply.CloneReceiver r legal (λ _ _ e. apart e) (λ _ _. ap sets (uncloned v.control (cursor_of v.control other))) e
   same_effect is_clone v c r valid legal e = apart (sym (ap is_refused legal) ∙ e)
 
-  -- ---- at the end of a call: if nothing changed, no sender is told
-  untold : (is_clone : T → T → Type 0) (v : View T) (c : Call T) (r : Reply T) → Legal is_clone v c r → is_refused r ≡ true → tell_if_ready (may_tell v.control (sends_are_ready v) c) v ≡ v
-  untold is_clone v (call.PollSend place msg) r legal e = apart (sym (ap is_refused legal) ∙ e)
-  untold is_clone v c r legal e = quiet (sends_are_ready v) (record v { control = tell_a_sender v.control }) v
-
+  -- ---- at the end of a call
   -- a history that remembers nothing new
   remember-idle : (h : History T) → remember h (sets h.control) ≡ h
   remember-idle h =
       let floor : max h.floor 0 ≡ h.floor = omega arith in
       λ i. record { first = h.first; accepted = append-nil h.accepted i; floor = floor i; control = h.control }
 
-  pub refused_same : (is_clone : T → T → Type 0) (h : History T) (c : Call T) (r : Reply T) → IsValid h → Legal is_clone (view_of h) c r → is_refused r ≡ true → next h c r ≡ h
+  refused_same : (is_clone : T → T → Type 0) (h : History T) (c : Call T) (r : Reply T) → IsValid h → Legal is_clone (view_of h) c r → is_refused r ≡ true → next h c r ≡ h
   refused_same is_clone h c r valid legal e =
-      let may : Bool = may_tell h.control (sends_are_ready (view_of h)) c in
-      ap (λ now. end_call may (remember h now)) (same_effect is_clone (view_of h) c r (valid_view h valid) legal e) ∙ ap (end_call may) (remember-idle h)
-      ∙ ap (λ (v : View T). with_control h v.control) (view_of-end_call may h ∙ untold is_clone (view_of h) c r legal e)
+      ap (λ now. end_call (remember h now)) (same_effect is_clone (view_of h) c r (valid_view h valid) legal e) ∙ ap end_call (remember-idle h)
+      ∙ ap (λ (v : View T). with_control h v.control) (view_of-end_call h ∙ told_valid (view_of h) (valid_view h valid))
+
+  pub refused_changes_nothing : (is_clone : T → T → Type 0) → RefusedChangesNothing is_clone
+  refused_changes_nothing is_clone = record { same = refused_same is_clone; returned = returned_back is_clone; all_returned = all_returned is_clone }

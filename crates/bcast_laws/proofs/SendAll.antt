@@ -12,10 +12,9 @@ use Rattle.bcast_model.specs.Words.{IsGiven, IsValid, IsRun, end_of_run, AreExac
 use Rattle.bcast_model.specs.Words.{AtEachPoint, deliveries_of, last_cursor_of}
 use Rattle.bcast_laws.specs.SendAll.{after_list, StandsInOnePiece}
 use Rattle.bcast_model.proofs.Answers.{next_valid, cursors-next}
-use Rattle.bcast_model.proofs.DeliveryLemmas.{deliveries_exact, given_at}
+use Rattle.bcast_model.proofs.DeliveryLemmas.{deliveries_exact, given_at, numbered_stays}
 use Rattle.bcast_model.proofs.DeliveryLists.{past_end}
-use Rattle.bcast_model.proofs.DeliveryMessages.{numbered_stays}
-use Rattle.bcast_model.proofs.Stays.{stays-offer_all}
+use Rattle.bcast_model.proofs.SendAll.{stays-offer_all}
 use Rattle.bcast_laws.proofs.Sends.{messages_added}
 
 -- an entry of the second of two lists

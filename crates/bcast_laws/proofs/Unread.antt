@@ -1,21 +1,24 @@
--- How much a receiver has still to read, by what `try_recv` returns.
-use Rattle.std.proofs.Common.{◌≡◌, inl, ℕ, zero, suc, ◌+◌, ◌-◌, ◌<◌, ◌≤◌, Bool, true, false, cond, List, length, max, Option, Some, None, Ok, Err, nat_lt, refl, sym, ap, ◌∙◌, subst, arith, append-nil, IsOk, IsErr, slice_get}
+-- How much a receiver has still to read, by what `try_recv` returns; and that one which missed
+-- messages finds a message at its next try.
+use Rattle.std.proofs.Common.{◌≡◌, inl, ℕ, zero, suc, ◌+◌, ◌-◌, ◌<◌, ◌≤◌, Bool, true, false, cond, List, length, max, Option, Some, None, Ok, Err, nat_lt, refl, sym, ap, ◌∙◌, subst, arith, append-nil, IsOk, IsErr, slice_get, inr}
 use Rattle.std.proofs.lemmas.Grind.{common_steps}
 use Rattle.std.proofs.lemmas.Option.{slice_get_past}
 use Rattle.std.specs.Option.{option_map_or}
 use Rattle.std.specs.FinMap.{get}
+use Rattle.std.proofs.lemmas.Bool.{cases_lt}
+use Rattle.bcast_laws.specs.Unread.{after_try, GivesInARow, UnreadIsGiven}
 use Rattle.bcast_model.specs.declared.error.TryRecvError.TheVariants as unread_error
 use Rattle.bcast_model.specs.declared.run.Call.TheVariants as call
 use Rattle.bcast_model.specs.declared.run.Reply.TheVariants as reply
 use Rattle.bcast_model.specs.Words.{with_cursor, cursor_of, kept_at, receive, recv_reply}
 use Rattle.bcast_model.specs.Words.{try_recv_reply, History, view_of, front_number, end_number}
-use Rattle.bcast_model.specs.Words.{queue_of, NoClone, IsValid, unread, missed}
-use Rattle.bcast_laws.specs.Unread.{after_try, GivesInARow, UnreadIsGiven}
+use Rattle.bcast_model.specs.Words.{queue_of, NoClone, IsValid, unread, missed, View, next}
 use Rattle.bcast_model.proofs.Answers.{next_valid, cursors-next}
-use Rattle.bcast_model.proofs.Views.{valid_view, floor_under, front-le-cursor}
+use Rattle.bcast_model.proofs.Views.{valid_view, floor_under, front-le-cursor, lagging}
 use Rattle.bcast_model.proofs.DeliveryMaps.{inserted}
 use Rattle.bcast_model.proofs.DeliveryLists.{past_end}
 use Rattle.bcast_model.proofs.Cases.{lagging_reply, passed_reply, lagging_receive, passed_receive}
+use Rattle.bcast_model.proofs.DeliverySteps.{found_reached}
 
 no_message : (T : Type 0) (closed : Bool) → IsErr (recv_reply {T = T} closed None)
 no_message T true = refl
@@ -122,3 +125,25 @@ module _ {T : Type 0} where
     then_unread = λ h key valid some. same_unread h key valid some;
     given = λ h key valid none. given_at h key valid (cursor_of h.control key) refl none;
   }
+
+  -- the receiver lags by this many
+  lags_by : (v : View T) (key n : ℕ) (o : Option ℕ) → cursor_of v.control key ≡ o → try_recv_reply v o ≡ Err (unread_error.Overflowed n)
+      → (cursor : ℕ) × (cursor_of v.control key ≡ Some cursor) × (cursor < v.front) × (v.front - cursor ≡ n)
+  lags_by v key n None at e = absurd (found_reached true None n e)
+  lags_by v key n (Some cursor) at e = elim (cases_lt cursor v.front) [
+    | inl lags ↦ (cursor, at, lags, let same = sym (lagging_reply v cursor lags) ∙ e in cc)
+    | inr passed ↦ absurd (found_reached v.control.closed (kept_at v cursor) n (sym (passed_reply v cursor passed) ∙ e))
+  ]
+
+  -- it was left at the front, and finds the message there
+  pub missed_finds : (h : History T) (key n : ℕ) → IsValid h → try_recv_reply (view_of h) (cursor_of h.control key) ≡ Err (unread_error.Overflowed n)
+      → let after = next h (call.TryRecv key) (reply.TryRecv (Ok (Err (unread_error.Overflowed n)))) in (1 ≤ n) × IsOk (try_recv_reply (view_of after) (cursor_of after.control key))
+  missed_finds h key n valid e =
+      let lags = lags_by (view_of h) key n (cursor_of h.control key) refl e in
+      let reads = left_at_front h key valid lags.0 lags.1 lags.2 in
+      let some = lagging (view_of h) (valid_view h valid) key lags.0 lags.1 lags.2 in
+      let same = same_end h key valid in (
+        omega (arith, lags.2, lags.3),
+        subst (λ answer. let after = next h (call.TryRecv key) (reply.TryRecv (Ok answer)) in IsOk (try_recv_reply (view_of after) (cursor_of after.control key))) e
+            (gives (after_try h key) key (valid_after h key valid) (front_number h) reads.0 reads.1 (omega (arith, some, same))),
+      )

@@ -23,7 +23,6 @@ pub fn missed_were_dropped<T: Clone>()
 
 /// Law: from each point of each run on, the deliveries of every receiver are the messages that it
 /// was given and those that calls of the run dropped. None is given after it was dropped.
-#[tactic(auto, using(bcast_model::proofs::MissedLemmas::deliveries_tile))]
 pub fn deliveries_tile<T: Clone>()
     ensures { DeliveriesTile T.is_clone }
 {}

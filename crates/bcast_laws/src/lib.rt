@@ -15,6 +15,7 @@ pub mod states;
 
 /// Law: a refused call leaves the channel as it was, and a refused send hands back its message, or
 /// its list.
+#[tactic(auto, using(crate::proofs::Refusals::refused_changes_nothing))]
 pub fn refused_changes_nothing<T: Clone>()
     ensures { RefusedChangesNothing T.is_clone }
 {}
@@ -41,18 +42,19 @@ pub fn dropped_send_adds_nothing<T: Clone>()
 {}
 
 /// Law: a closed channel stays closed, and each send on it is refused with its message.
+#[tactic(auto, using(crate::proofs::Closing::stays_closed))]
 pub fn stays_closed<T: Clone>()
     ensures { StaysClosed T.is_clone }
 {}
 
 /// Law: if `is_terminated` returns true, each receive returns that the channel is closed.
-#[tactic(auto, using(crate::proofs::Terminated::nothing_given))]
+#[tactic(auto, using(crate::proofs::Closing::nothing_given))]
 pub fn terminated_gives_nothing<T: Clone>()
     ensures { TerminatedGivesNothing T.is_clone }
 {}
 
 /// Law: a channel keeps at most as many messages as its capacity, and none without receivers.
-#[tactic(auto, using(crate::proofs::Kept::none_kept, crate::proofs::Kept::len_within))]
+#[tactic(auto, using(crate::proofs::Closing::none_kept, crate::proofs::Closing::len_within))]
 pub fn keeps_at_most_capacity<T: Clone>()
     ensures { KeepsAtMostCapacity T.is_clone }
 {}

@@ -27,11 +27,13 @@ pub fn replies_are_exact<T: Clone>()
 {}
 
 /// Law: what a receive hands out is one of the messages that are kept, or a clone of one.
+#[tactic(auto, using(bcast_model::proofs::Clones::received_given))]
 pub fn received_is_given<T: Clone>()
     ensures { ReceivedIsGiven T.is_clone }
 {}
 
 /// Law: a poll waits exactly if the try of the same name finds nothing to return.
+#[tactic(auto, using(bcast_model::proofs::Polls::polls_wait))]
 pub fn polls_wait_where_tries_find_nothing<T: Clone>()
     ensures { PollsWaitWhereTriesFindNothing T.is_clone }
 {}

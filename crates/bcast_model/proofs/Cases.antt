@@ -1,5 +1,5 @@
 -- The conditional parts of a call, and its replies, each by its cases.
-use Rattle.std.proofs.Common.{◌≡◌, ℕ, ◌+◌, ◌<◌, ◌≤◌, ◌==◌, ◌&&◌, Bool, true, false, cond, Option, Some, None, Result, Ok, Err, not, nat_lt, inl, inr, refl, sym, subst, arith, ◌-◌, alloc_error}
+use Rattle.std.proofs.Common.{◌≡◌, ℕ, ◌+◌, ◌<◌, ◌≤◌, ◌==◌, ◌&&◌, Bool, true, false, cond, length, Option, Some, None, Result, Ok, Err, not, nat_lt, inl, inr, refl, sym, subst, arith, ◌-◌, alloc_error}
 use Rattle.std.proofs.lemmas.Grind.{common_steps}
 use Rattle.std.specs.FinMap.{get}
 use Rattle.bcast_model.specs.Words.{IsMadeFrom, IsReceivedBy, Found, IsOwed, HandleError, Cursors}
@@ -7,6 +7,7 @@ use Rattle.bcast_model.specs.Words.{Reply, Control, last_end, tell_a_sender, tel
 use Rattle.bcast_model.specs.Words.{closing, close, is_deserted, close_if_deserted, accepting}
 use Rattle.bcast_model.specs.Words.{with_cursor, History, with_control, view_of, View}
 use Rattle.bcast_model.specs.Words.{sends_are_ready, TrySendError, clone_receiver, end_call}
+use Rattle.bcast_model.specs.Words.{Call, remember, effect, next, tell_if_ready, IsValidView}
 use Rattle.bcast_model.specs.Words.{receive, has_no_receiver, is_full, try_broadcast_reply}
 use Rattle.bcast_model.specs.Words.{handed_back, kept_at, recv_reply, try_recv_reply}
 use Rattle.bcast_model.specs.declared.error.HandleError.TheVariants as handle
@@ -37,19 +38,12 @@ uncloned c (Some cursor) = refl
 abbrev pub Lasts : Type 0 → Control → Control → Type 0
 Lasts Allowed old new = (Allowed → 1 ≤ old.capacity → 1 ≤ new.capacity) × (old.closed ≡ true → new.closed ≡ true)
 
--- `Lasts`, for a call that is always allowed
-abbrev pub Leaves : Control → Control → Type 0
-Leaves old new = Lasts (Unit {0}) old new
-
 -- the cursors and the capacity stay too
 abbrev pub Stays : Control → Control → Type 0
-Stays old new = (new.cursors ≡ old.cursors) × (new.capacity ≡ old.capacity) × Leaves old new
-
-pub left : (c : Control) → Leaves c c
-left c = (λ _ some. some, λ is. is)
+Stays old new = (new.cursors ≡ old.cursors) × (new.capacity ≡ old.capacity) × Lasts (Unit {0}) old new
 
 pub kept : (c : Control) → Stays c c
-kept c = (refl, refl, left c)
+kept c = (refl, refl, (λ _ some. some, λ is. is))
 
 pub stays-close : (c : Control) → Stays c (close c)
 stays-close c = close_is (Stays c) c (λ _. kept c) (λ _. (refl, refl, (λ _ some. some, λ _. refl)))
@@ -66,7 +60,7 @@ cursors-close c = (stays-close c).0
 pub cursors-accepting : (c : Control) (end : ℕ) → (accepting c end).cursors ≡ c.cursors
 cursors-accepting c end = (stays-accepting c end).0
 
--- ---- receiving and telling
+-- ---- receiving
 module _ {T : Type 0} (v : View T) where
   -- a receive moves a cursor that lags to the front, goes past a message, or finds none
   pub receive_is : (P : Control → Type 0) (key cursor : ℕ)
@@ -95,9 +89,24 @@ module _ {T : Type 0} (v : View T) where
   lists-receive key None = (refl, refl)
   lists-receive key (Some cursor) = receive_is (λ now. (now.waiting_sends ≡ v.control.waiting_sends) × (now.waiting_receives ≡ v.control.waiting_receives)) key cursor (λ _. (refl, refl)) (λ _ _. (refl, refl)) (λ _ _. (refl, refl))
 
+-- ---- telling a send at the end of a call
 module _ {T : Type 0} where
-  pub tell_is : (P : History T → Type 0) (may : Bool) (h : History T) → ((may && sends_are_ready (view_of h)) ≡ true → P (with_control h (tell_a_sender h.control))) → ((may && sends_are_ready (view_of h)) ≡ false → P h) → P (end_call may h)
-  tell_is P may h tells keeps = test_is (λ c. P (with_control h c)) (may && sends_are_ready (view_of h)) (tell_a_sender h.control) h.control tells keeps
+  pub told_is : (P : View T → Type 0) (v : View T) → P (record v { control = tell_a_sender v.control }) → P v → P (tell_if_ready v)
+  told_is P v told same = test_is P (sends_are_ready v) (record v { control = tell_a_sender v.control }) v (λ _. told) (λ _. same)
+
+  -- if sends are ready and one that waits is told already, none is told
+  pub told_already : (v : View T) → (sends_are_ready v ≡ true → 1 ≤ length v.control.waiting_sends.ids → 1 ≤ v.control.waiting_sends.told) → tell_if_ready v ≡ v
+  told_already v told = grind (arith, common_steps)
+
+  pub told_valid : (v : View T) → IsValidView v → tell_if_ready v ≡ v
+  told_valid v valid = told_already v valid.wake_ups.sends
+
+  pub tell_is : (P : History T → Type 0) (h : History T) → (sends_are_ready (view_of h) ≡ true → P (with_control h (tell_a_sender h.control))) → (sends_are_ready (view_of h) ≡ false → P h) → P (end_call h)
+  tell_is P h tells keeps = test_is (λ c. P (with_control h c)) (sends_are_ready (view_of h)) (tell_a_sender h.control) h.control tells keeps
+
+  -- what holds of the control after an effect holds after the call, if telling a send keeps it
+  pub next_is : (P : Control → Type 0) (h : History T) (c : Call T) (r : Reply T) → P (tell_a_sender (effect (view_of h) c r).control) → P (effect (view_of h) c r).control → P (next h c r).control
+  next_is P h c r told same = tell_is (λ (now : History T). P now.control) (remember h (effect (view_of h) c r)) (λ _. told) (λ _. same)
 
 -- ---- a send is refused for one of three reasons, or accepted
 pub sent_is : {A E : Type 0} (P : Result A E → Type 0) (closed none full : Bool) (x y z : E) (back : A) → P (Err x) → P (Err y) → P (Err z) → P (Ok back) → P (cond closed (Err x) (cond none (Err y) (cond full (Err z) (Ok back))))

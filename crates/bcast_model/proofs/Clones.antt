@@ -5,7 +5,7 @@ use Rattle.bcast_model.specs.Words.{TryRecvError, Call, Reply, History, view_of,
 use Rattle.bcast_model.specs.Words.{NoClone, ClonesEqual, IsReceivedBy, next, View, Answers, IsRun}
 use Rattle.bcast_model.specs.Words.{cursor_of, skipped_to, skipped_count, future_reply}
 use Rattle.bcast_model.specs.Words.{stream_reply, next_reply, recv_reply, worded, Found, try_recv_reply}
-use Rattle.bcast_model.specs.Words.{IsGivenFrom}
+use Rattle.bcast_model.specs.Words.{IsGivenFrom, ReceivedIsGiven}
 use Rattle.bcast_model.specs.declared.run.Call.TheVariants as call
 use Rattle.bcast_model.specs.declared.run.Reply.TheVariants as reply
 use Rattle.bcast_model.specs.declared.error.TryRecvError.TheVariants as unread
@@ -89,21 +89,13 @@ module _ {T : Type 0} where
   next_is skips n (Err (unread.Overflowed m)) given e = cc
   next_is skips n answer given e = cc
 
-  module _ (is_clone : T → T → Type 0) (v : View T) (key : ℕ) (given : T) where
-    pub given_try_recv : Legal is_clone v (call.TryRecv key) (reply.TryRecv (Ok (Ok given))) → IsGivenFrom is_clone v.queue given
-    given_try_recv legal = received_from is_clone v key (cursor_of v.control key) reply.TryRecv (reply.TryRecv (Ok (Ok given))) given (λ answer e. cc) (λ e. cc) legal
-
-    pub given_future : Legal is_clone v (call.PollFuture key) (reply.PollFuture (Ok (poll.Ready (Ok given)))) → IsGivenFrom is_clone v.queue given
-    given_future legal = received_from is_clone v key (cursor_of v.control key) (worded reply.PollFuture future_reply) (reply.PollFuture (Ok (poll.Ready (Ok given)))) given
-        (λ answer e. future_is answer given (cc)) (λ e. cc) legal
-
-    pub given_recv : Legal is_clone v (call.PollRecv key) (reply.PollRecv (Ok (poll.Ready (Some (Ok given))))) → IsGivenFrom is_clone v.queue given
-    given_recv legal = received_from is_clone v key (cursor_of v.control key) (worded reply.PollRecv stream_reply) (reply.PollRecv (Ok (poll.Ready (Some (Ok given))))) given
-        (λ answer e. stream_is answer given (cc)) (λ e. cc) legal
-
-    pub given_next : (n : ℕ) → Legal is_clone v (call.PollNext key) (reply.PollNext (Ok (poll.Ready (Some (given, n))))) → IsGivenFrom is_clone v.queue given
-    given_next n legal =
+  pub received_given : (is_clone : T → T → Type 0) → ReceivedIsGiven is_clone
+  received_given is_clone = record {
+    try_recv = λ v key given legal. received_from is_clone v key (cursor_of v.control key) reply.TryRecv (reply.TryRecv (Ok (Ok given))) given (λ answer e. cc) (λ e. cc) legal;
+    poll_future = λ v key given legal. received_from is_clone v key (cursor_of v.control key) (worded reply.PollFuture future_reply) (reply.PollFuture (Ok (poll.Ready (Ok given)))) given (λ answer e. future_is answer given (cc)) (λ e. cc) legal;
+    poll_recv = λ v key given legal. received_from is_clone v key (cursor_of v.control key) (worded reply.PollRecv stream_reply) (reply.PollRecv (Ok (poll.Ready (Some (Ok given))))) given (λ answer e. stream_is answer given (cc)) (λ e. cc) legal;
+    poll_next = λ v key given n legal.
         let cursor : Option ℕ = skipped_to v.front (cursor_of v.control key) in
         let skips : ℕ = skipped_count v.front (cursor_of v.control key) in
-        received_from is_clone v key cursor (worded reply.PollNext (next_reply skips)) (reply.PollNext (Ok (poll.Ready (Some (given, n))))) given
-        (λ answer e. next_is skips n answer given (cc)) (λ e. cc) legal
+        received_from is_clone v key cursor (worded reply.PollNext (next_reply skips)) (reply.PollNext (Ok (poll.Ready (Some (given, n))))) given (λ answer e. next_is skips n answer given (cc)) (λ e. cc) legal;
+  }

@@ -1,46 +1,39 @@
 -- What a reply gives a receiver, and its cursor afterwards.
 use Rattle.std.proofs.Common.{◌≡◌, ◌⊎◌, inl, inr, ℕ, ◌+◌, ◌-◌, ◌<◌, ◌≤◌, Bool, true, false, cond, List, [], ◌∷◌, ◌++◌, length, replicate, Option, Some, None, Ok, Err, Result, nat_lt, slice_get, refl, sym, ap, ◌∙◌, subst, arith, length-append, IsSomeAnd, is_some}
 use Rattle.std.proofs.lemmas.Grind.{common_steps}
-use Rattle.std.proofs.lemmas.Option.{none-some, same_Some, slice_get_cases}
+use Rattle.std.proofs.lemmas.Option.{slice_get_cases}
 use Rattle.std.proofs.lemmas.List.{length-replicate}
 use Rattle.std.specs.FinMap.{get, insert}
 use Rattle.std.proofs.lemmas.Bool.{cases_lt}
 use Rattle.bcast_model.specs.Words.{TryRecvError, Cursors, with_cursor, cursor_of, History, view_of}
 use Rattle.bcast_model.specs.Words.{front_number, end_number, numbered, kept_at, receive}
-use Rattle.bcast_model.specs.Words.{recv_reply, try_recv_reply, IsGiven}
+use Rattle.bcast_model.specs.Words.{recv_reply, try_recv_reply, IsGiven, AllFrom}
 use Rattle.bcast_model.specs.declared.error.TryRecvError.TheVariants as unread
 use Rattle.bcast_model.proofs.Views.{numbered-queue, first_under}
 use Rattle.bcast_model.proofs.DeliveryMaps.{inserted}
-use Rattle.bcast_model.proofs.DeliveryLists.{within_missed, within_given}
+use Rattle.bcast_model.proofs.DeliveryLists.{all_from_missed, all_from_append}
 use Rattle.bcast_model.proofs.Cases.{lagging_reply, passed_reply, lagging_receive, passed_receive}
 
 module _ {T : Type 0} where
-  -- what a call gives the receiver `key` at this cursor: messages from the front on, None before it
+  -- what is handed out for the message of this number: the message, from the front on; None before it
+  abbrev pub IsGivenAt : (T → T → Type 0) → History T → ℕ → Option T → Type 0
+  IsGivenAt is_clone h number None = number < front_number h
+  IsGivenAt is_clone h number (Some given) = (front_number h ≤ number) × IsSomeAnd (numbered h number) (λ accepted. IsGiven is_clone accepted given)
+
+  -- what a call gives the receiver `key` at this cursor
   pub record Gives (is_clone : T → T → Type 0) (h : History T) (key cursor : ℕ) (new : Cursors) (entries : List (Option T)) : Type 0 where
     pub cursor_after : (get new key ≡ Some (cursor + length entries)) ⊎ ((get new key ≡ None) × (entries ≡ []))
-    pub each : (index : ℕ) (msg : T) → slice_get entries index ≡ Some (Some msg) → IsSomeAnd (numbered h (cursor + index)) (λ accepted. IsGiven is_clone accepted msg)
-    pub kept : (index : ℕ) (msg : T) → slice_get entries index ≡ Some (Some msg) → front_number h ≤ cursor + index
-    pub missed : (index : ℕ) → slice_get entries index ≡ Some None → cursor + index < front_number h
+    pub each : AllFrom (IsGivenAt is_clone h) cursor entries
 
   pub gives_nothing : {is_clone : T → T → Type 0} (h : History T) (key cursor : ℕ) (new : Cursors) → (get new key ≡ Some cursor) ⊎ (get new key ≡ None) → Gives is_clone h key cursor new []
-  gives_nothing h key cursor new after = record {
-    cursor_after = elim after [ inl e ↦ inl (e ∙ ap Some (omega arith)) | inr e ↦ inr (e, refl) ];
-    each = λ index msg e. absurd (none-some (Some msg) e);
-    kept = λ index msg e. absurd (none-some (Some msg) e);
-    missed = λ index e. absurd (none-some None e);
-  }
-
-  some_none : (msg : T) → Some msg ≡ None → ⊥
-  some_none msg e = cc
+  gives_nothing h key cursor new after = record { cursor_after = elim after [ inl e ↦ inl (e ∙ ap Some (omega arith)) | inr e ↦ inr (e, refl) ]; each = tt }
 
   gives_overflowed : {is_clone : T → T → Type 0} (h : History T) (key cursor : ℕ) (m : Cursors) → cursor < front_number h → Gives is_clone h key cursor (insert m key (front_number h)) (replicate (front_number h - cursor) None)
-  gives_overflowed h key cursor m low =
+  gives_overflowed {is_clone = is_clone} h key cursor m low =
       let size = length-replicate {A = Option T} (front_number h - cursor) None in
       record {
         cursor_after = inl (inserted m key (front_number h) ∙ ap Some (omega (arith, size, low)));
-        each = λ index msg e. absurd (some_none msg (within_missed (front_number h - cursor) index (Some msg) e).0);
-        kept = λ index msg e. absurd (some_none msg (within_missed (front_number h - cursor) index (Some msg) e).0);
-        missed = λ index e. let within = (within_missed (front_number h - cursor) index None e).1 in omega (arith, within);
+        each = all_from_missed (IsGivenAt is_clone h) cursor (front_number h - cursor) (λ n from below. let under : n < front_number h = omega (arith, from, below) in under);
       }
 
   -- a message after some that are skipped
@@ -49,21 +42,12 @@ module _ {T : Type 0} where
   gives_message {is_clone = is_clone} h key cursor skips m msg given low exact there is =
       let size = length-append {A = Option T} (replicate skips None) (Some given ∷ []) in
       let skipped_size = length-replicate {A = Option T} skips None in
+      let same : cursor + skips ≡ cursor + length (replicate {A = Option T} skips None) = omega (arith, skipped_size) in
+      let missed = λ (n : ℕ) (from : cursor ≤ n) (below : n < cursor + skips). let under : n < front_number h = elim exact [ inl none ↦ absurd (omega (arith, none, from, below)) | inr at ↦ omega (arith, at, below) ] in under in
       record {
         cursor_after = inl (inserted m key (cursor + skips + 1) ∙ ap Some (omega (arith, size, skipped_size)));
-        each = λ index x e. elim (within_given skips index given (Some x) e) [
-          | inl within ↦ absurd (some_none x within.0)
-          | inr within ↦ subst (λ n. IsSomeAnd (numbered h (cursor + n)) (λ accepted. IsGiven is_clone accepted x)) (sym within.1)
-              (subst (λ o. IsSomeAnd o (λ accepted. IsGiven is_clone accepted x)) (sym there) (subst (IsGiven is_clone msg) (sym (same_Some x given within.0)) is))
-        ];
-        kept = λ index x e. elim (within_given skips index given (Some x) e) [
-          | inl within ↦ absurd (some_none x within.0)
-          | inr within ↦ omega (arith, within.1, low)
-        ];
-        missed = λ index e. elim (within_given skips index given None e) [
-          | inl within ↦ elim exact [ inl none ↦ omega (arith, none, within.1) | inr at ↦ omega (arith, at, within.1) ]
-          | inr within ↦ absurd (some_none given (sym within.0))
-        ];
+        each = all_from_append (IsGivenAt is_clone h) cursor (replicate skips None) (Some given ∷ []) (all_from_missed (IsGivenAt is_clone h) cursor skips missed)
+            (subst (λ n. AllFrom (IsGivenAt is_clone h) n (Some given ∷ [])) same ((low, subst (λ o. IsSomeAnd o (λ accepted. IsGiven is_clone accepted given)) (sym there) is), tt));
       }
 
   -- ---- the results of a receive

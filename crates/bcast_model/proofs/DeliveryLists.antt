@@ -1,19 +1,7 @@
 -- Lists of deliveries, and parts of lists.
-use Rattle.std.proofs.Common.{◌≡◌, ◌⊎◌, inl, inr, ℕ, zero, suc, ◌+◌, ◌-◌, ◌<◌, ◌≤◌, List, [], ◌∷◌, ◌++◌, length, replicate, Option, Some, None, slice_get, refl, sym, ap, ◌∙◌, subst, arith}
+use Rattle.std.proofs.Common.{◌≡◌, ◌⊎◌, inl, inr, ℕ, zero, suc, ◌+◌, ◌-◌, ◌<◌, ◌≤◌, List, [], ◌∷◌, ◌++◌, length, replicate, Option, Some, None, slice_get, ap, ◌∙◌, subst, arith}
 use Rattle.std.proofs.lemmas.Option.{none-some, same_Some}
-use Rattle.std.specs.List.{AllZip, range_with_len}
-
-pub within_missed : {X : Type 0} (n index : ℕ) (x : Option X) → slice_get (replicate n None) index ≡ Some x → (x ≡ None) × (index < n)
-within_missed zero index x e = absurd (none-some x e)
-within_missed (suc n) zero x e = (sym (same_Some None x e), omega arith)
-within_missed (suc n) (suc index) x e = let rest = within_missed n index x e in (rest.0, omega (arith, rest.1))
-
-pub within_given : {X : Type 0} (n index : ℕ) (msg : X) (x : Option X) → slice_get (replicate n None ++ Some msg ∷ []) index ≡ Some x → ((x ≡ None) × (index < n)) ⊎ ((x ≡ Some msg) × (index ≡ n))
-within_given zero zero msg x e = inr (sym (same_Some (Some msg) x e), refl)
-within_given zero (suc index) msg x e = absurd (none-some x e)
-within_given (suc n) zero msg x e = inl (sym (same_Some None x e), omega arith)
-within_given (suc n) (suc index) msg x e =
-    elim (within_given n index msg x e) [ inl rest ↦ inl (rest.0, omega (arith, rest.1)) | inr rest ↦ inr (rest.0, omega (arith, rest.1)) ]
+use Rattle.bcast_model.specs.Words.{AllFrom}
 
 pub past_end : {X : Type 0} (xs : List X) (index : ℕ) → slice_get xs index ≡ None → length xs ≤ index
 past_end [] index e = omega arith
@@ -34,14 +22,21 @@ in_longer (y ∷ xs) ys zero x e = e
 in_longer (y ∷ xs) ys (suc index) x e = in_longer xs ys index x e
 
 -- ---- a list beside the numbers from start on
-pub by_index : {X : Type 0} (P : ℕ → X → Type 0) (start : ℕ) (xs : List X) → ((index : ℕ) (x : X) → slice_get xs index ≡ Some x → P (start + index) x) → AllZip P (range_with_len start (length xs)) xs
-by_index P start [] each = tt
-by_index P start (x ∷ xs) each =
-    let here : start + 0 ≡ start = omega arith in
-    let on = λ (index : ℕ). let same : start + suc index ≡ start + 1 + index = omega arith in same in
-    (subst (λ n. P n x) here (each zero x refl), by_index P (start + 1) xs (λ index y at. subst (λ n. P n y) (on index) (each (suc index) y at)))
+pub all_from_more : {X : Type 0} (P Q : ℕ → X → Type 0) (start : ℕ) (xs : List X) → ((n : ℕ) (x : X) → start ≤ n → P n x → Q n x) → AllFrom P start xs → AllFrom Q start xs
+all_from_more P Q start [] each all = tt
+all_from_more P Q start (x ∷ xs) each all = (each start x (omega arith) all.0, all_from_more P Q (start + 1) xs (λ n y from. each n y (omega (arith, from))) all.1)
 
-pub at_index : {X : Type 0} (P : ℕ → X → Type 0) (start : ℕ) (xs : List X) → AllZip P (range_with_len start (length xs)) xs → (index : ℕ) (x : X) → slice_get xs index ≡ Some x → P (start + index) x
+pub all_from_append : {X : Type 0} (P : ℕ → X → Type 0) (start : ℕ) (xs ys : List X) → AllFrom P start xs → AllFrom P (start + length xs) ys → AllFrom P start (xs ++ ys)
+all_from_append P start [] ys all rest = let none : start + 0 ≡ start = omega arith in subst (λ n. AllFrom P n ys) none rest
+all_from_append P start (x ∷ xs) ys all rest =
+    let same : start + suc (length xs) ≡ start + 1 + length xs = omega arith in
+    (all.0, all_from_append P (start + 1) xs ys all.1 (subst (λ n. AllFrom P n ys) same rest))
+
+pub all_from_missed : {X : Type 0} (P : ℕ → Option X → Type 0) (start count : ℕ) → ((n : ℕ) → start ≤ n → n < start + count → P n None) → AllFrom P start (replicate count None)
+all_from_missed P start zero each = tt
+all_from_missed P start (suc count) each = (each start (omega arith) (omega arith), all_from_missed P (start + 1) count (λ n from below. each n (omega (arith, from)) (omega (arith, below))))
+
+pub at_index : {X : Type 0} (P : ℕ → X → Type 0) (start : ℕ) (xs : List X) → AllFrom P start xs → (index : ℕ) (x : X) → slice_get xs index ≡ Some x → P (start + index) x
 at_index P start [] all index x e = absurd (none-some x e)
 at_index P start (y ∷ xs) all zero x e = let here : start ≡ start + 0 = omega arith in subst (λ n. P n x) here (subst (P start) (same_Some y x e) all.0)
 at_index P start (y ∷ xs) all (suc index) x e =

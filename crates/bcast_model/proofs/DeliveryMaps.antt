@@ -1,11 +1,11 @@
 -- Maps of cursors, and how one may differ after a call.
-use Rattle.std.proofs.Common.{◌≡◌, ◌≢◌, ◌⊎◌, inl, inr, ℕ, ◌≤◌, Bool, true, false, cond, Option, Some, None, refl, sym, ap, ◌∙◌, subst, arith}
+use Rattle.std.proofs.Common.{◌≡◌, ◌≢◌, ◌⊎◌, inl, inr, ℕ, ◌≤◌, Bool, true, false, cond, Some, None, refl, sym, ap, ◌∙◌, subst, arith}
 use Rattle.std.proofs.lemmas.Grind.{common_steps}
 use Rattle.std.proofs.lemmas.Option.{none-some, same_Some}
 use Rattle.std.specs.Cmp.{nat_cmp_total, unsigned_tied}
 use Rattle.std.specs.Ordering.{nat_cmp, eq_by_cmp}
 use Rattle.std.specs.FinMap.{get, insert, remove, get-insert, get-remove}
-use Rattle.bcast_model.specs.Words.{Pair, Control, Cursors, listens, begin_send}
+use Rattle.bcast_model.specs.Words.{Pair, Control, Cursors, listens}
 
 -- ---- a map of cursors, at one key
 pub got_insert : (m : Cursors) (key cursor other c : ℕ) → get (insert m key cursor) other ≡ Some c → ((other ≡ key) × (c ≡ cursor)) ⊎ (get m other ≡ Some c)
@@ -36,31 +36,28 @@ pub cursors-listens : (c : Control) (pair : Pair) (waits : Bool) → (listens c 
 cursors-listens c pair true = refl
 cursors-listens c pair false = refl
 
-pub cursors-begin_send : (c : Control) (place : Option ℕ) → (begin_send c place).cursors ≡ c.cursors
-cursors-begin_send c None = refl
-cursors-begin_send c (Some place) = refl
-
 -- ---- how a call may change it
 -- of a channel with this front and this end: the cursors stay, that of the call's receiver rises,
--- one is made at the end or at another one, or one is gone that leaves by the call
-pub data CursorsChange (front end : ℕ) (receives : ℕ → Bool) (Leaves : ℕ → Type 0) (old new : Cursors) : Type 0 where
-  stay : new ≡ old → CursorsChange front end receives Leaves old new
-  rise : (key from to : ℕ) → receives key ≡ true → get old key ≡ Some from → from ≤ to → (to ≤ front) ⊎ (to ≤ end) → new ≡ insert old key to → CursorsChange front end receives Leaves old new
-  make : (key at : ℕ) → get old key ≡ None → (at ≡ end) ⊎ ((other : ℕ) × (get old other ≡ Some at)) → new ≡ insert old key at → CursorsChange front end receives Leaves old new
-  leave : (key : ℕ) → Leaves key → new ≡ remove old key → CursorsChange front end receives Leaves old new
+-- one is made at the end or at another one, or one is gone that leaves by the call. The key of one
+-- that is made is free if the reply is legal
+pub data CursorsChange (front end : ℕ) (receives : ℕ → Bool) (Leaves : ℕ → Type 0) (Legal : Type 0) (old new : Cursors) : Type 0 where
+  stay : new ≡ old → CursorsChange front end receives Leaves Legal old new
+  rise : (key from to : ℕ) → receives key ≡ true → get old key ≡ Some from → from ≤ to → (to ≤ front) ⊎ (to ≤ end) → new ≡ insert old key to → CursorsChange front end receives Leaves Legal old new
+  make : (key at : ℕ) → (Legal → get old key ≡ None) → (at ≡ end) ⊎ ((other : ℕ) × (get old other ≡ Some at)) → new ≡ insert old key at → CursorsChange front end receives Leaves Legal old new
+  leave : (key : ℕ) → Leaves key → new ≡ remove old key → CursorsChange front end receives Leaves Legal old new
 
 -- ---- what follows at one receiver
 true_or_false : {A : Type 0} (b : Bool) → b ≡ true → b ≡ false → A
 true_or_false b e f = cc
 
 -- a receiver that the call doesn't receive for keeps its cursor, or leaves
-pub stands_or_left : (front end : ℕ) (receives : ℕ → Bool) {Leaves : ℕ → Type 0} (old new : Cursors) (key cursor : ℕ) → CursorsChange front end receives Leaves old new → receives key ≡ false → get old key ≡ Some cursor → (get new key ≡ Some cursor) ⊎ (get new key ≡ None)
-stands_or_left front end receives old new key cursor (stay same) reads is = inl (ap (λ m. get m key) same ∙ is)
-stands_or_left front end receives old new key cursor (rise other from to read found le high same) reads is =
+pub stands_or_left : (front end : ℕ) (receives : ℕ → Bool) {Leaves : ℕ → Type 0} {Legal : Type 0} (old new : Cursors) (key cursor : ℕ) → CursorsChange front end receives Leaves Legal old new → Legal → receives key ≡ false → get old key ≡ Some cursor → (get new key ≡ Some cursor) ⊎ (get new key ≡ None)
+stands_or_left front end receives old new key cursor (stay same) legal reads is = inl (ap (λ m. get m key) same ∙ is)
+stands_or_left front end receives old new key cursor (rise other from to read found le high same) legal reads is =
     inl (ap (λ m. get m key) same ∙ inserted_other old other to key (λ e. true_or_false (receives key) (ap receives e ∙ read) reads) ∙ is)
-stands_or_left front end receives old new key cursor (make made at free source same) reads is =
-    inl (ap (λ m. get m key) same ∙ inserted_other old made at key (λ e. none-some cursor (sym free ∙ ap (get old) (sym e) ∙ is)) ∙ is)
-stands_or_left front end receives old new key cursor (leave other leaves same) reads is =
+stands_or_left front end receives old new key cursor (make made at free source same) legal reads is =
+    inl (ap (λ m. get m key) same ∙ inserted_other old made at key (λ e. none-some cursor (sym (free legal) ∙ ap (get old) (sym e) ∙ is)) ∙ is)
+stands_or_left front end receives old new key cursor (leave other leaves same) legal reads is =
     elim (got_remove old other key) [ inl e ↦ inl (ap (λ m. get m key) same ∙ e ∙ is) | inr e ↦ inr (ap (λ m. get m key) same ∙ e) ]
 
 -- a cursor after a call is at the end, or one was there or before it already
@@ -74,7 +71,7 @@ pub record StoodBefore (front end : ℕ) (old : Cursors) (cursor : ℕ) : Type 0
 stood : (front end : ℕ) (old : Cursors) (key cursor : ℕ) → get old key ≡ Some cursor → StoodBefore front end old cursor
 stood front end old key cursor is = record { key = key; before = cursor; found = is; low = omega arith; high = inl (omega arith) }
 
-pub came_from : (front end : ℕ) (receives : ℕ → Bool) {Leaves : ℕ → Type 0} (old new : Cursors) (key cursor : ℕ) → CursorsChange front end receives Leaves old new → get new key ≡ Some cursor → (cursor ≡ end) ⊎ StoodBefore front end old cursor
+pub came_from : (front end : ℕ) (receives : ℕ → Bool) {Leaves : ℕ → Type 0} {Legal : Type 0} (old new : Cursors) (key cursor : ℕ) → CursorsChange front end receives Leaves Legal old new → get new key ≡ Some cursor → (cursor ≡ end) ⊎ StoodBefore front end old cursor
 came_from front end receives old new key cursor (stay same) is = inr (stood front end old key cursor (ap (λ m. get m key) (sym same) ∙ is))
 came_from front end receives old new key cursor (rise other from to reads found le high same) is =
     inr (elim (got_insert old other to key cursor (ap (λ m. get m key) (sym same) ∙ is)) [

@@ -103,5 +103,5 @@ module _ {T : Type 0} where
       (elim (receives_for key c) as (λ b. receives_for key c ≡ b → Gives is_clone h key cursor (effect (view_of h) c r).control.cursors (cond b (given_by r) [])) [
         | true ↦ λ reads. gives_received is_clone h key cursor c r low is reads legal
         | false ↦ λ reads. gives_nothing h key cursor (effect (view_of h) c r).control.cursors
-            (stands_or_left (front_number h) (end_number h) (λ key. receives_for key c) h.control.cursors (effect (view_of h) c r).control.cursors key cursor (changes is_clone (view_of h) c r legal) reads is)
+            (stands_or_left (front_number h) (end_number h) (λ key. receives_for key c) h.control.cursors (effect (view_of h) c r).control.cursors key cursor (changes is_clone (view_of h) c r).cursors legal reads is)
       ] refl)

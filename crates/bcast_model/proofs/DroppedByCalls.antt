@@ -1,5 +1,5 @@
 -- Which messages each call drops: those from the front up to the floor after it.
-use Rattle.std.proofs.Common.{◌≡◌, ℕ, ◌+◌, ◌≤◌, not, Bool, true, false, cond, List, [], ◌∷◌, length, Option, Some, None, Result, Ok, Err, slice_get, refl, ap, arith, is_some, is_ok, ◌∙◌, inl, inr, ◌-◌, ◌<◌, max, nat_lt, alloc_error}
+use Rattle.std.proofs.Common.{◌≡◌, ℕ, ◌+◌, ◌≤◌, not, Bool, true, false, cond, List, [], ◌∷◌, length, Option, Some, None, Result, Ok, Err, slice_get, refl, ap, arith, is_some, is_ok, ◌∙◌, ◌-◌, ◌<◌, max, nat_lt}
 use Rattle.std.proofs.lemmas.Grind.{common_steps}
 use Rattle.std.specs.List.{range_with_len}
 use Rattle.std.proofs.lemmas.Bool.{false≢true}
@@ -7,16 +7,13 @@ use Rattle.bcast_model.specs.Words.{TrySendError, Reply, accepting, has_place, p
 use Rattle.bcast_model.specs.Words.{is_full, sends_are_ready, Effect, sets, reply_to_attempt}
 use Rattle.bcast_model.specs.Words.{try_broadcast_reply, attempt_send_reply, accept, offer}
 use Rattle.bcast_model.specs.Words.{with_place_answered, poll_send, History, view_of, front_number}
-use Rattle.bcast_model.specs.Words.{end_number, queue_of, hands_back, SendPoll, must_wait}
-use Rattle.bcast_model.specs.Words.{TryRecvError, Call, Control, Legal, resize, effect}
-use Rattle.bcast_model.specs.Words.{is_out_of_memory, dropped_by, IsReceivedBy, worded, Found, cursor_of}
-use Rattle.bcast_model.specs.Words.{skipped_to, skipped_count, future_reply, stream_reply}
-use Rattle.bcast_model.specs.Words.{next_reply}
+use Rattle.bcast_model.specs.Words.{end_number, queue_of, hands_back, SendPoll, must_wait, Call}
+use Rattle.bcast_model.specs.Words.{Legal, resize, effect, is_out_of_memory, dropped_by}
 use Rattle.bcast_model.specs.declared.error.TrySendError.TheVariants as unsent
 use Rattle.bcast_model.specs.declared.run.SendPoll.TheVariants as send
 use Rattle.bcast_model.specs.declared.run.Reply.TheVariants as reply
 use Rattle.bcast_model.specs.declared.run.Call.TheVariants as call
-use Rattle.bcast_model.proofs.Cases.{cursors-accepting, try_is, test_is, made_is, received_is}
+use Rattle.bcast_model.proofs.Cases.{cursors-accepting, try_is, test_is}
 use Rattle.bcast_model.proofs.DeliveryLists.{past_end}
 use Rattle.bcast_model.proofs.Views.{IsBounded, front-le-end, length-queue}
 use Rattle.bcast_model.proofs.Polls.{attempt_waits}
@@ -34,19 +31,19 @@ module _ {T : Type 0} where
   hands (Ok back) = is_some back
   hands (Err error) = false
 
-  pub hands_back-sent : (answer : Result (Option T) (TrySendError T)) → hands_back (reply.TryBroadcast answer) ≡ hands answer
-  hands_back-sent (Ok None) = refl
-  hands_back-sent answer = refl
+  pub hands_back-sent : (msg : T) (answer : Result (Option T) (TrySendError T)) → hands_back (call.TryBroadcast msg) (reply.TryBroadcast answer) ≡ hands answer
+  hands_back-sent msg (Ok None) = refl
+  hands_back-sent msg answer = refl
 
-  pub hands_back-attempted : (await : Bool) (answer : Result (Option T) (TrySendError T)) → hands_back (reply.AttemptSend (reply_to_attempt await answer)) ≡ hands answer
-  hands_back-attempted await (Ok None) = refl
-  hands_back-attempted await (Err (unsent.Full msg)) = refl
-  hands_back-attempted true (Err (unsent.Inactive msg)) = refl
-  hands_back-attempted await answer = refl
+  pub hands_back-attempted : (msg : T) (await : Bool) (answer : Result (Option T) (TrySendError T)) → hands_back (call.AttemptSend msg) (reply.AttemptSend (reply_to_attempt await answer)) ≡ hands answer
+  hands_back-attempted msg await (Ok None) = refl
+  hands_back-attempted msg await (Err (unsent.Full other)) = refl
+  hands_back-attempted msg true (Err (unsent.Inactive other)) = refl
+  hands_back-attempted msg await answer = refl
 
-  hands_back-poll_send : (answer : SendPoll T) → hands_back (reply.PollSend answer) ≡ hands_back (reply.AttemptSend answer)
-  hands_back-poll_send (send.Ready (Ok (Some oldest))) = refl
-  hands_back-poll_send answer = refl
+  hands_back-poll_send : (place : ℕ) (msg : T) (answer : SendPoll T) → hands_back (call.PollSend place msg) (reply.PollSend answer) ≡ hands_back (call.AttemptSend msg) (reply.AttemptSend answer)
+  hands_back-poll_send place msg (send.Ready (Ok (Some oldest))) = refl
+  hands_back-poll_send place msg answer = refl
 
   -- the oldest message of a full channel is there
   oldest_there : (h : History T) (o : Option T) → IsBounded h → is_full (view_of h) ≡ true → slice_get (queue_of h) 0 ≡ o → is_some o ≡ true
@@ -79,15 +76,15 @@ module _ {T : Type 0} where
   answered_same h e place dropped (stays floor none) = stays floor none
   answered_same h e place dropped (passes count cursors floor within is) = passes count cursors floor within is
 
-  pub floor-poll_send : (h : History T) (place : ℕ) (msg : T) (r : Reply T) → IsBounded h → r ≡ reply.PollSend (cond (has_place h.control place) (attempt_send_reply (view_of h) msg) (send.Wait msg)) → FloorChange h (poll_send (view_of h) place msg) (cond (hands_back r) (front_number h ∷ []) [])
+  pub floor-poll_send : (h : History T) (place : ℕ) (msg : T) (r : Reply T) → IsBounded h → r ≡ reply.PollSend (cond (has_place h.control place) (attempt_send_reply (view_of h) msg) (send.Wait msg)) → FloorChange h (poll_send (view_of h) place msg) (cond (hands_back (call.PollSend place msg) r) (front_number h ∷ []) [])
   floor-poll_send h place msg r bounded legal =
       let v : View T = view_of h in
       rw legal
       (elim (has_place h.control place) as (λ b. FloorChange h
       (cond b (cond (sends_are_ready v) (with_place_answered (offer v msg) place) (sets (place_waits h.control place))) (sets h.control))
-      (cond (hands_back (reply.PollSend (cond b (attempt_send_reply v msg) (send.Wait msg)))) (front_number h ∷ []) [])) [
+      (cond (hands_back (call.PollSend place msg) (reply.PollSend (cond b (attempt_send_reply v msg) (send.Wait msg)))) (front_number h ∷ []) [])) [
         | true ↦
-            rw (hands_back-poll_send (attempt_send_reply v msg), hands_back-attempted h.control.await_active (try_broadcast_reply v msg))
+            rw (hands_back-poll_send place msg (attempt_send_reply v msg), hands_back-attempted msg h.control.await_active (try_broadcast_reply v msg))
             (elim (sends_are_ready v) as (λ b. sends_are_ready v ≡ b → FloorChange h
             (cond b (with_place_answered (offer v msg) place) (sets (place_waits h.control place))) (cond (hands (try_broadcast_reply v msg)) (front_number h ∷ []) [])) [
               | true ↦ λ ready. answered_same h (offer v msg) place _ (floor-send h msg bounded)
@@ -111,36 +108,22 @@ module _ {T : Type 0} where
             stays refl (ap (range_with_len (front_number h)) none)
       ] refl
 
-  -- ---- a call that drops nothing
-  none_dropped : (h : History T) (r : Reply T) → hands_back r ≡ false → cond (hands_back r) (front_number h ∷ []) [] ≡ []
-  none_dropped h r none = ap (λ b. cond b (front_number h ∷ []) []) none
-
-  floor-receive : (is_clone : T → T → Type 0) (h : History T) (key : ℕ) (cursor : Option ℕ) (spelt : Found T → Reply T) (r : Reply T) (control : Control) → ((answer : Result T TryRecvError) → hands_back (spelt (Ok answer)) ≡ false) → hands_back (spelt (Err alloc_error)) ≡ false
-      → IsReceivedBy is_clone (view_of h) key cursor spelt r → FloorChange h (cond (is_out_of_memory r) (sets h.control) (sets control)) (cond (hands_back r) (front_number h ∷ []) [])
-  floor-receive is_clone h key cursor spelt r control answered refused legal =
-      let nothing = none_dropped h r (received_is (λ r. hands_back r ≡ false) is_clone (view_of h) key cursor spelt r legal (answered _) (λ _ _ _ _ _. answered _) (λ _. refused)) in
-      test_is (λ e. FloorChange h e (cond (hands_back r) (front_number h ∷ []) [])) (is_out_of_memory r) (sets h.control) (sets control) (λ _. stays refl nothing) (λ _. stays refl nothing)
+  -- ---- a receive drops nothing
+  unless_none : (h : History T) (r : Reply T) (e : Effect T) → e.floor ≡ 0 → (cond (is_out_of_memory r) (sets h.control) e).floor ≡ 0
+  unless_none h r e none = test_is (λ (e : Effect T). e.floor ≡ 0) (is_out_of_memory r) (sets h.control) e (λ _. refl) (λ _. none)
 
   -- ---- each call
   pub floor-effect : (is_clone : T → T → Type 0) (h : History T) (c : Call T) (r : Reply T) → IsBounded h → Legal is_clone (view_of h) c r → FloorChange h (effect (view_of h) c r) (dropped_by h c r)
   floor-effect is_clone h (call.TryBroadcast msg) r bounded legal =
-      rw (legal, hands_back-sent (try_broadcast_reply (view_of h) msg)) (floor-send h msg bounded)
-  floor-effect is_clone h (call.TryBroadcastAll msgs) r bounded legal = stays (offer_all_is (λ e. e.floor ≡ 0) (view_of h) msgs refl (λ _ _ _ _. refl)) (none_dropped h r (ap hands_back legal))
+      rw (legal, hands_back-sent msg (try_broadcast_reply (view_of h) msg)) (floor-send h msg bounded)
+  floor-effect is_clone h (call.TryBroadcastAll msgs) r bounded legal = stays (offer_all_is (λ e. e.floor ≡ 0) (view_of h) msgs refl (λ _ _ _ _. refl)) refl
   floor-effect is_clone h (call.AttemptSend msg) r bounded legal =
-      rw (legal, hands_back-attempted h.control.await_active (try_broadcast_reply (view_of h) msg)) (floor-send h msg bounded)
+      rw (legal, hands_back-attempted msg h.control.await_active (try_broadcast_reply (view_of h) msg)) (floor-send h msg bounded)
   floor-effect is_clone h (call.PollSend place msg) r bounded legal = floor-poll_send h place msg r bounded legal
   floor-effect is_clone h (call.SetCapacity n) r bounded legal =
       elim (is_out_of_memory r) as (λ b. FloorChange h (cond b (sets h.control) (resize (view_of h) n)) (cond b [] (range_with_len (front_number h) (length (queue_of h) - n)))) [ true ↦ stays refl refl | false ↦ floor-resize h n bounded ]
-  floor-effect is_clone h (call.TryRecv key) r bounded legal = floor-receive is_clone h key (cursor_of h.control key) reply.TryRecv r _ (λ answer. refl) refl legal
-  floor-effect is_clone h (call.PollFuture key) r bounded legal = floor-receive is_clone h key (cursor_of h.control key) (worded reply.PollFuture future_reply) r _ (λ answer. refl) refl legal
-  floor-effect is_clone h (call.PollRecv key) r bounded legal = floor-receive is_clone h key (cursor_of h.control key) (worded reply.PollRecv stream_reply) r _ (λ answer. refl) refl legal
-  floor-effect is_clone h (call.PollNext key) r bounded legal =
-      let cursor = cursor_of h.control key in
-      floor-receive is_clone h key (skipped_to (front_number h) cursor) (worded reply.PollNext (next_reply (skipped_count (front_number h) cursor))) r _ (λ answer. refl) refl legal
-  floor-effect is_clone h call.BeginSend r bounded (inl (place, is, free)) = stays refl (none_dropped h r (ap hands_back is))
-  floor-effect is_clone h call.BeginSend r bounded (inr is) = stays refl (none_dropped h r (ap hands_back is))
-  floor-effect is_clone h call.NewReceiver r bounded legal = stays refl (none_dropped h r (made_is (λ r. hands_back r ≡ false) true h.control.cursors reply.NewReceiver r (inr (refl, legal)) (λ _ _. refl) (λ _. refl)))
-  floor-effect is_clone h call.Activate r bounded legal = stays refl (none_dropped h r (made_is (λ r. hands_back r ≡ false) _ h.control.cursors reply.Activate r legal (λ _ _. refl) (λ _. refl)))
-  floor-effect is_clone h call.ActivateCloned r bounded legal = stays refl (none_dropped h r (made_is (λ r. hands_back r ≡ false) _ h.control.cursors reply.ActivateCloned r legal (λ _ _. refl) (λ _. refl)))
-  floor-effect is_clone h (call.CloneReceiver key) r bounded legal = stays refl (none_dropped h r (made_is (λ r. hands_back r ≡ false) _ h.control.cursors reply.CloneReceiver r legal (λ _ _. refl) (λ _. refl)))
-  floor-effect is_clone h c r bounded legal = stays refl (none_dropped h r (ap hands_back legal))
+  floor-effect is_clone h (call.TryRecv key) r bounded legal = stays (unless_none h r _ refl) refl
+  floor-effect is_clone h (call.PollFuture key) r bounded legal = stays (unless_none h r _ refl) refl
+  floor-effect is_clone h (call.PollRecv key) r bounded legal = stays (unless_none h r _ refl) refl
+  floor-effect is_clone h (call.PollNext key) r bounded legal = stays (unless_none h r _ refl) refl
+  floor-effect is_clone h c r bounded legal = stays refl refl

@@ -1,9 +1,7 @@
 -- the lists of listeners
 pub mod Lists
 pub mod Listeners
-pub mod Tests
-pub mod WaitingSends
-pub mod WaitingReceives
+pub mod Waiting
 -- what the parts of a call keep
 pub mod Least
 pub mod Cases
@@ -19,7 +17,6 @@ pub mod Making
 pub mod Calls
 -- histories and their views
 pub mod Answers
-pub mod Steps
 pub mod Opening
 -- the laws
 pub mod Clones
@@ -27,15 +24,12 @@ pub mod Polls
 pub mod ListLaws
 pub mod Rest
 pub mod ToldPolls
--- what every call leaves
-pub mod Stays
 -- what a run gives its receivers
 pub mod DeliveryLists
 pub mod DeliveryMaps
 pub mod DeliveryCursors
 pub mod DeliveryAnswers
 pub mod DeliverySteps
-pub mod DeliveryMessages
 pub mod DeliveryLemmas
 pub mod DroppedByCalls
 pub mod RisingNumbers

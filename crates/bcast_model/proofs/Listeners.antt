@@ -1,12 +1,22 @@
--- Lists of listeners: they stay in order, which ones are not told, and that one is told.
-use Rattle.std.proofs.Common.{◌≡◌, ℕ, ◌+◌, ◌-◌, ◌<◌, ◌≤◌, Bool, true, false, cond, ◌||◌, List, [], ◌∷◌, ◌++◌, length, min, max, take, drop, refl, sym, ap, ◌∙◌, subst, arith, length-append}
+-- Lists of listeners: they stay in order, and what holds of each stays so.
+use Rattle.std.proofs.Common.{◌≡◌, ℕ, ◌+◌, ◌-◌, ◌≤◌, Bool, true, false, cond, ◌||◌, List, [], ◌∷◌, ◌++◌, length, min, max, take, drop, refl, sym, ap, ◌∙◌, subst, arith, length-append}
 use Rattle.std.proofs.lemmas.List.{length-take, take-append-drop, drop_at, drop-append-le, drop_all}
 use Rattle.std.specs.List.{AllByRecursion}
 use Rattle.bcast_model.specs.Words.{Listeners, told_ids, untold_ids, is_in, without, tell, tell_all}
 use Rattle.bcast_model.specs.Words.{join, consume, abandon, wait_again, IsDistinct, AreInOrder}
 use Rattle.bcast_model.specs.Words.{IsTest}
-use Rattle.bcast_model.proofs.Lists.{all_more, all_fewer, all_append, all_later, all_without, all_absent, absent, some, without-append, in-append, distinct_left, distinct_without, length-without}
+use Rattle.bcast_model.proofs.Lists.{all_more, all_append, all_later, all_without, all_absent, absent, some, without-append, in-append, distinct_left, distinct_without, length-without}
 use Rattle.bcast_model.proofs.Cases.{test_is}
+
+-- a list in order, and what holds of each listener, and of each that is not told
+pub record AreFit {A : Type 0} (same : A → A → Bool) (P Q : A → Type 0) (l : Listeners A) : Type 0 where
+  pub in_order : AreInOrder same l
+  pub listed : AllByRecursion P l.ids
+  pub untold : AllByRecursion Q (untold_ids l)
+
+-- what holds of each but this one
+abbrev pub Others : {A : Type 0} → (A → A → Bool) → A → (A → Type 0) → A → Type 0
+Others same id P other = P other × (same id other ≡ false)
 
 module _ {A : Type 0} (same : A → A → Bool) (test : IsTest same) where
   -- taking an id out of the told and the untold part
@@ -74,27 +84,6 @@ module _ {A : Type 0} (same : A → A → Bool) (test : IsTest same) where
   waits_is : (P : Listeners A → Type 0) (id : A) (l : Listeners A) → P l → P (join id (consume same id l)) → P (wait_again same id l)
   waits_is P id l stays joins = test_is P (is_in same id (untold_ids l)) l (join id (consume same id l)) (λ _. stays) (λ _. joins)
 
-  -- ---- which ones are not told
-  pub untold_tell : (P : A → Type 0) (n : ℕ) (l : Listeners A) → AllByRecursion P (untold_ids l) → AllByRecursion P (untold_ids (tell n l))
-  untold_tell P n l a = all_later P l.told (max l.told (min n (length l.ids))) l.ids (omega arith) a
-
-  pub untold_tell_all : (P : A → Type 0) (l : Listeners A) → AllByRecursion P (untold_ids (tell_all l))
-  untold_tell_all P l = subst (AllByRecursion P) (sym (drop_all (length l.ids) l.ids (omega arith))) tt
-
-  pub untold_consume : (P : A → Type 0) (id : A) (l : Listeners A) → AreInOrder same l → AllByRecursion P (untold_ids l) → AllByRecursion (λ other. P other × (same id other ≡ false)) (untold_ids (consume same id l))
-  untold_consume P id l o a = subst (AllByRecursion (λ other. P other × (same id other ≡ false))) (sym (untold-consume id l o)) (all_without same P id (untold_ids l) a)
-
-  pub untold_abandon : (P : A → Type 0) (id : A) (l : Listeners A) → AreInOrder same l → AllByRecursion P (untold_ids l) → AllByRecursion (λ other. P other × (same id other ≡ false)) (untold_ids (abandon same id l))
-  untold_abandon P id l o a =
-      let u = untold_consume P id l o a in
-      abandon_is (λ now. AllByRecursion (λ other. P other × (same id other ≡ false)) (untold_ids now)) id l (untold_tell (λ other. P other × (same id other ≡ false)) 1 (consume same id l) u) u
-
-  pub untold_waits : (P : A → Type 0) (id : A) (l : Listeners A) → AreInOrder same l → P id → AllByRecursion P (untold_ids l) → AllByRecursion P (untold_ids (wait_again same id l))
-  untold_waits P id l o p a =
-      let u = all_more (λ other. P other × (same id other ≡ false)) P (untold_ids (consume same id l)) (λ other q. q.0) (untold_consume P id l o a) in
-      waits_is (λ now. AllByRecursion P (untold_ids now)) id l a
-      (subst (AllByRecursion P) (sym (drop-append-le (consume same id l).told (consume same id l).ids (id ∷ []) (in_order_consume id l o).told)) (all_append P (untold_ids (consume same id l)) (id ∷ []) u (p, tt)))
-
   -- ---- the lists stay in order
   pub in_order_tell : (n : ℕ) (l : Listeners A) → AreInOrder same l → AreInOrder same (tell n l)
   in_order_tell n l o = record { distinct = o.distinct; told = omega (arith, o.told) }
@@ -111,22 +100,37 @@ module _ {A : Type 0} (same : A → A → Bool) (test : IsTest same) where
   pub in_order_waits : (id : A) (l : Listeners A) → AreInOrder same l → AreInOrder same (wait_again same id l)
   in_order_waits id l o = waits_is (AreInOrder same) id l o (in_order_join id (consume same id l) (absent_without id l.ids) (in_order_consume id l o))
 
-  -- ---- one is told
-  pub fewer : (id : A) (l : Listeners A) → AreInOrder same l → length (consume same id l).ids ≤ length l.ids
-  fewer id l o = rw (length-without same test id l.ids o.distinct) (test_is (λ n. n ≤ length l.ids) (is_in same id l.ids) (length l.ids - 1) (length l.ids) (λ _. omega arith) (λ _. omega arith))
+  -- ---- what holds of each listener, and of each that is not told
+  pub fit_weaker : {P Q R S : A → Type 0} (l : Listeners A) → AreFit same P Q l → ((id : A) → P id → R id) → ((id : A) → Q id → S id) → AreFit same R S l
+  fit_weaker {P = P} {Q = Q} {R = R} {S = S} l f listed untold = record { in_order = f.in_order; listed = all_more P R l.ids listed f.listed; untold = all_more Q S (untold_ids l) untold f.untold }
 
-  pub one_abandon : (id : A) (l : Listeners A) → AreInOrder same l → (0 < length l.ids → 1 ≤ l.told) → 0 < length (abandon same id l).ids → 1 ≤ (abandon same id l).told
-  one_abandon id l o one = elim (is_in same id (told_ids l)) as (λ b. is_in same id (told_ids l) ≡ b → 0 < length (cond b (tell 1 (consume same id l)) (consume same id l)).ids → 1 ≤ (cond b (tell 1 (consume same id l)) (consume same id l)).told) [
-    | true ↦ λ e h. omega arith
-    | false ↦ λ e h. let f = fewer id l o in let g : 1 ≤ l.told = one (omega arith) in rw e g
-  ] refl
+  pub fit_told : {P Q : A → Type 0} (n : ℕ) (l : Listeners A) → AreFit same P Q l → AreFit same P Q (tell n l)
+  fit_told {Q = Q} n l f = record { in_order = in_order_tell n l f.in_order; listed = f.listed; untold = all_later Q l.told (max l.told (min n (length l.ids))) l.ids (omega arith) f.untold }
 
-  -- ---- which ones are left
-  pub abandon_ids : (id : A) (l : Listeners A) → (abandon same id l).ids ≡ without same id l.ids
-  abandon_ids id l = abandon_is (λ now. now.ids ≡ without same id l.ids) id l refl refl
+  pub fit_all_told : {P Q R : A → Type 0} (l : Listeners A) → AreFit same P Q l → AreFit same P R (tell_all l)
+  fit_all_told {R = R} l f = record { in_order = in_order_tell_all l f.in_order; listed = f.listed; untold = subst (AllByRecursion R) (sym (drop_all (length l.ids) l.ids (omega arith))) tt }
 
-  pub all_abandon : (P : A → Type 0) (id : A) (l : Listeners A) → AllByRecursion P l.ids → AllByRecursion (λ other. P other × (same id other ≡ false)) (abandon same id l).ids
-  all_abandon P id l a = subst (AllByRecursion (λ other. P other × (same id other ≡ false))) (sym (abandon_ids id l)) (all_without same P id l.ids a)
+  -- a listener that is taken out, or dropped: what is left differs from it
+  pub fit_consumed : {P Q : A → Type 0} (id : A) (l : Listeners A) → AreFit same P Q l → AreFit same (Others same id P) (Others same id Q) (consume same id l)
+  fit_consumed {P = P} {Q = Q} id l f = record {
+    in_order = in_order_consume id l f.in_order;
+    listed = all_without same P id l.ids f.listed;
+    untold = subst (AllByRecursion (Others same id Q)) (sym (untold-consume id l f.in_order)) (all_without same Q id (untold_ids l) f.untold);
+  }
 
-  pub all_waits : (P : A → Type 0) (id : A) (l : Listeners A) → P id → AllByRecursion P l.ids → AllByRecursion P (wait_again same id l).ids
-  all_waits P id l p a = waits_is (λ now. AllByRecursion P now.ids) id l a (all_append P (without same id l.ids) (id ∷ []) (all_fewer same P id l.ids a) (p, tt))
+  pub fit_abandoned : {P Q : A → Type 0} (id : A) (l : Listeners A) → AreFit same P Q l → AreFit same (Others same id P) (Others same id Q) (abandon same id l)
+  fit_abandoned {P = P} {Q = Q} id l f = let gone = fit_consumed id l f in abandon_is (AreFit same (Others same id P) (Others same id Q)) id l (fit_told 1 (consume same id l) gone) gone
+
+  pub fit_others : {P Q : A → Type 0} (id : A) (l : Listeners A) → AreFit same (Others same id P) (Others same id Q) l → AreFit same P Q l
+  fit_others id l f = fit_weaker l f (λ _ h. h.0) (λ _ h. h.0)
+
+  -- one that waits is last, or keeps its position
+  pub fit_waiting : {P Q : A → Type 0} (id : A) (l : Listeners A) → P id → Q id → AreFit same P Q l → AreFit same P Q (wait_again same id l)
+  fit_waiting {P = P} {Q = Q} id l p q f =
+      let left : Listeners A = consume same id l in
+      let gone : AreFit same P Q left = fit_others id left (fit_consumed id l f) in
+      waits_is (AreFit same P Q) id l f (record {
+        in_order = in_order_join id left (absent_without id l.ids) gone.in_order;
+        listed = all_append P left.ids (id ∷ []) gone.listed (p, tt);
+        untold = subst (AllByRecursion Q) (sym (drop-append-le left.told left.ids (id ∷ []) gone.in_order.told)) (all_append Q (untold_ids left) (id ∷ []) gone.untold (q, tt));
+      })

@@ -9,9 +9,6 @@ module _ {A : Type 0} where
   all_more P Q [] f a = a
   all_more P Q (id ∷ ids) f a = (f id a.0, all_more P Q ids f a.1)
 
-  pub both_left : (P Q : A → Type 0) (ids : List A) → AllByRecursion (λ id. P id × Q id) ids → AllByRecursion P ids
-  both_left P Q ids a = all_more (λ id. P id × Q id) P ids (λ id p. p.0) a
-
   pub all_append : (P : A → Type 0) (ids others : List A) → AllByRecursion P ids → AllByRecursion P others → AllByRecursion P (ids ++ others)
   all_append P [] others a b = b
   all_append P (id ∷ ids) others a b = (a.0, all_append P ids others a.1 b)
@@ -63,9 +60,6 @@ module _ {A : Type 0} where
       | true ↦ λ e. all_without P id ids a.1
       | false ↦ λ e. ((a.0, e), all_without P id ids a.1)
     ] refl
-
-    pub all_fewer : (P : A → Type 0) (id : A) (ids : List A) → AllByRecursion P ids → AllByRecursion P (without same id ids)
-    all_fewer P id ids a = both_left P (λ other. same id other ≡ false) (without same id ids) (all_without P id ids a)
 
     -- an id that differs from each of a list is not in it
     pub absent : (id : A) (ids : List A) → AllByRecursion (λ other. same id other ≡ false) ids → is_in same id ids ≡ false

@@ -3,29 +3,36 @@ use Rattle.std.proofs.Common.{◌≡◌, ◌⊎◌, inl, inr, ℕ, ◌+◌, ◌-
 use Rattle.std.proofs.lemmas.Grind.{common_steps}
 use Rattle.std.proofs.lemmas.Option.{none-some}
 use Rattle.std.specs.FinMap.{get, insert, len, values}
+use Rattle.std.specs.Option.{option_map_or}
 use Rattle.bcast_model.specs.Words.{HandleError, Reply, Control, with_cursor, has_next}
-use Rattle.bcast_model.specs.Words.{new_receiver, activate, clone_receiver, new_sender}
-use Rattle.bcast_model.specs.Words.{clone_inactive, least, IsMadeFrom, chosen_id, View}
-use Rattle.bcast_model.specs.Words.{sends_are_ready, resize, IsValidView, abandon, Pair, same_pair}
+use Rattle.bcast_model.specs.Words.{clone_receiver, new_sender, clone_inactive, least, IsMadeFrom}
+use Rattle.bcast_model.specs.Words.{chosen_id, View, resize, IsValidView, abandon, Pair, same_pair}
 use Rattle.bcast_model.specs.Words.{close_if_deserted, pair_ended, without_receiver, drop_receiver}
 use Rattle.bcast_model.specs.Words.{deactivate, drop_sender, drop_inactive}
 use Rattle.bcast_model.proofs.Least.{len_insert}
 use Rattle.bcast_model.proofs.Cases.{test_is, made_is}
 use Rattle.bcast_model.proofs.Sound.{IsNoLower, IsKept, sound_counts, IsSound, sound_without}
 use Rattle.bcast_model.proofs.Lift.{KeepsValid}
-use Rattle.bcast_model.proofs.Kept.{not_not, kept_idle, kept_cursor, kept_counts, kept_deserted, kept_receives}
-use Rattle.bcast_model.proofs.WaitingReceives.{receives_abandoned}
+use Rattle.bcast_model.proofs.Kept.{kept_idle, kept_cursor, kept_counts, kept_deserted, kept_receives}
+use Rattle.bcast_model.proofs.Waiting.{receives_abandoned}
 
 module _ {T : Type 0} where
+  -- a new receiver under the key that a reply gives, if it gives one; and one inactive receiver fewer
+  abbrev pub with_new : View T → Option ℕ → Control
+  with_new v id = option_map_or (λ key. with_cursor v.control key v.end) id v.control
+
+  abbrev pub with_activated : View T → Option ℕ → Control
+  with_activated v id = option_map_or (λ key. record (with_cursor v.control key v.end) { inactive = v.control.inactive - 1 }) id v.control
+
   module _ (v : View T) (valid : IsValidView v) where
     -- ---- receivers
     made_at : (key cursor : ℕ) → get v.control.cursors key ≡ None → cursor ≤ v.end → IsNoLower v cursor → len (insert v.control.cursors key cursor) < 2 ^ 64 → IsKept v (with_cursor v.control key cursor)
     made_at key cursor free high low few = kept_cursor v v.control key cursor high low (λ e. none-some v.end (sym free ∙ e)) few (kept_idle v valid)
 
-    pub kept_new_receiver : (key : ℕ) → get v.control.cursors key ≡ None → len (new_receiver v.control v.end (Some key)).cursors < 2 ^ 64 → IsKept v (new_receiver v.control v.end (Some key))
+    pub kept_new_receiver : (key : ℕ) → get v.control.cursors key ≡ None → len (with_new v (Some key)).cursors < 2 ^ 64 → IsKept v (with_new v (Some key))
     kept_new_receiver key free few = made_at key v.end free (omega arith) (inl valid.high) few
 
-    pub kept_activate : (key : ℕ) → get v.control.cursors key ≡ None → len (activate v.control v.end (Some key)).cursors < 2 ^ 64 → IsKept v (activate v.control v.end (Some key))
+    pub kept_activate : (key : ℕ) → get v.control.cursors key ≡ None → len (with_activated v (Some key)).cursors < 2 ^ 64 → IsKept v (with_activated v (Some key))
     kept_activate key free few =
         let c : Control = with_cursor v.control key v.end in
         kept_counts v c c.senders (c.inactive - 1) c.overflow c.await_active valid.control.senders_fit (omega (arith, valid.control.inactive_fit)) valid.control.sender (λ _. let n = len_insert v.control.cursors key v.end in omega arith) (kept_new_receiver key free few)
@@ -56,7 +63,7 @@ module _ {T : Type 0} where
     pub kept_settings : (overflow await_active : Bool) → IsKept v (record v.control { overflow = overflow; await_active = await_active })
     kept_settings overflow await_active = kept_counts v v.control v.control.senders v.control.inactive overflow await_active valid.control.senders_fit valid.control.inactive_fit valid.control.sender valid.control.receiver (kept_idle v valid)
 
-    pub keeps_resize : (n : ℕ) → 1 ≤ n → n < 2 ^ 64 → KeepsValid v (resize v n) (not (sends_are_ready v))
+    pub keeps_resize : (n : ℕ) → 1 ≤ n → n < 2 ^ 64 → KeepsValid v (resize v n)
     keeps_resize n some few =
         let e : v.end + 0 ≡ v.end = omega arith in
         let idle = kept_idle v valid in
@@ -72,7 +79,6 @@ module _ {T : Type 0} where
           sound = rw e (sound_counts v v.end c n (max c.room n) c.senders c.inactive c.overflow c.await_active
               (record { positive = some; within = omega arith; room_fits = omega (arith, sizes.room_fits); receivers_fit = sizes.receivers_fit; senders_fit = sizes.senders_fit; inactive_fit = sizes.inactive_fit; end_fits = sizes.end_fits }) idle.sound);
           attended = rw e idle.attended;
-          told = λ was _. valid.wake_ups.sends (not_not (sends_are_ready v) was);
         }
 
 module _ {T : Type 0} (v : View T) (valid : IsValidView v) where
@@ -87,7 +93,7 @@ module _ {T : Type 0} (v : View T) (valid : IsValidView v) where
 
   pub kept_drop_receiver : (key : ℕ) (cursor : Option ℕ) → IsKept v (drop_receiver v.control key cursor)
   kept_drop_receiver key None = kept_idle v valid
-  kept_drop_receiver key (Some cursor) = kept_deserted v (without_receiver v.control key) (left key) valid.fits (λ one. one) valid.control.open_end
+  kept_drop_receiver key (Some cursor) = kept_deserted v (without_receiver v.control key) (left key) valid.fits valid.control.open_end
 
   -- the receiver leaves, and one more is inactive
   inactive_instead : (key : ℕ) → v.control.inactive + 1 < 2 ^ 64 → IsKept v (record (without_receiver v.control key) { inactive = v.control.inactive + 1 })
@@ -100,7 +106,6 @@ module _ {T : Type 0} (v : View T) (valid : IsValidView v) where
             (record { positive = sizes.positive; within = sizes.within; room_fits = sizes.room_fits; receivers_fit = sizes.receivers_fit; senders_fit = sizes.senders_fit; inactive_fit = few; end_fits = sizes.end_fits }) s;
         attended = record { sender = valid.control.sender; receiver = λ _. omega arith; open_end = valid.control.open_end };
         fits = valid.fits;
-        told = λ one. one;
       }
 
   pub kept_deactivate : (key : ℕ) (cursor : Option ℕ) → IsKept v (deactivate v.control key cursor)
@@ -119,7 +124,7 @@ module _ {T : Type 0} (v : View T) (valid : IsValidView v) where
       kept_deserted v (record c { senders = senders; inactive = inactive })
       (sound_counts v v.end c c.capacity c.room senders inactive c.overflow c.await_active
       (record { positive = sizes.positive; within = sizes.within; room_fits = sizes.room_fits; receivers_fit = sizes.receivers_fit; senders_fit = omega (arith, sizes.senders_fit); inactive_fit = omega (arith, sizes.inactive_fit); end_fits = sizes.end_fits }) idle.sound)
-      valid.fits (λ one. one) valid.control.open_end
+      valid.fits valid.control.open_end
 
   pub kept_drop_sender : IsKept v (drop_sender v.control)
   kept_drop_sender = test_is (IsKept v) (v.control.senders == 0) v.control (close_if_deserted (record v.control { senders = v.control.senders - 1 }))

@@ -8,7 +8,7 @@ use Rattle.bcast_model.specs.Words.{reply_to_attempt, handed_back, attempt_send_
 use Rattle.bcast_model.specs.Words.{try_broadcast_reply, is_empty_reply, skipped_count, skipped_to}
 use Rattle.bcast_model.specs.Words.{future_reply, stream_reply, next_reply, try_recv_reply, worded, Found}
 use Rattle.bcast_model.specs.Words.{Legal, IsReceivedBy, is_out_of_memory, IsValidView, must_wait}
-use Rattle.bcast_model.specs.Words.{is_wait_reply, is_poll, try_finds_nothing}
+use Rattle.bcast_model.specs.Words.{is_wait_reply, is_poll, try_finds_nothing, PollsWaitWhereTriesFindNothing}
 use Rattle.bcast_model.specs.declared.error.TrySendError.TheVariants as unsent
 use Rattle.bcast_model.specs.declared.error.TryRecvError.TheVariants as unread
 use Rattle.bcast_model.specs.declared.run.SendPoll.TheVariants as send
@@ -100,3 +100,12 @@ module _ {T : Type 0} where
   waits_as_its_try is_clone v (call.PollRecv key) r valid legal poll memory = recv_waits_empty is_clone v key r memory legal
   waits_as_its_try is_clone v (call.PollNext key) r valid legal poll memory = next_waits_empty is_clone v key r memory valid legal
   waits_as_its_try is_clone v c r valid legal poll memory = cc
+
+  pub polls_wait : (is_clone : T → T → Type 0) → PollsWaitWhereTriesFindNothing is_clone
+  polls_wait is_clone = record {
+    send = send_waits_full is_clone;
+    ready = send_waits_unready is_clone;
+    future = future_waits_empty is_clone;
+    recv = recv_waits_empty is_clone;
+    next = λ v key r valid memory legal. next_waits_empty is_clone v key r memory valid legal;
+  }

@@ -1,5 +1,5 @@
 -- What receives keep, and the polls of receivers.
-use Rattle.std.proofs.Common.{◌≡◌, inl, inr, ℕ, ◌+◌, ◌-◌, ◌<◌, ◌≤◌, Bool, true, false, not, length, max, Option, Some, None, Err, slice_get, refl, sym, ap, ◌∙◌, arith}
+use Rattle.std.proofs.Common.{◌≡◌, inl, inr, ℕ, ◌+◌, ◌-◌, ◌<◌, ◌≤◌, Bool, true, false, length, max, Option, Some, None, Err, slice_get, refl, sym, ap, ◌∙◌, arith}
 use Rattle.std.proofs.lemmas.Grind.{common_steps}
 use Rattle.std.proofs.lemmas.Bool.{cases_lt}
 use Rattle.std.proofs.lemmas.Option.{same_Some, slice_get_past}
@@ -9,9 +9,9 @@ use Rattle.bcast_model.specs.declared.error.TryRecvError.TheVariants as unread
 use Rattle.bcast_model.specs.Words.{Reply, consume, wait_again, Pair, same_pair, Control}
 use Rattle.bcast_model.specs.Words.{with_cursor, receive, listens, skipped_to, recv_reply}
 use Rattle.bcast_model.specs.Words.{is_empty_reply, receive_poll, try_recv_reply, is_out_of_memory}
-use Rattle.bcast_model.specs.Words.{View, sends_are_ready, sets, set_unless_refused, IsValidView}
+use Rattle.bcast_model.specs.Words.{View, sets, set_unless_refused, IsValidView}
 use Rattle.bcast_model.proofs.Cases.{test_is, receive_is, lagging_reply, passed_reply}
-use Rattle.bcast_model.proofs.WaitingReceives.{receives_consumed, receives_waiting}
+use Rattle.bcast_model.proofs.Waiting.{receives_consumed, receives_waiting}
 use Rattle.bcast_model.proofs.Sound.{IsNoLower, IsKept}
 use Rattle.bcast_model.proofs.Views.{lagging}
 use Rattle.bcast_model.proofs.DeliveryLists.{past_end}
@@ -99,5 +99,5 @@ module _ {T : Type 0} where
           | inr here ↦ omega arith
         ])
 
-    pub keeps_unless : (r : Reply T) (c : Control) → IsKept v c → KeepsValid v (set_unless_refused v r c) (not (sends_are_ready v))
-    keeps_unless r c idle = test_is (λ e. KeepsValid v e (not (sends_are_ready v))) (is_out_of_memory r) (sets v.control) (sets c) (λ _. keeps_sets v valid v.control (kept_idle v valid)) (λ _. keeps_sets v valid c idle)
+    pub keeps_unless : (r : Reply T) (c : Control) → IsKept v c → KeepsValid v (set_unless_refused v r c)
+    keeps_unless r c idle = test_is (KeepsValid v) (is_out_of_memory r) (sets v.control) (sets c) (λ _. keeps_sets v v.control (kept_idle v valid)) (λ _. keeps_sets v c idle)

@@ -1,24 +1,25 @@
 -- A measure that polls of told listeners lower: fewer listeners are left, or fewer that are told.
-use Rattle.std.proofs.Common.{◌≡◌, ℕ, zero, suc, ◌+◌, ◌*◌, ◌≤◌, Bool, true, false, [], ◌∷◌, length, refl, sym, subst, arith, length-append, ◌==◌, cond, not, ◌&&◌, List, Option, Some, None, ap, ◌∙◌, is_ok}
+use Rattle.std.proofs.Common.{◌≡◌, ℕ, zero, suc, ◌+◌, ◌*◌, ◌≤◌, Bool, true, false, [], ◌∷◌, length, refl, sym, subst, arith, length-append, cond, Option, Some, None, ap, ◌∙◌, is_ok}
+use Rattle.std.proofs.lemmas.Bool.{false≢true}
 use Rattle.std.proofs.lemmas.List.{take-append-drop}
+use Rattle.std.specs.FinMap.{values}
 use Rattle.bcast_model.specs.Words.{Listeners, told_ids, untold_ids, is_in, without, consume}
 use Rattle.bcast_model.specs.Words.{wait_again, IsDistinct, AreInOrder, IsTest, Control, AreListed}
 use Rattle.bcast_model.specs.Words.{listener_count, told_count, Call, Reply, Pair, stream_of}
-use Rattle.bcast_model.specs.Words.{future_of, same_place, same_pair, is_ready, tell_a_sender}
-use Rattle.bcast_model.specs.Words.{tell_receivers, has_place, place_waits, pair_answered}
-use Rattle.bcast_model.specs.Words.{pair_waits, cursor_of, View, sends_are_ready, sets}
-use Rattle.bcast_model.specs.Words.{try_broadcast_reply, accept, offer, with_place_answered}
-use Rattle.bcast_model.specs.Words.{poll_send, receive, Effect, receive_poll, listens, skipped_to}
-use Rattle.bcast_model.specs.Words.{is_empty_reply, try_recv_reply, set_unless_refused}
-use Rattle.bcast_model.specs.Words.{is_out_of_memory, tell_if_ready, settle, next_view, IsValidView}
-use Rattle.bcast_model.specs.Words.{polls_told}
+use Rattle.bcast_model.specs.Words.{future_of, same_place, same_pair, least, tell_receivers}
+use Rattle.bcast_model.specs.Words.{has_place, place_waits, pair_answered, pair_waits, cursor_of}
+use Rattle.bcast_model.specs.Words.{View, sends_are_ready, sets, try_broadcast_reply, accept, offer}
+use Rattle.bcast_model.specs.Words.{with_place_answered, poll_send, receive, Effect, receive_poll}
+use Rattle.bcast_model.specs.Words.{listens, skipped_to, is_empty_reply, try_recv_reply}
+use Rattle.bcast_model.specs.Words.{set_unless_refused, is_out_of_memory, tell_if_ready, settle}
+use Rattle.bcast_model.specs.Words.{next_view, IsValidView, polls_told}
 use Rattle.bcast_model.specs.declared.run.Call.TheVariants as call
 use Rattle.bcast_model.proofs.Lists.{distinct_apart, all_in}
 use Rattle.bcast_model.proofs.Listeners.{told_listed, told_some, consume_listed}
-use Rattle.bcast_model.proofs.Tests.{test_place, test_pair}
-use Rattle.bcast_model.proofs.Cases.{test_is, close_is, accepting_is, receive_is, lists-receive}
+use Rattle.bcast_model.proofs.Waiting.{test_place, test_pair}
+use Rattle.bcast_model.proofs.Cases.{test_is, told_is, told_already, close_is, accepting_is, receive_is, lists-receive}
 use Rattle.bcast_model.proofs.Receives.{empty_at}
-use Rattle.bcast_model.proofs.Kept.{queue_same}
+use Rattle.bcast_model.proofs.Lift.{settle_stays}
 
 -- ---- the measure
 -- 0 + 1 + .. + (n - 1)
@@ -59,20 +60,23 @@ module _ {A : Type 0} (same : A → A → Bool) (test : IsTest same) (id : A) (l
       rw (apart, told) (omega (arith, gone, size), omega (arith, some))
 
 module _ {T : Type 0} (v : View T) (valid : IsValidView v) where
-  -- ---- after an effect, and after a sender was told: the measure is lower
-  abbrev Lowers : Bool → Effect T → Type 0
-  Lowers may e = AreListed (tell_if_ready may (settle v e)).control → unrest (tell_if_ready may (settle v e)).control + 1 ≤ unrest v.control
+  -- ---- after an effect, and after a send was told: the measure is lower
+  abbrev Lowers : Effect T → Type 0
+  Lowers e = AreListed (tell_if_ready (settle v e)).control → unrest (tell_if_ready (settle v e)).control + 1 ≤ unrest v.control
 
-  lowers_gone : (may : Bool) (e : Effect T) → listener_count e.control + 1 ≡ listener_count v.control → 1 ≤ told_count v.control → Lowers may e
-  lowers_gone may e gone some listed =
+  lowers_gone : (e : Effect T) → listener_count e.control + 1 ≡ listener_count v.control → 1 ≤ told_count v.control → Lowers e
+  lowers_gone e gone some listed =
       let w : View T = settle v e in
-      let same = test_is (λ (x : View T). listener_count x.control ≡ listener_count w.control) (may && sends_are_ready w) (record w { control = tell_a_sender w.control }) w (λ _. refl) (λ _. refl) in
-      unrest_gone v.control (tell_if_ready may w).control listed (ap (λ n. n + 1) same ∙ gone) some
+      let same = told_is (λ (x : View T). listener_count x.control ≡ listener_count w.control) w refl refl in
+      unrest_gone v.control (tell_if_ready w).control listed (ap (λ n. n + 1) same ∙ gone) some
 
-  -- none is told if sends were ready before, or are not after it
-  lowers_waits : (may : Bool) (c : Control) → (may && sends_are_ready (settle v (sets c))) ≡ false → listener_count c ≡ listener_count v.control → told_count c + 1 ≡ told_count v.control → Lowers may (sets c)
-  lowers_waits may c untold same fewer listed =
-      subst (λ b. unrest (cond {A = View T} b (record (settle v (sets c)) { control = tell_a_sender c }) (settle v (sets c))).control + 1 ≤ unrest v.control) (sym untold) (subst (λ n. unrest c + 1 ≤ sum_below n + told_count v.control) same (omega arith))
+  -- none is told if one that waits is told already, or sends are not ready
+  lowers_waits : (c : Control) → least v.end (values c.cursors) ≤ v.front → (sends_are_ready (record v { control = c }) ≡ true → 1 ≤ length c.waiting_sends.ids → 1 ≤ c.waiting_sends.told)
+      → listener_count c ≡ listener_count v.control → told_count c + 1 ≡ told_count v.control → Lowers (sets c)
+  lowers_waits c low told same fewer listed =
+      let w : View T = record v { control = c } in
+      let is : tell_if_ready (settle v (sets c)) ≡ w = ap tell_if_ready (settle_stays v c low) ∙ told_already w told in
+      subst (λ (x : View T). unrest x.control + 1 ≤ unrest v.control) (sym is) (subst (λ n. unrest c + 1 ≤ sum_below n + told_count v.control) same (omega arith))
 
   -- ---- receives
   -- a receive that finds nothing moves no cursor
@@ -86,25 +90,24 @@ module _ {T : Type 0} (v : View T) (valid : IsValidView v) where
       (λ _ _. refl)
 
   module _ (pair : Pair) (cursor : Option ℕ) (told : is_in same_pair pair (told_ids v.control.waiting_receives) ≡ true) where
-    receive_answered : Lowers (not (sends_are_ready v)) (sets (pair_answered (receive v pair.0 cursor) pair))
+    receive_answered : Lowers (sets (pair_answered (receive v pair.0 cursor) pair))
     receive_answered =
         let gone = one_gone same_pair test_pair pair v.control.waiting_receives valid.control.lists.receives told in
         let some = told_some same_pair test_pair pair v.control.waiting_receives told in
         let lists = lists-receive v pair.0 cursor in
         let receives = ap (λ (l : Listeners Pair). length (without same_pair pair l.ids)) lists.1 in
         let sends = ap (λ (l : Listeners ℕ). length l.ids) lists.0 in
-        lowers_gone (not (sends_are_ready v)) (sets (pair_answered (receive v pair.0 cursor) pair)) (omega (arith, gone, receives, sends)) (omega (arith, some))
+        lowers_gone (sets (pair_answered (receive v pair.0 cursor) pair)) (omega (arith, gone, receives, sends)) (omega (arith, some))
 
-    receive_waits : Lowers (not (sends_are_ready v)) (sets (pair_waits v.control pair))
+    receive_waits : Lowers (sets (pair_waits v.control pair))
     receive_waits =
         let last = waits_last same_pair test_pair pair v.control.waiting_receives valid.control.lists.receives told in
-        let ready : sends_are_ready (settle v (sets (pair_waits v.control pair))) ≡ sends_are_ready v = ap (λ (q : List T). is_ready v.control (length q == v.control.capacity)) (queue_same v valid (pair_waits v.control pair) refl) in
-        lowers_waits (not (sends_are_ready v)) (pair_waits v.control pair) (ap (λ b. not (sends_are_ready v) && b) ready ∙ elim (sends_are_ready v) as (λ b. (not b && b) ≡ false) [ true ↦ refl | false ↦ refl ]) (omega (arith, last.0)) (omega (arith, last.1))
+        lowers_waits (pair_waits v.control pair) valid.low valid.wake_ups.sends (omega (arith, last.0)) (omega (arith, last.1))
 
-    lowers_receive : (r : Reply T) → is_out_of_memory r ≡ false → Lowers (not (sends_are_ready v)) (set_unless_refused v r (receive_poll v pair cursor))
-    lowers_receive r memory = subst (λ b. Lowers (not (sends_are_ready v)) (cond b (sets v.control) (sets (receive_poll v pair cursor)))) (sym memory)
-        (elim (is_empty_reply (try_recv_reply v cursor)) as (λ b. is_empty_reply (try_recv_reply v cursor) ≡ b → Lowers (not (sends_are_ready v)) (sets (listens (receive v pair.0 cursor) pair b))) [
-          | true ↦ λ none. subst (λ c. Lowers (not (sends_are_ready v)) (sets (pair_waits c pair))) (sym (nothing_moves pair.0 cursor none)) receive_waits
+    lowers_receive : (r : Reply T) → is_out_of_memory r ≡ false → Lowers (set_unless_refused v r (receive_poll v pair cursor))
+    lowers_receive r memory = subst (λ b. Lowers (cond b (sets v.control) (sets (receive_poll v pair cursor)))) (sym memory)
+        (elim (is_empty_reply (try_recv_reply v cursor)) as (λ b. is_empty_reply (try_recv_reply v cursor) ≡ b → Lowers (sets (listens (receive v pair.0 cursor) pair b))) [
+          | true ↦ λ none. subst (λ c. Lowers (sets (pair_waits c pair))) (sym (nothing_moves pair.0 cursor none)) receive_waits
           | false ↦ λ found. receive_answered
         ] refl)
 
@@ -117,26 +120,28 @@ module _ {T : Type 0} (v : View T) (valid : IsValidView v) where
       (λ _. accepting_is HasSameIds v.control (v.end + 1) (close_is HasSameIds (tell_receivers v.control) (λ _. (refl, refl)) (λ _. (refl, refl))) (λ _. (refl, refl))) (λ _. (refl, refl))
 
   module _ (place : ℕ) (msg : T) (told : is_in same_place place (told_ids v.control.waiting_sends) ≡ true) where
-    send_answered : (may : Bool) → Lowers may (with_place_answered (offer v msg) place)
-    send_answered may =
+    send_answered : Lowers (with_place_answered (offer v msg) place)
+    send_answered =
         let ids = offered_ids msg in
         let gone = one_gone same_place test_place place v.control.waiting_sends valid.control.lists.sends told in
         let some = told_some same_place test_place place v.control.waiting_sends told in
         let sends = ap (λ ids. length (without same_place place ids)) ids.0 in
         let receives = ap length ids.1 in
-        lowers_gone may (with_place_answered (offer v msg) place) (omega (arith, gone, sends, receives)) (omega (arith, some))
+        lowers_gone (with_place_answered (offer v msg) place) (omega (arith, gone, sends, receives)) (omega (arith, some))
 
-    send_waits : Lowers false (sets (place_waits v.control place))
-    send_waits =
+    send_waits : sends_are_ready v ≡ false → Lowers (sets (place_waits v.control place))
+    send_waits unready =
         let last = waits_last same_place test_place place v.control.waiting_sends valid.control.lists.sends told in
-        lowers_waits false (place_waits v.control place) refl (omega (arith, last.0)) (omega (arith, last.1))
+        lowers_waits (place_waits v.control place) valid.low (λ ready. absurd (false≢true (sym unready ∙ ready))) (omega (arith, last.0)) (omega (arith, last.1))
 
     placed : has_place v.control place ≡ true
     placed = all_in same_place test_place (λ other. has_place v.control other ≡ true) place v.control.waiting_sends.ids valid.control.lists.places (told_listed same_place test_place place v.control.waiting_sends told)
 
-    lowers_send : Lowers (has_place v.control place && sends_are_ready v) (poll_send v place msg)
-    lowers_send = subst (λ b. Lowers (b && sends_are_ready v) (cond b (cond (sends_are_ready v) (with_place_answered (offer v msg) place) (sets (place_waits v.control place))) (sets v.control))) (sym placed)
-        (elim (sends_are_ready v) as (λ b. Lowers b (cond b (with_place_answered (offer v msg) place) (sets (place_waits v.control place)))) [ true ↦ send_answered true | false ↦ send_waits ])
+    lowers_send : Lowers (poll_send v place msg)
+    lowers_send =
+        let waits : Effect T = sets (place_waits v.control place) in
+        subst (λ b. Lowers (cond b (cond (sends_are_ready v) (with_place_answered (offer v msg) place) waits) (sets v.control))) (sym placed)
+        (test_is Lowers (sends_are_ready v) (with_place_answered (offer v msg) place) waits (λ _. send_answered) send_waits)
 
   -- a poll of a told listener that isn't out of memory lowers the measure
   pub lowers : (c : Call T) (r : Reply T) → polls_told v.control c ≡ true → is_out_of_memory r ≡ false → AreListed (next_view v c r).control → unrest (next_view v c r).control + 1 ≤ unrest v.control

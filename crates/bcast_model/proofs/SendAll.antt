@@ -1,14 +1,19 @@
--- What a send of a whole list keeps.
-use Rattle.std.proofs.Common.{◌≡◌, inl, ℕ, ◌+◌, ◌-◌, ◌^◌, ◌<◌, ◌≤◌, not, true, false, cond, List, [], ◌∷◌, length, nat_lt, Ok, Err, refl, subst, arith, length-append, length-drop, is_ok, Result}
+-- What a send of a whole list keeps; and calls that leave the cursors and the capacity, and open no
+-- channel.
+use Rattle.std.proofs.Common.{◌≡◌, inl, ℕ, ◌+◌, ◌-◌, ◌^◌, ◌<◌, ◌≤◌, true, false, cond, List, [], ◌∷◌, length, nat_lt, Ok, Err, refl, subst, arith, length-append, length-drop, is_ok, Result, ◌==◌, ◌||◌, not, Option, Some, None}
 use Rattle.std.proofs.lemmas.Grind.{common_steps}
+use Rattle.std.specs.Option.{option_map_or}
 use Rattle.bcast_model.specs.declared.error.TrySendError.TheVariants as unsent
 use Rattle.bcast_model.specs.Words.{has_no_receiver, Effect, sets, IsValidView, free_room}
 use Rattle.bcast_model.specs.Words.{try_broadcast_all_reply, accept_all, offer_all, View}
-use Rattle.bcast_model.specs.Words.{sends_are_ready, TrySendError}
-use Rattle.bcast_model.proofs.Cases.{stays-accepting, test_is}
+use Rattle.bcast_model.specs.Words.{TrySendError, Control, close_if_deserted, has_place}
+use Rattle.bcast_model.specs.Words.{place_waits, sends_are_ready, try_broadcast_reply, accept}
+use Rattle.bcast_model.specs.Words.{offer, with_place_answered, poll_send, has_next, new_sender}
+use Rattle.bcast_model.specs.Words.{clone_inactive, drop_sender, drop_inactive, with_place}
+use Rattle.bcast_model.proofs.Cases.{stays-accepting, test_is, Stays, kept, stays-deserted}
 use Rattle.bcast_model.proofs.Lift.{KeepsValid}
-use Rattle.bcast_model.proofs.Kept.{not_not, kept_idle, keeps_sets}
-use Rattle.bcast_model.proofs.Sends.{attended_accepting, sound_accepting, told_accepting}
+use Rattle.bcast_model.proofs.Kept.{kept_idle, keeps_sets}
+use Rattle.bcast_model.proofs.Sends.{attended_accepting, sound_accepting}
 
 -- ---- what holds of both outcomes
 module _ {T : Type 0} where
@@ -39,7 +44,7 @@ module _ {T : Type 0} where
       (λ t _. let fits : length msgs ≤ free_room v = grind (arith, common_steps, t) in record { opened = opened; someone = someone; room = omega (arith, fits); numbers = omega (arith, fits) })))
 
   module _ (v : View T) (valid : IsValidView v) where
-    keeps_accept_all : (msg : T) (rest : List T) → IsRoomy v (length (msg ∷ rest)) → KeepsValid v (accept_all v (msg ∷ rest)) (not (sends_are_ready v))
+    keeps_accept_all : (msg : T) (rest : List T) → IsRoomy v (length (msg ∷ rest)) → KeepsValid v (accept_all v (msg ∷ rest))
     keeps_accept_all msg rest roomy =
         let idle = kept_idle v valid in
         let end : ℕ = v.end + length (msg ∷ rest) in
@@ -50,9 +55,42 @@ module _ {T : Type 0} where
           fits = rw same (simp (length-drop, length-append) (omega (arith, roomy.room, valid.fits)));
           sound = sound_accepting v v.control v.end end (omega arith) below idle.sound;
           attended = attended_accepting v.control v.end end below idle.attended;
-          told = λ was _. told_accepting v.control end (valid.wake_ups.sends (not_not (sends_are_ready v) was));
         }
 
-    pub keeps_offer_all : (msgs : List T) → KeepsValid v (offer_all v msgs) (not (sends_are_ready v))
-    keeps_offer_all msgs = offer_all_is (λ e. KeepsValid v e (not (sends_are_ready v))) v msgs (keeps_sets v valid v.control (kept_idle v valid))
+    pub keeps_offer_all : (msgs : List T) → KeepsValid v (offer_all v msgs)
+    keeps_offer_all msgs = offer_all_is (KeepsValid v) v msgs (keeps_sets v v.control (kept_idle v valid))
         (λ msg rest is e. keeps_accept_all msg rest (subst (λ list. IsRoomy v (length list)) is (roomy v msgs e)))
+
+-- ---- the parts of a call
+module _ (c : Control) where
+  pub stays-placed : (place : Option ℕ) → Stays c (option_map_or (with_place c) place c)
+  stays-placed None = kept c
+  stays-placed (Some place) = kept c
+
+  pub stays-new_sender : Stays c (new_sender c)
+  stays-new_sender = test_is (Stays c) (has_next c.senders) (record c { senders = c.senders + 1 }) c (λ _. kept c) (λ _. kept c)
+
+  pub stays-clone_inactive : Stays c (clone_inactive c)
+  stays-clone_inactive = test_is (Stays c) ((c.inactive == 0) || not (has_next c.inactive)) c (record c { inactive = c.inactive + 1 }) (λ _. kept c) (λ _. kept c)
+
+pub stays-drop_sender : (c : Control) → Stays c (drop_sender c)
+stays-drop_sender c = let now : Control = record c { senders = c.senders - 1 } in test_is (Stays c) (c.senders == 0) c (close_if_deserted now) (λ _. kept c) (λ _. stays-deserted now)
+
+pub stays-drop_inactive : (c : Control) → Stays c (drop_inactive c)
+stays-drop_inactive c = let now : Control = record c { inactive = c.inactive - 1 } in test_is (Stays c) (c.inactive == 0) c (close_if_deserted now) (λ _. kept c) (λ _. stays-deserted now)
+
+module _ {T : Type 0} (v : View T) where
+  abbrev pub StaysBy : Effect T → Type 0
+  StaysBy e = Stays v.control e.control
+
+  pub stays-offer : (msg : T) → StaysBy (offer v msg)
+  stays-offer msg = test_is StaysBy (is_ok (try_broadcast_reply v msg)) (accept v msg) (sets v.control) (λ _. stays-accepting v.control (v.end + 1)) (λ _. kept v.control)
+
+  pub stays-offer_all : (msgs : List T) → StaysBy (offer_all v msgs)
+  stays-offer_all msgs = offer_all_is StaysBy v msgs (kept v.control) (λ msg rest is e. stays-accepting v.control (v.end + length (msg ∷ rest)))
+
+  pub stays-poll_send : (place : ℕ) (msg : T) → StaysBy (poll_send v place msg)
+  stays-poll_send place msg =
+      let waits : Effect T = sets (place_waits v.control place) in
+      test_is StaysBy (has_place v.control place) (cond (sends_are_ready v) (with_place_answered (offer v msg) place) waits) (sets v.control)
+      (λ _. test_is StaysBy (sends_are_ready v) (with_place_answered (offer v msg) place) waits (λ _. stays-offer msg) (λ _. kept v.control)) (λ _. kept v.control)

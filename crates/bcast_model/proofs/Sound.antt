@@ -6,10 +6,10 @@ use Rattle.std.specs.Ordering.{nat_cmp, eq_by_cmp}
 use Rattle.std.specs.Cmp.{nat_cmp_total}
 use Rattle.std.specs.FinMap.{get, insert, remove, len, get-insert, get-remove, len-remove}
 use Rattle.bcast_model.specs.Words.{Listeners, Pair, Control, Places, closing, close, with_cursor}
-use Rattle.bcast_model.specs.Words.{without_receiver, View}
+use Rattle.bcast_model.specs.Words.{without_receiver, View, same_place, same_pair}
 use Rattle.bcast_model.proofs.Cases.{close_is}
-use Rattle.bcast_model.proofs.WaitingSends.{OneIsTold, AreSends, sends_all_told}
-use Rattle.bcast_model.proofs.WaitingReceives.{AreReceives, receives_all_told, receives_moved, receives_without}
+use Rattle.bcast_model.proofs.Listeners.{fit_all_told}
+use Rattle.bcast_model.proofs.Waiting.{test_place, test_pair, AreSends, AreReceives, receives_moved, receives_without}
 
 -- counts and settings fit
 pub record AreSizes (capacity room receivers senders inactive end : ℕ) : Type 0 where
@@ -47,7 +47,6 @@ pub record IsKept {T : Type 0} (v : View T) (c : Control) : Type 0 where
   pub sound : IsSound v v.end c
   pub attended : IsAttended c.closed c.senders (len c.cursors) c.inactive v.end
   pub fits : length v.queue ≤ c.capacity
-  pub told : OneIsTold v.control.waiting_sends → OneIsTold c.waiting_sends
 
 module _ {T : Type 0} (v : View T) (end : ℕ) (c : Control) where
   -- ---- closing
@@ -55,8 +54,8 @@ module _ {T : Type 0} (v : View T) (end : ℕ) (c : Control) where
   sound_closing s = record {
     cursors = s.cursors;
     sizes = s.sizes;
-    sends = sends_all_told c.places c.waiting_sends s.sends;
-    receives = receives_all_told c.cursors c.closed true end end c.waiting_receives s.receives;
+    sends = fit_all_told same_place test_place c.waiting_sends s.sends;
+    receives = fit_all_told same_pair test_pair c.waiting_receives s.receives;
   }
 
   pub sound_close : IsSound v end c → IsSound v end (close c)

@@ -15,7 +15,7 @@ use Rattle.bcast_model.specs.declared.error.TryRecvError.TheVariants as unread
 use Rattle.bcast_model.specs.declared.run.Call.TheVariants as call
 use Rattle.bcast_model.specs.declared.run.Reply.TheVariants as reply
 use Rattle.bcast_model.proofs.Lists.{all_in, some}
-use Rattle.bcast_model.proofs.Tests.{test_place, test_pair}
+use Rattle.bcast_model.proofs.Waiting.{test_place, test_pair}
 use Rattle.bcast_model.proofs.Polls.{send_waits_unready}
 use Rattle.bcast_model.proofs.Receives.{empty_at_end}
 use Rattle.bcast_model.proofs.Views.{valid_view}

@@ -1,5 +1,5 @@
 -- Laws of deliveries: they are exact, and what a receiver misses was dropped.
-use Rattle.std.specs.Prelude.{◌≡◌, ℕ, ◌+◌, ◌<◌, ◌⊎◌, List, slice_get, Some, None}
+use Rattle.std.specs.Prelude.{◌≡◌, ℕ, ◌<◌, ◌⊎◌, List, Some}
 use Rattle.std.specs.List.{AllByRecursion, Contains}
 use Rattle.std.specs.List.Sorted.{IsStrictlyIncreasing}
 use Rattle.bcast_model.specs.Calls.{Call, Reply}
@@ -8,10 +8,9 @@ use Rattle.bcast_model.specs.Control.{cursor_of}
 use Rattle.bcast_model.specs.Legal.{Legal}
 use Rattle.bcast_model.specs.Replies.{HasPositiveCapacity}
 use Rattle.bcast_model.specs.Valid.{IsValid}
-use Rattle.bcast_model.specs.Run.{IsRun, end_of_run}
+use Rattle.bcast_model.specs.Next.{IsRun, end_of_run}
 use Rattle.bcast_model.specs.Deliveries.{given_to, deliveries_of, AreAllExact, AtEachPoint}
-use Rattle.bcast_model.specs.Dropped.{dropped_in}
-use Rattle.bcast_model.specs.Missed.{MissesWhatIsGone}
+use Rattle.bcast_model.specs.Missed.{dropped_in, MissesWhatIsGone}
 
 -- in a run from a valid state the deliveries of every receiver are exact, from the start of the
 -- run or from the call that made it
@@ -27,24 +26,6 @@ module _ {T : Type 0} where
   abbrev pub WasDropped : History T → List (Call T) → List (Reply T) → ℕ → Type 0
   WasDropped h calls replies number =
       (number < h.floor) ⊎ Contains (dropped_in h calls replies) number
-
--- a run, and a later one that continues it: the deliveries in the later one to the receiver `key`,
--- whose cursor is `start` when it begins
-pub record MissesOnlyDropped
-    {T : Type 0} (h : History T) (calls : List (Call T)) (replies : List (Reply T))
-    (key start : ℕ) (later : List (Call T)) (later_replies : List (Reply T)) : Type 0 where
-  -- each None is for a message that a call of the two runs dropped, or that is under the floor when
-  -- the first begins (in a new channel no receiver reads such a message)
-  pub missed : (index : ℕ)
-      → slice_get (deliveries_of key (end_of_run h calls replies) later later_replies) index
-      ≡ Some None
-      → WasDropped h calls replies (start + index)
-      ⊎ Contains (dropped_in (end_of_run h calls replies) later later_replies) (start + index)
-  -- no message that was dropped before the later run is given
-  pub given : (index : ℕ) (msg : T)
-      → slice_get (deliveries_of key (end_of_run h calls replies) later later_replies) index
-      ≡ Some (Some msg)
-      → WasDropped h calls replies (start + index) → ⊥
 
 -- the messages that a run drops, also those that overflow hands back, have rising numbers: none is
 -- dropped twice
@@ -64,10 +45,11 @@ MissedWereDropped {T} is_clone =
     → IsValid h → AllByRecursion HasPositiveCapacity calls → IsRun is_clone h calls replies
     → cursor_of (end_of_run h calls replies).control key ≡ Some cursor
     → Legal is_clone (view_of (end_of_run h calls replies)) c r
-    → MissesWhatIsGone (WasDropped h calls replies) cursor (given_to key c r)
+    → MissesWhatIsGone (WasDropped h calls replies) (WasDropped h calls replies) cursor
+    (given_to key c r)
 
--- at each point of each run: all that a receiver counts as missed from there on was dropped, and what
--- it gets was not
+-- from each point of each run on: what a receiver counts as missed was dropped before the point, or
+-- is dropped later in the run; and no message that was dropped before the point is given
 abbrev pub DeliveriesTile : {T : Type 0} → (T → T → Type 0) → Type 0
 DeliveriesTile {T} is_clone =
     (h : History T) (calls : List (Call T)) (replies : List (Reply T))
@@ -76,4 +58,8 @@ DeliveriesTile {T} is_clone =
     → AllByRecursion HasPositiveCapacity later
     → IsRun is_clone (end_of_run h calls replies) later later_replies
     → cursor_of (end_of_run h calls replies).control key ≡ Some start
-    → MissesOnlyDropped h calls replies key start later later_replies
+    → let now = end_of_run h calls replies in
+    MissesWhatIsGone (WasDropped h calls replies)
+    (λ number. WasDropped h calls replies number
+    ⊎ Contains (dropped_in now later later_replies) number)
+    start (deliveries_of key now later later_replies)

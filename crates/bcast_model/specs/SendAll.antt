@@ -3,8 +3,7 @@ use Rattle.std.specs.Prelude.{ℕ, ◌+◌, ◌-◌, if◌then◌else◌, List, 
 use Rattle.bcast_model.specs.Calls.{TrySendError}
 use Rattle.bcast_model.specs.declared.error.TrySendError.TheVariants as unsent
 use Rattle.bcast_model.specs.Control.{has_no_receiver, accepting, last_end}
-use Rattle.bcast_model.specs.View.{View}
-use Rattle.bcast_model.specs.Effect.{Effect, sets}
+use Rattle.bcast_model.specs.View.{View, Effect, sets}
 
 module _ {T : Type 0} where
   -- how many messages can be accepted with none dropped: by free capacity, and by numbers left

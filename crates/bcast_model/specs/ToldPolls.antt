@@ -7,9 +7,8 @@ use Rattle.bcast_model.specs.ListenerId.{Pair, stream_of, future_of, same_place,
 use Rattle.bcast_model.specs.Control.{Control}
 use Rattle.bcast_model.specs.History.{History, view_of}
 use Rattle.bcast_model.specs.Legal.{Legal}
-use Rattle.bcast_model.specs.Next.{is_out_of_memory, next}
+use Rattle.bcast_model.specs.Next.{is_out_of_memory, next, IsRun}
 use Rattle.bcast_model.specs.Valid.{IsValid}
-use Rattle.bcast_model.specs.Run.{IsRun}
 use Rattle.bcast_model.specs.PollLaws.{must_wait}
 
 -- how many listeners wait, pending sends and receivers together

@@ -1,8 +1,8 @@
 -- What a contract sees of a `Store`: the kept messages, and the receivers that are to read them.
 use Rattle.std.specs.Prelude.{◌≡◌, ℕ, ◌+◌, ◌-◌, ◌^◌, ◌<◌, ◌≤◌, ◌⊎◌, List, ◌++◌, length, max, drop, slice_get, Some, IsSomeAnd, refl}
 use Rattle.std.specs.Coded.{Coded, code_by, coded×, coded_ℕ, coded_list}
-use Rattle.std.specs.FinMap.{get, len, values, code}
-use Rattle.bcast_model.specs.Words.{least, Cursors, IsUnreadByAnother}
+use Rattle.std.specs.FinMap.{get, len, code}
+use Rattle.bcast_model.specs.Words.{least_cursor, Cursors, IsUnreadByAnother}
 
 -- the number of the first kept message, the kept messages, the receivers' cursors, and how many
 -- messages fit
@@ -29,7 +29,7 @@ module _ {T : Type 0} where
   -- other cursors: the messages that no receiver is to read any more are dropped
   abbrev pub with_cursors : Stored T → Cursors → Stored T
   with_cursors s cursors =
-      let front = max s.front (least (end_of s) (values cursors)) in
+      let front = max s.front (least_cursor (end_of s) cursors) in
       record s { front = front; queue = drop (front - s.front) s.queue; cursors = cursors }
 
   -- whether another receiver is still to read the message of this number
@@ -55,7 +55,7 @@ module _ {T : Type 0} where
 
 -- what always holds: some receiver is to read each kept message, and no cursor is past the end
 pub record IsSettled {T : Type 0} (s : Stored T) : Type 0 where
-  pub front : least (end_of s) (values s.cursors) ≤ s.front
+  pub front : least_cursor (end_of s) s.cursors ≤ s.front
   pub reach : (key cursor : ℕ) → get s.cursors key ≡ Some cursor → cursor ≤ end_of s
   pub fits : length s.queue ≤ s.room
   pub end_fits : end_of s < 2 ^ 64

@@ -6,7 +6,7 @@ use Rattle.std.proofs.lemmas.List.{get_or_append_left, get_or-set_other}
 use Rattle.std.proofs.lemmas.Grind.{get_or-set_at, common_steps}
 use Rattle.std.specs.List.{AllByRecursion}
 use Rattle.bcast_model.specs.Listeners.{is_in, IsDistinct}
-use Rattle.bcast_model.proofs.Tests.{test_place}
+use Rattle.bcast_model.proofs.Waiting.{test_place}
 use Rattle.bcast_waiting.specs.Words.{listed, has, IsAt, IsIndexed}
 use Rattle.bcast_waiting.proofs.InSlots.{absent_slots}
 

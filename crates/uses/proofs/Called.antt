@@ -1,18 +1,17 @@
 -- What is seen after a call, apart from who was told, and the cursors after one of them moved.
-use Rattle.std.proofs.Common.{◌≡◌, ℕ, ◌≤◌, not, ◌&&◌, true, false, cond, Option, Some, None, refl, sym, ap, ◌∙◌, subst, arith, IsSome}
+use Rattle.std.proofs.Common.{◌≡◌, ℕ, ◌≤◌, true, false, cond, Option, Some, None, refl, sym, ap, ◌∙◌, subst, arith, IsSome}
 use Rattle.std.proofs.lemmas.Grind.{common_steps}
 use Rattle.std.specs.Ordering.{nat_cmp, eq_by_cmp}
 use Rattle.std.specs.Cmp.{nat_cmp_total}
 use Rattle.std.specs.FinMap.{get, insert, get-insert}
-use Rattle.bcast_model.specs.Words.{Cursors, tell_a_sender, sets, effect, settle, may_tell, tell_if_ready}
+use Rattle.bcast_model.specs.Words.{Cursors, tell_a_sender, sets, effect, settle, tell_if_ready}
 use Rattle.bcast_model.specs.declared.run.Call.{Call}
 use Rattle.bcast_model.specs.declared.run.Reply.{Reply}
-use Rattle.bcast_model.specs.Words.{View, sends_are_ready, Answers, IsValidView}
-use Rattle.bcast_model.proofs.Answers.{shown_after}
-use Rattle.bcast_model.proofs.Cases.{test_is}
-use Rattle.bcast_model.proofs.Steps.{steps}
+use Rattle.bcast_model.specs.Words.{View, Answers, IsValidView}
+use Rattle.bcast_model.proofs.Answers.{shown_after, steps}
+use Rattle.bcast_model.proofs.Cases.{told_is, told_valid}
 use Rattle.bcast_core.proofs.Does.{valid_shown}
-use Rattle.bcast_core.proofs.Settle.{settle_same, told_nobody}
+use Rattle.bcast_core.proofs.Settle.{settle_same}
 
 module _ {T : Type 0} where
   -- a sender is told
@@ -30,13 +29,11 @@ module _ {T : Type 0} where
     pub after : (P : View T → Type 0) → ((u : View T) → P u → P (told u)) → P (settle v (effect v c r)) → P w
     after P keeps here =
         let mid : View T = settle v (effect v c r) in
-        subst P (sym (steps a).next) (test_is P (may_tell v.control (sends_are_ready v) c && sends_are_ready mid) (told mid) mid (λ _. keeps mid here) (λ _. here))
+        subst P (sym (steps a).next) (told_is P mid (keeps mid here) here)
 
     -- a call without an effect changes nothing
-    pub unchanged : effect v c r ≡ sets v.control → may_tell v.control (sends_are_ready v) c ≡ not (sends_are_ready v) → w ≡ v
-    unchanged is may =
-        (steps a).next ∙ ap (λ b. tell_if_ready b (settle v (effect v c r))) may
-        ∙ ap (tell_if_ready (not (sends_are_ready v))) (ap (settle v) is ∙ settle_same v valid) ∙ told_nobody v
+    pub unchanged : effect v c r ≡ sets v.control → w ≡ v
+    unchanged is = (steps a).next ∙ ap tell_if_ready (ap (settle v) is ∙ settle_same v valid) ∙ told_valid v valid
 
 pub some_of : (o : Option ℕ) → IsSome o → (n : ℕ) × (o ≡ Some n)
 some_of (Some n) is = (n, refl)

@@ -83,7 +83,7 @@ module _ {S : Type 0} where
       let s = after a (λ u. Looked v u key × (get u.control.cursors key ≡ Some v.end)) (λ u s. (heard v u key (tell_a_sender u.control) refl refl refl refl s.0, s.1))
       (seen_at v key config v.end refl, inserted v.control.cursors key v.end) in
       record { config = s.0.config; watcher = s.1; others = s.0.others }
-  watches {v = v} {result = Err error} a config = subst (λ u. Watches v u (Err error)) (sym (unchanged a refl refl)) (record { config = config; watcher = tt; others = tt })
+  watches {v = v} {result = Err error} a config = subst (λ u. Watches v u (Err error)) (sym (unchanged a refl)) (record { config = config; watcher = tt; others = tt })
 
   -- ---- `try_broadcast`
   -- only the last of the kept messages is left

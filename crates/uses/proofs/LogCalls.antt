@@ -103,5 +103,5 @@ module _ {T : Type 0} where
       let s = cloned key made a log in
       record { log = s.log; added = s.starts; others = s.others; reader = s.reader; fresh = s.fresh; readers = s.readers }
   adds {v = v} {w = w} {key = key} {result = Err error} a log =
-      let same : w ≡ v = unchanged a (ap (λ c. sets c) (uncloned v.control (cursor_of v.control key))) refl in
+      let same : w ≡ v = unchanged a (ap (λ c. sets c) (uncloned v.control (cursor_of v.control key))) in
       subst (λ u. Adds v u key (Err error)) (sym same) (record { log = log; added = tt; others = tt; reader = tt; fresh = tt; readers = λ other is. is })

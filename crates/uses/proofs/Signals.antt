@@ -35,7 +35,7 @@ module _ (v : View Nothing) (valid : IsValidView v) (unused : v.end ≡ 0) (curs
 module _ {is_clone : Nothing → Nothing → Type 0} {v w : View Nothing} {key : ℕ} where
   -- a worker's look changes nothing
   pub looked_same : {result : Result (Result Nothing TryRecvError) AllocError} → Answers is_clone v (call.TryRecv key) (reply.TryRecv result) w → IsSignal v → IsSome (get v.control.cursors key) → w ≡ v
-  looked_same {result = result} a signal worker = unchanged a (same result) refl
+  looked_same {result = result} a signal worker = unchanged a (same result)
     where
       same : (r : Result (Result Nothing TryRecvError) AllocError) → effect v (call.TryRecv key) (reply.TryRecv r) ≡ sets v.control
       same (Ok received) = let at = some_of (cursor_of v.control key) worker in ap (λ o. sets (receive v key o)) at.1 ∙ ap (λ c. sets c) (none_moved v (valid a) signal.unused at.0 key)

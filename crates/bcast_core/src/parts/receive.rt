@@ -129,7 +129,7 @@ impl<T: Clone, N: Notice, A: Allocator + Copy> Parts<T, N, A> {
         requires at { (at ≡ cursor_of self.old.control key)
             ⊎ (at ≡ skipped_to self.old.front (cursor_of self.old.control key)) }
         ensures found { IfOk result (IsReceivedBy T.is_clone self.old key at (λ found. found)) }
-        ensures ok { IfOk result (λ received. OnOk received (self.new ≡ tell_if_ready true
+        ensures ok { IfOk result (λ received. OnOk received (self.new ≡ tell_if_ready
             (settle self.old (sets (receive_poll self.old (key, kind) at))))) }
         ensures err { IfOk result (λ received. OnErr received (self.new ≡ self.old)) }
         ensures sure { ((msg : T) → T.is_infallible msg) → IfOk result IsOk }
@@ -162,7 +162,7 @@ impl<T: Clone, N: Notice, A: Allocator + Copy> Parts<T, N, A> {
     // What else there is to do for a listener that got its answer, while somebody waits.
     #[inline(never)]
     fn tell_of_receive(&mut self, key: usize, kind: Kind)
-        ensures { self.new ≡ tell_if_ready true
+        ensures { self.new ≡ tell_if_ready
             (record self.old { control = pair_answered self.old.control (key, kind) }) }
     {
         self.receives.consume((key, kind));

@@ -147,7 +147,7 @@ impl<T: Drop, N: Notice, A: Allocator + Copy> Parts<T, N, A> {
             then attempt_send_reply self.old msg
             else send.Wait msg)) }
         ensures effect { OnOk result (self.new
-            ≡ tell_if_ready true (settle self.old (poll_send self.old place msg))) }
+            ≡ tell_if_ready (settle self.old (poll_send self.old place msg))) }
 
         ensures made { IfOk result (λ sent. must_wait (reply.PollSend sent) ≡ true
             → M.made maker.old maker.new) }
@@ -185,7 +185,7 @@ impl<T: Drop, N: Notice, A: Allocator + Copy> Parts<T, N, A> {
     #[inline(never)]
     fn tell_of_send(&mut self, place: usize, news: bool)
         ensures { let told = tell_news news self.old in self.new
-            ≡ tell_if_ready true (record told { control = place_answered told.control place }) }
+            ≡ tell_if_ready (record told { control = place_answered told.control place }) }
     {
         self.tell_news(news);
         self.place_answered(place);

@@ -1,5 +1,5 @@
 -- The receiver is left at the front.
-use Rattle.bcast_laws.proofs.Missed.{missed_finds}
+use Rattle.bcast_laws.proofs.Unread.{missed_finds}
 use Rattle.bcast_laws.proofs.missed_then_given.Goals as goal
 
 pub returns : goal.returns

@@ -1,4 +1,4 @@
-use Rattle.std.proofs.Common.{true, sym, ◌∙◌, ap}
+use Rattle.std.proofs.Common.{sym, ◌∙◌, ap}
 use Rattle.bcast_model.specs.Words.{cursor_of}
 use Rattle.bcast_core.proofs.Making.{not_some}
 use Rattle.bcast_core.proofs.Receivers.{added_fits, clone_added, not_cloned}
@@ -23,7 +23,7 @@ pub returns-else-not-is_empty : goal.returns-else-not-is_empty
 returns-else-not-is_empty g c =
     let valid = valid_shown c.self.invariant in
     ends c.self.view_is c.self.invariant (added_fits _ _ _ valid c.add_receiver-made.ensures) (clone_added _ _ _ valid (sym (c.cursor.ensures ∙ ap (λ inside. cursor_of inside.parts.control c.args.key) c.self-inside.view_is) ∙ c.in-Some.is) c.add_receiver-made.ensures)
-    (sym (told_none c.add_receiver-made.new.self true (sym (ap (λ inside. inside.parts.control.waiting_sends) c.self-inside-2.view_is) ∙ c.is_empty.ensures.0 c.if-not-is_empty.false)))
+    (sym (told_none c.add_receiver-made.new.self (sym (ap (λ inside. inside.parts.control.waiting_sends) c.self-inside-2.view_is) ∙ c.is_empty.ensures.0 c.if-not-is_empty.false)))
 
 pub invariant_of-self : goal.invariant_of-self
 invariant_of-self g c = shown_after (returns-then-not-is_empty g c)

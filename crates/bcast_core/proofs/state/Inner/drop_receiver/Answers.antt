@@ -19,13 +19,13 @@ pub returns-then-not-is_empty : goal.returns-then-not-is_empty
 returns-then-not-is_empty g c =
     let found = sym c.remove_receiver.ensures.found ∙ c.if-not-remove_receiver.false in
     ends c.self.view_is c.self.invariant tt (receiver_left c.args.key found (c.remove_receiver.ensures.removed c.if-not-remove_receiver.false))
-    (c.tell_a_sender.ensures ∙ ap (tell_if_ready true) c.close_if_deserted.ensures)
+    (c.tell_a_sender.ensures ∙ ap tell_if_ready c.close_if_deserted.ensures)
 
 pub returns-else-not-is_empty : goal.returns-else-not-is_empty
 returns-else-not-is_empty g c =
     let found = sym c.remove_receiver.ensures.found ∙ c.if-not-remove_receiver.false in
     ends c.self.view_is c.self.invariant tt (receiver_left c.args.key found (c.remove_receiver.ensures.removed c.if-not-remove_receiver.false))
-    (sym (told_none c.close_if_deserted.new.self true (sym (ap (λ inside. inside.parts.control.waiting_sends) c.self-inside.view_is) ∙ c.is_empty.ensures.0 c.if-not-is_empty.false)) ∙ ap (tell_if_ready true) c.close_if_deserted.ensures)
+    (sym (told_none c.close_if_deserted.new.self (sym (ap (λ inside. inside.parts.control.waiting_sends) c.self-inside.view_is) ∙ c.is_empty.ensures.0 c.if-not-is_empty.false)) ∙ ap tell_if_ready c.close_if_deserted.ensures)
 
 pub invariant_of-self-then-not-is_empty : goal.invariant_of-self-then-not-is_empty
 invariant_of-self-then-not-is_empty g c = shown_after (returns-then-not-is_empty g c)

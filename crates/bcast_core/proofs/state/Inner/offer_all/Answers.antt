@@ -1,4 +1,4 @@
-use Rattle.std.proofs.Common.{true, not, ◌==◌, ap, ◌∙◌}
+use Rattle.std.proofs.Common.{not, ◌==◌, ap, ◌∙◌}
 use Rattle.bcast_model.specs.Steps.{tell_if_ready}
 use Rattle.bcast_core.specs.Telling.{tell_news}
 use Rattle.bcast_model.specs.declared.run.Reply.TheVariants as reply
@@ -12,7 +12,7 @@ pub returns : goal.returns
 returns g c =
     let was = c.end-end.ensures ∙ ap (λ inside. inside.parts.end) c.self-inside.view_is in
     let now = c.end.ensures ∙ ap (λ inside. inside.parts.end) c.self-inside-2.view_is in
-    ends c.self.view_is c.self.invariant tt (record { legal = ap reply.TryBroadcastAll c.offer_all-sent.ensures.reply; effect = c.offer_all-sent.ensures.effect }) (c.tell_of_message.ensures ∙ (λ i. tell_if_ready true (tell_news (not (now i == was i)) c.offer_all-sent.new.self)))
+    ends c.self.view_is c.self.invariant tt (record { legal = ap reply.TryBroadcastAll c.offer_all-sent.ensures.reply; effect = c.offer_all-sent.ensures.effect }) (c.tell_of_message.ensures ∙ (λ i. tell_if_ready (tell_news (not (now i == was i)) c.offer_all-sent.new.self)))
 
 pub invariant_of-self : goal.invariant_of-self
 invariant_of-self g c = shown_after (returns g c)

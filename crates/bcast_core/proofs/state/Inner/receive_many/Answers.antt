@@ -1,5 +1,5 @@
 -- Several messages are given, and at most one send is told.
-use Rattle.std.proofs.Common.{◌≡◌, inl, inr, ◌+◌, ◌++◌, true, is_some, sym, ap, ◌∙◌, subst, arith}
+use Rattle.std.proofs.Common.{◌≡◌, inl, inr, ◌+◌, ◌++◌, is_some, sym, ap, ◌∙◌, subst, arith}
 use Rattle.std.specs.Prelude.{IsSomeAnd}
 use Rattle.std.proofs.lemmas.Bool.{cases_lt}
 use Rattle.std.specs.FinMap.{insert}
@@ -23,7 +23,7 @@ stands g c = record {
 new_is : (g : _) (c : After-tell_a_sender g) → c.tell_a_sender.new.self ≡ after c.self.inside.parts c.args.key (c.in-Some.cursor + c.read_many-given.result)
 new_is g c =
     c.tell_a_sender.ensures
-    ∙ ap (tell_if_ready true) (view-with_cursors _ c.read_many-given.new.self _ c.self-inside.inside.0.0.sends c.self-inside.inside.0.0.receives _ _ _ _ _ _ (λ m. insert m c.args.key (c.in-Some.cursor + c.read_many-given.result)) c.self.inside.parts c.read_many-given.ensures.passed (ap (λ inside. inside.parts) c.self-inside.view_is))
+    ∙ ap tell_if_ready (view-with_cursors _ c.read_many-given.new.self _ c.self-inside.inside.0.0.sends c.self-inside.inside.0.0.receives _ _ _ _ _ _ (λ m. insert m c.args.key (c.in-Some.cursor + c.read_many-given.result)) c.self.inside.parts c.read_many-given.ensures.passed (ap (λ inside. inside.parts) c.self-inside.view_is))
 
 pub returns-clause-received : goal.returns-clause-received
 returns-clause-received g c =

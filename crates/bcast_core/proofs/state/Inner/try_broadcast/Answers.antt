@@ -1,4 +1,4 @@
-use Rattle.std.proofs.Common.{true, sym, ap, ◌∙◌}
+use Rattle.std.proofs.Common.{sym, ap, ◌∙◌}
 use Rattle.std.specs.Prelude.{is_ok}
 use Rattle.bcast_model.specs.declared.run.Reply.TheVariants as reply
 use Rattle.bcast_model.specs.Words.{tell_if_ready}
@@ -10,7 +10,7 @@ pub offer-sent-requires : goal.offer-sent-requires
 offer-sent-requires g c = valid_shown c.self.invariant
 
 pub returns-then-not-nobody_waits : goal.returns-then-not-nobody_waits
-returns-then-not-nobody_waits g c = ends c.self.view_is c.self.invariant tt (record { legal = ap reply.TryBroadcast c.offer-sent.ensures.reply; effect = c.offer-sent.ensures.effect }) (c.tell_of_message.ensures ∙ ap (λ b. tell_if_ready true (tell_news b c.offer-sent.new.self)) c.is_ok.ensures.value)
+returns-then-not-nobody_waits g c = ends c.self.view_is c.self.invariant tt (record { legal = ap reply.TryBroadcast c.offer-sent.ensures.reply; effect = c.offer-sent.ensures.effect }) (c.tell_of_message.ensures ∙ ap (λ b. tell_if_ready (tell_news b c.offer-sent.new.self)) c.is_ok.ensures.value)
 
 pub returns-else-not-nobody_waits : goal.returns-else-not-nobody_waits
 returns-else-not-nobody_waits g c = ends c.self.view_is c.self.invariant tt (record { legal = ap reply.TryBroadcast c.offer-sent.ensures.reply; effect = c.offer-sent.ensures.effect }) (sym (tail_nobody (is_ok c.offer-sent.result) c.offer-sent.new.self (c.nobody_waits.ensures c.if-not-nobody_waits.false)))

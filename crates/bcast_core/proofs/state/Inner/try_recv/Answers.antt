@@ -1,4 +1,4 @@
-use Rattle.std.proofs.Common.{true, sym, ap, ◌∙◌}
+use Rattle.std.proofs.Common.{sym, ap, ◌∙◌}
 use Rattle.bcast_model.specs.Words.{cursor_of}
 use Rattle.bcast_core.proofs.Does.{does_receive}
 use Rattle.bcast_core.proofs.Tail.{ends, told_none, shown_after, valid_shown}
@@ -19,7 +19,7 @@ returns-else-not-is_empty-clause-answers g c =
     let received = c.receive-received.ensures in
     ends c.self.view_is c.self.invariant tt
     (does_receive c.self.inside.parts c.receive-received.new.self c.args.key c.cursor-at.result c.receive-received.result (c.cursor-at.ensures ∙ ap (λ inside. cursor_of inside.parts.control c.args.key) c.self-inside.view_is) (valid_shown c.self.invariant) received.found received.ok received.err)
-    (sym (told_none c.receive-received.new.self true (sym (ap (λ inside. inside.parts.control.waiting_sends) c.self-inside-2.view_is) ∙ c.is_empty.ensures.0 c.if-not-is_empty.false)))
+    (sym (told_none c.receive-received.new.self (sym (ap (λ inside. inside.parts.control.waiting_sends) c.self-inside-2.view_is) ∙ c.is_empty.ensures.0 c.if-not-is_empty.false)))
 
 pub invariant_of-self : goal.invariant_of-self
 invariant_of-self g c = shown_after (returns-then-not-is_empty-clause-answers g c)

@@ -7,12 +7,12 @@ use Rattle.bcast_core.proofs.calls.reads.TestAtOnce.make.Goals as goal
 
 pub returns-in-IsEmpty-clause-answers : goal.returns-in-IsEmpty-clause-answers
 returns-in-IsEmpty-clause-answers g c =
-    rw c.in-IsEmpty.is (answers_read {c = call.IsEmpty} c.invariant_holds.ensures (ap reply.IsEmpty c.is_empty.ensures) refl refl tt)
+    rw c.in-IsEmpty.is (answers_read {c = call.IsEmpty} c.invariant_holds.ensures (ap reply.IsEmpty c.is_empty.ensures) refl tt)
 
 pub returns-in-IsFull-clause-answers : goal.returns-in-IsFull-clause-answers
 returns-in-IsFull-clause-answers g c =
-    rw c.in-IsFull.is (answers_read {c = call.IsFull} c.invariant_holds.ensures (ap reply.IsFull c.is_full.ensures) refl refl tt)
+    rw c.in-IsFull.is (answers_read {c = call.IsFull} c.invariant_holds.ensures (ap reply.IsFull c.is_full.ensures) refl tt)
 
 pub returns-in-IsTerminated-clause-answers : goal.returns-in-IsTerminated-clause-answers
 returns-in-IsTerminated-clause-answers g c =
-    rw c.in-IsTerminated.is (answers_read {c = call.IsTerminated} c.invariant_holds.ensures (ap reply.IsTerminated c.is_terminated.ensures) refl refl tt)
+    rw c.in-IsTerminated.is (answers_read {c = call.IsTerminated} c.invariant_holds.ensures (ap reply.IsTerminated c.is_terminated.ensures) refl tt)
