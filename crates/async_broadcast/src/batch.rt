@@ -8,9 +8,9 @@ ghost use Rattle.async_broadcast.specs.Ports.{as_try_recv};
 ghost use Rattle.async_broadcast.specs.Timed.{as_timed_try};
 
 use crate::port::{Port, TimedPort};
-use crate::receiver::{Receiver, RecvResult};
+use crate::receiver::Receiver;
 use crate::timed::RecvTimeoutError;
-use bcast_core::{RecvError, TryRecvError};
+use bcast_core::{RecvError, RecvResult, TryRecvError};
 use futures::task::{Context, Poll};
 use std::alloc::{AllocError, Allocator};
 use std::time::Duration;

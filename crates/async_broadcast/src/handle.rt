@@ -21,7 +21,7 @@ pub struct Handle<T: Clone, P: Ask<T, ()>, H: Role, A: Allocator = Global> {
 
 /// What a handle is counted as by its channel.
 pub trait Role: Sized + Drop {
-    ghost use Rattle.bcast_core.specs.declared.calls.changes.Change.{Change};
+    ghost use Rattle.bcast_core.specs.declared.calls.handles.Change.{Change};
 
     // The call that the handle's drop makes.
     ghost leaves: { Self → Change };

@@ -1,6 +1,6 @@
 //! Receivers that receive nothing, and keep the channel open.
 ghost use Rattle.std.specs.Prelude.{◌≡◌, Ok, Err, IfOk, IfErr};
-ghost use Rattle.bcast_core.specs.declared.calls.changes.Change.TheVariants as change;
+ghost use Rattle.bcast_core.specs.declared.calls.handles.Change.TheVariants as change;
 ghost use Rattle.async_broadcast.specs.Handles.{MakesHandle};
 
 use crate::handle::{Handle, Role};

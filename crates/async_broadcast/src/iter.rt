@@ -8,8 +8,8 @@ ghost use Rattle.async_broadcast.specs.Ports.{as_try_recv};
 ghost use Rattle.async_broadcast.specs.Timed.{as_received, IsNoEnd, EndsLoop};
 
 use crate::port::Port;
-use crate::receiver::{Receiver, RecvResult};
-use bcast_core::{RecvError, TryRecvError};
+use crate::receiver::Receiver;
+use bcast_core::{RecvError, RecvResult, TryRecvError};
 use std::alloc::{Allocator, Global};
 use std::sync::{Forever, Wait};
 
@@ -103,10 +103,8 @@ impl<T: Clone, P: Port<T>, R: Wait, A: Allocator + Copy> Iterator for Iter<'_, T
     }
 }
 
-/// What a receiver finds, for a loop that never waits for a message.
-///
-/// Each item has the type that `recv_blocking` returns. The loop ends when every message was read,
-/// also if the channel is open. `next` may then be called again, and finds what came meanwhile.
+/// The loop of `Receiver::try_iter`: each item is what `try_recv` returns, until that is `Empty` or
+/// `Closed`. `next` may then be called again, and finds what came meanwhile.
 #[derive(Drop)]
 pub struct TryIter<'a, T: Clone, P: Port<T>, A: Allocator = Global> {
     receiver: &'a mut Receiver<T, P, A>,

@@ -36,8 +36,8 @@ mod wake;
 
 pub use batch::put_last;
 pub use bcast_core::{
-    Call, HandleError, Kind, Messages, NoMemory, RecvError, Reply, SendError, SendPoll, Snapshot,
-    TryRecvError, TrySendError, Waiting,
+    Call, HandleError, Kind, Messages, NoMemory, RecvError, RecvResult, Reply, SendError, SendPoll,
+    Snapshot, TryRecvError, TrySendError, Waiting,
 };
 pub use future::{Recv, Send};
 pub use handle::{Handle, Role};
@@ -46,7 +46,7 @@ pub use iter::{Iter, TryIter};
 pub use journal::{CallJournal, NoJournal};
 pub use lock::{Lock, LockInactiveReceiver, LockReceiver, LockSender, broadcast};
 pub use port::{Ask, Caller, Port, PortFor, TimedPort, TimedPortFor};
-pub use receiver::{Receiver, Receiving, RecvResult};
+pub use receiver::{Receiver, Receiving};
 pub use sender::{Sender, Sending};
 pub use timed::{RecvTimeoutError, SendTimeoutError};
 pub use wake::{TaskWaker, Wake};

@@ -7,10 +7,9 @@ ghost use Rattle.bcast_core.specs.Batch.{ReceivesInto};
 ghost use Rattle.async_broadcast.specs.Ports.{Gives, IsSame, as_try_recv, moved_by};
 ghost use Rattle.async_broadcast.specs.Timed.{as_attempt, as_timed_try};
 
-use crate::receiver::RecvResult;
 use crate::timed::{RecvTimeoutError, SendTimeoutError};
 use crate::wake::{TaskWaker, Wake};
-use bcast_core::{AtOnce, Call, Change, Polls, RecvError, Reply, SendError, SendPoll};
+use bcast_core::{AtOnce, Call, Change, Polls, RecvError, RecvResult, Reply, SendError, SendPoll};
 use futures::task::Context;
 use std::alloc::Allocator;
 use std::time::Duration;

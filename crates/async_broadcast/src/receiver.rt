@@ -1,6 +1,6 @@
 //! The receiving side.
 ghost use Rattle.std.specs.Prelude.{◌≡◌, Ok, Err, IfOk, IfErr};
-ghost use Rattle.bcast_core.specs.declared.calls.changes.Change.TheVariants as change;
+ghost use Rattle.bcast_core.specs.declared.calls.handles.Change.TheVariants as change;
 ghost use Rattle.async_broadcast.specs.Handles.{MakesHandle};
 ghost use Rattle.async_broadcast.specs.Ports.{as_try_recv};
 
@@ -10,10 +10,10 @@ use crate::port::Port;
 use crate::sender::Sender;
 use crate::wake::TaskWaker;
 use bcast_core::{
-    AddHandle, AddReceiver, Call, Change, HandleError, RecvError, Reply, Test, TryRecv,
+    AddHandle, AddReceiver, Call, Change, HandleError, RecvError, RecvResult, Reply, Test, TryRecv,
     TryRecvError,
 };
-use std::alloc::{AllocError, Allocator, Global};
+use std::alloc::{Allocator, Global};
 
 /// Receives each message that a channel accepts, from the receiver's start on, or the number of
 /// messages that it missed.
@@ -37,9 +37,6 @@ use std::alloc::{AllocError, Allocator, Global};
 ///
 /// Source: `Receiver` of async-broadcast 0.7.2.
 pub type Receiver<T, P, A = Global> = Handle<T, P, Receiving, A>;
-
-/// What a receive returns: a message, or how many, or why there is none; or memory was refused.
-pub type RecvResult<T, E> = Result<Result<T, E>, AllocError>;
 
 /// The role of a `Receiver`.
 #[derive(Drop)]
@@ -109,10 +106,7 @@ impl<T: Clone, P: Port<T>, A: Allocator + Copy> Receiver<T, P, A> {
     ///
     /// # Errors
     ///
-    /// - `AllocError`: no memory for a clone of a message that others have still to read. Nothing
-    ///   changed.
-    /// - `Overflowed(n)`: the next `n` messages were dropped. The receiver continues after them.
-    /// - `Closed`: every message was read, and the channel is closed.
+    /// As `try_recv`, but for `Empty`.
     ///
     /// ```rust
     /// let (sender, mut receiver) = broadcast(&rt, rt.alloc(), 1)?;

@@ -1,7 +1,7 @@
 //! The sending side.
 ghost use Rattle.std.specs.Prelude.{◌≡◌};
 ghost use Rattle.bcast_model.specs.Encodings.{in_lists};
-ghost use Rattle.bcast_core.specs.declared.calls.changes.Change.TheVariants as change;
+ghost use Rattle.bcast_core.specs.declared.calls.handles.Change.TheVariants as change;
 ghost use Rattle.async_broadcast.specs.Handles.{MakesHandle};
 
 use crate::handle::{Handle, Role};

@@ -5,9 +5,9 @@ ghost use Rattle.async_broadcast.specs.Timed.{send_timeout_text, send_timeout_de
 ghost use Rattle.async_broadcast.specs.Timed.{recv_timeout_text};
 
 use crate::port::TimedPort;
-use crate::receiver::{Receiver, RecvResult};
+use crate::receiver::Receiver;
 use crate::sender::Sender;
-use bcast_core::{Call, Reply};
+use bcast_core::{Call, RecvResult, Reply};
 use std::alloc::Allocator;
 use std::error::Error;
 use std::fmt;
@@ -52,19 +52,12 @@ impl<T: Clone, P: TimedPort<T>, A: Allocator + Copy> Sender<T, P, A> {
 
 impl<T: Clone, P: TimedPort<T>, A: Allocator + Copy> Receiver<T, P, A> {
     /// Receives the next message as `recv_blocking` does, and gives up once `limit` has passed.
-    /// Waiting for the lock, and until the system runs the thread again, comes on top.
-    ///
-    /// It tries before it waits, also with a limit of zero, and once more when the time is over.
-    /// If the clock can't be read, the time counts as over.
+    /// What `broadcast_timeout` says of its limit holds here, too.
     ///
     /// # Errors
     ///
-    /// - `AllocError`: no memory for a clone of a message that others have still to read. Nothing
-    ///   changed.
-    /// - `Timeout`: the time is over, every message was read, and the channel is open. Nothing
-    ///   changed.
-    /// - `Overflowed(n)`: the next `n` messages were dropped. The receiver continues after them.
-    /// - `Closed`: every message was read, and the channel is closed.
+    /// As `recv_blocking`, and `Timeout`: the time is over, every message was read, and the channel
+    /// is open. Nothing changed.
     ///
     /// ```rust
     /// let (sender, mut receiver) = broadcast(rt, rt.alloc(), 1)?;
@@ -115,8 +108,7 @@ impl<T> SendTimeoutError<T> {
         ensures { result ≡ unsent_message self }
     {
         match self {
-            SendTimeoutError::Timeout(msg) => msg,
-            SendTimeoutError::Refused(msg) => msg,
+            SendTimeoutError::Timeout(msg) | SendTimeoutError::Refused(msg) => msg,
         }
     }
 

@@ -128,7 +128,7 @@ impl MakesNotice<Wake> for ForTask<'_, '_> {
         ensures made { OnOk result (RegistersTask false self.old self.new) }
         ensures refused { OnErr result (RegistersTask true self.old self.new) }
     {
-        let mut wake = Wake::none();
+        let mut wake = Wake { waker: None };
         self.renew(&mut wake)?;
         Ok(wake)
     }

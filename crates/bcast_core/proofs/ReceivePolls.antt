@@ -16,8 +16,8 @@ use Rattle.bcast_model.specs.Words.{Legal, tell_if_ready, cursor_of}
 use Rattle.bcast_model.specs.Words.{is_empty_reply, receive, receive_poll}
 use Rattle.bcast_model.specs.Words.{try_recv_reply, Steps, settle, View, skipped_to, skipped_count}
 use Rattle.bcast_model.specs.Words.{future_reply, stream_reply, next_reply}
-use Rattle.bcast_core.specs.declared.receive_poll.ReceivePoll.{ReceivePoll}
-use Rattle.bcast_core.specs.declared.receive_poll.ReceivePoll.TheVariants as poll
+use Rattle.bcast_core.specs.declared.parts.receive.ReceivePoll.{ReceivePoll}
+use Rattle.bcast_core.specs.declared.parts.receive.ReceivePoll.TheVariants as poll
 use Rattle.bcast_core.specs.Telling.{NobodyWaits}
 use Rattle.bcast_core.specs.Polls.{kind_of, call_of, reads_at, skips_of, reply_of}
 use Rattle.bcast_core.proofs.Tail.{told_none, told_last, told_valid, told_waiting}

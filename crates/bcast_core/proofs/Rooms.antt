@@ -9,31 +9,31 @@ use Rattle.std.specs.FinSet as set
 use Rattle.bcast_model.specs.Words.{Cursors, Places, least}
 use Rattle.bcast_model.proofs.Waiting.{test_place}
 use Rattle.bcast_store.specs.Stored.{Stored, end_of, with_cursors}
-use Rattle.bcast_core.specs.Parts.{AllHaveRoom, AreBelow, HaveRoom}
+use Rattle.bcast_core.specs.Parts.{AllHaveRoom, ReceiversHaveRoom, SendsHaveRoom}
 
 same_key : (q key : ℕ) → eq_by_cmp nat_cmp q key ≡ true → q ≡ key
 same_key q key e = test_place.no q key (sym (unsigned_tied q key) ∙ e)
 
 -- without receivers no room is needed
-pub room_empty : (room : ℕ) → HaveRoom empty room
+pub room_empty : (room : ℕ) → ReceiversHaveRoom empty room
 room_empty room key h = absurd (true≢false (sym h ∙ ap is_some (get-empty nat_cmp key)))
 
-pub room_raised : (cursors : Cursors) (room more : ℕ) → room ≤ more → HaveRoom cursors room → HaveRoom cursors more
+pub room_raised : (cursors : Cursors) (room more : ℕ) → room ≤ more → ReceiversHaveRoom cursors room → ReceiversHaveRoom cursors more
 room_raised cursors room more rises all key h = let own = all key h in omega (arith, own, rises)
 
 -- a receiver for which there is room is added, or has another cursor
-pub room_inserted : (cursors : Cursors) (key cursor room : ℕ) → 2 * key + 1 < room → HaveRoom cursors room → HaveRoom (insert cursors key cursor) room
+pub room_inserted : (cursors : Cursors) (key cursor room : ℕ) → 2 * key + 1 < room → ReceiversHaveRoom cursors room → ReceiversHaveRoom (insert cursors key cursor) room
 room_inserted cursors key cursor room own all other h = grind (arith, common_steps, get-insert, same_key)
 
 -- a receiver leaves
-pub room_removed : (cursors : Cursors) (key room : ℕ) → HaveRoom cursors room → HaveRoom (remove cursors key) room
+pub room_removed : (cursors : Cursors) (key room : ℕ) → ReceiversHaveRoom cursors room → ReceiversHaveRoom (remove cursors key) room
 room_removed cursors key room all other h = grind (arith, common_steps, get-remove)
 
 -- a read keeps all receivers, whether it was refused or not
 pub room_read : {T E : Type 0} (r : Result T E) (old new : Stored T) (key cursor room : ℕ) → is_some (get old.cursors key) ≡ true
-    → OnOk r (new ≡ with_cursors old (insert old.cursors key cursor)) → OnErr r (new ≡ old) → HaveRoom old.cursors room → HaveRoom new.cursors room
-room_read {T = T} (Ok msg) old new key cursor room some ok err all = subst (λ (s : Stored T). HaveRoom s.cursors room) (sym ok) (room_inserted old.cursors key cursor room (all key some) all)
-room_read {T = T} (Err e) old new key cursor room some ok err all = subst (λ (s : Stored T). HaveRoom s.cursors room) (sym err) all
+    → OnOk r (new ≡ with_cursors old (insert old.cursors key cursor)) → OnErr r (new ≡ old) → ReceiversHaveRoom old.cursors room → ReceiversHaveRoom new.cursors room
+room_read {T = T} (Ok msg) old new key cursor room some ok err all = subst (λ (s : Stored T). ReceiversHaveRoom s.cursors room) (sym ok) (room_inserted old.cursors key cursor room (all key some) all)
+room_read {T = T} (Err e) old new key cursor room some ok err all = subst (λ (s : Stored T). ReceiversHaveRoom s.cursors room) (sym err) all
 
 -- a receiver that was added and removed at once
 pub remove-insert : (cursors : Cursors) (key cursor : ℕ) → get cursors key ≡ None → remove (insert cursors key cursor) key ≡ cursors
@@ -59,7 +59,7 @@ module _ {T : Type 0} where
 
 -- ---- pending sends
 -- without places no room is needed
-pub below_none : (places : Places) (room : ℕ) → places ≡ set.empty → AreBelow places room
+pub below_none : (places : Places) (room : ℕ) → places ≡ set.empty → SendsHaveRoom places room
 below_none places room none place h = absurd (true≢false (sym h ∙ ap (λ (s : Places). set.contains s place) none ∙ set.contains-empty nat_cmp place))
 
 -- a place that was taken and given back at once doesn't change the places

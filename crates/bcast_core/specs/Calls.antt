@@ -13,8 +13,8 @@ use Rattle.bcast_core.specs.declared.calls.handles.AddReceiver.{AddReceiver}
 use Rattle.bcast_core.specs.declared.calls.handles.AddReceiver.TheVariants as receiver
 use Rattle.bcast_core.specs.declared.calls.handles.AddHandle.{AddHandle}
 use Rattle.bcast_core.specs.declared.calls.handles.AddHandle.TheVariants as handle
-use Rattle.bcast_core.specs.declared.calls.changes.Change.{Change}
-use Rattle.bcast_core.specs.declared.calls.changes.Change.TheVariants as change
+use Rattle.bcast_core.specs.declared.calls.handles.Change.{Change}
+use Rattle.bcast_core.specs.declared.calls.handles.Change.TheVariants as change
 
 module _ {T : Type 0} where
   abbrev pub count_call : Count → Call T

@@ -41,18 +41,18 @@ seen_of store control = record {
 }
 
 -- each receiver's stream and future find room among the listeners
-abbrev pub HaveRoom : Cursors → ℕ → Type 0
-HaveRoom cursors room = (key : ℕ) → is_some (get cursors key) ≡ true → 2 * key + 1 < room
+abbrev pub ReceiversHaveRoom : Cursors → ℕ → Type 0
+ReceiversHaveRoom cursors room = (key : ℕ) → is_some (get cursors key) ≡ true → 2 * key + 1 < room
 
 -- each pending send finds room among those that wait
-abbrev pub AreBelow : Places → ℕ → Type 0
-AreBelow places room = (place : ℕ) → set.contains places place ≡ true → place < room
+abbrev pub SendsHaveRoom : Places → ℕ → Type 0
+SendsHaveRoom places room = (place : ℕ) → set.contains places place ≡ true → place < room
 
 -- there is room for all that may wait
 pub record AllHaveRoom
     (cursors : Cursors) (receives_room : ℕ) (places : Places) (sends_room : ℕ) : Type 0 where
-  pub receivers : HaveRoom cursors receives_room
-  pub sends : AreBelow places sends_room
+  pub receivers : ReceiversHaveRoom cursors receives_room
+  pub sends : SendsHaveRoom places sends_room
 
 -- a call and its reply, but for telling a sender
 pub record Does

@@ -8,9 +8,9 @@ use Rattle.bcast_model.specs.declared.run.Reply.{Reply}
 use Rattle.bcast_model.specs.declared.run.Reply.TheVariants as reply
 use Rattle.bcast_model.specs.Words.{View, cursor_of, skipped_count, skipped_to}
 use Rattle.bcast_model.specs.Words.{future_reply, stream_reply, next_reply, worded}
-use Rattle.bcast_core.specs.declared.receive_poll.ReceivePoll.{ReceivePoll}
-use Rattle.bcast_core.specs.declared.receive_poll.ReceivePoll.TheVariants as poll
-use Rattle.bcast_core.specs.declared.receive_poll.Received.{Received}
+use Rattle.bcast_core.specs.declared.parts.receive.ReceivePoll.{ReceivePoll}
+use Rattle.bcast_core.specs.declared.parts.receive.ReceivePoll.TheVariants as poll
+use Rattle.bcast_core.specs.declared.state.receive.Received.{Received}
 
 -- a future listens as one, and the two others as the stream
 abbrev pub kind_of : ReceivePoll → Kind

@@ -14,19 +14,14 @@ pub record NobodyWaits (c : Control) : Type 0 where
 abbrev pub is_untold : Control → Pair → Bool
 is_untold c pair = is_in same_pair pair (untold_ids c.waiting_receives)
 
--- everyone that waits to receive is told; and everyone that waits to send, if the message closed
--- the channel
-abbrev pub told_of_message : Control → Control
-told_of_message c =
-    if c.closed
-    then record (tell_receivers c) { waiting_sends = tell_all c.waiting_sends }
-    else tell_receivers c
-
 module _ {T : Type 0} where
-  -- what is seen after that, if a message was accepted
+  -- if a message was accepted, everyone that waits to receive is told; and everyone that waits to
+  -- send, if it closed the channel
   abbrev pub tell_news : Bool → View T → View T
   tell_news is_accepted v =
-      if is_accepted then record v { control = told_of_message v.control } else v
+      let told = tell_receivers v.control in
+      let closed = record told { waiting_sends = tell_all v.control.waiting_sends } in
+      if is_accepted then record v { control = if v.control.closed then closed else told } else v
 
   -- whether a send that may wait was accepted
   abbrev pub is_accepted : SendPoll T → Bool

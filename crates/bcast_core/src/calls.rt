@@ -9,6 +9,8 @@
 //! | `TryBroadcast`, `TryBroadcastAll`, `AttemptSend`, `TryRecv` | one each | as these |
 //! | `PollSend`, `PollFuture`, `PollRecv`, `PollNext` | the four polls | as these |
 ghost use Rattle.std.specs.Prelude.{◌≡◌, true, false, IfOk, IfErr, OnErr};
+ghost use Rattle.bcast_model.specs.declared.run.Call.{Call};
+ghost use Rattle.bcast_model.specs.declared.run.Reply.{Reply};
 ghost use Rattle.bcast_model.specs.Words.{HasPositiveCapacity, Answers, must_wait};
 ghost use Rattle.bcast_model.specs.Replies.{is_receive_refused};
 ghost use Rattle.bcast_core.specs.Kinds.{IsOfKind};
@@ -18,7 +20,6 @@ use bcast_model::run::{Call, Reply};
 use bcast_waiting::notice::{MakesNotice, Notice};
 use std::alloc::Allocator;
 
-pub mod changes;
 pub mod handles;
 pub mod messages;
 pub mod reads;
@@ -26,9 +27,6 @@ pub mod waiting;
 
 /// A call on a channel: contracts name the call that it is, and the reply that holds its answer.
 pub trait CallOf<T>: Drop {
-    ghost use Rattle.bcast_model.specs.declared.run.Call.{Call};
-    ghost use Rattle.bcast_model.specs.declared.run.Reply.{Reply};
-
     /// What the call returns.
     type Answer;
 
@@ -45,9 +43,6 @@ pub trait CallOf<T>: Drop {
 
 /// What replies to calls as data: a port that is written by hand, for all calls at once.
 pub trait RepliesTo<T> {
-    ghost use Rattle.bcast_model.specs.declared.run.Call.{Call};
-    ghost use Rattle.bcast_model.specs.declared.run.Reply.{Reply};
-
     // Holds of a call and a reply that may be given to it.
     ghost gave: { Self → Call T → Reply T → Type 0 };
 

@@ -8,8 +8,7 @@ ghost use Rattle.bcast_model.specs.Words.{AtEachPoint, AreAllExact, WaitsAsItsTr
 ghost use Rattle.std.specs.List.Sorted.{IsStrictlyIncreasing};
 ghost use Rattle.bcast_model.specs.Replies.{is_receive_refused};
 
-use crate::calls::changes::{Change, Close, SetCapacity};
-use crate::calls::handles::{AddHandle, AddReceiver};
+use crate::calls::handles::{AddHandle, AddReceiver, Change, Close, SetCapacity};
 use crate::calls::messages::{AttemptSend, BeginSend, TryBroadcast, TryBroadcastAll, TryRecv};
 use crate::calls::reads::{Count, EndNumber, Test};
 use crate::calls::waiting::{PollFuture, PollNext, PollRecv, PollSend};

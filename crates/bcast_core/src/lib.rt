@@ -9,7 +9,6 @@
 mod calls;
 mod data;
 mod parts;
-mod receive_poll;
 mod snapshot;
 mod state;
 
@@ -21,12 +20,11 @@ pub use bcast_model::messages::{Messages, in_vec};
 pub use bcast_model::run::{Call, Reply, SendPoll};
 pub use bcast_queue::Steps;
 pub use bcast_waiting::notice::{MakesNotice, NoNotice, Notice, OwnedNotice, Silent};
-pub use calls::changes::{Change, Close, SetCapacity};
-pub use calls::handles::{AddHandle, AddReceiver};
+pub use calls::handles::{AddHandle, AddReceiver, Change, Close, SetCapacity};
 pub use calls::messages::{AttemptSend, BeginSend, TryBroadcast, TryBroadcastAll, TryRecv};
 pub use calls::reads::{Count, EndNumber, Test};
 pub use calls::waiting::{PollFuture, PollNext, PollRecv, PollSend};
 pub use calls::{AtOnce, CallOf, Polls, RepliesTo};
 pub use data::{Ran, run, step};
 pub use snapshot::{Snapshot, Waiting};
-pub use state::Inner;
+pub use state::{Inner, RecvResult};

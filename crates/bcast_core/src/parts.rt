@@ -1,6 +1,7 @@
 //! The parts of a channel's state, and the steps that its calls are made of.
-ghost use Rattle.std.specs.Prelude.{◌≡◌, true};
+ghost use Rattle.std.specs.Prelude.{◌≡◌, ◌≤◌, true, false, is_some};
 
+use bcast_model::error::HandleError;
 use bcast_model::listener::Kind;
 use bcast_store::Store;
 use bcast_waiting::notice::Notice;
@@ -9,9 +10,9 @@ use std::alloc::{Allocator, Global};
 use std::marker::Model;
 
 mod receive;
-mod receivers;
 mod send;
 
+pub use receive::ReceivePoll;
 pub use send::is_accepted;
 
 /// The state of a channel between the steps of a call. It need not be a valid state.
@@ -49,8 +50,10 @@ impl<T, N: Notice, A: Allocator> Model for Parts<T, N, A> {
 }
 
 impl<T: Drop, N: Notice, A: Allocator + Copy> Parts<T, N, A> {
-    ghost use Rattle.bcast_model.specs.Words.{close, close_if_deserted};
-    ghost use Rattle.bcast_model.specs.Words.{sends_are_ready, tell_if_ready};
+    ghost use Rattle.bcast_model.specs.Words.{close, close_if_deserted, sends_are_ready};
+    ghost use Rattle.bcast_model.specs.Words.{tell_if_ready, IsValidView, settle, sets, cursor_of};
+    ghost use Rattle.bcast_model.specs.Words.{without_receiver, pair_ended, stream_of, future_of};
+    ghost use Rattle.bcast_core.specs.Parts.{Adds};
     ghost use Rattle.bcast_core.specs.Telling.{tell_news, NobodyWaits};
 
     /// Whether a send would be answered without waiting.
@@ -149,5 +152,62 @@ impl<T: Drop, N: Notice, A: Allocator + Copy> Parts<T, N, A> {
         if self.senders == 0 || (self.store.has_no_receiver() && self.inactive == 0) {
             self.close();
         }
+    }
+
+    /// Adds a receiver that reads the message of this number next, under a key that none has.
+    #[inline(always)]
+    pub fn add_receiver(&mut self, cursor: u64) -> Result<usize, HandleError>
+        requires valid { IsValidView self.old }
+        requires reach { cursor ≤ self.old.end }
+        ensures { Adds self.old cursor result self.new }
+    {
+        let Ok(key) = self.store.add(cursor) else {
+            return Err(HandleError::Memory);
+        };
+        let Ok(()) = self.receives.reserve_for((key, Kind::Future)) else {
+            self.store.remove(key);
+            return Err(HandleError::Memory);
+        };
+        self.store.invariant_holds();
+        Ok(key)
+    }
+
+    /// Removes a receiver, if there is one, with its stream and its future. Returns whether there
+    /// was one.
+    #[inline(always)]
+    pub fn remove_receiver(&mut self, key: usize) -> bool
+        requires { IsValidView self.old }
+        ensures found { result ≡ is_some (cursor_of self.old.control key) }
+        ensures removed { result ≡ true
+            → self.new ≡ settle self.old (sets (without_receiver self.old.control key)) }
+        ensures same { result ≡ false → self.new ≡ self.old }
+    {
+        if !self.store.remove(key) {
+            return false;
+        }
+        if !self.receives.is_empty() {
+            self.end_listeners(key);
+        }
+        true
+    }
+
+    /// A receiver's listener is dropped, and its notice returned. What it was told is passed on.
+    #[inline(always)]
+    pub fn pair_ended(&mut self, key: usize, kind: Kind) -> Option<N>
+        ensures { self.new
+            ≡ record self.old { control = pair_ended self.old.control (key, kind) } }
+    {
+        self.receives.abandon((key, kind))
+    }
+
+    // In a function of its own, so that a receiver that leaves while none waits costs one test.
+    #[inline(never)]
+    fn end_listeners(&mut self, key: usize)
+        ensures { self.new ≡ record self.old {
+          control = pair_ended (pair_ended self.old.control (stream_of key)) (future_of key);
+        } }
+    {
+        let _ = self.pair_ended(key, Kind::Stream);
+        let _ = self.pair_ended(key, Kind::Future);
     }
 }

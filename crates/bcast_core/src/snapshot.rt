@@ -4,12 +4,9 @@ ghost use Rattle.std.specs.FinSet as set;
 ghost use Rattle.std.specs.List.{AllZip};
 ghost use Rattle.std.specs.Ordering.{nat_cmp};
 ghost use Rattle.std.specs.List.Sorted.{IsStrictlyIncreasing};
-ghost use Rattle.bcast_core.specs.Snapshot.{Shows};
 
-use crate::parts::Parts;
 use bcast_model::listener::Kind;
 use bcast_store::Store;
-use bcast_waiting::notice::Notice;
 use std::alloc::{AllocError, Allocator, Global};
 
 /// The view of a channel between two calls, with a clone of each message that it keeps.
@@ -56,38 +53,8 @@ pub struct Waiting<I, A: Allocator = Global> {
     pub told: usize,
 }
 
-impl<T: Clone, N: Notice, A: Allocator + Copy> Parts<T, N, A> {
-    /// The view, with a clone of each message.
-    pub fn snapshot<B: Allocator + Copy>(&self, alloc: B) -> Result<Snapshot<T, B>, AllocError>
-        ensures { IfOk result (λ snapshot. Shows T.is_clone snapshot self.now) }
-    {
-        Ok(Snapshot {
-            front: self.store.front(),
-            queue: clones_of(&self.store, alloc)?,
-            end: self.store.end(),
-            cursors: self.store.cursors(alloc)?,
-            senders: self.senders,
-            inactive: self.inactive,
-            closed: self.closed,
-            overflow: self.overflow,
-            await_active: self.await_active,
-            capacity: self.capacity,
-            room: self.store.room(),
-            places: rising(self.places.items(alloc)?),
-            waiting_sends: Waiting {
-                ids: self.sends.ids(alloc)?,
-                told: self.sends.told(),
-            },
-            waiting_receives: Waiting {
-                ids: self.receives.ids(alloc)?,
-                told: self.receives.told(),
-            },
-        })
-    }
-}
-
-// A clone of each message, from the front.
-fn clones_of<T: Clone, A: Allocator + Copy, B: Allocator>(
+/// A clone of each message, from the front.
+pub(crate) fn clones_of<T: Clone, A: Allocator + Copy, B: Allocator>(
     store: &Store<T, A>,
     alloc: B,
 ) -> Result<Vec<T, B>, AllocError>
@@ -103,8 +70,8 @@ fn clones_of<T: Clone, A: Allocator + Copy, B: Allocator>(
     Ok(clones)
 }
 
-// These numbers in rising order, each once.
-fn rising<B: Allocator>(mut numbers: Vec<usize, B>) -> Vec<usize, B>
+/// These numbers in rising order, each once.
+pub(crate) fn rising<B: Allocator>(mut numbers: Vec<usize, B>) -> Vec<usize, B>
     ensures rising { IsStrictlyIncreasing result.items }
     ensures same { set.from_list {R = nat_cmp} result.items ≡ set.from_list numbers.items }
 {

@@ -6,7 +6,7 @@ ghost use Rattle.bcast_model.specs.Words.{cursor_of, unread, missed};
 ghost use Rattle.bcast_core.specs.Snapshot.{Shows};
 
 use crate::parts::Parts;
-use crate::snapshot::Snapshot;
+use crate::snapshot::{Snapshot, Waiting, clones_of, rising};
 use bcast_model::listener::Kind;
 use bcast_store::Store;
 use bcast_waiting::notice::Notice;
@@ -17,7 +17,8 @@ use std::marker::Model;
 mod handles;
 mod receive;
 mod send;
-mod settings;
+
+pub use receive::RecvResult;
 
 /// The state of a broadcast channel: its messages, the receivers' cursors, the counts of senders
 /// and inactive receivers, the settings, and the listeners that wait.
@@ -25,6 +26,8 @@ mod settings;
 /// Each call on it is atomic. With a lock around it, it is a channel for many threads. A receiver
 /// is named by its key, and a pending send by its place: a key or place may be given again after
 /// its receiver or its send is gone.
+///
+/// Source: `Inner` of async-broadcast 0.7.2. Handles and futures name that of each call.
 pub struct Inner<T, N: Notice, A: Allocator = Global> {
     parts: Parts<T, N, A>,
 }
@@ -61,8 +64,6 @@ impl<T: Drop, N: Notice, A: Allocator + Copy> Inner<T, N, A> {
     /// # Errors
     ///
     /// `AllocError`: memory for `cap` messages or for the receiver was refused.
-    ///
-    /// Source: `broadcast` of async-broadcast.
     pub fn new(alloc: A, cap: usize) -> Result<(Self, usize), AllocError>
         requires { 0 < cap }
         ensures opened { IfOk result (λ made. Represents made.0 (opening cap 0 made.1)) }
@@ -71,11 +72,7 @@ impl<T: Drop, N: Notice, A: Allocator + Copy> Inner<T, N, A> {
         Self::starting_at(alloc, cap, 0)
     }
 
-    /// Makes a channel as `new` does, whose first message gets the number `first`.
-    ///
-    /// # Errors
-    ///
-    /// `AllocError`: memory for `cap` messages or for the receiver was refused.
+    /// Makes a channel as `new` does, with its errors. The first message gets the number `first`.
     pub fn starting_at(alloc: A, cap: usize, first: u64) -> Result<(Self, usize), AllocError>
         requires capacity { 0 < cap }
         requires number { first + 1 < 2 ^ 64 }
@@ -252,6 +249,27 @@ impl<T: Clone, N: Notice, A: Allocator + Copy> Inner<T, N, A> {
     pub fn snapshot<B: Allocator + Copy>(&self, alloc: B) -> Result<Snapshot<T, B>, AllocError>
         ensures { IfOk result (λ snapshot. Shows T.is_clone snapshot self.now) }
     {
-        self.parts.snapshot(alloc)
+        Ok(Snapshot {
+            front: self.parts.store.front(),
+            queue: clones_of(&self.parts.store, alloc)?,
+            end: self.parts.store.end(),
+            cursors: self.parts.store.cursors(alloc)?,
+            senders: self.parts.senders,
+            inactive: self.parts.inactive,
+            closed: self.parts.closed,
+            overflow: self.parts.overflow,
+            await_active: self.parts.await_active,
+            capacity: self.parts.capacity,
+            room: self.parts.store.room(),
+            places: rising(self.parts.places.items(alloc)?),
+            waiting_sends: Waiting {
+                ids: self.parts.sends.ids(alloc)?,
+                told: self.parts.sends.told(),
+            },
+            waiting_receives: Waiting {
+                ids: self.parts.receives.ids(alloc)?,
+                told: self.parts.receives.told(),
+            },
+        })
     }
 }

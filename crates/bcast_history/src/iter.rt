@@ -8,8 +8,7 @@ ghost use Rattle.async_broadcast.specs.Timed.{as_received, IsNoEnd, EndsLoop};
 use crate::caller::Channel;
 use crate::port::HistoryPort;
 use crate::receiver::TrackedReceiver;
-use async_broadcast::{RecvError, TryRecvError};
-use std::alloc::AllocError;
+use async_broadcast::{RecvError, RecvResult, TryRecvError};
 use std::sync::{Forever, Wait};
 
 /// What a tracked receiver receives, for a loop that blocks the thread while there is no message: as
@@ -49,7 +48,7 @@ impl<T: Clone, P: HistoryPort<T, J>, J: Channel> TrackedReceiver<T, P, J> {
 }
 
 impl<T: Clone, P: HistoryPort<T, J>, J: Channel, R: Wait> Iterator for TrackedIter<'_, T, P, J, R> {
-    type Item = Result<Result<T, RecvError>, AllocError>;
+    type Item = RecvResult<T, RecvError>;
 
     ghost use Rattle.bcast_history.specs.Makes.{ReceivesOnce};
 
@@ -59,7 +58,7 @@ impl<T: Clone, P: HistoryPort<T, J>, J: Channel, R: Wait> Iterator for TrackedIt
 
     ghost remaining = { λ iter. at_most (forever_left iter.turns) };
 
-    fn next(&mut self) -> Option<Result<Result<T, RecvError>, AllocError>> {
+    fn next(&mut self) -> Option<RecvResult<T, RecvError>> {
         self.turns.next();
         match self.receiver.recv_blocking() {
             Ok(Ok(msg)) => Some(Ok(Ok(msg))),
@@ -84,7 +83,7 @@ pub struct TrackedTryIter<'a, T: Clone, P: HistoryPort<T, J>, J: Channel> {
 }
 
 impl<T: Clone, P: HistoryPort<T, J>, J: Channel> Iterator for TrackedTryIter<'_, T, P, J> {
-    type Item = Result<Result<T, RecvError>, AllocError>;
+    type Item = RecvResult<T, RecvError>;
 
     ghost use Rattle.bcast_history.specs.Makes.{ReceivesOnce};
 
@@ -97,7 +96,7 @@ impl<T: Clone, P: HistoryPort<T, J>, J: Channel> Iterator for TrackedTryIter<'_,
 
     ghost remaining = { λ iter. at_most iter.turns };
 
-    fn next(&mut self) -> Option<Result<Result<T, RecvError>, AllocError>> {
+    fn next(&mut self) -> Option<RecvResult<T, RecvError>> {
         self.turns = self.turns.checked_sub(1)?;
         match self.receiver.try_recv() {
             Ok(Ok(msg)) => Some(Ok(Ok(msg))),

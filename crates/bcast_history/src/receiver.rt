@@ -14,10 +14,9 @@ use crate::port::{HistoryPort, TimedHistoryPort};
 use crate::tracker::{ReceiverTracker, Tracker};
 use async_broadcast::{RecvTimeoutError, TaskWaker};
 use bcast_core::{
-    AddHandle, AddReceiver, Call, Change, Close, Count, HandleError, RecvError, Reply, TryRecv,
-    TryRecvError,
+    AddHandle, AddReceiver, Call, Change, Close, Count, HandleError, RecvError, RecvResult, Reply,
+    TryRecv, TryRecvError,
 };
-use std::alloc::AllocError;
 use std::time::Duration;
 
 mod batch;
@@ -71,7 +70,7 @@ impl<T: Clone, P: HistoryPort<T, J>, J: Channel> TrackedReceiver<T, P, J> {
 
     /// Receives the next message, if there is one: as `Receiver::try_recv`, with its errors.
     #[inline(always)]
-    pub fn try_recv(&mut self) -> Result<Result<T, TryRecvError>, AllocError>
+    pub fn try_recv(&mut self) -> RecvResult<T, TryRecvError>
         ensures { ReceivesOnce P.learns T.is_clone J.opening
             self.old.tracker self.new.tracker result }
     {
@@ -82,7 +81,7 @@ impl<T: Clone, P: HistoryPort<T, J>, J: Channel> TrackedReceiver<T, P, J> {
 
     /// Receives the next message, and blocks the thread while there is none and the channel is open:
     /// as `Receiver::recv_blocking`, with its errors. Each try is a step.
-    pub fn recv_blocking(&mut self) -> Result<Result<T, RecvError>, AllocError>
+    pub fn recv_blocking(&mut self) -> RecvResult<T, RecvError>
         ensures { ReceivesOnce P.learns T.is_clone J.opening
             self.old.tracker self.new.tracker (as_try_recv result) }
     {
@@ -207,10 +206,7 @@ impl<T: Clone, P: HistoryPort<T, J>, J: Channel> TrackedReceiver<T, P, J> {
 impl<T: Clone, P: TimedHistoryPort<T, J>, J: Channel> TrackedReceiver<T, P, J> {
     /// Receives the next message, and gives up once `limit` has passed: as `Receiver::recv_timeout`,
     /// with its errors. Each try is a step.
-    pub fn recv_timeout(
-        &mut self,
-        limit: Duration,
-    ) -> Result<Result<T, RecvTimeoutError>, AllocError>
+    pub fn recv_timeout(&mut self, limit: Duration) -> RecvResult<T, RecvTimeoutError>
         ensures { ReceivesOnce P.learns T.is_clone J.opening
             self.old.tracker self.new.tracker (as_timed_try result) }
     {

@@ -6,7 +6,7 @@ ghost use Rattle.bcast_model.specs.declared.run.Reply.TheVariants as reply;
 ghost use Rattle.uses.specs.Sends.{send_answer, send_reply};
 ghost use Rattle.uses.specs.Log.{unread, record_of, IsReader, IsFresh, KeepsReaders, AddsUnread, KeepsUnread, IsRead};
 
-use bcast_core::{HandleError, Inner, Silent, TryRecvError, TrySendError};
+use bcast_core::{HandleError, Inner, RecvResult, Silent, TryRecvError, TrySendError};
 use std::alloc::{AllocError, Global};
 use std::marker::Model;
 
@@ -111,7 +111,7 @@ impl Log {
 }
 
 // The record that a receive gave, if it gave one.
-fn into_record(received: Result<Result<u64, TryRecvError>, AllocError>) -> Option<u64>
+fn into_record(received: RecvResult<u64, TryRecvError>) -> Option<u64>
     ensures { result ≡ record_of received }
 {
     received.ok()?.ok()

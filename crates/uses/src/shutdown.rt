@@ -3,7 +3,7 @@ ghost use Rattle.std.specs.Prelude.{◌≡◌, ◌+◌, ◌-◌, ◌==◌, ◌<�
 ghost use Rattle.std.specs.FinMap.{empty, insert};
 ghost use Rattle.uses.specs.Signal.{IsWorker, AddsWorker, is_closed_reply};
 
-use bcast_core::{HandleError, Inner, Silent, TryRecvError};
+use bcast_core::{HandleError, Inner, RecvResult, Silent, TryRecvError};
 use std::alloc::{AllocError, Global};
 use std::marker::Model;
 
@@ -94,7 +94,7 @@ impl Shutdown {
 }
 
 // Whether a receive found that the channel is closed and everything was read.
-fn says_closed(answer: &Result<Result<(), TryRecvError>, AllocError>) -> bool
+fn says_closed(answer: &RecvResult<(), TryRecvError>) -> bool
     ensures { result ≡ is_closed_reply answer.now }
 {
     matches!(answer, Ok(Err(TryRecvError::Closed)))

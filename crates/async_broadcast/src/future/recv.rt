@@ -1,15 +1,17 @@
-//! Receiving in a task, one message at a time.
-ghost use Rattle.std.specs.Prelude.{◌≡◌, ◌⊎◌, ⊤, true, false, Ok, Err, IfOk, IfErr, OnOk, OnErr};
+//! Receiving in a task, one message at a time: by a future, by polls, or as a stream.
+ghost use Rattle.std.specs.Prelude.{◌≡◌, ◌⊎◌, ⊤, true, false, [], Ok, Err, IfOk, IfErr, OnOk};
+ghost use Rattle.std.specs.Prelude.{OnErr, IfSome, OnSome};
 ghost use Rattle.futures.specs.Task.{Covers, IsArmed, Keeps};
 ghost use Rattle.futures.specs.Poll.{IfReady, OnPending};
-ghost use Rattle.async_broadcast.specs.Futures.{GivesReceived};
+ghost use Rattle.futures.specs.Runs.{After, Within};
+ghost use Rattle.async_broadcast.specs.Futures.{GivesReceived, YieldsItems};
 
 use crate::handle::Handle;
 use crate::port::Ask;
-use crate::receiver::{Receiver, Receiving, RecvResult};
-use bcast_core::{Call, PollFuture, PollRecv, RecvError, Reply};
-use futures::Future;
+use crate::receiver::{Receiver, Receiving};
+use bcast_core::{Call, PollFuture, PollNext, PollRecv, RecvError, RecvResult, Reply};
 use futures::task::{Context, Poll};
+use futures::{Future, Stream};
 use std::alloc::{AllocError, Allocator, Global};
 
 /// Receives the next message of its receiver.
@@ -89,9 +91,8 @@ impl<T: Clone, P: Ask<T, ()>, A: Allocator + Copy> Receiver<T, P, A> {
     ///
     /// # Errors
     ///
-    /// - `AllocError`: no memory for a notice, or for a clone of a message that others have still
-    ///   to read. Nothing changed.
-    /// - `Overflowed(n)`: the next `n` messages were dropped. The receiver continues after them.
+    /// As `try_recv`, but for `Empty` and `Closed`; and `AllocError` also if there is no memory for
+    /// a notice.
     ///
     /// ```rust
     /// let (sender, mut receiver) = broadcast(&rt, rt.alloc(), 1)?;
@@ -183,6 +184,46 @@ impl<T: Clone, P: Ask<T, ()>, A: Allocator + Copy> Future for Recv<'_, T, P, A> 
             }
             Ok(Poll::Pending) => Poll::Pending,
             Err(error) => Poll::Ready(Err(error)),
+        }
+    }
+}
+
+// Dropped messages are skipped. If memory for a notice or a clone is refused, the item is an `Err`,
+// and nothing changed. The stream ends when every message was read and the channel is closed.
+impl<T: Clone, P: Ask<T, ()>, A: Allocator + Copy> Stream for Receiver<T, P, A> {
+    type Item = Result<T, AllocError>;
+
+    ghost yields = { λ r items last. YieldsItems P.gave r.port r.role.key items last };
+
+    fn poll_next(&mut self, cx: &mut Context<'_>) -> Poll<Option<Result<T, AllocError>>>
+        ensures value { IfReady result (YieldsItems P.gave self.old.port self.old.role.key []) }
+        ensures rest { IfReady result (λ next. IfSome next (λ item.
+            After (YieldsItems P.gave self.old.port self.old.role.key) item
+            (YieldsItems P.gave self.new.port self.new.role.key))) }
+        ensures goes { IfReady result (λ next. OnSome next ⊤) }
+        ensures again { OnPending result ⊤ }
+        ensures same { OnPending result (Within (YieldsItems P.gave self.old.port self.old.role.key)
+            (YieldsItems P.gave self.new.port self.new.role.key)) }
+        ensures registered { OnPending result (Covers cx.new (λ _. ⊥)) }
+        ensures kept { Keeps cx.old cx.new }
+
+        ensures waits { OnPending result (P.gave self.old.port (Call.PollNext self.old.role.key)
+            (Reply.PollNext (Ok Poll.Pending))) }
+        ensures notice { OnPending result (self.new.role.waker.is_refused ≡ false) }
+        ensures refused { IfReady result (λ next. IfSome next (λ item. IfErr item (λ error.
+            (self.new.role.waker.is_refused ≡ true)
+            ⊎ P.gave self.old.port (Call.PollNext self.old.role.key)
+            (Reply.PollNext (Err error))))) }
+        ensures port { self.new.port ≡ self.old.port }
+        ensures key { self.new.role.key ≡ self.old.role.key }
+    {
+        let Receiving { key, waker } = &mut self.role;
+        let polled = self.port.poll(&mut (), PollNext(*key), waker, cx);
+        match polled.unwrap_or(Err(AllocError)) {
+            Ok(Poll::Ready(Some(next))) => Poll::Ready(Some(Ok(next.0))),
+            Ok(Poll::Ready(None)) => Poll::Ready(None),
+            Ok(Poll::Pending) => Poll::Pending,
+            Err(error) => Poll::Ready(Some(Err(error))),
         }
     }
 }

@@ -158,16 +158,9 @@ impl<T: Clone, R: Wait + Clone, A: Allocator + Copy, J: CallJournal<T>> Lock<T, 
         let channel = &*self.channel;
         let mut guard = lock!(channel, &self.rt);
         let state = &mut *guard;
-        let before = Snapshot::of(&state.inner);
+        let old = Snapshot::of(&state.inner);
         let added = call.make(&mut state.inner);
-        let made = append_added(
-            &mut state.journal,
-            caller,
-            call,
-            added,
-            &before,
-            &state.inner,
-        );
+        let made = append_added(&mut state.journal, caller, call, added, &old, &state.inner);
         if let Some(woken) = state.threads.choose_woken(&state.inner) {
             channel.unlock(guard, woken);
         }

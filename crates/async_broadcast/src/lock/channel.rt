@@ -1,4 +1,5 @@
-//! The lock, what it guards, and the condition variables that threads wait on.
+//! The lock, what it guards, the condition variables that threads wait on, and how long they wait.
+ghost use Rattle.std.specs.Prelude.{◌≡◌, ⊤, false};
 ghost use Rattle.async_broadcast.specs.Woken.{KnowsTail, HasWokenSender, HasWokenReceiver};
 
 use super::threads::{Side, Threads, Woken, WokenReceivers};
@@ -6,7 +7,8 @@ use crate::journal::CallJournal;
 use crate::wake::Wake;
 use bcast_core::Inner;
 use std::alloc::Allocator;
-use std::sync::{Condvar, Mutex, MutexGuard};
+use std::sync::{Condvar, Mutex, MutexGuard, Wait};
+use std::time::{Clock, Duration, Instant};
 
 /// A channel behind its lock.
 #[derive(Drop)]
@@ -77,6 +79,78 @@ impl<T: Clone, A: Allocator + Copy, J: CallJournal<T>> Channel<T, A, J> {
             Side::Senders => &self.send_ready,
             Side::Receivers => &self.message_ready,
         }
+    }
+}
+
+/// How long a thread waits.
+pub(crate) trait Limit<R: Wait> {
+    // Holds if `wait` never returns that the time is over.
+    ghost is_endless: { Type 0 };
+
+    /// Releases the lock until the condition is notified or the time is over, and returns whether
+    /// it is over. If it is over already, the lock is kept.
+    fn wait<'a, T: Clone, A: Allocator, J: CallJournal<T>>(
+        &self,
+        rt: &R,
+        condition: &Condvar,
+        state: Locked<'a, T, A, J>,
+    ) -> (Locked<'a, T, A, J>, bool)
+        ensures { is_endless → result.1 ≡ false };
+}
+
+/// Until the call is answered.
+pub(crate) struct NoLimit;
+
+/// This long, counted from `start`. If the clock couldn't be read, `start` is `None` and the time
+/// is over.
+#[derive(Drop)]
+pub(crate) struct TimeLimit {
+    start: Option<Instant>,
+    limit: Duration,
+}
+
+impl TimeLimit {
+    /// This long, from now.
+    pub(super) fn from_now(clock: &impl Clock, limit: Duration) -> TimeLimit {
+        TimeLimit {
+            start: Instant::now(clock).ok(),
+            limit,
+        }
+    }
+
+    // How much is left. `None`: the time is over.
+    fn left(&self, clock: &impl Clock) -> Option<Duration> {
+        self.limit.checked_sub(self.start?.elapsed(clock).ok()?)
+    }
+}
+
+impl<R: Wait> Limit<R> for NoLimit {
+    ghost is_endless = { ⊤ };
+
+    fn wait<'a, T: Clone, A: Allocator, J: CallJournal<T>>(
+        &self,
+        rt: &R,
+        condition: &Condvar,
+        state: Locked<'a, T, A, J>,
+    ) -> (Locked<'a, T, A, J>, bool) {
+        (condition.wait(rt, state), false)
+    }
+}
+
+impl<R: Wait + Clock> Limit<R> for TimeLimit {
+    ghost is_endless = { ⊥ };
+
+    fn wait<'a, T: Clone, A: Allocator, J: CallJournal<T>>(
+        &self,
+        rt: &R,
+        condition: &Condvar,
+        state: Locked<'a, T, A, J>,
+    ) -> (Locked<'a, T, A, J>, bool) {
+        let Some(left) = self.left(rt) else {
+            return (state, true);
+        };
+        let (state, waited) = condition.wait_timeout(rt, state, left);
+        (state, waited.timed_out())
     }
 }
 

@@ -1,21 +1,97 @@
 //! Calls of threads that wait until they are answered, or their time is over.
-ghost use Rattle.std.specs.Prelude.{◌≡◌, true, false, IfSome};
+ghost use Rattle.std.specs.Prelude.{◌≡◌, Bool, ⊤, true, false, not, IfSome};
 ghost use Rattle.bcast_model.specs.Words.{HasPositiveCapacity, IsPossible};
+ghost use Rattle.async_broadcast.specs.Counted.{EndsWait};
 ghost use Rattle.async_broadcast.specs.Ports.{is_answer, as_try_recv, moved_by};
 ghost use Rattle.async_broadcast.specs.Timed.{as_attempt, as_timed_try};
 
 use super::Lock;
-use super::attempt::Attempt;
-use super::channel::lock;
-use super::limit::Limit;
+use super::channel::{Limit, lock};
+use super::threads::{Side, Threads, WaitingThread};
 use crate::journal::CallJournal;
-use crate::receiver::RecvResult;
 use crate::timed::{RecvTimeoutError, SendTimeoutError};
-use bcast_core::{AtOnce, RecvError, Reply, SendError, SendPoll, TryRecvError};
+use bcast_core::{
+    AtOnce, AttemptSend, RecvError, RecvResult, Reply, SendError, SendPoll, TryRecv, TryRecvError,
+};
 use std::alloc::Allocator;
 use std::snapshot::Snapshot;
 use std::sync::Wait;
 use std::thread::yield_now;
+
+/// A call that is made again and again until it needn't wait.
+pub(super) trait Attempt<T: Clone, C: AtOnce<T>> {
+    // Holds of the call that is made each time.
+    ghost makes: { Self → C → Type 0 };
+
+    /// With whom a thread waits that must wait.
+    fn side(&self) -> Side;
+
+    /// Whether this answer says that the call must wait.
+    fn must_wait(&self, answer: &C::Answer) -> bool
+        ensures { (call : C) → is_answer (C.reply call answer.now) ≡ not result };
+
+    /// The call once more, since this answer says that it must wait.
+    fn again(&self, call: &Snapshot<C>, answer: C::Answer) -> C
+        requires makes { makes self.now call.now.value }
+        requires waits { is_answer (C.reply call.now.value answer) ≡ false }
+        requires reply { IsPossible T.is_clone (C.call call.now.value)
+            (C.reply call.now.value answer) }
+        ensures { result ≡ call.now.value };
+
+    /// Counts a thread no more that has waited and tried again, with this answer.
+    fn end(&self, threads: &mut Threads, waiting: WaitingThread, answer: &C::Answer)
+        ensures { (must_wait : Bool)
+            × ((call : C) → is_answer (C.reply call answer.now) ≡ not must_wait)
+            × EndsWait waiting must_wait threads.old threads.new }
+    {
+        let must_wait = self.must_wait(answer);
+        threads.end_waiting(waiting, must_wait);
+    }
+}
+
+/// Sends a message. A thread that must wait gets it back.
+pub(super) struct Sends;
+
+/// Receives a message by the receiver of this key.
+#[derive(Drop)]
+pub(super) struct Receives {
+    pub(super) key: usize,
+}
+
+impl<T: Clone> Attempt<T, AttemptSend<T>> for Sends {
+    ghost makes = { λ _ _. ⊤ };
+
+    fn side(&self) -> Side {
+        Side::Senders
+    }
+
+    fn must_wait(&self, answer: &SendPoll<T>) -> bool {
+        matches!(answer, SendPoll::Wait(_))
+    }
+
+    fn again(&self, _call: &Snapshot<AttemptSend<T>>, answer: SendPoll<T>) -> AttemptSend<T> {
+        match answer {
+            SendPoll::Wait(back) => AttemptSend(back),
+            SendPoll::Ready(_) => unreachable!(),
+        }
+    }
+}
+
+impl<T: Clone> Attempt<T, TryRecv> for Receives {
+    ghost makes = { λ receives call. call.0 ≡ receives.key };
+
+    fn side(&self) -> Side {
+        Side::Receivers
+    }
+
+    fn must_wait(&self, answer: &RecvResult<T, TryRecvError>) -> bool {
+        matches!(answer, Ok(Err(TryRecvError::Empty)))
+    }
+
+    fn again(&self, _call: &Snapshot<TryRecv>, _answer: RecvResult<T, TryRecvError>) -> TryRecv {
+        TryRecv(self.key)
+    }
+}
 
 impl<T: Clone, R: Wait + Clone, A: Allocator + Copy, J: CallJournal<T>> Lock<T, R, A, J> {
     /// Makes a call again and again, and waits between, until it needn't wait or the time is over.

@@ -3,7 +3,7 @@ ghost use Rattle.bcast_model.specs.declared.run.Call.TheVariants as call;
 ghost use Rattle.bcast_model.specs.declared.run.Reply.TheVariants as reply;
 
 use super::{AtOnce, CallOf, RepliesTo};
-use crate::state::Inner;
+use crate::state::{Inner, RecvResult};
 use bcast_model::error::{TryRecvError, TrySendError};
 use bcast_model::messages::Messages;
 use bcast_model::run::{Call, Reply, SendPoll};
@@ -119,7 +119,7 @@ impl<T: Clone> AtOnce<T> for BeginSend {
 pub struct TryRecv(pub usize);
 
 impl<T: Drop> CallOf<T> for TryRecv {
-    type Answer = Result<Result<T, TryRecvError>, AllocError>;
+    type Answer = RecvResult<T, TryRecvError>;
 
     ghost call = { λ c. call.TryRecv c.0 };
 

@@ -3,7 +3,7 @@ ghost use Rattle.bcast_model.specs.declared.run.Call.TheVariants as call;
 ghost use Rattle.bcast_model.specs.declared.run.Reply.TheVariants as reply;
 
 use super::{CallOf, Polls, RepliesTo};
-use crate::receive_poll::ReceivePoll;
+use crate::parts::ReceivePoll;
 use crate::state::Inner;
 use bcast_model::error::RecvError;
 use bcast_model::run::{Call, Reply, SendPoll};

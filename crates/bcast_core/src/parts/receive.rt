@@ -1,31 +1,58 @@
 //! Receiving.
 ghost use Rattle.std.specs.Prelude.{◌≡◌, ◌⊎◌, ◌+◌, true, false, Ok, Err, IfOk, OnOk, OnErr, IsOk};
 ghost use Rattle.bcast_model.specs.Receiving.{is_empty_reply};
+ghost use Rattle.bcast_core.specs.Polls.{kind_of, reads_at, skips_of};
 
 use super::Parts;
-use crate::receive_poll::ReceivePoll;
+use crate::state::RecvResult;
 use bcast_model::error::TryRecvError;
 use bcast_model::listener::Kind;
 use bcast_queue::Counter;
 use bcast_waiting::notice::{MakesNotice, NoNotice, Notice};
-use std::alloc::{AllocError, Allocator};
+use std::alloc::Allocator;
+
+/// Which call a receive that waits is.
+#[derive(Clone, Copy)]
+pub enum ReceivePoll {
+    /// `poll_future`.
+    Future,
+    /// `poll_recv`.
+    Recv,
+    /// `poll_next`, which skips what the receiver missed.
+    Next,
+}
+
+impl ReceivePoll {
+    /// Which listener of the receiver waits.
+    #[inline(always)]
+    pub fn kind(self) -> Kind
+        ensures { result ≡ kind_of self }
+    {
+        match self {
+            ReceivePoll::Future => Kind::Future,
+            ReceivePoll::Recv | ReceivePoll::Next => Kind::Stream,
+        }
+    }
+}
 
 impl<T: Clone, N: Notice, A: Allocator + Copy> Parts<T, N, A> {
     ghost use Rattle.bcast_model.specs.Words.{IsValidView, IsReceivedBy, receive, receive_poll};
     ghost use Rattle.bcast_model.specs.Words.{skipped_to, settle, sets, cursor_of};
     ghost use Rattle.bcast_model.specs.Words.{pair_answered, tell_if_ready};
     ghost use Rattle.bcast_core.specs.Parts.{tries_by, finds_nothing};
-    ghost use Rattle.bcast_core.specs.Polls.{reads_at, skips_of};
     ghost use Rattle.bcast_core.specs.Telling.{is_untold};
 
-    /// Gives a receiver the message of this number, or says why there is none. Counts one step.
+    /// Gives a receiver the message of this number, or says why there is none. Counts one step, but
+    /// not for a stream that is listed and not told: since no wake-up is lost there is none, and it
+    /// doesn't look. `try_recv` looks as a future does.
     #[inline(always)]
     pub fn receive<C: Counter>(
         &mut self,
         key: usize,
+        kind: Kind,
         at: Option<u64>,
         steps: &mut C,
-    ) -> Result<Result<T, TryRecvError>, AllocError>
+    ) -> RecvResult<T, TryRecvError>
         requires valid { IsValidView self.old }
         requires at { (at ≡ cursor_of self.old.control key)
             ⊎ (at ≡ skipped_to self.old.front (cursor_of self.old.control key)) }
@@ -34,8 +61,12 @@ impl<T: Clone, N: Notice, A: Allocator + Copy> Parts<T, N, A> {
         ensures err { OnErr result (self.new ≡ self.old) }
         ensures sure { ((msg : T) → T.is_infallible msg) → IsOk result }
 
-        ensures steps { C.counts ≡ true → C.total steps.new ≡ C.total steps.old + 1 }
+        ensures steps { C.counts ≡ true → C.total steps.new
+            ≡ C.total steps.old + tries_by kind self.old.control (key, kind) }
     {
+        if kind == Kind::Stream && self.is_untold(key, kind) {
+            return Ok(Err(TryRecvError::Empty));
+        }
         steps.count();
         let Some(cursor) = at else {
             return Ok(Err(TryRecvError::Closed));
@@ -68,8 +99,7 @@ impl<T: Clone, N: Notice, A: Allocator + Copy> Parts<T, N, A> {
     {
         let at = self.store.cursor(key);
         match poll {
-            ReceivePoll::Future => (at, 0),
-            ReceivePoll::Recv => (at, 0),
+            ReceivePoll::Future | ReceivePoll::Recv => (at, 0),
             ReceivePoll::Next => {
                 let front = self.store.front();
                 match at {
@@ -88,33 +118,6 @@ impl<T: Clone, N: Notice, A: Allocator + Copy> Parts<T, N, A> {
         self.receives.is_untold((key, kind))
     }
 
-    // Looks for a message for a listener. If that of a stream is listed and not told there is none,
-    // since no wake-up is lost: so it is not looked for.
-    #[inline(always)]
-    fn look<C: Counter>(
-        &mut self,
-        key: usize,
-        kind: Kind,
-        at: Option<u64>,
-        steps: &mut C,
-    ) -> Result<Result<T, TryRecvError>, AllocError>
-        requires valid { IsValidView self.old }
-        requires at { (at ≡ cursor_of self.old.control key)
-            ⊎ (at ≡ skipped_to self.old.front (cursor_of self.old.control key)) }
-        ensures found { IsReceivedBy T.is_clone self.old key at (λ found. found) result }
-        ensures ok { OnOk result (self.new ≡ settle self.old (sets (receive self.old key at))) }
-        ensures err { OnErr result (self.new ≡ self.old) }
-        ensures sure { ((msg : T) → T.is_infallible msg) → IsOk result }
-
-        ensures steps { C.counts ≡ true → C.total steps.new
-            ≡ C.total steps.old + tries_by kind self.old.control (key, kind) }
-    {
-        if kind == Kind::Stream && self.is_untold(key, kind) {
-            return Ok(Err(TryRecvError::Empty));
-        }
-        self.receive(key, at, steps)
-    }
-
     /// A poll by a listener, whose notice is made if it must wait.
     #[inline(always)]
     pub fn poll<C: Counter, M: MakesNotice<N>>(
@@ -124,7 +127,7 @@ impl<T: Clone, N: Notice, A: Allocator + Copy> Parts<T, N, A> {
         at: Option<u64>,
         maker: &mut M,
         steps: &mut C,
-    ) -> Result<Result<Result<T, TryRecvError>, AllocError>, NoNotice>
+    ) -> Result<RecvResult<T, TryRecvError>, NoNotice>
         requires valid { IsValidView self.old }
         requires at { (at ≡ cursor_of self.old.control key)
             ⊎ (at ≡ skipped_to self.old.front (cursor_of self.old.control key)) }
@@ -144,7 +147,7 @@ impl<T: Clone, N: Notice, A: Allocator + Copy> Parts<T, N, A> {
         ensures steps { C.counts ≡ true → C.total steps.new
             ≡ C.total steps.old + tries_by kind self.old.control (key, kind) }
     {
-        let answer = match self.look(key, kind, at, steps) {
+        let answer = match self.receive(key, kind, at, steps) {
             Ok(answer) => answer,
             Err(refused) => return Ok(Err(refused)),
         };

@@ -6,7 +6,7 @@ ghost use Rattle.bcast_core.specs.Telling.{is_accepted};
 use super::Parts;
 use bcast_model::error::{SendError, TrySendError};
 use bcast_model::messages::Messages;
-use bcast_model::run::SendPoll;
+use bcast_model::run::{Reply, SendPoll};
 use bcast_waiting::notice::{MakesNotice, Notice};
 use std::alloc::{AllocError, Allocator};
 
@@ -15,9 +15,7 @@ impl<T: Drop, N: Notice, A: Allocator + Copy> Parts<T, N, A> {
     ghost use Rattle.bcast_model.specs.Words.{tell_if_ready, must_wait, IsValidView, settle, resize};
     ghost use Rattle.bcast_model.specs.Words.{try_broadcast_reply, attempt_send_reply, offer};
     ghost use Rattle.bcast_model.specs.Words.{try_broadcast_all_reply, offer_all, poll_send};
-    ghost use Rattle.bcast_model.specs.declared.run.Reply.TheVariants as reply;
     ghost use Rattle.bcast_core.specs.Telling.{tell_news};
-    ghost use Rattle.bcast_model.specs.declared.run.SendPoll.TheVariants as send;
 
     /// Accepts a whole list, or hands it back with the reason. No one is told: the caller has to do
     /// that, if the end rose.
@@ -145,13 +143,13 @@ impl<T: Drop, N: Notice, A: Allocator + Copy> Parts<T, N, A> {
         requires { IsValidView self.old }
         ensures reply { IfOk result (λ sent. sent ≡ (if has_place self.old.control place
             then attempt_send_reply self.old msg
-            else send.Wait msg)) }
+            else SendPoll.Wait msg)) }
         ensures effect { OnOk result (self.new
             ≡ tell_if_ready (settle self.old (poll_send self.old place msg))) }
 
-        ensures made { IfOk result (λ sent. must_wait (reply.PollSend sent) ≡ true
+        ensures made { IfOk result (λ sent. must_wait (Reply.PollSend sent) ≡ true
             → M.made maker.old maker.new) }
-        ensures idle { IfOk result (λ sent. must_wait (reply.PollSend sent) ≡ false
+        ensures idle { IfOk result (λ sent. must_wait (Reply.PollSend sent) ≡ false
             → maker.new ≡ maker.old) }
         ensures back { IfErr result (λ back. back ≡ msg) }
         ensures same { OnErr result (self.new ≡ self.old) }

@@ -3,22 +3,76 @@
 ghost use Rattle.std.specs.Prelude.{vec_len, vec_capacity, ◌≡◌, ◌⊎◌, ◌+◌, ◌≤◌, min};
 ghost use Rattle.std.specs.Prelude.{true, false, IfOk, OnErr, IsOk};
 ghost use Rattle.bcast_model.specs.Words.{NoClone, Answers, missed, stream_of, unread};
-ghost use Rattle.bcast_model.specs.declared.run.Call.TheVariants as call;
-ghost use Rattle.bcast_model.specs.declared.run.Reply.TheVariants as reply;
 ghost use Rattle.bcast_core.specs.Batch.{MayBeRefused, ReceivesInto};
 ghost use Rattle.bcast_core.specs.Parts.{finds_nothing, tries_by};
 ghost use Rattle.bcast_core.specs.Polls.{kind_of, call_of, reply_of};
 ghost use Rattle.bcast_core.specs.Tries.{tries_of};
 
 use super::Inner;
-use crate::receive_poll::{ReceivePoll, Received};
+use crate::parts::ReceivePoll;
 use bcast_model::error::{RecvError, TryRecvError};
 use bcast_model::listener::Kind;
+use bcast_model::run::{Call, Reply};
 use bcast_queue::{Counter, Steps, Uncounted};
 use bcast_waiting::notice::{MakesNotice, NoNotice, Notice, OwnedNotice};
 use futures::task::Poll;
 use std::alloc::{AllocError, Allocator};
 use std::sync::ledger::Ledger;
+
+/// What a receive returns: the message (if it receives several, their number), or why there is none;
+/// or that memory was refused.
+pub type RecvResult<T, E> = Result<Result<T, E>, AllocError>;
+
+/// What a receive found, as `try_recv` returns it, and how many messages it skipped before.
+#[derive(Drop)]
+pub struct Received<T> {
+    /// The message, why there is none, or that memory for a clone was refused.
+    pub found: RecvResult<T, TryRecvError>,
+    /// How many messages were skipped.
+    pub skips: u64,
+}
+
+impl<T: Drop> Received<T> {
+    /// What `poll_future` returns.
+    #[inline(always)]
+    pub fn of_future(self) -> Result<Poll<Result<T, RecvError>>, AllocError>
+        ensures { Reply.PollFuture result ≡ reply_of ReceivePoll.Future self }
+    {
+        match self.found? {
+            Ok(msg) => Ok(Poll::Ready(Ok(msg))),
+            Err(TryRecvError::Overflowed(n)) => Ok(Poll::Ready(Err(RecvError::Overflowed(n)))),
+            Err(TryRecvError::Closed) => Ok(Poll::Ready(Err(RecvError::Closed))),
+            Err(TryRecvError::Empty) => Ok(Poll::Pending),
+        }
+    }
+
+    /// What `poll_recv` returns.
+    #[inline(always)]
+    pub fn of_recv(self) -> Result<Poll<Option<Result<T, RecvError>>>, AllocError>
+        ensures { Reply.PollRecv result ≡ reply_of ReceivePoll.Recv self }
+    {
+        match self.found? {
+            Ok(msg) => Ok(Poll::Ready(Some(Ok(msg)))),
+            Err(TryRecvError::Overflowed(n)) => {
+                Ok(Poll::Ready(Some(Err(RecvError::Overflowed(n)))))
+            }
+            Err(TryRecvError::Closed) => Ok(Poll::Ready(None)),
+            Err(TryRecvError::Empty) => Ok(Poll::Pending),
+        }
+    }
+
+    /// What `poll_next` returns.
+    #[inline(always)]
+    pub fn of_next(self) -> Result<Poll<Option<(T, u64)>>, AllocError>
+        ensures { Reply.PollNext result ≡ reply_of ReceivePoll.Next self }
+    {
+        match self.found? {
+            Ok(msg) => Ok(Poll::Ready(Some((msg, self.skips)))),
+            Err(TryRecvError::Overflowed(_) | TryRecvError::Closed) => Ok(Poll::Ready(None)),
+            Err(TryRecvError::Empty) => Ok(Poll::Pending),
+        }
+    }
+}
 
 impl<T: Clone, N: Notice, A: Allocator + Copy> Inner<T, N, A> {
     /// Gives the receiver of this key its next message: the message itself, or a clone of it if
@@ -34,17 +88,15 @@ impl<T: Clone, N: Notice, A: Allocator + Copy> Inner<T, N, A> {
     ///
     /// `AllocError`: the message is also for another receiver, and memory for its clone was
     /// refused. Nothing changed.
-    ///
-    /// Source: `Receiver::try_recv` of async-broadcast.
     #[inline(always)]
-    pub fn try_recv(&mut self, key: usize) -> Result<Result<T, TryRecvError>, AllocError>
-        ensures answers { Answers T.is_clone self.old (call.TryRecv key) (reply.TryRecv result)
+    pub fn try_recv(&mut self, key: usize) -> RecvResult<T, TryRecvError>
+        ensures answers { Answers T.is_clone self.old (Call.TryRecv key) (Reply.TryRecv result)
             self.new }
         // If no clone can fail, it isn't out of memory.
         ensures sure { ((msg : T) → T.is_infallible msg) → IsOk result }
     {
         let at = self.parts.store.cursor(key);
-        let received = self.parts.receive(key, at, &mut Uncounted);
+        let received = self.parts.receive(key, Kind::Future, at, &mut Uncounted);
         if !self.parts.sends.is_empty() {
             self.parts.tell_a_sender();
         }
@@ -93,8 +145,6 @@ impl<T: Clone, N: Notice, A: Allocator + Copy> Inner<T, N, A> {
     /// # Errors
     ///
     /// `AllocError` as for `try_recv`; nothing changed.
-    ///
-    /// Source: the poll of `Recv` of async-broadcast.
     #[inline(always)]
     pub fn poll_future<L: Ledger>(
         &mut self,
@@ -102,17 +152,13 @@ impl<T: Clone, N: Notice, A: Allocator + Copy> Inner<T, N, A> {
         notice: N,
         steps: &mut Steps<L>,
     ) -> Result<Poll<Result<T, RecvError>>, AllocError>
-        ensures answers { Answers T.is_clone self.old (call.PollFuture key)
-            (reply.PollFuture result) self.new }
+        ensures answers { Answers T.is_clone self.old (Call.PollFuture key)
+            (Reply.PollFuture result) self.new }
         ensures sure { ((msg : T) → T.is_infallible msg) → IsOk result }
         ensures steps { steps.new ≡ steps.old + 1 }
     {
-        match self.poll_receive(
-            ReceivePoll::Future,
-            key,
-            &mut OwnedNotice::new(notice),
-            steps,
-        ) {
+        let mut maker = OwnedNotice::new(notice);
+        match self.poll_receive(ReceivePoll::Future, key, &mut maker, steps) {
             Ok(received) => received.of_future(),
             Err(_) => unreachable!(),
         }
@@ -125,15 +171,13 @@ impl<T: Clone, N: Notice, A: Allocator + Copy> Inner<T, N, A> {
     /// # Errors
     ///
     /// `AllocError` as for `try_recv`; nothing changed.
-    ///
-    /// Source: `Receiver::poll_recv` of async-broadcast.
     pub fn poll_recv<L: Ledger>(
         &mut self,
         key: usize,
         notice: N,
         steps: &mut Steps<L>,
     ) -> Result<Poll<Option<Result<T, RecvError>>>, AllocError>
-        ensures answers { Answers T.is_clone self.old (call.PollRecv key) (reply.PollRecv result)
+        ensures answers { Answers T.is_clone self.old (Call.PollRecv key) (Reply.PollRecv result)
             self.new }
         ensures sure { ((msg : T) → T.is_infallible msg) → IsOk result }
         ensures steps { steps.new ≡ steps.old + tries_of self.old.control (stream_of key) }
@@ -150,15 +194,13 @@ impl<T: Clone, N: Notice, A: Allocator + Copy> Inner<T, N, A> {
     /// # Errors
     ///
     /// `AllocError` as for `try_recv`; nothing changed, and nothing was skipped.
-    ///
-    /// Source: the `Stream` of async-broadcast's `Receiver`; the number is this crate's own.
     pub fn poll_next<L: Ledger>(
         &mut self,
         key: usize,
         notice: N,
         steps: &mut Steps<L>,
     ) -> Result<Poll<Option<(T, u64)>>, AllocError>
-        ensures answers { Answers T.is_clone self.old (call.PollNext key) (reply.PollNext result)
+        ensures answers { Answers T.is_clone self.old (Call.PollNext key) (Reply.PollNext result)
             self.new }
         ensures sure { ((msg : T) → T.is_infallible msg) → IsOk result }
         ensures steps { steps.new ≡ steps.old + tries_of self.old.control (stream_of key) }
@@ -169,7 +211,7 @@ impl<T: Clone, N: Notice, A: Allocator + Copy> Inner<T, N, A> {
         }
     }
 
-    /// Any of the three receives that wait, with what makes the notice if it must wait.
+    // Any of the three receives that wait, with what makes the notice if it must wait.
     #[inline(always)]
     pub(crate) fn poll_receive<C: Counter, M: MakesNotice<N>>(
         &mut self,
@@ -202,10 +244,8 @@ impl<T: Clone, N: Notice, A: Allocator + Copy> Inner<T, N, A> {
 impl<T: Drop, N: Notice, A: Allocator + Copy> Inner<T, N, A> {
     /// Gives up the future of the receiver of this key. If it was told, the first listener that is
     /// left is told in its place, unless it is told already. If it doesn't wait, nothing changes.
-    ///
-    /// Source: the drop of `Recv` of async-broadcast.
     pub fn end_future(&mut self, key: usize)
-        ensures { Answers NoClone self.old (call.EndFuture key) reply.EndFuture self.new }
+        ensures { Answers NoClone self.old (Call.EndFuture key) Reply.EndFuture self.new }
     {
         let _ = self.take_future(key);
     }
@@ -213,7 +253,7 @@ impl<T: Drop, N: Notice, A: Allocator + Copy> Inner<T, N, A> {
     /// Gives up the future of the receiver of this key, as `end_future` does, and returns its
     /// notice if it waited.
     pub fn take_future(&mut self, key: usize) -> Option<N>
-        ensures { Answers NoClone self.old (call.EndFuture key) reply.EndFuture self.new }
+        ensures { Answers NoClone self.old (Call.EndFuture key) Reply.EndFuture self.new }
     {
         let notice = self.parts.pair_ended(key, Kind::Future);
         self.parts.tell_a_sender();

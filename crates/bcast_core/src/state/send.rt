@@ -1,14 +1,12 @@
 //! Sending, at once or by a pending send.
 ghost use Rattle.std.specs.Prelude.{◌≡◌, true, false, IfOk, IfErr, OnErr};
 ghost use Rattle.bcast_model.specs.Words.{NoClone, in_lists, Answers, must_wait};
-ghost use Rattle.bcast_model.specs.declared.run.Call.TheVariants as call;
-ghost use Rattle.bcast_model.specs.declared.run.Reply.TheVariants as reply;
 
 use super::Inner;
 use crate::parts::is_accepted;
 use bcast_model::error::TrySendError;
 use bcast_model::messages::{Messages, in_vec};
-use bcast_model::run::SendPoll;
+use bcast_model::run::{Call, Reply, SendPoll};
 use bcast_waiting::notice::{MakesNotice, Notice, OwnedNotice};
 use std::alloc::{AllocError, Allocator};
 
@@ -25,11 +23,9 @@ impl<T: Drop, N: Notice, A: Allocator + Copy> Inner<T, N, A> {
     /// - `Closed`: the channel is closed.
     /// - `Inactive`: there is no active receiver, in overflow mode too.
     /// - `Full`: as many messages are kept as the capacity allows, and overflow is off.
-    ///
-    /// Source: `Sender::try_broadcast` of async-broadcast; the last number is this crate's own.
     #[inline(always)]
     pub fn try_broadcast(&mut self, msg: T) -> Result<Option<T>, TrySendError<T>>
-        ensures { Answers NoClone self.old (call.TryBroadcast msg) (reply.TryBroadcast result)
+        ensures { Answers NoClone self.old (Call.TryBroadcast msg) (Reply.TryBroadcast result)
             self.new }
     {
         let sent = self.parts.offer(msg);
@@ -53,16 +49,16 @@ impl<T: Drop, N: Notice, A: Allocator + Copy> Inner<T, N, A> {
     /// - `Full`: there are more messages than the capacity has room for, or than there are numbers
     ///   below `u64::MAX`.
     pub fn try_broadcast_all(&mut self, msgs: Vec<T>) -> Result<(), TrySendError<Vec<T>>>
-        ensures { Answers NoClone self.old (call.TryBroadcastAll msgs.items)
-            (reply.TryBroadcastAll (in_lists result)) self.new }
+        ensures { Answers NoClone self.old (Call.TryBroadcastAll msgs.items)
+            (Reply.TryBroadcastAll (in_lists result)) self.new }
     {
         in_vec(self.offer_all(Messages::new(msgs)))
     }
 
     // Sends a list as `try_broadcast_all` does.
     pub(crate) fn offer_all(&mut self, msgs: Messages<T>) -> Result<(), TrySendError<Messages<T>>>
-        ensures { Answers NoClone self.old (call.TryBroadcastAll msgs)
-            (reply.TryBroadcastAll result) self.new }
+        ensures { Answers NoClone self.old (Call.TryBroadcastAll msgs)
+            (Reply.TryBroadcastAll result) self.new }
     {
         let end = self.parts.store.end();
         let sent = self.parts.offer_all(msgs);
@@ -76,10 +72,8 @@ impl<T: Drop, N: Notice, A: Allocator + Copy> Inner<T, N, A> {
     /// `Ready(Ok(..))`: the message was accepted. `Ready(Err(SendError(msg)))`: the channel is
     /// closed, or there is no active receiver and `await_active` is off. `Wait(msg)`: the channel
     /// is full, or there is no active receiver while `await_active` is on. Allocates nothing.
-    ///
-    /// Source: the poll of `Send` of async-broadcast, without its listener.
     pub fn attempt_send(&mut self, msg: T) -> SendPoll<T>
-        ensures { Answers NoClone self.old (call.AttemptSend msg) (reply.AttemptSend result)
+        ensures { Answers NoClone self.old (Call.AttemptSend msg) (Reply.AttemptSend result)
             self.new }
     {
         let sent = self.parts.attempt(msg);
@@ -95,7 +89,7 @@ impl<T: Drop, N: Notice, A: Allocator + Copy> Inner<T, N, A> {
     /// `AllocError`: memory for it was refused, and nothing changed.
     #[inline(always)]
     pub fn begin_send(&mut self) -> Result<usize, AllocError>
-        ensures { Answers NoClone self.old call.BeginSend (reply.BeginSend result) self.new }
+        ensures { Answers NoClone self.old Call.BeginSend (Reply.BeginSend result) self.new }
     {
         let begun = self.parts.begin_send();
         self.parts.tell_a_sender();
@@ -108,11 +102,9 @@ impl<T: Drop, N: Notice, A: Allocator + Copy> Inner<T, N, A> {
     /// With a place that is not in use nothing changes, and `Wait(msg)` is returned. If the send is
     /// answered and sends are still ready, the next one that waits is told, unless one is told
     /// already. Allocates nothing.
-    ///
-    /// Source: the poll of `Send` of async-broadcast; which one is told next is this crate's own.
     #[inline(always)]
     pub fn poll_send(&mut self, place: usize, msg: T, notice: N) -> SendPoll<T>
-        ensures { Answers NoClone self.old (call.PollSend place msg) (reply.PollSend result)
+        ensures { Answers NoClone self.old (Call.PollSend place msg) (Reply.PollSend result)
             self.new }
     {
         match self.poll_send_by(place, msg, &mut OwnedNotice::new(notice)) {
@@ -130,12 +122,12 @@ impl<T: Drop, N: Notice, A: Allocator + Copy> Inner<T, N, A> {
         msg: T,
         maker: &mut M,
     ) -> Result<SendPoll<T>, T>
-        ensures answers { IfOk result (λ sent. Answers NoClone self.old (call.PollSend place msg)
-            (reply.PollSend sent) self.new) }
+        ensures answers { IfOk result (λ sent. Answers NoClone self.old (Call.PollSend place msg)
+            (Reply.PollSend sent) self.new) }
 
-        ensures made { IfOk result (λ sent. must_wait (reply.PollSend sent) ≡ true
+        ensures made { IfOk result (λ sent. must_wait (Reply.PollSend sent) ≡ true
             → M.made maker.old maker.new) }
-        ensures idle { IfOk result (λ sent. must_wait (reply.PollSend sent) ≡ false
+        ensures idle { IfOk result (λ sent. must_wait (Reply.PollSend sent) ≡ false
             → maker.new ≡ maker.old) }
         ensures back { IfErr result (λ back. back ≡ msg) }
         ensures same { OnErr result (self.new ≡ self.old) }
@@ -146,10 +138,8 @@ impl<T: Drop, N: Notice, A: Allocator + Copy> Inner<T, N, A> {
 
     /// Gives up the pending send of this place. If it was told, the next one that waits is told,
     /// unless one is told already. With a place that is not in use nothing changes.
-    ///
-    /// Source: the drop of `Send` of async-broadcast.
     pub fn end_send(&mut self, place: usize)
-        ensures { Answers NoClone self.old (call.EndSend place) reply.EndSend self.new }
+        ensures { Answers NoClone self.old (Call.EndSend place) Reply.EndSend self.new }
     {
         self.parts.place_ended(place);
         self.parts.tell_a_sender();

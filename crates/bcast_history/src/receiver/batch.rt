@@ -13,7 +13,7 @@ use super::TrackedReceiver;
 use crate::caller::Channel;
 use crate::port::{HistoryPort, TimedHistoryPort};
 use crate::tracker::{ReceiverTracker, Tracker};
-use async_broadcast::{RecvTimeoutError, put_last};
+use async_broadcast::{RecvResult, RecvTimeoutError, put_last};
 use bcast_core::{RecvError, TryRecvError};
 use futures::task::{Context, Poll};
 use std::alloc::{AllocError, Allocator};
@@ -26,7 +26,7 @@ impl<T: Clone, P: HistoryPort<T, J>, J: Channel> TrackedReceiver<T, P, J> {
         &mut self,
         limit: usize,
         msgs: &mut Vec<T, B>,
-    ) -> Result<Result<usize, TryRecvError>, AllocError>
+    ) -> RecvResult<usize, TryRecvError>
         ensures only { MakesReceives P.learns self.old.tracker self.new.tracker }
         ensures takes { TakesMany T.is_clone J.opening (ReceivesOnce P.learns T.is_clone J.opening)
             (λ tried. tried) limit self.old.tracker msgs.old.items
@@ -45,7 +45,7 @@ impl<T: Clone, P: HistoryPort<T, J>, J: Channel> TrackedReceiver<T, P, J> {
         &mut self,
         limit: usize,
         msgs: &mut Vec<T, B>,
-    ) -> Result<Result<usize, RecvError>, AllocError>
+    ) -> RecvResult<usize, RecvError>
         ensures only { MakesReceives P.learns self.old.tracker self.new.tracker }
         ensures takes { TakesMany T.is_clone J.opening (ReceivesOnce P.learns T.is_clone J.opening)
             as_try_recv limit self.old.tracker msgs.old.items
@@ -123,7 +123,7 @@ impl<T: Clone, P: TimedHistoryPort<T, J>, J: Channel> TrackedReceiver<T, P, J> {
         limit: usize,
         msgs: &mut Vec<T, B>,
         time: Duration,
-    ) -> Result<Result<usize, RecvTimeoutError>, AllocError>
+    ) -> RecvResult<usize, RecvTimeoutError>
         ensures only { MakesReceives P.learns self.old.tracker self.new.tracker }
         ensures takes { TakesMany T.is_clone J.opening (ReceivesOnce P.learns T.is_clone J.opening)
             as_timed_try limit self.old.tracker msgs.old.items

@@ -2,7 +2,7 @@
 use Rattle.std.proofs.Common.{rules, ◌≡◌, refl, sym, ◌∙◌, subst, arith}
 use Rattle.std.proofs.lemmas.Grind.{common_steps}
 use Rattle.bcast_store.specs.Stored.{Stored}
-use Rattle.bcast_core.specs.Parts.{HaveRoom, control_of, seen_of}
+use Rattle.bcast_core.specs.Parts.{ReceiversHaveRoom, control_of, seen_of}
 use Rattle.bcast_core.proofs.Settle.{inserted}
 use Rattle.bcast_core.proofs.Rooms.{room_inserted, room_raised, taken_back}
 use Rattle.bcast_core.proofs.parts.Parts.add_receiver.Goals as goal
@@ -10,7 +10,7 @@ use Rattle.bcast_core.proofs.parts.Parts.add_receiver.Goals.{After-remove}
 
 pub invariant_of-self-2 : goal.invariant_of-self-2
 invariant_of-self-2 g c = record {
-  receivers = subst (λ (s : Stored g.row.T.Denot). HaveRoom s.cursors c.reserve_for.new.self.room) (sym c.in-Ok.ensures.ok)
+  receivers = subst (λ (s : Stored g.row.T.Denot). ReceiversHaveRoom s.cursors c.reserve_for.new.self.room) (sym c.in-Ok.ensures.ok)
       (room_inserted c.self.inside.store.cursors c.in-Ok.key c.args.cursor c.reserve_for.new.self.room c.in-Ok-reserve_for.ensures.ok
       (room_raised c.self.inside.store.cursors c.self.inside.receives.room c.reserve_for.new.self.room c.reserve_for.ensures.room c.self.invariant.receivers));
   sends = c.self.invariant.sends;
@@ -22,7 +22,7 @@ store_is g c = grind (arith, common_steps, inserted, taken_back)
 
 pub invariant_of-self-in_default-reserve_for : goal.invariant_of-self-in_default-reserve_for
 invariant_of-self-in_default-reserve_for g c = record {
-  receivers = subst (λ (s : Stored g.row.T.Denot). HaveRoom s.cursors c.reserve_for.new.self.room) (sym (store_is g (goal.at.invariant_of-self-in_default-reserve_for g c).After-remove))
+  receivers = subst (λ (s : Stored g.row.T.Denot). ReceiversHaveRoom s.cursors c.reserve_for.new.self.room) (sym (store_is g (goal.at.invariant_of-self-in_default-reserve_for g c).After-remove))
       (room_raised c.self.inside.store.cursors c.self.inside.receives.room c.reserve_for.new.self.room c.reserve_for.ensures.room c.self.invariant.receivers);
   sends = c.self.invariant.sends;
 }

@@ -3,7 +3,7 @@ use Rattle.std.proofs.lemmas.Grind.{common_steps}
 use Rattle.std.specs.FinMap.{remove}
 use Rattle.bcast_model.specs.Words.{Places, View, pair_ended, stream_of, future_of}
 use Rattle.bcast_store.specs.Stored.{Stored, with_cursors}
-use Rattle.bcast_core.specs.Parts.{AllHaveRoom, HaveRoom}
+use Rattle.bcast_core.specs.Parts.{AllHaveRoom, ReceiversHaveRoom}
 use Rattle.bcast_core.proofs.Rooms.{room_removed}
 use Rattle.bcast_core.proofs.Views.{view-with_cursors}
 use Rattle.bcast_core.proofs.parts.Parts.remove_receiver.Goals as goal
@@ -12,7 +12,7 @@ removed : {T : Type 0} (s now : Stored T) (key : ℕ) (found : Bool) → now ≡
 removed s now key found rest e = rest ∙ ap (λ b. cond b (with_cursors s (remove s.cursors key)) s) e
 
 room_left : {T : Type 0} {places : Places} {sends : ℕ} (s now : Stored T) (key room : ℕ) → now ≡ with_cursors s (remove s.cursors key) → AllHaveRoom s.cursors room places sends → AllHaveRoom now.cursors room places sends
-room_left {T = T} s now key room is all = record { receivers = subst (λ (s : Stored T). HaveRoom s.cursors room) (sym is) (room_removed s.cursors key room all.receivers); sends = all.sends }
+room_left {T = T} s now key room is all = record { receivers = subst (λ (s : Stored T). ReceiversHaveRoom s.cursors room) (sym is) (room_removed s.cursors key room all.receivers); sends = all.sends }
 
 -- the front doesn't depend on who waits, so the listeners may leave after the cursor
 pub returns-then-not-is_empty-clause-removed : goal.returns-then-not-is_empty-clause-removed

@@ -5,7 +5,7 @@ use Rattle.std.proofs.lemmas.Bool.{cases_lt}
 use Rattle.std.specs.FinMap.{insert}
 use Rattle.bcast_model.specs.Words.{IsShown, View, cursor_of, kept_at, tell_if_ready}
 use Rattle.bcast_store.specs.Stored.{Stored, AreHandedOut}
-use Rattle.bcast_core.specs.Parts.{HaveRoom, IsHandedOut}
+use Rattle.bcast_core.specs.Parts.{ReceiversHaveRoom, IsHandedOut}
 use Rattle.bcast_core.proofs.Moves.{after}
 use Rattle.bcast_core.proofs.Batches.{StandsAt, into_given, into_shown, unread_is, next_refused}
 use Rattle.bcast_core.proofs.Rooms.{room_inserted}
@@ -48,7 +48,7 @@ invariant_of-self-inside g c =
     let p = c.self-inside.inside.0.0 in
     let there = sym (ap is_some c.cursor.ensures) ∙ ap is_some c.in-Some.is in
     record {
-      receivers = subst (λ (s : Stored g.row.T.Denot). HaveRoom s.cursors p.receives.room) (sym c.read_many-given.ensures.passed)
+      receivers = subst (λ (s : Stored g.row.T.Denot). ReceiversHaveRoom s.cursors p.receives.room) (sym c.read_many-given.ensures.passed)
           (room_inserted p.store.cursors c.args.key (c.in-Some.cursor + c.read_many-given.result) p.receives.room (c.self-inside.invariant.receivers c.args.key there) c.self-inside.invariant.receivers);
       sends = c.self-inside.invariant.sends;
     }

@@ -4,7 +4,7 @@ use Rattle.std.specs.FinMap.{empty, insert}
 use Rattle.bcast_model.specs.History.{opening}
 use Rattle.bcast_model.proofs.Opening.{opening_valid}
 use Rattle.bcast_store.specs.Stored.{Stored}
-use Rattle.bcast_core.specs.Parts.{HaveRoom}
+use Rattle.bcast_core.specs.Parts.{ReceiversHaveRoom}
 use Rattle.bcast_core.proofs.Opened.{opened}
 use Rattle.bcast_core.proofs.Rooms.{room_empty, room_inserted, below_none}
 use Rattle.bcast_core.proofs.state.Inner.starting_at.Goals as goal
@@ -16,7 +16,7 @@ store_is g c = c.in_ok-key.ensures.ok ∙ ap (λ (s : Stored g.row.T.Denot). rec
 
 pub invariant_of-parts : goal.invariant_of-parts
 invariant_of-parts g c = record {
-  receivers = subst (λ (s : Stored g.row.T.Denot). HaveRoom s.cursors c.reserve_for.new.self.room) (sym (store_is g (goal.at.invariant_of-parts g c).In_ok-reserve_for))
+  receivers = subst (λ (s : Stored g.row.T.Denot). ReceiversHaveRoom s.cursors c.reserve_for.new.self.room) (sym (store_is g (goal.at.invariant_of-parts g c).In_ok-reserve_for))
       (room_inserted empty c.in_ok-key.key c.args.first c.reserve_for.new.self.room c.in_ok-reserve_for.ensures.ok (room_empty c.reserve_for.new.self.room));
   sends = below_none c.new-2.result c.new-3.result.room c.new-2.ensures;
 }

@@ -2,11 +2,11 @@
 use Rattle.std.proofs.Common.{ap, subst, ◌∙◌}
 use Rattle.std.specs.List.{AllZip}
 use Rattle.std.specs.FinMap.{entries}
-use Rattle.bcast_core.proofs.parts.Parts.snapshot.Goals as goal
+use Rattle.bcast_core.proofs.state.Inner.snapshot.Goals as goal
 
 pub returns : goal.returns
 returns g c =
-    let is = c.self.view_is in
+    let is = ap (λ inside. inside.parts) c.self-inside.view_is ∙ c.self.view_is in
     record {
       front = c.front.ensures ∙ ap (λ v. v.front) is;
       queue = subst (λ v. AllZip g.T.Clone.is_clone v.queue c.in_ok-clones_of.field-0.items) is c.in_ok-clones_of.ensures;

@@ -1,6 +1,6 @@
 -- The item is the message that the port gave.
 use Rattle.std.proofs.Common.{rules, refl}
-use Rattle.async_broadcast.proofs.future.stream.ReceiverStream.poll_next.Goals as goal
+use Rattle.async_broadcast.proofs.future.recv.ReceiverStream.poll_next.Goals as goal
 
 pub returns-in-Ok-Ready-Some-clause-value : goal.returns-in-Ok-Ready-Some-clause-value
 returns-in-Ok-Ready-Some-clause-value g c = (tt, (c.in-Ok-Ready-Some.next, refl, search rules))
