@@ -1,5 +1,5 @@
 -- The text of each line of a script, and which numbers and names are in form.
-use Rattle.std.specs.Prelude.{ℕ, ◌<◌, List, length, Option, Some, None, Bool, true, false, IfSome, ◌++◌, codes, decimal}
+use Rattle.std.specs.Prelude.{ℕ, ◌<◌, List, length, Option, Some, None, Bool, true, false, IfSome, ◌++◌, ◌∷◌, codes, decimal}
 use Rattle.std.specs.List.{AllByRecursion}
 use Rattle.bcast_text.specs.Name.{IsName}
 use Rattle.bcast_text.specs.Words.{spaced, numbers_text, IsU64, IsPositive}
@@ -46,8 +46,8 @@ abbrev pub arguments_of : Line → Option (List ℕ)
 arguments_of (Cap n) = Some (decimal n)
 arguments_of (Send msg) = Some (decimal msg)
 arguments_of (SendAll msgs) = numbers_text msgs
-arguments_of (RecvMany name limit) = Some (name.now ++ codes " " ++ decimal limit)
-arguments_of (Clone name new) = Some (name.now ++ codes " " ++ new.now)
+arguments_of (RecvMany name limit) = Some (name.now ++ 32 ∷ decimal limit)
+arguments_of (Clone name new) = Some (name.now ++ 32 ∷ new.now)
 arguments_of (Capacity n) = Some (decimal n)
 arguments_of (Overflow on) = Some (flag_text on)
 arguments_of (Await on) = Some (flag_text on)

@@ -1,7 +1,8 @@
 //! The run of a program over the lines of its input.
-ghost use Rattle.std.specs.Prelude.{◌≡◌, ◌≢◌, ◌≤◌, ◌⊎◌, ℕ, List, Bool, true, Err, OnOk, IfErr, IsUtf8};
+ghost use Rattle.std.specs.Prelude.{◌≡◌, ◌≢◌, ◌≤◌, ◌⊎◌, ℕ, List, Bool, true, Err, OnOk, IfErr};
 ghost use Rattle.std.specs.Io.KnownBytes.{Appends, Keeps, IsAtEnd};
 ghost use Rattle.bcast_text.specs.Lines.{unread, longest_of};
+ghost use Rattle.bcast_text.specs.declared.input.Fault.TheVariants.{NoMemory, OutputFailed};
 ghost use Rattle.bcast_text.specs.Run.{Answered, EndsLines, IsRun, IsRefused, IsNumbered};
 
 use crate::ending::Ending;
@@ -22,9 +23,6 @@ pub enum Fault {
 }
 
 impl From<AllocError> for Fault {
-    ghost use Rattle.bcast_text.specs.declared.input.Fault.TheVariants.{NoMemory};
-    ghost use Rattle.std.specs.Prelude.{◌≡◌};
-
     ghost from_gives = { λ _ fault. fault ≡ NoMemory };
 
     fn from(_refused: AllocError) -> Fault {
@@ -33,9 +31,6 @@ impl From<AllocError> for Fault {
 }
 
 impl From<io::Error> for Fault {
-    ghost use Rattle.bcast_text.specs.declared.input.Fault.TheVariants.{OutputFailed};
-    ghost use Rattle.std.specs.Prelude.{◌≡◌};
-
     ghost from_gives = { λ _ fault. fault ≡ OutputFailed };
 
     fn from(_failed: io::Error) -> Fault {
@@ -156,28 +151,7 @@ fn next_line<A: Allocator + Copy, R: Read + Drop, W: Write, P: RunLine>(
         Ok(Found::End | Found::TooLong) => return Err(Ending::NotACall(number)),
         Ok(Found::Line) => {}
     }
-    run_text(number, lines.text(), output, program)
-}
-
-/// Runs a line of this number, or returns how the run ends.
-fn run_text<W: Write, P: RunLine>(
-    number: u64,
-    text: &[u8],
-    output: &mut W,
-    program: &mut P,
-) -> Result<(), Ending>
-    ensures ok { OnOk result ((answer : List ℕ)
-        × P.answers (P.state program.old) text.now answer (P.state program.new)
-        × Appends (W.contents output.old) (W.contents output.new) answer) }
-    ensures unwritten { IfErr result (λ ending. ending ≢ Ending.OutputFailed
-        → output.new ≡ output.old) }
-    ensures not_done { result ≢ Err Ending.Done }
-    ensures not_a_call { IfErr result (IsNumbered number) }
-    ensures ends { IfErr result EndsLines }
-    ensures refused { (line : ℕ) → result ≡ Err (Ending.NotACall line)
-        → (IsUtf8 text.now → ⊥) ⊎ P.refuses (P.state program.old) text.now }
-{
-    let Ok(line) = str::from_utf8(text) else {
+    let Ok(line) = str::from_utf8(lines.text()) else {
         return Err(Ending::NotACall(number));
     };
     match program.run_line(line, output) {

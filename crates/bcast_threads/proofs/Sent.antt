@@ -32,13 +32,7 @@ still_there msgs later number (rest, whole) there =
 
 pushed : (msgs : List ℕ) (number : ℕ) → Has (msgs ++ number ∷ []) number
 pushed msgs number =
-    let itself : nat_eq number number ≡ true = grind (arith, common_steps) in
-    list_any-append (nat_eq number) msgs (number ∷ [])
-    ∙ ap (λ b. list_any (nat_eq number) msgs || (b || false)) itself ∙ or_true (list_any (nat_eq number) msgs)
-  where
-    or_true : (b : Bool) → (b || true) ≡ true
-    or_true true = refl
-    or_true false = refl
+    grind (arith, common_steps, list_any-append (nat_eq number) msgs (number ∷ []))
 
 pub contained : (list : List ℕ) (number : ℕ) → Has list number → Contains list number
 contained list number there =

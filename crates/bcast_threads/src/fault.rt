@@ -1,4 +1,7 @@
 //! Why a run of threads has no lists.
+ghost use Rattle.std.specs.Prelude.{◌≡◌};
+ghost use Rattle.bcast_threads.specs.declared.fault.Fault.TheVariants.{NoMemory, NoThread};
+
 use async_broadcast::HandleError;
 use std::alloc::{AllocError, AllocFailed};
 use std::io;
@@ -15,9 +18,6 @@ pub enum Fault {
 }
 
 impl From<AllocError> for Fault {
-    ghost use Rattle.bcast_threads.specs.declared.fault.Fault.TheVariants.{NoMemory};
-    ghost use Rattle.std.specs.Prelude.{◌≡◌};
-
     ghost from_gives = { λ _ fault. fault ≡ NoMemory };
 
     fn from(_refused: AllocError) -> Fault {
@@ -26,9 +26,6 @@ impl From<AllocError> for Fault {
 }
 
 impl<T: Drop> From<AllocFailed<T>> for Fault {
-    ghost use Rattle.bcast_threads.specs.declared.fault.Fault.TheVariants.{NoMemory};
-    ghost use Rattle.std.specs.Prelude.{◌≡◌};
-
     ghost from_gives = { λ _ fault. fault ≡ NoMemory };
 
     fn from(_refused: AllocFailed<T>) -> Fault {
@@ -38,9 +35,6 @@ impl<T: Drop> From<AllocFailed<T>> for Fault {
 
 // A run has too few handles for the channel to reply `TooMany`.
 impl From<HandleError> for Fault {
-    ghost use Rattle.bcast_threads.specs.declared.fault.Fault.TheVariants.{NoMemory};
-    ghost use Rattle.std.specs.Prelude.{◌≡◌};
-
     ghost from_gives = { λ _ fault. fault ≡ NoMemory };
 
     fn from(_refused: HandleError) -> Fault {
@@ -49,9 +43,6 @@ impl From<HandleError> for Fault {
 }
 
 impl From<io::Error> for Fault {
-    ghost use Rattle.bcast_threads.specs.declared.fault.Fault.TheVariants.{NoThread};
-    ghost use Rattle.std.specs.Prelude.{◌≡◌};
-
     ghost from_gives = { λ _ fault. fault ≡ NoThread };
 
     fn from(_refused: io::Error) -> Fault {

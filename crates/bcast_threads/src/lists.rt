@@ -100,13 +100,8 @@ fn are_of_all(plan: Plan, sent: u64, lists: &[Vec<u64>]) -> bool
     ensures sent { OnTrue result (sent ≡ plan.senders * plan.messages) }
     ensures each { OnTrue result (All (λ list. length list.items ≡ sent) lists.now) }
 {
-    plan.senders.checked_mul(plan.messages) == Some(sent) && are_this_long(lists, sent)
-}
-
-fn are_this_long(lists: &[Vec<u64>], len: u64) -> bool
-    ensures { OnTrue result (All (λ list. length list.items ≡ len) lists.now) }
-{
-    lists.iter().all(|list| list.len() as u64 == len)
+    plan.senders.checked_mul(plan.messages) == Some(sent)
+        && lists.iter().all(|list| list.len() as u64 == sent)
 }
 
 /// What each receiver received: all that the channel had accepted when it was closed.

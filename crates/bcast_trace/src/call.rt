@@ -20,10 +20,9 @@ pub fn read_call(alloc: Global, text: &str) -> Result<Option<Call<u64>>, AllocEr
     ensures { IfOk result (λ read. IfSome read HasPositiveCapacity) }
 {
     match text.split_once(' ') {
-        Some((name, list)) if name == "TryBroadcastAll" => match numbers(alloc, list)? {
-            Some(msgs) => Ok(Some(Call::TryBroadcastAll(msgs))),
-            None => Ok(None),
-        },
+        Some((name, list)) if name == "TryBroadcastAll" => {
+            Ok(numbers(alloc, list)?.map(Call::TryBroadcastAll))
+        }
         Some((name, arguments)) => Ok(with_arguments(name, arguments)),
         None => Ok(alone(alloc, text)),
     }
@@ -108,10 +107,18 @@ pub fn write_call<W: Write>(call: &Call<u64>, output: &mut W) -> io::Result<()> 
         Call::TryBroadcastAll(msgs) => write_messages(msgs, output),
         Call::PollSend(place, msg) => write!(output, " {place} {msg}"),
         Call::SetOverflow(on) | Call::SetAwaitActive(on) => write!(output, " {on}"),
-        _ => match number_of(call) {
-            Some(n) => write!(output, " {n}"),
-            None => Ok(()),
-        },
+        Call::TryBroadcast(msg) | Call::AttemptSend(msg) => write!(output, " {msg}"),
+        Call::EndSend(n)
+        | Call::TryRecv(n)
+        | Call::PollFuture(n)
+        | Call::EndFuture(n)
+        | Call::PollRecv(n)
+        | Call::PollNext(n)
+        | Call::SetCapacity(n)
+        | Call::Deactivate(n)
+        | Call::CloneReceiver(n)
+        | Call::DropReceiver(n) => write!(output, " {n}"),
+        _ => Ok(()),
     }
 }
 
@@ -163,23 +170,5 @@ fn name_of(call: &Call<u64>) -> &'static str {
         Call::InactiveReceiverCount => "InactiveReceiverCount",
         Call::SenderCount => "SenderCount",
         Call::EndNumber => "EndNumber",
-    }
-}
-
-/// The message, key, place or capacity of a call that has one number.
-fn number_of(call: &Call<u64>) -> Option<u64> {
-    match call {
-        Call::TryBroadcast(msg) | Call::AttemptSend(msg) => Some(*msg),
-        Call::EndSend(n)
-        | Call::TryRecv(n)
-        | Call::PollFuture(n)
-        | Call::EndFuture(n)
-        | Call::PollRecv(n)
-        | Call::PollNext(n)
-        | Call::SetCapacity(n)
-        | Call::Deactivate(n)
-        | Call::CloneReceiver(n)
-        | Call::DropReceiver(n) => Some(*n as u64),
-        _ => None,
     }
 }

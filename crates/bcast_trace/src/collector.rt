@@ -1,83 +1,76 @@
 //! The calls of a trace played as one list.
-ghost use Rattle.bcast_model.specs.Next.{HasPositiveCapacity};
 ghost use Rattle.bcast_trace.specs.Positive.{AllPositive, AllPositive-prop};
 
-use crate::input::{TakeLine, take_lines};
-use crate::line::{Line, read_line};
+use crate::line::{LONGEST, Line, read_line};
 use crate::opening::{Opening, read_opening};
 use crate::reply::write_answer;
 use bcast_core::{Call, run};
 use bcast_text::ending::Ending;
-use bcast_text::input::Fault;
-use std::alloc::{AllocError, Allocator, Global};
+use bcast_text::input::{Fault, RunLine, run_lines};
+use std::alloc::{Allocator, Global};
 use std::io::{Read, Write};
 
-/// Calls with their texts, in order. New capacities are positive.
-#[derive(Drop)]
-pub struct Calls<A: Allocator> {
-    /// The calls.
-    pub list: Vec<Call<u64>, A>,
-    /// The text of each call.
-    pub texts: Vec<String<A>, A>,
-    ghost positive: { AllPositive list.items } by { AllPositive-prop list.items },
-}
-
-impl<A: Allocator + Copy> Calls<A> {
-    /// No calls.
-    pub fn new(alloc: A) -> Self {
-        Calls {
-            list: Vec::new(alloc),
-            texts: Vec::new(alloc),
-        }
-    }
-
-    /// Puts `call`, whose text is `text`, last.
-    pub fn push(&mut self, alloc: A, text: &str, call: Call<u64>) -> Result<(), AllocError>
-        requires { HasPositiveCapacity call }
-    {
-        self.texts.push(String::from_str(alloc, text)?)?;
-        self.list.push(call)?;
-        Ok(())
-    }
-}
-
-/// The channel of a trace, and its calls, of which none is made yet.
+/// The channel of a trace, and its calls, of which none is made yet. New capacities are positive.
 #[derive(Drop)]
 struct Collector<A: Allocator> {
     alloc: A,
     // For the lists of messages.
     heap: Global,
     opening: Option<Opening>,
-    calls: Calls<A>,
+    list: Vec<Call<u64>, A>,
+    // The text of each call.
+    texts: Vec<String<A>, A>,
+    ghost positive: { AllPositive list.items } by { AllPositive-prop list.items },
 }
 
 impl<A: Allocator + Copy> Collector<A> {
+    /// Keeps the channel that line 1 opens, and each call after it.
+    fn collect(&mut self, line: &str) -> Result<(), Fault> {
+        if self.opening.is_none() {
+            self.opening = Some(read_opening(line).ok_or(Fault::NotACall)?);
+            return Ok(());
+        }
+        if let Line::Call(text, call) = read_line(self.heap, line)?.ok_or(Fault::NotACall)? {
+            let text = String::from_str(self.alloc, text)?;
+            self.texts.push(text).ok().ok_or(Fault::NoMemory)?;
+            self.list.push(call).ok().ok_or(Fault::NoMemory)?;
+        }
+        Ok(())
+    }
+
     /// Makes the calls as one list, and writes line 1 and each call with its reply. `NotACall`: line
     /// 1 was not read.
     fn play<W: Write>(self, output: &mut W) -> Result<(), Fault> {
         let opening = self.opening.ok_or(Fault::NotACall)?;
-        let Calls { list, texts } = self.calls;
-        let Ok(made) = run(self.alloc, opening.capacity, opening.first, list) else {
+        let Ok(made) = run(self.alloc, opening.capacity, opening.first, self.list) else {
             return Err(Fault::NoMemory);
         };
         writeln!(output, "open {} {}", opening.capacity, opening.first)?;
-        for (text, reply) in texts.as_slice().iter().zip(made.replies.as_slice()) {
+        for (text, reply) in self.texts.as_slice().iter().zip(made.replies.as_slice()) {
             write_answer(text.as_str(), reply, output)?;
         }
         Ok(())
     }
 }
 
-impl<A: Allocator + Copy> TakeLine for Collector<A> {
-    fn take_line<W: Write>(&mut self, line: &str, _output: &mut W) -> Result<(), Fault> {
-        if self.opening.is_none() {
-            self.opening = Some(read_opening(line).ok_or(Fault::NotACall)?);
-            return Ok(());
-        }
-        match read_line(self.heap, line)?.ok_or(Fault::NotACall)? {
-            Line::View => {}
-            Line::Call(text, call) => self.calls.push(self.alloc, text, call)?,
-        }
+// Nothing is written for a line.
+impl<A: Allocator + Copy> RunLine for Collector<A> {
+    ghost use Rattle.std.specs.Prelude.{Bool, false, true, ⊤};
+
+    ghost State = { Bool };
+
+    ghost state = { λ _. true };
+
+    ghost answers = { λ _ _ _ _. ⊤ };
+
+    ghost refuses = { λ _ _. ⊤ };
+
+    ghost MAY_BE_EMPTY = { false };
+
+    const MAY_BE_EMPTY: bool = false;
+
+    fn run_line<W: Write>(&mut self, line: &str, _output: &mut W) -> Result<(), Fault> {
+        self.collect(line)?;
         Ok(())
     }
 }
@@ -98,9 +91,10 @@ pub fn list<A: Allocator + Copy, R: Read + Drop, W: Write>(
         alloc,
         heap,
         opening: None,
-        calls: Calls::new(alloc),
+        list: Vec::new(alloc),
+        texts: Vec::new(alloc),
     };
-    let ending = take_lines(alloc, input, output, &mut collector);
+    let ending = run_lines(alloc, input, LONGEST, output, &mut collector);
     if ending != Ending::Done {
         return ending;
     }

@@ -13,11 +13,8 @@ impl Command {
     /// What `words`, the arguments after the program's name, ask for. None: they are wrong.
     pub fn from_words(words: &[String]) -> Option<Command> {
         match words {
-            [only] => match only.as_str() {
-                "trace" => Some(Command::Trace),
-                "list" => Some(Command::List),
-                _ => None,
-            },
+            [only] if only.as_str() == "trace" => Some(Command::Trace),
+            [only] if only.as_str() == "list" => Some(Command::List),
             _ => None,
         }
     }

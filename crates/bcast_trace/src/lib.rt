@@ -6,7 +6,6 @@
 pub mod call;
 mod collector;
 pub mod command;
-mod input;
 pub mod line;
 pub mod opening;
 mod player;

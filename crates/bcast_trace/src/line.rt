@@ -32,8 +32,5 @@ pub fn read_line(alloc: Global, line: &str) -> Result<Option<Line<'_>>, AllocErr
         return Ok(Some(Line::View));
     }
     let text = line.split_once(" -> ").map_or(line, |(text, _)| text);
-    match read_call(alloc, text)? {
-        Some(call) => Ok(Some(Line::Call(text, call))),
-        None => Ok(None),
-    }
+    Ok(read_call(alloc, text)?.map(|call| Line::Call(text, call)))
 }

@@ -1,12 +1,11 @@
 //! A trace played call by call.
-use crate::input::{TakeLine, take_lines};
-use crate::line::{Line, read_line};
+use crate::line::{LONGEST, Line, read_line};
 use crate::opening::read_opening;
 use crate::reply::write_answer;
 use crate::view::write_view;
 use bcast_core::{Inner, Silent, step};
 use bcast_text::ending::Ending;
-use bcast_text::input::Fault;
+use bcast_text::input::{Fault, RunLine, run_lines};
 use std::alloc::{Allocator, Global};
 use std::io::{Read, Write};
 
@@ -17,57 +16,54 @@ struct Player<A: Allocator> {
     // For the lists of messages.
     heap: Global,
     inner: Option<Inner<u64, Silent, A>>,
+    // What the last line is answered by.
+    text: Vec<u8, A>,
 }
 
 impl<A: Allocator + Copy> Player<A> {
-    /// Makes the channel that `line` opens, and writes the line.
-    fn start<W: Write>(&mut self, line: &str, output: &mut W) -> Result<(), Fault> {
-        let opening = read_opening(line).ok_or(Fault::NotACall)?;
-        let (inner, _) = Inner::starting_at(self.alloc, opening.capacity, opening.first)?;
-        self.inner = Some(inner);
-        writeln!(output, "{line}")?;
+    /// Does what `line` asks for, and puts what is written of it into `text`.
+    fn answer(&mut self, line: &str) -> Result<(), Fault> {
+        self.text.clear();
+        let written = match &mut self.inner {
+            Some(inner) => match read_line(self.heap, line)?.ok_or(Fault::NotACall)? {
+                Line::View => write_view(&inner.snapshot(self.alloc)?, &mut self.text),
+                Line::Call(text, call) => {
+                    let reply = step(inner, call, Silent);
+                    write_answer(text, &reply, &mut self.text)
+                }
+            },
+            None => {
+                let opening = read_opening(line).ok_or(Fault::NotACall)?;
+                let (inner, _) = Inner::starting_at(self.alloc, opening.capacity, opening.first)?;
+                self.inner = Some(inner);
+                writeln!(&mut self.text, "{line}")
+            }
+        };
+        written.ok().ok_or(Fault::NoMemory)
+    }
+}
+
+// No clause says what a line is answered by.
+impl<A: Allocator + Copy> RunLine for Player<A> {
+    ghost use Rattle.std.specs.Prelude.{Bool, false, true, ⊤};
+
+    ghost State = { Bool };
+
+    ghost state = { λ _. true };
+
+    ghost answers = { λ _ _ _ _. ⊤ };
+
+    ghost refuses = { λ _ _. ⊤ };
+
+    ghost MAY_BE_EMPTY = { false };
+
+    const MAY_BE_EMPTY: bool = false;
+
+    fn run_line<W: Write>(&mut self, line: &str, output: &mut W) -> Result<(), Fault> {
+        self.answer(line)?;
+        output.write_all(self.text.as_slice())?;
         Ok(())
     }
-}
-
-impl<A: Allocator + Copy> TakeLine for Player<A> {
-    fn take_line<W: Write>(&mut self, line: &str, output: &mut W) -> Result<(), Fault> {
-        match &mut self.inner {
-            Some(inner) => answer(self.alloc, self.heap, inner, line, output),
-            None => self.start(line, output),
-        }
-    }
-}
-
-/// Does what `line` asks for, and writes the view, or the call with its reply.
-fn answer<A: Allocator + Copy, W: Write>(
-    alloc: A,
-    heap: Global,
-    inner: &mut Inner<u64, Silent, A>,
-    line: &str,
-    output: &mut W,
-) -> Result<(), Fault> {
-    match read_line(heap, line)?.ok_or(Fault::NotACall)? {
-        Line::View => write_seen(alloc, inner, output),
-        Line::Call(text, call) => {
-            let reply = step(inner, call, Silent);
-            Ok(write_answer(text, &reply, output)?)
-        }
-    }
-}
-
-/// Writes the view line of what is seen of the channel.
-fn write_seen<A: Allocator + Copy, W: Write>(
-    alloc: A,
-    inner: &Inner<u64, Silent, A>,
-    output: &mut W,
-) -> Result<(), Fault> {
-    let seen = inner.snapshot(alloc)?;
-    let mut text = Vec::new(alloc);
-    let Ok(()) = write_view(&seen, &mut text) else {
-        return Err(Fault::NoMemory);
-    };
-    Ok(output.write_all(text.as_slice())?)
 }
 
 /// Plays the trace that `input` holds, line by line, and writes it again: line 1, each call with
@@ -86,6 +82,7 @@ pub fn trace<A: Allocator + Copy, R: Read + Drop, W: Write>(
         alloc,
         heap,
         inner: None,
+        text: Vec::new(alloc),
     };
-    take_lines(alloc, input, output, &mut player)
+    run_lines(alloc, input, LONGEST, output, &mut player)
 }

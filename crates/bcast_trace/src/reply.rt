@@ -5,7 +5,6 @@ use bcast_model::messages::Messages;
 use bcast_model::run::{Reply, SendPoll};
 use bcast_text::script::answer::words_of;
 use futures::task::Poll;
-use std::alloc::AllocError;
 use std::io;
 use std::io::Write;
 
@@ -34,16 +33,21 @@ pub fn write_reply<W: Write>(reply: &Reply<u64>, output: &mut W) -> io::Result<(
         Reply::AttemptSend(answer) | Reply::PollSend(answer) => send_polled(answer, output),
         Reply::BeginSend(Ok(place)) => write!(output, "ok {place}"),
         Reply::BeginSend(Err(_)) => output.write_all(b"no memory"),
-        Reply::PollFuture(answer) => future_polled(answer, output),
-        Reply::PollRecv(answer) => stream_polled(answer, output),
-        Reply::PollNext(answer) => next_polled(answer, output),
-        Reply::NewSender(answer) | Reply::CloneInactive(answer) | Reply::Deactivate(answer) => {
-            done(answer, output)
+        Reply::PollFuture(_) | Reply::PollRecv(_) | Reply::PollNext(_) => polled(reply, output),
+        Reply::NewSender(Ok(())) | Reply::CloneInactive(Ok(())) | Reply::Deactivate(Ok(())) => {
+            output.write_all(b"ok")
         }
-        Reply::NewReceiver(answer)
-        | Reply::Activate(answer)
-        | Reply::ActivateCloned(answer)
-        | Reply::CloneReceiver(answer) => made(answer, output),
+        Reply::NewReceiver(Ok(key))
+        | Reply::Activate(Ok(key))
+        | Reply::ActivateCloned(Ok(key))
+        | Reply::CloneReceiver(Ok(key)) => write!(output, "ok {key}"),
+        Reply::NewSender(Err(error))
+        | Reply::CloneInactive(Err(error))
+        | Reply::Deactivate(Err(error))
+        | Reply::NewReceiver(Err(error))
+        | Reply::Activate(Err(error))
+        | Reply::ActivateCloned(Err(error))
+        | Reply::CloneReceiver(Err(error)) => refused(*error, output),
         Reply::Close(answer)
         | Reply::Overflow(answer)
         | Reply::AwaitActive(answer)
@@ -75,16 +79,12 @@ fn sent_all<W: Write>(
     answer: &Result<(), TrySendError<Messages<u64>>>,
     output: &mut W,
 ) -> io::Result<()> {
-    match answer {
-        Ok(()) => output.write_all(b"ok"),
-        Err(TrySendError::Full(msgs)) => handed_back("full", msgs, output),
-        Err(TrySendError::Closed(msgs)) => handed_back("closed", msgs, output),
-        Err(TrySendError::Inactive(msgs)) => handed_back("inactive", msgs, output),
-    }
-}
-
-/// Why a list was handed back, and its messages.
-fn handed_back<W: Write>(why: &str, msgs: &Messages<u64>, output: &mut W) -> io::Result<()> {
+    let (why, msgs) = match answer {
+        Ok(()) => return output.write_all(b"ok"),
+        Err(TrySendError::Full(msgs)) => ("full", msgs),
+        Err(TrySendError::Closed(msgs)) => ("closed", msgs),
+        Err(TrySendError::Inactive(msgs)) => ("inactive", msgs),
+    };
     output.write_all(why.as_bytes())?;
     write_messages(msgs, output)
 }
@@ -99,65 +99,30 @@ fn send_polled<W: Write>(answer: &SendPoll<u64>, output: &mut W) -> io::Result<(
     }
 }
 
-/// The reply of a poll by a future.
-fn future_polled<W: Write>(
-    answer: &Result<Poll<Result<u64, RecvError>>, AllocError>,
-    output: &mut W,
-) -> io::Result<()> {
-    match answer {
-        Ok(Poll::Ready(Ok(msg))) => write!(output, "ready got {msg}"),
-        Ok(Poll::Ready(Err(RecvError::Overflowed(n)))) => write!(output, "ready overflowed {n}"),
-        Ok(Poll::Ready(Err(RecvError::Closed))) => output.write_all(b"ready closed"),
-        Ok(Poll::Pending) => output.write_all(b"pending"),
-        Err(AllocError) => output.write_all(b"no memory"),
-    }
-}
-
-/// The reply of a poll by a stream that does not skip what it missed.
-fn stream_polled<W: Write>(
-    answer: &Result<Poll<Option<Result<u64, RecvError>>>, AllocError>,
-    output: &mut W,
-) -> io::Result<()> {
-    match answer {
-        Ok(Poll::Ready(Some(Ok(msg)))) => write!(output, "ready some got {msg}"),
-        Ok(Poll::Ready(Some(Err(RecvError::Overflowed(n))))) => {
-            write!(output, "ready some overflowed {n}")
-        }
-        Ok(Poll::Ready(Some(Err(RecvError::Closed)))) => output.write_all(b"ready some closed"),
-        Ok(Poll::Ready(None)) => output.write_all(b"ready none"),
-        Ok(Poll::Pending) => output.write_all(b"pending"),
-        Err(AllocError) => output.write_all(b"no memory"),
-    }
-}
-
-/// The reply of a poll by a stream that skips what it missed.
-fn next_polled<W: Write>(
-    answer: &Result<Poll<Option<(u64, u64)>>, AllocError>,
-    output: &mut W,
-) -> io::Result<()> {
-    match answer {
-        Ok(Poll::Ready(Some((msg, skipped)))) => {
+/// The reply of a poll by a future, or by a stream that does not skip what it missed, or that does.
+fn polled<W: Write>(reply: &Reply<u64>, output: &mut W) -> io::Result<()> {
+    match reply {
+        Reply::PollFuture(Ok(Poll::Ready(answer))) => given("ready", answer, output),
+        Reply::PollRecv(Ok(Poll::Ready(Some(answer)))) => given("ready some", answer, output),
+        Reply::PollNext(Ok(Poll::Ready(Some((msg, skipped))))) => {
             write!(output, "ready some got {msg} skipped {skipped}")
         }
-        Ok(Poll::Ready(None)) => output.write_all(b"ready none"),
-        Ok(Poll::Pending) => output.write_all(b"pending"),
-        Err(AllocError) => output.write_all(b"no memory"),
+        Reply::PollRecv(Ok(Poll::Ready(None))) | Reply::PollNext(Ok(Poll::Ready(None))) => {
+            output.write_all(b"ready none")
+        }
+        Reply::PollFuture(Ok(Poll::Pending))
+        | Reply::PollRecv(Ok(Poll::Pending))
+        | Reply::PollNext(Ok(Poll::Pending)) => output.write_all(b"pending"),
+        _ => output.write_all(b"no memory"),
     }
 }
 
-/// The reply of a call that makes a handle without a key, or makes a receiver inactive.
-fn done<W: Write>(answer: &Result<(), HandleError>, output: &mut W) -> io::Result<()> {
+/// What a poll that is ready was given.
+fn given<W: Write>(ready: &str, answer: &Result<u64, RecvError>, output: &mut W) -> io::Result<()> {
     match answer {
-        Ok(()) => output.write_all(b"ok"),
-        Err(error) => refused(*error, output),
-    }
-}
-
-/// The reply of a call that makes a receiver.
-fn made<W: Write>(answer: &Result<usize, HandleError>, output: &mut W) -> io::Result<()> {
-    match answer {
-        Ok(key) => write!(output, "ok {key}"),
-        Err(error) => refused(*error, output),
+        Ok(msg) => write!(output, "{ready} got {msg}"),
+        Err(RecvError::Overflowed(n)) => write!(output, "{ready} overflowed {n}"),
+        Err(RecvError::Closed) => write!(output, "{ready} closed"),
     }
 }
 

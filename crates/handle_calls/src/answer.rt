@@ -138,22 +138,16 @@ impl Answer {
         answer: Result<Result<usize, E>, AllocError>,
         msgs: &[u64],
     ) -> Self {
-        match answer {
-            Ok(Ok(count)) => Answer::of_batch(count, msgs),
-            Ok(Err(error)) => error.into(),
-            Err(_) => Answer::NoMemory,
-        }
-    }
-
-    fn of_batch(count: usize, msgs: &[u64]) -> Self {
-        if count != msgs.len() {
-            return Answer::Differs;
-        }
         let mut first = [0; 4];
         for (slot, msg) in first.iter_mut().zip(msgs) {
             *slot = *msg;
         }
-        Answer::Messages(count, first)
+        match answer {
+            Ok(Ok(count)) if count != msgs.len() => Answer::Differs,
+            Ok(Ok(count)) => Answer::Messages(count, first),
+            Ok(Err(error)) => error.into(),
+            Err(_) => Answer::NoMemory,
+        }
     }
 
     /// Why a handle was not made.

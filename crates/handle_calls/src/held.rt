@@ -1,7 +1,7 @@
 //! Futures that are held between lines: sends, and one receive.
 use crate::answer::Answer;
 use crate::handles::{add, drop_at};
-use crate::line::{Request, Subject};
+use crate::line::Request;
 use async_broadcast::{NoMemory, Receiver, Recv, Send, Sender, TimedPort};
 use bcast_text::input::Fault;
 use futures::task::Poll;
@@ -76,17 +76,17 @@ impl<'a, P: TimedPort<u64>, A: Allocator + Copy> Held<'a, P, A> {
     /// Begins, polls or drops a send or the receive.
     pub fn ask(&mut self, tasks: &[MockTask], request: Request<'_>) -> Result<Answer, Fault> {
         match (request.subject, request.method, request.argument) {
-            (Subject::Send, "begin", Some(msg)) => self.begin_send(msg),
-            (Subject::Send, "begin_boxed", Some(msg)) => self.begin_boxed_send(msg),
-            (Subject::Send, "drop", None) => drop_at(&mut self.sends, request.index),
-            (Subject::Send, "poll", Some(number)) => {
+            ("send", "begin", Some(msg)) => self.begin_send(msg),
+            ("send", "begin_boxed", Some(msg)) => self.begin_boxed_send(msg),
+            ("send", "drop", None) => drop_at(&mut self.sends, request.index),
+            ("send", "poll", Some(number)) => {
                 let task = tasks.get(number as usize).ok_or(Fault::NotACall)?;
                 self.poll_send(request.index, task).ok_or(Fault::NotACall)
             }
-            (Subject::Recv, "begin", None) => self.begin_recv().ok_or(Fault::NotACall),
-            (Subject::Recv, "begin_boxed", None) => self.begin_boxed_recv().ok_or(Fault::NotACall),
-            (Subject::Recv, "drop", None) => self.drop_recv().ok_or(Fault::NotACall),
-            (Subject::Recv, "poll", Some(number)) => {
+            ("recv", "begin", None) => self.begin_recv().ok_or(Fault::NotACall),
+            ("recv", "begin_boxed", None) => self.begin_boxed_recv().ok_or(Fault::NotACall),
+            ("recv", "drop", None) => self.drop_recv().ok_or(Fault::NotACall),
+            ("recv", "poll", Some(number)) => {
                 let task = tasks.get(number as usize).ok_or(Fault::NotACall)?;
                 self.poll_recv(task).ok_or(Fault::NotACall)
             }

@@ -1,25 +1,13 @@
 //! What a line of a script says.
 ghost use Rattle.std.specs.Prelude.{◌<◌};
 
-use bcast_text::number::number;
-
-/// What a call is made on.
-#[derive(Clone, Copy)]
-pub enum Subject {
-    Sender,
-    Receiver,
-    Inactive,
-    Send,
-    Recv,
-    Task,
-    Handles,
-    Port,
-}
+use bcast_text::number::{number, positive};
 
 /// The call that a line asks for.
 #[derive(Clone, Copy)]
 pub struct Request<'a> {
-    pub subject: Subject,
+    /// What the call is made on.
+    pub subject: &'a str,
     pub index: usize,
     pub method: &'a str,
     pub argument: Option<u64>,
@@ -40,17 +28,6 @@ pub enum Futures {
 pub struct Capacity {
     pub count: usize,
     ghost positive: { 0 < count },
-}
-
-impl Capacity {
-    /// None: the number is 0.
-    pub fn new(number: u64) -> Option<Self> {
-        if number == 0 {
-            return None;
-        }
-        let count = number as usize;
-        Some(Capacity { count })
-    }
 }
 
 /// The handles that the next lines of a script use.
@@ -78,28 +55,14 @@ pub fn read_opening(text: &str) -> Option<Opening> {
         "receives" => Futures::Receive,
         _ => return None,
     };
-    let capacity = Capacity::new(number(capacity)?)?;
-    Some(Opening::Channel(capacity, futures))
-}
-
-fn subject_of(word: &str) -> Option<Subject> {
-    match word {
-        "sender" => Some(Subject::Sender),
-        "receiver" => Some(Subject::Receiver),
-        "inactive" => Some(Subject::Inactive),
-        "send" => Some(Subject::Send),
-        "recv" => Some(Subject::Recv),
-        "task" => Some(Subject::Task),
-        "handles" => Some(Subject::Handles),
-        "port" => Some(Subject::Port),
-        _ => None,
-    }
+    let count = positive(capacity)? as usize;
+    Some(Opening::Channel(Capacity { count }, futures))
 }
 
 /// The request that `text` is: `SUBJECT INDEX METHOD [ARGUMENT]`, or `sender INDEX
 /// try_broadcast_all MESSAGE ..`.
 pub fn read_request(text: &str) -> Option<Request<'_>> {
-    let (word, rest) = text.split_once(' ')?;
+    let (subject, rest) = text.split_once(' ')?;
     let (index, rest) = rest.split_once(' ')?;
     let (method, argument, list) = match rest.split_once(' ') {
         None => (rest, None, ""),
@@ -107,7 +70,7 @@ pub fn read_request(text: &str) -> Option<Request<'_>> {
         Some((method, argument)) => (method, Some(number(argument)?), ""),
     };
     Some(Request {
-        subject: subject_of(word)?,
+        subject,
         index: number(index)? as usize,
         method,
         argument,

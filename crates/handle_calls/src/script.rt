@@ -1,7 +1,7 @@
 //! A script, played line by line.
 use crate::handles::{Handles, add};
 use crate::held::{Held, Makers};
-use crate::line::{Capacity, Futures, Opening, read_opening, read_request};
+use crate::line::{Futures, Opening, read_opening, read_request};
 use crate::recording::Recorder;
 use crate::session::tasks_of;
 use async_broadcast::{InactiveReceiver, Receiver, Sender, TimedPort, broadcast};
@@ -62,20 +62,7 @@ fn play_lines<P: TimedPort<u64>, A: Allocator + Copy, W: Write>(
     Ok(None)
 }
 
-/// Plays the lines of a channel.
-fn play_channel<S: Wait + Clock + RandomSource + AllocGlobal, W: Write>(
-    rt: &S,
-    alloc: Global,
-    (capacity, futures): (Capacity, Futures),
-    script: &mut Script<'_>,
-    output: &mut W,
-) -> Result<Option<Opening>, Fault> {
-    let tasks = tasks_of(rt, alloc)?;
-    let (sender, receiver) = broadcast(rt, alloc, capacity.count)?;
-    play_handles(alloc, tasks, futures, sender, receiver, script, output)
-}
-
-/// Plays the lines of a sender and a receiver.
+/// Plays the lines of the sender and the receiver of a channel.
 fn play_handles<P: TimedPort<u64>, W: Write>(
     alloc: Global,
     tasks: Vec<MockTask>,
@@ -133,15 +120,17 @@ fn play_opening<S: Wait + Clock + RandomSource + AllocGlobal, W: Write>(
     script: &mut Script<'_>,
     output: &mut W,
 ) -> Result<Option<Opening>, Fault> {
+    let tasks = tasks_of(rt, alloc)?;
     match opening {
         Opening::Channel(capacity, futures) => {
-            play_channel(rt, alloc, (capacity, futures), script, output)
+            let (sender, receiver) = broadcast(rt, alloc, capacity.count)?;
+            play_handles(alloc, tasks, futures, sender, receiver, script, output)
         }
-        Opening::Recorded => play_recorded(alloc, alloc, tasks_of(rt, alloc)?, script, output),
+        Opening::Recorded => play_recorded(alloc, alloc, tasks, script, output),
         Opening::WithoutMemory => {
             let heap = LocalHeap::new(alloc, 16)?;
             let _all = Vec::<u8, &LocalHeap>::with_capacity(&heap, heap.free())?;
-            play_recorded(alloc, &heap, tasks_of(rt, alloc)?, script, output)
+            play_recorded(alloc, &heap, tasks, script, output)
         }
     }
 }

@@ -2,7 +2,7 @@
 use crate::answer::Answer;
 use crate::handles::Handles;
 use crate::held::Held;
-use crate::line::{Request, Subject};
+use crate::line::Request;
 use crate::recording::Recorder;
 use async_broadcast::TimedPort;
 use bcast_text::input::Fault;
@@ -19,27 +19,19 @@ impl<P: TimedPort<u64>, A: Allocator + Copy> Handles<P, A> {
         request: Request<'_>,
     ) -> Result<Answer, Fault> {
         match (request.subject, recorder) {
-            (Subject::Send | Subject::Recv, _) => held.ask(self.tasks.as_slice(), request),
-            (Subject::Port, Some(recorder)) if recorder.set(request.method) => Ok(Answer::Done),
-            _ => self.ask(request),
-        }
-    }
-
-    fn ask(&mut self, request: Request<'_>) -> Result<Answer, Fault> {
-        match request.subject {
-            Subject::Sender if request.method == "try_broadcast_all" => self.send_all(request),
-            Subject::Sender => self.by_sender(request),
-            Subject::Inactive => self.by_inactive(request),
-            Subject::Receiver if request.method.starts_with("poll_") => {
+            ("sender", _) => self.by_sender(request),
+            ("inactive", _) => self.by_inactive(request),
+            ("receiver", _) if request.method.starts_with("poll_") => {
                 self.poll_receiver(request).ok_or(Fault::NotACall)
             }
-            Subject::Receiver => self.by_receiver(request),
-            Subject::Task => match self.tasks.get(request.index) {
+            ("receiver", _) => self.by_receiver(request),
+            ("task", _) => match self.tasks.get(request.index) {
                 Some(task) => Ok(Answer::Is(task.is_woken())),
                 None => Err(Fault::NotACall),
             },
-            Subject::Handles => Ok(self.seen()),
-            Subject::Send | Subject::Recv | Subject::Port => Err(Fault::NotACall),
+            ("handles", _) => Ok(self.seen()),
+            ("port", Some(recorder)) if recorder.set(request.method) => Ok(Answer::Done),
+            _ => held.ask(self.tasks.as_slice(), request),
         }
     }
 }

@@ -2,7 +2,7 @@
 use crate::arguments;
 use crate::failing::{cut_after_each_byte, each_read_and_write_fails, too_little_memory};
 use crate::lock_rows::Tally;
-use crate::play::{Played, Player, Text, in_pieces};
+use crate::play::{Played, Player, Text, in_pieces, players};
 use crate::refused::refused_lines;
 use crate::short::write_refused;
 use crate::told::write_notices;
@@ -24,11 +24,18 @@ pub fn run<R: Wait + RandomSource + AllocGlobal, W: Write>(
     let (head, body) = case.split_once('\n').unwrap_or((case, ""));
     let (kind, name) = head.split_once(' ').unwrap_or((head, ""));
     writeln!(output, "# {head}")?;
+    let bytes = body.as_bytes();
     match kind {
-        "script" => script_case(&Text::new(alloc, Player::Script, body.as_bytes()), output),
-        "topics" => script_case(&Text::new(alloc, Player::Topics, body.as_bytes()), output),
-        "trace" => trace_case(rt, alloc, body, tally, output),
-        "told" => told_case(rt, alloc, body, tally, output),
+        "script" => script_case(&Text::new(alloc, Player::Script, bytes), output),
+        "topics" => script_case(&Text::new(alloc, Player::Topics, bytes), output),
+        "trace" => {
+            trace_case(rt, alloc, body, tally, output)?;
+            Ok(())
+        }
+        "told" => {
+            let listed = trace_case(rt, alloc, body, tally, output)?;
+            write_notices(alloc, body, listed.as_slice(), output)
+        }
         "failing" => failing_case(alloc, name, body, output),
         "refused" => refused_lines(alloc, name, body, output),
         "bcast" => arguments::bcast(alloc, body, output),
@@ -39,66 +46,58 @@ pub fn run<R: Wait + RandomSource + AllocGlobal, W: Write>(
 
 /// Writes what a script or lines on topics write, and how that ends.
 fn script_case<W: Write>(text: &Text<'_>, output: &mut W) -> io::Result<()> {
-    let played = text.play(in_pieces(8192));
-    write_played(text, &played, output)
+    write_played(text, output)?;
+    Ok(())
 }
 
-/// Writes what was written for `text` and how that ended, and which other ways to play it differ.
-fn write_played<W: Write>(text: &Text<'_>, played: &Played, output: &mut W) -> io::Result<()> {
+/// Writes what is written for `text` and how that ends. Then plays it in small pieces, and without
+/// its last LF, and writes a line for each way that ends differently, or writes something else.
+fn write_played<W: Write>(text: &Text<'_>, output: &mut W) -> io::Result<Played> {
+    let played = text.play(in_pieces(8192));
     output.write_all(played.wrote.as_slice())?;
     writeln!(output, "-- {:?}", played.ending)?;
-    write_other_ways(text, played, output)
-}
-
-/// Writes what a trace writes, and which notices its calls call.
-fn told_case<R: Wait + RandomSource + AllocGlobal, W: Write>(
-    rt: &R,
-    alloc: Global,
-    text: &str,
-    tally: &mut Tally,
-    output: &mut W,
-) -> io::Result<()> {
-    trace_case(rt, alloc, text, tally, output)?;
-    let played = Text::new(alloc, Player::Trace, text.as_bytes()).play(in_pieces(7));
-    let listed = listed_from(alloc, &played)?;
-    write_notices(alloc, text, listed.as_slice(), output)
+    let whole = text.bytes;
+    let cut = whole.strip_suffix(b"\n").unwrap_or(whole);
+    for (name, bytes, given) in [
+        ("in pieces of 1", whole, 1),
+        ("in pieces of 2", whole, 2),
+        ("in pieces of 7", whole, 7),
+        ("without the last LF", cut, 7),
+    ] {
+        let other = Text::new(text.alloc, text.player, bytes).play(in_pieces(given));
+        if !other.is(played.ending, played.wrote.as_slice()) {
+            other.describe(name, output)?;
+        }
+    }
+    Ok(played)
 }
 
 /// Writes what a trace writes, and how it ends; which of its calls are refused if there is no
 /// memory; whether a lock does the same; and whether the list of its calls does, views aside.
+/// Returns what the list should write.
 fn trace_case<R: Wait + RandomSource + AllocGlobal, W: Write>(
     rt: &R,
     alloc: Global,
     text: &str,
     tally: &mut Tally,
     output: &mut W,
-) -> io::Result<()> {
-    let trace = Text::new(alloc, Player::Trace, text.as_bytes());
-    let played = trace.play(in_pieces(8192));
-    write_played(&trace, &played, output)?;
+) -> io::Result<Vec<u8>> {
+    let bytes = text.as_bytes();
+    let played = write_played(&Text::new(alloc, Player::Trace, bytes), output)?;
     if played.ending == Ending::Done {
         write_refused(alloc, text, output)?;
         tally.play(rt, alloc, text, output)?;
     } else {
         output.write_all(b"-- lock_rows: not played\n")?;
     }
-    let listed = listed_from(alloc, &played)?;
-    write_listed(alloc, text, played.ending, listed.as_slice(), output)
-}
-
-/// Plays the list of a trace's calls, which should end so and write this.
-fn write_listed<W: Write>(
-    alloc: Global,
-    text: &str,
-    ending: Ending,
-    wanted: &[u8],
-    output: &mut W,
-) -> io::Result<()> {
-    let listed = Text::new(alloc, Player::List, text.as_bytes()).play(in_pieces(7));
-    if listed.is(ending, wanted) {
-        return output.write_all(b"-- the list: the same without views\n");
+    let wanted = listed_from(alloc, &played)?;
+    let listed = Text::new(alloc, Player::List, bytes).play(in_pieces(7));
+    if listed.is(played.ending, wanted.as_slice()) {
+        output.write_all(b"-- the list: the same without views\n")?;
+    } else {
+        listed.describe("the list", output)?;
     }
-    listed.describe("the list", output)
+    Ok(wanted)
 }
 
 /// What `replay list` writes if `replay trace` wrote this: the lines that are not views, or nothing
@@ -116,45 +115,16 @@ fn listed_from(alloc: Global, traced: &Played) -> io::Result<Vec<u8>> {
     Ok(kept)
 }
 
-/// Plays `text` in small pieces, and without its last LF. Writes a line for each way that ends
-/// differently from `played`, or writes something else.
-fn write_other_ways<W: Write>(text: &Text<'_>, played: &Played, output: &mut W) -> io::Result<()> {
-    let whole = text.bytes;
-    let cut = whole.strip_suffix(b"\n").unwrap_or(whole);
-    for (name, bytes, given) in [
-        ("in pieces of 1", whole, 1),
-        ("in pieces of 2", whole, 2),
-        ("in pieces of 7", whole, 7),
-        ("without the last LF", cut, 7),
-    ] {
-        let other = Text::new(text.alloc, text.player, bytes).play(in_pieces(given));
-        if !other.is(played.ending, played.wrote.as_slice()) {
-            other.describe(name, output)?;
-        }
-    }
-    Ok(())
-}
-
 /// Plays a script, lines on topics, or else a trace, with reads, writes and requests for memory
 /// that fail in turn.
 fn failing_case<W: Write>(alloc: Global, name: &str, text: &str, output: &mut W) -> io::Result<()> {
-    let bytes = text.as_bytes();
-    match name {
-        "script" => failing_lines(&Text::new(alloc, Player::Script, bytes), output),
-        "topics" => failing_lines(&Text::new(alloc, Player::Topics, bytes), output),
-        _ => {
-            failing(&Text::new(alloc, Player::Trace, bytes), output)?;
-            failing(&Text::new(alloc, Player::List, bytes), output)
+    for player in players(name) {
+        let text = Text::new(alloc, *player, text.as_bytes());
+        if matches!(player, Player::Script | Player::Topics) {
+            cut_after_each_byte(&text, output)?;
         }
+        each_read_and_write_fails(&text, output)?;
+        too_little_memory(&text, output)?;
     }
-}
-
-fn failing_lines<W: Write>(text: &Text<'_>, output: &mut W) -> io::Result<()> {
-    cut_after_each_byte(text, output)?;
-    failing(text, output)
-}
-
-fn failing<W: Write>(text: &Text<'_>, output: &mut W) -> io::Result<()> {
-    each_read_and_write_fails(text, output)?;
-    too_little_memory(text, output)
+    Ok(())
 }

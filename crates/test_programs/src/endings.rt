@@ -63,22 +63,11 @@ pub fn run<W: Write>(alloc: Global, output: &mut W) -> io::Result<()> {
         reported(alloc, *ending, line, *status, output)?;
     }
     for (text, line, status) in SCRIPTS {
-        ended(alloc, text, line, *status, output)?;
+        let played = Text::new(alloc, Player::Script, text.as_bytes()).play(in_pieces(7));
+        write!(output, "{:?} -- ", text_of(played.wrote.as_slice()))?;
+        reported(alloc, played.ending, line, *status, output)?;
     }
     Ok(())
-}
-
-/// Writes what a script wrote, and what was reported of its ending.
-fn ended<W: Write>(
-    alloc: Global,
-    text: &str,
-    line: &str,
-    status: u8,
-    output: &mut W,
-) -> io::Result<()> {
-    let played = Text::new(alloc, Player::Script, text.as_bytes()).play(in_pieces(7));
-    write!(output, "{:?} -- ", text_of(played.wrote.as_slice()))?;
-    reported(alloc, played.ending, line, status, output)
 }
 
 /// Writes what is reported of this ending, and if that is not so, what it must be.

@@ -1,5 +1,5 @@
 //! Reads, writes and requests for memory that fail, each in turn.
-use crate::play::{Played, Player, Text, Way, in_pieces};
+use crate::play::{Played, Player, Text, in_pieces};
 use bcast_text::ending::Ending;
 use linked_list_allocator::LocalHeap;
 use std::io;
@@ -27,23 +27,11 @@ fn each_call_fails<W: Write>(
         } else {
             way.writes = calls;
         }
-        if is_played(text, way, &whole, failure, output)? {
+        if is_same(&text.play(way), &whole, failure, output)? {
             return write_count(text.player, failure, calls > 9, output);
         }
     }
     output.write_all(b"it never ends\n")
-}
-
-/// Whether `text` played in this way gives the same as `whole`. If not, it must end as `failure`.
-fn is_played<W: Write>(
-    text: &Text<'_>,
-    way: Way,
-    whole: &Played,
-    failure: Ending,
-    output: &mut W,
-) -> io::Result<bool> {
-    let played = text.play(way);
-    write_unless_failed(&played, whole, failure, output)
 }
 
 /// Plays `text` over larger and larger heaps until there is memory for it.
@@ -55,28 +43,18 @@ pub fn too_little_memory<W: Write>(text: &Text<'_>, output: &mut W) -> io::Resul
     };
     let whole = text.play(in_pieces(7));
     for amount in 1..4096 {
-        if is_played_over(text, least + 16 * amount, &whole, output)? {
+        let heap = LocalHeap::new(text.alloc, least + 16 * amount)?;
+        let played = text.play_over(&heap, in_pieces(7));
+        if is_same(&played, &whole, Ending::NoMemory, output)? {
             return write_count(text.player, Ending::NoMemory, amount > 1000, output);
         }
     }
     output.write_all(b"it never ends\n")
 }
 
-/// Whether `text` played over a heap of this size gives `whole`. If not, memory must be refused.
-fn is_played_over<W: Write>(
-    text: &Text<'_>,
-    size: usize,
-    whole: &Played,
-    output: &mut W,
-) -> io::Result<bool> {
-    let heap = LocalHeap::new(text.alloc, size)?;
-    let played = text.play_over(&heap, in_pieces(7));
-    write_unless_failed(&played, whole, Ending::NoMemory, output)
-}
-
 /// Whether `played` is the same as `whole`. If it is neither that nor a failure after part of the
 /// same output, it is written.
-fn write_unless_failed<W: Write>(
+fn is_same<W: Write>(
     played: &Played,
     whole: &Played,
     failure: Ending,

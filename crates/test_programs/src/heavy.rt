@@ -42,58 +42,38 @@ pub fn with_memory<'a>(
     match call {
         Call::TryBroadcast(number) => Ok(Some(Call::TryBroadcast(Heavy::new(heap, *number)?))),
         Call::TryBroadcastAll(numbers) => {
-            let msgs = list_with_memory(alloc, heap, numbers.as_slice())?;
-            Ok(Some(Call::TryBroadcastAll(msgs)))
+            let mut msgs = Vec::new(alloc);
+            for number in numbers.as_slice() {
+                msgs.push(Heavy::new(heap, *number)?)?;
+            }
+            Ok(Some(Call::TryBroadcastAll(Messages::new(msgs))))
         }
         Call::AttemptSend(number) => Ok(Some(Call::AttemptSend(Heavy::new(heap, *number)?))),
         Call::PollSend(place, number) => {
             let msg = Heavy::new(heap, *number)?;
             Ok(Some(Call::PollSend(*place, msg)))
         }
-        _ => Ok(without_message(call)),
-    }
-}
-
-/// Messages of these numbers, in a list.
-fn list_with_memory<'a>(
-    alloc: Global,
-    heap: &'a LocalHeap,
-    numbers: &[u64],
-) -> Result<Messages<Heavy<'a>>, AllocError> {
-    let mut msgs = Vec::new(alloc);
-    for number in numbers {
-        msgs.push(Heavy::new(heap, *number)?)?;
-    }
-    Ok(Messages::new(msgs))
-}
-
-/// The call, if it has no message and is no accessor.
-fn without_message<'a>(call: &Call<u64>) -> Option<Call<Heavy<'a>>>
-    requires { HasPositiveCapacity call.now }
-    ensures { IfSome result HasPositiveCapacity }
-{
-    match call {
-        Call::BeginSend => Some(Call::BeginSend),
-        Call::EndSend(place) => Some(Call::EndSend(*place)),
-        Call::TryRecv(key) => Some(Call::TryRecv(*key)),
-        Call::PollFuture(key) => Some(Call::PollFuture(*key)),
-        Call::EndFuture(key) => Some(Call::EndFuture(*key)),
-        Call::PollRecv(key) => Some(Call::PollRecv(*key)),
-        Call::PollNext(key) => Some(Call::PollNext(*key)),
-        Call::Close => Some(Call::Close),
-        Call::SetCapacity(capacity) => Some(Call::SetCapacity(*capacity)),
-        Call::SetOverflow(on) => Some(Call::SetOverflow(*on)),
-        Call::SetAwaitActive(on) => Some(Call::SetAwaitActive(*on)),
-        Call::NewSender => Some(Call::NewSender),
-        Call::CloneInactive => Some(Call::CloneInactive),
-        Call::Deactivate(key) => Some(Call::Deactivate(*key)),
-        Call::NewReceiver => Some(Call::NewReceiver),
-        Call::Activate => Some(Call::Activate),
-        Call::ActivateCloned => Some(Call::ActivateCloned),
-        Call::CloneReceiver(key) => Some(Call::CloneReceiver(*key)),
-        Call::DropSender => Some(Call::DropSender),
-        Call::DropInactive => Some(Call::DropInactive),
-        Call::DropReceiver(key) => Some(Call::DropReceiver(*key)),
-        _ => None,
+        Call::BeginSend => Ok(Some(Call::BeginSend)),
+        Call::EndSend(place) => Ok(Some(Call::EndSend(*place))),
+        Call::TryRecv(key) => Ok(Some(Call::TryRecv(*key))),
+        Call::PollFuture(key) => Ok(Some(Call::PollFuture(*key))),
+        Call::EndFuture(key) => Ok(Some(Call::EndFuture(*key))),
+        Call::PollRecv(key) => Ok(Some(Call::PollRecv(*key))),
+        Call::PollNext(key) => Ok(Some(Call::PollNext(*key))),
+        Call::Close => Ok(Some(Call::Close)),
+        Call::SetCapacity(capacity) => Ok(Some(Call::SetCapacity(*capacity))),
+        Call::SetOverflow(on) => Ok(Some(Call::SetOverflow(*on))),
+        Call::SetAwaitActive(on) => Ok(Some(Call::SetAwaitActive(*on))),
+        Call::NewSender => Ok(Some(Call::NewSender)),
+        Call::CloneInactive => Ok(Some(Call::CloneInactive)),
+        Call::Deactivate(key) => Ok(Some(Call::Deactivate(*key))),
+        Call::NewReceiver => Ok(Some(Call::NewReceiver)),
+        Call::Activate => Ok(Some(Call::Activate)),
+        Call::ActivateCloned => Ok(Some(Call::ActivateCloned)),
+        Call::CloneReceiver(key) => Ok(Some(Call::CloneReceiver(*key))),
+        Call::DropSender => Ok(Some(Call::DropSender)),
+        Call::DropInactive => Ok(Some(Call::DropInactive)),
+        Call::DropReceiver(key) => Ok(Some(Call::DropReceiver(*key))),
+        _ => Ok(None),
     }
 }

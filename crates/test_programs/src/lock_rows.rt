@@ -131,28 +131,7 @@ fn play_calls<P: Port<u64> + Shows>(
     Ok(Outcome::Same(made))
 }
 
-/// Plays the calls of a trace on a lock with one channel, and on another channel.
-fn play_locked<R: Wait>(
-    rt: &R,
-    alloc: Global,
-    task: &MockTask,
-    way: Way,
-    before: usize,
-    (locked, alone): (Inner<u64, Wake>, Inner<u64, Silent>),
-    calls: &str,
-) -> Result<Outcome, AllocError> {
-    let port = Lock::new(rt, alloc, locked)?;
-    let same = port.try_clone().ok_or(AllocError)?;
-    let mut row = Row {
-        task,
-        port: &port,
-        same: &same,
-        alone,
-    };
-    play_calls(alloc, &mut row, way, before, calls)
-}
-
-/// Plays the calls of a trace in one way.
+/// Plays the calls of a trace in one way, on a lock with one channel, and on another channel.
 fn play<R: Wait + RandomSource + AllocGlobal>(
     rt: &R,
     alloc: Global,
@@ -165,9 +144,16 @@ fn play<R: Wait + RandomSource + AllocGlobal>(
         Way::LateLock => calls.lines().count() / 2,
         _ => 0,
     };
-    let channels = open_both(alloc, opening, before, calls)?;
-    let outcome = play_locked(rt, alloc, &task, way, before, channels, calls)?;
-    Ok(outcome)
+    let (locked, alone) = open_both(alloc, opening, before, calls)?;
+    let port = Lock::new(rt, alloc, locked)?;
+    let same = port.try_clone().ok_or(AllocError)?;
+    let mut row = Row {
+        task: &task,
+        port: &port,
+        same: &same,
+        alone,
+    };
+    Ok(play_calls(alloc, &mut row, way, before, calls)?)
 }
 
 impl Tally {

@@ -20,6 +20,15 @@ pub enum Player {
     List,
 }
 
+/// What plays the texts of a program. A trace is played in both ways.
+pub fn players(program: &str) -> &'static [Player] {
+    match program {
+        "script" => &[Player::Script],
+        "topics" => &[Player::Topics],
+        _ => &[Player::Trace, Player::List],
+    }
+}
+
 /// How a text is read, and how what is written is taken.
 #[derive(Clone, Copy)]
 pub struct Way {
@@ -76,7 +85,7 @@ impl<'a> Text<'a> {
         self.play_over(self.alloc, way)
     }
 
-    /// Plays it in this way, with memory of this `alloc`.
+    /// Plays it in this way, with memory of this `alloc`, as the programs do, through a buffer.
     pub fn play_over<A: Allocator + Copy>(&self, alloc: A, way: Way) -> Played {
         let reader = Pieces {
             bytes: self.bytes,
@@ -88,31 +97,20 @@ impl<'a> Text<'a> {
             piece: way.taken,
             calls: way.writes,
         };
-        let ending = buffered(alloc, self.alloc, self.player, reader, &mut writer);
+        let ending = match BufWriter::new(alloc, &mut writer) {
+            Ok(mut output) => match self.player {
+                Player::Script => script(alloc, self.alloc, reader, &mut output),
+                Player::Topics => seeded_hub_script(&Bytes(7), alloc, reader, &mut output),
+                Player::Trace => trace(alloc, self.alloc, reader, &mut output),
+                Player::List => list(alloc, self.alloc, reader, &mut output),
+            },
+            Err(_) => Ending::NoMemory,
+        };
         Played {
             ending,
             wrote: writer.taken,
             writes: writer.calls,
         }
-    }
-}
-
-/// Plays a text as the programs do, through a buffer.
-fn buffered<A: Allocator + Copy>(
-    alloc: A,
-    heap: Global,
-    player: Player,
-    reader: Pieces<'_>,
-    writer: &mut Taker,
-) -> Ending {
-    let Ok(mut output) = BufWriter::new(alloc, writer) else {
-        return Ending::NoMemory;
-    };
-    match player {
-        Player::Script => script(alloc, heap, reader, &mut output),
-        Player::Topics => seeded_hub_script(&Bytes(7), alloc, reader, &mut output),
-        Player::Trace => trace(alloc, heap, reader, &mut output),
-        Player::List => list(alloc, heap, reader, &mut output),
     }
 }
 

@@ -5,7 +5,7 @@ use crate::heavy::{Heavy, with_memory};
 use crate::lock_rows::seen::accessors_of_inner;
 use bcast_core::{Call, HandleError, Inner, Reply, Silent, step};
 use bcast_trace::line::{Line, read_line};
-use bcast_trace::opening::{Opening, read_opening};
+use bcast_trace::opening::read_opening;
 use linked_list_allocator::LocalHeap;
 use std::alloc::{AllocError, Global};
 use std::io;
@@ -52,24 +52,14 @@ fn fill<'a>(alloc: Global, heap: &'a LocalHeap, left: usize) -> Result<Vec<Block
     let _kept = Vec::<u8, &LocalHeap>::with_capacity(heap, left)?;
     let mut taken = Vec::new(alloc);
     for size in BLOCKS {
-        take_all(heap, size, &mut taken)?;
+        for _ in 0..HEAP {
+            let Ok(block) = Vec::<u8, &LocalHeap>::with_capacity(heap, size) else {
+                break;
+            };
+            taken.push(block)?;
+        }
     }
     Ok(taken)
-}
-
-/// Takes blocks of this size until the heap has none.
-fn take_all<'a>(
-    heap: &'a LocalHeap,
-    size: usize,
-    taken: &mut Vec<Block<'a>>,
-) -> Result<(), AllocError> {
-    for _ in 0..HEAP {
-        let Ok(block) = Vec::<u8, &LocalHeap>::with_capacity(heap, size) else {
-            break;
-        };
-        taken.push(block)?;
-    }
-    Ok(())
 }
 
 /// A channel on a heap, and one that always has memory.
@@ -81,28 +71,7 @@ struct Pair<'a> {
     other: Inner<Heavy<'a>, Silent>,
 }
 
-impl<'a> Pair<'a> {
-    fn open(
-        alloc: Global,
-        heap: &'a LocalHeap,
-        ample: &'a LocalHeap,
-        opening: Opening,
-    ) -> Result<Self, AllocError> {
-        let (short, _) = Inner::starting_at(heap, opening.capacity, opening.first)?;
-        let (other, _) = Inner::starting_at(alloc, opening.capacity, opening.first)?;
-        Ok(Pair {
-            heap,
-            ample,
-            short,
-            other,
-        })
-    }
-
-    /// Whether all accessors return the same of both channels.
-    fn looks_equal(&self) -> bool {
-        accessors_of_inner(&self.short) == accessors_of_inner(&self.other)
-    }
-
+impl Pair<'_> {
     /// Makes the call of a line, if it has one.
     fn play_line(
         &mut self,
@@ -139,7 +108,7 @@ impl<'a> Pair<'a> {
         };
         let taken = fill(alloc, self.heap, left)?;
         let reply = step(&mut self.short, first, Silent);
-        let is_unchanged = self.looks_equal();
+        let is_unchanged = accessors_of_inner(&self.short) == accessors_of_inner(&self.other);
         drop(taken);
         let wanted = step(&mut self.other, wanted, Silent);
         if reply == wanted {
@@ -161,7 +130,14 @@ fn play(alloc: Global, text: &str, left: usize) -> Result<Outcome, AllocError> {
     };
     let heap = LocalHeap::new(alloc, HEAP)?;
     let ample = LocalHeap::new(alloc, HEAP)?;
-    let mut pair = Pair::open(alloc, &heap, &ample, opening)?;
+    let (short, _) = Inner::starting_at(&heap, opening.capacity, opening.first)?;
+    let (other, _) = Inner::starting_at(alloc, opening.capacity, opening.first)?;
+    let mut pair = Pair {
+        heap: &heap,
+        ample: &ample,
+        short,
+        other,
+    };
     play_calls(alloc, &mut pair, calls, left)
 }
 

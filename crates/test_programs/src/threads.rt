@@ -193,9 +193,9 @@ fn no_memory<J: Channel, P: HistoryPort<u64, J>, W: Write>(
     };
     let heap = LocalHeap::new(alloc, 64)?;
     let is_err = receive_all(rt, &heap, &mut receiver, awaited).is_err();
-    let is_shut = !other.close();
-    let kept = other.len();
-    writeln!(output, "no memory {is_err}, closed {is_shut}, kept {kept}")
+    let is_closed = !other.close();
+    let len = other.len();
+    writeln!(output, "no memory {is_err}, closed {is_closed}, kept {len}")
 }
 
 fn try_send<J: Channel, P: HistoryPort<u64, J>, W: Write>(

@@ -1,12 +1,11 @@
 //! What a line on topics says.
 ghost use Rattle.std.specs.Prelude.{◌≡◌, ◌≢◌, ℕ, List, IsNone, IfSome, ◌++◌, ◌∷◌};
 ghost use Rattle.topics.specs.Name as topic_name;
-ghost use Rattle.bcast_text.specs.Name as follower_name;
 ghost use Rattle.bcast_play.specs.TopicsLine.{word_of, arguments_of, text_of, IsInForm};
 ghost use Rattle.bcast_play.specs.declared.hub.line.Line.{Line};
 
 use bcast_text::number::{number, positive};
-use bcast_text::script::name::is_name;
+use bcast_text::script::name::as_name;
 
 /// A line on topics: a command and its arguments, a topic, a number or a follower's name.
 #[derive(Clone, Copy)]
@@ -45,8 +44,8 @@ fn with_arguments<'a>(first: &str, rest: &'a str) -> Option<Line<'a>>
         → rest.now ≢ arguments_of line }
 {
     match first {
-        "receive" => Some(Line::Receive(follower(rest)?)),
-        "leave" => Some(Line::Leave(follower(rest)?)),
+        "receive" => Some(Line::Receive(as_name(rest)?)),
+        "leave" => Some(Line::Leave(as_name(rest)?)),
         "close" => Some(Line::Close(topic(rest)?)),
         "open" => {
             let (topic, n) = topic_and(rest)?;
@@ -54,7 +53,7 @@ fn with_arguments<'a>(first: &str, rest: &'a str) -> Option<Line<'a>>
         }
         "follow" => {
             let (topic, new) = topic_and(rest)?;
-            Some(Line::Follow(topic, follower(new)?))
+            Some(Line::Follow(topic, as_name(new)?))
         }
         "publish" => {
             let (topic, msg) = topic_and(rest)?;
@@ -88,13 +87,4 @@ fn topic(word: &str) -> Option<&str>
     } else {
         None
     }
-}
-
-/// A follower's name.
-fn follower(word: &str) -> Option<&str>
-    ensures same { IfSome result (λ name. name.now ≡ word.now) }
-    ensures form { IfSome result (λ name. follower_name.IsName name.now) }
-    ensures none { IsNone result → follower_name.IsName word.now → ⊥ }
-{
-    if is_name(word) { Some(word) } else { None }
 }

@@ -1,13 +1,13 @@
 //! What a line of a script says.
-ghost use Rattle.std.specs.Prelude.{◌≡◌, ◌≢◌, ℕ, List, Bool, Some, None, IfOk, IfSome, IsNone, ◌++◌, ◌∷◌, codes, decimal};
+ghost use Rattle.std.specs.Prelude.{◌≡◌, ◌≢◌, ℕ, List, Bool, Some, None, IfOk, IfSome, IsNone, ◌++◌, ◌∷◌, codes};
 ghost use Rattle.std.specs.List.{AllByRecursion};
-ghost use Rattle.bcast_text.specs.Words.{numbers_text, IsU64, IsPositive};
+ghost use Rattle.bcast_text.specs.Words.{numbers_text, IsU64};
 ghost use Rattle.bcast_text.specs.Name.{IsName};
-ghost use Rattle.bcast_text.specs.ScriptLine.{flag_text, word_of, name_in, arguments_of, text_of, IsInForm};
+ghost use Rattle.bcast_text.specs.ScriptLine.{flag_text, word_of, arguments_of, text_of, IsInForm};
 ghost use Rattle.bcast_text.specs.declared.script.line.Line.{Line};
 
 use crate::number::{number, numbers, positive};
-use crate::script::name::is_name;
+use crate::script::name::as_name;
 use bcast_model::messages::Messages;
 use std::alloc::{AllocError, Global};
 
@@ -116,59 +116,34 @@ fn with_arguments<'a>(first: &str, rest: &'a str) -> Option<Line<'a>>
         "capacity" => Some(Line::Capacity(positive(rest)?)),
         "overflow" => Some(Line::Overflow(flag(rest)?)),
         "await" => Some(Line::Await(flag(rest)?)),
-        "clone" => two_names(rest),
-        "recvmany" => name_and_limit(rest),
-        _ if is_name(rest) => with_name(first, rest),
+        "recv" => Some(Line::Recv(as_name(rest)?)),
+        "new" => Some(Line::New(as_name(rest)?)),
+        "drop" => Some(Line::Drop(as_name(rest)?)),
+        "deactivate" => Some(Line::Deactivate(as_name(rest)?)),
+        "activate" => Some(Line::Activate(as_name(rest)?)),
+        "clone" => {
+            let (of, new) = name_and(rest)?;
+            Some(Line::Clone(of, as_name(new)?))
+        }
+        "recvmany" => {
+            let (of, limit) = name_and(rest)?;
+            Some(Line::RecvMany(of, positive(limit)?))
+        }
         _ => None,
     }
 }
 
-/// A command with one name.
-fn with_name<'a>(first: &str, name: &'a str) -> Option<Line<'a>>
-    requires { IsName name.now }
-    ensures text { IfSome result (λ line. first.now ++ 32 ∷ name.now ≡ text_of line) }
-    ensures form { IfSome result IsInForm }
-    ensures none { IsNone result → (line : Line) → name_in line ≡ Some name.now
-        → first.now ≢ word_of line }
+/// A name, and what follows the space after it.
+fn name_and(arguments: &str) -> Option<(&str, &str)>
+    ensures text { IfSome result (λ found. arguments.now ≡ found.0.now ++ 32 ∷ found.1.now) }
+    ensures form { IfSome result (λ found. IsName found.0.now) }
+    ensures only { IfSome result (λ found. (first last : List ℕ) → IsName first
+        → arguments.now ≡ first ++ 32 ∷ last → (first ≡ found.0.now) × (last ≡ found.1.now)) }
+    ensures none { IsNone result → (first last : List ℕ) → IsName first
+        → arguments.now ≢ first ++ 32 ∷ last }
 {
-    match first {
-        "recv" => Some(Line::Recv(name)),
-        "new" => Some(Line::New(name)),
-        "drop" => Some(Line::Drop(name)),
-        "deactivate" => Some(Line::Deactivate(name)),
-        "activate" => Some(Line::Activate(name)),
-        _ => None,
-    }
-}
-
-/// The arguments of `clone`.
-fn two_names(names: &str) -> Option<Line<'_>>
-    ensures text { IfSome result (λ line. codes "clone " ++ names.now ≡ text_of line) }
-    ensures form { IfSome result IsInForm }
-    ensures none { IsNone result → (name new : List ℕ) → IsName name → IsName new
-        → names.now ≢ name ++ codes " " ++ new }
-{
-    let (name, new) = names.split_once(' ')?;
-    if is_name(name) && is_name(new) {
-        Some(Line::Clone(name, new))
-    } else {
-        None
-    }
-}
-
-/// The arguments of `recvmany`.
-fn name_and_limit(arguments: &str) -> Option<Line<'_>>
-    ensures text { IfSome result (λ line. codes "recvmany " ++ arguments.now ≡ text_of line) }
-    ensures form { IfSome result IsInForm }
-    ensures none { IsNone result → (name : List ℕ) (limit : ℕ) → IsName name → IsPositive limit
-        → arguments.now ≢ name ++ codes " " ++ decimal limit }
-{
-    let (name, limit) = arguments.split_once(' ')?;
-    if is_name(name) {
-        Some(Line::RecvMany(name, positive(limit)?))
-    } else {
-        None
-    }
+    let (first, last) = arguments.split_once(' ')?;
+    Some((as_name(first)?, last))
 }
 
 /// The argument of a setting.

@@ -1,5 +1,5 @@
 //! Names: what is one, and what has each of those that are in use.
-ghost use Rattle.std.specs.Prelude.{IsTrue, ◌↔◌, ◌≡◌, ℕ, List, Some, None, OnOk, bytes_eq};
+ghost use Rattle.std.specs.Prelude.{IsTrue, IfSome, IsNone, ◌↔◌, ◌≡◌, ℕ, List, Some, None, OnOk, bytes_eq};
 ghost use Rattle.std.specs.Map.{update};
 ghost use Rattle.std.specs.BTreeMap.{get_by_text};
 ghost use Rattle.bcast_text.specs.Name.{IsName};
@@ -22,6 +22,15 @@ pub fn is_name(word: &str) -> bool
         && others
             .iter()
             .all(|b| b.is_ascii_lowercase() || b.is_ascii_digit())
+}
+
+/// `word`, if it is a name.
+pub fn as_name(word: &str) -> Option<&str>
+    ensures same { IfSome result (λ name. name.now ≡ word.now) }
+    ensures form { IfSome result (λ name. IsName name.now) }
+    ensures none { IsNone result → IsName word.now → ⊥ }
+{
+    if is_name(word) { Some(word) } else { None }
 }
 
 /// Gives `named` a new name.

@@ -86,13 +86,6 @@ fn wait<P: Port<u64>>(port: &P, awaited: Awaited) -> Reply<u64> {
     }
 }
 
-/// Lets a thread run, so that it is asleep if it waits.
-fn pause() {
-    for _ in 0..2000u64 {
-        thread::yield_now();
-    }
-}
-
 impl<P: Port<u64> + Shows> Row<'_, P> {
     /// Makes the call of a line. None: the reply is the same.
     fn ends_wait(&mut self, alloc: Global, line: &str) -> Result<Option<Part>, AllocError> {
@@ -114,7 +107,10 @@ fn play_beside<R: Threads, P: Port<u64> + Shows + Send + 'static>(
 ) -> io::Result<Option<Part>> {
     let awaited = case.awaited;
     let thread = thread::spawn(rt, move || wait(&port, awaited))?;
-    pause();
+    // This lets the thread run, so that it is asleep if it waits.
+    for _ in 0..2000u64 {
+        thread::yield_now();
+    }
     let found = match play_calls(alloc, row, Way::Typed, 0, case.calls)? {
         Outcome::Differs(_, part) => Some(part),
         Outcome::Same(_) => row.ends_wait(alloc, case.last)?,

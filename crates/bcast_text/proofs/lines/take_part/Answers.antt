@@ -4,34 +4,13 @@ use Rattle.std.proofs.lemmas.Grind.{common_steps}
 use Rattle.bcast_text.proofs.lines.take_part.Goals as goal
 
 pub returns-in-Err : goal.returns-in-Err
-returns-in-Err g c = record {
-  appends = grind (arith, common_steps);
-  stops = grind (arith, common_steps);
-  bytes = grind (arith, common_steps);
-  end = grind (arith, common_steps);
-  more = grind (arith, common_steps);
-  done = grind (arith, common_steps);
-}
+returns-in-Err g c = grind (arith, common_steps)
 
 pub returns-in-Err-2 : goal.returns-in-Err-2
-returns-in-Err-2 g c = record {
-  appends = grind (arith, common_steps);
-  stops = grind (arith, common_steps);
-  bytes = grind (arith, common_steps);
-  end = grind (arith, common_steps);
-  more = grind (arith, common_steps);
-  done = grind (arith, common_steps);
-}
+returns-in-Err-2 g c = grind (arith, common_steps)
 
 pub returns-in_err-extend_from_slice : goal.returns-in_err-extend_from_slice
-returns-in_err-extend_from_slice g c = record {
-  appends = grind (arith, common_steps);
-  stops = grind (arith, common_steps);
-  bytes = grind (arith, common_steps);
-  end = grind (arith, common_steps);
-  more = grind (arith, common_steps);
-  done = grind (arith, common_steps);
-}
+returns-in_err-extend_from_slice g c = grind (arith, common_steps)
 
 pub returns-clause-appends : goal.returns-clause-appends
 returns-clause-appends g c = grind (arith, common_steps)
