@@ -55,7 +55,16 @@ where
 }
 
 pub fn run<R: Wait + RandomSource + AllocGlobal + Print>(rt: &R) -> Result<()> {
-    let (mut source, mut one) = broadcast(rt, rt.alloc(), 1)?;
+    let (source, one) = broadcast(rt, rt.alloc(), 1)?;
+    watch(rt, source, one)
+}
+
+/// Sets versions, which two watchers look for too late.
+fn watch<R: Wait + RandomSource + AllocGlobal + Print, P: Port<Settings>>(
+    rt: &R,
+    mut source: Sender<Settings, P>,
+    mut one: Receiver<Settings, P>,
+) -> Result<()> {
     source.set_overflow(true);
     let mut two = one.clone()?;
     set_all(&source)?;

@@ -70,12 +70,20 @@ where
 
 pub fn run<R: Wait + RandomSource + AllocGlobal + Print>(rt: &R) -> Result<()> {
     let (events, first) = broadcast(rt, rt.alloc(), 1)?;
-    let hub = Hub::new(events, first)?;
+    open(rt, &Hub::new(events, first)?)
+}
+
+/// Publishes to nobody, and then to two subscribers, which leave again.
+fn open<R, P>(rt: &R, hub: &Hub<String, P>) -> Result<()>
+where
+    R: Wait + RandomSource + AllocGlobal + Print,
+    P: Port<String>,
+{
     let lost = format!(in rt.alloc(); "nobody hears")?;
     if let Err(error) = hub.events.try_broadcast(lost) {
         println!(rt; "{error}")?;
     }
-    talk(rt, &hub)?;
+    talk(rt, hub)?;
     println!(rt; "closed: {}", hub.events.is_closed())?;
     Ok(())
 }

@@ -75,6 +75,15 @@ where
     R: Threads + Wait + AllocGlobal + Print + Copy + Send + Drop + 'static,
 {
     let (log, one) = broadcast(rt, rt.alloc(), 8)?;
+    fan_out(rt, log, one)
+}
+
+/// Starts two producers and a consumer, and is the other consumer.
+fn fan_out<R, P>(rt: R, log: Sender<u64, P>, one: Receiver<u64, P>) -> Result<()>
+where
+    R: Threads + Wait + AllocGlobal + Print + Copy + Send + Drop + 'static,
+    P: Port<u64> + Send + 'static,
+{
     let two = one.clone()?;
     let other = log.clone()?;
     let header = vec![in rt.alloc(); 1_000, 1_001, 1_002]?;

@@ -1,7 +1,7 @@
 //! A signal to stop: it is given by the drop of its last sender. Workers first finish the jobs that
 //! they were sent before.
 use anyhow::Result;
-use async_broadcast::{Port, Receiver, broadcast};
+use async_broadcast::{Port, Receiver, Sender, broadcast};
 use futures::executor::block_on;
 use futures::future::{Either, select};
 use std::alloc::AllocGlobal;
@@ -38,8 +38,21 @@ pub fn run<R>(rt: R) -> Result<()>
 where
     R: Threads + Wait + RandomSource + AllocGlobal + Print + Copy + Send + Drop + 'static,
 {
-    let (jobs, one) = broadcast(rt, rt.alloc(), 2)?;
-    let (signal, told) = broadcast::<(), _, _>(rt, rt.alloc(), 1)?;
+    let jobs = broadcast(rt, rt.alloc(), 2)?;
+    let signal = broadcast::<(), _, _>(rt, rt.alloc(), 1)?;
+    direct(rt, jobs, signal)
+}
+
+/// The handles of a channel.
+type Ends<T, P> = (Sender<T, P>, Receiver<T, P>);
+
+/// Starts two workers, sends them jobs, and gives the signal.
+fn direct<R, P, Q>(rt: R, (jobs, one): Ends<u64, P>, (signal, told): Ends<(), Q>) -> Result<()>
+where
+    R: Threads + Wait + RandomSource + AllocGlobal + Print + Copy + Send + Drop + 'static,
+    P: Port<u64> + Send + 'static,
+    Q: Port<()> + Send + 'static,
+{
     let two = one.clone()?;
     let also_told = told.clone()?;
     let first = thread::spawn(&rt, move || work(&rt, one, told))?;

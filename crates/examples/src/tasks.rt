@@ -68,6 +68,15 @@ where
     R: Threads + Wait + RandomSource + AllocGlobal + Print + Copy + Send + Drop + 'static,
 {
     let (sender, one) = broadcast(rt, rt.alloc(), 8)?;
+    play(rt, sender, one)
+}
+
+/// Runs two tasks, one after the other, on what a thread sends.
+fn play<R, P>(rt: R, sender: Sender<u64, P>, one: Receiver<u64, P>) -> Result<()>
+where
+    R: Threads + Wait + RandomSource + AllocGlobal + Print + Copy + Send + Drop + 'static,
+    P: Port<u64> + Send + 'static,
+{
     let numbers = one.clone()?;
     let sending = thread::spawn(&rt, move || send_all(sender, 5))?;
     println!(&rt; "sum {}", sum(&rt, one)?)?;

@@ -1,36 +1,13 @@
 //! Batches of messages, each beside as many single receives on another channel.
-use crate::asked::{Asked, Channel, ask};
+use crate::calls::{Channel, gets};
 use crate::channel::channel;
-use bcast_core::{Reply, SendPoll, TryRecvError};
-use futures::task::Poll;
-use rows::{Answer, ROWS, Row};
+use rows::{ROWS, Row};
 use std::alloc::{AllocError, Global};
 use std::process::Abort;
 use std::test::Fail;
 
 mod refused;
 mod rows;
-
-fn answer_of(reply: &Reply<u64>) -> Answer {
-    match reply {
-        Reply::SetOverflow | Reply::DropReceiver | Reply::Close(true) => Answer::Done,
-        Reply::CloneReceiver(Ok(key)) => Answer::Made(*key),
-        Reply::BeginSend(Ok(place)) => Answer::Made(*place),
-        Reply::TryBroadcast(Ok(None)) | Reply::PollSend(SendPoll::Ready(Ok(None))) => Answer::Sent,
-        Reply::TryBroadcast(Ok(Some(oldest))) => Answer::Dropped(*oldest),
-        Reply::TryBroadcast(Err(_)) => Answer::NotSent,
-        Reply::PollSend(SendPoll::Wait(_)) | Reply::PollRecv(Ok(Poll::Pending)) => Answer::Waits,
-        Reply::TryRecv(Ok(Ok(msg))) => Answer::Message(*msg),
-        Reply::TryRecv(Ok(Err(TryRecvError::Overflowed(missed)))) => Answer::Missed(*missed),
-        Reply::TryRecv(Ok(Err(TryRecvError::Empty))) => Answer::Empty,
-        Reply::TryRecv(Ok(Err(TryRecvError::Closed))) => Answer::Ended,
-        _ => Answer::Other,
-    }
-}
-
-fn answered(inner: &mut Channel, asked: Asked) -> Answer {
-    answer_of(&ask(inner, asked))
-}
 
 /// Whether a batch gives these messages, behind one that is there before.
 fn gives(
@@ -49,12 +26,12 @@ fn gives(
 }
 
 /// Whether these messages are given one by one.
-fn gives_each(inner: &mut Channel, key: usize, msgs: &[u64]) -> bool {
+fn gives_each(inner: &mut Channel, key: usize, msgs: &[u64]) -> Result<bool, AllocError> {
     let mut gives = true;
     for msg in msgs {
-        gives &= answered(inner, Asked::TryRecv(key)) == Answer::Message(*msg);
+        gives &= inner.try_recv(key)? == Ok(*msg);
     }
-    gives
+    Ok(gives)
 }
 
 /// Whether a row holds on both channels: on the first by batches, and on the other one by single
@@ -64,13 +41,13 @@ fn holds(
     batches: &mut Channel,
     singles: &mut Channel,
     row: Row,
-) -> Result<bool, AllocError> {
+) -> Result<bool, Fail> {
     match row {
-        Row::Call(asked, answer) => {
-            Ok(answered(batches, asked) == answer && answered(singles, asked) == answer)
+        Row::Call(call, reply) => {
+            Ok(gets(alloc, batches, call, reply)? && gets(alloc, singles, call, reply)?)
         }
         Row::Batch(key, limit, msgs) => {
-            Ok(gives(alloc, batches, key, limit, msgs)? && gives_each(singles, key, msgs))
+            Ok(gives(alloc, batches, key, limit, msgs)? && gives_each(singles, key, msgs)?)
         }
         Row::ToldSends(told) => Ok(batches.snapshot(alloc)?.waiting_sends.told == told),
     }

@@ -1,81 +1,85 @@
 //! The calls that take no memory, made on a heap that is full.
-mod rows;
-
-use bcast_core::{
-    Call, Inner, Messages, Reply, SendError, SendPoll, Silent, TryRecvError, TrySendError, in_vec,
-    step,
-};
+use crate::calls::{Channel, gets};
+use bcast_core::{Inner, TrySendError};
 use linked_list_allocator::LocalHeap;
-use rows::{Polled, Row, Seen, Sent};
 use std::alloc::{AllocError, Allocator, Global};
 use std::process::Abort;
+use std::test::Fail;
 
-/// Calls on a channel of capacity 2 with the receivers 0 and 1 and a pending send at place 0, each
-/// with its reply. None takes memory.
+#[derive(Clone, Copy)]
+enum Row {
+    /// A call and its reply, as traces spell them.
+    Call(&'static str, &'static str),
+    /// A send of a list by `Inner::try_broadcast_all`, and what it returns.
+    Vector(&'static [u64], Result<(), TrySendError<&'static [u64]>>),
+}
+
+/// Calls on a channel of capacity 2 with the receivers 0 and 1 and a pending send at place 0. None
+/// takes memory.
 const ROWS: &[Row] = &[
-    Row::PollFuture(0),
-    Row::PollRecv(0, Polled::Waits),
-    Row::PollNext(1, Polled::Waits),
-    Row::TryBroadcast(10, Ok(None)),
-    Row::AttemptSend(11, SendPoll::Ready(Ok(None))),
-    Row::TryBroadcast(12, Err(TrySendError::Full(12))),
-    Row::AttemptSend(12, SendPoll::Wait(12)),
-    Row::PollSend(0, 12, SendPoll::Wait(12)),
-    Row::SetOverflow(true),
-    Row::PollSend(0, 12, SendPoll::Ready(Ok(Some(10)))),
-    Row::SetOverflow(false),
-    Row::TryRecv(0, Err(TryRecvError::Overflowed(1))),
-    Row::SetCapacity(1),
-    Row::SetCapacity(2),
-    Row::TryRecv(1, Err(TryRecvError::Overflowed(2))),
-    Row::Deactivate(1),
-    Row::TryRecv(0, Err(TryRecvError::Overflowed(1))),
-    Row::PollRecv(0, Polled::Gets(Ok(12))),
-    Row::PollFuture(0),
-    Row::EndFuture(0),
-    Row::TryBroadcast(13, Ok(None)),
-    Row::PollNext(0, Polled::Gets((13, 0))),
-    Row::TryBroadcastAll(&[20, 21], Ok(())),
-    Row::TryBroadcastAll(&[22], Err(TrySendError::Full(&[22]))),
-    Row::TryRecv(0, Ok(20)),
-    Row::TryRecv(0, Ok(21)),
-    Row::NewSender,
-    Row::CloneInactive,
-    Row::DropSender,
-    Row::DropInactive,
-    Row::SetAwaitActive(false),
-    Row::Sees(Seen::Overflow(false)),
-    Row::Sees(Seen::AwaitActive(false)),
-    Row::Sees(Seen::IsEmpty(true)),
-    Row::Sees(Seen::IsFull(false)),
-    Row::Sees(Seen::IsClosed(false)),
-    Row::Sees(Seen::IsTerminated(false)),
-    Row::Sees(Seen::Capacity(2)),
-    Row::Sees(Seen::Len(0)),
-    Row::Sees(Seen::ReceiverCount(1)),
-    Row::Sees(Seen::InactiveReceiverCount(1)),
-    Row::Sees(Seen::SenderCount(1)),
-    Row::Sees(Seen::EndNumber(6)),
+    Row::Call("PollFuture 0", "pending"),
+    Row::Call("PollRecv 0", "pending"),
+    Row::Call("PollNext 1", "pending"),
+    Row::Call("TryBroadcast 10", "ok"),
+    Row::Call("AttemptSend 11", "ready ok"),
+    Row::Call("TryBroadcast 12", "full 12"),
+    Row::Call("AttemptSend 12", "wait 12"),
+    Row::Call("PollSend 0 12", "wait 12"),
+    Row::Call("SetOverflow true", "-"),
+    Row::Call("PollSend 0 12", "ready ok dropped 10"),
+    Row::Call("SetOverflow false", "-"),
+    Row::Call("TryRecv 0", "overflowed 1"),
+    Row::Call("SetCapacity 1", "ok"),
+    Row::Call("SetCapacity 2", "ok"),
+    Row::Call("TryRecv 1", "overflowed 2"),
+    Row::Call("Deactivate 1", "ok"),
+    Row::Call("TryRecv 0", "overflowed 1"),
+    Row::Call("PollRecv 0", "ready some got 12"),
+    Row::Call("PollFuture 0", "pending"),
+    Row::Call("EndFuture 0", "-"),
+    Row::Call("TryBroadcast 13", "ok"),
+    Row::Call("PollNext 0", "ready some got 13 skipped 0"),
+    Row::Call("TryBroadcastAll 20 21", "ok"),
+    Row::Call("TryBroadcastAll 22", "full 22"),
+    Row::Call("TryRecv 0", "got 20"),
+    Row::Call("TryRecv 0", "got 21"),
+    Row::Call("NewSender", "ok"),
+    Row::Call("CloneInactive", "ok"),
+    Row::Call("DropSender", "-"),
+    Row::Call("DropInactive", "-"),
+    Row::Call("SetAwaitActive false", "-"),
+    Row::Call("Overflow", "false"),
+    Row::Call("AwaitActive", "false"),
+    Row::Call("IsEmpty", "true"),
+    Row::Call("IsFull", "false"),
+    Row::Call("IsClosed", "false"),
+    Row::Call("IsTerminated", "false"),
+    Row::Call("Capacity", "2"),
+    Row::Call("Len", "0"),
+    Row::Call("ReceiverCount", "1"),
+    Row::Call("InactiveReceiverCount", "1"),
+    Row::Call("SenderCount", "1"),
+    Row::Call("EndNumber", "6"),
     Row::Vector(&[23, 24], Ok(())),
     Row::Vector(&[25], Err(TrySendError::Full(&[25]))),
-    Row::TryRecv(0, Ok(23)),
-    Row::TryRecv(0, Ok(24)),
-    Row::DropReceiver(0),
-    Row::TryBroadcast(14, Err(TrySendError::Inactive(14))),
-    Row::TryBroadcastAll(&[], Err(TrySendError::Inactive(&[]))),
+    Row::Call("TryRecv 0", "got 23"),
+    Row::Call("TryRecv 0", "got 24"),
+    Row::Call("DropReceiver 0", "-"),
+    Row::Call("TryBroadcast 14", "inactive 14"),
+    Row::Call("TryBroadcastAll", "inactive"),
     Row::Vector(&[], Err(TrySendError::Inactive(&[]))),
-    Row::AttemptSend(14, SendPoll::Ready(Err(SendError(14)))),
-    Row::EndSend(0),
-    Row::Close(true),
+    Row::Call("AttemptSend 14", "ready senderror 14"),
+    Row::Call("EndSend 0", "-"),
+    Row::Call("Close", "true"),
     Row::Vector(&[26], Err(TrySendError::Closed(&[26]))),
-    Row::TryRecv(0, Err(TryRecvError::Closed)),
-    Row::PollRecv(0, Polled::Ends),
+    Row::Call("TryRecv 0", "closed"),
+    Row::Call("PollRecv 0", "ready none"),
 ];
 
 /// Makes the second receiver and the pending send, and returns whether they and the first receiver
 /// have the keys and the place that the rows need.
 fn is_planned<A: Allocator + Copy>(
-    inner: &mut Inner<u64, Silent, A>,
+    inner: &mut Channel<A>,
     first: usize,
 ) -> Result<bool, AllocError> {
     let second = inner.clone_receiver(first).ok().ok_or(AllocError)?;
@@ -93,44 +97,19 @@ fn as_row(sent: &Result<(), TrySendError<Vec<u64>>>) -> Result<(), TrySendError<
     }
 }
 
-/// Whether a send of a list by `step` returns this.
-fn holds_by_step<A: Allocator + Copy>(
-    alloc: Global,
-    inner: &mut Inner<u64, Silent, A>,
-    msgs: &[u64],
-    wanted: Sent,
-) -> Result<bool, AllocError> {
-    let call = Call::TryBroadcastAll(Messages::new(Vec::from_slice(alloc, msgs)?));
-    Ok(match step(inner, call, Silent) {
-        Reply::TryBroadcastAll(sent) => as_row(&in_vec(sent)) == wanted,
-        _ => false,
-    })
-}
-
-/// Whether a send of a list by `try_broadcast_all` returns this.
-fn holds_of_vector<A: Allocator + Copy>(
-    alloc: Global,
-    inner: &mut Inner<u64, Silent, A>,
-    msgs: &[u64],
-    wanted: Sent,
-) -> Result<bool, AllocError> {
-    let sent = inner.try_broadcast_all(Vec::from_slice(alloc, msgs)?);
-    Ok(as_row(&sent) == wanted)
-}
-
-/// Whether the reply is the row's. Lists take their memory from `alloc`.
+/// Whether a row's call returns what it must. Lists, and texts of replies, take their memory from
+/// `alloc`.
 fn holds<A: Allocator + Copy>(
     alloc: Global,
-    inner: &mut Inner<u64, Silent, A>,
+    inner: &mut Channel<A>,
     row: Row,
-) -> Result<bool, AllocError> {
+) -> Result<bool, Fail> {
     match row {
-        Row::TryBroadcastAll(msgs, wanted) => holds_by_step(alloc, inner, msgs, wanted),
-        Row::Vector(msgs, wanted) => holds_of_vector(alloc, inner, msgs, wanted),
-        row => Ok(match row.pair() {
-            None | Some((Call::SetCapacity(0), _)) => false,
-            Some((call, reply)) => step(inner, call, Silent) == reply,
-        }),
+        Row::Call(call, reply) => gets(alloc, inner, call, reply),
+        Row::Vector(msgs, wanted) => {
+            let sent = inner.try_broadcast_all(Vec::from_slice(alloc, msgs)?);
+            Ok(as_row(&sent) == wanted)
+        }
     }
 }
 
@@ -139,8 +118,8 @@ fn ask_on_full_heap(
     rt: &impl Abort,
     alloc: Global,
     heap: &LocalHeap,
-    inner: &mut Inner<u64, Silent, &LocalHeap>,
-) -> Result<(), AllocError> {
+    inner: &mut Channel<&LocalHeap>,
+) -> Result<(), Fail> {
     let _rest = Vec::<u8, &LocalHeap>::with_capacity(heap, heap.free())?;
     let full = heap.free();
     assert!(rt; Vec::<u8, &LocalHeap>::with_capacity(heap, 1).is_err());
@@ -152,7 +131,7 @@ fn ask_on_full_heap(
 }
 
 #[test]
-fn calls_that_take_no_memory_go_through(rt: HostRuntime) -> Result<(), AllocError> {
+fn calls_that_take_no_memory_go_through(rt: HostRuntime) -> Result<(), Fail> {
     let heap = LocalHeap::new(rt.alloc(), 4096)?;
     let (mut inner, first) = Inner::new(&heap, 2)?;
     assert!(rt; is_planned(&mut inner, first)?);

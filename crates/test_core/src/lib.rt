@@ -2,9 +2,9 @@
 #![tactic(auto)]
 
 #[cfg(test)]
-mod asked;
-#[cfg(test)]
 mod batches;
+#[cfg(test)]
+mod calls;
 #[cfg(test)]
 mod channel;
 #[cfg(test)]

@@ -1,39 +1,39 @@
 //! Three pending sends, from when they get places until only one of them waits.
-use crate::asked::{Asked, Channel, ask};
+use crate::calls::{Channel, ask};
 use crate::channel::channel;
 use std::alloc::{AllocError, Global};
 use std::process::Abort;
 use std::test::Fail;
 
 /// A call, and then the places of those that wait, from the front, and how many are told.
-type Row = (Asked, &'static [usize], usize);
+type Row = (&'static str, &'static [usize], usize);
 
 /// Calls on a new channel of capacity 1, one after another.
 const ROWS: &[Row] = &[
-    (Asked::TryBroadcast(7), &[], 0),
-    (Asked::BeginSend, &[], 0),
-    (Asked::BeginSend, &[], 0),
-    (Asked::BeginSend, &[], 0),
-    (Asked::PollSend(0, 8), &[0], 0),
-    (Asked::PollSend(2, 8), &[0, 2], 0),
-    (Asked::PollSend(1, 8), &[0, 2, 1], 0),
+    ("TryBroadcast 7", &[], 0),
+    ("BeginSend", &[], 0),
+    ("BeginSend", &[], 0),
+    ("BeginSend", &[], 0),
+    ("PollSend 0 8", &[0], 0),
+    ("PollSend 2 8", &[0, 2], 0),
+    ("PollSend 1 8", &[0, 2, 1], 0),
     // It keeps its position.
-    (Asked::PollSend(2, 8), &[0, 2, 1], 0),
-    (Asked::Grow, &[0, 2, 1], 1),
-    (Asked::Shrink, &[0, 2, 1], 1),
+    ("PollSend 2 8", &[0, 2, 1], 0),
+    ("SetCapacity 2", &[0, 2, 1], 1),
+    ("SetCapacity 1", &[0, 2, 1], 1),
     // One is told already.
-    (Asked::Grow, &[0, 2, 1], 1),
-    (Asked::Shrink, &[0, 2, 1], 1),
+    ("SetCapacity 2", &[0, 2, 1], 1),
+    ("SetCapacity 1", &[0, 2, 1], 1),
     // The next is told instead.
-    (Asked::EndSend(0), &[2, 1], 1),
-    (Asked::EndSend(0), &[2, 1], 1),
+    ("EndSend 0", &[2, 1], 1),
+    ("EndSend 0", &[2, 1], 1),
     // It was told, so it waits last.
-    (Asked::PollSend(2, 8), &[1, 2], 0),
+    ("PollSend 2 8", &[1, 2], 0),
     // All are told.
-    (Asked::Close, &[1, 2], 2),
-    (Asked::PollSend(1, 8), &[2], 1),
-    (Asked::PollSend(usize::MAX, 8), &[2], 1),
-    (Asked::EndSend(usize::MAX), &[2], 1),
+    ("Close", &[1, 2], 2),
+    ("PollSend 1 8", &[2], 1),
+    ("PollSend 18446744073709551615 8", &[2], 1),
+    ("EndSend 18446744073709551615", &[2], 1),
 ];
 
 /// Whether these wait, and this many are told.
@@ -49,8 +49,8 @@ fn waits(
 
 /// Makes the calls of all rows, and fails unless each leaves what it says.
 fn play(rt: &impl Abort, inner: &mut Channel, alloc: Global) -> Result<(), Fail> {
-    for (index, (asked, places, told)) in ROWS.iter().enumerate() {
-        drop(ask(inner, *asked));
+    for (index, (call, places, told)) in ROWS.iter().enumerate() {
+        drop(ask(alloc, inner, call)?);
         assert!(rt; waits(inner, alloc, places, *told)?, "row {index}");
     }
     let left = inner.snapshot(alloc)?;

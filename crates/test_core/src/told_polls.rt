@@ -1,58 +1,55 @@
 //! Polls of listeners that are told: how many of them follow, and that each listener waits then.
-use crate::asked::{Asked, Channel, ask};
-use bcast_core::{Inner, Kind, Reply, SendPoll, Snapshot};
+use crate::calls::{Channel, ask};
+use bcast_core::{Call, Inner, Kind, Reply, SendPoll, Silent, Snapshot, step};
 use futures::task::Poll;
 use std::alloc::{AllocError, Global};
+use std::test::Fail;
 
 /// A name, the calls on a new channel of capacity 1 with the receivers 0, 1 and 2, how many
 /// listeners wait then, and how many polls of told ones follow, each of the first that is told.
-type Row = (&'static str, &'static [Asked], usize, usize);
+type Row = (&'static str, &'static [&'static str], usize, usize);
 
 const ROWS: &[Row] = &[
     (
         "a receive tells one of two sends",
         &[
-            Asked::DropReceiver(1),
-            Asked::DropReceiver(2),
-            Asked::TryBroadcast(1),
-            Asked::BeginSend,
-            Asked::BeginSend,
-            Asked::PollSend(0, 2),
-            Asked::PollSend(1, 3),
-            Asked::TryRecv(0),
+            "DropReceiver 1",
+            "DropReceiver 2",
+            "TryBroadcast 1",
+            "BeginSend",
+            "BeginSend",
+            "PollSend 0 2",
+            "PollSend 1 3",
+            "TryRecv 0",
         ],
         2,
         1,
     ),
     (
         "a message tells a stream",
-        &[Asked::PollRecv(0), Asked::TryBroadcast(1)],
+        &["PollRecv 0", "TryBroadcast 1"],
         1,
         1,
     ),
     (
         "a message tells both listeners of a receiver",
-        &[
-            Asked::PollFuture(0),
-            Asked::PollRecv(0),
-            Asked::TryBroadcast(1),
-        ],
+        &["PollFuture 0", "PollRecv 0", "TryBroadcast 1"],
         2,
         2,
     ),
     (
         "a send that is told tells two streams",
         &[
-            Asked::TryBroadcast(1),
-            Asked::TryRecv(0),
-            Asked::TryRecv(1),
-            Asked::PollRecv(0),
-            Asked::PollRecv(1),
-            Asked::BeginSend,
-            Asked::BeginSend,
-            Asked::PollSend(0, 2),
-            Asked::PollSend(1, 3),
-            Asked::TryRecv(2),
+            "TryBroadcast 1",
+            "TryRecv 0",
+            "TryRecv 1",
+            "PollRecv 0",
+            "PollRecv 1",
+            "BeginSend",
+            "BeginSend",
+            "PollSend 0 2",
+            "PollSend 1 3",
+            "TryRecv 2",
         ],
         4,
         3,
@@ -60,47 +57,48 @@ const ROWS: &[Row] = &[
     (
         "a closed channel tells all",
         &[
-            Asked::TryBroadcast(1),
-            Asked::TryRecv(0),
-            Asked::TryRecv(1),
-            Asked::PollRecv(0),
-            Asked::PollFuture(1),
-            Asked::BeginSend,
-            Asked::PollSend(0, 2),
-            Asked::Close,
+            "TryBroadcast 1",
+            "TryRecv 0",
+            "TryRecv 1",
+            "PollRecv 0",
+            "PollFuture 1",
+            "BeginSend",
+            "PollSend 0 2",
+            "Close",
         ],
         3,
         3,
     ),
-    (
-        "nobody is told",
-        &[Asked::PollRecv(0), Asked::PollFuture(1)],
-        2,
-        0,
-    ),
+    ("nobody is told", &["PollRecv 0", "PollFuture 1"], 2, 0),
 ];
 
-/// The poll of a pending send.
-fn send_poll(place: &usize) -> Asked {
-    Asked::PollSend(*place, 7)
+/// A listener that waits: a send by its place, or one of a receiver by its key.
+#[derive(Clone, Copy)]
+enum Listener {
+    Send(usize),
+    Receive(usize, Kind),
 }
 
-/// The poll of a receiver's listener.
-fn receive_poll(pair: &(usize, Kind)) -> Asked {
-    match *pair {
-        (key, Kind::Stream) => Asked::PollRecv(key),
-        (key, Kind::Future) => Asked::PollFuture(key),
+/// Polls a listener.
+fn poll(inner: &mut Channel, listener: Listener) -> Reply<u64> {
+    match listener {
+        Listener::Send(place) => step(inner, Call::PollSend(place, 7), Silent),
+        Listener::Receive(key, Kind::Stream) => step(inner, Call::PollRecv(key), Silent),
+        Listener::Receive(key, Kind::Future) => step(inner, Call::PollFuture(key), Silent),
     }
 }
 
-/// The poll of the first listener that is told: of a send, if one is.
-fn first_told(seen: &Snapshot<u64>) -> Option<Asked> {
+/// The first listener that is told: a send, if one is.
+fn first_told(seen: &Snapshot<u64>) -> Option<Listener> {
     let (sends, receives) = (&seen.waiting_sends, &seen.waiting_receives);
     if sends.told > 0 {
-        return sends.ids.first().map(|place| send_poll(place));
+        return sends.ids.first().map(|place| Listener::Send(*place));
     }
     if receives.told > 0 {
-        return receives.ids.first().map(|pair| receive_poll(pair));
+        return receives
+            .ids
+            .first()
+            .map(|pair| Listener::Receive(pair.0, pair.1));
     }
     None
 }
@@ -124,10 +122,10 @@ fn must_wait(reply: &Reply<u64>) -> bool {
 fn is_quiet(inner: &mut Channel, seen: &Snapshot<u64>) -> bool {
     let mut is_quiet = true;
     for place in &seen.waiting_sends.ids {
-        is_quiet &= must_wait(&ask(inner, send_poll(place)));
+        is_quiet &= must_wait(&poll(inner, Listener::Send(*place)));
     }
-    for pair in &seen.waiting_receives.ids {
-        is_quiet &= must_wait(&ask(inner, receive_poll(pair)));
+    for (key, kind) in &seen.waiting_receives.ids {
+        is_quiet &= must_wait(&poll(inner, Listener::Receive(*key, *kind)));
     }
     is_quiet
 }
@@ -136,7 +134,7 @@ fn is_quiet(inner: &mut Channel, seen: &Snapshot<u64>) -> bool {
 fn told_polls(alloc: Global, inner: &mut Channel, most: usize) -> Result<usize, AllocError> {
     for count in 0..most {
         match first_told(&inner.snapshot(alloc)?) {
-            Some(poll) => drop(ask(inner, poll)),
+            Some(listener) => drop(poll(inner, listener)),
             None => return Ok(count),
         }
     }
@@ -145,10 +143,10 @@ fn told_polls(alloc: Global, inner: &mut Channel, most: usize) -> Result<usize, 
 
 /// Whether this many listeners wait after the calls, this many polls of told ones follow, and then
 /// each poll of a listener waits.
-fn holds(alloc: Global, inner: &mut Channel, row: &Row) -> Result<bool, AllocError> {
+fn holds(alloc: Global, inner: &mut Channel, row: &Row) -> Result<bool, Fail> {
     let (_, calls, count, told) = row;
-    for asked in *calls {
-        drop(ask(inner, *asked));
+    for call in *calls {
+        drop(ask(alloc, inner, call)?);
     }
     let found = listeners(&inner.snapshot(alloc)?);
     let polled = told_polls(alloc, inner, 20)?;
@@ -167,7 +165,7 @@ fn three_receivers(alloc: Global) -> Result<Channel, AllocError> {
 }
 
 #[test]
-fn polls_of_told_listeners_come_to_rest(rt: HostRuntime) -> Result<(), AllocError> {
+fn polls_of_told_listeners_come_to_rest(rt: HostRuntime) -> Result<(), Fail> {
     for row in ROWS {
         let mut inner = three_receivers(rt.alloc())?;
         assert!(rt; holds(rt.alloc(), &mut inner, row)?, "{}", row.0);

@@ -1,12 +1,11 @@
 //! Batches that one receiver takes, beside another one that receives one by one.
-use crate::channels::{Borrows, Host, Lent, Play, on_a_channel};
+use crate::channels::{Borrows, Host, Lent, Play, TestResult, on_a_channel};
 use crate::short_of_memory::slots::SlotPort;
 use async_broadcast::{Lock, Port, PortFor, Receiver, RecvError, Sender, TryRecvError};
 use bcast_core::Inner;
 use futures::task::Poll;
 use futures::test::MockTask;
 use std::alloc::{AllocError, Global};
-use std::test::Fail;
 
 /// What a receiver of batches is given.
 type Given = Result<&'static [u64], TryRecvError>;
@@ -71,7 +70,7 @@ fn gives_each<P: Port<u64>>(
     }
 }
 
-pub fn plays<P: Port<u64>>(rt: &impl Host, (sender, batches): Lent<'_, P>) -> Result<(), Fail> {
+pub fn plays<P: Port<u64>>(rt: &impl Host, (sender, batches): Lent<'_, P>) -> TestResult {
     let mut singles = batches.clone().ok().ok_or("no handle")?;
     sender.set_overflow(true);
     for (name, sent, closes, limit, wanted) in ROWS {
@@ -88,7 +87,7 @@ pub fn plays<P: Port<u64>>(rt: &impl Host, (sender, batches): Lent<'_, P>) -> Re
 }
 
 #[test]
-fn batches_give_what_single_receives_give(rt: HostRuntime) -> Result<(), Fail> {
+fn batches_give_what_single_receives_give(rt: HostRuntime) -> TestResult {
     on_a_channel(&rt, 3, Play::Borrows(Borrows::Batches))
 }
 
@@ -97,7 +96,7 @@ fn gives_one_a_call<P: Port<u64>>(
     rt: &impl Host,
     sender: &Sender<u64, P>,
     receiver: &mut Receiver<u64, P>,
-) -> Result<(), Fail> {
+) -> TestResult {
     for msg in [7, 8, 9] {
         assert!(rt; sender.try_broadcast(msg).is_ok());
     }
@@ -112,7 +111,7 @@ fn gives_one_a_call<P: Port<u64>>(
 }
 
 /// Makes handles over a port that can't make several calls at once. `port` is that of a new channel.
-fn plays_one_by_one<P: Port<u64>>(rt: &impl Host, port: P, key: usize) -> Result<(), Fail> {
+fn plays_one_by_one<P: Port<u64>>(rt: &impl Host, port: P, key: usize) -> TestResult {
     let alloc = rt.alloc();
     let port = SlotPort { port, alloc };
     let other = port.try_clone().ok_or("no memory")?;
@@ -122,49 +121,47 @@ fn plays_one_by_one<P: Port<u64>>(rt: &impl Host, port: P, key: usize) -> Result
 }
 
 #[test]
-fn a_port_without_batches_gives_one_a_call(rt: HostRuntime) -> Result<(), Fail> {
+fn a_port_without_batches_gives_one_a_call(rt: HostRuntime) -> TestResult {
     let (inner, key) = Inner::new(rt.alloc(), 3)?;
     let port = Lock::new(&rt, rt.alloc(), inner)?;
     plays_one_by_one(&rt, port, key)
 }
 
-/// Polls for a batch in a task.
+/// What a poll for a batch gives in a task. None: it must wait, or there is no memory.
 fn polled<P: Port<u64>>(
     task: &MockTask,
     receiver: &mut Receiver<u64, P>,
     limit: usize,
     msgs: &mut Vec<u64>,
-) -> Result<Poll<Option<Result<usize, RecvError>>>, AllocError> {
-    task.enter(|cx| receiver.poll_recv_many(cx, limit, msgs))
+) -> Option<Option<Result<usize, RecvError>>> {
+    match task.enter(|cx| receiver.poll_recv_many(cx, limit, msgs)) {
+        Ok(Poll::Ready(given)) => Some(given),
+        _ => None,
+    }
 }
 
 /// Polls for batches until the channel, of capacity 3, is closed and empty.
 pub fn polls_to_the_end<P: Port<u64>>(
     rt: &impl Host,
     (sender, receiver): Lent<'_, P>,
-) -> Result<(), Fail> {
+) -> TestResult {
     sender.set_overflow(true);
     let task = MockTask::new(&rt)?;
     let mut msgs = Vec::new(rt.alloc());
-    let none = polled(&task, receiver, 0, &mut msgs);
-    assert!(rt; matches!(none, Ok(Poll::Ready(Some(Ok(0))))));
+    assert!(rt; polled(&task, receiver, 0, &mut msgs) == Some(Some(Ok(0))));
     for msg in 1..5 {
         assert!(rt; sender.try_broadcast(msg).is_ok());
     }
-    let missed = polled(&task, receiver, 2, &mut msgs);
-    assert!(rt; matches!(missed, Ok(Poll::Ready(Some(Err(RecvError::Overflowed(1)))))));
-    let two = polled(&task, receiver, 2, &mut msgs);
-    assert!(rt; matches!(two, Ok(Poll::Ready(Some(Ok(2))))));
+    assert!(rt; polled(&task, receiver, 2, &mut msgs) == Some(Some(Err(RecvError::Overflowed(1)))));
+    assert!(rt; polled(&task, receiver, 2, &mut msgs) == Some(Some(Ok(2))));
     assert!(rt; sender.close());
-    let last = polled(&task, receiver, 2, &mut msgs);
-    assert!(rt; matches!(last, Ok(Poll::Ready(Some(Ok(1))))));
-    let end = polled(&task, receiver, 2, &mut msgs);
-    assert!(rt; matches!(end, Ok(Poll::Ready(None))));
+    assert!(rt; polled(&task, receiver, 2, &mut msgs) == Some(Some(Ok(1))));
+    assert!(rt; polled(&task, receiver, 2, &mut msgs) == Some(None));
     assert!(rt; msgs.as_slice() == [2, 3, 4].as_slice());
     Ok(())
 }
 
 #[test]
-fn a_task_polls_for_batches(rt: HostRuntime) -> Result<(), Fail> {
+fn a_task_polls_for_batches(rt: HostRuntime) -> TestResult {
     on_a_channel(&rt, 3, Play::Borrows(Borrows::PolledBatches))
 }

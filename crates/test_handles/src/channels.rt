@@ -2,12 +2,11 @@
 //! that its proof names no lock.
 ghost use Rattle.std.specs.Prelude.{◌<◌};
 
-use crate::batches;
-use crate::counterparts::{polled, steps};
 use crate::examples::{
-    Receives, Sends, batch, broadcast_and_errors, in_tasks, play_receives, play_sends, receiver,
-    sender, sender_settings, timed,
+    Owns, batch, broadcast_and_errors, in_tasks, play_owning, receiver, sender, sender_settings,
+    timed,
 };
+use crate::{batches, counterparts};
 use async_broadcast::{Port, Receiver, Sender, TimedPort, broadcast};
 use std::alloc::AllocGlobal;
 use std::process::Abort;
@@ -21,6 +20,9 @@ pub trait Host: Abort + Wait + Clock + RandomSource + AllocGlobal {}
 
 impl<R: Abort + Wait + Clock + RandomSource + AllocGlobal> Host for R {}
 
+/// What tests return, and functions that they call.
+pub type TestResult<T = ()> = Result<T, Fail>;
+
 /// The handles of a channel.
 pub type Pair<P> = (Sender<u64, P>, Receiver<u64, P>);
 
@@ -31,9 +33,7 @@ pub type Lent<'a, P> = (&'a mut Sender<u64, P>, &'a mut Receiver<u64, P>);
 #[derive(Clone, Copy)]
 pub enum Play {
     Borrows(Borrows),
-    Sends(Sends),
-    Receives(Receives),
-    Rows(steps::Rows),
+    Owns(Owns),
     PollRecv,
     SendInTime,
     ReceiveInTime,
@@ -63,48 +63,41 @@ pub enum Borrows {
 }
 
 /// Does this on a new channel that keeps at most `capacity` messages.
-pub fn on_a_channel<R: Host>(rt: &R, capacity: usize, play: Play) -> Result<(), Fail>
+pub fn on_a_channel<R: Host>(rt: &R, capacity: usize, play: Play) -> TestResult
     requires { 0 < capacity }
 {
     play_on(rt, play, broadcast(rt, rt.alloc(), capacity)?)
 }
 
-fn play_on<R: Host, P: TimedPort<u64>>(rt: &R, play: Play, mut pair: Pair<P>) -> Result<(), Fail> {
+fn play_on<R: Host, P: TimedPort<u64>>(rt: &R, play: Play, mut pair: Pair<P>) -> TestResult {
     match play {
         Play::Borrows(play) => play_borrowing(rt, play, (&mut pair.0, &mut pair.1)),
-        Play::Sends(example) => play_sends(rt, example, pair),
-        Play::Receives(example) => play_receives(rt, example, pair),
-        Play::Rows(rows) => steps::plays(rt, pair, rows),
-        Play::PollRecv => polled::plays(rt, pair),
+        Play::Owns(example) => play_owning(rt, example, pair),
+        Play::PollRecv => counterparts::plays(rt, pair),
         Play::SendInTime => timed::sends(rt, pair),
         Play::ReceiveInTime => timed::receives(rt, pair),
         Play::ReceiveManyInTime => timed::receives_many(rt, pair),
     }
 }
 
-fn play_borrowing<R: Host, P: Port<u64>>(
-    rt: &R,
-    play: Borrows,
-    lent: Lent<'_, P>,
-) -> Result<(), Fail> {
+fn play_borrowing<R: Host, P: Port<u64>>(rt: &R, play: Borrows, lent: Lent<'_, P>) -> TestResult {
     match play {
-        Borrows::Errors => broadcast_and_errors::refuses(rt, lent)?,
-        Borrows::BoxedSend => in_tasks::sends_in_a_box(rt, lent)?,
-        Borrows::BoxedReceive => in_tasks::receives_in_a_box(rt, lent)?,
-        Borrows::PollRecv => in_tasks::polls(rt, lent)?,
-        Borrows::ReceiverClone => receiver::clones(rt, lent)?,
-        Borrows::ReceiverNewReceiver => receiver::adds_a_receiver(rt, lent)?,
-        Borrows::TryIter => receiver::loops_over_what_is_there(rt, lent)?,
-        Borrows::TryBroadcastAll => sender::sends_a_list(rt, lent)?,
-        Borrows::SenderNewReceiver => sender::adds_a_receiver(rt, lent)?,
+        Borrows::Errors => broadcast_and_errors::refuses(rt, lent),
+        Borrows::BoxedSend => in_tasks::sends_in_a_box(rt, lent),
+        Borrows::BoxedReceive => in_tasks::receives_in_a_box(rt, lent),
+        Borrows::PollRecv => in_tasks::polls(rt, lent),
+        Borrows::ReceiverClone => receiver::clones(rt, lent),
+        Borrows::ReceiverNewReceiver => receiver::adds_a_receiver(rt, lent),
+        Borrows::TryIter => receiver::loops_over_what_is_there(rt, lent),
+        Borrows::TryBroadcastAll => sender::sends_a_list(rt, lent),
+        Borrows::SenderNewReceiver => sender::adds_a_receiver(rt, lent),
         Borrows::Modes => sender_settings::changes_modes(rt, lent.0),
         Borrows::IsClosed => sender_settings::sees_the_end(rt, lent),
-        Borrows::SetCapacity => sender_settings::shrinks(rt, lent)?,
+        Borrows::SetCapacity => sender_settings::shrinks(rt, lent),
         Borrows::SetOverflow => sender_settings::overflows(rt, lent),
-        Borrows::TryRecvMany => batch::tries(rt, lent)?,
-        Borrows::PollRecvMany => batch::polls(rt, lent)?,
-        Borrows::Batches => batches::plays(rt, lent)?,
-        Borrows::PolledBatches => batches::polls_to_the_end(rt, lent)?,
+        Borrows::TryRecvMany => batch::tries(rt, lent),
+        Borrows::PollRecvMany => batch::polls(rt, lent),
+        Borrows::Batches => batches::plays(rt, lent),
+        Borrows::PolledBatches => batches::polls_to_the_end(rt, lent),
     }
-    Ok(())
 }

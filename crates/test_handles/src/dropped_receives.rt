@@ -1,10 +1,9 @@
 //! Two receives that wait in tasks, one of which is dropped.
-use crate::channels::Host;
+use crate::channels::{Host, TestResult};
 use async_broadcast::{Kind, LockReceiver, LockSender, Port, Recv, Sender, Snapshot, broadcast};
 use futures::task::Poll;
 use futures::test::MockTask;
 use std::sync::Wait;
-use std::test::Fail;
 
 /// The listeners that wait for a message, none of which is told: each by its receiver's key.
 fn waiting(seen: &Snapshot<u64>) -> &[(usize, Kind)] {
@@ -37,7 +36,7 @@ fn drops_one<W: Wait + Clone>(
     sender: &LockSender<u64, W>,
     leaving: &mut LockReceiver<u64, W>,
     staying: &mut LockReceiver<u64, W>,
-) -> Result<(), Fail> {
+) -> TestResult {
     let (left, stayed) = (MockTask::new(rt)?, MockTask::new(rt)?);
     let mut dropped = leaving.recv_direct();
     let mut kept = staying.recv_direct();
@@ -57,7 +56,7 @@ fn drops_one<W: Wait + Clone>(
 }
 
 #[test]
-fn a_dropped_receive_leaves_the_other(rt: HostRuntime) -> Result<(), Fail> {
+fn a_dropped_receive_leaves_the_other(rt: HostRuntime) -> TestResult {
     let (sender, mut one) = broadcast(&rt, rt.alloc(), 1)?;
     let mut two = one.clone()?;
     drops_one(&rt, &sender, &mut one, &mut two)?;

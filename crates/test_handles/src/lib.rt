@@ -1,5 +1,5 @@
-//! Tests of `async_broadcast`: the examples of its documentation, the original's own tests, tasks
-//! that wait, batches, handles short of memory, and what handles see of their channel.
+//! Tests of `async_broadcast`: the examples of its documentation, two of the original's own tests,
+//! tasks that wait, batches, handles short of memory, and what handles see of their channel.
 //!
 //! `examples` has those of the documentation: the first line of each file names its source. Tests
 //! of `counterparts` have the names of the original's.

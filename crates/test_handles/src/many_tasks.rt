@@ -1,11 +1,11 @@
 //! Many tasks in one thread: senders that wait, and receivers as streams.
+use crate::channels::TestResult;
 use async_broadcast::{Port, Receiver, Sender, broadcast};
 use futures::executor::{LocalPool, LocalSpawner};
 use std::alloc::{AllocError, AllocGlobal};
 use std::process::Abort;
 use std::random::RandomSource;
 use std::sync::{Mutex, Wait};
-use std::test::Fail;
 use tasks::{Counts, Task};
 
 mod tasks;
@@ -33,7 +33,7 @@ const MOST_SEND_POLLS: u64 = MESSAGES + SENDERS * FILLS;
 
 // All receivers see the same order, and few polls find nothing to do.
 #[test]
-fn many_receivers_get_one_order(rt: HostRuntime) -> Result<(), Fail> {
+fn many_receivers_get_one_order(rt: HostRuntime) -> TestResult {
     let (sender, receiver) = broadcast(rt, rt.alloc(), CAPACITY)?;
     let counts = Counts::new(SENDERS);
     let lists = Mutex::new(Vec::new(rt.alloc()));
@@ -52,7 +52,7 @@ fn run_all<'a, R, P>(
     receiver: Receiver<u64, P>,
     counts: &'a Counts,
     lists: &'a Mutex<Vec<Vec<u64>>>,
-) -> Result<(), Fail>
+) -> TestResult
 where
     R: Wait + RandomSource + AllocGlobal + Copy + Drop,
     P: Port<u64> + 'static,
@@ -71,7 +71,7 @@ fn start_all<'a, R: Wait + AllocGlobal + Copy + Drop, P: Port<u64>>(
     receiver: Receiver<u64, P>,
     counts: &'a Counts,
     lists: &'a Mutex<Vec<Vec<u64>>>,
-) -> Result<(), Fail> {
+) -> TestResult {
     for _ in 0..RECEIVERS {
         let clone = receiver.clone()?;
         let task = Task::receiving(rt, rt.alloc(), clone, counts, lists);

@@ -1,5 +1,5 @@
 //! Handles of a channel whose heap is full: what is refused is handed back, and nothing is lost.
-use crate::channels::Host;
+use crate::channels::{Host, TestResult};
 use async_broadcast::{Lock, NoMemory, Port, PortFor, Receiver, Send, Sender, Snapshot, broadcast};
 use bcast_core::Inner;
 use futures::StreamExt;
@@ -8,7 +8,6 @@ use futures::test::MockTask;
 use linked_list_allocator::LocalHeap;
 use slots::SlotPort;
 use std::alloc::{AllocError, Allocator, Global};
-use std::test::Fail;
 
 pub mod slots;
 
@@ -55,13 +54,13 @@ fn fill<'a>(alloc: Global, heap: &'a LocalHeap) -> Result<Vec<Block<'a>>, AllocE
 // A stream whose message can't be cloned returns an error, and gives the message when there is
 // memory. The other receiver gets it too: it is the last to read it, so it needs no memory.
 #[test]
-fn a_stream_goes_on_after_a_refused_clone(rt: HostRuntime) -> Result<(), Fail> {
+fn a_stream_goes_on_after_a_refused_clone(rt: HostRuntime) -> TestResult {
     let heap = LocalHeap::new(rt.alloc(), HEAP)?;
     goes_on(&rt, &heap, Heavy::new(&heap)?, &Heavy::new(&heap)?)
 }
 
 // The message's type is a parameter, so that the handles' types name no heap.
-fn goes_on<T>(rt: &impl Host, heap: &LocalHeap, msg: T, wanted: &T) -> Result<(), Fail>
+fn goes_on<T>(rt: &impl Host, heap: &LocalHeap, msg: T, wanted: &T) -> TestResult
 where
     T: Clone + PartialEq,
 {
@@ -76,7 +75,7 @@ fn gives_the_message_later<T: Clone + PartialEq, A: Allocator + Copy, P: Port<T>
     heap: &LocalHeap,
     (one, two): (&mut Receiver<T, P, A>, &mut Receiver<T, P, A>),
     msg: &T,
-) -> Result<(), Fail> {
+) -> TestResult {
     let task = MockTask::new(rt)?;
     let taken = fill(rt.alloc(), heap)?;
     let refused = task.poll(&mut one.next());
@@ -103,7 +102,7 @@ fn gives<T: Clone + PartialEq>(polled: &Poll<Option<Result<T, AllocError>>>, msg
 
 // A send for whose box there is no memory hands its message back, and its place is free again.
 #[test]
-fn a_send_without_a_box_frees_its_place(rt: HostRuntime) -> Result<(), Fail> {
+fn a_send_without_a_box_frees_its_place(rt: HostRuntime) -> TestResult {
     let heap = LocalHeap::new(rt.alloc(), HEAP)?;
     let (sender, _receiver) = broadcast(&rt, &heap, 1)?;
     hands_back_without_a_box(&rt, &heap, &sender)?;
@@ -117,7 +116,7 @@ fn hands_back_without_a_box<A: Allocator + Copy, P: Port<u64>>(
     rt: &impl Host,
     heap: &LocalHeap,
     sender: &Sender<u64, P, A>,
-) -> Result<(), Fail> {
+) -> TestResult {
     // The channel keeps the memory of a place, so that only the box is refused.
     drop(sender.broadcast_direct(1)?);
     let _taken = fill(rt.alloc(), heap)?;
@@ -135,7 +134,7 @@ fn expect_places(rt: &impl Host, seen: &Snapshot<u64, &LocalHeap>, places: &[usi
 // A send for whose notice there is no memory hands its message back and is pending from then on,
 // and its drop frees its place.
 #[test]
-fn a_send_without_a_notice_keeps_its_place(rt: HostRuntime) -> Result<(), Fail> {
+fn a_send_without_a_notice_keeps_its_place(rt: HostRuntime) -> TestResult {
     let heap = LocalHeap::new(rt.alloc(), HEAP)?;
     let (inner, key) = Inner::new(&heap, 1)?;
     let lock = Lock::new(&rt, &heap, inner)?;
@@ -159,7 +158,7 @@ fn hands_back_without_a_notice<A: Allocator + Copy, P: Port<u64>>(
     rt: &impl Host,
     heap: &LocalHeap,
     send: &mut Send<'_, u64, P, A>,
-) -> Result<(), Fail> {
+) -> TestResult {
     let task = MockTask::new(rt)?;
     let _taken = fill(rt.alloc(), heap)?;
     assert!(rt;
@@ -173,7 +172,7 @@ fn hands_back_without_a_notice<A: Allocator + Copy, P: Port<u64>>(
 fn is_pending<A: Allocator + Copy, P: Port<u64>>(
     rt: &impl Host,
     send: &mut Send<'_, u64, P, A>,
-) -> Result<bool, Fail> {
+) -> TestResult<bool> {
     let task = MockTask::new(rt)?;
     Ok(matches!(task.poll(send), Poll::Pending))
 }

@@ -1,11 +1,11 @@
 //! What each handle sees of its channel.
+use crate::channels::TestResult;
 use async_broadcast::{Handle, Lock, Role, Snapshot, broadcast};
 use futures::task::Poll;
 use futures::test::MockTask;
 use std::alloc::{AllocError, Allocator};
 use std::process::Abort;
 use std::sync::Wait;
-use std::test::Fail;
 
 /// A handle that sees its channel. Functions with this bound name no lock.
 pub trait Sees<A: Allocator> {
@@ -41,7 +41,7 @@ fn expect_seen(rt: &impl Abort, seen: &Snapshot<u64>) {
 }
 
 #[test]
-fn all_handles_see_one_channel(rt: HostRuntime) -> Result<(), Fail> {
+fn all_handles_see_one_channel(rt: HostRuntime) -> TestResult {
     let (sender, mut receiver) = broadcast(&rt, rt.alloc(), 3)?;
     let other = receiver.clone().ok().ok_or("no handle")?;
     let inactive = other.deactivate().ok().ok_or("no handle")?;
@@ -56,7 +56,7 @@ fn all_handles_see_one_channel(rt: HostRuntime) -> Result<(), Fail> {
 }
 
 #[test]
-fn a_stuck_channel_is_printed(rt: HostRuntime) -> Result<(), Fail> {
+fn a_stuck_channel_is_printed(rt: HostRuntime) -> TestResult {
     let (sender, mut reads) = broadcast(&rt, rt.alloc(), 2)?;
     let sleeps = reads.clone().ok().ok_or("no handle")?;
     for msg in [7, 8] {

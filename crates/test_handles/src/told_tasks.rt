@@ -1,5 +1,5 @@
 //! Tasks that all wait for one channel: how many polls follow after a call tells some of them.
-use crate::channels::Host;
+use crate::channels::{Host, TestResult};
 use crate::snapshots::Sees;
 use async_broadcast::{Port, Receiver, Send, Sender, Snapshot, broadcast};
 use futures::executor::{LocalPool, LocalSpawner};
@@ -138,7 +138,7 @@ fn add_tasks<'a, P: Port<u64>>(
     sender: &'a Sender<u64, P>,
     reader: &Receiver<u64, P>,
     polls: &'a AtomicU64,
-) -> Result<(), Fail> {
+) -> TestResult {
     for _ in 0..streams {
         let receiver = reader.new_receiver().ok().ok_or("no receiver")?;
         let task = Listener::new(Awaited::Message(receiver), polls);
@@ -157,7 +157,7 @@ fn make_all<P: Port<u64>>(
     asks: &[Ask],
     sender: &Sender<u64, P>,
     reader: &mut Receiver<u64, P>,
-) -> Result<(), Fail> {
+) -> TestResult {
     for ask in asks {
         if !is_made(*ask, sender, reader) {
             return Err(Fail::from("a call is refused"));
@@ -175,7 +175,7 @@ fn waiting(seen: &Snapshot<u64>) -> (u64, u64) {
 }
 
 /// Plays a row on a channel of its own.
-fn play(rt: &impl Host, row: &Row) -> Result<Seen, Fail> {
+fn play(rt: &impl Host, row: &Row) -> TestResult<Seen> {
     let (sender, mut reader) = broadcast(rt, rt.alloc(), 1)?;
     play_on(rt, &sender, &mut reader, row)
 }
@@ -186,7 +186,7 @@ fn play_on<P: Port<u64>>(
     sender: &Sender<u64, P>,
     reader: &mut Receiver<u64, P>,
     (_, streams, sends, asks, _): &Row,
-) -> Result<Seen, Fail>
+) -> TestResult<Seen>
 where
     Sender<u64, P>: Sees<Global>,
 {
@@ -214,7 +214,7 @@ fn is_woken_by_drops<P: Port<u64>>(
     rt: &impl Host,
     receiver: &mut Receiver<u64, P>,
     receives: u64,
-) -> Result<bool, Fail> {
+) -> TestResult<bool> {
     let task = MockTask::new(rt)?;
     for _ in 0..receives {
         let mut receive = receiver.recv_direct();
@@ -230,7 +230,7 @@ fn is_woken_by_drops<P: Port<u64>>(
 // that told polls end: at most n (n + 1) / 2, if n listeners wait. The test doesn't look at whether
 // a woken task was told: one that wasn't would be a poll too many for its row.
 #[test]
-fn told_tasks_come_to_rest(rt: HostRuntime) -> Result<(), Fail> {
+fn told_tasks_come_to_rest(rt: HostRuntime) -> TestResult {
     for row in ROWS {
         let (name, streams, sends, _, polls) = *row;
         let seen = play(&rt, row)?;
@@ -246,7 +246,7 @@ fn told_tasks_come_to_rest(rt: HostRuntime) -> Result<(), Fail> {
 
 // Dropped receives wake no task.
 #[test]
-fn dropped_receives_wake_no_task(rt: HostRuntime) -> Result<(), Fail> {
+fn dropped_receives_wake_no_task(rt: HostRuntime) -> TestResult {
     for receives in [1, 2, 3] {
         let (_sender, mut receiver) = broadcast(&rt, rt.alloc(), 1)?;
         let is_woken = is_woken_by_drops(&rt, &mut receiver, receives)?;

@@ -1,4 +1,5 @@
-//! Which notices are called, how often and in which order, and what holds after refused memory.
+//! Which notices are called, how often and in which order, who waits then, and what holds after
+//! refused memory.
 use bcast_model::listener::Kind;
 use bcast_waiting::event::Event;
 use bcast_waiting::notice::{MakesNotice, Notice, OwnedNotice, Silent};
@@ -41,6 +42,8 @@ enum Step {
     Called(u64),
     Told(usize),
     Len(usize),
+    // Those that wait, from the front, and how many of them are told.
+    Waiting(&'static [Id], usize),
 }
 
 const STREAM: Id = (0, Kind::Stream);
@@ -50,6 +53,12 @@ const FUTURE: Id = (0, Kind::Future);
 const FAR: Id = (9, Kind::Stream);
 
 const OTHER: Id = (1, Kind::Stream);
+
+const STREAM_OF_FIVE: Id = (5, Kind::Stream);
+
+const FUTURE_OF_FIVE: Id = (5, Kind::Future);
+
+const FUTURE_OF_SIX: Id = (6, Kind::Future);
 
 const FRONT_FIRST: &[Step] = &[
     Step::Wait(STREAM, 1),
@@ -122,15 +131,44 @@ const ANY_ORDER: &[Step] = &[
     Step::Len(2),
 ];
 
-// Lists a listener that must wait.
+const TWO_RECEIVERS: &[Step] = &[
+    Step::Wait(STREAM_OF_FIVE, 1),
+    Step::Waiting(&[STREAM_OF_FIVE], 0),
+    Step::Wait(FUTURE_OF_FIVE, 2),
+    Step::Waiting(&[STREAM_OF_FIVE, FUTURE_OF_FIVE], 0),
+    Step::TellAll,
+    Step::Waiting(&[STREAM_OF_FIVE, FUTURE_OF_FIVE], 2),
+    // The new one isn't told.
+    Step::Wait(FUTURE_OF_SIX, 3),
+    Step::Waiting(&[STREAM_OF_FIVE, FUTURE_OF_FIVE, FUTURE_OF_SIX], 2),
+    Step::Consume(STREAM_OF_FIVE, Some(true)),
+    Step::Waiting(&[FUTURE_OF_FIVE, FUTURE_OF_SIX], 1),
+    // It isn't listed.
+    Step::Abandon(STREAM_OF_FIVE, None),
+    Step::Waiting(&[FUTURE_OF_FIVE, FUTURE_OF_SIX], 1),
+    // The next is told.
+    Step::Abandon(FUTURE_OF_FIVE, Some(2)),
+    Step::Waiting(&[FUTURE_OF_SIX], 1),
+];
+
+const WAITS_AGAIN: &[Step] = &[
+    Step::Wait(STREAM, 1),
+    Step::Wait(FUTURE, 2),
+    Step::Wait(FAR, 3),
+    Step::Tell(1),
+    Step::Wait(STREAM, 4),
+    Step::Waiting(&[FUTURE, FAR, STREAM], 0),
+];
+
+// Lists a listener that must wait. The room that a receiver's future needs has room for its stream.
 fn wait<N: Notice, A: Allocator>(
     event: &mut Event<Id, N, A>,
-    id: Id,
+    (key, kind): Id,
     notice: N,
 ) -> Result<bool, AllocError> {
-    event.reserve_for(id)?;
-    let made = event.wait_again(id, &mut OwnedNotice::new(notice));
-    Ok(made.is_ok() && event.is_untold(id))
+    event.reserve_for((key, Kind::Future))?;
+    let made = event.wait_again((key, kind), &mut OwnedNotice::new(notice));
+    Ok(made.is_ok() && event.is_untold((key, kind)))
 }
 
 // Lists a listener by a maker whose notice is taken already. Returns whether it is refused.
@@ -153,6 +191,7 @@ fn abandon(event: &mut Event<Id, Noted<'_>>, id: Id, digit: Option<u64>) -> bool
 
 // Makes the call, and returns whether it returns what it must.
 fn is_right<'a>(
+    alloc: Global,
     event: &mut Event<Id, Noted<'a>>,
     told: &'a Cell<u64>,
     step: Step,
@@ -174,6 +213,9 @@ fn is_right<'a>(
         Step::Called(digits) => Ok(told.get() == digits),
         Step::Told(count) => Ok(event.told() == count),
         Step::Len(len) => Ok(event.len() == len),
+        Step::Waiting(ids, count) => {
+            Ok(event.ids(alloc)?.as_slice() == ids && event.told() == count)
+        }
     }
 }
 
@@ -182,7 +224,7 @@ fn first_wrong(alloc: Global, steps: &[Step]) -> Result<Option<usize>, AllocErro
     let told = Cell::new(0);
     let mut event = Event::new(alloc);
     for (index, step) in steps.iter().enumerate() {
-        if !is_right(&mut event, &told, *step)? {
+        if !is_right(alloc, &mut event, &told, *step)? {
             return Ok(Some(index));
         }
     }
@@ -196,28 +238,12 @@ fn notices_are_called_in_their_order(rt: HostRuntime) -> Result<(), Fail> {
         ("a told one that gives up tells the next", GIVES_UP),
         ("the last notice that was made is called", OTHER_NOTICES),
         ("listeners leave in any order", ANY_ORDER),
+        ("each receiver has two listeners", TWO_RECEIVERS),
+        ("who was told waits again last", WAITS_AGAIN),
     ];
     for (name, steps) in tables {
         assert_eq!(rt; first_wrong(rt.alloc(), steps)?, None, "{name}");
     }
-    Ok(())
-}
-
-// The ids from the front, after three that waited, one of which was told.
-fn ids_of_three(event: &mut Event<Id, Silent>, alloc: Global) -> Result<Vec<Id>, AllocError> {
-    wait(event, STREAM, Silent)?;
-    wait(event, FUTURE, Silent)?;
-    wait(event, FAR, Silent)?;
-    event.tell(1);
-    wait(event, STREAM, Silent)?;
-    event.ids(alloc)
-}
-
-#[test]
-fn who_was_told_waits_again_last(rt: HostRuntime) -> Result<(), Fail> {
-    let mut event = Event::new(rt.alloc());
-    let ids = ids_of_three(&mut event, rt.alloc())?;
-    assert!(rt; ids.as_slice() == [FUTURE, FAR, STREAM].as_slice());
     Ok(())
 }
 
@@ -239,5 +265,14 @@ fn a_refused_reserve_changes_nothing(rt: HostRuntime) -> Result<(), Fail> {
     assert!(rt; is_unchanged, "more than the heap has");
     let is_unchanged = stays(&heap, (usize::MAX, Kind::Future))?;
     assert!(rt; is_unchanged, "a number that doesn't fit");
+    Ok(())
+}
+
+#[test]
+fn keys_too_great_are_refused(rt: HostRuntime) -> Result<(), Fail> {
+    let rows = [("the greatest", usize::MAX), ("its future", usize::MAX / 2)];
+    for (name, key) in rows {
+        assert!(rt; stays(rt.alloc(), (key, Kind::Future))?, "{name}");
+    }
     Ok(())
 }

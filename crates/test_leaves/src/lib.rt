@@ -10,6 +10,4 @@ mod places;
 #[cfg(test)]
 mod queue;
 #[cfg(test)]
-mod receives;
-#[cfg(test)]
 mod store;

@@ -99,7 +99,7 @@ fn wakes_by_a_batch<R: Host + 'static, P: Port<u64> + Send + 'static>(
     send(&rt, &sender, 0, 2);
     let mut group = Group::new(rt.alloc())?;
     group.start(&rt, move || send(&rt, &sender, 2, 3))?;
-    group.wait_for_sleep(&rt, "it begins");
+    group.wait_for_sleep(&rt, "broadcast_blocking");
     let mut msgs = Vec::new(rt.alloc());
     assert!(&rt; receiver.try_recv_many(2, &mut msgs)? == Ok(2));
     group.join(&rt, "the message is sent");

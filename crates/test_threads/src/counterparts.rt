@@ -1,10 +1,12 @@
-//! Counterparts of those tests of async-broadcast that have threads.
+//! Counterparts of most of async-broadcast's tests, and of the example of its README.
 use crate::answers::{Answer, of_try_recv};
 use crate::hands::{Change, Hands, Script, Step};
 use crate::scripts::{Barriers, start};
 use crate::steps::{Ends, Group, Host};
 use async_broadcast::{TimedPort, broadcast};
 use std::test::Fail;
+
+mod one_thread;
 
 const PARALLEL_SENDS: Script = &[
     (Step::Change(Change::CloneSender), Answer::Done),

@@ -3,13 +3,15 @@ use crate::answers::{
     Answer, of_poll_future, of_poll_next, of_poll_recv, of_poll_send, of_recv, of_recv_timeout,
     of_send, of_send_timeout, of_try_recv, of_try_send,
 };
-use crate::steps::{Receiving, Sending};
+use crate::steps::{Host, Receiving, Sending};
 use async_broadcast::{InactiveReceiver, TimedPort};
 use futures::StreamExt;
+use futures::executor::block_on;
 use futures::task::Poll;
 use futures::test::MockTask;
 use std::alloc::{AllocError, Global};
 use std::process::Abort;
+use std::test::Fail;
 use std::time::Duration;
 
 /// What a thread does, with its sender or receiver of this number, or with its first one.
@@ -31,10 +33,22 @@ pub enum Step {
     ReceiveInTime,
     /// Whether the channel keeps so many messages.
     Keeps(usize),
+    Await(Awaited),
     Poll(Polled),
     Change(Change),
     /// Drops all senders and receivers of the thread.
     DropAll,
+}
+
+/// What is awaited in a task, by the sender or receiver of this number.
+#[derive(Clone, Copy)]
+pub enum Awaited {
+    /// `broadcast`.
+    Send(usize, u64),
+    /// `recv`.
+    Recv(usize),
+    /// The stream's next item.
+    Next(usize),
 }
 
 /// What is polled once in a task, by the first sender or receiver.
@@ -61,6 +75,8 @@ pub enum Polled {
 #[derive(Clone, Copy)]
 pub enum Change {
     Capacity(usize),
+    /// By the first receiver.
+    ReceiverCapacity(usize),
     Overflow,
     /// Sends don't wait for an active receiver any more.
     NoAwaiting,
@@ -141,10 +157,11 @@ impl<P: TimedPort<u64>> Hands<P> {
         Some(made)
     }
 
-    /// Does a step. None: there is no such handle, or no memory for one, or the step is `Meet`.
+    /// Does a step. None: there is no such handle, or no memory for one, or the step is `Meet` or
+    /// `Await`.
     pub fn make(&mut self, step: Step) -> Option<Answer> {
         Some(match step {
-            Step::Meet(_) => return None,
+            Step::Meet(_) | Step::Await(_) => return None,
             Step::TrySend(number, msg) => of_try_send(self.senders.get(number)?.try_broadcast(msg)),
             Step::TrySendBoth(one, other) => {
                 let both = vec![in self.alloc; one, other].ok()?;
@@ -178,6 +195,26 @@ impl<P: TimedPort<u64>> Hands<P> {
         }
     }
 
+    /// Awaits a send, a receive or an item.
+    pub fn finish<R: Host>(&mut self, rt: &R, awaited: Awaited) -> Result<Answer, Fail> {
+        Ok(match awaited {
+            Awaited::Send(number, msg) => {
+                let sender = self.senders.get(number).ok_or("no such sender")?;
+                let mut send = sender.broadcast(msg)?;
+                of_send(block_on(rt, &mut *send)??)
+            }
+            Awaited::Recv(number) => {
+                let receiver = self.receivers.get_mut(number).ok_or("no such receiver")?;
+                let mut receive = receiver.recv()?;
+                of_recv(block_on(rt, &mut *receive)?)
+            }
+            Awaited::Next(number) => {
+                let receiver = self.receivers.get_mut(number).ok_or("no such receiver")?;
+                of_poll_next(Poll::Ready(block_on(rt, receiver.next())?))
+            }
+        })
+    }
+
     fn poll(&mut self, polled: Polled) -> Option<Answer> {
         let task = self.task.as_ref()?;
         Some(match polled {
@@ -201,6 +238,9 @@ impl<P: TimedPort<u64>> Hands<P> {
     fn change(&mut self, change: Change) -> Option<Answer> {
         match change {
             Change::Capacity(cap) => self.senders.first_mut()?.set_capacity(cap.max(1)).ok()?,
+            Change::ReceiverCapacity(cap) => {
+                self.receivers.first_mut()?.set_capacity(cap.max(1)).ok()?
+            }
             Change::Overflow => self.senders.first_mut()?.set_overflow(true),
             Change::NoAwaiting => self.senders.first_mut()?.set_await_active(false),
             Change::Close => return Some(Answer::Is(self.senders.first()?.close())),

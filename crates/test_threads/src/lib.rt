@@ -1,5 +1,5 @@
 //! Tests of threads that wait for one another: which of them sleep in a call and what wakes them,
-//! calls with a limit, and counterparts of those tests of async-broadcast that have threads.
+//! calls with a limit, and counterparts of most of async-broadcast's own tests.
 #![tactic(auto)]
 
 #[cfg(test)]

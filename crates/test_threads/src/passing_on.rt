@@ -33,7 +33,7 @@ pub fn start<R: Host + 'static, P: TimedPort<u64> + Send + 'static>(
         let (own, key) = (port.try_clone().ok_or("no port")?, *key);
         let shared = Arc::try_clone(received)?;
         group.start(&rt, move || receive(own, key, limit, &shared))?;
-        group.wait_for_sleep(&rt, "it begins");
+        group.wait_for_sleep(&rt, "receive_waiting, or receive_within");
     }
     Ok(group)
 }
@@ -45,10 +45,7 @@ where
     R: Host + 'static,
     P: TimedPort<u64> + Send + 'static,
 {
-    let other = port
-        .ask(&mut (), AddReceiver::New)
-        .ok()
-        .ok_or("no receiver")?;
+    let other = port.ask(&mut (), AddReceiver::New)?;
     let received = Arc::new(rt.alloc(), AtomicU64::new(0))?;
     let group = start(rt, &port, &[key, key, other], None, &received)?;
     assert!(&rt; received.load(Ordering::SeqCst) == 0, "all wait");
@@ -80,10 +77,7 @@ where
     R: Host + 'static,
     P: TimedPort<u64> + Send + 'static,
 {
-    let late = port
-        .ask(&mut (), AddReceiver::New)
-        .ok()
-        .ok_or("no receiver")?;
+    let late = port.ask(&mut (), AddReceiver::New)?;
     assert!(&rt; matches!(port.ask(&mut (), TryBroadcast(1)), Ok(None)));
     let first: Result<Result<u64, TryRecvError>, AllocError> = port.ask(&mut (), TryRecv(key));
     assert!(&rt; first == Ok(Ok(1)));
@@ -91,7 +85,7 @@ where
     let mut group = start(rt, &port, &[key], None, &received)?;
     let own = port.try_clone().ok_or("no port")?;
     group.start(&rt, move || send(own))?;
-    group.wait_for_sleep(&rt, "both begin");
+    group.wait_for_sleep(&rt, "receive_waiting and send_waiting");
     let room: Result<Result<u64, TryRecvError>, AllocError> = port.ask(&mut (), TryRecv(late));
     assert!(&rt; room == Ok(Ok(1)));
     wait_for(&rt, &received, 1, "the receiver got the message");

@@ -90,7 +90,8 @@ impl Group {
         Ok(())
     }
 
-    /// Waits until all of them sleep in their work.
+    /// Waits until all of them sleep in their work. A failure prints the name, as of the call in
+    /// which they must sleep.
     pub fn wait_for_sleep(&self, rt: &impl Abort, name: &str) {
         let threads = self.threads.len() as u64;
         wait_for(rt, &self.counts.begun, threads, name);

@@ -1,4 +1,5 @@
 //! The text of each call, as it is read and as it is written.
+use bcast_core::Call::{SetCapacity, TryBroadcast, TryBroadcastAll};
 use bcast_core::{Call, Messages};
 use bcast_trace::call::{read_call, write_call};
 use bcast_trace::line::{Line, read_line};
@@ -19,22 +20,13 @@ pub fn messages(alloc: Global, msgs: &[u64]) -> Result<Messages<u64>, AllocError
 /// The row of this index: a text, and its call.
 fn row(alloc: Global, index: usize) -> Result<(&'static str, Call<u64>), AllocError> {
     Ok(match index {
-        0 => ("TryBroadcast 0", Call::TryBroadcast(0)),
-        1 => (
-            "TryBroadcast 18446744073709551615",
-            Call::TryBroadcast(u64::MAX),
-        ),
-        2 => (
-            "TryBroadcastAll",
-            Call::TryBroadcastAll(messages(alloc, &[])?),
-        ),
-        3 => (
-            "TryBroadcastAll 7",
-            Call::TryBroadcastAll(messages(alloc, &[7])?),
-        ),
+        0 => ("TryBroadcast 0", TryBroadcast(0)),
+        1 => ("TryBroadcast 18446744073709551615", TryBroadcast(u64::MAX)),
+        2 => ("TryBroadcastAll", TryBroadcastAll(messages(alloc, &[])?)),
+        3 => ("TryBroadcastAll 7", TryBroadcastAll(messages(alloc, &[7])?)),
         4 => (
             "TryBroadcastAll 10 0 18446744073709551615",
-            Call::TryBroadcastAll(messages(alloc, &[10, 0, u64::MAX])?),
+            TryBroadcastAll(messages(alloc, &[10, 0, u64::MAX])?),
         ),
         5 => ("AttemptSend 12", Call::AttemptSend(12)),
         6 => ("BeginSend", Call::BeginSend),
@@ -46,11 +38,8 @@ fn row(alloc: Global, index: usize) -> Result<(&'static str, Call<u64>), AllocEr
         12 => ("PollRecv 8", Call::PollRecv(8)),
         13 => ("PollNext 9", Call::PollNext(9)),
         14 => ("Close", Call::Close),
-        15 => ("SetCapacity 1", Call::SetCapacity(1)),
-        16 => (
-            "SetCapacity 18446744073709551615",
-            Call::SetCapacity(usize::MAX),
-        ),
+        15 => ("SetCapacity 1", SetCapacity(1)),
+        16 => ("SetCapacity 18446744073709551615", SetCapacity(usize::MAX)),
         17 => ("SetOverflow true", Call::SetOverflow(true)),
         18 => ("SetOverflow false", Call::SetOverflow(false)),
         19 => ("SetAwaitActive true", Call::SetAwaitActive(true)),

@@ -1,8 +1,7 @@
 //! The text of each reply, as it is written.
 use crate::calls::messages;
-use bcast_core::{HandleError, RecvError, Reply, SendError, SendPoll, TryRecvError, TrySendError};
+use bcast_core::{HandleError, RecvError, Reply, SendError, TryRecvError};
 use bcast_trace::reply::{write_answer, write_reply};
-use futures::task::Poll;
 use std::alloc::{AllocError, Global};
 use std::io;
 use std::process::Abort;
@@ -12,53 +11,38 @@ type Row = (&'static str, Reply<u64>);
 
 /// The replies of sends. None: there is no row of this index.
 fn sending_row(alloc: Global, index: usize) -> Result<Option<Row>, AllocError> {
+    use bcast_core::Reply::{AttemptSend, PollSend};
+    use bcast_core::SendPoll::{Ready, Wait};
+    use bcast_core::TrySendError::{Closed, Full, Inactive};
     Ok(Some(match index {
         0 => ("ok", Reply::TryBroadcast(Ok(None))),
         1 => ("ok dropped 1", Reply::TryBroadcast(Ok(Some(1)))),
-        2 => ("full 2", Reply::TryBroadcast(Err(TrySendError::Full(2)))),
-        3 => (
-            "closed 3",
-            Reply::TryBroadcast(Err(TrySendError::Closed(3))),
-        ),
-        4 => (
-            "inactive 4",
-            Reply::TryBroadcast(Err(TrySendError::Inactive(4))),
-        ),
+        2 => ("full 2", Reply::TryBroadcast(Err(Full(2)))),
+        3 => ("closed 3", Reply::TryBroadcast(Err(Closed(3)))),
+        4 => ("inactive 4", Reply::TryBroadcast(Err(Inactive(4)))),
         5 => ("ok", Reply::TryBroadcastAll(Ok(()))),
         6 => (
             "full 5 6",
-            Reply::TryBroadcastAll(Err(TrySendError::Full(messages(alloc, &[5, 6])?))),
+            Reply::TryBroadcastAll(Err(Full(messages(alloc, &[5, 6])?))),
         ),
         7 => (
             "closed 7 8 9",
-            Reply::TryBroadcastAll(Err(TrySendError::Closed(messages(alloc, &[7, 8, 9])?))),
+            Reply::TryBroadcastAll(Err(Closed(messages(alloc, &[7, 8, 9])?))),
         ),
         8 => (
             "inactive 10",
-            Reply::TryBroadcastAll(Err(TrySendError::Inactive(messages(alloc, &[10])?))),
+            Reply::TryBroadcastAll(Err(Inactive(messages(alloc, &[10])?))),
         ),
-        9 => ("ready ok", Reply::AttemptSend(SendPoll::Ready(Ok(None)))),
-        10 => (
-            "ready ok dropped 11",
-            Reply::AttemptSend(SendPoll::Ready(Ok(Some(11)))),
-        ),
-        11 => (
-            "ready senderror 12",
-            Reply::AttemptSend(SendPoll::Ready(Err(SendError(12)))),
-        ),
-        12 => ("wait 13", Reply::AttemptSend(SendPoll::Wait(13))),
+        9 => ("ready ok", AttemptSend(Ready(Ok(None)))),
+        10 => ("ready ok dropped 11", AttemptSend(Ready(Ok(Some(11))))),
+        11 => ("ready senderror 12", AttemptSend(Ready(Err(SendError(12))))),
+        12 => ("wait 13", AttemptSend(Wait(13))),
         13 => ("ok 14", Reply::BeginSend(Ok(14))),
         14 => ("no memory", Reply::BeginSend(Err(AllocError))),
-        15 => ("ready ok", Reply::PollSend(SendPoll::Ready(Ok(None)))),
-        16 => (
-            "ready ok dropped 15",
-            Reply::PollSend(SendPoll::Ready(Ok(Some(15)))),
-        ),
-        17 => (
-            "ready senderror 16",
-            Reply::PollSend(SendPoll::Ready(Err(SendError(16)))),
-        ),
-        18 => ("wait 17", Reply::PollSend(SendPoll::Wait(17))),
+        15 => ("ready ok", PollSend(Ready(Ok(None)))),
+        16 => ("ready ok dropped 15", PollSend(Ready(Ok(Some(15))))),
+        17 => ("ready senderror 16", PollSend(Ready(Err(SendError(16))))),
+        18 => ("wait 17", PollSend(Wait(17))),
         19 => ("-", Reply::EndSend),
         _ => return Ok(None),
     }))
@@ -66,6 +50,9 @@ fn sending_row(alloc: Global, index: usize) -> Result<Option<Row>, AllocError> {
 
 /// The replies of receives. None: there is no row of this index.
 fn receiving_row(index: usize) -> Option<Row> {
+    use bcast_core::RecvError::Closed;
+    use bcast_core::Reply::{PollFuture, PollNext, PollRecv};
+    use futures::task::Poll::{Pending, Ready};
     Some(match index {
         0 => ("-", Reply::EndFuture),
         1 => ("got 18446744073709551615", Reply::TryRecv(Ok(Ok(u64::MAX)))),
@@ -76,35 +63,29 @@ fn receiving_row(index: usize) -> Option<Row> {
         3 => ("empty", Reply::TryRecv(Ok(Err(TryRecvError::Empty)))),
         4 => ("closed", Reply::TryRecv(Ok(Err(TryRecvError::Closed)))),
         5 => ("no memory", Reply::TryRecv(Err(AllocError))),
-        6 => ("ready got 19", Reply::PollFuture(Ok(Poll::Ready(Ok(19))))),
+        6 => ("ready got 19", PollFuture(Ok(Ready(Ok(19))))),
         7 => (
             "ready overflowed 20",
-            Reply::PollFuture(Ok(Poll::Ready(Err(RecvError::Overflowed(20))))),
+            PollFuture(Ok(Ready(Err(RecvError::Overflowed(20))))),
         ),
-        8 => (
-            "ready closed",
-            Reply::PollFuture(Ok(Poll::Ready(Err(RecvError::Closed)))),
-        ),
-        9 => ("pending", Reply::PollFuture(Ok(Poll::Pending))),
-        10 => ("no memory", Reply::PollFuture(Err(AllocError))),
-        11 => (
-            "ready some got 21",
-            Reply::PollRecv(Ok(Poll::Ready(Some(Ok(21))))),
-        ),
+        8 => ("ready closed", PollFuture(Ok(Ready(Err(Closed))))),
+        9 => ("pending", PollFuture(Ok(Pending))),
+        10 => ("no memory", PollFuture(Err(AllocError))),
+        11 => ("ready some got 21", PollRecv(Ok(Ready(Some(Ok(21)))))),
         12 => (
             "ready some overflowed 22",
-            Reply::PollRecv(Ok(Poll::Ready(Some(Err(RecvError::Overflowed(22)))))),
+            PollRecv(Ok(Ready(Some(Err(RecvError::Overflowed(22)))))),
         ),
-        13 => ("ready none", Reply::PollRecv(Ok(Poll::Ready(None)))),
-        14 => ("pending", Reply::PollRecv(Ok(Poll::Pending))),
-        15 => ("no memory", Reply::PollRecv(Err(AllocError))),
+        13 => ("ready none", PollRecv(Ok(Ready(None)))),
+        14 => ("pending", PollRecv(Ok(Pending))),
+        15 => ("no memory", PollRecv(Err(AllocError))),
         16 => (
             "ready some got 23 skipped 24",
-            Reply::PollNext(Ok(Poll::Ready(Some((23, 24))))),
+            PollNext(Ok(Ready(Some((23, 24))))),
         ),
-        17 => ("ready none", Reply::PollNext(Ok(Poll::Ready(None)))),
-        18 => ("pending", Reply::PollNext(Ok(Poll::Pending))),
-        19 => ("no memory", Reply::PollNext(Err(AllocError))),
+        17 => ("ready none", PollNext(Ok(Ready(None)))),
+        18 => ("pending", PollNext(Ok(Pending))),
+        19 => ("no memory", PollNext(Err(AllocError))),
         _ => return None,
     })
 }

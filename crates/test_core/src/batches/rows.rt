@@ -1,27 +1,9 @@
 //! Calls and batches on a channel of capacity 3, with what each gives.
-use crate::asked::Asked;
-
-/// What a reply says.
-#[derive(Clone, Copy, PartialEq, Eq)]
-pub(super) enum Answer {
-    Done,
-    /// The key of a receiver, or the place of a send.
-    Made(usize),
-    Sent,
-    /// Sent, and this message was dropped for it.
-    Dropped(u64),
-    NotSent,
-    Waits,
-    Message(u64),
-    Missed(u64),
-    Empty,
-    Ended,
-    Other,
-}
 
 #[derive(Clone, Copy)]
 pub(super) enum Row {
-    Call(Asked, Answer),
+    /// A call and its reply, as traces spell them.
+    Call(&'static str, &'static str),
     /// The receiver, the limit, and the messages that it is given.
     Batch(usize, usize, &'static [u64]),
     /// How many of the sends that wait are told.
@@ -43,80 +25,80 @@ pub(super) const ROWS: &[(&str, &[Row])] = &[
 ];
 
 const TWO_RECEIVERS: &[Row] = &[
-    Row::Call(Asked::CloneReceiver, Answer::Made(1)),
+    Row::Call("CloneReceiver 0", "ok 1"),
     Row::Batch(0, usize::MAX, &[]),
-    Row::Call(Asked::TryBroadcast(1), Answer::Sent),
-    Row::Call(Asked::TryBroadcast(2), Answer::Sent),
-    Row::Call(Asked::TryBroadcast(3), Answer::Sent),
+    Row::Call("TryBroadcast 1", "ok"),
+    Row::Call("TryBroadcast 2", "ok"),
+    Row::Call("TryBroadcast 3", "ok"),
     Row::Batch(0, 0, &[]),
     Row::Batch(0, 1, &[1]),
     Row::Batch(0, 2, &[2, 3]),
     Row::Batch(0, 1, &[]),
-    Row::Call(Asked::TryRecv(0), Answer::Empty),
-    Row::Call(Asked::TryBroadcast(4), Answer::NotSent),
-    Row::Call(Asked::TryRecv(1), Answer::Message(1)),
-    Row::Call(Asked::TryRecv(1), Answer::Message(2)),
-    Row::Call(Asked::TryBroadcast(4), Answer::Sent),
+    Row::Call("TryRecv 0", "empty"),
+    Row::Call("TryBroadcast 4", "full 4"),
+    Row::Call("TryRecv 1", "got 1"),
+    Row::Call("TryRecv 1", "got 2"),
+    Row::Call("TryBroadcast 4", "ok"),
     // Only 3 is moved out: the other receiver has still to read 4.
     Row::Batch(1, usize::MAX, &[3, 4]),
     Row::Batch(0, usize::MAX, &[4]),
     Row::Batch(1, usize::MAX, &[]),
-    Row::Call(Asked::TryBroadcast(5), Answer::Sent),
-    Row::Call(Asked::TryBroadcast(6), Answer::Sent),
-    Row::Call(Asked::TryRecv(0), Answer::Message(5)),
+    Row::Call("TryBroadcast 5", "ok"),
+    Row::Call("TryBroadcast 6", "ok"),
+    Row::Call("TryRecv 0", "got 5"),
     Row::Batch(0, 2, &[6]),
     Row::Batch(1, 2, &[5, 6]),
 ];
 
 const CLOSED: &[Row] = &[
-    Row::Call(Asked::TryBroadcast(1), Answer::Sent),
-    Row::Call(Asked::TryBroadcast(2), Answer::Sent),
-    Row::Call(Asked::Close, Answer::Done),
+    Row::Call("TryBroadcast 1", "ok"),
+    Row::Call("TryBroadcast 2", "ok"),
+    Row::Call("Close", "true"),
     Row::Batch(0, 1, &[1]),
     Row::Batch(0, usize::MAX, &[2]),
     Row::Batch(0, usize::MAX, &[]),
-    Row::Call(Asked::TryRecv(0), Answer::Ended),
+    Row::Call("TryRecv 0", "closed"),
 ];
 
 const MISSED: &[Row] = &[
-    Row::Call(Asked::SetOverflow, Answer::Done),
-    Row::Call(Asked::CloneReceiver, Answer::Made(1)),
-    Row::Call(Asked::TryBroadcast(1), Answer::Sent),
-    Row::Call(Asked::TryBroadcast(2), Answer::Sent),
-    Row::Call(Asked::TryBroadcast(3), Answer::Sent),
-    Row::Call(Asked::TryBroadcast(4), Answer::Dropped(1)),
-    Row::Call(Asked::TryBroadcast(5), Answer::Dropped(2)),
+    Row::Call("SetOverflow true", "-"),
+    Row::Call("CloneReceiver 0", "ok 1"),
+    Row::Call("TryBroadcast 1", "ok"),
+    Row::Call("TryBroadcast 2", "ok"),
+    Row::Call("TryBroadcast 3", "ok"),
+    Row::Call("TryBroadcast 4", "ok dropped 1"),
+    Row::Call("TryBroadcast 5", "ok dropped 2"),
     Row::Batch(0, 0, &[]),
     Row::Batch(0, usize::MAX, &[]),
-    Row::Call(Asked::TryRecv(0), Answer::Missed(2)),
+    Row::Call("TryRecv 0", "overflowed 2"),
     Row::Batch(0, 2, &[3, 4]),
     Row::Batch(1, 1, &[]),
-    Row::Call(Asked::TryRecv(1), Answer::Missed(2)),
-    Row::Call(Asked::TryRecv(1), Answer::Message(3)),
+    Row::Call("TryRecv 1", "overflowed 2"),
+    Row::Call("TryRecv 1", "got 3"),
     // The receiver 0 has read all but 5, which is kept with 4.
     Row::Batch(1, usize::MAX, &[4, 5]),
     Row::Batch(0, usize::MAX, &[5]),
-    Row::Call(Asked::TryRecv(0), Answer::Empty),
+    Row::Call("TryRecv 0", "empty"),
 ];
 
 const NO_RECEIVER: &[Row] = &[
-    Row::Call(Asked::CloneReceiver, Answer::Made(1)),
-    Row::Call(Asked::TryBroadcast(1), Answer::Sent),
+    Row::Call("CloneReceiver 0", "ok 1"),
+    Row::Call("TryBroadcast 1", "ok"),
     Row::Batch(7, usize::MAX, &[]),
-    Row::Call(Asked::TryRecv(7), Answer::Ended),
-    Row::Call(Asked::DropReceiver(1), Answer::Done),
+    Row::Call("TryRecv 7", "closed"),
+    Row::Call("DropReceiver 1", "-"),
     Row::Batch(1, 1, &[]),
     Row::Batch(0, 1, &[1]),
 ];
 
 const TELLS_ONE: &[Row] = &[
-    Row::Call(Asked::TryBroadcast(1), Answer::Sent),
-    Row::Call(Asked::TryBroadcast(2), Answer::Sent),
-    Row::Call(Asked::TryBroadcast(3), Answer::Sent),
-    Row::Call(Asked::BeginSend, Answer::Made(0)),
-    Row::Call(Asked::BeginSend, Answer::Made(1)),
-    Row::Call(Asked::PollSend(0, 4), Answer::Waits),
-    Row::Call(Asked::PollSend(1, 5), Answer::Waits),
+    Row::Call("TryBroadcast 1", "ok"),
+    Row::Call("TryBroadcast 2", "ok"),
+    Row::Call("TryBroadcast 3", "ok"),
+    Row::Call("BeginSend", "ok 0"),
+    Row::Call("BeginSend", "ok 1"),
+    Row::Call("PollSend 0 4", "wait 4"),
+    Row::Call("PollSend 1 5", "wait 5"),
     Row::ToldSends(0),
     Row::Batch(0, 0, &[]),
     Row::ToldSends(0),
@@ -124,20 +106,20 @@ const TELLS_ONE: &[Row] = &[
     Row::ToldSends(1),
     Row::Batch(0, 1, &[3]),
     Row::ToldSends(1),
-    Row::Call(Asked::PollSend(0, 4), Answer::Sent),
+    Row::Call("PollSend 0 4", "ready ok"),
     Row::ToldSends(1),
-    Row::Call(Asked::PollSend(1, 5), Answer::Sent),
+    Row::Call("PollSend 1 5", "ready ok"),
     Row::ToldSends(0),
     Row::Batch(0, usize::MAX, &[4, 5]),
 ];
 
 const TELLS_NONE: &[Row] = &[
-    Row::Call(Asked::CloneReceiver, Answer::Made(1)),
-    Row::Call(Asked::TryBroadcast(1), Answer::Sent),
-    Row::Call(Asked::TryBroadcast(2), Answer::Sent),
-    Row::Call(Asked::TryBroadcast(3), Answer::Sent),
-    Row::Call(Asked::BeginSend, Answer::Made(0)),
-    Row::Call(Asked::PollSend(0, 4), Answer::Waits),
+    Row::Call("CloneReceiver 0", "ok 1"),
+    Row::Call("TryBroadcast 1", "ok"),
+    Row::Call("TryBroadcast 2", "ok"),
+    Row::Call("TryBroadcast 3", "ok"),
+    Row::Call("BeginSend", "ok 0"),
+    Row::Call("PollSend 0 4", "wait 4"),
     Row::Batch(0, usize::MAX, &[1, 2, 3]),
     Row::ToldSends(0),
     Row::Batch(1, 1, &[1]),
@@ -145,9 +127,9 @@ const TELLS_NONE: &[Row] = &[
 ];
 
 const STREAM: &[Row] = &[
-    Row::Call(Asked::PollRecv(0), Answer::Waits),
-    Row::Call(Asked::TryBroadcast(1), Answer::Sent),
-    Row::Call(Asked::TryBroadcast(2), Answer::Sent),
+    Row::Call("PollRecv 0", "pending"),
+    Row::Call("TryBroadcast 1", "ok"),
+    Row::Call("TryBroadcast 2", "ok"),
     Row::Batch(0, 2, &[1, 2]),
-    Row::Call(Asked::PollRecv(0), Answer::Waits),
+    Row::Call("PollRecv 0", "pending"),
 ];

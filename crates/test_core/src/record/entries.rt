@@ -2,68 +2,51 @@
 ghost use Rattle.std.specs.Prelude.{IfOk};
 ghost use Rattle.bcast_model.specs.Next.{HasPositiveCapacity};
 
-use bcast_core::{Call, Messages, Reply, TrySendError};
+use bcast_core::Call;
 use bcast_record::{Entry, copy_of_reply};
+use bcast_trace::call::{read_call, write_call};
+use bcast_trace::reply::write_reply;
 use std::alloc::{AllocError, Global};
 
-/// A call on a channel whose first receiver has the key 0.
+/// A call on a channel whose first receiver has the key 0, and its reply, as traces spell them.
 #[derive(Clone, Copy)]
-pub(crate) enum Step {
-    Send,
-    Receive,
-    Close,
-    /// A list, which is accepted.
-    SendAll(&'static [u64]),
-    /// A list, which is refused as too long.
-    SendTooMany(&'static [u64]),
-}
+pub(crate) struct Step(&'static str, &'static str);
+
+pub(crate) const SEND: Step = Step("TryBroadcast 5", "ok");
+
+pub(crate) const RECEIVE: Step = Step("TryRecv 0", "got 5");
+
+pub(crate) const CLOSE: Step = Step("Close", "true");
+
+pub(crate) const SEND_ALL: Step = Step("TryBroadcastAll 1 2", "ok");
+
+pub(crate) const SEND_TOO_MANY: Step = Step("TryBroadcastAll 3", "full 3");
 
 impl Step {
     pub(crate) fn call(self, alloc: Global) -> Result<Call<u64>, AllocError>
         ensures { IfOk result HasPositiveCapacity }
     {
-        Ok(match self {
-            Step::Send => Call::TryBroadcast(5),
-            Step::Receive => Call::TryRecv(0),
-            Step::Close => Call::Close,
-            Step::SendAll(msgs) | Step::SendTooMany(msgs) => {
-                Call::TryBroadcastAll(Messages::new(Vec::from_slice(alloc, msgs)?))
-            }
-        })
+        match read_call(alloc, self.0)? {
+            Some(call) => Ok(call),
+            None => Err(AllocError),
+        }
     }
 
     /// Whether this is the call.
-    pub(crate) fn is(self, call: &Call<u64>) -> bool {
-        match self {
-            Step::Send => *call == Call::TryBroadcast(5),
-            Step::Receive => *call == Call::TryRecv(0),
-            Step::Close => *call == Call::Close,
-            Step::SendAll(msgs) | Step::SendTooMany(msgs) => {
-                matches!(call, Call::TryBroadcastAll(list) if list.as_slice() == msgs)
-            }
-        }
-    }
-
-    /// Whether the call succeeds with this reply, or its list is handed back.
-    fn is_answered(self, reply: &Reply<u64>) -> bool {
-        match self {
-            Step::Send => *reply == Reply::TryBroadcast(Ok(None)),
-            Step::Receive => *reply == Reply::TryRecv(Ok(Ok(5))),
-            Step::Close => *reply == Reply::Close(true),
-            Step::SendAll(_) => *reply == Reply::TryBroadcastAll(Ok(())),
-            Step::SendTooMany(msgs) => match reply {
-                Reply::TryBroadcastAll(Err(TrySendError::Full(list))) => list.as_slice() == msgs,
-                _ => false,
-            },
-        }
+    pub(crate) fn is(self, alloc: Global, call: &Call<u64>) -> bool {
+        let mut text = Vec::new(alloc);
+        write_call(call, &mut text).is_ok() && text.as_slice() == self.0.as_bytes()
     }
 
     /// Whether the entry is of this call, which was made for this seat, and of its reply, which a
     /// copy must equal.
-    pub(crate) fn is_stored(self, seat: usize, entry: &Entry<u64>) -> bool {
+    pub(crate) fn is_stored(self, alloc: Global, seat: usize, entry: &Entry<u64>) -> bool {
         let Ok(reply) = copy_of_reply(&entry.reply) else {
             return false;
         };
-        self.is(&entry.call) && self.is_answered(&reply) && entry.seat == seat
+        let mut text = Vec::new(alloc);
+        let is_written = write_reply(&reply, &mut text).is_ok();
+        let is_answered = is_written && text.as_slice() == self.1.as_bytes();
+        self.is(alloc, &entry.call) && is_answered && entry.seat == seat
     }
 }

@@ -1,7 +1,7 @@
 //! Logs: what they store, and what they refuse while there is no memory for an entry.
 ghost use Rattle.std.specs.Prelude.{◌≡◌};
 
-use super::entries::Step;
+use super::entries::{CLOSE, RECEIVE, SEND, SEND_ALL, SEND_TOO_MANY, Step};
 use bcast_core::NoMemory;
 use bcast_record::{Journal, Log, Named, Note, Seat};
 use linked_list_allocator::LocalHeap;
@@ -12,14 +12,8 @@ use std::sync::ledger::{Blank, Ledger};
 /// Calls on a new log of capacity 2 and two seats, each with the seat's number, and how many calls
 /// were made for each seat then.
 const PLAYS: &[(&[(usize, Step)], [usize; 2])] = &[
-    (
-        &[(0, Step::Send), (1, Step::Receive), (0, Step::Close)],
-        [2, 1],
-    ),
-    (
-        &[(0, Step::SendAll(&[1, 2])), (0, Step::SendTooMany(&[3]))],
-        [2, 0],
-    ),
+    (&[(0, SEND), (1, RECEIVE), (0, CLOSE)], [2, 1]),
+    (&[(0, SEND_ALL), (0, SEND_TOO_MANY)], [2, 0]),
 ];
 
 /// Whether the call is replied to as it must be, and its entry is stored at this place.
@@ -33,7 +27,7 @@ fn stores<R: Ledger + Named, A: Allocator + Copy>(
     let made = log.step(seat, call.call(alloc)?);
     let is_given = match &made {
         Ok(receipt) => {
-            receipt.place() == place && call.is_stored(seat.number(), receipt.entry())
+            receipt.place() == place && call.is_stored(alloc, seat.number(), receipt.entry())
         }
         Err(_) => false,
     };
@@ -54,7 +48,7 @@ fn stores_all<R: Ledger + Named>(
         }
     }
     let mut pairs = log.entries().iter().zip(play.0);
-    let are_stored = pairs.all(|(entry, (number, call))| call.is_stored(*number, entry));
+    let are_stored = pairs.all(|(entry, (number, call))| call.is_stored(alloc, *number, entry));
     Ok(are_stored && seats.iter().map(|seat| seat.count()).eq(play.1))
 }
 
@@ -85,10 +79,10 @@ fn refuses<R: Ledger + Named, A: Allocator + Copy>(
     log: &mut Log<u64, R, A>,
     seat: &mut Seat<R>,
 ) -> Result<bool, AllocError> {
-    let made = log.step(seat, Step::Send.call(alloc)?);
+    let made = log.step(seat, SEND.call(alloc)?);
     let is_back = match &made {
         Ok(_) => false,
-        Err(NoMemory(call)) => Step::Send.is(call),
+        Err(NoMemory(call)) => SEND.is(alloc, call),
     };
     Ok(is_back && seat.count() == 0 && log.entries().is_empty())
 }
@@ -104,7 +98,7 @@ fn refuses_once<R: Ledger + Named>(
     let rest = Vec::<u8, &LocalHeap>::with_capacity(heap, heap.free())?;
     let is_refused = refuses(alloc, log, seat)?;
     drop(rest);
-    Ok(is_refused && stores(alloc, log, seat, Step::Send, 0)?)
+    Ok(is_refused && stores(alloc, log, seat, SEND, 0)?)
 }
 
 fn refused_once<R: Ledger + Named>(
@@ -137,7 +131,7 @@ fn stores_until<R: Ledger + Named>(
     let Some(seat) = seats.first_mut() else {
         return Ok(None);
     };
-    for (count, call) in [Step::Send, Step::Receive].iter().enumerate() {
+    for (count, call) in [SEND, RECEIVE].iter().enumerate() {
         if !stores(alloc, log, seat, *call, count)? {
             let is_unchanged = log.entries().len() == count && seat.count() == count;
             return Ok(is_unchanged.then_some(count));

@@ -1,7 +1,7 @@
 //! Recorders, from `new` to `finish`.
 ghost use Rattle.std.specs.Prelude.{◌≡◌};
 
-use super::entries::Step;
+use super::entries::{RECEIVE, SEND, SEND_ALL, Step};
 use bcast_record::{Finished, Journal, Named, Note, Receipt, Recorder, Seat};
 use std::alloc::{AllocError, Global};
 use std::marker::Brand;
@@ -9,7 +9,7 @@ use std::sync::Wait;
 use std::sync::ledger::{Blank, Ledger};
 
 /// The calls of a first seat, on a recorder of capacity 2 and two seats.
-const CALLS: &[&[Step]] = &[&[Step::Send, Step::Receive], &[Step::SendAll(&[1, 2])]];
+const CALLS: &[&[Step]] = &[&[SEND, RECEIVE], &[SEND_ALL]];
 
 /// Makes the calls for the first seat, and returns their receipts.
 fn ask<R: Ledger + Named>(
@@ -29,6 +29,7 @@ fn ask<R: Ledger + Named>(
 
 /// Whether the entries are those of the calls.
 fn has_all<R: Ledger + Named>(
+    alloc: Global,
     finished: &Finished<u64, R>,
     calls: &[Step],
     receipts: &[Receipt<u64, R>],
@@ -36,11 +37,12 @@ fn has_all<R: Ledger + Named>(
     let mut pairs = calls.iter().zip(receipts);
     finished.entries().len() == calls.len()
         && receipts.len() == calls.len()
-        && pairs.all(|(call, receipt)| call.is_stored(0, finished.entry_of(receipt)))
+        && pairs.all(|(call, receipt)| call.is_stored(alloc, 0, finished.entry_of(receipt)))
 }
 
 /// Whether the recorder and one of its two seats are returned, and the entries when both are given.
 fn finishes<R: Ledger + Named>(
+    alloc: Global,
     recorder: Recorder<u64, R>,
     mut seats: Vec<Seat<R>>,
     calls: &[Step],
@@ -51,7 +53,7 @@ fn finishes<R: Ledger + Named>(
     let is_first = seats.len() == 1 && seats.iter().all(|seat| seat.number() == 0);
     seats.push(second)?;
     let finished = recorder.finish(seats).ok().ok_or(AllocError)?;
-    Ok(is_first && has_all(&finished, calls, receipts))
+    Ok(is_first && has_all(alloc, &finished, calls, receipts))
 }
 
 fn is_recorded<R: Ledger + Named>(
@@ -67,7 +69,7 @@ fn is_recorded<R: Ledger + Named>(
     let (recorder, _, mut seats) = Recorder::<u64, R>::new(alloc, 2, 2, calls, journal)?;
     let first = seats.first_mut().ok_or(AllocError)?;
     let receipts = ask(rt, alloc, &recorder, first, steps)?;
-    finishes(recorder, seats, steps, receipts.as_slice())
+    finishes(alloc, recorder, seats, steps, receipts.as_slice())
 }
 
 #[test]

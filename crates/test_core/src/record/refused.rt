@@ -1,7 +1,7 @@
 //! Recorders and their calls while memory is refused.
 ghost use Rattle.std.specs.Prelude.{◌≡◌};
 
-use super::entries::Step;
+use super::entries::{RECEIVE, SEND, SEND_ALL, Step};
 use bcast_core::NoMemory;
 use bcast_record::{Finished, Journal, Named, Note, Recorder, Seat};
 use linked_list_allocator::LocalHeap;
@@ -12,17 +12,10 @@ use std::sync::ledger::{Blank, Ledger};
 
 /// The first calls of a recorder of capacity 2 and one seat.
 const CALLS: &[&[Step]] = &[
-    &[Step::Send, Step::Receive],
-    &[Step::SendAll(&[1, 2])],
+    &[SEND, RECEIVE],
+    &[SEND_ALL],
     // These need memory for entries more than once.
-    &[
-        Step::Send,
-        Step::Receive,
-        Step::Send,
-        Step::Receive,
-        Step::Send,
-        Step::Receive,
-    ],
+    &[SEND, RECEIVE, SEND, RECEIVE, SEND, RECEIVE],
 ];
 
 /// The size in bytes of a heap that has memory for a recorder and its entries.
@@ -99,14 +92,14 @@ fn ask<'a, R: Ledger + Named>(
     let receipt = match made {
         Ok(receipt) => receipt,
         Err(NoMemory(back)) => {
-            if seat.count() != count || !call.is(&back) {
+            if seat.count() != count || !call.is(alloc, &back) {
                 return Ok(None);
             }
             recorder.call(rt, seat, back).ok().ok_or(AllocError)?
         }
     };
     let is_counted = receipt.place() == count && seat.count() == count.wrapping_add(1);
-    Ok((is_counted && call.is_stored(0, receipt.entry())).then_some(is_refused))
+    Ok((is_counted && call.is_stored(alloc, 0, receipt.entry())).then_some(is_refused))
 }
 
 /// Makes the calls in order. Returns whether one of them was handed back. None: one was wrong.
@@ -129,9 +122,14 @@ fn ask_all<'a, R: Ledger + Named>(
 }
 
 /// Whether the entries are those of the calls, and no others.
-fn has_all<R: Ledger + Named>(finished: &Finished<u64, R, &LocalHeap>, calls: &[Step]) -> bool {
+fn has_all<R: Ledger + Named>(
+    alloc: Global,
+    finished: &Finished<u64, R, &LocalHeap>,
+    calls: &[Step],
+) -> bool {
     let mut pairs = finished.entries().iter().zip(calls);
-    finished.entries().len() == calls.len() && pairs.all(|(entry, call)| call.is_stored(0, entry))
+    finished.entries().len() == calls.len()
+        && pairs.all(|(entry, call)| call.is_stored(alloc, 0, entry))
 }
 
 /// Makes the calls on a new recorder, which must have an entry for each at its end.
@@ -151,7 +149,7 @@ fn records<R: Ledger + Named>(
     let seat = seats.first_mut().ok_or(AllocError)?;
     let was_refused = ask_all(rt, alloc, memory, &recorder, seat, steps)?;
     let finished = recorder.finish(seats).ok().ok_or(AllocError)?;
-    let has_all = has_all(&finished, steps);
+    let has_all = has_all(alloc, &finished, steps);
     Ok(if has_all { was_refused } else { None })
 }
 

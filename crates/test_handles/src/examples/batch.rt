@@ -1,12 +1,11 @@
 //! Of `batch.rt`, without a clock.
-use crate::channels::{Host, Lent, Pair};
+use crate::channels::{Host, Lent, Pair, TestResult};
 use async_broadcast::{Port, RecvError, TryRecvError};
 use futures::task::Poll;
 use futures::test::MockTask;
-use std::test::Fail;
 
 // Of `try_recv_many`.
-pub fn tries<P: Port<u64>>(rt: &impl Host, (sender, receiver): Lent<'_, P>) -> Result<(), Fail> {
+pub fn tries<P: Port<u64>>(rt: &impl Host, (sender, receiver): Lent<'_, P>) -> TestResult {
     for msg in 1..4 {
         assert!(rt; sender.try_broadcast(msg).is_ok());
     }
@@ -20,7 +19,7 @@ pub fn tries<P: Port<u64>>(rt: &impl Host, (sender, receiver): Lent<'_, P>) -> R
 }
 
 // Of `recv_many_blocking`.
-pub fn blocks<P: Port<u64>>(rt: &impl Host, (sender, mut receiver): Pair<P>) -> Result<(), Fail> {
+pub fn blocks<P: Port<u64>>(rt: &impl Host, (sender, mut receiver): Pair<P>) -> TestResult {
     assert!(rt; sender.try_broadcast(1).is_ok());
     assert!(rt; sender.try_broadcast(2).is_ok());
     drop(sender);
@@ -31,7 +30,7 @@ pub fn blocks<P: Port<u64>>(rt: &impl Host, (sender, mut receiver): Pair<P>) -> 
 }
 
 // Of `poll_recv_many`.
-pub fn polls<P: Port<u64>>(rt: &impl Host, (sender, receiver): Lent<'_, P>) -> Result<(), Fail> {
+pub fn polls<P: Port<u64>>(rt: &impl Host, (sender, receiver): Lent<'_, P>) -> TestResult {
     let task = MockTask::new(&rt)?;
     let mut msgs = Vec::new(rt.alloc());
     let polled = task.enter(|cx| receiver.poll_recv_many(cx, 16, &mut msgs));

@@ -1,12 +1,11 @@
 //! Of `lock.rt` and `lib.rt`.
-use crate::channels::{Host, Lent, Pair};
+use crate::channels::{Host, Lent, Pair, TestResult};
 use async_broadcast::{NoMemory, Port, TryRecvError, TrySendError};
 use futures::StreamExt;
 use futures::executor::block_on;
-use std::test::Fail;
 
 // Of `broadcast`.
-pub fn plays_two<P: Port<u64>>(rt: &impl Host, (sender, mut one): Pair<P>) -> Result<(), Fail> {
+pub fn plays_two<P: Port<u64>>(rt: &impl Host, (sender, mut one): Pair<P>) -> TestResult {
     let mut two = one.clone()?;
     assert!(rt; sender.try_broadcast(7).is_ok());
     assert!(rt; sender.try_broadcast(8).is_ok());
@@ -24,7 +23,7 @@ pub fn plays_two<P: Port<u64>>(rt: &impl Host, (sender, mut one): Pair<P>) -> Re
 }
 
 // Of the crate, on its errors.
-pub fn refuses<P: Port<u64>>(rt: &impl Host, (sender, receiver): Lent<'_, P>) -> Result<(), Fail> {
+pub fn refuses<P: Port<u64>>(rt: &impl Host, (sender, receiver): Lent<'_, P>) -> TestResult {
     let error = receiver.try_recv()?.err().ok_or("received")?;
     assert!(rt; error.is_empty() && !error.is_closed() && !error.is_overflowed());
     assert!(rt; sender.try_broadcast(1).is_ok());

@@ -1,16 +1,12 @@
 //! Of `future/send.rt` and `future/recv.rt`.
-use crate::channels::{Host, Lent, Pair};
+use crate::channels::{Host, Lent, Pair, TestResult};
 use async_broadcast::{Port, RecvError, SendError, TryRecvError};
 use futures::executor::block_on;
 use futures::task::Poll;
 use futures::test::MockTask;
-use std::test::Fail;
 
 // Of `broadcast`.
-pub fn sends_in_a_box<P: Port<u64>>(
-    rt: &impl Host,
-    (sender, receiver): Lent<'_, P>,
-) -> Result<(), Fail> {
+pub fn sends_in_a_box<P: Port<u64>>(rt: &impl Host, (sender, receiver): Lent<'_, P>) -> TestResult {
     let mut send = sender.broadcast(1)?;
     assert!(rt; matches!(receiver.try_recv(), Ok(Err(TryRecvError::Empty))));
     assert!(rt; matches!(block_on(&rt, &mut *send)?, Ok(Ok(None))));
@@ -19,10 +15,7 @@ pub fn sends_in_a_box<P: Port<u64>>(
 }
 
 // Of `broadcast_direct`.
-pub fn sends_directly<P: Port<u64>>(
-    rt: &impl Host,
-    (sender, receiver): Pair<P>,
-) -> Result<(), Fail> {
+pub fn sends_directly<P: Port<u64>>(rt: &impl Host, (sender, receiver): Pair<P>) -> TestResult {
     assert!(rt; matches!(block_on(&rt, sender.broadcast_direct(1)?)?, Ok(Ok(None))));
     drop(receiver);
     let refused = block_on(&rt, sender.broadcast_direct(2)?)?;
@@ -34,7 +27,7 @@ pub fn sends_directly<P: Port<u64>>(
 pub fn receives_in_a_box<P: Port<u64>>(
     rt: &impl Host,
     (sender, receiver): Lent<'_, P>,
-) -> Result<(), Fail> {
+) -> TestResult {
     assert!(rt; sender.try_broadcast(1).is_ok());
     assert!(rt; matches!(block_on(&rt, &mut *receiver.recv()?)?, Ok(Ok(1))));
     Ok(())
@@ -44,7 +37,7 @@ pub fn receives_in_a_box<P: Port<u64>>(
 pub fn receives_directly<P: Port<u64>>(
     rt: &impl Host,
     (sender, mut receiver): Pair<P>,
-) -> Result<(), Fail> {
+) -> TestResult {
     assert!(rt; sender.try_broadcast(1).is_ok());
     drop(sender);
     assert!(rt; matches!(block_on(&rt, receiver.recv_direct())?, Ok(Ok(1))));
@@ -54,7 +47,7 @@ pub fn receives_directly<P: Port<u64>>(
 }
 
 // Of `poll_recv`.
-pub fn polls<P: Port<u64>>(rt: &impl Host, (sender, receiver): Lent<'_, P>) -> Result<(), Fail> {
+pub fn polls<P: Port<u64>>(rt: &impl Host, (sender, receiver): Lent<'_, P>) -> TestResult {
     let task = MockTask::new(&rt)?;
     assert!(rt; matches!(task.enter(|cx| receiver.poll_recv(cx)), Ok(Poll::Pending)));
     assert!(rt; sender.try_broadcast(1).is_ok());

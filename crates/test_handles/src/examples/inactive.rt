@@ -1,10 +1,9 @@
 //! Of `inactive.rt`.
-use crate::channels::{Host, Pair};
+use crate::channels::{Host, Pair, TestResult};
 use async_broadcast::Port;
-use std::test::Fail;
 
 // Of `activate`.
-pub fn activates<P: Port<u64>>(rt: &impl Host, (sender, receiver): Pair<P>) -> Result<(), Fail> {
+pub fn activates<P: Port<u64>>(rt: &impl Host, (sender, receiver): Pair<P>) -> TestResult {
     let inactive = receiver.deactivate().ok().ok_or("no handle")?;
     let mut receiver = inactive.activate().ok().ok_or("no handle")?;
     assert!(rt; sender.try_broadcast(1).is_ok());
@@ -13,10 +12,7 @@ pub fn activates<P: Port<u64>>(rt: &impl Host, (sender, receiver): Pair<P>) -> R
 }
 
 // Of `activate_cloned`.
-pub fn activates_clones<P: Port<u64>>(
-    rt: &impl Host,
-    (sender, receiver): Pair<P>,
-) -> Result<(), Fail> {
+pub fn activates_clones<P: Port<u64>>(rt: &impl Host, (sender, receiver): Pair<P>) -> TestResult {
     let inactive = receiver.deactivate().ok().ok_or("no handle")?;
     let mut one = inactive.activate_cloned()?;
     let mut two = inactive.activate_cloned()?;
@@ -27,10 +23,7 @@ pub fn activates_clones<P: Port<u64>>(
 }
 
 // Of `clone`.
-pub fn keeps_it_open<P: Port<u64>>(
-    rt: &impl Host,
-    (sender, receiver): Pair<P>,
-) -> Result<(), Fail> {
+pub fn keeps_it_open<P: Port<u64>>(rt: &impl Host, (sender, receiver): Pair<P>) -> TestResult {
     let one = receiver.deactivate().ok().ok_or("no handle")?;
     let two = one.clone()?;
     drop(one);

@@ -1,10 +1,10 @@
 //! Of `Lock::new` of `lock.rt`, a channel that its caller made, and of `unread.rt`.
+use crate::channels::TestResult;
 use async_broadcast::{Lock, Port, PortFor, Receiver, Sender, TryRecvError, broadcast};
 use bcast_core::Inner;
-use std::test::Fail;
 
 #[test]
-fn a_port_of_a_channel_that_its_caller_made(rt: HostRuntime) -> Result<(), Fail> {
+fn a_port_of_a_channel_that_its_caller_made(rt: HostRuntime) -> TestResult {
     let (inner, key) = Inner::starting_at(rt.alloc(), 2, 100)?;
     let port = Lock::new(&rt, rt.alloc(), inner)?;
     let other = port.try_clone().ok_or("no memory")?;
@@ -17,7 +17,7 @@ fn a_port_of_a_channel_that_its_caller_made(rt: HostRuntime) -> Result<(), Fail>
 }
 
 #[test]
-fn unread_messages(rt: HostRuntime) -> Result<(), Fail> {
+fn unread_messages(rt: HostRuntime) -> TestResult {
     let (mut sender, mut receiver) = broadcast(&rt, rt.alloc(), 2)?;
     sender.set_overflow(true);
     for msg in [1, 2, 3] {

@@ -1,12 +1,11 @@
 //! Of `receiver.rt` and `iter.rt`, and one of a setting of the channel that a receiver makes.
-use crate::channels::{Host, Lent, Pair};
+use crate::channels::{Host, Lent, Pair, TestResult};
 use async_broadcast::{Port, RecvError, SendError, TryRecvError, TrySendError};
 use futures::StreamExt;
 use futures::executor::block_on;
-use std::test::Fail;
 
 // Of `Receiver`, as a stream.
-pub fn streams<P: Port<u64>>(rt: &impl Host, (sender, mut receiver): Pair<P>) -> Result<(), Fail> {
+pub fn streams<P: Port<u64>>(rt: &impl Host, (sender, mut receiver): Pair<P>) -> TestResult {
     assert!(rt; sender.try_broadcast(1).is_ok());
     drop(sender);
     assert!(rt; matches!(block_on(&rt, receiver.next())?, Some(Ok(1))));
@@ -15,24 +14,26 @@ pub fn streams<P: Port<u64>>(rt: &impl Host, (sender, mut receiver): Pair<P>) ->
 }
 
 // Of `try_recv`.
-pub fn tries<P: Port<u64>>(rt: &impl Host, (sender, mut receiver): Pair<P>) {
+pub fn tries<P: Port<u64>>(rt: &impl Host, (sender, mut receiver): Pair<P>) -> TestResult {
     assert!(rt; matches!(receiver.try_recv(), Ok(Err(TryRecvError::Empty))));
     assert!(rt; sender.try_broadcast(1).is_ok());
     drop(sender);
     assert!(rt; matches!(receiver.try_recv(), Ok(Ok(1))));
     assert!(rt; matches!(receiver.try_recv(), Ok(Err(TryRecvError::Closed))));
+    Ok(())
 }
 
 // Of `recv_blocking`.
-pub fn blocks<P: Port<u64>>(rt: &impl Host, (sender, mut receiver): Pair<P>) {
+pub fn blocks<P: Port<u64>>(rt: &impl Host, (sender, mut receiver): Pair<P>) -> TestResult {
     assert!(rt; sender.try_broadcast(1).is_ok());
     drop(sender);
     assert!(rt; matches!(receiver.recv_blocking(), Ok(Ok(1))));
     assert!(rt; matches!(receiver.recv_blocking(), Ok(Err(RecvError::Closed))));
+    Ok(())
 }
 
 // Of `iter`.
-pub fn loops<P: Port<u64>>(rt: &impl Host, (sender, mut receiver): Pair<P>) -> Result<(), Fail> {
+pub fn loops<P: Port<u64>>(rt: &impl Host, (sender, mut receiver): Pair<P>) -> TestResult {
     assert!(rt; sender.try_broadcast(1).is_ok());
     assert!(rt; sender.try_broadcast(2).is_ok());
     drop(sender);
@@ -49,7 +50,7 @@ pub fn loops<P: Port<u64>>(rt: &impl Host, (sender, mut receiver): Pair<P>) -> R
 pub fn loops_over_what_is_there<P: Port<u64>>(
     rt: &impl Host,
     (sender, receiver): Lent<'_, P>,
-) -> Result<(), Fail> {
+) -> TestResult {
     assert!(rt; sender.try_broadcast(1).is_ok());
     assert!(rt; sender.try_broadcast(2).is_ok());
     let mut count = 0u64;
@@ -63,16 +64,17 @@ pub fn loops_over_what_is_there<P: Port<u64>>(
 }
 
 // Of `is_terminated`.
-pub fn sees_the_end<P: Port<u64>>(rt: &impl Host, (sender, mut receiver): Pair<P>) {
+pub fn sees_the_end<P: Port<u64>>(rt: &impl Host, (sender, mut receiver): Pair<P>) -> TestResult {
     assert!(rt; sender.try_broadcast(1).is_ok());
     drop(sender);
     assert!(rt; !receiver.is_terminated());
     assert!(rt; matches!(receiver.try_recv(), Ok(Ok(1))));
     assert!(rt; receiver.is_terminated());
+    Ok(())
 }
 
 // Of `clone`.
-pub fn clones<P: Port<u64>>(rt: &impl Host, (sender, one): Lent<'_, P>) -> Result<(), Fail> {
+pub fn clones<P: Port<u64>>(rt: &impl Host, (sender, one): Lent<'_, P>) -> TestResult {
     assert!(rt; sender.try_broadcast(1).is_ok());
     let mut two = one.clone()?;
     assert!(rt; matches!(one.try_recv(), Ok(Ok(1))));
@@ -81,10 +83,7 @@ pub fn clones<P: Port<u64>>(rt: &impl Host, (sender, one): Lent<'_, P>) -> Resul
 }
 
 // Of `new_receiver`.
-pub fn adds_a_receiver<P: Port<u64>>(
-    rt: &impl Host,
-    (sender, one): Lent<'_, P>,
-) -> Result<(), Fail> {
+pub fn adds_a_receiver<P: Port<u64>>(rt: &impl Host, (sender, one): Lent<'_, P>) -> TestResult {
     assert!(rt; sender.try_broadcast(1).is_ok());
     let mut two = one.new_receiver()?;
     assert!(rt; sender.try_broadcast(2).is_ok());
@@ -93,10 +92,7 @@ pub fn adds_a_receiver<P: Port<u64>>(
 }
 
 // Of `new_sender`.
-pub fn adds_a_sender<P: Port<u64>>(
-    rt: &impl Host,
-    (sender, mut receiver): Pair<P>,
-) -> Result<(), Fail> {
+pub fn adds_a_sender<P: Port<u64>>(rt: &impl Host, (sender, mut receiver): Pair<P>) -> TestResult {
     let other = receiver.new_sender()?;
     drop(sender);
     assert!(rt; other.try_broadcast(1).is_ok());
@@ -105,7 +101,7 @@ pub fn adds_a_sender<P: Port<u64>>(
 }
 
 // Of `deactivate`.
-pub fn pauses<P: Port<u64>>(rt: &impl Host, (sender, receiver): Pair<P>) -> Result<(), Fail> {
+pub fn pauses<P: Port<u64>>(rt: &impl Host, (sender, receiver): Pair<P>) -> TestResult {
     let inactive = receiver.deactivate().ok().ok_or("no handle")?;
     assert!(rt; matches!(sender.try_broadcast(1), Err(TrySendError::Inactive(1))));
     let mut receiver = inactive.activate().ok().ok_or("no handle")?;
@@ -115,10 +111,7 @@ pub fn pauses<P: Port<u64>>(rt: &impl Host, (sender, receiver): Pair<P>) -> Resu
 }
 
 // Of `set_await_active`, by a receiver.
-pub fn awaits_nobody<P: Port<u64>>(
-    rt: &impl Host,
-    (sender, mut receiver): Pair<P>,
-) -> Result<(), Fail> {
+pub fn awaits_nobody<P: Port<u64>>(rt: &impl Host, (sender, mut receiver): Pair<P>) -> TestResult {
     assert!(rt; matches!(block_on(&rt, &mut *sender.broadcast(1)?)?, Ok(Ok(None))));
     receiver.set_await_active(false);
     assert!(rt; !sender.await_active());

@@ -1,10 +1,9 @@
 //! Of `sender.rt`.
-use crate::channels::{Host, Lent, Pair};
+use crate::channels::{Host, Lent, Pair, TestResult};
 use async_broadcast::{Port, SendError, TryRecvError, TrySendError};
-use std::test::Fail;
 
 // Of `try_broadcast`.
-pub fn tries<P: Port<u64>>(rt: &impl Host, (sender, receiver): Pair<P>) -> Result<(), Fail> {
+pub fn tries<P: Port<u64>>(rt: &impl Host, (sender, receiver): Pair<P>) -> TestResult {
     assert!(rt; matches!(sender.try_broadcast(1), Ok(None)));
     assert!(rt; matches!(sender.try_broadcast(2), Err(TrySendError::Full(2))));
     let inactive = receiver.deactivate().ok().ok_or("no handle")?;
@@ -15,10 +14,7 @@ pub fn tries<P: Port<u64>>(rt: &impl Host, (sender, receiver): Pair<P>) -> Resul
 }
 
 // Of `try_broadcast_all`.
-pub fn sends_a_list<P: Port<u64>>(
-    rt: &impl Host,
-    (sender, receiver): Lent<'_, P>,
-) -> Result<(), Fail> {
+pub fn sends_a_list<P: Port<u64>>(rt: &impl Host, (sender, receiver): Lent<'_, P>) -> TestResult {
     assert!(rt; sender.try_broadcast_all(vec![in rt.alloc(); 1, 2]?).is_ok());
     let four = vec![in rt.alloc(); 3, 4]?;
     assert!(rt; matches!(sender.try_broadcast_all(four), Err(TrySendError::Full(_))));
@@ -30,17 +26,18 @@ pub fn sends_a_list<P: Port<u64>>(
 }
 
 // Of `broadcast_blocking`.
-pub fn blocks<P: Port<u64>>(rt: &impl Host, (sender, mut receiver): Pair<P>) {
+pub fn blocks<P: Port<u64>>(rt: &impl Host, (sender, mut receiver): Pair<P>) -> TestResult {
     assert!(rt; sender.broadcast_blocking(7).is_ok());
     assert!(rt; matches!(receiver.try_recv(), Ok(Ok(7))));
     assert!(rt; sender.broadcast_blocking(8).is_ok());
     assert!(rt; matches!(receiver.recv_blocking(), Ok(Ok(8))));
     drop(receiver);
     assert!(rt; matches!(sender.broadcast_blocking(9), Err(SendError(9))));
+    Ok(())
 }
 
 // Of `clone`.
-pub fn clones<P: Port<u64>>(rt: &impl Host, (sender, mut receiver): Pair<P>) -> Result<(), Fail> {
+pub fn clones<P: Port<u64>>(rt: &impl Host, (sender, mut receiver): Pair<P>) -> TestResult {
     let other = sender.clone()?;
     drop(sender);
     assert!(rt; other.try_broadcast(1).is_ok());
@@ -51,10 +48,7 @@ pub fn clones<P: Port<u64>>(rt: &impl Host, (sender, mut receiver): Pair<P>) -> 
 }
 
 // Of `new_receiver`.
-pub fn adds_a_receiver<P: Port<u64>>(
-    rt: &impl Host,
-    (sender, one): Lent<'_, P>,
-) -> Result<(), Fail> {
+pub fn adds_a_receiver<P: Port<u64>>(rt: &impl Host, (sender, one): Lent<'_, P>) -> TestResult {
     assert!(rt; sender.try_broadcast(1).is_ok());
     let mut two = sender.new_receiver()?;
     assert!(rt; sender.try_broadcast(2).is_ok());

@@ -1,10 +1,9 @@
 //! Of `sender/settings.rt`.
-use crate::channels::{Host, Lent, Pair};
+use crate::channels::{Host, Lent, Pair, TestResult};
 use async_broadcast::{Port, Receiver, SendError, Sender, TryRecvError};
-use std::test::Fail;
 
 // Of the calls that return the channel's settings and counts.
-pub fn says<P: Port<u64>>(rt: &impl Host, (sender, receiver): Pair<P>) -> Result<(), Fail> {
+pub fn says<P: Port<u64>>(rt: &impl Host, (sender, receiver): Pair<P>) -> TestResult {
     says_what_is_kept(rt, &sender);
     counts_handles(rt, &sender, receiver)
 }
@@ -23,7 +22,7 @@ fn counts_handles<P: Port<u64>>(
     rt: &impl Host,
     sender: &Sender<u64, P>,
     receiver: Receiver<u64, P>,
-) -> Result<(), Fail> {
+) -> TestResult {
     let _sender = sender.clone()?;
     assert!(rt; sender.sender_count() == 2);
     let other = receiver.clone()?;
@@ -35,7 +34,7 @@ fn counts_handles<P: Port<u64>>(
 }
 
 // Of `overflow`, `await_active` and `close`.
-pub fn changes_modes<P: Port<u64>>(rt: &impl Host, sender: &mut Sender<u64, P>) {
+pub fn changes_modes<P: Port<u64>>(rt: &impl Host, sender: &mut Sender<u64, P>) -> TestResult {
     assert!(rt; !sender.overflow());
     sender.set_overflow(true);
     assert!(rt; sender.overflow());
@@ -44,17 +43,19 @@ pub fn changes_modes<P: Port<u64>>(rt: &impl Host, sender: &mut Sender<u64, P>) 
     assert!(rt; !sender.await_active());
     assert!(rt; sender.close());
     assert!(rt; !sender.close());
+    Ok(())
 }
 
 // Of `is_closed`.
-pub fn sees_the_end<P: Port<u64>>(rt: &impl Host, (sender, receiver): Lent<'_, P>) {
+pub fn sees_the_end<P: Port<u64>>(rt: &impl Host, (sender, receiver): Lent<'_, P>) -> TestResult {
     assert!(rt; !sender.is_closed());
     receiver.close();
     assert!(rt; sender.is_closed());
+    Ok(())
 }
 
 // Of `set_capacity`.
-pub fn shrinks<P: Port<u64>>(rt: &impl Host, (sender, receiver): Lent<'_, P>) -> Result<(), Fail> {
+pub fn shrinks<P: Port<u64>>(rt: &impl Host, (sender, receiver): Lent<'_, P>) -> TestResult {
     assert!(rt; sender.try_broadcast(1).is_ok());
     assert!(rt; sender.try_broadcast(2).is_ok());
     sender.set_capacity(1)?;
@@ -64,19 +65,17 @@ pub fn shrinks<P: Port<u64>>(rt: &impl Host, (sender, receiver): Lent<'_, P>) ->
 }
 
 // Of `set_overflow`.
-pub fn overflows<P: Port<u64>>(rt: &impl Host, (sender, receiver): Lent<'_, P>) {
+pub fn overflows<P: Port<u64>>(rt: &impl Host, (sender, receiver): Lent<'_, P>) -> TestResult {
     sender.set_overflow(true);
     assert!(rt; matches!(sender.try_broadcast(1), Ok(None)));
     assert!(rt; matches!(sender.try_broadcast(2), Ok(Some(1))));
     assert!(rt; matches!(receiver.try_recv(), Ok(Err(TryRecvError::Overflowed(1)))));
     assert!(rt; matches!(receiver.try_recv(), Ok(Ok(2))));
+    Ok(())
 }
 
 // Of `set_await_active`.
-pub fn awaits_nobody<P: Port<u64>>(
-    rt: &impl Host,
-    (mut sender, receiver): Pair<P>,
-) -> Result<(), Fail> {
+pub fn awaits_nobody<P: Port<u64>>(rt: &impl Host, (mut sender, receiver): Pair<P>) -> TestResult {
     let _inactive = receiver.deactivate().ok().ok_or("no handle")?;
     sender.set_await_active(false);
     assert!(rt; matches!(sender.broadcast_blocking(7), Err(SendError(7))));

@@ -1,16 +1,15 @@
 //! Of `timed.rt`, and one of `batch.rt`, whose calls ask a clock.
-use crate::channels::{Host, Pair, Play, on_a_channel};
+use crate::channels::{Host, Pair, Play, TestResult, on_a_channel};
 use async_broadcast::{RecvTimeoutError, SendTimeoutError, TimedPort};
-use std::test::Fail;
 use std::time::Duration;
 
 // Of `broadcast_timeout`.
 #[test]
-fn sends_in_time(rt: HostRuntime) -> Result<(), Fail> {
+fn sends_in_time(rt: HostRuntime) -> TestResult {
     on_a_channel(&rt, 1, Play::SendInTime)
 }
 
-pub fn sends<P: TimedPort<u64>>(rt: &impl Host, (sender, receiver): Pair<P>) -> Result<(), Fail> {
+pub fn sends<P: TimedPort<u64>>(rt: &impl Host, (sender, receiver): Pair<P>) -> TestResult {
     let limit = Duration::from_millis(1);
     assert!(&rt; sender.broadcast_timeout(7, limit).is_ok());
     let error = sender.broadcast_timeout(8, limit).err().ok_or("sent")?;
@@ -23,14 +22,11 @@ pub fn sends<P: TimedPort<u64>>(rt: &impl Host, (sender, receiver): Pair<P>) -> 
 
 // Of `recv_timeout`.
 #[test]
-fn receives_in_time(rt: HostRuntime) -> Result<(), Fail> {
+fn receives_in_time(rt: HostRuntime) -> TestResult {
     on_a_channel(&rt, 1, Play::ReceiveInTime)
 }
 
-pub fn receives<P: TimedPort<u64>>(
-    rt: &impl Host,
-    (sender, mut receiver): Pair<P>,
-) -> Result<(), Fail> {
+pub fn receives<P: TimedPort<u64>>(rt: &impl Host, (sender, mut receiver): Pair<P>) -> TestResult {
     let limit = Duration::from_millis(1);
     let received = receiver.recv_timeout(limit);
     assert!(&rt; matches!(received, Ok(Err(RecvTimeoutError::Timeout))));
@@ -44,14 +40,14 @@ pub fn receives<P: TimedPort<u64>>(
 
 // Of `recv_many_timeout`.
 #[test]
-fn receives_many_in_time(rt: HostRuntime) -> Result<(), Fail> {
+fn receives_many_in_time(rt: HostRuntime) -> TestResult {
     on_a_channel(&rt, 2, Play::ReceiveManyInTime)
 }
 
 pub fn receives_many<P: TimedPort<u64>>(
     rt: &impl Host,
     (sender, mut receiver): Pair<P>,
-) -> Result<(), Fail> {
+) -> TestResult {
     let time = Duration::from_millis(1);
     let mut msgs = Vec::new(rt.alloc());
     let received = receiver.recv_many_timeout(16, &mut msgs, time)?;
