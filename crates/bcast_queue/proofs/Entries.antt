@@ -1,6 +1,7 @@
 -- A ring of entries, from one of which a reader is taken away.
 use Rattle.std.proofs.Common.{◌≡◌, ℕ, ◌+◌, ◌-◌, ◌<◌, Option, Some, List, map, set, get_or, slice_get, ap, subst, sym, ◌∙◌, arith}
 use Rattle.std.specs.Option.{option_map}
+use Rattle.std.proofs.lemmas.Grind.{common_steps}
 use Rattle.std.proofs.lemmas.List.{length-map, map-set, set-get_or}
 use Rattle.std.proofs.lemmas.Option.{slice_get-map, slice_get_within, get_or_from_slice_get}
 use Rattle.circular_buffer.specs.Buffer.{Buffer, buffer}
@@ -50,3 +51,6 @@ module _ {X : Type 0} where
   taken t items i e counted at some =
       AreLeft-set t i (e.next - 1) (map next_of items) _ counted
       (omega (arith, slice_get_within items i e at, length-map items next_of)) (omega (arith, some, next_at items i e at)) (map-set next_of items i (fewer e))
+
+-- what the check needs where a count is changed
+pub ruleset changed_count = (common_steps, map-set, messages-set)

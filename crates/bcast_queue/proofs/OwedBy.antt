@@ -1,8 +1,9 @@
 -- How many readers owe each message, when the count of one message changes.
-use Rattle.std.proofs.Common.{◌≡◌, ℕ, zero, suc, ◌+◌, ◌-◌, ◌<◌, ◌≤◌, All, List, [], ◌∷◌, ◌++◌, length, map, drop, get_or, set, Some, sum, refl, ap, sym, subst, ◌∙◌, arith}
+use Rattle.std.proofs.Common.{◌≡◌, ℕ, zero, suc, ◌+◌, ◌-◌, ◌<◌, ◌≤◌, All, List, [], ◌∷◌, ◌++◌, length, map, take, drop, get_or, set, Some, sum, refl, ap, sym, subst, ◌∙◌, arith}
 use Rattle.std.proofs.lemmas.Grind.{common_steps}
 use Rattle.std.specs.Prelude.{slice_get}
 use Rattle.std.specs.Option.{ForSome}
+use Rattle.std.proofs.lemmas.List.{append-nil, drop_all, length-map, take_all}
 use Rattle.std.proofs.lemmas.List.Sums.{sum_by-cons}
 use Rattle.circular_buffer.specs.Buffer.{last_item}
 use Rattle.bcast_queue.specs.Queue.{one_more_from, one_fewer_from}
@@ -59,11 +60,11 @@ owed_by-rest r [] e = refl
 owed_by-rest r (n ∷ ns) e = sym (more_before 0 (0 + n) r ns (omega (arith, e)))
 
 -- no index is changed from the length on
+pub same_at_end : (f : ℕ → ℕ) (i : ℕ) (ns : List ℕ) → length ns ≤ i → take i ns ++ map f (drop i ns) ≡ ns
+same_at_end f i ns h = ap (λ ms. take i ns ++ map f ms) (drop_all i ns h) ∙ append-nil (take i ns) ∙ take_all i ns h
+
 pub more_from-end : (r i : ℕ) (ns : List ℕ) → length ns ≤ i → more_from r i ns ≡ ns
-more_from-end r zero [] h = refl
-more_from-end r zero (n ∷ ns) h = absurd (omega arith)
-more_from-end r (suc i) [] h = refl
-more_from-end r (suc i) (n ∷ ns) h = ap (λ xs. n ∷ xs) (more_from-end r i ns (omega arith))
+more_from-end r i ns h = same_at_end (λ n. n + r) i ns h
 
 last_at : (b n : ℕ) (ns : List ℕ) → slice_get (owed_by b (n ∷ ns)) (length (owed_by (b + n) ns)) ≡ Some (b + sum (n ∷ ns))
 last_at b n [] = let e : b + n ≡ b + sum (n ∷ []) = omega (arith, sum_by-cons (λ x. x) n []) in ap Some e
@@ -78,10 +79,6 @@ last-owed_by b n ns =
 pub sum_le : (top : ℕ) (ns : List ℕ) → ForSome (last_item (owed_by 0 ns)) (λ n. n ≤ top) → sum ns ≤ top
 sum_le top [] last = omega arith
 sum_le top (n ∷ ns) last = omega (arith, last (0 + sum (n ∷ ns)) (last-owed_by 0 n ns))
-
-pub sum_lt : (top : ℕ) (ns : List ℕ) → 0 < top → ForSome (last_item (owed_by 0 ns)) (λ n. n < top) → sum ns < top
-sum_lt top [] some last = omega (arith, some)
-sum_lt top (n ∷ ns) some last = omega (arith, last (0 + sum (n ∷ ns)) (last-owed_by 0 n ns))
 
 -- a message is owed by more readers than the one before it if some reader reads it next
 pub next_owed : (b i : ℕ) (ns : List ℕ) → suc i < length ns → get_or (owed_by b ns) (suc i) 0 ≡ get_or (owed_by b ns) i 0 + get_or ns (suc i) 0
@@ -134,3 +131,6 @@ first_left zero zero (n ∷ ns) r several = omega arith
 first_left zero (suc j) (n ∷ ns) r several = omega (arith, several)
 first_left (suc i) zero (n ∷ ns) r several = omega arith
 first_left (suc i) (suc j) (n ∷ ns) r several = omega (arith, r.0)
+
+-- what the check needs where readers are added
+pub ruleset added_readers = (common_steps, owed_by-more, more_from-end, length-owed_by, length-map)

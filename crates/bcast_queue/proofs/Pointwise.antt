@@ -1,14 +1,12 @@
 -- The counts of a changed queue, index by index.
-use Rattle.std.proofs.Common.{◌≡◌, ℕ, zero, suc, ◌+◌, ◌-◌, ◌<◌, ◌≤◌, cond, eqb, nat_le, List, [], ◌∷◌, length, get_or, count_by, refl, ap, arith}
+use Rattle.std.proofs.Common.{◌≡◌, ℕ, zero, suc, ◌+◌, ◌-◌, ◌<◌, ◌≤◌, cond, eqb, nat_le, List, [], ◌∷◌, length, map, take, drop, get_or, count_by, refl, arith, length-append, length-drop, length-take}
 use Rattle.std.proofs.lemmas.Grind.{common_steps}
 use Rattle.std.proofs.lemmas.List.{length-map, get_or-map}
 use Rattle.bcast_queue.specs.Queue.{one_more_from, one_fewer_from}
 use Rattle.bcast_queue.proofs.Owed.{nobody, count_head}
 
 pub length-one_fewer_from : (i : ℕ) (ns : List ℕ) → length (one_fewer_from i ns) ≡ length ns
-length-one_fewer_from zero ns = length-map ns (λ n. n - 1)
-length-one_fewer_from (suc i) [] = refl
-length-one_fewer_from (suc i) (n ∷ ns) = ap suc (length-one_fewer_from i ns)
+length-one_fewer_from i ns = omega (arith, length-append (take i ns) (map (λ n. n - 1) (drop i ns)), length-take i ns, length-map (drop i ns) (λ n. n - 1), length-drop i ns)
 
 pub get_or-one_more_from : (i : ℕ) (ns : List ℕ) (j : ℕ) → j < length ns → get_or (one_more_from i ns) j 0 ≡ get_or ns j 0 + cond (nat_le i j) 1 0
 get_or-one_more_from zero ns j h = grind (arith, common_steps, get_or-map)
@@ -25,7 +23,7 @@ get_or-one_fewer_from (suc i) (n ∷ ns) (suc j) h some =
     grind (arith, common_steps, e)
 
 -- if none is 0 from m on, at most m are
-few_gone : (m : ℕ) (ns : List ℕ) → ((i : ℕ) → m ≤ i → i < length ns → 1 ≤ get_or ns i 0) → count_by nobody ns ≤ m
+pub few_gone : (m : ℕ) (ns : List ℕ) → ((i : ℕ) → m ≤ i → i < length ns → 1 ≤ get_or ns i 0) → count_by nobody ns ≤ m
 few_gone m [] some = omega arith
 few_gone zero (n ∷ ns) some =
     let h : 1 ≤ n = some 0 (omega arith) (omega arith) in
@@ -36,16 +34,3 @@ few_gone (suc m) (n ∷ ns) some =
     let r = few_gone m ns (λ i l b. some (suc i) (omega arith) (omega arith)) in
     let e = count_head n ns (eqb n 0) refl in
     grind (arith, common_steps, r, e)
-
--- and if m are, they are those before m
-pub gone_before : (m : ℕ) (ns : List ℕ) → m ≤ count_by nobody ns → ((i : ℕ) → m ≤ i → i < length ns → 1 ≤ get_or ns i 0) → (i : ℕ) → i < m → get_or ns i 0 ≡ 0
-gone_before zero ns many some i h = absurd (omega arith)
-gone_before (suc m) [] many some i h = absurd (omega arith)
-gone_before (suc m) (n ∷ ns) many some zero h =
-    let r = few_gone m ns (λ i l b. some (suc i) (omega arith) (omega arith)) in
-    let e = count_head n ns (eqb n 0) refl in
-    grind (arith, common_steps, r, e, many)
-gone_before (suc m) (n ∷ ns) many some (suc i) h =
-    let e = count_head n ns (eqb n 0) refl in
-    let enough : m ≤ count_by nobody ns = grind (arith, common_steps, e, many) in
-    gone_before m ns enough (λ i l b. some (suc i) (omega arith) (omega arith)) i (omega arith)

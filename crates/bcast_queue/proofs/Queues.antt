@@ -1,5 +1,5 @@
 -- What the calls of a queue do to what a contract sees of it.
-use Rattle.std.proofs.Common.{◌≡◌, ◌≢◌, ℕ, zero, suc, ◌+◌, ◌-◌, ◌<◌, ◌≤◌, ◌^◌, get_or, [], ◌∷◌, drop, length, List, slice_get, Some, refl, sym, ap, arith}
+use Rattle.std.proofs.Common.{◌≡◌, ◌≢◌, ℕ, ◌+◌, ◌-◌, ◌<◌, ◌≤◌, ◌^◌, get_or, drop, length, List, slice_get, Some, sym, ap, arith}
 use Rattle.std.proofs.lemmas.Grind.{common_steps}
 use Rattle.std.proofs.lemmas.List.{length-map}
 use Rattle.std.proofs.lemmas.Option.{slice_get-map}
@@ -9,15 +9,8 @@ use Rattle.bcast_queue.specs.Queue.{one_fewer_from, Queued, queue_with, without_
 use Rattle.bcast_queue.specs.Entries.{counts, messages, message_of, next_of, owed_by, queue_of, AreCounted, IsSound}
 use Rattle.bcast_queue.proofs.Owed.{RisesFrom, at_least, none_gone}
 use Rattle.bcast_queue.proofs.Entries.{next_at}
-use Rattle.bcast_queue.proofs.OwedBy.{RisesFrom-owed_by, length-owed_by, get_or-owed_by, reader_of}
+use Rattle.bcast_queue.proofs.OwedBy.{RisesFrom-owed_by, length-owed_by, get_or-owed_by, reader_of, same_at_end}
 use Rattle.bcast_queue.proofs.Unowed.{AreUnowed}
-
--- at the end no reader leaves
-fewer_at_end : (i : ℕ) (ns : List ℕ) → length ns ≤ i → ns ≡ one_fewer_from i ns
-fewer_at_end zero [] h = refl
-fewer_at_end zero (n ∷ ns) h = absurd (omega arith)
-fewer_at_end (suc i) [] h = refl
-fewer_at_end (suc i) (n ∷ ns) h = ap (λ ms. n ∷ ms) (fewer_at_end i ns (omega arith))
 
 module _ {X : Type 0} where
   pub same_queue : (a b : ℕ) (xs ys : List X) (ms ns : List ℕ) (r s : ℕ) → a ≡ b → xs ≡ ys → ms ≡ ns → r ≡ s → queue_with a xs ms r ≡ queue_with b ys ns s
@@ -63,5 +56,9 @@ module _ {X : Type 0} where
   pub left_front : (q : Queued X) (i k : ℕ) (ns : List ℕ) → owed_by 0 ns ≡ one_fewer_from i q.owed → AreUnowed ns k → queue_with (q.front + k) (drop k q.messages) (owed_by 0 (drop k ns)) q.room ≡ without_reader i q
   left_front q i k ns is unowed = grind (arith, common_steps, same_queue)
 
+  -- at the end no reader leaves
   pub left_at_end : (q : Queued X) (i : ℕ) → IsQueue q → length q.messages ≤ i → q ≡ without_reader i q
-  left_at_end q i is end = left_behind q i q.owed (fewer_at_end i q.owed (omega (arith, end, is.lengths))) is.rises
+  left_at_end q i is end = left_behind q i q.owed (sym (same_at_end (λ n. n - 1) i q.owed (omega (arith, end, is.lengths)))) is.rises
+
+-- what the check needs for a look at the first message's count
+pub ruleset looked_at_first = (common_steps, same_queue, get_or-owed_by)

@@ -12,6 +12,7 @@ use std::alloc::Allocator;
 // Changes how many read the message at `index` next, and returns how many that are then. This is
 // one step.
 #[inline(always)]
+#[tactic(auto, using(crate::proofs::Entries::changed_count))]
 pub(crate) fn change_at<T, A: Allocator, C: Counter>(
     ring: &mut HeapCircularBuffer<Entry<T>, A>,
     index: usize,
@@ -37,6 +38,7 @@ pub(crate) fn change_at<T, A: Allocator, C: Counter>(
 // Adds readers, who are in the total already, at the message at `index`. If there are not so many,
 // they owe nothing, and leave the total.
 #[inline(always)]
+#[tactic(auto, using(crate::proofs::OwedBy::added_readers))]
 pub(crate) fn add_readers<T, A: Allocator, C: Counter>(
     ring: &mut HeapCircularBuffer<Entry<T>, A>,
     total: &mut usize,

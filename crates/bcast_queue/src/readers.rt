@@ -95,6 +95,7 @@ impl<T, A: Allocator> Queue<T, A> {
 
     // Whether more than one reader owes the first message.
     #[inline(always)]
+    #[tactic(auto, using(crate::proofs::Queues::looked_at_first))]
     fn is_first_shared<C: Counter>(&mut self, steps: &mut C) -> bool
         requires some { 0 < length self.old.messages }
         ensures value { IsTrue result ↔ (1 < slice_index self.old.owed 0) }

@@ -5,7 +5,7 @@ use Rattle.bcast_model.specs.declared.error.TrySendError.TheVariants as unsent
 use Rattle.bcast_model.specs.declared.run.Call.TheVariants as call
 use Rattle.bcast_model.specs.declared.run.Reply.TheVariants as reply
 use Rattle.bcast_model.specs.declared.run.Call.{Call}
-use Rattle.bcast_model.specs.Words.{has_no_receiver, View, free_room, Legal, Answers, worded}
+use Rattle.bcast_model.specs.Words.{has_no_receiver, View, free_room, Legal, worded}
 use Rattle.bcast_model.specs.declared.run.Reply.{Reply}
 use Rattle.bcast_model.specs.Words.{cursor_of, skipped_to, skipped_count, future_reply}
 use Rattle.bcast_model.specs.Words.{stream_reply, next_reply}
@@ -19,7 +19,7 @@ module _ {T : Type 0} where
   refused false false false msgs = tt
   refused closed nobody over msgs = refl
 
-  legal_list : (is_clone : T → T → Type 0) (v : View T) (c : Call T) (r : Reply T) → Legal is_clone v c r → IsListOf (list_of c) r
+  pub legal_list : (is_clone : T → T → Type 0) (v : View T) (c : Call T) (r : Reply T) → Legal is_clone v c r → IsListOf (list_of c) r
   legal_list is_clone v (call.TryBroadcastAll msgs) r legal = subst (IsListOf (Some msgs)) (sym legal) (refused v.control.closed (has_no_receiver v.control) (nat_lt (free_room v) (length msgs)) msgs)
   legal_list is_clone v call.BeginSend r (inl (place, is, free)) = subst (IsListOf {T = T} None) (sym is) tt
   legal_list is_clone v call.BeginSend r (inr is) = subst (IsListOf {T = T} None) (sym is) tt
@@ -38,10 +38,6 @@ module _ {T : Type 0} where
   legal_list is_clone v call.ActivateCloned r legal = made_is (IsListOf {T = T} None) _ v.control.cursors reply.ActivateCloned r legal (λ _ _. tt) (λ _. tt)
   legal_list is_clone v (call.CloneReceiver key) r legal = made_is (IsListOf {T = T} None) _ v.control.cursors reply.CloneReceiver r legal (λ _ _. tt) (λ _. tt)
   legal_list is_clone v c r legal = subst (IsListOf {T = T} None) (sym legal) tt
-
-  -- whichever channel answered
-  pub answered_list : (is_clone : T → T → Type 0) (v after : View T) (c : Call T) (r : Reply T) → Answers is_clone v c r after → IsListOf (list_of c) r
-  answered_list is_clone v after c r answers = legal_list is_clone v c r answers.legal
 
   -- an entry that was made with a copy of the call
   pub same_entry : {made : Entry T} {seat : ℕ} {copy call : Call T} {r : Reply T} → made ≡ record { seat = seat; call = copy; reply = r } → copy ≡ call → made ≡ record { seat = seat; call = call; reply = r }

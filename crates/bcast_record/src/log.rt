@@ -1,6 +1,5 @@
 //! A channel with the calls that were made on it, and their replies.
-ghost use Rattle.std.specs.Prelude.{◌≡◌, ◌+◌, ◌<◌, ◌≤◌, ◌^◌, length, Some, IfOk, IfErr, IfSome, OnOk, vec_len, vec_capacity, slice_get, sum_by};
-ghost use Rattle.bcast_record.specs.Copies.{list_of};
+ghost use Rattle.std.specs.Prelude.{◌≡◌, ◌+◌, ◌<◌, ◌≤◌, length, Some, IfOk, IfErr, OnOk, vec_len, slice_get, sum_by};
 ghost use Rattle.bcast_model.specs.Next.{HasPositiveCapacity};
 ghost use Rattle.bcast_record.specs.declared.entry.Note.TheVariants as note;
 ghost use Rattle.bcast_record.specs.Recording.{new_recording, notes_of, with_entry};
@@ -17,9 +16,6 @@ use bcast_history::{Journal, Named, Opening, Prefix, Writer};
 use std::alloc::{AllocError, Allocator, Global};
 use std::marker::Model;
 use std::sync::ledger::{Blank, Book, Ledger, Share};
-
-// More entries than the memory of a machine has room for.
-const MOST_ENTRIES: usize = 1 << 60;
 
 /// A channel that stores each call that is made on it, with the seat's number and the reply.
 ///
@@ -125,7 +121,7 @@ impl<T: Copy + Clone, R: Ledger + Named, A: Allocator + Copy> Log<T, R, A> {
         ensures refused { IfErr result (λ back. (back.0 ≡ call)
             × (self.new ≡ self.old) × (seat.new ≡ seat.old)) }
     {
-        let Some(spares) = room(&mut self.entries, &call) else {
+        let Some(spares) = Spares::of(&mut self.entries, &call) else {
             return Err(NoMemory(call));
         };
         let place = self.entries.len();
@@ -193,21 +189,4 @@ impl<T: Copy + Clone, R: Ledger + Named, A: Allocator + Copy> Log<T, R, A> {
             journal,
         }
     }
-}
-
-// Makes room for one more entry, and the copies of its call.
-fn room<T: Copy, A: Allocator>(entries: &mut Vec<Entry<T>, A>, call: &Call<T>) -> Option<Spares<T>>
-    ensures items { entries.new.items ≡ entries.old.items }
-    ensures len { vec_len entries.new ≡ vec_len entries.old }
-    ensures room { IfSome result (λ spares. vec_len entries.new < vec_capacity entries.new) }
-    ensures most { IfSome result (λ spares. vec_len entries.new < 2 ^ 60) }
-    ensures stored { IfSome result (λ spares. spares.stored ≡ call.now) }
-    ensures given { IfSome result (λ spares. spares.given ≡ call.now) }
-    ensures list { IfSome result (λ spares. spares.list ≡ list_of call.now) }
-{
-    if entries.len() >= MOST_ENTRIES {
-        return None;
-    }
-    entries.reserve(1).ok()?;
-    Spares::of(call).ok()
 }

@@ -43,17 +43,6 @@ impl<R: Ledger> Seat<R> {
         self.count
     }
 
-    fn new(number: usize, share: Share<R>) -> Seat<R>
-        requires { (share.parts ≡ 1) × (share.amount ≡ 0) }
-        ensures { result ≡ record { number = number; count = 0 } }
-    {
-        Seat {
-            number,
-            count: 0,
-            share,
-        }
-    }
-
     // Counts one more call, in the ledger too.
     pub(crate) fn add_call(&mut self, calls: &mut Book<R>)
         requires { calls.old.total + 1 < 2 ^ 64 }
@@ -63,13 +52,6 @@ impl<R: Ledger> Seat<R> {
         calls.audit(&mut self.share);
         calls.add(&mut self.share, 1);
         self.count += 1;
-    }
-
-    fn into_share(self) -> Share<R>
-        ensures { (result.parts ≡ 1) × (result.amount ≡ self.count) }
-    {
-        let Seat { share, .. } = self;
-        share
     }
 }
 
@@ -86,7 +68,11 @@ pub(crate) fn make_seats<R: Ledger, A: Allocator>(
 {
     let mut made = Vec::new(alloc);
     for number in 0..seats {
-        made.push(Seat::new(number, rest.split_off(1, 0)))?;
+        made.push(Seat {
+            number,
+            count: 0,
+            share: rest.split_off(1, 0),
+        })?;
     }
     Ok(made)
 }
@@ -102,7 +88,8 @@ pub(crate) fn gather<R: Ledger, A: Allocator>(rest: Share<R>, seats: Vec<Seat<R>
     let none = all.empty();
     all.merge(none);
     for seat in seats {
-        all.merge(seat.into_share());
+        let Seat { share, .. } = seat;
+        all.merge(share);
     }
     all
 }

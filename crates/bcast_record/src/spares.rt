@@ -1,11 +1,14 @@
 //! The copies that an entry and its receipt need of a call, made before the call.
-ghost use Rattle.std.specs.Prelude.{◌≡◌, IfOk};
+ghost use Rattle.std.specs.Prelude.{◌≡◌, ◌<◌, ◌^◌, IfSome, vec_len, vec_capacity};
 ghost use Rattle.bcast_record.specs.Copies.{list_of, IsListOf};
 
 use crate::copy::{copy_of_call, copy_of_list, copy_with};
 use crate::entry::Entry;
 use bcast_core::{Call, Messages, Reply};
-use std::alloc::AllocError;
+use std::alloc::Allocator;
+
+// More entries than the memory of a machine has room for.
+const MOST_ENTRIES: usize = 1 << 60;
 
 /// Two copies of a call, and one of its list, which the reply may hand back.
 #[derive(Drop)]
@@ -16,16 +19,27 @@ pub(crate) struct Spares<T> {
 }
 
 impl<T: Copy> Spares<T> {
-    /// The copies that are needed for this call.
-    pub(crate) fn of(call: &Call<T>) -> Result<Spares<T>, AllocError>
-        ensures stored { IfOk result (λ spares. spares.stored ≡ call.now) }
-        ensures given { IfOk result (λ spares. spares.given ≡ call.now) }
-        ensures list { IfOk result (λ spares. spares.list ≡ list_of call.now) }
+    /// Makes room for one more entry, and the copies that are needed for this call.
+    pub(crate) fn of<A: Allocator>(
+        entries: &mut Vec<Entry<T>, A>,
+        call: &Call<T>,
+    ) -> Option<Spares<T>>
+        ensures items { entries.new.items ≡ entries.old.items }
+        ensures len { vec_len entries.new ≡ vec_len entries.old }
+        ensures room { IfSome result (λ spares. vec_len entries.new < vec_capacity entries.new) }
+        ensures most { IfSome result (λ spares. vec_len entries.new < 2 ^ 60) }
+        ensures stored { IfSome result (λ spares. spares.stored ≡ call.now) }
+        ensures given { IfSome result (λ spares. spares.given ≡ call.now) }
+        ensures list { IfSome result (λ spares. spares.list ≡ list_of call.now) }
     {
-        Ok(Spares {
-            stored: copy_of_call(call)?,
-            given: copy_of_call(call)?,
-            list: copy_of_list(call)?,
+        if entries.len() >= MOST_ENTRIES {
+            return None;
+        }
+        entries.reserve(1).ok()?;
+        Some(Spares {
+            stored: copy_of_call(call).ok()?,
+            given: copy_of_call(call).ok()?,
+            list: copy_of_list(call).ok()?,
         })
     }
 

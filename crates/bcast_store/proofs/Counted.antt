@@ -1,10 +1,11 @@
 -- What holds of a store, and of one with other cursors, by its counts.
-use Rattle.std.proofs.Common.{◌≡◌, inl, inr, ℕ, ◌+◌, ◌-◌, ◌^◌, ◌<◌, ◌≤◌, All, length, get_or, drop, max, sym, ap, ◌∙◌, subst, arith, length-drop}
+use Rattle.std.proofs.Common.{◌≡◌, inl, inr, ℕ, ◌+◌, ◌-◌, ◌^◌, ◌<◌, ◌≤◌, All, length, Some, get_or, drop, max, sym, ap, ◌∙◌, subst, arith, length-drop}
 use Rattle.std.proofs.lemmas.Grind.{common_steps}
 use Rattle.std.proofs.lemmas.Bool.{cases_lt}
-use Rattle.std.specs.FinMap.{len, values}
+use Rattle.std.proofs.lemmas.List.{get_or-drop}
+use Rattle.std.specs.FinMap.{get, len, values}
 use Rattle.bcast_model.specs.Words.{Cursors, least}
-use Rattle.bcast_queue.specs.Queue.{Queued}
+use Rattle.bcast_queue.specs.Queue.{Queued, without}
 use Rattle.bcast_store.specs.Stored.{Stored, IsSettled, end_of, with_cursors}
 use Rattle.bcast_store.specs.Sound.{IsSound, store_of, owing_at}
 use Rattle.bcast_store.proofs.Least.{least-le-cursor, least-le-limit, least-greatest}
@@ -33,6 +34,18 @@ module _ {T : Type 0} where
 
   pub settled : (q : Queued T) (cursors : Cursors) → IsSound q cursors → IsCounted q → length q.messages ≤ q.room → q.front + length q.messages < 2 ^ 64 → len cursors < 2 ^ 64 → IsSettled (store_of q cursors)
   settled q cursors s n fits end_fits receivers_fit = grind (arith, common_steps, front_met)
+
+  -- the first n messages go, if the counts of the others are right
+  pub sound_without : (q : Queued T) (cursors : Cursors) (n : ℕ) → n ≤ length q.messages → ((i : ℕ) → n ≤ i → i < length q.messages → get_or q.owed i 0 ≡ owing_at cursors (q.front + i))
+      → ((key cursor : ℕ) → get cursors key ≡ Some cursor → cursor ≤ q.front + length q.messages) → IsSound (without n q) cursors
+  sound_without q cursors n within counts reach =
+      let size = length-drop n q.messages in
+      record {
+        owed_by = λ i h.
+            let at : q.front + (n + i) ≡ (q.front + n) + i = omega arith in
+            get_or-drop n q.owed i 0 ∙ counts (n + i) (omega arith) (omega (arith, h, size)) ∙ ap (owing_at cursors) at;
+        reach = λ key c e. let end = reach key c e in omega (arith, end, size, within);
+      }
 
   -- ---- other cursors
   -- the front moves to this number, and the messages before it are dropped

@@ -36,3 +36,6 @@ module _ {T : Type 0} where
   -- no receiver, and no message
   pub sound_new : (first room : ℕ) → IsSound {T = T} (queue_with first [] [] room) empty
   sound_new first room = grind (arith, common_steps, none-some, get-empty)
+
+-- what the check needs for `new` and `push`
+pub ruleset message_calls = (common_steps, same_sound, sound_new, sound_push, last_owed)

@@ -1,25 +1,23 @@
 -- How many receivers have still to read a message.
 use Rattle.std.proofs.Common.{◌≡◌, ◌≢◌, ℕ, ◌+◌, ◌≤◌, true, false, cond, List, [], ◌∷◌, length, Some, None, is_some, count_by, nat_le, refl, sym, ap, ◌∙◌, arith}
 use Rattle.std.proofs.lemmas.Grind.{common_steps}
-use Rattle.std.proofs.lemmas.Bool.{cases_eq}
 use Rattle.std.proofs.lemmas.Option.{none-some}
 use Rattle.std.proofs.lemmas.List.Sums.{sum_by-le-sum_by, count_by-le-length}
 use Rattle.std.specs.Prelude.{T, Option, IsSomeAnd}
 use Rattle.std.specs.Ordering.{nat_cmp}
-use Rattle.std.specs.Cmp.{nat_cmp_total, unsigned_tied}
+use Rattle.std.specs.Cmp.{nat_cmp_total}
 use Rattle.std.specs.FinMap.{get, insert, remove, len, entries, entries_sorted, find, is_sorted, get-entries, len-entries, len-insert, get-insert, get-remove}
-use Rattle.bcast_store.specs.CountValues.{passes}
-use Rattle.bcast_store.proofs.CountValues.{one_if, count_cons, count_values-insert, count_values-remove}
+use Rattle.bcast_store.proofs.CountValues.{passing, one_if, count_cons, count_values-insert, count_values-remove}
 use Rattle.std.specs.FinMap.Entries.{below_all}
 use Rattle.bcast_model.specs.Control.{Cursors}
 use Rattle.bcast_store.specs.Sound.{owes, owing_at}
-use Rattle.bcast_store.proofs.Least.{cursors_ext, find_head, both_true, later}
+use Rattle.bcast_store.proofs.Least.{find_head, both_true, later, removed_same, removed_other}
 
-found_owing : (n : ℕ) (es : List (ℕ × ℕ)) → T (is_sorted nat_cmp es) → 1 ≤ count_by (passes (owes n)) es → (k : ℕ) × (c : ℕ) × (find nat_cmp k es ≡ Some c) × (c ≤ n)
+found_owing : (n : ℕ) (es : List (ℕ × ℕ)) → T (is_sorted nat_cmp es) → 1 ≤ count_by (passing (owes n)) es → (k : ℕ) × (c : ℕ) × (find nat_cmp k es ≡ Some c) × (c ≤ n)
 found_owing n [] s h = absurd (omega arith)
 found_owing n (e ∷ es) s h =
     let p : T (below_all nat_cmp e.0 es) × T (is_sorted nat_cmp es) = both_true _ _ s in
-    let a : count_by (passes (owes n)) (e ∷ es) ≡ cond (nat_le e.1 n) 1 0 + count_by (passes (owes n)) es = count_cons (owes n) e es in
+    let a : count_by (passing (owes n)) (e ∷ es) ≡ cond (nat_le e.1 n) 1 0 + count_by (passing (owes n)) es = count_cons (owes n) e es in
     elim (nat_le e.1 n) as (λ b. nat_le e.1 n ≡ b → (k : ℕ) × (c : ℕ) × (find nat_cmp k (e ∷ es) ≡ Some c) × (c ≤ n)) [
       | true ↦ λ t. (e.0, e.1, find_head e es, grind (arith, common_steps, t))
       | false ↦ λ t.
@@ -35,11 +33,11 @@ some_owes m n h =
     let r = found_owing n (entries m) (entries_sorted m) h in
     (r.0, r.1, get-entries m r.0 ∙ r.2, r.3)
 
-each_owes : (n : ℕ) (es : List (ℕ × ℕ)) → T (is_sorted nat_cmp es) → ((q c : ℕ) → find nat_cmp q es ≡ Some c → c ≤ n) → count_by (passes (owes n)) es ≡ length es
+each_owes : (n : ℕ) (es : List (ℕ × ℕ)) → T (is_sorted nat_cmp es) → ((q c : ℕ) → find nat_cmp q es ≡ Some c → c ≤ n) → count_by (passing (owes n)) es ≡ length es
 each_owes n [] s h = refl
 each_owes n (e ∷ es) s h =
     let p : T (below_all nat_cmp e.0 es) × T (is_sorted nat_cmp es) = both_true _ _ s in
-    let a : count_by (passes (owes n)) (e ∷ es) ≡ cond (nat_le e.1 n) 1 0 + count_by (passes (owes n)) es = count_cons (owes n) e es in
+    let a : count_by (passing (owes n)) (e ∷ es) ≡ cond (nat_le e.1 n) 1 0 + count_by (passing (owes n)) es = count_cons (owes n) e es in
     let l : e.1 ≤ n = h e.0 e.1 (find_head e es) in
     let t : nat_le e.1 n ≡ true = grind (arith, common_steps, l) in
     let z : ◌≡◌ {A = ℕ} (cond (nat_le e.1 n) 1 0) 1 = ap (λ b. cond b 1 0) t in
@@ -53,12 +51,12 @@ all_owe m n h = each_owes n (entries m) (entries_sorted m) (λ q c e. h q c (get
 
 pub few_owe : (m : Cursors) (n : ℕ) → owing_at m n ≤ len m
 unfolding owing_at
-few_owe m n = let a = count_by-le-length (passes (owes n)) (entries m) in let b = len-entries m in omega arith
+few_owe m n = let a = count_by-le-length (passing (owes n)) (entries m) in let b = len-entries m in omega arith
 
 -- a later message is owed by at least as many
 pub owing-rises : (cs : Cursors) (m n : ℕ) → m ≤ n → owing_at cs m ≤ owing_at cs n
 unfolding owing_at
-owing-rises cs m n h = sum_by-le-sum_by (λ e. cond (passes (owes m) e) 1 0) (λ e. cond (passes (owes n) e) 1 0) (entries cs) (λ e. grind (arith, common_steps, h))
+owing-rises cs m n h = sum_by-le-sum_by (λ e. cond (passing (owes m) e) 1 0) (λ e. cond (passing (owes n) e) 1 0) (entries cs) (λ e. grind (arith, common_steps, h))
 
 -- a cursor moves
 pub owing-moved : (m : Cursors) (k d c n : ℕ) → get m k ≡ Some d → owing_at (insert m k c) n + cond (nat_le d n) 1 0 ≡ owing_at m n + cond (nat_le c n) 1 0
@@ -83,12 +81,6 @@ owes_counts m n k c e l =
     let b : owing_at (remove m k) n + 1 ≡ owing_at m n = rw t at a in
     omega (arith, b)
 
-removed_other : (m : Cursors) (k q : ℕ) → q ≢ k → get (remove m k) q ≡ get m q
-removed_other m k q ne = let a = get-remove nat_cmp_total m k q in let t = unsigned_tied q k in grind (arith, common_steps, a, t, ne)
-
-removed_same : (m : Cursors) (k q : ℕ) → q ≡ k → get (remove m k) q ≡ None
-removed_same m k q same = let a = get-remove nat_cmp_total m k q in let t = unsigned_tied q k in grind (arith, common_steps, a, t, same)
-
 -- another receiver owes a message that is owed more than once
 pub another : (m : Cursors) (n k c : ℕ) → get m k ≡ Some c → 2 ≤ owing_at m n → (q : ℕ) × (d : ℕ) × (q ≢ k) × (get m q ≡ Some d) × (d ≤ n)
 another m n k c e two =
@@ -107,10 +99,6 @@ stayed end m k q d old f = let a = get-remove nat_cmp_total m k q in grind (arit
 
 pub len_joined : (m : Cursors) (k c : ℕ) → get m k ≡ None → len (insert m k c) ≡ len m + 1
 len_joined m k c none = len-insert nat_cmp_total m k c ∙ ap (λ o. cond (is_some o) (len m) (len m + 1)) none
-
--- removing a key that a map doesn't have changes nothing
-pub remove-absent : (m : Cursors) (k : ℕ) → get m k ≡ None → remove m k ≡ m
-remove-absent m k none = grind (arith, common_steps, cases_eq, removed_same, removed_other, cursors_ext)
 
 -- the value that a fact is of
 pub found : {A : Type 0} (o : Option A) (P : A → Type 0) → IsSomeAnd o P → (x : A) × (o ≡ Some x) × P x

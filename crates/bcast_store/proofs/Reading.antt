@@ -1,9 +1,9 @@
 -- The counts stay right when a receiver skips or reads, and what a read gives.
-use Rattle.std.proofs.Common.{◌≡◌, ℕ, ◌+◌, ◌-◌, ◌<◌, ◌≤◌, true, false, cond, eqb, length, max, Some, get_or, set, slice_get, nat_le, refl, sym, subst, ap, ◌∙◌, arith, rules, length-drop, eqb-true}
+use Rattle.std.proofs.Common.{◌≡◌, ℕ, ◌+◌, ◌-◌, ◌<◌, ◌≤◌, true, false, cond, eqb, length, max, Some, get_or, set, slice_get, nat_le, refl, sym, subst, ap, ◌∙◌, arith, rules, eqb-true}
 use Rattle.std.specs.Prelude.{IsSomeAnd}
 use Rattle.std.proofs.lemmas.Grind.{common_steps}
 use Rattle.std.proofs.lemmas.Bool.{cases_lt}
-use Rattle.std.proofs.lemmas.List.{get_or-drop, get_or-set_same, get_or-set_other}
+use Rattle.std.proofs.lemmas.List.{get_or-set_same, get_or-set_other}
 use Rattle.std.specs.FinMap.{get, insert, remove}
 use Rattle.bcast_model.specs.Control.{Cursors}
 use Rattle.bcast_queue.specs.Queue.{Queued, one_fewer_from, passed, without, read_at}
@@ -12,7 +12,7 @@ use Rattle.bcast_queue.proofs.Pointwise.{length-one_fewer_from, get_or-one_more_
 use Rattle.bcast_store.specs.Stored.{Stored, IsHandedOut, IsOwed, end_of, with_cursors}
 use Rattle.bcast_store.specs.Sound.{IsSound, store_of, owing_at}
 use Rattle.bcast_store.proofs.Owing.{owing-rises, owing-moved, owing-left, another, reached, found}
-use Rattle.bcast_store.proofs.Counted.{IsCounted, owed_at, with_cursors-queue}
+use Rattle.bcast_store.proofs.Counted.{IsCounted, owed_at, sound_without, with_cursors-queue}
 
 -- the receiver reads this number, at this index: that of its cursor, or the oldest if it lags
 pub record IsReading {T : Type 0} (q : Queued T) (cursors : Cursors) (key number i : ℕ) : Type 0 where
@@ -83,16 +83,9 @@ module _ {T : Type 0} where
     -- the last reader of the oldest message moves with the front
     sound_last : IsCounted q → i ≡ 0 → IsSound (without 1 q) (insert cursors key (number + 1))
     sound_last n oldest =
-        let size = length-drop 1 q.messages in
         let after = one_passed n in
-        record {
-          owed_by = λ j h.
-              let e = after.owed_by (1 + j) (omega (arith, size)) in
-              let f : (q.front + 1) + j ≡ q.front + (1 + j) = omega arith in
-              let other = get_or-set_other q.owed i (1 + j) (get_or q.owed i 0 - 1) 0 (λ same. omega arith) in
-              get_or-drop 1 q.owed j 0 ∙ sym other ∙ e ∙ ap (owing_at (insert cursors key (number + 1))) (sym f);
-          reach = λ other c e. let l = after.reach other c e in omega (arith, size, r.below);
-        }
+        sound_without q (insert cursors key (number + 1)) 1 (omega (arith, r.below))
+        (λ j from h. sym (get_or-set_other q.owed i j (get_or q.owed i 0 - 1) 0 (λ same. omega arith)) ∙ after.owed_by j h) after.reach
 
     pub sound_read : IsCounted q → IsSound (read_at i q) (insert cursors key (number + 1))
     sound_read n = grind (arith, common_steps, sound_last, owed_once, eqb-true, one_passed)

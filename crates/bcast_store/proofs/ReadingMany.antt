@@ -18,7 +18,7 @@ use Rattle.bcast_store.specs.Stored.{AreHandedOut, IsHandedOut, IsOwed, with_cur
 use Rattle.bcast_store.specs.Sound.{IsSound, store_of, owing_at}
 use Rattle.bcast_store.proofs.Least.{insert_twice}
 use Rattle.bcast_store.proofs.Owing.{owing-moved, reached, another, found}
-use Rattle.bcast_store.proofs.Counted.{IsCounted, with_cursors-queue}
+use Rattle.bcast_store.proofs.Counted.{IsCounted, sound_without, with_cursors-queue}
 use Rattle.bcast_store.proofs.Reading.{steps_up, sound_passed}
 
 -- an item of the first part of a list
@@ -46,19 +46,14 @@ module _ {T : Type 0} (q : Queued T) (cursors : Cursors) (key number i own share
 
   -- its own messages are gone, and it stands behind them
   sound_own : IsSound (without own q) (insert cursors key (number + own))
-  sound_own = record {
-    owed_by = λ j h.
-        let size = length-drop own q.messages in
-        let here : q.front + own + j ≡ q.front + (own + j) = omega arith in
-        let moved = owing-moved cursors key number (number + own) (q.front + (own + j)) r.at in
-        let was = r.sound.owed_by (own + j) (omega (arith, h, size)) in
-        let same : ◌≡◌ {A = ℕ} (cond (nat_le number (q.front + (own + j))) 1 0) (cond (nat_le (number + own) (q.front + (own + j))) 1 0) = grind (arith, common_steps, r.is, r.first) in
-        let now : owing_at (insert cursors key (number + own)) (q.front + (own + j)) ≡ owing_at cursors (q.front + (own + j)) = omega (arith, moved, same) in
-        get_or-drop own q.owed j 0 ∙ was ∙ sym now ∙ ap (owing_at (insert cursors key (number + own))) (sym here);
-    reach = λ other c e.
-        let end : c ≤ q.front + length q.messages = reached (q.front + length q.messages) cursors key (number + own) other c r.sound.reach (omega (arith, r.is, r.within)) e in
-        omega (arith, end, length-drop own q.messages, r.within);
-  }
+  sound_own =
+      sound_without q (insert cursors key (number + own)) own (omega (arith, r.within))
+      (λ j from h.
+      let moved = owing-moved cursors key number (number + own) (q.front + j) r.at in
+      let was = r.sound.owed_by j h in
+      let same : ◌≡◌ {A = ℕ} (cond (nat_le number (q.front + j)) 1 0) (cond (nat_le (number + own) (q.front + j)) 1 0) = grind (arith, common_steps, r.is, r.first, from) in
+      omega (arith, moved, was, same))
+      (λ other c e. reached (q.front + length q.messages) cursors key (number + own) other c r.sound.reach (omega (arith, r.is, r.within)) e)
 
   -- its next message is owed by more than the one before
   pub steps_own : i < length (without own q).messages → 0 < i → get_or (without own q).owed (i - 1) 0 < get_or (without own q).owed i 0

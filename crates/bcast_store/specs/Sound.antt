@@ -1,8 +1,7 @@
 -- The store that a queue and cursors make up, and what holds of it. No public clause names it.
-use Rattle.std.specs.Prelude.{◌≡◌, ℕ, ◌+◌, ◌<◌, ◌≤◌, Bool, length, Some, get_or, nat_le}
-use Rattle.std.specs.FinMap.{get}
+use Rattle.std.specs.Prelude.{◌≡◌, ℕ, ◌+◌, ◌<◌, ◌≤◌, Bool, length, Some, count_by, get_or, nat_le}
+use Rattle.std.specs.FinMap.{entries, get}
 use Rattle.bcast_model.specs.Control.{Cursors}
-use Rattle.bcast_store.specs.CountValues.{count_values}
 use Rattle.bcast_queue.specs.Queue.{Queued}
 use Rattle.bcast_store.specs.Stored.{Stored}
 
@@ -17,7 +16,7 @@ owes number cursor = nat_le cursor number
 
 -- how many receivers are still to read the message of this number
 unfoldable pub owing_at : Cursors → ℕ → ℕ
-owing_at cursors number = count_values (owes number) cursors
+owing_at cursors number = count_by (λ e. owes number e.1) (entries cursors)
 
 -- each count of the queue is the number of cursors at or under its message, and no cursor is past
 -- the end

@@ -1,4 +1,6 @@
 //! The cursor of each receiver.
+#![tactic(auto, using(crate::proofs::CursorEntries::cursor_calls))]
+
 ghost use Rattle.std.specs.Prelude.{◌≡◌, ◌<◌, ◌^◌, None, IfOk, OnOk, OnErr, IfNone, OnSome};
 ghost use Rattle.std.specs.FinMap as map;
 ghost use Rattle.slab.specs.Slab.{entries};

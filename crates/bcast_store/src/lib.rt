@@ -49,6 +49,7 @@ impl<T: Drop, A: Allocator + Copy> Store<T, A> {
     /// `first` is the number of the first message, and `room` how many messages fit. Allocates
     /// memory for all of them.
     #[inline(always)]
+    #[tactic(auto, using(crate::proofs::Messages::message_calls))]
     pub fn new(alloc: A, first: u64, room: usize) -> Result<Self, AllocError>
         requires { 0 < room }
         ensures { IfOk result (λ store. store ≡ record {
@@ -66,6 +67,7 @@ impl<T: Drop, A: Allocator + Copy> Store<T, A> {
     }
 
     /// What holds of every store, for a proof that needs it. Does nothing.
+    #[tactic(auto, using(crate::proofs::Counted::settled))]
     pub fn invariant_holds(&self)
         ensures { IsSettled self.now }
     {
@@ -146,6 +148,7 @@ impl<T: Drop, A: Allocator + Copy> Store<T, A> {
 
     /// Appends `msg`, for every receiver, and returns its number. Allocates nothing.
     #[inline(always)]
+    #[tactic(auto, using(crate::proofs::Messages::message_calls))]
     pub fn push(&mut self, msg: T) -> u64
         requires someone { 0 < len self.old.cursors }
         requires room { length self.old.queue < self.old.room }

@@ -41,6 +41,7 @@ impl<T: Drop, A: Allocator + Copy> Store<T, A> {
     /// Removes the receiver `key`, drops the messages that no receiver has to read any more, and
     /// returns whether there was such a receiver. Allocates nothing.
     #[inline(always)]
+    #[tactic(auto, using(crate::proofs::Leaving::leaving_calls))]
     pub fn remove(&mut self, key: usize) -> bool
         ensures found { result ≡ map.contains_key self.old.cursors key }
         ensures rest { self.new ≡ (if result

@@ -1,11 +1,9 @@
 -- Keys that are claimed, each with a number, as a list: its entry at a key is the key's claim.
-use Rattle.std.specs.Prelude.{ℕ, zero, suc, List, [], ◌∷◌, Option, Some, None}
+use Rattle.std.specs.Prelude.{ℕ, zero, suc, List, [], ◌∷◌, get_or, Option, Some, None}
 
 -- the number with which this key is claimed; None: it isn't claimed
 abbrev pub claim_of : List (Option ℕ) → ℕ → Option ℕ
-claim_of [] key = None
-claim_of (c ∷ cs) zero = c
-claim_of (c ∷ cs) (suc key) = claim_of cs key
+claim_of claims key = get_or claims key None
 
 -- the claims, with this key claimed with a number, or not claimed
 abbrev pub put : List (Option ℕ) → ℕ → Option ℕ → List (Option ℕ)

@@ -22,9 +22,7 @@ use Rattle.topics.proofs.PartRuns.{run_of_more, new_run}
 
 module _ {T : Type 0} (is_clone : T → T → Type 0) where
   kept : (capacity : Option ℕ) (done : List (Called T)) (old new : Option (View T)) → IsTopic is_clone capacity done old → new ≡ old → IsTopic is_clone (option_or capacity None) (done ++ []) new
-  kept capacity done old new topic same =
-      subst (λ o. IsTopic is_clone o (done ++ []) new) (sym (option_or-None capacity))
-      (subst (λ d. IsTopic is_clone capacity d new) (sym (append-nil done)) (subst (IsTopic is_clone capacity done) (sym same) topic))
+  kept capacity done old new topic same = rw (option_or-None, append-nil, same) topic
 
   is_open : (capacity : Option ℕ) (done : List (Called T)) (old : Option (View T)) → IsTopic is_clone capacity done old → is_some old ≡ is_some capacity
   is_open None done old topic = ap is_some topic.0
@@ -60,10 +58,7 @@ module _ {T A : Type 0} (is_clone : T → T → Type 0) where
 
   -- one more request on the topic of these
   here_last : (mine : List (Exchange T A)) (old new : Option (View T)) (r : Request T A) (a : Answer T) → IsTopic is_clone (opened_by mine) (done_by mine) old → IsAnswer (is_some old) r a → Changes is_clone r a old new → IsTopic is_clone (opened_by (mine ++ (r, a) ∷ [])) (done_by (mine ++ (r, a) ∷ [])) new
-  here_last mine old new r a topic fit is =
-      subst (λ o. IsTopic is_clone o (done_by (mine ++ (r, a) ∷ [])) new) (sym (opened_by-last mine r a))
-      (subst (λ d. IsTopic is_clone (option_or (opened_by mine) (slice_get (cons_option (opens r a) []) 0)) d new) (sym (done_by-last mine r a))
-      (here (opened_by mine) (done_by mine) old new r a topic fit is))
+  here_last mine old new r a topic fit is = rw (opened_by-last mine r a, done_by-last mine r a) (here (opened_by mine) (done_by mine) old new r a topic fit is)
 
 module _ {T A S Hasher : Type 0} (is_clone : T → T → Type 0) where
   -- the topic of any name

@@ -1,10 +1,10 @@
--- What is seen after a call, apart from who was told, and the cursors after one of them moved.
+-- What is seen after a call, whatever sends are told, and the cursors after one of them moved.
 use Rattle.std.proofs.Common.{◌≡◌, ℕ, ◌≤◌, true, false, cond, Option, Some, None, refl, sym, ap, ◌∙◌, subst, arith, IsSome}
 use Rattle.std.proofs.lemmas.Grind.{common_steps}
 use Rattle.std.specs.Ordering.{nat_cmp, eq_by_cmp}
 use Rattle.std.specs.Cmp.{nat_cmp_total}
 use Rattle.std.specs.FinMap.{get, insert, get-insert}
-use Rattle.bcast_model.specs.Words.{Cursors, tell_a_sender, sets, effect, settle, tell_if_ready}
+use Rattle.bcast_model.specs.Words.{Cursors, Listeners, tell, sets, effect, settle, tell_if_ready}
 use Rattle.bcast_model.specs.declared.run.Call.{Call}
 use Rattle.bcast_model.specs.declared.run.Reply.{Reply}
 use Rattle.bcast_model.specs.Words.{View, Answers, IsValidView}
@@ -14,9 +14,9 @@ use Rattle.bcast_core.proofs.Does.{valid_shown}
 use Rattle.bcast_core.proofs.Settle.{settle_same}
 
 module _ {T : Type 0} where
-  -- a sender is told
-  abbrev pub told : View T → View T
-  told v = record v { control = tell_a_sender v.control }
+  -- a view in which these sends wait
+  abbrev pub with_sends : View T → Listeners ℕ → View T
+  with_sends v sends = record v { control = record v.control { waiting_sends = sends } }
 
   module _ {is_clone : T → T → Type 0} {v w : View T} {c : Call T} {r : Reply T} (a : Answers is_clone v c r w) where
     pub valid : IsValidView v
@@ -25,11 +25,12 @@ module _ {T : Type 0} where
     pub valid_after : IsValidView w
     valid_after = valid_shown (shown_after a)
 
-    -- what holds after a call's effect holds after the call, if telling a sender keeps it
-    pub after : (P : View T → Type 0) → ((u : View T) → P u → P (told u)) → P (settle v (effect v c r)) → P w
-    after P keeps here =
+    -- what holds after a call's effect, whatever sends are told, holds after the call
+    pub after : (P : View T → Type 0) → ((sends : Listeners ℕ) → P (with_sends (settle v (effect v c r)) sends)) → P w
+    after P here =
         let mid : View T = settle v (effect v c r) in
-        subst P (sym (steps a).next) (told_is P mid (keeps mid here) here)
+        let waiting : Listeners ℕ = mid.control.waiting_sends in
+        subst P (sym (steps a).next) (told_is P mid (here (tell 1 waiting)) (here waiting))
 
     -- a call without an effect changes nothing
     pub unchanged : effect v c r ≡ sets v.control → w ≡ v

@@ -12,13 +12,13 @@ use Rattle.bcast_model.specs.Words.{stream_of, Control, cursor_of, accepting, re
 use Rattle.bcast_model.specs.declared.error.HandleError.{HandleError}
 use Rattle.bcast_model.specs.declared.error.TrySendError.{TrySendError}
 use Rattle.bcast_model.specs.Words.{with_cursor, pair_waits, IsValidView}
-use Rattle.bcast_model.specs.Words.{pair_answered, is_empty_reply, try_recv_reply, tell_a_sender}
+use Rattle.bcast_model.specs.Words.{pair_answered, is_empty_reply, try_recv_reply}
 use Rattle.bcast_model.proofs.Cases.{receive_is, test_is}
 use Rattle.bcast_model.proofs.Least.{least-le-cursor, len_insert}
 use Rattle.bcast_model.proofs.DeliveryMaps.{inserted_other}
 use Rattle.bcast_core.proofs.Settle.{inserted, somebody, cursors-accepting}
 use Rattle.uses.specs.Config.{IsConfig, IsUpToDate, KeepsOthers, set_answer}
-use Rattle.uses.proofs.Called.{valid, after, unchanged}
+use Rattle.uses.proofs.Called.{with_sends, valid, after, unchanged}
 use Rattle.uses.proofs.Sends.{accepted}
 
 module _ {S : Type 0} where
@@ -65,10 +65,10 @@ module _ {S : Type 0} where
       let o : Option ℕ = skipped_to v.front (cursor_of v.control key) in
       let c : Control = receive v key o in
       let here = moved v key config (valid a) (cursor_of v.control key) refl in
-      after a (λ u. Looked v u key) (λ u s. heard v u key (tell_a_sender u.control) refl refl refl refl s)
-      (elim (is_empty_reply (try_recv_reply v o)) as (λ b. Looked v (settle v (sets (listens c (stream_of key) b))) key) [
-        | true ↦ heard v (settle v (sets c)) key (pair_waits c (stream_of key)) refl refl refl refl here
-        | false ↦ heard v (settle v (sets c)) key (pair_answered c (stream_of key)) refl refl refl refl here
+      after a (λ u. Looked v u key)
+      (λ sends. elim (is_empty_reply (try_recv_reply v o)) as (λ b. Looked v (with_sends (settle v (sets (listens c (stream_of key) b))) sends) key) [
+        | true ↦ heard v (settle v (sets c)) key (record (pair_waits c (stream_of key)) { waiting_sends = sends }) refl refl refl refl here
+        | false ↦ heard v (settle v (sets c)) key (record (pair_answered c (stream_of key)) { waiting_sends = sends }) refl refl refl refl here
       ])
 
   -- ---- `new_receiver`
@@ -80,8 +80,9 @@ module _ {S : Type 0} where
 
   pub watches : {is_clone : S → S → Type 0} {v w : View S} {result : Result ℕ HandleError} → Answers is_clone v call.NewReceiver (reply.NewReceiver result) w → IsConfig v → Watches v w result
   watches {v = v} {result = Ok key} a config =
-      let s = after a (λ u. Looked v u key × (get u.control.cursors key ≡ Some v.end)) (λ u s. (heard v u key (tell_a_sender u.control) refl refl refl refl s.0, s.1))
-      (seen_at v key config v.end refl, inserted v.control.cursors key v.end) in
+      let c : Control = with_cursor v.control key v.end in
+      let s = after a (λ u. Looked v u key × (get u.control.cursors key ≡ Some v.end))
+      (λ sends. (heard v (settle v (sets c)) key (record c { waiting_sends = sends }) refl refl refl refl (seen_at v key config v.end refl), inserted v.control.cursors key v.end)) in
       record { config = s.0.config; watcher = s.1; others = s.0.others }
   watches {v = v} {result = Err error} a config = subst (λ u. Watches v u (Err error)) (sym (unchanged a refl)) (record { config = config; watcher = tt; others = tt })
 
@@ -100,7 +101,7 @@ module _ {S : Type 0} where
       test_is (λ floor. length v.queue ≡ max (max v.front floor) low - v.front) (is_full v) (v.front + 1) 0
       (λ full. let full_at : length v.queue ≡ v.control.capacity = grind (arith, common_steps, full) in omega (arith, full_at, one, end, reach, behind))
       (λ room. let room_at : length v.queue ≡ v.control.capacity → ⊥ = grind (arith, common_steps, room) in let none : length v.queue ≡ 0 = omega (arith, fits, one, room_at) in omega (arith, none, end, reach, behind)) in
-      accepted a (λ u. (u.queue ≡ msg ∷ []) × (u.end ≡ v.end + 1)) (λ _ s. s) (drop_at v.queue (msg ∷ []) (max (max v.front (accept v msg).floor) low - v.front) size, refl)
+      accepted a (λ u. (u.queue ≡ msg ∷ []) × (u.end ≡ v.end + 1)) (λ _. (drop_at v.queue (msg ∷ []) (max (max v.front (accept v msg).floor) low - v.front) size, refl))
 
   pub set_latest : {is_clone : S → S → Type 0} {v w : View S} {msg : S} {result : Result (Option S) (TrySendError S)} {kept : Result (Unit {0}) S} → Answers is_clone v (call.TryBroadcast msg) (reply.TryBroadcast result) w → IsConfig v
       → kept ≡ set_answer result → OnOk kept ((w.queue ≡ msg ∷ []) × (w.end ≡ v.end + 1))

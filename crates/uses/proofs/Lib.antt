@@ -1,7 +1,6 @@
 -- what every call leaves
 pub mod Called
 pub mod Sends
-pub mod Exact
 -- a text for two receivers
 pub mod OneMessage
 -- a signal to stop

@@ -16,7 +16,7 @@ module _ {T : Type 0} (msg : T) where
   Only v = All (λ item. item ≡ msg) v.queue
 
   only_next : {is_clone : T → T → Type 0} {v w : View T} {c : Call T} {r : Reply T} → Only v → Answers is_clone v c r w → All (λ item. item ≡ msg) (effect v c r).accepted → Only w
-  only_next {v = v} {c = c} {r = r} only a accepted = after a Only (λ _ o. o) (All-drop (λ item. item ≡ msg) ((settle v (effect v c r)).front - v.front) _ (All-append (λ item. item ≡ msg) v.queue (effect v c r).accepted only accepted))
+  only_next {v = v} {c = c} {r = r} only a accepted = after a Only (λ _. All-drop (λ item. item ≡ msg) ((settle v (effect v c r)).front - v.front) _ (All-append (λ item. item ≡ msg) v.queue (effect v c r).accepted only accepted))
 
   pub only_new : (v : View T) (capacity key : ℕ) → Represents v (opening capacity 0 key) → Only v
   only_new v capacity key new = subst Only (sym new) (All-drop (λ item. item ≡ msg) _ [] (All-nil (λ item. item ≡ msg)))

@@ -5,7 +5,7 @@ use Rattle.std.specs.FinMap.{empty, len}
 use Rattle.bcast_model.specs.declared.run.Call.TheVariants as call
 use Rattle.bcast_model.specs.declared.run.Reply.TheVariants as reply
 use Rattle.bcast_model.specs.declared.error.TrySendError.{TrySendError}
-use Rattle.bcast_model.specs.Words.{has_no_receiver, last_end}
+use Rattle.bcast_model.specs.Words.{Listeners, has_no_receiver, last_end}
 use Rattle.bcast_model.specs.Words.{opening, view_of, try_broadcast_reply, with_message, IsValid}
 use Rattle.bcast_model.specs.Words.{View, Answers, Represents}
 use Rattle.bcast_model.proofs.Least.{len_some}
@@ -13,7 +13,7 @@ use Rattle.bcast_model.proofs.Views.{valid_view}
 use Rattle.bcast_core.proofs.Settle.{inserted}
 use Rattle.uses.specs.Log.{unread, IsReader, KeepsReaders}
 use Rattle.uses.specs.Reading.{HasRoom, IsSent}
-use Rattle.uses.proofs.Called.{told}
+use Rattle.uses.proofs.Called.{with_sends}
 use Rattle.uses.proofs.Sends.{replied, put_last}
 use Rattle.uses.proofs.Logs.{new_log, writes}
 
@@ -48,18 +48,15 @@ module _ {T : Type 0} where
     numbers : u.end + count + 1 < 2 ^ 64
     readers : KeepsReaders v u
 
-  told_left : (v : View T) (count : ℕ) (u : View T) → Left v u count → Left v (told u) count
-  told_left v count u s = record { is_open = s.is_open; receivers = s.receivers; room = s.room; numbers = s.numbers; readers = s.readers }
-
-  left : (v : View T) (msg : T) (count : ℕ) → HasRoom v (count + 1) → Left v (with_message v msg) count
-  left v msg count has =
+  left : (v : View T) (msg : T) (count : ℕ) (sends : Listeners ℕ) → HasRoom v (count + 1) → Left v (with_sends (with_message v msg) sends) count
+  left v msg count sends has =
       let before : ((v.end + 1) == last_end) ≡ false = grind (arith, common_steps, has) in
       grind (arith, common_steps, has, before, length-append v.queue (msg ∷ []))
 
   pub sent : {is_clone : T → T → Type 0} {v w : View T} {msg : T} (count : ℕ) (r : Result (Option T) (TrySendError T)) → Answers is_clone v (call.TryBroadcast msg) (reply.TryBroadcast r) w → HasRoom v (count + 1) → IsSent v w msg count r
   sent {v = v} {msg = msg} count (Ok back) a has =
       let written = writes a has.log in
-      let rest = put_last a has.log.overflow (λ u. Left v u count) (told_left v count) (left v msg count has) in
+      let rest = put_last a has.log.overflow (λ u. Left v u count) (λ sends. left v msg count sends has) in
       record {
         ok = refl;
         room = record { log = written.0; is_open = rest.is_open; receivers = rest.receivers; room = rest.room; numbers = rest.numbers };

@@ -1,13 +1,13 @@
 -- A message that a channel accepts, and one that it refuses.
-use Rattle.std.proofs.Common.{◌≡◌, ◌∷◌, ◌++◌, [], ◌+◌, ◌&&◌, not, Bool, true, false, cond, Option, None, Result, Ok, Err, refl, sym, ap, subst, rules, true≢false, is_ok}
+use Rattle.std.proofs.Common.{◌≡◌, ℕ, ◌∷◌, ◌++◌, [], ◌+◌, ◌&&◌, not, Bool, true, false, cond, Option, None, Result, Ok, Err, refl, sym, ap, subst, rules, true≢false, is_ok}
 use Rattle.bcast_model.specs.declared.run.Call.TheVariants as call
 use Rattle.bcast_model.specs.declared.run.Reply.TheVariants as reply
 use Rattle.bcast_model.specs.Words.{has_no_receiver, handed_back, sets, try_broadcast_reply, accept}
 use Rattle.bcast_model.specs.declared.error.TrySendError.{TrySendError}
-use Rattle.bcast_model.specs.Words.{settle, with_message, View, is_full, Answers}
+use Rattle.bcast_model.specs.Words.{settle, with_message, Listeners, View, is_full, Answers}
 use Rattle.bcast_model.proofs.Cases.{try_is}
 use Rattle.bcast_core.proofs.Offers.{offer_accepted}
-use Rattle.uses.proofs.Called.{told, valid, after}
+use Rattle.uses.proofs.Called.{with_sends, valid, after}
 
 module _ {T : Type 0} where
   -- if a message is accepted, what is handed back is `handed_back`
@@ -28,17 +28,17 @@ module _ {T : Type 0} where
     none_refused a = ap is_ok (sym (replied a))
 
     -- what holds after a message is accepted
-    pub accepted : {back : Option T} → Answers is_clone v (call.TryBroadcast msg) (reply.TryBroadcast (Ok back)) w → (P : View T → Type 0) → ((u : View T) → P u → P (told u)) → P (settle v (accept v msg)) → P w
-    accepted a P keeps here = after a P keeps (subst (λ b. P (settle v (cond b (accept v msg) (sets v.control)))) (sym (none_refused a)) here)
+    pub accepted : {back : Option T} → Answers is_clone v (call.TryBroadcast msg) (reply.TryBroadcast (Ok back)) w → (P : View T → Type 0) → ((sends : Listeners ℕ) → P (with_sends (settle v (accept v msg)) sends)) → P w
+    accepted a P here = after a P (λ sends. subst (λ b. P (with_sends (settle v (cond b (accept v msg) (sets v.control))) sends)) (sym (none_refused a)) (here sends))
 
     -- without overflow the message comes last, and nothing is dropped
-    pub put_last : {back : Option T} → Answers is_clone v (call.TryBroadcast msg) (reply.TryBroadcast (Ok back)) w → v.control.overflow ≡ false → (P : View T → Type 0) → ((u : View T) → P u → P (told u)) → P (with_message v msg) → P w
-    put_last a plain P keeps here =
+    pub put_last : {back : Option T} → Answers is_clone v (call.TryBroadcast msg) (reply.TryBroadcast (Ok back)) w → v.control.overflow ≡ false → (P : View T → Type 0) → ((sends : Listeners ℕ) → P (with_sends (with_message v msg) sends)) → P w
+    put_last a plain P here =
         let room = room_of v.control.closed (has_no_receiver v.control) (is_full v) v.control.overflow _ _ _ _ plain (none_refused a) in
-        after a P keeps (subst P (sym (offer_accepted v msg (valid a) (none_refused a) room.0 room.1)) here)
+        after a P (λ sends. subst (λ u. P (with_sends u sends)) (sym (offer_accepted v msg (valid a) (none_refused a) room.0 room.1)) (here sends))
 
     pub sent_last : {back : Option T} → Answers is_clone v (call.TryBroadcast msg) (reply.TryBroadcast (Ok back)) w → v.control.overflow ≡ false → (w.queue ≡ v.queue ++ msg ∷ []) × (w.end ≡ v.end + 1)
-    sent_last a plain = put_last a plain (λ u. (u.queue ≡ v.queue ++ msg ∷ []) × (u.end ≡ v.end + 1)) (λ _ s. s) (refl, refl)
+    sent_last a plain = put_last a plain (λ u. (u.queue ≡ v.queue ++ msg ∷ []) × (u.end ≡ v.end + 1)) (λ _. (refl, refl))
 
     -- and no message is handed back
     pub sent_answers : {back : Option T} → Answers is_clone v (call.TryBroadcast msg) (reply.TryBroadcast (Ok back)) w → v.control.overflow ≡ false → Answers is_clone v (call.TryBroadcast msg) (reply.TryBroadcast (Ok None)) w

@@ -54,6 +54,6 @@ module _ {is_clone : Nothing → Nothing → Type 0} {v w : View Nothing} {key :
 -- one more worker
 pub added : {is_clone : Nothing → Nothing → Type 0} {v w : View Nothing} {result : Result ℕ HandleError} → Answers is_clone v call.NewReceiver (reply.NewReceiver result) w → IfOk result (AddsWorker (signal_of v) (signal_of w))
 added {v = v} {result = Ok key} a =
-    after a (λ u. AddsWorker (signal_of v) (signal_of u) key) (λ u s. record { holders = s.holders; worker = s.worker; others = s.others; only = s.only })
-    (search (rules, inserted v.control.cursors key v.end, some_insert v.control.cursors key v.end, inserted_other v.control.cursors key v.end))
+    after a (λ u. AddsWorker (signal_of v) (signal_of u) key)
+    (λ _. search (rules, inserted v.control.cursors key v.end, some_insert v.control.cursors key v.end, inserted_other v.control.cursors key v.end))
 added {result = Err error} a = tt

@@ -1,5 +1,6 @@
 -- A log: what each reader is still to read.
 use Rattle.std.specs.Prelude.{◌≡◌, ◌≢◌, ℕ, ◌-◌, ◌≤◌, false, List, [], ◌∷◌, ◌++◌, drop, Option, Some, None, IsSome, Result, Ok}
+use Rattle.std.specs.Option.{option_map_or}
 use Rattle.std.specs.FinMap.{get}
 use Rattle.bcast_model.specs.declared.run.Call.TheVariants as call
 use Rattle.bcast_model.specs.declared.run.Reply.TheVariants as reply
@@ -9,8 +10,7 @@ use Rattle.bcast_model.specs.Words.{Found, NoClone, View, Answers}
 module _ {T : Type 0} where
   -- the kept messages from this cursor on
   abbrev pub kept_from : View T → Option ℕ → List T
-  kept_from v None = []
-  kept_from v (Some cursor) = drop (cursor - v.front) v.queue
+  kept_from v cursor = option_map_or (λ number. drop (number - v.front) v.queue) cursor []
 
   -- what a reader is still to read, in the order of writing: nothing if there is no such reader
   abbrev pub unread : View T → ℕ → List T

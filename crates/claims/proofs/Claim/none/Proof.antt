@@ -1,26 +1,9 @@
 -- by hand: a claim of nothing owns nothing.
-use Rattle.std.proofs.Common.{[], ◌∷◌, None, refl}
-use mir.Syntax.{named}
-use mir.Val.{Val, vptr}
-use base.Logic.{SProp}
-use base.Fml.{ftrue, flft}
-use types.Kit.{‵, raw, ◌⊛◌, ◌$◌, ◌∵◌, !, qed, by, keep, split, fjoin, use0}
-use types.Run.{no_more, and_then, returns, enter}
-use types.ByLocal.{alloc_all, pass_all, free_all, look_at, get, sets}
-use types.Part.{agg}
-use contract.Running.{tables}
-use denote.RattleType.{RattleType, owns}
-use denote.Signature.{types_at, plain}
-use denote.Builtin.{RefOf, unit}
-use denote.Exit.{yes}
-use denote.Ref.{shr_vals, shr_Tells}
-use denote.Steps.{nothing}
-use denote.Triple.Walked.{Stays, stay_dropped, walk_of, Goes-dropped}
-use Rattle.atomic_table.proofs.Walks.{proved}
-use Rattle.logbook.proofs.Fields.{token, Token, token_made, ends}
+use Rattle.claims.proofs.Walks.{[], ◌∷◌, None, refl, named, Val, vptr, SProp, ftrue, flft, ‵, raw, ◌⊛◌, ◌$◌, ◌∵◌, !, qed, by, keep, split, fjoin, use0, no_more, and_then, returns, enter}
+use Rattle.claims.proofs.Walks.{alloc_all, pass_all, free_all, look_at, get, sets, agg, tables, RattleType, owns, types_at, plain, RefOf, unit, yes, shr_vals, shr_Tells, nothing, Stays}
+use Rattle.claims.proofs.Walks.{stay_dropped, walk_of, Goes-dropped, proved, token, Token, token_made, ends, told}
 use Rattle.claims.specs.Owned.{claim_owns}
 use Rattle.claims.proofs.Owned.{holds_nothing}
-use Rattle.claims.proofs.Facts.{told}
 use Rattle.claims.specs.contracts.Claim as Claim
 use Rattle.claims.specs.contracts.Claim.none.{ended, clauses}
 use Rattle.claims.specs.contracts.Claim.none.Key.{name as #self}

@@ -1,30 +1,11 @@
 -- by hand: of the key's entry, the claim takes a quarter.
-use Rattle.std.proofs.Common.{◌≡◌, ℕ, List, [], ◌∷◌, Some, None, w64, refl}
-use mir.Syntax.{named}
-use mir.Val.{Val, vint, vptr}
-use base.Logic.{SProp, via}
-use base.Fml.{ftrue, flft}
-use types.Kit.{‵, ◌⊛◌, given, later, ◌$◌, ◌∵◌, !, qed, by, move, keep, drop, split, join, fsplit, fsplit3}
-use types.Kit.{fjoin, fjoin3, learn, use0, use1, await, feq_i}
-use types.Run.{no_more, and_then, returns, enter}
-use types.ByLocal.{alloc_all, pass_all, free_all, look_at, get, sets}
-use types.Part.{agg}
-use contract.Running.{tables}
-use denote.RattleType.{RattleType, owns}
-use denote.Signature.{types_at, plain}
-use denote.Builtin.{unit, u64, usize}
-use denote.Exit.{yes}
-use denote.Plain.{uint_vals, uint_Tells}
-use denote.Ref.{mut_vals, mut_Tells}
-use denote.Steps.{nothing, opens, closes}
-use denote.Triple.Walked.{Stays, stay_dropped, stay_ref, walk_of, Goes-dropped, Goes-ref}
-use types.Owned.{basic}
-use Rattle.atomic_table.proofs.Walks.{proved}
-use Rattle.logbook.proofs.Fields.{token, Token, token_made, ends}
+use Rattle.claims.proofs.Walks.{◌≡◌, ℕ, List, [], ◌∷◌, Some, None, w64, refl, named, Val, vint, vptr, SProp, via, ftrue, flft, ‵, ◌⊛◌, given, later, ◌$◌, ◌∵◌, !, qed, by, move, keep, drop}
+use Rattle.claims.proofs.Walks.{split, join, fsplit, fsplit3, fjoin, fjoin3, learn, use0, use1, await, feq_i, no_more, and_then, returns, enter, alloc_all, pass_all, free_all, look_at, get}
+use Rattle.claims.proofs.Walks.{sets, agg, tables, RattleType, owns, types_at, plain, unit, u64, usize, yes, uint_vals, uint_Tells, mut_vals, mut_Tells, nothing, opens, closes, Stays}
+use Rattle.claims.proofs.Walks.{stay_dropped, stay_ref, walk_of, Goes-dropped, Goes-ref, basic, proved, token, Token, token_made, ends, told, and_told}
 use Rattle.claims.specs.Claims.{claim_of, put}
 use Rattle.claims.specs.Owned.{registry_owns, claim_owns}
 use Rattle.claims.proofs.Owned.{claims_key}
-use Rattle.claims.proofs.Facts.{told, and_told}
 use Rattle.claims.specs.contracts.Registry as Registry
 use Rattle.claims.specs.contracts.Claim as Claim
 use Rattle.claims.specs.contracts.Registry.claim.{ended, clauses}

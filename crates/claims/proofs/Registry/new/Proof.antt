@@ -1,24 +1,8 @@
 -- by hand: the entries of all keys are made.
-use Rattle.std.proofs.Common.{ℕ, [], ◌∷◌, refl}
-use mir.Val.{Val}
-use base.Logic.{SProp, via}
-use base.Fml.{ftrue}
-use types.Kit.{‵, raw, ◌⊛◌, some, later, ◌$◌, ◌∵◌, !, qed, by, keep, split, fjoin, pick, use0, await}
-use types.Run.{no_more, and_then, returns, enter}
-use types.ByLocal.{alloc_all, pass_all, free_all, look_at, get, sets}
-use types.Part.{agg}
-use types.Owned.{basic}
-use contract.Running.{tables}
-use denote.RattleType.{owns}
-use denote.Signature.{types_at}
-use denote.Builtin.{unit}
-use denote.Steps.{nothing}
-use denote.Triple.Walked.{Stays, walk_of}
-use Rattle.atomic_table.proofs.Walks.{proved}
-use Rattle.logbook.proofs.Fields.{token, Token, token_made, ends}
+use Rattle.claims.proofs.Walks.{ℕ, [], ◌∷◌, refl, Val, SProp, via, ftrue, ‵, raw, ◌⊛◌, some, later, ◌$◌, ◌∵◌, !, qed, by, keep, split, fjoin, pick, use0, await, no_more, and_then, returns}
+use Rattle.claims.proofs.Walks.{enter, alloc_all, pass_all, free_all, look_at, get, sets, agg, basic, tables, owns, types_at, unit, nothing, Stays, walk_of, proved, token, Token, token_made, ends, told}
 use Rattle.claims.specs.Owned.{registry_owns}
 use Rattle.claims.proofs.Owned.{begins}
-use Rattle.claims.proofs.Facts.{told}
 use Rattle.claims.specs.contracts.Registry as Registry
 use Rattle.claims.specs.contracts.Registry.new.{ended, clauses}
 use Rattle.claims.specs.contracts.Registry.new.Key.{name as #self}

@@ -1,27 +1,11 @@
 -- by hand: the claim's quarter and the registry's three quarters are one entry, which is set.
-use Rattle.std.proofs.Common.{◌≡◌, ℕ, List, [], ◌∷◌, Option, Some, IfSome, sym, refl}
-use mir.Syntax.{named}
-use mir.Val.{Val, vunit, vptr}
-use base.Logic.{SProp, via}
-use base.Fml.{ftrue, flft}
-use types.Kit.{‵, ◌⊛◌, given, later, ◌$◌, ◌∵◌, !, qed, by, move, keep, drop, split, join, fsplit, fsplit3}
-use types.Kit.{fjoin, fjoin3, learn, use2, await, rewrite, feq_i}
-use types.Run.{unit_lit, of_opd, returns, enter}
-use types.ByLocal.{alloc_all, pass_all, free_all, look_at, sets}
-use types.Owned.{basic}
-use contract.Running.{tables}
-use denote.RattleType.{RattleType, owns}
-use denote.Signature.{types_at, plain}
-use denote.Exit.{yes}
-use denote.Ref.{mut_vals, mut_Tells}
-use denote.Steps.{nothing, opens, closes}
-use denote.Triple.Walked.{Stays, stay_dropped, stay_ref, walk_of, Goes-dropped, Goes-ref}
-use Rattle.atomic_table.proofs.Walks.{proved}
-use Rattle.logbook.proofs.Fields.{ends}
+use Rattle.claims.proofs.Walks.{◌≡◌, ℕ, List, [], ◌∷◌, Option, Some, IfSome, sym, refl, named, Val, vunit, vptr, SProp, via, ftrue, flft, ‵, ◌⊛◌, given, later, ◌$◌, ◌∵◌, !, qed, by, move}
+use Rattle.claims.proofs.Walks.{keep, drop, split, join, fsplit, fsplit3, fjoin, fjoin3, learn, use2, await, rewrite, feq_i, unit_lit, of_opd, returns, enter, alloc_all, pass_all, free_all}
+use Rattle.claims.proofs.Walks.{look_at, sets, basic, tables, RattleType, owns, types_at, plain, yes, mut_vals, mut_Tells, nothing, opens, closes, Stays, stay_dropped, stay_ref, walk_of}
+use Rattle.claims.proofs.Walks.{Goes-dropped, Goes-ref, proved, ends, told, and_told}
 use Rattle.claims.specs.Claims.{claim_of, changed, put_changed}
 use Rattle.claims.specs.Owned.{registry_owns, claim_owns}
 use Rattle.claims.proofs.Owned.{sets_claim}
-use Rattle.claims.proofs.Facts.{told, and_told}
 use Rattle.claims.proofs.Number.{OptionU64, option_val, option_vals, option_tells, option_typed}
 use Rattle.claims.specs.contracts.Registry as Registry
 use Rattle.claims.specs.contracts.Claim as Claim
