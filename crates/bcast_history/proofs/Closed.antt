@@ -17,7 +17,7 @@ use Rattle.bcast_laws.proofs.Sends.{messages_added, nothing_added}
 use Rattle.bcast_history.specs.History.{Opening, Step, IsHistory, calls_of, replies_of, start_of, end_of, accepted_by}
 use Rattle.bcast_history.specs.Reader.{Takes, TakesNext}
 use Rattle.bcast_history.specs.Tracker.{Tracker, number}
-use Rattle.bcast_history.specs.Closed.{HasReadAll, ClosedIsLast, EndIsLast}
+use Rattle.bcast_history.specs.Laws.{HasReadAll, ClosedIsLast, EndIsLast}
 use Rattle.bcast_history.specs.Log.{IsWholeLog}
 use Rattle.bcast_history.proofs.Logged.{first_kept, logs_are_accepted}
 use Rattle.bcast_history.proofs.Prefixes.{IsPrefix, meet, prefix_self}

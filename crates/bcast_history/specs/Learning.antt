@@ -36,12 +36,10 @@ module _ {T : Type 0} where
           end = two.end;
         };
         there = sym stays ∙ second.there
-            ∙ ap (λ key. next_of (end_of o two.before).control key between.next) first.key
-            ∙ ap (next_of (end_of o two.before).control before.key) stays;
+            ∙ (λ i. next_of (end_of o two.before).control (first.key i) (stays i));
         key = second.key ∙ first.key;
         next = second.next
-            ∙ ap (λ key. next_of (end_of o after.steps).control key between.next) first.key
-            ∙ ap (next_of (end_of o after.steps).control before.key) stays;
+            ∙ (λ i. next_of (end_of o after.steps).control (first.key i) (stays i));
         waits = λ no. second.waits no ∙ stays;
       }
 

@@ -14,6 +14,5 @@ pub mod Makes
 pub mod Laws
 -- several messages in one call
 pub mod Batch
--- a log of what a receiver is given, and that nothing comes after `Closed`
+-- a log of what a receiver is given
 pub mod Log
-pub mod Closed

@@ -44,7 +44,7 @@ module _ {T : Type 0} where
   as_found (Ok poll.Pending) = Ok (Err unread.Empty)
   as_found (Err error) = Err error
 
-  -- what a poll of a stream finds, likewise
+  -- what a stream's poll finds, as a `try_recv` returns it: `Pending` is `Empty`, the end `Closed`
   abbrev pub as_tried : Poll (Option T) → Result T TryRecvError
   as_tried (poll.Ready (Some msg)) = Ok msg
   as_tried (poll.Ready None) = Err unread.Closed

@@ -4,10 +4,9 @@ ghost use Rattle.bcast_history.specs.Makes.{MakesCall, MakesLast};
 ghost use Rattle.bcast_history.specs.Reader.{StartsAtTheEnd};
 ghost use Rattle.bcast_history.specs.Tracker.{Tracker as Known};
 
-use crate::caller::{Channel, Seen};
 use crate::port::HistoryPort;
 use crate::receiver::TrackedReceiver;
-use crate::tracker::Tracker;
+use crate::tracker::{Channel, Seen, Tracker};
 use bcast_core::{AddReceiver, Call, Change, HandleError, Reply};
 
 /// Receives nothing, and can become an active receiver, as `InactiveReceiver` of `async_broadcast`.
@@ -23,7 +22,7 @@ impl<T: Clone, P: HistoryPort<T, J>, J: Channel> TrackedInactiveReceiver<T, P, J
     pub fn seen(&self) -> Seen<T, J>
         ensures { result ≡ self.now.tracker.steps }
     {
-        self.tracker.caller.seen()
+        self.tracker.caller.seen.same()
     }
 
     /// Turns the inactive receiver into an active one, whose first message is the next one that is

@@ -4,10 +4,11 @@ ghost use Rattle.std.specs.Iterator.{at_most};
 ghost use Rattle.std.specs.Sync.Forever.{forever_left};
 ghost use Rattle.async_broadcast.specs.Ports.{as_try_recv};
 ghost use Rattle.async_broadcast.specs.Timed.{as_received, IsNoEnd, EndsLoop};
+ghost use Rattle.bcast_history.specs.Makes.{ReceivesOnce};
 
-use crate::caller::Channel;
 use crate::port::HistoryPort;
 use crate::receiver::TrackedReceiver;
+use crate::tracker::Channel;
 use async_broadcast::{RecvError, RecvResult, TryRecvError};
 use std::sync::{Forever, Wait};
 
@@ -50,8 +51,6 @@ impl<T: Clone, P: HistoryPort<T, J>, J: Channel> TrackedReceiver<T, P, J> {
 impl<T: Clone, P: HistoryPort<T, J>, J: Channel, R: Wait> Iterator for TrackedIter<'_, T, P, J, R> {
     type Item = RecvResult<T, RecvError>;
 
-    ghost use Rattle.bcast_history.specs.Makes.{ReceivesOnce};
-
     ghost next_gives = { λ old item new. IfSome item IsNoEnd
         × ReceivesOnce P.learns T.is_clone J.opening old.receiver.now.tracker
         new.receiver.now.tracker (as_try_recv (as_received item)) };
@@ -84,8 +83,6 @@ pub struct TrackedTryIter<'a, T: Clone, P: HistoryPort<T, J>, J: Channel> {
 
 impl<T: Clone, P: HistoryPort<T, J>, J: Channel> Iterator for TrackedTryIter<'_, T, P, J> {
     type Item = RecvResult<T, RecvError>;
-
-    ghost use Rattle.bcast_history.specs.Makes.{ReceivesOnce};
 
     ghost next_gives = { λ old item new. (new.turns ≡ old.turns - 1)
         × IfSome item (λ received. IsNoEnd received × ReceivesOnce P.learns T.is_clone

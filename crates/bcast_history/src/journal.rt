@@ -6,20 +6,18 @@
 //! of the next note, so the notes are a chain that only the writer makes longer. So a note comes right
 //! after those that the writer knows, whatever else came to the log, and `append` can neither fail nor
 //! wait.
-ghost use Rattle.std.specs.Prelude.{◌≡◌, ◌++◌, ◌∷◌, []};
+ghost use Rattle.std.specs.Prelude.{◌≡◌, ◌++◌, ◌∷◌, List, []};
 ghost use mathlib.Core.List.{IsPrefix};
 ghost use Rattle.logbook.specs.Pages.{may_write};
-ghost use Rattle.bcast_history.specs.Book.{head_of};
+ghost use Rattle.bcast_history.specs.Book.{Chain, IsEnded, chain_coded, head_of, notes_of, turn_of};
 
 use crate::rule::{Added, Adding, AtHome, Entry, Making, NoGain};
-use logbook::{Offer, Pen, Seen, Start, Word};
+use logbook::{Pen, Seen, Start, Word};
 use std::marker::{Brand, Model, PhantomData};
 
 /// Names a journal in the types of all that belongs to it. A program picks the name, by `Brand`, at
 /// the call of a function over it.
 pub trait Named {
-    ghost use Rattle.bcast_history.specs.Book.{Chain};
-
     ghost book: { Chain };
 }
 
@@ -44,10 +42,6 @@ pub struct Journal<X> {
 }
 
 impl<X> Model for Journal<X> {
-    ghost use Rattle.std.specs.Prelude.{◌≡◌, []};
-    ghost use Rattle.logbook.specs.Pages.{may_write};
-    ghost use Rattle.bcast_history.specs.Book.{Chain, chain_coded, head_of};
-
     ghost Value = { Chain };
 
     ghost coded = { chain_coded };
@@ -67,7 +61,7 @@ fn new_pen<X>(head: &Word<Entry<X>, u64, AtHome>, seen: &Seen<Entry<X>, u64, AtH
     ensures { (result.book ≡ seen.now.book) × (result.nib.right ≡ may_write) }
 {
     let mut seen = seen.again();
-    let mut offer: Offer<Entry<X>, u64, AtHome, NoGain> = seen.plain::<NoGain, (), Making>(&());
+    let mut offer = seen.plain::<NoGain, (), Making>(&());
     let mut pen = seen.no_pen();
     head.compare_exchange::<Making, NoGain>(0, 0, &mut seen, &mut offer, &mut pen);
     let _cell: Word<Entry<X>, u64, AtHome> = Word::tracked(0, &mut pen);
@@ -106,9 +100,6 @@ pub struct Prefix<X, J: Named> {
 }
 
 impl<X, J: Named> Model for Prefix<X, J> {
-    ghost use Rattle.std.specs.Prelude.{◌≡◌, List};
-    ghost use Rattle.bcast_history.specs.Book.{notes_of};
-
     ghost Value = { List X };
 
     ghost view = { λ p. notes_of J.book.first p.seen.log };
@@ -149,10 +140,6 @@ pub struct Writer<X, J: Named> {
 }
 
 impl<X, J: Named> Model for Writer<X, J> {
-    ghost use Rattle.std.specs.Prelude.{◌≡◌, List};
-    ghost use Rattle.logbook.specs.Pages.{may_write};
-    ghost use Rattle.bcast_history.specs.Book.{head_of, notes_of, turn_of};
-
     ghost Value = { List X };
 
     ghost view = { λ w. notes_of J.book.first w.seen.log };
@@ -178,11 +165,7 @@ impl<X, J: Named> Writer<X, J> {
         let next = new_pen(&self.head, &self.seen);
         let mut seen = self.seen.again();
         seen.learn(&known.seen);
-        let mut offer: Offer<Entry<X>, u64, AtHome, NoGain> = seen.plain::<
-            NoGain,
-            Added<Y>,
-            Adding,
-        >(&Added {
+        let mut offer = seen.plain::<NoGain, Added<Y>, Adding>(&Added {
             about,
             turn: &self.pen,
             next: &next,
@@ -215,9 +198,7 @@ impl<X, J: Named> Writer<X, J> {
             mut seen,
             of,
         } = self;
-        let mut offer: Offer<Entry<X>, u64, AtHome, NoGain> = seen.plain::<NoGain, Pen, Adding>(
-            &pen,
-        );
+        let mut offer = seen.plain::<NoGain, Pen, Adding>(&pen);
         head.compare_exchange::<Adding, NoGain>(0, 0, &mut seen, &mut offer, &mut pen);
         Whole { seen, of }
     }
@@ -231,9 +212,6 @@ pub struct Whole<X, J: Named> {
 }
 
 impl<X, J: Named> Model for Whole<X, J> {
-    ghost use Rattle.std.specs.Prelude.{◌≡◌, List};
-    ghost use Rattle.bcast_history.specs.Book.{notes_of, IsEnded};
-
     ghost Value = { List X };
 
     ghost view = { λ w. notes_of J.book.first w.seen.log };

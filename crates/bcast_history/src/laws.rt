@@ -1,8 +1,8 @@
 //! What follows from what calls tell.
 ghost use Rattle.bcast_model.specs.Words.{NoClone};
 ghost use Rattle.bcast_history.specs.Laws.{MessagesStay, SendsStandLast, ReceiversReadOn};
+ghost use Rattle.bcast_history.specs.Laws.{ClosedIsLast, EndIsLast};
 ghost use Rattle.bcast_history.specs.Log.{LogsAreAccepted};
-ghost use Rattle.bcast_history.specs.Closed.{ClosedIsLast, EndIsLast};
 
 /// Law: a message keeps its number, whatever calls follow. So what two receivers are given of the
 /// same number is the same message, or a clone of it.

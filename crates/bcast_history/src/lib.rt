@@ -18,8 +18,8 @@
 //! receiver at the end.
 //!
 //! No step is stored: the journal is a word, which stays 0, and what contracts know of its notes.
-//! One `Writer` knows them all, and lies behind the lock; a `Prefix` has no bytes, and knows a
-//! beginning. Beside the writer lies a registry, also without bytes, in which each receiver's cursor is
+//! One `Writer` knows them all, and is guarded by the lock; a `Prefix` has no bytes, and knows a
+//! beginning. The lock also guards a registry without bytes, in which each receiver's cursor is
 //! claimed: so what a handle knows of its receiver is so, and needs no look at the channel.
 //!
 //! The channel's parameter is `J: Channel`, which names it. A program uses the channel inside a
@@ -32,8 +32,6 @@
 //! ```
 #![tactic(auto)]
 
-mod caller;
-mod cursor;
 mod inactive;
 mod iter;
 mod journal;
@@ -44,13 +42,10 @@ mod port;
 mod receiver;
 mod rule;
 mod sender;
-mod settings;
 mod step;
 mod steps;
 mod tracker;
 
-pub use caller::{Channel, Seen, TrackedCaller};
-pub use cursor::Cursor;
 pub use inactive::TrackedInactiveReceiver;
 pub use iter::{TrackedIter, TrackedTryIter};
 pub use journal::{Journal, Named, Notes, Prefix, Whole, Writer};
@@ -65,4 +60,4 @@ pub use receiver::TrackedReceiver;
 pub use sender::TrackedSender;
 pub use step::{Opening, Step};
 pub use steps::StepJournal;
-pub use tracker::{ReceiverTracker, Tracker};
+pub use tracker::{Channel, Cursor, ReceiverTracker, Seen, TrackedCaller, Tracker};

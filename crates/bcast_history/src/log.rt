@@ -2,14 +2,14 @@
 //! one that is cut short.
 ghost use Rattle.std.specs.Prelude.{◌≡◌, Some, IfOk, IfErr, OnOk, codes};
 ghost use Rattle.bcast_model.specs.Words.{ClonesEqual};
-ghost use Rattle.bcast_history.specs.Closed.{HasReadAll};
-ghost use Rattle.bcast_history.specs.Log.{IsCutLog, IsWholeLog, cut_log_text};
+ghost use Rattle.bcast_history.specs.Laws.{HasReadAll};
+ghost use Rattle.bcast_history.specs.Log.{IsCutLog, IsWholeLog, Logged, cut_log_text};
 ghost use Rattle.bcast_history.specs.Makes.{MakesReceives};
 ghost use Rattle.bcast_history.specs.Reader.{StartsAtTheFirst};
 
-use crate::caller::{Channel, Seen};
 use crate::port::HistoryPort;
 use crate::receiver::TrackedReceiver;
+use crate::tracker::{Channel, Seen};
 use bcast_core::RecvError;
 use std::alloc::{AllocError, Allocator, Global};
 use std::error::Error;
@@ -27,8 +27,6 @@ pub struct WholeLog<T: Clone, J: Channel, A: Allocator = Global> {
 }
 
 impl<T: Clone, J: Channel, A: Allocator> Model for WholeLog<T, J, A> {
-    ghost use Rattle.bcast_history.specs.Log.{Logged, IsWholeLog};
-
     ghost Value = { Logged T };
 
     ghost view = { λ l. record { list = l.list.items; steps = l.seen } };
@@ -67,6 +65,16 @@ impl<T: Clone, J: Channel, A: Allocator> WholeLog<T, J, A> {
     {
         let mut both = self.seen.same();
         both.learn(&other.seen);
+    }
+
+    /// The messages of this log and those of another one of this channel: the same list twice, if
+    /// clones are equal.
+    pub fn into_lists<B: Allocator>(self, other: WholeLog<T, J, B>) -> (Vec<T, A>, Vec<T, B>)
+        ensures own { (result.0.items ≡ self.list) × (result.1.items ≡ other.list) }
+        ensures same { ClonesEqual T.is_clone → result.0.items ≡ result.1.items }
+    {
+        self.agrees_with(&other);
+        (self.into_list(), other.into_list())
     }
 }
 

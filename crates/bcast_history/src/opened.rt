@@ -1,15 +1,13 @@
 //! A channel that was made, before it has a name, and its first handles.
 ghost use Rattle.std.specs.Prelude.{◌≡◌, ◌<◌, [], Some, IfOk};
 
-use crate::caller::{Channel, TrackedCaller};
-use crate::cursor::Cursor;
 use crate::journal::Journal;
 use crate::port::History;
 use crate::receiver::TrackedReceiver;
 use crate::sender::TrackedSender;
 use crate::step::{Opening, Step};
 use crate::steps::StepJournal;
-use crate::tracker::Tracker;
+use crate::tracker::{Channel, Cursor, TrackedCaller, Tracker};
 use async_broadcast::{Lock, PortFor, Wake};
 use bcast_core::Inner;
 use claims::Registry;
@@ -103,7 +101,7 @@ pub fn broadcast<T: Clone, R: Wait + Clone, J: Channel, A: Allocator + Copy>(
     let cursor = Cursor::new(&mut registry, opening.first_key, opening.first_number);
     let steps = StepJournal::new(journal, registry);
     let caller = TrackedCaller {
-        seen: steps.seen(),
+        seen: steps.writer.prefix(),
         end: opening.first_number,
         cursor,
     };

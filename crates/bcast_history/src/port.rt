@@ -1,10 +1,12 @@
 //! Ports of a channel whose calls have their places in one history.
-ghost use Rattle.std.specs.Prelude.{Ok, Err, IfOk, IfErr};
+ghost use Rattle.std.specs.Prelude.{ℕ, Ok, Err, IfOk, IfErr};
+ghost use Rattle.bcast_model.specs.declared.run.Call.{Call};
+ghost use Rattle.bcast_model.specs.declared.run.Reply.{Reply};
 ghost use Rattle.bcast_core.specs.Calls.{receiver_call, receiver_reply};
-ghost use Rattle.bcast_history.specs.Tracker.{Begins};
+ghost use Rattle.bcast_history.specs.Tracker.{Begins, Learns, Tracker};
 
-use crate::caller::{Channel, TrackedCaller};
 use crate::steps::StepJournal;
+use crate::tracker::{Channel, TrackedCaller};
 use async_broadcast::{CallJournal, Lock, PortFor, TimedPortFor};
 use bcast_core::{AddReceiver, HandleError};
 use std::alloc::{Allocator, Global};
@@ -13,10 +15,6 @@ use std::sync::Wait;
 /// A port to the channel that `J` names, for its handles. Functions over tracked handles are written
 /// over it: `P: HistoryPort<u64, J>`. `History` is one.
 pub trait HistoryPort<T: Clone, J: Channel>: PortFor<T, TrackedCaller<T, J>> {
-    ghost use Rattle.bcast_model.specs.declared.run.Call.{Call};
-    ghost use Rattle.bcast_model.specs.declared.run.Reply.{Reply};
-    ghost use Rattle.bcast_history.specs.Tracker.{Tracker, Learns};
-
     /// Adds a receiver by this call, with its errors. Returns the receiver's key, and who makes its
     /// calls, which knows as much as `caller` then.
     fn add_receiver(
@@ -51,11 +49,6 @@ impl<
 /// It is a trait of its own, and not `StepJournal` alone, since the checker can't yet give `u64` to
 /// an impl of `HistoryPort` that names `StepJournal<T, J>`.
 pub trait TracksCalls<T: Clone, J: Channel>: CallJournal<T, Caller = TrackedCaller<T, J>> {
-    ghost use Rattle.std.specs.Prelude.{ℕ};
-    ghost use Rattle.bcast_model.specs.declared.run.Call.{Call};
-    ghost use Rattle.bcast_model.specs.declared.run.Reply.{Reply};
-    ghost use Rattle.bcast_history.specs.Tracker.{Tracker, Begins, Learns};
-
     ghost follows: { (known after : Tracker T) (call : Call T) (reply : Reply T)
         → Self.learns known call reply after
         → Learns T.is_clone J.opening known call reply after };

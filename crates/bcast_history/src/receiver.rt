@@ -1,26 +1,31 @@
 //! The receiving side.
-ghost use Rattle.std.specs.Prelude.{◌≡◌, true, ◌-◌, ℕ, min, Some, Ok, Err, IfOk, IfErr};
+ghost use Rattle.std.specs.Prelude.{◌≡◌, ◌⊎◌, ◌-◌, ℕ, min, true, Some, Ok, Err};
+ghost use Rattle.std.specs.Prelude.{IfOk, IfErr, OnErr};
+ghost use Rattle.futures.specs.Task.{IsArmed, Keeps};
+ghost use Rattle.futures.specs.Poll.{OnPending};
 ghost use Rattle.bcast_model.specs.Words.{cursor_of};
 ghost use Rattle.async_broadcast.specs.Ports.{as_try_recv};
 ghost use Rattle.async_broadcast.specs.Timed.{as_timed_try};
 ghost use Rattle.bcast_history.specs.History.{IsLawful, end_of};
-ghost use Rattle.bcast_history.specs.Makes.{MakesCall, MakesLast, MakesNone, ReceivesOnce};
-ghost use Rattle.bcast_history.specs.Reader.{StaysAt};
-ghost use Rattle.bcast_history.specs.Tracker.{IsReceiver, count_behind};
+ghost use Rattle.bcast_history.specs.Makes.{MakesCall, MakesLast, MakesNone};
+ghost use Rattle.bcast_history.specs.Makes.{MakesReceives, PollsOnce, ReceivesOnce};
+ghost use Rattle.bcast_history.specs.Reader.{IsShared, StaysAt, TakesNext};
+ghost use Rattle.bcast_history.specs.Tracker.{IsReceiver, count_behind, number};
 
-use crate::caller::{Channel, Seen};
 use crate::inactive::TrackedInactiveReceiver;
 use crate::port::{HistoryPort, TimedHistoryPort};
-use crate::tracker::{ReceiverTracker, Tracker};
-use async_broadcast::{RecvTimeoutError, TaskWaker};
+use crate::tracker::{Channel, ReceiverTracker, Seen, Tracker};
+use async_broadcast::{RecvResult, RecvTimeoutError, TaskWaker};
 use bcast_core::{
-    AddHandle, AddReceiver, Call, Change, Close, Count, HandleError, RecvError, RecvResult, Reply,
+    AddHandle, AddReceiver, Call, Change, Close, Count, HandleError, PollRecv, RecvError, Reply,
     TryRecv, TryRecvError,
 };
+use futures::task::{Context, Poll};
+use std::alloc::AllocError;
+use std::sync::Wait;
 use std::time::Duration;
 
 mod batch;
-mod polling;
 
 /// Receives each message that a channel with a history accepts, from the receiver's start on, or the
 /// number of messages that it missed, as `Receiver` of `async_broadcast` does. It promises that none
@@ -53,7 +58,7 @@ impl<T: Clone, P: HistoryPort<T, J>, J: Channel> TrackedReceiver<T, P, J> {
     pub fn seen(&self) -> Seen<T, J>
         ensures { result ≡ self.now.tracker.steps }
     {
-        self.tracker.inner.caller.seen()
+        self.tracker.inner.caller.seen.same()
     }
 
     /// Proves that what the receiver knows is a run of the channel, of which all laws speak, and
@@ -89,6 +94,69 @@ impl<T: Clone, P: HistoryPort<T, J>, J: Channel> TrackedReceiver<T, P, J> {
         let Tracker { caller } = inner;
         let key = caller.key();
         self.port.receive_waiting(caller, key)
+    }
+
+    /// Receives the next message, or leaves the task waiting for it: as `Receiver::poll_recv`,
+    /// with its errors.
+    pub fn poll_recv(
+        &mut self,
+        cx: &mut Context<'_>,
+    ) -> Result<Poll<Option<Result<T, RecvError>>>, AllocError>
+        ensures polled { IfOk result (λ poll. PollsOnce P.learns T.is_clone J.opening
+            self.old.tracker self.new.tracker (Ok poll)) }
+        ensures refused { IfErr result (λ error. ((self.new.tracker ≡ self.old.tracker)
+            × (self.new.waker.is_refused ≡ true)) ⊎ PollsOnce P.learns T.is_clone J.opening
+            self.old.tracker self.new.tracker (Err error)) }
+        ensures registered { IfOk result (λ poll. OnPending poll (IsArmed cx.new)) }
+        ensures kept { Keeps cx.old cx.new }
+    {
+        let ReceiverTracker { inner } = &mut self.tracker;
+        let Tracker { caller } = inner;
+        let key = caller.key();
+        match self.port.poll(caller, PollRecv(key), &mut self.waker, cx) {
+            Ok(polled) => polled,
+            Err(_) => Err(AllocError),
+        }
+    }
+
+    /// Receives the next message that is kept for the receiver, or leaves the task waiting for it, as
+    /// the stream of a `Receiver` does: what it missed is skipped.
+    ///
+    /// `Ready(None)`: every message was read, and the channel is closed.
+    ///
+    /// # Errors
+    ///
+    /// - `AllocError`: no memory for a notice, or for a clone of a message that others have still
+    ///   to read. What was skipped till then stays skipped.
+    pub fn poll_next(
+        &mut self,
+        rt: &impl Wait,
+        cx: &mut Context<'_>,
+    ) -> Result<Poll<Option<T>>, AllocError>
+        ensures only { MakesReceives P.learns self.old.tracker self.new.tracker }
+        ensures takes { TakesNext T.is_clone J.opening self.old.tracker self.new.tracker result }
+        ensures refused { OnErr result ((self.new.waker.is_refused ≡ true)
+            ⊎ IsShared (end_of J.opening self.new.tracker.steps)
+            self.new.tracker.key (number self.new.tracker.next)) }
+        ensures registered { IfOk result (λ poll. OnPending poll (IsArmed cx.new)) }
+        ensures kept { Keeps cx.old cx.new }
+    {
+        for _ in rt.forever() {
+            let Poll::Ready(next) = self.poll_recv(cx)? else {
+                return Ok(Poll::Pending);
+            };
+            let Some(received) = next else {
+                return Ok(Poll::Ready(None));
+            };
+            match received {
+                Ok(msg) => return Ok(Poll::Ready(Some(msg))),
+                Err(error) => match error {
+                    RecvError::Overflowed(_) => {}
+                    RecvError::Closed => return Ok(Poll::Ready(None)),
+                },
+            }
+        }
+        unreachable!()
     }
 
     /// Makes another receiver, which has the same messages still to read: as `Receiver::clone`,

@@ -4,6 +4,9 @@
 //! where it stays. Each entry of the log is added in the step that brings its cell home, and by the
 //! rule the cells of all entries are at home. So while a cell is away there is no entry with it, and
 //! only its pen can add one: each cell was brought home by one entry.
+ghost use Rattle.std.specs.Prelude.{[], Some, None};
+ghost use base.Fml.{ftrue};
+ghost use Rattle.bcast_history.specs.Book.{Adds, IsKept, Makes};
 
 use crate::journal::Notes;
 use logbook::{Gain, Pen, Plain, Play, Rule};
@@ -22,10 +25,6 @@ pub struct Entry<X> {
 pub struct AtHome;
 
 impl<X> Rule<Entry<X>, u64> for AtHome {
-    ghost use Rattle.std.specs.Prelude.{[]};
-    ghost use base.Fml.{ftrue};
-    ghost use Rattle.bcast_history.specs.Book.{IsKept};
-
     ghost holds = { λ cells log. IsKept cells log };
 
     ghost first = { [] };
@@ -43,8 +42,6 @@ impl<X> Rule<Entry<X>, u64> for AtHome {
 pub struct NoGain;
 
 impl<X> Gain<Entry<X>, u64> for NoGain {
-    ghost use base.Fml.{ftrue};
-
     ghost after = { λ names about answer. ftrue };
 }
 
@@ -52,14 +49,10 @@ impl<X> Gain<Entry<X>, u64> for NoGain {
 pub struct Making;
 
 impl<X> Play<Entry<X>, u64> for Making {
-    ghost use Rattle.bcast_history.specs.Book.{Makes};
-
     ghost then = { Makes };
 }
 
 impl<X> Plain<(), Entry<X>, u64> for Making {
-    ghost use Rattle.std.specs.Prelude.{None};
-
     ghost ask = { λ about. record { note = None; key = 0; next = 0 } };
 
     ghost state = { λ about. None };
@@ -69,8 +62,6 @@ impl<X> Plain<(), Entry<X>, u64> for Making {
 pub struct Adding;
 
 impl<X> Play<Entry<X>, u64> for Adding {
-    ghost use Rattle.bcast_history.specs.Book.{Adds};
-
     ghost then = { Adds };
 }
 
@@ -83,8 +74,6 @@ pub struct Added<'a, Y> {
 }
 
 impl<'a, X, Y: Notes<X>> Plain<Added<'a, Y>, Entry<X>, u64> for Adding {
-    ghost use Rattle.std.specs.Prelude.{None, Some};
-
     ghost ask = { λ a. record {
       note = Some (Y.note a.about.now);
       key = a.turn.now.nib.key;
@@ -97,8 +86,6 @@ impl<'a, X, Y: Notes<X>> Plain<Added<'a, Y>, Entry<X>, u64> for Adding {
 // The entry that ends a chain has no note, and names its own cell, which no other entry can bring
 // home.
 impl<X> Plain<Pen, Entry<X>, u64> for Adding {
-    ghost use Rattle.std.specs.Prelude.{None};
-
     ghost ask = { λ pen. record { note = None; key = pen.nib.key; next = pen.nib.key } };
 
     ghost state = { λ pen. None };

@@ -1,15 +1,16 @@
 //! The journal of such a channel: the steps on it.
-ghost use Rattle.std.specs.Prelude.{◌≡◌, ◌<◌, ◌++◌, [], length, map};
+ghost use Rattle.std.specs.Prelude.{◌≡◌, ◌<◌, ◌++◌, List, [], Ok, length, map};
 ghost use mathlib.Core.List.{IsPrefix};
-ghost use Rattle.bcast_model.specs.Words.{IsValid};
+ghost use Rattle.bcast_model.specs.Words.{IsValid, Represents};
+ghost use Rattle.bcast_core.specs.Calls.{receiver_call, receiver_reply};
 ghost use Rattle.bcast_history.specs.Batch.{received};
-ghost use Rattle.bcast_history.specs.History.{start_of};
 ghost use Rattle.bcast_history.specs.Cursors.{AreCursors};
+ghost use Rattle.bcast_history.specs.History.{IsLawful, Step, end_of, start_of};
+ghost use Rattle.bcast_history.specs.Tracker.{Begins, Learns};
 
-use crate::caller::{Channel, Seen, TrackedCaller};
-use crate::cursor::Cursor;
 use crate::journal::{Journal, Notes, Writer};
 use crate::step::Step;
+use crate::tracker::{Channel, Cursor, Seen, TrackedCaller};
 use async_broadcast::{CallJournal, Wake};
 use bcast_core::{AddReceiver, CallOf, Inner};
 use claims::Registry;
@@ -20,17 +21,12 @@ use std::snapshot::Snapshot;
 /// The steps on a channel, for contracts. They are a run of it.
 #[derive(Drop)]
 pub struct StepJournal<T: Clone, J: Channel> {
-    writer: Writer<Step<T>, J>,
+    pub(crate) writer: Writer<Step<T>, J>,
     // The receivers' cursors that are claimed: where each reads on.
     registry: Registry,
 }
 
 impl<T: Clone, J: Channel> Model for StepJournal<T, J> {
-    ghost use Rattle.std.specs.Prelude.{◌≡◌, List};
-    ghost use Rattle.bcast_history.specs.declared.step.Step.{Step};
-    ghost use Rattle.bcast_history.specs.History.{IsLawful, end_of};
-    ghost use Rattle.bcast_history.specs.Cursors.{AreCursors};
-
     ghost Value = { List (Step T) };
 
     ghost view = { λ s. s.writer };
@@ -54,13 +50,6 @@ impl<T: Clone, J: Channel> StepJournal<T, J> {
             registry,
         }
     }
-
-    // All steps so far.
-    pub(crate) fn seen(&self) -> Seen<T, J>
-        ensures { result ≡ self.now }
-    {
-        self.writer.prefix()
-    }
 }
 
 // What was made, as a step.
@@ -78,34 +67,17 @@ impl<'a, T, C: CallOf<T>> Notes<Step<T>> for ShownStep<'a, T, C> {
     } };
 }
 
-// A receiver that was added, as a step.
-#[derive(Drop)]
-struct ShownReceiver {
-    call: AddReceiver,
-    key: usize,
-}
-
-impl<T> Notes<Step<T>> for ShownReceiver {
-    ghost use Rattle.std.specs.Prelude.{Ok};
-    ghost use Rattle.bcast_core.specs.Calls.{receiver_call, receiver_reply};
-
+// The call that added a receiver, with the receiver's key, as a step.
+impl<T> Notes<Step<T>> for (AddReceiver, usize) {
     ghost note = { λ shown. record {
-      call = receiver_call shown.call;
-      reply = receiver_reply shown.call (Ok shown.key);
+      call = receiver_call shown.0;
+      reply = receiver_reply shown.0 (Ok shown.1);
     } };
 }
 
-// A receive that gave this message, as a step.
-#[derive(Drop)]
-struct ShownReceive<'a, T> {
-    key: usize,
-    msg: &'a T,
-}
-
-impl<'a, T> Notes<Step<T>> for ShownReceive<'a, T> {
-    ghost use Rattle.bcast_history.specs.Batch.{received};
-
-    ghost note = { λ shown. received shown.key shown.msg.now };
+// A receive by the receiver of this key that gave this message, as a step.
+impl<'a, T> Notes<Step<T>> for (usize, &'a T) {
+    ghost note = { λ shown. received shown.0 shown.1.now };
 }
 
 // Appends a receive by this receiver for each of these messages, in their order.
@@ -121,14 +93,11 @@ fn append_each<T: Clone, J: Channel>(
     ensures knows { known.new ≡ writer.new }
 {
     for msg in msgs {
-        writer.append(known, &ShownReceive { key, msg });
+        writer.append(known, &(key, msg));
     }
 }
 
 impl<T: Clone, J: Channel> CallJournal<T> for StepJournal<T, J> {
-    ghost use Rattle.bcast_model.specs.Words.{Represents};
-    ghost use Rattle.bcast_history.specs.History.{end_of};
-    ghost use Rattle.bcast_history.specs.Tracker.{Begins, Learns};
     ghost use Rattle.bcast_history.specs.Learning.{again, moves_on};
 
     type Caller = TrackedCaller<T, J>;
@@ -172,8 +141,7 @@ impl<T: Clone, J: Channel> CallJournal<T> for StepJournal<T, J> {
         _before: &Snapshot<Inner<T, Wake, A>>,
         after: &Inner<T, Wake, A>,
     ) -> TrackedCaller<T, J> {
-        let added = ShownReceiver { call, key };
-        self.writer.append(&mut caller.seen, &added);
+        self.writer.append(&mut caller.seen, &(call, key));
         caller.end = after.end_number();
         caller.cursor.read_on(&mut self.registry, after);
         let Some(next) = after.cursor(key) else {

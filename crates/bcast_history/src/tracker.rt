@@ -1,16 +1,166 @@
-//! What a handle knows of its channel, and the calls that it makes.
-ghost use Rattle.std.specs.Prelude.{◌≡◌, Ok, Err, IfSome, IfOk, IfErr};
+//! What a handle knows of its channel, who makes its calls, and where its receiver reads on, if it
+//! has one.
+ghost use Rattle.std.specs.Prelude.{◌≡◌, ℕ, Some, None, Ok, Err, IfSome, IfOk, IfErr};
+ghost use Rattle.claims.specs.Claims.{claim_of, put, put_changed};
+ghost use Rattle.bcast_model.specs.Words.{HasPositiveCapacity, end_number};
 ghost use Rattle.bcast_core.specs.Calls.{receiver_call, receiver_reply};
-ghost use Rattle.bcast_model.specs.Words.{HasPositiveCapacity};
 ghost use Rattle.async_broadcast.specs.Ports.{moved_by};
-ghost use Rattle.bcast_history.specs.History.{IsLawful, end_of};
+ghost use Rattle.bcast_history.specs.Cursors.{Cursor as Place};
+ghost use Rattle.bcast_history.specs.History.{IsLawful, Opening, end_of};
 ghost use Rattle.bcast_history.specs.Makes.{MakesCall};
-ghost use Rattle.bcast_history.specs.Tracker.{Begins, HasNewSender, IsOf, next_of};
+ghost use Rattle.bcast_history.specs.Tracker.{Tracker as Known, Begins, HasNewSender, IsOf};
+ghost use Rattle.bcast_history.specs.Tracker.{IsReceiver, next_of};
 
-use crate::caller::{Channel, TrackedCaller};
+use crate::journal::{Named, Prefix};
 use crate::port::HistoryPort;
-use bcast_core::{AddReceiver, AtOnce, HandleError};
-use std::marker::Model;
+use crate::step::Step;
+use async_broadcast::{Caller, Wake};
+use bcast_core::{AddReceiver, AtOnce, HandleError, Inner};
+use claims::{Claim, Registry};
+use std::alloc::Allocator;
+use std::marker::{Brand, Model};
+
+/// Names a channel in the types of all that belongs to it: its journal, what it was opened with, and
+/// the registry in which its receivers' cursors are claimed.
+pub trait Channel: Named {
+    ghost opening: { Opening };
+
+    ghost registry: { ℕ };
+}
+
+impl Channel for Brand {
+    ghost opening = { record { capacity = 1; first_number = 0; first_key = 0 } };
+
+    ghost registry = { 0 };
+}
+
+/// What is known of the steps on a channel: a beginning of them. A contract sees these steps.
+///
+/// All that is known of one channel are beginnings of one list. It has no bytes.
+pub type Seen<T, J> = Prefix<Step<T>, J>;
+
+/// A receiver's key, and the number of the message that it reads next, which only its owner can
+/// change: it has the claim to both. Or no receiver's.
+#[derive(Drop)]
+pub struct Cursor {
+    key: usize,
+    next: Option<u64>,
+    claim: Claim,
+}
+
+impl Model for Cursor {
+    ghost Value = { Place };
+
+    ghost view = { λ c. record { registry = c.claim.registry; key = c.key; next = c.next } };
+
+    ghost invariant = { λ c. (c.claim.key ≡ c.key) × (c.claim.number ≡ c.next) };
+}
+
+impl Cursor {
+    /// Of a receiver that reads on there, and whose key nobody has claimed.
+    pub(crate) fn new(registry: &mut Registry, key: usize, next: u64) -> Self
+        requires unclaimed { claim_of registry.old.claims key ≡ None }
+        ensures registry { (registry.new.name ≡ registry.old.name)
+            × (registry.new.claims ≡ put registry.old.claims key (Some next)) }
+        ensures made { result ≡ record {
+          registry = registry.old.name;
+          key = key;
+          next = Some next;
+        } }
+    {
+        Cursor {
+            key,
+            next: Some(next),
+            claim: registry.claim(key, next),
+        }
+    }
+
+    /// Of no receiver.
+    pub(crate) fn none(&self) -> Self
+        ensures { result ≡ record self.now { next = None } }
+    {
+        Cursor {
+            key: self.key,
+            next: None,
+            claim: self.claim.none(),
+        }
+    }
+
+    /// After a call of its receiver, or of who has none: it is where the channel says.
+    #[inline(always)]
+    pub(crate) fn read_on<T: Clone, A: Allocator + Copy>(
+        &mut self,
+        registry: &mut Registry,
+        inner: &Inner<T, Wake, A>,
+    )
+        requires { self.old.registry ≡ registry.old.name }
+        ensures claimed { IfSome self.old.next
+            (λ next. claim_of registry.old.claims self.old.key ≡ Some next) }
+        ensures registry { (registry.new.name ≡ registry.old.name)
+            × (registry.new.claims ≡ put_changed registry.old.claims self.old.key self.old.next
+            self.new.next) }
+        ensures reads { self.new ≡ record self.old {
+          next = next_of inner.now.control self.old.key self.old.next;
+        } }
+    {
+        if self.next.is_some() {
+            self.next = inner.cursor(self.key);
+        }
+        registry.set(&mut self.claim, self.next);
+    }
+}
+
+/// Who makes calls on a channel: what is known of it, and of a receiver its key and where it reads
+/// on. A contract sees a `Tracker`.
+///
+/// It has no bound on `T`, since the checker can't yet give `u64` to an impl of `Caller` that has one.
+/// That what is known is a run of the channel is said by the type `Tracker`.
+#[derive(Drop)]
+pub struct TrackedCaller<T, J: Channel> {
+    pub(crate) seen: Seen<T, J>,
+    // The number of the message that comes next after these steps.
+    pub(crate) end: u64,
+    pub(crate) cursor: Cursor,
+}
+
+impl<T, J: Channel> Model for TrackedCaller<T, J> {
+    ghost Value = { Known T };
+
+    ghost view = { λ c. record { steps = c.seen; key = c.cursor.key; next = c.cursor.next } };
+
+    ghost invariant = { λ c. (c.end ≡ end_number (end_of J.opening c.seen))
+        × (c.cursor.next ≡ next_of (end_of J.opening c.seen).control c.cursor.key c.cursor.next)
+        × (c.cursor.registry ≡ J.registry) };
+}
+
+impl<T, J: Channel> Caller for TrackedCaller<T, J> {
+    ghost moves = { λ caller key. IsOf key caller };
+}
+
+impl<T, J: Channel> TrackedCaller<T, J> {
+    #[inline(always)]
+    pub(crate) fn end(&self) -> u64
+        ensures { result ≡ end_number (end_of J.opening self.now.steps) }
+    {
+        self.end
+    }
+
+    /// The receiver's key, if there is one.
+    #[inline(always)]
+    pub(crate) fn key(&self) -> usize
+        ensures { result ≡ self.now.key }
+    {
+        self.cursor.key
+    }
+
+    /// The number of the message that the receiver reads next. `None`: there is no receiver.
+    #[inline(always)]
+    pub(crate) fn next(&self) -> Option<u64>
+        ensures { result ≡ self.now.next }
+    {
+        self.cursor.next
+    }
+}
 
 /// What a handle knows of its channel, which is a run of it; and who makes the handle's calls.
 #[derive(Drop)]
@@ -19,9 +169,6 @@ pub struct Tracker<T: Clone, J: Channel> {
 }
 
 impl<T: Clone, J: Channel> Model for Tracker<T, J> {
-    ghost use Rattle.bcast_history.specs.History.{IsLawful};
-    ghost use Rattle.bcast_history.specs.Tracker.{Tracker as Known};
-
     ghost Value = { Known T };
 
     ghost view = { λ t. t.caller };
@@ -30,14 +177,16 @@ impl<T: Clone, J: Channel> Model for Tracker<T, J> {
 }
 
 impl<T: Clone, J: Channel> Tracker<T, J> {
-    /// What a sender knows that the last step added: as much as this handle.
+    /// What a sender knows that the last step added, or the first one: as much as this handle. So
+    /// only with a new sender comes another tracker.
     pub(crate) fn of_sender(&self) -> Self
         requires { HasNewSender self.now.steps }
         ensures { result.steps ≡ self.now.steps }
     {
-        Tracker {
-            caller: self.caller.of_sender(),
-        }
+        let TrackedCaller { seen, end, cursor } = &self.caller;
+        let (seen, end, cursor) = (seen.same(), *end, cursor.none());
+        let caller = TrackedCaller { seen, end, cursor };
+        Tracker { caller }
     }
 
     /// Makes a call through this port.
@@ -48,8 +197,7 @@ impl<T: Clone, J: Channel> Tracker<T, J> {
         ensures { MakesCall P.learns T.is_clone J.opening self.old
             (C.call call) (C.reply call result) self.new }
     {
-        let Tracker { caller } = self;
-        port.ask(caller, call)
+        port.ask(&mut self.caller, call)
     }
 
     /// Makes a call through this port that adds a receiver, with its errors. Returns what the
@@ -65,8 +213,7 @@ impl<T: Clone, J: Channel> Tracker<T, J> {
         ensures refused { IfErr result (λ error. MakesCall P.learns T.is_clone J.opening self.old
             (receiver_call call) (receiver_reply call (Err error)) self.new) }
     {
-        let Tracker { caller } = self;
-        let (_key, made) = port.add_receiver(caller, call)?;
+        let (_key, made) = port.add_receiver(&mut self.caller, call)?;
         Ok(Tracker { caller: made })
     }
 
@@ -84,7 +231,7 @@ impl<T: Clone, J: Channel> Tracker<T, J> {
         ensures there { self.now.next ≡ next_of (end_of J.opening self.now.steps).control
             self.now.key self.now.next }
     {
-        self.caller.invariant_holds();
+        let _ = &self.caller.seen;
     }
 }
 
@@ -96,8 +243,6 @@ pub struct ReceiverTracker<T: Clone, J: Channel> {
 }
 
 impl<T: Clone, J: Channel> Model for ReceiverTracker<T, J> {
-    ghost use Rattle.bcast_history.specs.Tracker.{Tracker as Known, IsReceiver};
-
     ghost Value = { Known T };
 
     ghost view = { λ t. t.inner };

@@ -39,9 +39,7 @@ fn fan_out<J: Channel + Send + Sync, R: Threads + Wait + Sync + Print + AllocGlo
         || receiver.recv_all_blocking(rt, alloc, 0),
         || copy.recv_all_blocking(rt, alloc, 0),
     );
-    let (log, same) = (log?, same?);
-    log.agrees_with(&same);
-    Ok((log.into_list(), same.into_list()))
+    Ok(log?.into_lists(same?))
 }
 
 fn send_from_two_threads<J, R, P>(rt: &R, mut sender: TrackedSender<u64, P, J>) -> Result<()>

@@ -10,9 +10,8 @@ ghost use Rattle.bcast_history.specs.Makes.{MakesReceives, ReceivesOnce};
 ghost use Rattle.bcast_history.specs.Reader.{Takes, as_found};
 
 use super::TrackedReceiver;
-use crate::caller::Channel;
 use crate::port::{HistoryPort, TimedHistoryPort};
-use crate::tracker::{ReceiverTracker, Tracker};
+use crate::tracker::{Channel, ReceiverTracker, Tracker};
 use async_broadcast::{RecvResult, RecvTimeoutError, put_last};
 use bcast_core::{RecvError, TryRecvError};
 use futures::task::{Context, Poll};

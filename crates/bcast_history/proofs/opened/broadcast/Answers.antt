@@ -14,6 +14,6 @@ new-steps-requires-clause-cursors g c =
 pub invariant_of-caller : goal.invariant_of-caller
 invariant_of-caller g c =
     let is = ap (λ o. o.opening) c.opened.view_is ∙ c.requires.1 in
-    let first = first_tracked is (c.seen.ensures ∙ c.new-steps.ensures) in
-    let at = placed (end_of g.J.Channel.opening c.seen.result).control c.new-cursor.ensures.made first.1 (ap (λ o. o.registry) c.opened.view_is ∙ c.requires.2) in
+    let first = first_tracked is (c.prefix.ensures ∙ c.steps.view_is ∙ c.new-steps.ensures) in
+    let at = placed (end_of g.J.Channel.opening c.prefix.result).control c.new-cursor.ensures.made first.1 (ap (λ o. o.registry) c.opened.view_is ∙ c.requires.2) in
     (first.0, at.0, at.1)
