@@ -11,12 +11,13 @@ use Rattle.claims.proofs.Claims.{put_same, put_other}
 use Rattle.bcast_model.specs.declared.run.Call.{Call}
 use Rattle.bcast_model.specs.declared.run.Call.TheVariants as call
 use Rattle.bcast_model.specs.declared.run.Reply.{Reply}
-use Rattle.bcast_model.specs.Words.{History, Control, Cursors, Legal, next, view_of, effect, cursor_of, front_number, end_number, receives_for}
+use Rattle.bcast_model.specs.Words.{History, View, Represents, Control, Cursors, Legal, next, view_of, effect, cursor_of, front_number, end_number, receives_for}
 use Rattle.bcast_model.proofs.Answers.{cursors-next}
 use Rattle.bcast_model.proofs.DeliveryCursors.{TakesOut, changes}
 use Rattle.bcast_model.proofs.DeliveryMaps.{CursorsChange, stay, rise, make, leave, inserted_other}
 use Rattle.bcast_model.proofs.DeliverySteps.{same_reader}
 use Rattle.async_broadcast.specs.Ports.{moved_by}
+use Rattle.bcast_history.specs.History.{Opening, Step, end_of}
 use Rattle.bcast_history.specs.Cursors.{AreCursors, Cursor}
 use Rattle.bcast_history.specs.Tracker.{next_of}
 
@@ -90,22 +91,26 @@ claims_read_on before after claims key (Some was) cursors others other at is = e
 pub claims_cursor : (c : Control) (claims : List (Option ℕ)) (key : ℕ) → AreCursors c claims → AreCursors c (put claims key (cursor_of c key))
 claims_cursor c claims key cursors = claims_read_on c c claims key (Some 0) cursors (λ other at differs is. is)
 
--- a cursor that read on is where the channel says
-pub record Stands (c : Control) (old new : Cursor) : Type 0 where
-  pub there : new.next ≡ next_of c new.key new.next
-  pub registry : new.registry ≡ old.registry
-  pub key : new.key ≡ old.key
-  pub next : new.next ≡ next_of c old.key old.next
+-- who knows all steps, by a cursor that read on, knows what the channel shows
+pub record Tracks {T : Type 0} (o : Opening) (shown : View T) (known : List (Step T)) (last : ℕ) (old new : Cursor) : Type 0 where
+  pub control : shown.control ≡ (end_of o known).control
+  pub end : last ≡ end_number (end_of o known)
+  pub next : new.next ≡ next_of (end_of o known).control old.key old.next
+  pub there : new.next ≡ next_of (end_of o known).control new.key new.next
 
-pub stands : {shown c : Control} {old new : Cursor} → new ≡ record old { next = next_of shown old.key old.next } → shown ≡ c → Stands c old new
-stands {shown = shown} {c = c} {old = old} {new = new} is same =
-    let here : next_of shown old.key old.next ≡ next_of c old.key old.next = ap (λ c. next_of c old.key old.next) same in
-    subst (Stands c old) (sym is) (record {
-      there = here ∙ next_settles c old.key old.next ∙ ap (next_of c old.key) (sym here);
-      registry = refl;
-      key = refl;
-      next = here;
-    })
+pub tracks : {T : Type 0} (o : Opening) {longer known : List (Step T)} {shown : View T} {end : ℕ} {old new : Cursor}
+    → known ≡ longer → Represents shown (end_of o longer) → end ≡ shown.end
+    → new ≡ record old { next = next_of shown.control old.key old.next } → Tracks o shown known end old new
+tracks {T} o {known = known} {shown = shown} {old = old} {new = new} same shows end reads =
+    let c = (end_of o known).control in
+    let shows_it : shown ≡ view_of (end_of o known) = shows ∙ sym (ap (λ ss. view_of (end_of o ss)) same) in
+    let next = ap (λ (cursor : Cursor). cursor.next) reads ∙ ap (λ (v : View T). next_of v.control old.key old.next) shows_it in
+    record {
+      control = ap (λ (v : View T). v.control) shows_it;
+      end = end ∙ ap (λ (v : View T). v.end) shows_it;
+      next = next;
+      there = next ∙ next_settles c old.key old.next ∙ ap (next_of c old.key) (sym next) ∙ ap (λ (cursor : Cursor). next_of c cursor.key new.next) (sym reads);
+    }
 
 -- a cursor that was made is where the channel says
 pub placed : {new : Cursor} (c : Control) {registry key number name : ℕ} → new ≡ record { registry = registry; key = key; next = Some number }

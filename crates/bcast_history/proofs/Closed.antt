@@ -1,5 +1,5 @@
 -- A closed channel accepts nothing, so a receiver that has read all of it is given nothing.
-use Rattle.std.proofs.Common.{◌≡◌, ◌⊎◌, inl, inr, ℕ, ◌-◌, ◌≤◌, true, false, cond, nat_lt, List, [], ◌∷◌, ◌++◌, length, slice_get, Option, Some, None, Result, Ok, Err, refl, sym, ap, ◌∙◌, subst, arith, append-nil, IsSomeAnd}
+use Rattle.std.proofs.Common.{◌≡◌, ◌⊎◌, inl, inr, ℕ, ◌-◌, ◌≤◌, true, false, cond, nat_lt, List, [], ◌++◌, length, slice_get, Option, Some, None, Result, Ok, Err, refl, sym, ap, ◌∙◌, subst, arith, append-nil, IsSomeAnd}
 use Rattle.std.specs.declared.alloc.AllocError.{AllocError}
 use Rattle.futures.specs.declared.task.Poll.{Poll}
 use Rattle.futures.specs.declared.task.Poll.TheVariants as poll
@@ -9,18 +9,20 @@ use Rattle.bcast_model.specs.declared.run.Call.TheVariants as call
 use Rattle.bcast_model.specs.declared.run.Reply.{Reply}
 use Rattle.bcast_model.specs.declared.run.Reply.TheVariants as reply
 use Rattle.bcast_model.specs.declared.run.SendPoll.TheVariants as send
-use Rattle.bcast_model.specs.Words.{Found, History, view_of, Legal, next, IsRun, end_of_run, end_number, numbered, IsDelivery, IsGiven, ClonesEqual, has_place, attempt_send_reply}
+use Rattle.bcast_model.specs.Words.{Found, History, view_of, Legal, next, IsRun, end_number, numbered, IsDelivery, IsGiven, ClonesEqual, has_place, attempt_send_reply}
 use Rattle.std.proofs.lemmas.Option.{slice_get_past}
 use Rattle.bcast_laws.specs.Sends.{is_accepted, messages_of}
-use Rattle.bcast_laws.proofs.Closing.{IsClosed, run_stays, stays_closed}
+use Rattle.bcast_model.proofs.DeliveryCursors.{closed-next}
+use Rattle.bcast_laws.proofs.Closing.{IsClosed, stays_closed}
 use Rattle.bcast_laws.proofs.Sends.{messages_added, nothing_added}
-use Rattle.bcast_history.specs.History.{Opening, Step, IsHistory, calls_of, replies_of, start_of, end_of, accepted_by}
-use Rattle.bcast_history.specs.Reader.{Takes, TakesNext}
+use Rattle.bcast_history.specs.History.{Opening, Step, IsHistory, calls_of, replies_of, end_of, accepted_by}
+use Rattle.bcast_history.specs.Reader.{Finds, TakesNext}
 use Rattle.bcast_history.specs.Tracker.{Tracker, number}
 use Rattle.bcast_history.specs.Laws.{HasReadAll, ClosedIsLast, EndIsLast}
 use Rattle.bcast_history.specs.Log.{IsWholeLog}
 use Rattle.bcast_history.proofs.Logged.{first_kept, logs_are_accepted}
 use Rattle.bcast_history.proofs.Prefixes.{IsPrefix, meet, prefix_self}
+use Rattle.bcast_history.proofs.Sent.{kept_on}
 
 module _ {T : Type 0} (is_clone : T → T → Type 0) where
   -- a call that sends nothing adds nothing
@@ -41,38 +43,24 @@ module _ {T : Type 0} (is_clone : T → T → Type 0) where
       ] refl)
   closed_next h c r is legal = no_message h c r refl legal
 
-  closed_run : (h : History T) (calls : List (Call T)) (replies : List (Reply T)) → IsRun is_clone h calls replies → IsClosed h.control
-      → (end_of_run h calls replies).accepted ≡ h.accepted
-  closed_run h [] [] run is = refl
-  closed_run h [] (r ∷ replies) run is = absurd run
-  closed_run h (c ∷ calls) [] run is = absurd run
-  closed_run h (c ∷ calls) (r ∷ replies) (legal, run) is =
-      closed_run (next h c r) calls replies run (run_stays h (c ∷ []) (r ∷ []) is) ∙ closed_next h c r is legal
-
-  abbrev IsSame : History T → History T → Type 0
-  IsSame h later = IsClosed later.control × (later.accepted ≡ h.accepted)
-
-  closed_steps : (h : History T) (steps rest : List (Step T)) → IsRun is_clone h (calls_of (steps ++ rest)) (replies_of (steps ++ rest))
-      → IsClosed (end_of_run h (calls_of steps) (replies_of steps)).control
-      → IsSame (end_of_run h (calls_of steps) (replies_of steps)) (end_of_run h (calls_of (steps ++ rest)) (replies_of (steps ++ rest)))
-  closed_steps h [] rest run is = (run_stays h (calls_of rest) (replies_of rest) is, closed_run h (calls_of rest) (replies_of rest) run is)
-  closed_steps h (step ∷ steps) rest run is = closed_steps (next h step.call step.reply) steps rest run.1 is
-
   -- a closed channel accepts nothing more
+  closed_stays : (o : Opening) (closed later : List (Step T)) → (end_of o closed).control.closed ≡ true → IsPrefix closed later → IsHistory is_clone o later
+      → IsClosed (end_of o later).control × (accepted_by o later ≡ accepted_by o closed)
+  closed_stays o closed later is begins run =
+      kept_on (λ h steps. IsRun is_clone h (calls_of steps) (replies_of steps)) (λ h. IsClosed h.control × (h.accepted ≡ accepted_by o closed))
+      (λ h step rest run. (run.1, λ was. (closed-next h step.call step.reply was.0, closed_next h step.call step.reply was.0 run.0 ∙ was.1))) o closed later begins run (is, refl)
+
   pub closed_keeps : (o : Opening) (closed later : List (Step T)) → (end_of o closed).control.closed ≡ true → IsPrefix closed later
       → IsHistory is_clone o later → accepted_by o closed ≡ accepted_by o later
-  closed_keeps o closed later is (rest, whole) run =
-      sym (subst (λ steps. IsSame (end_of o closed) (end_of o steps)) whole
-      (closed_steps (start_of o) closed rest (subst (λ steps. IsHistory is_clone o steps) (sym whole) run) is)).1
+  closed_keeps o closed later is begins run = sym (closed_stays o closed later is begins run).1
 
   -- all of it was read, and so it stays
   still_all : (o : Opening) (old : Tracker T) (later : List (Step T)) → HasReadAll o old → IsPrefix old.steps later → IsHistory is_clone o later
       → IsClosed (end_of o later).control × (end_number (end_of o later) ≤ number old.next)
-  still_all o old later read (rest, whole) run =
-      let same : IsSame (end_of o old.steps) (end_of o later) = subst (λ steps. IsSame (end_of o old.steps) (end_of o steps)) whole
-      (closed_steps (start_of o) old.steps rest (subst (λ steps. IsHistory is_clone o steps) (sym whole) run) read.closed) in
-      let before = first_kept (start_of o) old.steps in
-      let after = first_kept (start_of o) later in
+  still_all o old later read begins run =
+      let same = closed_stays o old.steps later read.closed begins run in
+      let before = first_kept o old.steps in
+      let after = first_kept o later in
       let size = ap length same.1 in
       let all = read.all in
       (same.0, omega (arith, before, after, size, all))
@@ -90,26 +78,23 @@ module _ {T : Type 0} (is_clone : T → T → Type 0) where
   at_end : {now was end : ℕ} → now ≡ was → was ≡ end → end ≤ now
   at_end same is = omega (arith, same, is)
 
+  -- from the end of a closed channel on a receive finds that alone
+  ended : (h : History T) (key was now : ℕ) (found : Found T) → IsClosed h.control → end_number h ≤ was → Finds is_clone h key was now found
+      → (end_number h ≤ now) × (found ≡ Ok (Err unread.Closed))
+  ended h key was now (Err error) closed past (same, shared) = let kept = shared.kept in absurd (omega (arith, past, kept))
+  ended h key was now (Ok (Err unread.Closed)) closed past takes = (at_end takes.0 takes.1, refl)
+  ended h key was now (Ok (Err unread.Empty)) closed past takes = absurd (cc (closed, takes.2))
+  ended h key was now (Ok (Err (unread.Overflowed n))) closed past (some, on, skips, most) = absurd (omega (arith, some, on, most, past))
+  ended h key was now (Ok (Ok msg)) closed past takes = absurd (none_after h was msg past takes.0)
+
   pub closed_is_last : ClosedIsLast is_clone
   closed_is_last = record {
     said = λ o old new takes. record { closed = takes.2; all = at_end takes.0 takes.1 };
-    stays = stays;
+    stays = λ o old new found read begins run takes.
+        let all = still_all o old new.steps read begins run in
+        let last = ended (end_of o new.steps) old.key (number old.next) (number new.next) found all.0 all.1 takes in
+        (record { closed = all.0; all = last.0 }, last.1);
   }
-    where
-      stays : (o : Opening) (old new : Tracker T) (found : Found T)
-          → HasReadAll o old → IsPrefix old.steps new.steps → IsHistory is_clone o new.steps
-          → Takes is_clone o old new found → HasReadAll o new × (found ≡ Ok (Err unread.Closed))
-      stays o old new (Err error) read begins run (same, shared) =
-          let end = (still_all o old new.steps read begins run).1 in
-          let kept = shared.kept in absurd (omega (arith, end, kept))
-      stays o old new (Ok (Err unread.Closed)) read begins run takes = (record { closed = takes.2; all = at_end takes.0 takes.1 }, refl)
-      stays o old new (Ok (Err unread.Empty)) read begins run takes =
-          absurd (cc ((still_all o old new.steps read begins run).0, takes.2))
-      stays o old new (Ok (Err (unread.Overflowed n))) read begins run (some, on, skips, most) =
-          let end = (still_all o old new.steps read begins run).1 in absurd (omega (arith, some, on, most, end))
-      stays o old new (Ok (Ok msg)) read begins run takes =
-          let end = (still_all o old new.steps read begins run).1 in
-          absurd (none_after (end_of o new.steps) (number old.next) msg (omega (arith, end)) takes.0)
 
   pub end_is_last : EndIsLast is_clone
   end_is_last = record {

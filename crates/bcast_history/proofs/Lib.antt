@@ -5,13 +5,10 @@ pub mod Chains
 pub mod Claimed
 -- runs that go on
 pub mod Added
-pub mod Waits
 pub mod Keeping
 pub mod KeepingEach
 -- what a receiver finds
-pub mod Told
 pub mod Found
-pub mod Polls
 pub mod Received
 pub mod Receiving
 pub mod Skipped

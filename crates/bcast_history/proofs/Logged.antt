@@ -1,21 +1,22 @@
 -- A log with more messages, and a whole one.
-use Rattle.std.proofs.Common.{◌≡◌, ◌⊎◌, inl, inr, ℕ, zero, suc, ◌+◌, ◌-◌, false, cond, List, [], ◌∷◌, ◌++◌, length, slice_get, nat_lt, Option, Some, None, Ok, Err, refl, sym, ap, ◌∙◌, subst, arith, length-append, IsSomeAnd}
+use Rattle.std.proofs.Common.{◌≡◌, ◌⊎◌, inl, inr, ℕ, ◌+◌, ◌-◌, false, cond, List, [], ◌∷◌, ◌++◌, length, drop, slice_get, nat_lt, Option, Some, None, Ok, Err, refl, sym, ap, ◌∙◌, subst, arith, length-append, IsSomeAnd}
 use Rattle.std.proofs.lemmas.Grind.{common_steps}
-use Rattle.std.proofs.lemmas.Option.{none-some, same_Some}
+use Rattle.std.proofs.lemmas.List.{drop_more}
+use Rattle.std.proofs.lemmas.Option.{slice_get_within, get_or_from_slice_get}
 use Rattle.std.specs.declared.alloc.AllocError.{AllocError}
 use Rattle.bcast_model.specs.declared.error.TryRecvError.TheVariants as unread
 use Rattle.bcast_model.specs.declared.run.Call.{Call}
 use Rattle.bcast_model.specs.declared.run.Reply.{Reply}
-use Rattle.bcast_model.specs.Words.{History, IsGiven, ClonesEqual, numbered, next, end_of_run}
+use Rattle.bcast_model.specs.Words.{History, IsGiven, ClonesEqual, numbered, next}
 use Rattle.bcast_core.proofs.Runs.{all_made}
-use Rattle.bcast_history.specs.History.{Opening, Step, IsHistory, calls_of, replies_of, start_of, end_of}
+use Rattle.bcast_history.specs.History.{Opening, Step, IsHistory, end_of}
 use Rattle.bcast_history.proofs.Prefixes.{IsPrefix, prefix_shorter}
 use Rattle.bcast_history.specs.Log.{IsLog, IsWholeLog, LogsAreAccepted}
 use Rattle.bcast_history.specs.Batch.{AreDeliveries, TakesInto}
 use Rattle.bcast_history.specs.Makes.{ReceivesOnce}
 use Rattle.bcast_history.specs.Reader.{Takes}
 use Rattle.bcast_history.specs.Tracker.{Tracker, number}
-use Rattle.bcast_history.proofs.Sent.{delivery_stays, accepted_grows}
+use Rattle.bcast_history.proofs.Sent.{kept_later, delivery_stays, accepted_grows}
 
 module _ {T : Type 0} (is_clone : T → T → Type 0) where
   in_a_row : (h : History T) (start : ℕ) (log more : List T) → AreDeliveries is_clone h start log
@@ -58,50 +59,40 @@ module _ {T : Type 0} (is_clone : T → T → Type 0) where
   }
 
   module _ (equal : ClonesEqual is_clone) where
+    entry_of : (h : History T) (index : ℕ) (msg : T) → numbered h (h.first + index) ≡ Some msg → slice_get h.accepted index ≡ Some msg
+    entry_of h index msg at =
+        let after : nat_lt (h.first + index) h.first ≡ false = grind (arith, common_steps) in
+        let place : h.first + index - h.first ≡ index = omega arith in
+        sym (ap (λ b. cond b None (slice_get h.accepted (h.first + index - h.first))) after ∙ ap (slice_get h.accepted) place) ∙ at
+
     is_there : (accepted : Option T) (msg : T) → IsSomeAnd accepted (λ a. IsGiven is_clone a msg) → accepted ≡ Some msg
     is_there (Some a) msg (inl same) = ap Some (sym same)
     is_there (Some a) msg (inr copy) = ap Some (sym (equal a msg copy))
     is_there None msg there = absurd there
 
-    -- an entry of a log has its number
-    at_place : (h : History T) (start : ℕ) (log : List T) → AreDeliveries is_clone h start log
-        → (index : ℕ) (msg : T) → slice_get log index ≡ Some msg → numbered h (start + index) ≡ Some msg
-    at_place h start [] all index msg at = absurd (none-some msg at)
-    at_place h start (first ∷ log) (here, rest) zero msg at =
-        subst (λ n. numbered h n ≡ Some msg) (omega arith) (is_there (numbered h start) first here ∙ at)
-    at_place h start (first ∷ log) (here, rest) (suc index) msg at =
-        let on : start + 1 + index ≡ start + suc index = omega arith in
-        subst (λ n. numbered h n ≡ Some msg) on (at_place h (start + 1) log rest index msg at)
+    -- a log from some number on is the accepted messages from there on
+    from_there : (h : History T) (at : ℕ) (log : List T) → AreDeliveries is_clone h (h.first + at) log → IsPrefix log (drop at h.accepted)
+    from_there h at [] all = (drop at h.accepted, refl)
+    from_there h at (msg ∷ log) (here, rest) =
+        let on : h.first + at + 1 ≡ h.first + (at + 1) = omega arith in
+        let more = from_there h (at + 1) log (subst (λ n. AreDeliveries is_clone h n log) on rest) in
+        let there = entry_of h at msg (is_there (numbered h (h.first + at)) msg here) in
+        let split = drop_more h.accepted at msg (slice_get_within h.accepted at msg there) ∙ ap (λ x. x ∷ drop (at + 1) h.accepted) (get_or_from_slice_get h.accepted at msg msg there) in
+        (more.0, ap (λ xs. msg ∷ xs) more.1 ∙ sym split)
 
 module _ {T : Type 0} where
-  -- a list whose entries all stand in another at their places begins it
-  by_places : (log all : List T) → ((index : ℕ) (msg : T) → slice_get log index ≡ Some msg → slice_get all index ≡ Some msg) → IsPrefix log all
-  by_places [] all there = (all, refl)
-  by_places (msg ∷ log) [] there = absurd (none-some msg (there zero msg refl))
-  by_places (msg ∷ log) (one ∷ all) there =
-      let first : one ≡ msg = same_Some one msg (there zero msg refl) in
-      let rest = by_places log all (λ index m at. there (suc index) m at) in
-      (rest.0, ap (λ x. x ∷ log ++ rest.0) (sym first) ∙ ap (λ xs. one ∷ xs) rest.1)
-
-  entry_of : (h : History T) (index : ℕ) (msg : T) → numbered h (h.first + index) ≡ Some msg → slice_get h.accepted index ≡ Some msg
-  entry_of h index msg at =
-      let after : nat_lt (h.first + index) h.first ≡ false = grind (arith, common_steps) in
-      let place : h.first + index - h.first ≡ index = omega arith in
-      sym (ap (λ b. cond b None (slice_get h.accepted (h.first + index - h.first))) after ∙ ap (slice_get h.accepted) place) ∙ at
-
-  pub first_kept : (h : History T) (steps : List (Step T)) → (end_of_run h (calls_of steps) (replies_of steps)).first ≡ h.first
-  first_kept h [] = refl
-  first_kept h (step ∷ steps) = first_kept (next h step.call step.reply) steps
+  pub first_kept : (o : Opening) (steps : List (Step T)) → (end_of o steps).first ≡ o.first_number
+  first_kept o steps = kept_later (λ h. h.first ≡ o.first_number) (λ h c r same. same) o [] steps (steps, refl) refl
 
   pub logs_are_accepted : (is_clone : T → T → Type 0) → LogsAreAccepted is_clone
   logs_are_accepted is_clone equal o known ended later log knows ends are end =
       let h = end_of o later in
-      let first : h.first ≡ o.first_number = first_kept (start_of o) later in
+      let same : h.first ≡ o.first_number = first_kept o later in
+      let first : o.first_number ≡ h.first + 0 = omega (arith, same) in
       let kept = still_log is_clone o known later o.first_number log knows are in
-      let begins = by_places log h.accepted (λ index msg at.
-      entry_of h index msg (subst (λ n. numbered h (n + index) ≡ Some msg) (sym first) (at_place is_clone equal h o.first_number log kept index msg at))) in
+      let begins : IsPrefix log h.accepted = from_there is_clone equal h 0 log (subst (λ n. AreDeliveries is_clone h n log) first kept) in
       let grown = accepted_grows o ended later ends in
-      let same : (end_of o ended).first ≡ o.first_number = first_kept (start_of o) ended in
-      let size : length log ≡ length (end_of o ended).accepted = omega (arith, end, same) in
+      let alike : (end_of o ended).first ≡ o.first_number = first_kept o ended in
+      let size : length log ≡ length (end_of o ended).accepted = omega (arith, end, alike) in
       let begun = prefix_shorter log (end_of o ended).accepted h.accepted begins grown (omega (arith, size)) in
       all_made log begun.0 (end_of o ended).accepted (omega (arith, size, length-append log begun.0, ap length begun.1)) begun.1

@@ -14,13 +14,13 @@ use Rattle.bcast_core.specs.declared.calls.handles.AddReceiver.{AddReceiver}
 use Rattle.bcast_core.specs.declared.calls.handles.AddReceiver.TheVariants as receiver
 use Rattle.bcast_core.specs.Calls.{receiver_call, receiver_reply}
 use Rattle.bcast_laws.specs.Sends.{is_accepted}
+use Rattle.bcast_laws.proofs.Refusals.{refused_same}
 use Rattle.bcast_laws.proofs.Sends.{nothing_added}
 use Rattle.bcast_model.proofs.Cases.{close_is}
-use Rattle.bcast_history.proofs.Told.{closed_after}
-use Rattle.bcast_history.proofs.Received.{Received, Stays, polled, read_there, stays, tried}
-use Rattle.bcast_history.proofs.Polls.{Polled}
+use Rattle.bcast_history.proofs.Found.{closed_after}
+use Rattle.bcast_history.proofs.Received.{Polled, Received, Stays, polled, read_there, stays, tried}
 use Rattle.bcast_history.proofs.Claimed.{others_stay}
-use Rattle.bcast_history.proofs.Added.{added, starts_at, not_inactive}
+use Rattle.bcast_history.proofs.Added.{added, starts_at}
 
 module _ {T : Type 0} {is_clone : T → T → Type 0} {o : Opening} where
   -- a receiver that was added reads on where it starts
@@ -133,4 +133,4 @@ module _
         let its : IsOf key known = (sym at, reads) in
         let learned = law _ _ _ _ made.once in
         let f = learned.follows in
-        subst (λ k. Stays k after) is (stays is_clone its learned (not_inactive is_clone (end_of o f.before) key (number known.next) (read_there its learned) error f.legal))
+        subst (λ k. Stays k after) is (stays is_clone its learned (ap (λ (h : History T). cursor_of h.control key) (refused_same is_clone (end_of o f.before) (call.Deactivate key) (reply.Deactivate (Err error)) f.valid f.legal refl) ∙ read_there its learned))

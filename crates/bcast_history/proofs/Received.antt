@@ -1,15 +1,19 @@
 -- What the receives of a `TrackedReceiver` take.
-use Rattle.std.proofs.Common.{◌≡◌, ◌⊎◌, inr, ℕ, List, Some, Result, Ok, Err, sym, ap, ◌∙◌, subst, IfOk, IfErr}
+use Rattle.std.proofs.Common.{◌≡◌, ◌⊎◌, inr, ℕ, Bool, true, false, List, Option, Some, Result, Ok, Err, alloc_error, refl, sym, ap, ◌∙◌, subst, IfOk, IfErr}
+use Rattle.std.specs.declared.alloc.AllocError.{AllocError}
+use Rattle.futures.specs.declared.task.Poll.{Poll}
+use Rattle.bcast_model.specs.declared.error.RecvError.{RecvError}
+use Rattle.bcast_model.specs.declared.error.TryRecvError.{TryRecvError}
+use Rattle.bcast_model.specs.declared.error.TryRecvError.TheVariants as unread
 use Rattle.bcast_model.specs.declared.run.Call.{Call}
 use Rattle.bcast_model.specs.declared.run.Call.TheVariants as call
 use Rattle.bcast_model.specs.declared.run.Reply.{Reply}
 use Rattle.bcast_model.specs.declared.run.Reply.TheVariants as reply
-use Rattle.bcast_model.specs.Words.{Found, History, next, cursor_of}
+use Rattle.bcast_model.specs.Words.{Found, History, next, view_of, cursor_of, Control, Pair, stream_of, receive, listens, sets, stream_reply, worded, try_recv_reply, is_empty_reply}
 use Rattle.bcast_history.specs.History.{Opening, Step, Follows, IsLawful, end_of}
 use Rattle.bcast_history.specs.Reader.{Finds, StaysAt, Takes, as_found}
 use Rattle.bcast_history.specs.Tracker.{Tracker, IsOf, IsReceiver, Learns, next_of, number}
-use Rattle.bcast_history.proofs.Found.{FoundAt, finds}
-use Rattle.bcast_history.proofs.Polls.{Polled, try_receives, poll_receives}
+use Rattle.bcast_history.proofs.Found.{Shows, FoundAt, finds}
 use Rattle.bcast_history.proofs.Prefixes.{IsPrefix, prefix_trans}
 
 module _ {T : Type 0} where
@@ -36,6 +40,29 @@ module _ {T : Type 0} where
   pub seen : {is_clone : T → T → Type 0} {o : Opening} {known after : List (Step T)} {c : Call T} {r : Reply T}
       → Follows is_clone o known c r after → IsPrefix known after
   seen {known = known} {after = after} f = prefix_trans known f.before after f.begins (_, sym f.last)
+
+-- ---- a `try_recv`, and a poll of a stream, as receives
+abbrev pub Polled : Type 0 → Type 0
+Polled T = Result (Poll (Option (Result T RecvError))) AllocError
+
+module _ {T : Type 0} where
+  abbrev tried_in : Reply T → Found T
+  tried_in (reply.TryRecv found) = found
+  tried_in other = Err alloc_error
+
+  abbrev polled_in : Reply T → Found T
+  polled_in (reply.PollRecv p) = as_found p
+  polled_in other = Err alloc_error
+
+  found_back : (answer : Result T TryRecvError) → as_found (Ok (stream_reply answer)) ≡ Ok answer
+  found_back (Ok msg) = refl
+  found_back (Err (unread.Overflowed n)) = refl
+  found_back (Err unread.Empty) = refl
+  found_back (Err unread.Closed) = refl
+
+  listened : (c : Control) (pair : Pair) (waits : Bool) → Shows {T = T} (sets (listens c pair waits)) c
+  listened c pair true = (refl, refl, refl)
+  listened c pair false = (refl, refl, refl)
 
 -- the tracker is the receiver's, and what it knows is a run
 abbrev pub IsPlace : {T : Type 0} → (T → T → Type 0) → Opening → ℕ → Tracker T → Type 0
@@ -72,13 +99,17 @@ module _
       → Received is_clone o key known after r
   tried {r = r} learned =
       let f = learned.follows in
-      received r learned (finds is_clone (end_of o f.before) key (number known.next) f.valid (read_there its learned) r (try_receives is_clone (end_of o f.before) key f.valid r f.legal))
+      received r learned (finds is_clone (end_of o f.before) key (number known.next) (call.TryRecv key) f.valid (read_there its learned)
+      reply.TryRecv tried_in (λ _. refl) refl (λ _. (refl, refl, refl)) (refl, refl, refl) (reply.TryRecv r) f.legal)
 
   pub polled : {p : Polled T} → Learns is_clone o known (call.PollRecv key) (reply.PollRecv p) after
       → Received is_clone o key known after (as_found p)
   polled {p = p} learned =
       let f = learned.follows in
-      received (as_found p) learned (finds is_clone (end_of o f.before) key (number known.next) f.valid (read_there its learned) (as_found p) (poll_receives is_clone (end_of o f.before) key f.valid p f.legal))
+      let v = view_of (end_of o f.before) in
+      let cursor = cursor_of v.control key in
+      received (as_found p) learned (finds is_clone (end_of o f.before) key (number known.next) (call.PollRecv key) f.valid (read_there its learned)
+      (worded reply.PollRecv stream_reply) polled_in found_back refl (λ answer. listened (receive v key cursor) (stream_of key) (is_empty_reply (try_recv_reply v cursor))) (refl, refl, refl) (reply.PollRecv p) f.legal)
 
   pub stays : {c : Call T} {r : Reply T} (learned : Learns is_clone o known c r after)
       → cursor_of (next (end_of o learned.follows.before) c r).control key ≡ Some (number known.next) → Stays known after

@@ -1,5 +1,5 @@
 -- What a receiver skips.
-use Rattle.std.proofs.Common.{◌≡◌, inl, inr, ℕ, ◌≤◌, List, [], ◌∷◌, ◌++◌, Option, Some, Result, Ok, Err, refl, arith, subst, IsErr, OnErr}
+use Rattle.std.proofs.Common.{◌≡◌, inl, inr, ℕ, ◌≤◌, List, Option, Some, Result, Ok, Err, refl, arith, subst, IsErr, OnErr}
 use Rattle.std.proofs.lemmas.Bool.{cases_lt}
 use Rattle.std.specs.declared.alloc.AllocError.{AllocError}
 use mathlib.Core.List.{IsPrefix}
@@ -9,29 +9,22 @@ use Rattle.bcast_model.specs.declared.error.RecvError.TheVariants as unreceived
 use Rattle.bcast_model.specs.declared.error.TryRecvError.TheVariants as unread
 use Rattle.bcast_model.specs.declared.run.Call.{Call}
 use Rattle.bcast_model.specs.declared.run.Reply.{Reply}
-use Rattle.bcast_model.specs.Words.{History, next, end_of_run}
-use Rattle.bcast_history.specs.History.{Opening, Step, calls_of, replies_of, start_of, end_of}
+use Rattle.bcast_model.specs.Words.{next}
+use Rattle.bcast_history.specs.History.{Opening, Step, end_of}
 use Rattle.bcast_history.specs.Makes.{MakesReceives}
 use Rattle.bcast_history.specs.Reader.{Finds, Skips, Takes, TakesNext, as_found, as_tried}
 use Rattle.bcast_history.specs.Tracker.{Tracker, number}
-use Rattle.bcast_history.proofs.Polls.{Polled}
+use Rattle.bcast_history.proofs.Received.{Polled}
 use Rattle.bcast_history.proofs.Receiving.{receives_on}
+use Rattle.bcast_history.proofs.Sent.{kept_later}
 
 pub on_err : {X E P : Type 0} (p : Result X E) → P → OnErr p P
 on_err (Ok found) why = tt
 on_err (Err error) why = why
 
-module _ {T : Type 0} where
-  -- what is gone stays so
-  rises : (h : History T) (steps rest : List (Step T))
-      → (end_of_run h (calls_of steps) (replies_of steps)).floor ≤ (end_of_run h (calls_of (steps ++ rest)) (replies_of (steps ++ rest))).floor
-  rises h [] [] = omega arith
-  rises h [] (step ∷ rest) = let later = rises (next h step.call step.reply) [] rest in omega (arith, later)
-  rises h (step ∷ steps) rest = rises (next h step.call step.reply) steps rest
-
-  floor_rises : (o : Opening) (known later : List (Step T)) → IsPrefix known later → (end_of o known).floor ≤ (end_of o later).floor
-  floor_rises o known later begins =
-      subst (λ steps. (end_of o known).floor ≤ (end_of o steps).floor) begins.1 (rises (start_of o) known begins.0)
+-- what is gone stays so
+floor_rises : {T : Type 0} (o : Opening) (known later : List (Step T)) → IsPrefix known later → (end_of o known).floor ≤ (end_of o later).floor
+floor_rises o known later begins = kept_later (λ h. (end_of o known).floor ≤ h.floor) (λ h c r low. omega (arith, low)) o known later begins (omega arith)
 
 -- by receives, and no other call
 pub record HasSkipped {T : Type 0} (learns : Tracker T → Call T → Reply T → Tracker T → Type 0) (o : Opening) (old now : Tracker T) : Type 0 where

@@ -1,7 +1,6 @@
 -- Nothing was there, and one poll says why.
 use Rattle.std.proofs.Common.{inr, refl}
-use Rattle.bcast_history.proofs.Polls.{polls_last}
-use Rattle.bcast_history.proofs.Receiving.{receives_on, receives_one, receives_refused}
+use Rattle.bcast_history.proofs.Receiving.{polls_last, receives_on, receives_one, receives_refused}
 use Rattle.bcast_history.proofs.receiver.TrackedReceiver.poll_recv_many.Goals as goal
 
 pub returns-in-Ready-Some-Err-clause-takes : goal.returns-in-Ready-Some-Err-clause-takes
