@@ -1,12 +1,11 @@
 -- Receives in a row: what they give, and where they lead.
-use Rattle.std.proofs.Common.{◌≡◌, inl, inr, ℕ, suc, ◌+◌, ◌-◌, ◌<◌, ◌≤◌, max, List, [], ◌∷◌, length, slice_get, Some, Ok, refl, sym, ap, ◌∙◌, subst, arith}
-use Rattle.std.specs.Prelude.{IsSomeAnd}
+use Rattle.std.proofs.Common.{◌≡◌, inl, inr, ℕ, suc, ◌+◌, ◌-◌, ◌<◌, ◌≤◌, max, List, [], ◌∷◌, length, slice_get, Some, Ok, refl, sym, ap, ◌∙◌, subst, arith, IsSomeAnd}
 use Rattle.std.specs.Option.{option_map_or}
 use Rattle.std.proofs.lemmas.Grind.{common_steps}
 use Rattle.std.proofs.lemmas.Option.{same_Some}
 use Rattle.bcast_model.specs.declared.run.Call.TheVariants as call
 use Rattle.bcast_model.specs.declared.run.Reply.TheVariants as reply
-use Rattle.bcast_model.specs.Words.{Answers, IsReceivedBy, IsShown, View, cursor_of, kept_at, sets, settle, tell_a_sender, tell_if_ready, try_recv_reply, unread}
+use Rattle.bcast_model.specs.Words.{Answers, IsReceivedBy, IsShown, View, cursor_of, kept_at, sets, settle, tell_if_ready, try_recv_reply, unread}
 use Rattle.bcast_model.proofs.Answers.{shown_after}
 use Rattle.bcast_model.proofs.DeliveryMaps.{inserted, inserted_other}
 use Rattle.bcast_store.specs.Stored.{AreHandedOut}
@@ -77,11 +76,7 @@ module _ {T : Type 0} (is_clone : T → T → Type 0) where
   handed_after : (v : View T) (key to number : ℕ) (given : T) → v.front ≤ to → to ≤ number → IsHandedOut is_clone v key number given → IsHandedOut is_clone (after v key to) key number given
   handed_after v key to number given reached from handed =
       let now = handed_moved v key to number given reached from handed in
-      told_is (λ w. IsHandedOut is_clone w key number given) (moved v key to) (as_told now) now
-    where
-      as_told : IsHandedOut is_clone (moved v key to) key number given → IsHandedOut is_clone (record (moved v key to) { control = tell_a_sender (moved v key to).control }) key number given
-      as_told (inl kept) = inl kept
-      as_told (inr owed) = inr owed
+      told_is (λ w. IsHandedOut is_clone w key number given) (moved v key to) now now
 
   -- ---- all of them
   -- what a receiver is given, one after the other, is so many receives

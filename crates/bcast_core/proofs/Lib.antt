@@ -1,14 +1,11 @@
+pub mod Common
 pub mod Settle
-pub mod Views
 pub mod Offers
 pub mod Receives
 pub mod Rooms
 pub mod Does
 pub mod Making
-pub mod Receivers
-pub mod Accessors
 pub mod Runs
-pub mod Opened
 pub mod Tail
 pub mod ReceivePolls
 pub mod SendPolls

@@ -1,13 +1,19 @@
--- What the calls that make or drop a handle do to the view, by their cases.
-use Rattle.std.proofs.Common.{◌≡◌, ℕ, ◌+◌, ◌-◌, ◌<◌, ◌≤◌, ◌==◌, true, false, Option, Some, None, Ok, Err, is_some, refl, arith, eq-eqb, ne_eqb}
+-- What the calls that make or drop a handle, or add or remove a receiver, do to the view.
+use Rattle.std.proofs.Common.{◌≡◌, inl, inr, ℕ, ◌+◌, ◌-◌, ◌^◌, ◌<◌, ◌≤◌, ◌==◌, not, true, false, Option, Some, None, Result, Ok, Err, is_some, refl, sym, ap, ◌∙◌, subst, arith, eq-eqb, ne_eqb, is_ok}
 use Rattle.std.proofs.lemmas.Grind.{common_steps}
-use Rattle.bcast_model.specs.declared.error.HandleError.TheVariants as handle
+use Rattle.std.specs.FinMap.{len}
+use Rattle.bcast_model.specs.declared.error.HandleError.{HandleError}
 use Rattle.bcast_model.specs.declared.run.Call.TheVariants as call
 use Rattle.bcast_model.specs.declared.run.Reply.TheVariants as reply
-use Rattle.bcast_model.specs.Words.{has_next, NoClone, View, IsValidView, close_if_deserted}
-use Rattle.bcast_core.specs.Parts.{Does}
+use Rattle.bcast_model.specs.Words.{has_next, NoClone, View, IsValidView, Control, close_if_deserted, cursor_of}
+use Rattle.bcast_model.specs.Words.{sets, settle, with_cursor, clone_receiver, drop_receiver, without_receiver}
+use Rattle.bcast_model.proofs.Cases.{close_is, deserted_is}
+use Rattle.bcast_core.specs.Parts.{Adds, Does}
 use Rattle.bcast_core.proofs.Does.{does_sets, does_nothing}
 use Rattle.bcast_core.proofs.Settle.{low_close_if_deserted}
+
+pub is_none : {n : ℕ} → n ≤ 0 → (n == 0) ≡ true
+is_none {n = n} none = eq-eqb n 0 (omega (arith, none))
 
 pub at_most : (n : ℕ) → n ≡ 18446744073709551615 → has_next n ≡ false
 at_most n e = grind (arith, common_steps, e)
@@ -29,26 +35,10 @@ is_gone (Some x) e = cc
 
 module _ {T : Type 0} where
   -- ---- one more
-  pub full_senders : {v : View T} → IsValidView v → v.control.senders ≡ 18446744073709551615 → Does NoClone v call.NewSender (reply.NewSender (Err handle.TooMany)) v
-  full_senders {v = v} valid e =
-      let most = at_most v.control.senders e in
-      does_nothing valid (rw most refl) (rw most refl) refl
-
   pub more_senders : {v : View T} → IsValidView v → (v.control.senders ≡ 18446744073709551615 → ⊥) → Does NoClone v call.NewSender (reply.NewSender (Ok tt)) (record v { control = record v.control { senders = v.control.senders + 1 } })
   more_senders {v = v} valid e =
       let below = below_most v.control.senders valid.control.senders_fit e in
       does_sets (record v.control { senders = v.control.senders + 1 }) (rw below refl) (rw below refl) valid.low refl
-
-  pub no_inactive : {v : View T} → IsValidView v → v.control.inactive ≡ 0 → Does NoClone v call.CloneInactive (reply.CloneInactive (Err handle.Gone)) v
-  no_inactive {v = v} valid e =
-      let none : (v.control.inactive == 0) ≡ true = eq-eqb v.control.inactive 0 e in
-      does_nothing valid (rw none refl) (rw none refl) refl
-
-  pub full_inactive : {v : View T} → IsValidView v → (v.control.inactive ≡ 0 → ⊥) → v.control.inactive ≡ 18446744073709551615 → Does NoClone v call.CloneInactive (reply.CloneInactive (Err handle.TooMany)) v
-  full_inactive {v = v} valid is e =
-      let some : (v.control.inactive == 0) ≡ false = ne_eqb v.control.inactive 0 is in
-      let most = at_most v.control.inactive e in
-      does_nothing valid (rw (some, most) refl) (rw (some, most) refl) refl
 
   pub more_inactive : {v : View T} → IsValidView v → (v.control.inactive ≡ 0 → ⊥) → (v.control.inactive ≡ 18446744073709551615 → ⊥)
       → Does NoClone v call.CloneInactive (reply.CloneInactive (Ok tt)) (record v { control = record v.control { inactive = v.control.inactive + 1 } })
@@ -64,18 +54,61 @@ module _ {T : Type 0} where
       let left = record v.control { senders = v.control.senders - 1 } in
       does_sets (close_if_deserted left) refl (rw some refl) (low_close_if_deserted v left valid.low) refl
 
-  pub no_senders : {v : View T} → IsValidView v → v.control.senders ≤ 0 → Does NoClone v call.DropSender reply.DropSender v
-  no_senders {v = v} valid is =
-      let none : (v.control.senders == 0) ≡ true = eq-eqb v.control.senders 0 (omega (arith, is)) in
-      does_nothing valid refl (rw none refl) refl
-
   pub fewer_inactive : {v : View T} → IsValidView v → 0 < v.control.inactive → Does NoClone v call.DropInactive reply.DropInactive (record v { control = close_if_deserted (record v.control { inactive = v.control.inactive - 1 }) })
   fewer_inactive {v = v} valid is =
       let some : (v.control.inactive == 0) ≡ false = ne_eqb v.control.inactive 0 (λ e. omega (arith, is, e)) in
       let left = record v.control { inactive = v.control.inactive - 1 } in
       does_sets (close_if_deserted left) refl (rw some refl) (low_close_if_deserted v left valid.low) refl
 
-  pub none_inactive : {v : View T} → IsValidView v → v.control.inactive ≤ 0 → Does NoClone v call.DropInactive reply.DropInactive v
-  none_inactive {v = v} valid is =
-      let none : (v.control.inactive == 0) ≡ true = eq-eqb v.control.inactive 0 (omega (arith, is)) in
-      does_nothing valid refl (rw none refl) refl
+  -- ---- receivers that are added
+  pub added_fits : {v : View T} (new : View T) (cursor : ℕ) (r : Result ℕ HandleError) → IsValidView v → Adds v cursor r new → len new.control.cursors < 2 ^ 64
+  added_fits new cursor (Ok key) valid adds = subst (λ (x : View T). len x.control.cursors < 2 ^ 64) (sym adds.1) adds.2
+  added_fits new cursor (Err e) valid adds = subst (λ (x : View T). len x.control.cursors < 2 ^ 64) (sym adds.1) valid.control.receivers_fit
+
+  pub new_added : {v new : View T} (end : ℕ) (r : Result ℕ HandleError) → IsValidView v → end ≡ v.end → Adds v end r new → Does NoClone v call.NewReceiver (reply.NewReceiver r) new
+  new_added {v = v} end (Ok key) valid at adds = record { legal = inl (key, refl, adds.0); effect = adds.1 ∙ ap (λ n. settle v (sets (with_cursor v.control key n))) at }
+  new_added end (Err e) valid at adds = does_nothing valid (inr (ap (λ x. reply.NewReceiver (Err x)) adds.0)) refl adds.1
+
+  pub clone_added : {v new : View T} (key cursor : ℕ) (r : Result ℕ HandleError) → IsValidView v → cursor_of v.control key ≡ Some cursor → Adds v cursor r new → Does NoClone v (call.CloneReceiver key) (reply.CloneReceiver r) new
+  clone_added {v = v} key cursor (Ok made) valid at adds = record { legal = inr (ap is_some at, inl (made, refl, adds.0)); effect = adds.1 ∙ ap (λ o. settle v (sets (clone_receiver v.control o (Some made)))) (sym at) }
+  clone_added {v = v} key cursor (Err e) valid at adds = does_nothing valid (inr (ap is_some at, inr (ap (λ x. reply.CloneReceiver (Err x)) adds.0))) (ap (λ o. sets (clone_receiver v.control o None)) at) adds.1
+
+  pub cloned_activated : {v new : View T} (end : ℕ) (r : Result ℕ HandleError) → IsValidView v → (v.control.inactive ≡ 0 → ⊥) → end ≡ v.end → Adds v end r new → Does NoClone v call.ActivateCloned (reply.ActivateCloned r) new
+  cloned_activated {v = v} end (Ok key) valid is at adds = record { legal = inr (ap not (ne_eqb v.control.inactive 0 is), inl (key, refl, adds.0)); effect = adds.1 ∙ ap (λ n. settle v (sets (with_cursor v.control key n))) at }
+  cloned_activated {v = v} end (Err e) valid is at adds = does_nothing valid (inr (ap not (ne_eqb v.control.inactive 0 is), inr (ap (λ x. reply.ActivateCloned (Err x)) adds.0))) refl adds.1
+
+  pub not_added : {v new : View T} (end : ℕ) (r : Result ℕ HandleError) → IsValidView v → (v.control.inactive ≡ 0 → ⊥) → is_ok r ≡ false → Adds v end r new → Does NoClone v call.Activate (reply.Activate r) new
+  not_added end (Ok key) valid is fails adds = cc
+  not_added {v = v} end (Err e) valid is fails adds = does_nothing valid (inr (ap not (ne_eqb v.control.inactive 0 is), inr (ap (λ x. reply.Activate (Err x)) adds.0))) refl adds.1
+
+  pub activated : {v : View T} (new : View T) (end : ℕ) (r : Result ℕ HandleError) → (v.control.inactive ≡ 0 → ⊥) → end ≡ v.end → is_ok r ≡ true → Adds v end r new
+      → Does NoClone v call.Activate (reply.Activate r) (record new { control = record new.control { inactive = new.control.inactive - 1 } })
+  activated {v = v} new end (Ok key) is at succeeds adds = record {
+    legal = inr (ap not (ne_eqb v.control.inactive 0 is), inl (key, refl, adds.0));
+    effect = ap (λ (x : View T). record x { control = record x.control { inactive = x.control.inactive - 1 } }) (adds.1 ∙ ap (λ n. settle v (sets (with_cursor v.control key n))) at);
+  }
+  activated new end (Err e) is at succeeds adds = cc
+
+  -- ---- receivers that leave
+  closed_settles : (v : View T) (c : Control) → record (settle v (sets c)) { control = close_if_deserted c } ≡ settle v (sets (close_if_deserted c))
+  closed_settles v c =
+      let Settles : Control → Type 0 = λ now. record (settle v (sets c)) { control = now } ≡ settle v (sets now) in
+      deserted_is Settles c (close_is Settles c (λ _. refl) (λ _. refl)) (λ _. refl)
+
+  pub receiver_left : {v new : View T} (key : ℕ) → is_some (cursor_of v.control key) ≡ true → new ≡ settle v (sets (without_receiver v.control key))
+      → Does NoClone v (call.DropReceiver key) reply.DropReceiver (record new { control = close_if_deserted new.control })
+  receiver_left {v = v} key found new_is =
+      let at = is_there (cursor_of v.control key) found in
+      record {
+        legal = refl;
+        effect = ap (λ (x : View T). record x { control = close_if_deserted x.control }) new_is ∙ closed_settles v (without_receiver v.control key) ∙ ap (λ o. settle v (sets (drop_receiver v.control key o))) (sym at.1);
+      }
+
+  pub deactivated : {v new : View T} (key cursor : ℕ) → IsValidView v → cursor_of v.control key ≡ Some cursor → (v.control.inactive ≡ 18446744073709551615 → ⊥) → new ≡ settle v (sets (without_receiver v.control key))
+      → Does NoClone v (call.Deactivate key) (reply.Deactivate (Ok tt)) (record new { control = record new.control { inactive = new.control.inactive + 1 } })
+  deactivated {v = v} key cursor valid at e new_is =
+      let below = below_most v.control.inactive valid.control.inactive_fit e in
+      record {
+        legal = rw (at, below) refl;
+        effect = ap (λ (x : View T). record x { control = record x.control { inactive = x.control.inactive + 1 } }) new_is ∙ ap (λ c. settle v (sets c)) (rw (at, below) refl);
+      }

@@ -1,8 +1,7 @@
 -- What is seen once a receiver has moved on, and a send was told.
-use Rattle.std.proofs.Common.{◌≡◌, inl, inr, ℕ, ◌+◌, ◌-◌, ◌≤◌, ◌==◌, true, false, cond, not, ◌&&◌, ◌||◌, [], ◌++◌, length, max, min, drop, Some, slice_get, refl, sym, ap, ◌∙◌, arith, append-nil, length-drop}
+use Rattle.std.proofs.Common.{◌≡◌, inl, inr, ℕ, ◌+◌, ◌-◌, ◌≤◌, ◌==◌, true, false, cond, [], ◌++◌, length, max, min, drop, Some, slice_get, refl, sym, ap, ◌∙◌, arith, append-nil, length-drop, drop-drop}
 use Rattle.std.proofs.lemmas.Bool.{cases_eq}
 use Rattle.std.proofs.lemmas.Grind.{common_steps}
-use Rattle.std.proofs.lemmas.List.{drop-drop}
 use Rattle.std.proofs.lemmas.Option.{same_Some}
 use Rattle.std.specs.FinMap.{get, insert, len, values}
 use Rattle.bcast_model.specs.Words.{Cursors, Listeners, View, cursor_of, kept_at, least, sends_are_ready, sets, settle, tell, tell_a_sender, tell_if_ready, with_cursor}
@@ -71,10 +70,8 @@ module _ {T : Type 0} where
   ready_moved v key cursor to there fits ready =
       let now = positive (len (insert v.control.cursors key to)) (len_insert v.control.cursors key to) in
       let was = positive (len v.control.cursors) (len_some v.control.cursors key cursor there) in
-      elim (length (moved v key to).queue == v.control.capacity) as (λ b. (length (moved v key to).queue == v.control.capacity) ≡ b → (v.control.closed || (not (len (insert v.control.cursors key to) == 0) && (v.control.overflow || not b)) || ((len (insert v.control.cursors key to) == 0) && not v.control.await_active)) ≡ true) [
-        | true ↦ λ full. (let before = full_before v key to fits full in grind (arith, common_steps, now, was, before, ready))
-        | false ↦ λ full. grind (arith, common_steps, now)
-      ] refl
+      let before = full_before v key to fits in
+      grind (arith, common_steps, now, was, before, ready)
 
   -- ---- a send is told once
   told_moved : (w : View T) (key to : ℕ) → (sends_are_ready w ≡ true → sends_are_ready (moved w key to) ≡ true) → after (tell_if_ready w) key to ≡ after w key to

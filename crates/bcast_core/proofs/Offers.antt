@@ -1,7 +1,6 @@
 -- What an offered message does to the view.
-use Rattle.std.proofs.Common.{◌≡◌, ℕ, ◌+◌, ◌-◌, ◌<◌, ◌≤◌, ◌==◌, true, false, cond, List, [], ◌∷◌, length, max, Option, Some, None, refl, sym, ap, ◌∙◌, arith, eqb-true}
+use Rattle.std.proofs.Common.{◌≡◌, ℕ, ◌+◌, ◌-◌, ◌<◌, ◌≤◌, ◌==◌, true, false, cond, List, [], ◌∷◌, length, max, Option, Some, None, refl, sym, ap, ◌∙◌, arith, eqb-true, is_ok, IfSome, OnSome, IfNone}
 use Rattle.std.proofs.lemmas.Grind.{common_steps}
-use Rattle.std.specs.Prelude.{is_ok, IfSome, OnSome, IfNone}
 use Rattle.std.specs.FinMap.{values}
 use Rattle.bcast_store.specs.Stored.{Stored, end_of}
 use Rattle.bcast_model.specs.Words.{Control, has_no_receiver, accepting, least, View, is_full, IsValidView}
@@ -64,3 +63,6 @@ module _ {T : Type 0} where
       ∙ settle_to v (accept v msg) (with_message (record v { front = v.front + 1; queue = now.queue }) msg) front (rw (one, queue) refl) refl refl
       ∙ ap (λ (x : View T). with_message x msg) (sym (ap (λ x. seen_of x (control x)) rest
       ∙ (λ i. record { front = moved.front; queue = moved.queue; end = end i; control = same moved.front moved.queue i }) ∙ ap (λ (x : View T). record x { front = x.front + 1; queue = now.queue }) seen))
+
+-- what sends of lists that change nothing are proved by
+pub ruleset lists = (common_steps, offer_all_nothing, offer_all_refused)

@@ -1,7 +1,6 @@
 -- A receive poll, which is answered or waits.
-use Rattle.std.proofs.Common.{◌≡◌, ℕ, true, false, Option, Result, Ok, Err, OnOk, OnErr, refl, sym, ap, subst, ◌∙◌, arith}
+use Rattle.std.proofs.Common.{◌≡◌, ℕ, true, false, Option, Result, Ok, Err, OnOk, OnErr, refl, sym, ap, subst, ◌∙◌, arith, alloc_error}
 use Rattle.std.proofs.lemmas.Grind.{common_steps}
-use Rattle.std.specs.Prelude.{alloc_error}
 use Rattle.std.specs.FinMap.{len}
 use Rattle.bcast_model.specs.declared.error.TryRecvError.{TryRecvError}
 use Rattle.bcast_model.specs.declared.listener.Kind.{Kind}
@@ -21,7 +20,7 @@ use Rattle.bcast_core.specs.declared.parts.receive.ReceivePoll.TheVariants as po
 use Rattle.bcast_core.specs.Telling.{NobodyWaits}
 use Rattle.bcast_core.specs.Polls.{kind_of, call_of, reads_at, skips_of, reply_of}
 use Rattle.bcast_core.proofs.Tail.{told_none, told_last, told_valid, told_waiting}
-use Rattle.bcast_core.proofs.Receives.{poll_waits, settle_empty}
+use Rattle.bcast_core.proofs.Receives.{settle_empty, settle_waits}
 use Rattle.bcast_core.proofs.Does.{does_nothing, respelt}
 
 module _ {T : Type 0} where
@@ -30,9 +29,8 @@ module _ {T : Type 0} where
       → mid ≡ settle v (sets (receive v pair.0 at)) → new ≡ record mid { control = pair_waits mid.control pair }
       → new ≡ tell_if_ready (settle v (sets (receive_poll v pair at)))
   poll_listens v mid new pair at valid empty mid_is new_is =
-      let same = settle_empty v mid pair.0 at valid empty mid_is in
-      let waits : new ≡ record v { control = pair_waits v.control pair } = new_is ∙ ap (λ (x : View T). record x { control = pair_waits x.control pair }) same in
-      waits ∙ sym (told_waiting v pair valid) ∙ ap tell_if_ready (sym waits ∙ poll_waits v mid new pair at valid empty mid_is new_is)
+      new_is ∙ ap (λ (x : View T). record x { control = pair_waits x.control pair }) (settle_empty v mid pair.0 at valid empty mid_is)
+      ∙ sym (told_waiting v pair valid) ∙ ap tell_if_ready (sym (settle_waits v pair at valid empty))
 
   -- one that finds something while no one waits is a receive
   pub poll_nobody : (v new : View T) (pair : Pair) (at : Option ℕ) → NobodyWaits new.control → is_empty_reply (try_recv_reply v at) ≡ false

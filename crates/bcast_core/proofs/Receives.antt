@@ -60,14 +60,11 @@ module _ {T : Type 0} where
   settle_empty v mid key at valid e is = is ∙ ap (λ c. settle v (sets c)) (receive_empty v key at valid e) ∙ settle_same v valid
 
   -- so a poll only waits
-  pub poll_waits : (v mid new : View T) (pair : Pair) (at : Option ℕ) → IsValidView v → is_empty_reply (try_recv_reply v at) ≡ true
-      → mid ≡ settle v (sets (receive v pair.0 at)) → new ≡ record mid { control = pair_waits mid.control pair }
-      → new ≡ settle v (sets (receive_poll v pair at))
-  poll_waits v mid new pair at valid e mid_is new_is =
-      new_is ∙ ap (λ (x : View T). record x { control = pair_waits x.control pair }) (settle_empty v mid pair.0 at valid e mid_is)
-      ∙ sym (settle_stays v (pair_waits v.control pair) valid.low)
-      ∙ ap (λ c. settle v (sets (pair_waits c pair))) (sym (receive_empty v pair.0 at valid e))
-      ∙ ap (λ b. settle v (sets (listens (receive v pair.0 at) pair b))) (sym e)
+  pub settle_waits : (v : View T) (pair : Pair) (at : Option ℕ) → IsValidView v → is_empty_reply (try_recv_reply v at) ≡ true → settle v (sets (receive_poll v pair at)) ≡ record v { control = pair_waits v.control pair }
+  settle_waits v pair at valid e =
+      ap (λ b. settle v (sets (listens (receive v pair.0 at) pair b))) e
+      ∙ ap (λ c. settle v (sets (pair_waits c pair))) (receive_empty v pair.0 at valid e)
+      ∙ settle_stays v (pair_waits v.control pair) valid.low
 
   -- ---- a listener that is listed and not told
   reads_end : (v : View T) (key : ℕ) (at : Option ℕ) → v.front ≤ v.end → get v.control.cursors key ≡ Some v.end → (at ≡ cursor_of v.control key) ⊎ (at ≡ skipped_to v.front (cursor_of v.control key)) → at ≡ Some v.end

@@ -1,14 +1,14 @@
 -- There is room for each receiver's listeners and each pending send, while they come and go.
-use Rattle.std.proofs.Common.{◌≡◌, ℕ, ◌+◌, ◌*◌, ◌<◌, ◌≤◌, Bool, true, false, cond, not, ◌&&◌, ◌||◌, Option, Some, None, is_some, Result, Ok, Err, OnOk, OnErr, refl, sym, ap, ◌∙◌, subst, arith}
+use Rattle.std.proofs.Common.{◌≡◌, ℕ, ◌+◌, ◌*◌, ◌<◌, ◌≤◌, true, false, None, is_some, Result, Ok, Err, OnOk, OnErr, sym, ap, ◌∙◌, subst, arith, true≢false, cond, not, ◌&&◌, ◌||◌, Some, refl}
 use Rattle.std.proofs.lemmas.Grind.{common_steps}
-use Rattle.std.proofs.lemmas.Bool.{true≢false}
 use Rattle.std.specs.Ordering.{nat_cmp, eq_by_cmp}
 use Rattle.std.specs.Cmp.{nat_cmp_total, unsigned_tied}
-use Rattle.std.specs.FinMap.{nat_cmp-IsAntisymmetric, get, insert, remove, empty, values, get-empty, get-insert, get-remove, same_map}
+use Rattle.std.specs.FinMap.{nat_cmp-IsAntisymmetric, get, insert, remove, empty, values, get-empty, get-insert, get-remove}
 use Rattle.std.specs.FinSet as set
 use Rattle.bcast_model.specs.Words.{Cursors, Places, least}
 use Rattle.bcast_model.proofs.Waiting.{test_place}
 use Rattle.bcast_store.specs.Stored.{Stored, end_of, with_cursors}
+use Rattle.bcast_store.proofs.Least.{cursors_ext}
 use Rattle.bcast_core.specs.Parts.{AllHaveRoom, ReceiversHaveRoom, SendsHaveRoom}
 
 same_key : (q key : ℕ) → eq_by_cmp nat_cmp q key ≡ true → q ≡ key
@@ -38,14 +38,13 @@ room_read {T = T} (Err e) old new key cursor room some ok err all = subst (λ (s
 -- a receiver that was added and removed at once
 pub remove-insert : (cursors : Cursors) (key cursor : ℕ) → get cursors key ≡ None → remove (insert cursors key cursor) key ≡ cursors
 remove-insert cursors key cursor fresh =
-    same_map nat_cmp_total nat_cmp-IsAntisymmetric _ _ (λ q.
+    cursors_ext _ _ (λ q.
     get-remove nat_cmp_total (insert cursors key cursor) key q
     ∙ ap (λ o. cond (eq_by_cmp nat_cmp q key) None o) (get-insert nat_cmp_total cursors key cursor q)
-    ∙ by_key q (eq_by_cmp nat_cmp q key) refl)
-  where
-    by_key : (q : ℕ) (b : Bool) → eq_by_cmp nat_cmp q key ≡ b → cond b None (cond b (Some cursor) (get cursors q)) ≡ get cursors q
-    by_key q true e = sym (ap (get cursors) (same_key q key e) ∙ fresh)
-    by_key q false e = refl
+    ∙ elim (eq_by_cmp nat_cmp q key) as (λ b. eq_by_cmp nat_cmp q key ≡ b → cond b None (cond b (Some cursor) (get cursors q)) ≡ get cursors q) [
+      | true ↦ λ e. sym (ap (get cursors) (same_key q key e) ∙ fresh)
+      | false ↦ λ e. refl
+    ] refl)
 
 module _ {T : Type 0} where
   -- the cursors that it has already don't change a store
@@ -68,11 +67,10 @@ place_taken_back places place fresh =
     set.same_set nat_cmp_total nat_cmp-IsAntisymmetric _ _ (λ q.
     set.contains-remove nat_cmp_total (set.insert places place) place q
     ∙ ap (λ b. not (eq_by_cmp nat_cmp q place) && b) (set.contains-insert nat_cmp_total places place q)
-    ∙ by_key q (eq_by_cmp nat_cmp q place) refl)
-  where
-    by_key : (q : ℕ) (b : Bool) → eq_by_cmp nat_cmp q place ≡ b → (not b && (b || set.contains places q)) ≡ set.contains places q
-    by_key q true e = sym (ap (set.contains places) (same_key q place e) ∙ fresh)
-    by_key q false e = refl
+    ∙ elim (eq_by_cmp nat_cmp q place) as (λ b. eq_by_cmp nat_cmp q place ≡ b → (not b && (b || set.contains places q)) ≡ set.contains places q) [
+      | true ↦ λ e. sym (ap (set.contains places) (same_key q place e) ∙ fresh)
+      | false ↦ λ e. refl
+    ] refl)
 
 module _ {cursors : Cursors} {receives : ℕ} where
   -- the places stay, and the room doesn't fall
@@ -83,17 +81,9 @@ module _ {cursors : Cursors} {receives : ℕ} where
   -- a place for which there is room is taken
   pub place_taken : (places now : Places) (place room more : ℕ) → now ≡ set.insert places place → place < more → room ≤ more → AllHaveRoom cursors receives places room → AllHaveRoom cursors receives now more
   place_taken places now place room more is own rises all =
-      record { receivers = all.receivers; sends = λ other h. by_key other (eq_by_cmp nat_cmp other place) refl (sym (set.contains-insert nat_cmp_total places place other) ∙ ap (λ (s : Places). set.contains s other) (sym is) ∙ h) }
-    where
-      by_key : (other : ℕ) (b : Bool) → eq_by_cmp nat_cmp other place ≡ b → (b || set.contains places other) ≡ true → other < more
-      by_key other true e h = let one = same_key other place e in omega (arith, one, own)
-      by_key other false e h = let old = all.sends other h in omega (arith, old, rises)
+      record { receivers = all.receivers; sends = λ other h. (let was = all.sends other in grind (arith, common_steps, set.contains-insert, same_key)) }
 
   -- a place is given back, and the room stays
   pub place_freed : (places now : Places) (place room next : ℕ) → now ≡ set.remove places place → next ≡ room → AllHaveRoom cursors receives places room → AllHaveRoom cursors receives now next
   place_freed places now place room next is room_is all =
-      record { receivers = all.receivers; sends = λ other h. subst (λ n. other < n) (sym room_is) (all.sends other (second other (not (eq_by_cmp nat_cmp other place)) (sym (set.contains-remove nat_cmp_total places place other) ∙ ap (λ (s : Places). set.contains s other) (sym is) ∙ h))) }
-    where
-      second : (other : ℕ) (b : Bool) → (b && set.contains places other) ≡ true → set.contains places other ≡ true
-      second other true h = h
-      second other false h = absurd (true≢false (sym h))
+      record { receivers = all.receivers; sends = λ other h. (let was = all.sends other in grind (arith, common_steps, set.contains-remove)) }

@@ -1,10 +1,8 @@
 -- A run with one more call, and what holds at each point of a run.
-use Rattle.std.proofs.Common.{◌≡◌, List, [], ◌∷◌, ◌++◌, length, append-nil, refl, sym, ap, ◌∙◌}
+use Rattle.bcast_core.proofs.Common.{◌≡◌, List, [], ◌∷◌, ◌++◌, length, append-nil, refl, sym, ap, ◌∙◌, History, view_of, Legal, next, IsValid, IsRun, end_of_run, AtEachPoint, WaitsAsItsTry, ComesToRest}
 use Rattle.std.proofs.lemmas.List.{nil_from_length}
 use Rattle.bcast_model.specs.declared.run.Call.{Call}
 use Rattle.bcast_model.specs.declared.run.Reply.{Reply}
-use Rattle.bcast_model.specs.Words.{History, view_of, Legal, next, IsValid, IsRun, end_of_run}
-use Rattle.bcast_model.specs.Words.{AtEachPoint, WaitsAsItsTry, ComesToRest}
 use Rattle.bcast_model.proofs.Views.{valid_view}
 use Rattle.bcast_model.proofs.Polls.{waits_as_its_try}
 use Rattle.bcast_model.proofs.ToldPolls.{comes_to_rest}

@@ -7,7 +7,7 @@ use Rattle.bcast_model.specs.declared.run.SendPoll.TheVariants as send
 use Rattle.bcast_model.specs.declared.run.Call.TheVariants as call
 use Rattle.bcast_model.specs.declared.run.Reply.TheVariants as reply
 use Rattle.bcast_model.specs.Words.{consume, same_place, has_place, place_answered, place_waits}
-use Rattle.bcast_model.specs.Words.{tell_a_sender, with_place_answered, offer, attempt_send_reply}
+use Rattle.bcast_model.specs.Words.{tell_a_sender, offer, attempt_send_reply}
 use Rattle.bcast_model.specs.Words.{poll_send, View, sends_are_ready, Answers, IsShown, must_wait}
 use Rattle.bcast_model.specs.Words.{IsValidView, NoClone, sets, tell_if_ready, settle}
 use Rattle.bcast_model.proofs.Polls.{attempt_waits}
@@ -37,9 +37,7 @@ module _ {T : Type 0} where
       → mid ≡ settle v (offer v msg) → new ≡ tell_if_ready (record mid { control = place_answered mid.control place }) → new ≡ tell_if_ready (settle v (poll_send v place msg))
   poll_answered v mid new place msg answer there is mid_is new_is =
       let ready = not-false (sends_are_ready v) (sym (attempt_waits v msg) ∙ ap waits is) in
-      new_is ∙ ap tell_if_ready (ap (λ (x : View T). record x { control = place_answered x.control place }) mid_is
-      ∙ sym (ap (λ b. settle v (cond b (cond (sends_are_ready v) (with_place_answered (offer v msg) place) (sets (place_waits v.control place))) (sets v.control))) there
-      ∙ ap (λ b. settle v (cond b (with_place_answered (offer v msg) place) (sets (place_waits v.control place)))) ready))
+      new_is ∙ ap (λ (x : View T). tell_if_ready (record x { control = place_answered x.control place })) mid_is ∙ rw (there, ready) refl
 
   -- if no one waits, no one is told of it
   pub poll_nobody : (v mid new : View T) (place : ℕ) (msg : T) (answer : _) (news : Bool) → has_place v.control place ≡ true → attempt_send_reply v msg ≡ send.Ready answer → NobodyWaits mid.control
@@ -55,11 +53,10 @@ module _ {T : Type 0} where
   poll_waits v mid new place msg again valid there is mid_is new_is =
       let blocked = not-true (sends_are_ready v) (sym (attempt_waits v msg) ∙ ap waits is) in
       let waiting : View T = record v { control = place_waits v.control place } in
+      let settles : settle v (sets (place_waits v.control place)) ≡ settle v (poll_send v place msg) = rw (there, blocked) refl in
       new_is ∙ ap (λ (x : View T). record x { control = place_waits x.control place }) (attempt_stays v mid msg again valid is mid_is)
       ∙ sym (ap (λ b. cond b (record waiting { control = tell_a_sender waiting.control }) waiting) blocked)
-      ∙ ap tell_if_ready (sym (settle_stays v (place_waits v.control place) valid.low)
-      ∙ sym (ap (λ b. settle v (cond b (cond (sends_are_ready v) (with_place_answered (offer v msg) place) (sets (place_waits v.control place))) (sets v.control))) there
-      ∙ ap (λ b. settle v (cond b (with_place_answered (offer v msg) place) (sets (place_waits v.control place)))) blocked))
+      ∙ ap tell_if_ready (sym (settle_stays v (place_waits v.control place) valid.low) ∙ settles)
 
   -- each is what the call returns
   pub polled : (old v new : View T) (place : ℕ) (msg : T) (r : Result (SendPoll T) T) → v ≡ old → IsShown v

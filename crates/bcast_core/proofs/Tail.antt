@@ -8,7 +8,7 @@ use Rattle.bcast_model.specs.declared.run.Reply.{Reply}
 use Rattle.bcast_model.specs.Words.{no_listeners, Pair, Cursors, Control, closing, close_if_deserted}
 use Rattle.bcast_model.specs.Words.{pair_waits, effect, HasRange, IsValidView}
 use Rattle.bcast_model.specs.Words.{tell_if_ready, Steps}
-use Rattle.bcast_model.specs.Words.{View, Answers, IsShown}
+use Rattle.bcast_model.specs.Words.{sets, View, Answers, IsShown, Legal}
 pub use Rattle.bcast_model.proofs.Answers.{answers_as, shown_after}
 pub use Rattle.bcast_model.proofs.Cases.{told_valid}
 use Rattle.bcast_model.proofs.Cases.{told_is, told_already, close_is, deserted_is}
@@ -48,9 +48,18 @@ module _ {T : Type 0} where
       answers_as same fits shown (told_last does new_is)
 
   -- a call that changes nothing
-  pub unchanged : {is_clone : T → T → Type 0} {was old new : View T} {c : Call T} {r : Reply T} → was ≡ old → IsShown was → new ≡ was → HasRange c (len was.control.cursors) → Does is_clone was c r was → Answers is_clone old c r new
-  unchanged {is_clone = is_clone} {was = was} {old = old} {c = c} {r = r} same shown new_is range does =
-      subst (λ v. Answers is_clone old c r v) (sym new_is) (ends same shown range does (sym (told_valid was (valid_shown shown))))
+  pub unchanged : {is_clone : T → T → Type 0} {was old new : View T} {c : Call T} {r : Reply T} → was ≡ old → IsShown was → new ≡ was → HasRange c (len was.control.cursors) → Legal is_clone was c r → effect was c r ≡ sets was.control → Answers is_clone old c r new
+  unchanged {is_clone = is_clone} {was = was} {old = old} {c = c} {r = r} same shown new_is range legal idle =
+      let valid = valid_shown shown in
+      subst (λ v. Answers is_clone old c r v) (sym new_is) (ends same shown range (does_nothing valid legal idle refl) (sym (told_valid was valid)))
+
+  -- a call that only reads doesn't change the state
+  pub answers_read : {is_clone : T → T → Type 0} {v : View T} {c : Call T} {r : Reply T} → IsShown v → Legal is_clone v c r → effect v c r ≡ sets v.control → HasRange c (len v.control.cursors) → Answers is_clone v c r v
+  answers_read shown legal idle range = unchanged refl shown refl range legal idle
+
+  -- a call has its answer under another name, too
+  pub named : {is_clone : T → T → Type 0} {old new : View T} {c made : Call T} {r : Reply T} → c ≡ made → Answers is_clone old made r new → Answers is_clone old c r new
+  named {is_clone = is_clone} {old = old} {new = new} {r = r} is a = subst (λ x. Answers is_clone old x r new) (sym is) a
 
   -- the parts that a call reads or changes by themselves are those of a state that is shown
   pub inside_shown : {inside was old : View T} → inside ≡ was → was ≡ old → IsShown was → (inside ≡ old) × IsShown inside
@@ -71,3 +80,8 @@ module _ {T : Type 0} where
   -- and there is if it rose
   pub some_news : (v new : View T) (more : ℕ) → new.end ≡ v.end + more → 1 ≤ more → tell_news (not (new.end == v.end)) new ≡ tell_news true new
   some_news v new more is some = ap (λ b. tell_news (not b) new) (ne_eqb new.end v.end (λ same. omega (arith, is, some, same)))
+
+-- what the tails are proved by, and what a list tells
+pub ruleset tails = (common_steps, told_none, tail_nobody)
+
+pub ruleset news = (common_steps, no_news)

@@ -15,8 +15,7 @@ use Rattle.bcast_core.specs.declared.state.receive.Received.{Received}
 -- a future listens as one, and the two others as the stream
 abbrev pub kind_of : ReceivePoll → Kind
 kind_of poll.Future = kind.Future
-kind_of poll.Recv = kind.Stream
-kind_of poll.Next = kind.Stream
+kind_of other = kind.Stream
 
 module _ {T : Type 0} where
   -- which call it is
@@ -27,15 +26,13 @@ module _ {T : Type 0} where
 
   -- where it reads: `poll_next` no lower than the front
   abbrev pub reads_at : ReceivePoll → View T → ℕ → Option ℕ
-  reads_at poll.Future v key = cursor_of v.control key
-  reads_at poll.Recv v key = cursor_of v.control key
   reads_at poll.Next v key = skipped_to v.front (cursor_of v.control key)
+  reads_at other v key = cursor_of v.control key
 
   -- how many messages it skips before
   abbrev pub skips_of : ReceivePoll → View T → ℕ → ℕ
-  skips_of poll.Future v key = 0
-  skips_of poll.Recv v key = 0
   skips_of poll.Next v key = skipped_count v.front (cursor_of v.control key)
+  skips_of other v key = 0
 
   -- its reply, if this was found
   abbrev pub reply_of : ReceivePoll → Received T → Reply T

@@ -10,6 +10,7 @@ mod calls;
 mod data;
 mod parts;
 mod snapshot;
+#[tactic(auto, using(crate::proofs::Does::valid_shown))]
 mod state;
 
 pub use bcast_model::error::{

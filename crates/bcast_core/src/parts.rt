@@ -80,6 +80,7 @@ impl<T: Drop, N: Notice, A: Allocator + Copy> Parts<T, N, A> {
     /// Calls that are made often ask before whether a send waits: after each call of a function that
     /// may wait, as the drop of a notice may, the compiler adds a test.
     #[inline(always)]
+    #[tactic(auto, using(crate::proofs::Tail::tails))]
     pub fn tell_a_sender(&mut self)
         ensures { self.new ≡ tell_if_ready self.old }
     {
@@ -101,6 +102,7 @@ impl<T: Drop, N: Notice, A: Allocator + Copy> Parts<T, N, A> {
     /// The last step of a call that sends: if it accepted a message, all that wait to receive are
     /// told first.
     #[inline(always)]
+    #[tactic(auto, using(crate::proofs::Tail::tails))]
     pub fn tell_of_message(&mut self, is_accepted: bool)
         ensures { self.new ≡ tell_if_ready (tell_news is_accepted self.old) }
     {

@@ -1,9 +1,6 @@
 //! The view of a channel, as a value.
-ghost use Rattle.std.specs.Prelude.{◌≡◌, IfOk};
-ghost use Rattle.std.specs.FinSet as set;
+ghost use Rattle.std.specs.Prelude.{IfOk};
 ghost use Rattle.std.specs.List.{AllZip};
-ghost use Rattle.std.specs.Ordering.{nat_cmp};
-ghost use Rattle.std.specs.List.Sorted.{IsStrictlyIncreasing};
 
 use bcast_model::listener::Kind;
 use bcast_store::Store;
@@ -68,14 +65,4 @@ pub(crate) fn clones_of<T: Clone, A: Allocator + Copy, B: Allocator>(
         clones.push_reserved(msg.clone()?);
     }
     Ok(clones)
-}
-
-/// These numbers in rising order, each once.
-pub(crate) fn rising<B: Allocator>(mut numbers: Vec<usize, B>) -> Vec<usize, B>
-    ensures rising { IsStrictlyIncreasing result.items }
-    ensures same { set.from_list {R = nat_cmp} result.items ≡ set.from_list numbers.items }
-{
-    numbers.sort_unstable();
-    numbers.dedup();
-    numbers
 }

@@ -1,31 +1,28 @@
 -- The counts of an event, once a listener joins or is taken out.
-use Rattle.std.proofs.Common.{◌≡◌, ℕ, ◌+◌, ◌-◌, ◌<◌, ◌≤◌, ◌==◌, Bool, true, false, cond, ltb, [], ◌∷◌, ◌++◌, length, get_or, set, Some, None, refl, sym, ap, ◌∙◌, subst, arith, ltb-true, ltb-false, length-set, length-append}
+use Rattle.std.proofs.Common.{◌≡◌, ℕ, ◌+◌, ◌-◌, ◌<◌, ◌≤◌, ◌==◌, Bool, true, false, cond, ltb, [], ◌∷◌, ◌++◌, length, take, drop, get_or, set, Some, None, refl, sym, ap, ◌∙◌, subst, arith, ltb-true, ltb-false, length-set, length-append}
 use Rattle.std.proofs.lemmas.Grind.{common_steps}
-use Rattle.std.specs.Prelude.{remove}
-use Rattle.std.specs.Cmp.{IsEquivalence}
 use Rattle.std.specs.List.{AllByRecursion}
-use Rattle.std.proofs.lemmas.List.Edits.{length-remove}
-use Rattle.bcast_model.specs.Listeners.{is_in, consume, untold_ids, AreInOrder}
+use Rattle.bcast_model.specs.Words.{Listeners, is_in, consume, untold_ids, AreInOrder, IsTest}
+use Rattle.bcast_model.proofs.Lists.{all_more, all_append, all_absent, all_fewer}
+use Rattle.bcast_model.proofs.Listeners.{in_order_join, in_order_consume, consume_listed, told_some}
 use Rattle.bcast_waiting.specs.Words.{is_told, Slots, listed, front, has, listeners_of, IsKept}
-use Rattle.bcast_model.proofs.Lists.{all_more, all_append, all_absent}
-use Rattle.bcast_waiting.proofs.Listed.{IsFirstAt, all_remove}
 use Rattle.bcast_waiting.proofs.Few.{at_most}
-use Rattle.bcast_waiting.proofs.Listeners.{is_told_first, untold_is, consume_first, AreInOrder-removed, AreInOrder-join}
-use Rattle.bcast_waiting.proofs.InSlots.{front_less, front_mono, front_push, listed_push, listed_left, front_left, front_kept, is_some-has, has_within, first_listed}
+use Rattle.bcast_waiting.proofs.Listeners.{apart_parts}
+use Rattle.bcast_waiting.proofs.InSlots.{take_front, drop_front, front_push, listed_push, listed_left, front_left, front_kept, is_some-has, is_there, in_before, in_behind}
 
 module _ {I : Type 0} {same : I → I → Bool} {number : I → ℕ} {s : Slots I} {count told told_end : ℕ} (kept : IsKept same number s count told told_end) where
   -- other slots with the same listeners
   pub IsKept-tidied : (t : Slots I) (end : ℕ) → listed t.ids ≡ listed s.ids → told ≡ front t.ids end → end ≤ length t.ids → s.room ≤ t.room → IsKept same number t count told end
   IsKept-tidied t end ids told_front within room = grind (arith, common_steps, all_more)
 
-  module _ (laws : IsEquivalence same) (id : I) where
+  module _ (test : IsTest same) (id : I) where
     -- ---- a listener joins
     pub IsKept-join : is_in same id (listed s.ids) ≡ false → number id < s.room → IsKept same number (record s { ids = s.ids ++ Some id ∷ [] }) (count + 1) told told_end
     IsKept-join absent room =
         let ids = listed_push s.ids id in
         let more = ap length ids ∙ length-append (listed s.ids) (id ∷ []) in
         record {
-          in_order = subst (λ xs. AreInOrder same (record { ids = xs; told = told })) (sym ids) (AreInOrder-join same laws id (listeners_of s.ids told) kept.in_order absent);
+          in_order = subst (λ xs. AreInOrder same (record { ids = xs; told = told })) (sym ids) (in_order_join same test id (listeners_of s.ids told) absent kept.in_order);
           counted = omega (arith, kept.counted, more);
           told_front = kept.told_front ∙ sym (front_push s.ids id told_end kept.within);
           within = omega (arith, kept.within, length-append s.ids (Some id ∷ []));
@@ -34,54 +31,49 @@ module _ {I : Type 0} {same : I → I → Bool} {number : I → ℕ} {s : Slots 
 
     -- ---- a listener is taken out
     module _ (i : ℕ) (there : has same id (get_or s.ids i None) ≡ true) where
-      pub first_at : IsFirstAt same id (listed s.ids) (front s.ids i)
-      first_at = first_listed same id laws s.ids i kept.in_order.distinct there
+      -- it is told if its slot is in the front part, and else it isn't
+      in_told : i < told_end → is_in same id (take told (listed s.ids)) ≡ true
+      in_told h = ap (is_in same id) (ap (λ n. take n (listed s.ids)) kept.told_front ∙ take_front s.ids told_end) ∙ in_before same id s.ids i told_end there h
 
-      -- it is told if its slot is in the front part
-      pub told_before : i < told_end → front s.ids i < told
-      told_before h = omega (arith, kept.told_front, front_less s.ids i told_end (is_some-has same id (get_or s.ids i None) there) h (has_within same id s.ids i there))
+      in_rest : told_end ≤ i → is_in same id (drop told (listed s.ids)) ≡ true
+      in_rest h = ap (is_in same id) (ap (λ n. drop n (listed s.ids)) kept.told_front ∙ drop_front s.ids told_end) ∙ in_behind same id s.ids i told_end there h
 
-      pub told_test : ltb (front s.ids i) told ≡ ltb i told_end
-      told_test = grind (arith, common_steps, told_before, ltb-true, front_mono, ltb-false)
+      told_test : is_in same id (take told (listed s.ids)) ≡ ltb i told_end
+      told_test = grind (arith, common_steps, in_told, in_rest, apart_parts, ltb-true, ltb-false)
+
+      pub some_told : i < told_end → 1 ≤ told
+      some_told h = told_some same test id (listeners_of s.ids told) (in_told h)
 
       pub is_told_at : Some (ltb i told_end) ≡ is_told same id (listeners_of s.ids told)
-      is_told_at = ap Some (sym told_test) ∙ is_told_first same id (listeners_of s.ids told) (front s.ids i) first_at
+      is_told_at = grind (arith, common_steps, told_test, in_rest, ltb-false)
 
-      -- a listed one is not told if its slot is after that part
       pub untold_after : told_end ≤ i → true ≡ is_in same id (untold_ids (listeners_of s.ids told))
-      untold_after h = grind (arith, common_steps, untold_is, is_told_at)
+      untold_after h = sym (in_rest h)
 
       pub untold_before : i < told_end → false ≡ is_in same id (untold_ids (listeners_of s.ids told))
-      untold_before h =
-          let yes : ltb i told_end ≡ true = grind (arith, h) in
-          untold_is same laws id (listeners_of s.ids told) kept.in_order (Some true) (ap Some (sym yes) ∙ is_told_at)
-
-      ids : listed (set s.ids i None) ≡ remove (listed s.ids) (front s.ids i)
-      ids = listed_left s.ids i (is_some-has same id (get_or s.ids i None) there)
+      untold_before h = sym (apart_parts same test id told (listed s.ids) kept.in_order.distinct (in_told h))
 
       module _ (rest : ℕ) (is : rest ≡ cond (ltb i told_end) (told - 1) told) where
-        less : rest ≡ cond (ltb (front s.ids i) told) (told - 1) told
-        less = is ∙ ap (λ b. cond b (told - 1) told) (sym told_test)
-
         pub taken : listeners_of (set s.ids i None) rest ≡ consume same id (listeners_of s.ids told)
         taken =
-            ap (λ xs. record { ids = xs; told = rest }) ids
-            ∙ consume_first same laws id (listeners_of s.ids told) (front s.ids i) kept.in_order first_at rest less
+            let ids = listed_left same id test s.ids i kept.in_order.distinct there in
+            let less = is ∙ ap (λ b. cond b (told - 1) told) (sym told_test) in
+            λ j. record { ids = ids j; told = less j }
 
         told_rest : (b : Bool) → ltb i told_end ≡ b → rest ≡ cond b (told - 1) told → rest ≡ front (set s.ids i None) told_end
-        told_rest true e r = grind (arith, common_steps, front_left, ids, ltb-true)
+        told_rest true e r = let fewer = front_left s.ids i told_end (is_some-has same id (get_or s.ids i None) there) (ltb-true i told_end e) in omega (arith, r, fewer, kept.told_front)
         told_rest false e r = r ∙ kept.told_front ∙ sym (front_kept s.ids i told_end (ltb-false i told_end e))
 
         pub IsKept-left : IsKept same number (record s { ids = set s.ids i None }) (count - 1) rest told_end
         IsKept-left =
-            let fewer = length-remove (listed s.ids) (front s.ids i) first_at.within in
-            let left = ap length ids in
+            let left = ap (λ (l : Listeners I). length l.ids) taken in
+            let one = consume_listed same test id (listeners_of s.ids told) kept.in_order (is_there same id s.ids i there) in
             record {
-              in_order = subst (λ xs. AreInOrder same (record { ids = xs; told = rest })) (sym ids) (AreInOrder-removed same laws (listeners_of s.ids told) (front s.ids i) rest kept.in_order first_at.within less);
-              counted = omega (arith, kept.counted, fewer, left);
+              in_order = subst (AreInOrder same) (sym taken) (in_order_consume same test id (listeners_of s.ids told) kept.in_order);
+              counted = omega (arith, kept.counted, left, one);
               told_front = told_rest (ltb i told_end) refl is;
               within = omega (arith, kept.within, length-set s.ids i None);
-              in_room = subst (AllByRecursion (λ id. number id < s.room)) (sym ids) (all_remove same laws (λ id. number id < s.room) (front s.ids i) (listed s.ids) kept.in_room);
+              in_room = subst (λ (l : Listeners I). AllByRecursion (λ id. number id < s.room) l.ids) (sym taken) (all_fewer same (λ id. number id < s.room) id (listed s.ids) kept.in_room);
             }
 
   -- ---- how many there are

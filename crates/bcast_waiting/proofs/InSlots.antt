@@ -1,16 +1,15 @@
 -- The ids that are listed in slots, by the position of a slot.
-use Rattle.std.proofs.Common.{◌≡◌, ℕ, zero, suc, ◌+◌, ◌<◌, ◌≤◌, Bool, true, false, cond, ◌||◌, List, [], ◌∷◌, ◌++◌, length, map, get_or, set, Option, Some, None, is_some, refl, sym, ap, ◌∙◌, arith, length-append}
+use Rattle.std.proofs.Common.{◌≡◌, ℕ, zero, suc, ◌+◌, ◌-◌, ◌<◌, ◌≤◌, Bool, true, false, cond, ◌||◌, List, [], ◌∷◌, ◌++◌, length, map, take, drop, get_or, set, Option, Some, None, is_some, refl, sym, ap, ◌∙◌, subst, arith, length-append, get_or-take, get_or-drop, true≢false}
 use Rattle.std.proofs.lemmas.Grind.{common_steps}
-use Rattle.std.specs.Prelude.{remove}
-use Rattle.std.specs.List.{AllByRecursion, filter, filter_map}
-use Rattle.std.specs.Cmp.{IsEquivalence}
-use Rattle.std.proofs.lemmas.Bool.{true≢false}
+use Rattle.std.specs.List.{filter, filter_map}
+use Rattle.std.proofs.lemmas.Bool.{or_left, or_right}
 use Rattle.std.proofs.lemmas.List.{take_more, take_all, take-map, take-append-le, take-set-le, length-take-le, map-set, get_or-map, set-get_or}
 use Rattle.std.proofs.lemmas.List.Elements.{filter_map-append}
-use Rattle.bcast_model.specs.Listeners.{is_in, IsDistinct}
+use Rattle.bcast_model.specs.Words.{is_in, without, IsDistinct, IsTest}
+use Rattle.bcast_model.proofs.Lists.{absent, all_in, without_absent}
+use Rattle.bcast_model.proofs.Listeners.{flips}
 use Rattle.bcast_waiting.specs.Words.{listed, front, has, slot_id}
 use Rattle.bcast_waiting.specs.declared.slots.Listener.{Listener}
-use Rattle.bcast_waiting.proofs.Listed.{IsFirstAt}
 
 module _ {I : Type 0} where
   -- ---- how many are listed before a position
@@ -27,11 +26,18 @@ module _ {I : Type 0} where
   front_mono (None ∷ ids) (suc i) (suc j) h = front_mono ids i j (omega (arith, h))
   front_mono (Some id ∷ ids) (suc i) (suc j) h = let rest = front_mono ids i j (omega (arith, h)) in omega (arith, rest)
 
-  pub front_less : (ids : List (Option I)) (i j : ℕ) → is_some (get_or ids i None) ≡ true → i < j → i < length ids → front ids i < front ids j
-  front_less ids i j there h within =
-      let rest = front_mono ids (i + 1) j (omega (arith, h)) in
-      let more = front-more ids i within ∙ ap (λ b. front ids i + cond b 1 0) there in
-      omega (arith, rest, more)
+  -- the ids that are listed before a position, and the others
+  pub take_front : (ids : List (Option I)) (n : ℕ) → take (front ids n) (listed ids) ≡ listed (take n ids)
+  take_front ids zero = refl
+  take_front [] (suc n) = refl
+  take_front (None ∷ ids) (suc n) = take_front ids n
+  take_front (Some id ∷ ids) (suc n) = ap (λ rest. id ∷ rest) (take_front ids n)
+
+  pub drop_front : (ids : List (Option I)) (n : ℕ) → drop (front ids n) (listed ids) ≡ listed (drop n ids)
+  drop_front ids zero = refl
+  drop_front [] (suc n) = refl
+  drop_front (None ∷ ids) (suc n) = drop_front ids n
+  drop_front (Some id ∷ ids) (suc n) = drop_front ids n
 
   pub front_push : (ids : List (Option I)) (id : I) (position : ℕ) → position ≤ length ids → front (ids ++ Some id ∷ []) position ≡ front ids position
   front_push ids id position h = ap (λ xs. length (listed xs)) (take-append-le position ids (Some id ∷ []) h)
@@ -48,13 +54,6 @@ module _ {I : Type 0} where
   front_full ids position h = grind (arith, common_steps, take-map, listed_full, length-take-le)
 
   -- ---- a slot that was emptied
-  pub listed_left : (ids : List (Option I)) (i : ℕ) → is_some (get_or ids i None) ≡ true → listed (set ids i None) ≡ remove (listed ids) (front ids i)
-  listed_left [] i there = absurd (true≢false (sym there))
-  listed_left (None ∷ ids) zero there = absurd (true≢false (sym there))
-  listed_left (Some id ∷ ids) zero there = refl
-  listed_left (None ∷ ids) (suc i) there = listed_left ids i there
-  listed_left (Some id ∷ ids) (suc i) there = ap (λ rest. id ∷ rest) (listed_left ids i there)
-
   pub front_left : (ids : List (Option I)) (i j : ℕ) → is_some (get_or ids i None) ≡ true → i < j → suc (front (set ids i None) j) ≡ front ids j
   front_left ids i zero there h = absurd (omega (arith, h))
   front_left [] i (suc j) there h = absurd (true≢false (sym there))
@@ -90,11 +89,6 @@ module _ {I : Type 0} where
     is_some-has None h = absurd (true≢false (sym h))
     is_some-has (Some other) h = refl
 
-    pub has_within : (ids : List (Option I)) (i : ℕ) → has same id (get_or ids i None) ≡ true → i < length ids
-    has_within [] i h = absurd (true≢false (sym h))
-    has_within (slot ∷ ids) zero h = omega arith
-    has_within (slot ∷ ids) (suc i) h = let rest = has_within ids i h in omega (arith, rest)
-
     -- no slot has it
     pub absent_slots : (ids : List (Option I)) → ((k : ℕ) → k < length ids → has same id (get_or ids k None) ≡ false) → is_in same id (listed ids) ≡ false
     absent_slots [] h = refl
@@ -103,22 +97,34 @@ module _ {I : Type 0} where
         ap (λ b. b || is_in same id (listed ids)) (h 0 (omega arith))
         ∙ absent_slots ids (λ k l. h (suc k) (omega (arith, l)))
 
-    -- where it is among those that are listed
-    module _ (laws : IsEquivalence same) where
-      abbrev Differs : I → I → Type 0
-      Differs x other = same x other ≡ false
+    -- ---- the id in a slot
+    pub is_there : (ids : List (Option I)) (i : ℕ) → has same id (get_or ids i None) ≡ true → is_in same id (listed ids) ≡ true
+    is_there [] i h = absurd (true≢false (sym h))
+    is_there (None ∷ ids) zero h = absurd (true≢false (sym h))
+    is_there (Some x ∷ ids) zero h = or_left (same id x) (is_in same id (listed ids)) h
+    is_there (None ∷ ids) (suc i) h = is_there ids i h
+    is_there (Some x ∷ ids) (suc i) h = or_right (same id x) (is_in same id (listed ids)) (is_there ids i h)
 
-      differs_at : (x : I) (ids : List I) (i : ℕ) → AllByRecursion (Differs x) ids → i < length ids → same x (get_or ids i id) ≡ false
-      differs_at x [] i a h = absurd (omega (arith, h))
-      differs_at x (y ∷ ids) zero a h = a.0
-      differs_at x (y ∷ ids) (suc i) a h = differs_at x ids i a.1 (omega (arith, h))
+    pub in_before : (ids : List (Option I)) (i n : ℕ) → has same id (get_or ids i None) ≡ true → i < n → is_in same id (listed (take n ids)) ≡ true
+    in_before ids i n h before = is_there (take n ids) i (ap (has same id) (get_or-take n ids i None before) ∙ h)
 
-      first_later : (x : I) (ids : List I) (i : ℕ) → AllByRecursion (Differs x) ids → IsFirstAt same id ids i → IsFirstAt same id (x ∷ ids) (suc i)
-      first_later x ids i a at = grind (arith, common_steps, differs_at)
+    pub in_behind : (ids : List (Option I)) (i n : ℕ) → has same id (get_or ids i None) ≡ true → n ≤ i → is_in same id (listed (drop n ids)) ≡ true
+    in_behind ids i n h behind =
+        let here : n + (i - n) ≡ i = omega (arith, behind) in
+        is_there (drop n ids) (i - n) (ap (has same id) (get_or-drop n ids (i - n) None ∙ ap (λ k. get_or ids k None) here) ∙ h)
 
-      pub first_listed : (ids : List (Option I)) (i : ℕ) → IsDistinct same (listed ids) → has same id (get_or ids i None) ≡ true → IsFirstAt same id (listed ids) (front ids i)
-      first_listed [] i d h = absurd (true≢false (sym h))
-      first_listed (None ∷ ids) zero d h = absurd (true≢false (sym h))
-      first_listed (Some x ∷ ids) zero d h = record { within = omega arith; found = h; before = λ k l. absurd (omega (arith, l)) }
-      first_listed (None ∷ ids) (suc i) d h = first_listed ids i d h
-      first_listed (Some x ∷ ids) (suc i) d h = first_later x (listed ids) (front ids i) d.0 (first_listed ids i d.1 h)
+    -- the others, once its slot was emptied
+    pub listed_left : IsTest same → (ids : List (Option I)) (i : ℕ) → IsDistinct same (listed ids) → has same id (get_or ids i None) ≡ true → listed (set ids i None) ≡ without same id (listed ids)
+    listed_left test [] i d h = absurd (true≢false (sym h))
+    listed_left test (None ∷ ids) zero d h = absurd (true≢false (sym h))
+    listed_left test (Some x ∷ ids) zero d h =
+        let here : same id x ≡ true = h in
+        let out : is_in same id (listed ids) ≡ false = subst (λ z. is_in same z (listed ids) ≡ false) (sym (test.no id x h)) (absent same x (listed ids) d.0) in
+        rw here (sym (without_absent same id (listed ids) out))
+    listed_left test (None ∷ ids) (suc i) d h = listed_left test ids i d h
+    listed_left test (Some x ∷ ids) (suc i) d h =
+        let apart = flips same test x id (all_in same test (λ other. same x other ≡ false) id (listed ids) d.0 (is_there ids i h)) in
+        rw apart (ap (λ rest. x ∷ rest) (listed_left test ids i d.1 h))
+
+-- what `Slots` is proved by
+pub ruleset slots = (common_steps, front-more, listed-ids, map-set)

@@ -1,14 +1,14 @@
 -- The entries of the numbers of ids, as slots are filled and emptied.
-use Rattle.std.proofs.Common.{◌≡◌, ◌≢◌, ℕ, zero, suc, ◌+◌, ◌<◌, ◌≤◌, ◌==◌, Bool, true, false, ◌||◌, List, [], ◌∷◌, ◌++◌, length, get_or, set, Option, Some, None, refl, sym, ap, ◌∙◌, subst, arith, ltb, length-set, rules}
-use Rattle.std.proofs.lemmas.Bool.{true≢false}
+use Rattle.std.proofs.Common.{◌≡◌, ◌≢◌, ℕ, zero, suc, ◌+◌, ◌<◌, ◌≤◌, ◌==◌, Bool, true, false, List, [], ◌∷◌, ◌++◌, length, get_or, set, Option, Some, None, refl, sym, ap, ◌∙◌, subst, arith, ltb, length-set, rules, true≢false}
 use Rattle.std.proofs.lemmas.Option.{none-some, same_Some}
 use Rattle.std.proofs.lemmas.List.{get_or_append_left, get_or-set_other}
 use Rattle.std.proofs.lemmas.Grind.{get_or-set_at, common_steps}
 use Rattle.std.specs.List.{AllByRecursion}
-use Rattle.bcast_model.specs.Listeners.{is_in, IsDistinct}
+use Rattle.bcast_model.specs.Words.{is_in, IsDistinct, IsTest}
+use Rattle.bcast_model.proofs.Lists.{all_in, all_absent}
 use Rattle.bcast_model.proofs.Waiting.{test_place}
 use Rattle.bcast_waiting.specs.Words.{listed, has, IsAt, IsIndexed}
-use Rattle.bcast_waiting.proofs.InSlots.{absent_slots}
+use Rattle.bcast_waiting.proofs.InSlots.{absent_slots, is_there}
 
 -- the entry of a number after that of another was written, and after its own was
 other_written : (positions : List ℕ) (n m k p : ℕ) → m ≢ n → IsAt positions m p → IsAt (set positions n k) m p
@@ -18,14 +18,6 @@ own_written : (positions : List ℕ) (n m k p : ℕ) → m ≡ n → n < length 
 own_written positions n m k p own within is = record { within = omega (arith, own, within, length-set positions n k); at = get_or-set_at positions n m k 0 own within ∙ is }
 
 module _ {I : Type 0} where
-  -- what holds of each id that is listed holds of the id in a slot
-  pub in_slot : (P : I → Type 0) (ids : List (Option I)) (p : ℕ) (x : I) → AllByRecursion P (listed ids) → get_or ids p None ≡ Some x → P x
-  in_slot P [] p x a e = absurd (none-some x e)
-  in_slot P (None ∷ ids) zero x a e = absurd (none-some x e)
-  in_slot P (Some y ∷ ids) zero x a e = subst P (same_Some y x e) a.0
-  in_slot P (None ∷ ids) (suc p) x a e = in_slot P ids p x a e
-  in_slot P (Some y ∷ ids) (suc p) x a e = in_slot P ids p x a.1 e
-
   -- a slot that is filled last
   pushed_at : (ids : List (Option I)) (id : I) (p : ℕ) (x : I) → get_or (ids ++ Some id ∷ []) p None ≡ Some x → length ids ≤ p → (p ≡ length ids) × (id ≡ x)
   pushed_at [] id zero x e h = (refl, same_Some id x e)
@@ -33,13 +25,13 @@ module _ {I : Type 0} where
   pushed_at (slot ∷ ids) id zero x e h = absurd (omega (arith, h))
   pushed_at (slot ∷ ids) id (suc p) x e h = let rest = pushed_at ids id p x e (omega (arith, h)) in (omega (arith, rest.0), rest.1)
 
-  module _ (same : I → I → Bool) where
+  module _ (same : I → I → Bool) (test : IsTest same) where
+    -- what holds of each id that is listed holds of the id in a slot
+    pub in_slot : (P : I → Type 0) (ids : List (Option I)) (p : ℕ) (x : I) → AllByRecursion P (listed ids) → get_or ids p None ≡ Some x → P x
+    in_slot P ids p x a e = all_in same test P x (listed ids) a (is_there same x ids p (ap (has same x) e ∙ test.yes x))
+
     absent_at : (id : I) (ids : List (Option I)) (p : ℕ) (x : I) → is_in same id (listed ids) ≡ false → get_or ids p None ≡ Some x → same id x ≡ false
-    absent_at id [] p x h e = absurd (none-some x e)
-    absent_at id (None ∷ ids) zero x h e = absurd (none-some x e)
-    absent_at id (None ∷ ids) (suc p) x h e = absent_at id ids p x h e
-    absent_at id (Some y ∷ ids) zero x h e = ap (same id) (sym (same_Some y x e)) ∙ elim (same id y) as (λ b. (b || is_in same id (listed ids)) ≡ false → b ≡ false) [ true ↦ λ h. h | false ↦ λ h. refl ] h
-    absent_at id (Some y ∷ ids) (suc p) x h e = absent_at id ids p x (elim (same id y) as (λ b. (b || is_in same id (listed ids)) ≡ false → is_in same id (listed ids) ≡ false) [ true ↦ λ h. absurd (true≢false h) | false ↦ λ h. h ] h) e
+    absent_at id ids p x h e = in_slot (λ other. same id other ≡ false) ids p x (all_absent same id (listed ids) h) e
 
     -- ids in two slots differ
     apart_at : (ids : List (Option I)) (p q : ℕ) (x y : I) → IsDistinct same (listed ids) → p < q → get_or ids p None ≡ Some x → get_or ids q None ≡ Some y → same x y ≡ false

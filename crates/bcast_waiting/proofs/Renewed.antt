@@ -1,9 +1,5 @@
 -- The slots after a listener got another notice.
-use Rattle.std.proofs.Common.{◌≡◌, ℕ, ◌<◌, Option, length, set, get_or, arith}
-use Rattle.std.proofs.lemmas.Grind.{common_steps}
-use Rattle.std.specs.Vec.{vec_capacity}
-use Rattle.std.specs.declared.vec.Vec.{Vec}
-use Rattle.bcast_waiting.specs.Words.{slot_id, ids_in, slots_of, AreKept}
+use Rattle.bcast_waiting.proofs.Common.{◌≡◌, ℕ, ◌<◌, Option, length, set, get_or, arith, vec_capacity, Vec, common_steps, slot_id, ids_in, slots_of, AreKept}
 use Rattle.bcast_waiting.specs.declared.slots.Listener.{Listener}
 use Rattle.bcast_waiting.specs.declared.slots.Slots.TheInside.{Inside}
 use Rattle.bcast_waiting.proofs.InSlots.{ids-renewed}

@@ -1,12 +1,12 @@
 -- Two pairs have one number exactly if they are the same. A proof, which is here since an impl
--- names it.
-use Rattle.std.proofs.Common.{◌≡◌, ℕ, ◌+◌, ◌*◌, ◌==◌, ◌∙◌, arith}
-use Rattle.std.specs.Prelude.{◌&&◌}
+-- names it, as it does the tests of places and pairs.
+use Rattle.std.proofs.Common.{◌≡◌, ℕ, ◌+◌, ◌*◌, ◌==◌, ◌∙◌, arith, ◌&&◌}
 use Rattle.std.proofs.lemmas.Bool.Decides.{nat_tests}
 use Rattle.std.proofs.Math.Bool.{and-true, and-false}
 use Rattle.bcast_model.specs.declared.listener.Kind.{Kind}
 use Rattle.bcast_model.specs.declared.listener.Kind.TheVariants as kind
 use Rattle.bcast_model.specs.contracts.listener.KindPartialEq.TheImpl.{ghosts}
+pub use Rattle.bcast_model.proofs.Tests.{test_place, test_pair}
 use Rattle.bcast_waiting.specs.Number.{kind_number, pair_number}
 
 pub pair_number-own : (x y : ℕ × Kind)

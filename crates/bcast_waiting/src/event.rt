@@ -58,6 +58,7 @@ impl<I: Copy + Eq + Indexed, N: Notice, A: Allocator + Copy> Event<I, N, A> {
     }
 }
 
+#[tactic(auto, using(crate::proofs::Listeners::listing))]
 impl<I: Copy + Eq + Indexed, N: Notice, A: Allocator> Event<I, N, A> {
     /// What always holds: nobody is listed twice, no more are told than are listed, and no more are
     /// listed than there is room for.

@@ -1,6 +1,7 @@
 //! The places of pending sends.
 ghost use Rattle.std.specs.Prelude.{◌≡◌, ◌<◌, ◌^◌, false, IfOk, OnOk, OnErr, map};
 ghost use Rattle.std.specs.FinSet as set;
+ghost use Rattle.std.specs.List.Sorted.{IsStrictlyIncreasing};
 ghost use Rattle.bcast_waiting.specs.Keys.{key_of};
 ghost use Rattle.slab.specs.Slab.{entries};
 
@@ -29,6 +30,7 @@ impl<A: Allocator> Model for Places<A> {
     ghost view = { λ p. keys_in p.slots };
 }
 
+#[tactic(auto, using(crate::proofs::Keys::keys))]
 impl<A: Allocator> Places<A> {
     /// No places. Allocates nothing.
     pub fn new(alloc: A) -> Places<A>
@@ -79,9 +81,10 @@ impl<A: Allocator> Places<A> {
         self.slots.len()
     }
 
-    /// The places in use.
+    /// The places in use, in rising order.
     pub fn items<B: Allocator>(&self, alloc: B) -> Result<Vec<usize, B>, AllocError>
-        ensures { IfOk result (λ places. set.from_list places.items ≡ self.now) }
+        ensures same { IfOk result (λ places. set.from_list places.items ≡ self.now) }
+        ensures rising { IfOk result (λ places. IsStrictlyIncreasing places.items) }
     {
         keys_of(&self.slots, alloc)
     }

@@ -66,6 +66,7 @@ impl<I: Copy + Eq + Indexed, N: Notice, A: Allocator + Copy> Slots<I, N, A> {
     }
 }
 
+#[tactic(auto, using(crate::proofs::InSlots::slots))]
 impl<I: Copy + Eq + Indexed, N: Notice, A: Allocator> Slots<I, N, A> {
     // How many slots there are, with the empty ones.
     pub fn len(&self) -> usize

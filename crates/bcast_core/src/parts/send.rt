@@ -19,6 +19,7 @@ impl<T: Drop, N: Notice, A: Allocator + Copy> Parts<T, N, A> {
 
     /// Accepts a whole list, or hands it back with the reason. No one is told: the caller has to do
     /// that, if the end rose.
+    #[tactic(auto, using(crate::proofs::Offers::lists, crate::proofs::Tail::news))]
     pub fn offer_all(&mut self, msgs: Messages<T>) -> Result<(), TrySendError<Messages<T>>>
         requires { IsValidView self.old }
         ensures reply { result ≡ try_broadcast_all_reply self.old msgs }

@@ -1,16 +1,12 @@
-use Rattle.std.proofs.Common.{◌≡◌, false, [], ◌∷◌, ◌++◌, length, append_assoc, refl, sym, ap, subst, ◌∙◌, arith}
+use Rattle.bcast_core.proofs.Common.{◌≡◌, false, [], ◌∷◌, ◌++◌, length, append_assoc, refl, sym, ap, subst, ◌∙◌, arith, Legal, HasPositiveCapacity, opening, Represents, IsRun, end_of_run, is_receive_refused}
 use Rattle.std.specs.Vec.Iter.{into_iter_items}
 use Rattle.std.specs.List.{All, AllByRecursion}
 use Rattle.std.proofs.lemmas.List.Elements.{All-append, All-cons, All-nil}
-use Rattle.bcast_model.specs.Words.{Legal, HasPositiveCapacity, opening}
-use Rattle.bcast_model.specs.Words.{Represents, IsRun, end_of_run}
 use Rattle.bcast_model.proofs.Lists.{all_right}
 use Rattle.bcast_model.proofs.Clones.{run_exact}
 use Rattle.bcast_model.proofs.DeliveryLemmas.{deliveries_exact}
 use Rattle.bcast_model.proofs.MissedLemmas.{dropped_rise, misses_dropped}
-use Rattle.bcast_model.specs.Replies.{is_receive_refused}
 use Rattle.bcast_core.proofs.Runs.{all_made, run_more, end_more, AreValid, valid_more, valid_end, polls_wait, polls_rest}
-use Rattle.bcast_core.proofs.data.run.Given.{Over}
 use Rattle.bcast_core.proofs.data.run.Goals as goal
 
 pub step-requires : goal.step-requires
@@ -57,52 +53,22 @@ loop-call-init g c =
       valid = c.in-Ok-starting_at.ensures.valid;
     }
 
--- no call is left
-every_call : (g : Over) (c : goal.After-drop-call-iterator g) → c.loop-call.yielded ≡ c.args.calls.items
-every_call g c =
-    all_made c.loop-call.yielded (into_iter_items c.loop-call.call-iterator) c.args.calls.items
-    (omega (arith, c.in-None.ensures.steps.0, c.loop-call.call-iterator.rest.ok))
-    c.loop-call.invariant.rest
-
-pub returns-clause-replies : goal.returns-clause-replies
-returns-clause-replies g c = rw (← every_call g c) c.loop-call.invariant.run
-
-pub returns-clause-end : goal.returns-clause-end
-returns-clause-end g c = rw (← every_call g c) c.loop-call.invariant.represents
-
-pub returns-clause-valid : goal.returns-clause-valid
-returns-clause-valid g c =
+pub returns : goal.returns
+returns g c =
     let i = c.loop-call.invariant in
-    rw (← every_call g c) (valid_end g.T.Clone.is_clone _ _ _ i.run i.valid)
-
-pub returns-clause-deliveries : goal.returns-clause-deliveries
-returns-clause-deliveries g c =
-    deliveries_exact g.T.Clone.is_clone _ _ _ c.in-Ok-starting_at.ensures.valid
-    (returns-clause-replies g c)
-
-pub returns-clause-dropped : goal.returns-clause-dropped
-returns-clause-dropped g c =
-    dropped_rise g.T.Clone.is_clone _ _ _ c.in-Ok-starting_at.ensures.valid c.requires.positive
-    (returns-clause-replies g c)
-
-pub returns-clause-missed : goal.returns-clause-missed
-returns-clause-missed g c =
-    misses_dropped g.T.Clone.is_clone _ _ _ c.in-Ok-starting_at.ensures.valid refl
-    c.requires.positive (returns-clause-replies g c)
-
-pub returns-clause-polls : goal.returns-clause-polls
-returns-clause-polls g c =
-    let i = c.loop-call.invariant in
-    rw (← every_call g c) (polls_wait g.T.Clone.is_clone _ _ _ i.run i.valid)
-
-pub returns-clause-rest : goal.returns-clause-rest
-returns-clause-rest g c =
-    let i = c.loop-call.invariant in
-    rw (← every_call g c) (polls_rest g.T.Clone.is_clone _ _ _ i.run i.valid)
-
-pub returns-clause-exact : goal.returns-clause-exact
-returns-clause-exact g c equal =
-    run_exact g.T.Clone.is_clone _ _ _ equal (returns-clause-replies g c)
-
-pub returns-clause-sure : goal.returns-clause-sure
-returns-clause-sure g c = c.loop-call.invariant.sure
+    let valid = c.in-Ok-starting_at.ensures.valid in
+    let all = all_made c.loop-call.yielded (into_iter_items c.loop-call.call-iterator) c.args.calls.items (omega (arith, c.in-None.ensures.steps.0, c.loop-call.call-iterator.rest.ok)) i.rest in
+    let run = rw all at i.run in
+    record {
+      replies = run;
+      end = rw (← all) i.represents;
+      valid = rw (← all) (valid_end g.T.Clone.is_clone _ _ _ i.run i.valid);
+      deliveries = deliveries_exact g.T.Clone.is_clone _ _ _ valid run;
+      dropped = dropped_rise g.T.Clone.is_clone _ _ _ valid c.requires.positive run;
+      missed = misses_dropped g.T.Clone.is_clone _ _ _ valid refl c.requires.positive run;
+      polls = rw (← all) (polls_wait g.T.Clone.is_clone _ _ _ i.run i.valid);
+      rest = rw (← all) (polls_rest g.T.Clone.is_clone _ _ _ i.run i.valid);
+      exact = λ equal. run_exact g.T.Clone.is_clone _ _ _ equal run;
+      sure = i.sure;
+      refused = tt;
+    }

@@ -1,8 +1,5 @@
-use Rattle.std.proofs.Common.{◌≡◌, false, ◌+◌, ◌≤◌, ◌++◌, length, vec_len, vec_capacity}
+use Rattle.bcast_core.proofs.Common.{◌≡◌, false, ◌+◌, ◌≤◌, ◌++◌, length, vec_len, vec_capacity, All, opening, Represents, IsRun, end_of_run, is_receive_refused}
 use Rattle.std.specs.Vec.Iter.{into_iter_items}
-use Rattle.std.specs.List.{All}
-use Rattle.bcast_model.specs.Words.{opening, Represents, IsRun, end_of_run}
-use Rattle.bcast_model.specs.Replies.{is_receive_refused}
 use Rattle.bcast_core.proofs.Runs.{AreValid}
 use Rattle.bcast_core.proofs.data.run.Given as goal
 

@@ -1,6 +1,5 @@
 -- The ids in the slots so far have their entries.
-use Rattle.std.proofs.Common.{◌≡◌, ℕ, ◌<◌, Some, None, get_or}
-use Rattle.bcast_waiting.specs.Words.{ids_in, IsAt}
+use Rattle.bcast_waiting.proofs.Common.{◌≡◌, ℕ, ◌<◌, Some, None, get_or, ids_in, IsAt}
 use Rattle.bcast_waiting.proofs.slots.set_positions.Given as goal
 
 abbrev pub invariant-loop-position : goal.invariant-loop-position

@@ -1,8 +1,6 @@
 -- A place stays if there is room for its send, and else is given back.
-use Rattle.std.proofs.Common.{◌≡◌, ap, ◌∙◌}
+use Rattle.bcast_core.proofs.Common.{◌≡◌, ap, ◌∙◌, Places, control_of, seen_of}
 use Rattle.std.specs.FinSet as set
-use Rattle.bcast_model.specs.Words.{Places}
-use Rattle.bcast_core.specs.Parts.{control_of, seen_of}
 use Rattle.bcast_core.proofs.Rooms.{places_kept, place_taken, place_taken_back}
 use Rattle.bcast_core.proofs.parts.Parts.begin_send.Goals as goal
 use Rattle.bcast_core.proofs.parts.Parts.begin_send.Goals.{After-remove}

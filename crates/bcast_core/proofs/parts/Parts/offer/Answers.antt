@@ -1,9 +1,5 @@
 -- A message is accepted where there is room for it, or where the oldest one makes room.
-use Rattle.std.proofs.Common.{◌≡◌, true, false, length, refl, sym, ap, ◌∙◌, arith, eq-eqb, ne_eqb}
-use Rattle.std.proofs.lemmas.Grind.{common_steps}
-use Rattle.bcast_model.specs.Words.{has_no_receiver, is_full, offer, settle, View, with_message}
-use Rattle.bcast_core.specs.Parts.{control_of, seen_of}
-use Rattle.bcast_core.specs.Telling.{tell_news}
+use Rattle.bcast_core.proofs.Common.{◌≡◌, true, false, length, refl, sym, ap, ◌∙◌, arith, eq-eqb, ne_eqb, common_steps, has_no_receiver, is_full, offer, settle, View, with_message, control_of, seen_of, tell_news}
 use Rattle.bcast_core.proofs.Offers.{offer_accepted, offer_dropping}
 use Rattle.bcast_core.proofs.parts.Parts.offer.Goals as goal
 use Rattle.bcast_core.proofs.parts.Parts.offer.Goals.{then-len-self+else-not-self, else-len-self, then-number, else-number}

@@ -1,8 +1,4 @@
-use Rattle.std.proofs.Common.{Result, Ok, Err, OnErr, refl, ap, sym, ◌∙◌, is_some, arith}
-use Rattle.std.proofs.lemmas.Grind.{common_steps}
-use Rattle.std.specs.FinMap.{get}
-use Rattle.bcast_model.specs.Words.{View, pair_waits}
-use Rattle.bcast_core.specs.Parts.{control_of, seen_of}
+use Rattle.bcast_core.proofs.Common.{Result, Ok, Err, OnErr, refl, ap, sym, ◌∙◌, is_some, arith, common_steps, get, View, pair_waits, control_of, seen_of}
 use Rattle.bcast_core.proofs.ReceivePolls.{poll_nobody, poll_found, poll_listens}
 use Rattle.bcast_core.proofs.Receives.{empty_exactly, empty_there, settle_empty}
 use Rattle.bcast_core.proofs.parts.Parts.poll.Goals as goal

@@ -1,7 +1,4 @@
-use Rattle.std.proofs.Common.{sym, ap, ◌∙◌}
-use Rattle.bcast_model.specs.Words.{View, has_place, place_waits}
-use Rattle.bcast_core.specs.Parts.{control_of, seen_of}
-use Rattle.bcast_core.specs.Telling.{is_accepted, tell_news}
+use Rattle.bcast_core.proofs.Common.{sym, ap, ◌∙◌, View, has_place, place_waits, control_of, seen_of, is_accepted, tell_news}
 use Rattle.bcast_core.proofs.SendPolls.{attempt_stays, poll_nobody, poll_answered, poll_unplaced, poll_waits}
 use Rattle.bcast_core.proofs.parts.Parts.poll_send.Goals as goal
 

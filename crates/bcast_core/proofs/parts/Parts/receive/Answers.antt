@@ -9,8 +9,7 @@ use Rattle.bcast_core.proofs.Receives.{lagging, at_end, is_there, receive_one, s
 use Rattle.bcast_store.specs.Stored.{Stored}
 use Rattle.bcast_core.specs.Parts.{ReceiversHaveRoom, control_of, seen_of}
 use Rattle.bcast_core.proofs.Rooms.{room_inserted, room_read}
-use Rattle.bcast_core.proofs.Settle.{low_inserted, settle_stays}
-use Rattle.bcast_core.proofs.Views.{view-with_cursors}
+use Rattle.bcast_core.proofs.Settle.{low_inserted, settle_stays, view-with_cursors}
 use Rattle.bcast_core.proofs.parts.Parts.receive.Goals as goal
 use Rattle.bcast_core.proofs.parts.Parts.receive.Goals.{in-Ok, in-Err, then-self, else-self}
 

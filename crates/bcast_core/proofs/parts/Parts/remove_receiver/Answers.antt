@@ -1,11 +1,7 @@
-use Rattle.std.proofs.Common.{◌≡◌, ℕ, Bool, true, cond, sym, ap, ◌∙◌, subst, arith}
-use Rattle.std.proofs.lemmas.Grind.{common_steps}
+use Rattle.bcast_core.proofs.Common.{◌≡◌, ℕ, Bool, true, cond, sym, ap, ◌∙◌, subst, arith, common_steps, Places, View, pair_ended, stream_of, future_of, Stored, with_cursors, AllHaveRoom, ReceiversHaveRoom}
 use Rattle.std.specs.FinMap.{remove}
-use Rattle.bcast_model.specs.Words.{Places, View, pair_ended, stream_of, future_of}
-use Rattle.bcast_store.specs.Stored.{Stored, with_cursors}
-use Rattle.bcast_core.specs.Parts.{AllHaveRoom, ReceiversHaveRoom}
 use Rattle.bcast_core.proofs.Rooms.{room_removed}
-use Rattle.bcast_core.proofs.Views.{view-with_cursors}
+use Rattle.bcast_core.proofs.Settle.{view-with_cursors}
 use Rattle.bcast_core.proofs.parts.Parts.remove_receiver.Goals as goal
 
 removed : {T : Type 0} (s now : Stored T) (key : ℕ) (found : Bool) → now ≡ cond found (with_cursors s (remove s.cursors key)) s → found ≡ true → now ≡ with_cursors s (remove s.cursors key)

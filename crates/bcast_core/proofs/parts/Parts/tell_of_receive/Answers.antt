@@ -1,6 +1,4 @@
-use Rattle.std.proofs.Common.{ap, ◌∙◌}
-use Rattle.bcast_model.specs.Words.{pair_answered, tell_if_ready, View}
-use Rattle.bcast_core.specs.Parts.{control_of, seen_of}
+use Rattle.bcast_core.proofs.Common.{ap, ◌∙◌, pair_answered, tell_if_ready, View, control_of, seen_of}
 use Rattle.bcast_core.proofs.parts.Parts.tell_of_receive.Goals as goal
 
 pub returns : goal.returns

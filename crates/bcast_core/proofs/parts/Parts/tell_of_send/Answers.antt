@@ -1,5 +1,4 @@
-use Rattle.std.proofs.Common.{ap, ◌∙◌}
-use Rattle.bcast_model.specs.Words.{place_answered, tell_if_ready, View}
+use Rattle.bcast_core.proofs.Common.{ap, ◌∙◌, place_answered, tell_if_ready, View}
 use Rattle.bcast_core.proofs.parts.Parts.tell_of_send.Goals as goal
 
 pub returns : goal.returns

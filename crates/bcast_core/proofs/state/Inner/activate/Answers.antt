@@ -1,10 +1,7 @@
-use Rattle.std.proofs.Common.{◌≡◌, ◌-◌, ◌^◌, ◌<◌, sym, ap, ◌∙◌, subst}
-use Rattle.std.specs.FinMap.{len}
+use Rattle.bcast_core.proofs.Common.{◌≡◌, ◌-◌, ◌^◌, ◌<◌, inl, not, refl, sym, ap, ◌∙◌, subst, eq-eqb, len, NoClone, View, Does}
 use Rattle.bcast_model.specs.declared.run.Call.TheVariants as call
 use Rattle.bcast_model.specs.declared.run.Reply.TheVariants as reply
-use Rattle.bcast_model.specs.Words.{NoClone, View}
-use Rattle.bcast_core.specs.Parts.{Does}
-use Rattle.bcast_core.proofs.Receivers.{added_fits, activated, not_activated, not_added}
+use Rattle.bcast_core.proofs.Making.{added_fits, activated, not_added}
 use Rattle.bcast_core.proofs.Tail.{ends, shown_after, unchanged, valid_shown}
 use Rattle.bcast_core.proofs.state.Inner.activate.Goals as goal
 use Rattle.bcast_core.proofs.state.Inner.activate.Goals.{then-is_ok, else-is_ok}
@@ -13,10 +10,7 @@ pub returns-then-self-eq0 : goal.returns-then-self-eq0
 returns-then-self-eq0 g c =
     let valid = valid_shown c.self.invariant in
     let none = sym (ap (λ inside. inside.parts.control.inactive) c.self-inside.view_is) ∙ c.if-self-eq0.true in
-    unchanged c.self.view_is c.self.invariant (sym c.self.view_is) valid.control.receivers_fit (not_activated valid none).0
-
-pub add_receiver-activated-requires-clause-valid : goal.add_receiver-activated-requires-clause-valid
-add_receiver-activated-requires-clause-valid g c = valid_shown c.self.invariant
+    unchanged c.self.view_is c.self.invariant (sym c.self.view_is) valid.control.receivers_fit (inl (ap not (eq-eqb _ 0 none), refl)) refl
 
 pub returns : goal.returns
 returns g c =

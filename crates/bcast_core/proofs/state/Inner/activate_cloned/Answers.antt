@@ -1,5 +1,5 @@
-use Rattle.std.proofs.Common.{◌≡◌, sym, ap, ◌∙◌}
-use Rattle.bcast_core.proofs.Receivers.{added_fits, cloned_activated, not_activated}
+use Rattle.std.proofs.Common.{◌≡◌, inl, not, refl, sym, ap, ◌∙◌, eq-eqb}
+use Rattle.bcast_core.proofs.Making.{added_fits, cloned_activated}
 use Rattle.bcast_core.proofs.Tail.{ends, shown_after, unchanged, valid_shown}
 use Rattle.bcast_core.proofs.state.Inner.activate_cloned.Goals as goal
 
@@ -7,10 +7,7 @@ pub returns-then-self-eq0 : goal.returns-then-self-eq0
 returns-then-self-eq0 g c =
     let valid = valid_shown c.self.invariant in
     let none = sym (ap (λ inside. inside.parts.control.inactive) c.self-inside.view_is) ∙ c.if-self-eq0.true in
-    unchanged c.self.view_is c.self.invariant (sym c.self.view_is) valid.control.receivers_fit (not_activated valid none).1
-
-pub add_receiver-cloned-requires-clause-valid : goal.add_receiver-cloned-requires-clause-valid
-add_receiver-cloned-requires-clause-valid g c = valid_shown c.self.invariant
+    unchanged c.self.view_is c.self.invariant (sym c.self.view_is) valid.control.receivers_fit (inl (ap not (eq-eqb _ 0 none), refl)) refl
 
 pub returns : goal.returns
 returns g c =

@@ -1,6 +1,4 @@
-use Rattle.std.proofs.Common.{ap, ◌∙◌}
-use Rattle.bcast_model.specs.Steps.{tell_if_ready}
-use Rattle.bcast_core.specs.Telling.{tell_news}
+use Rattle.bcast_core.proofs.Common.{ap, ◌∙◌, tell_if_ready, tell_news}
 use Rattle.bcast_model.specs.declared.run.Reply.TheVariants as reply
 use Rattle.bcast_core.proofs.Tail.{ends, shown_after, valid_shown}
 use Rattle.bcast_core.proofs.state.Inner.attempt_send.Goals as goal

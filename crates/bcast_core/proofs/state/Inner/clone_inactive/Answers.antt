@@ -1,17 +1,20 @@
-use Rattle.std.proofs.Common.{sym, ap}
-use Rattle.bcast_core.proofs.Making.{no_inactive, full_inactive, more_inactive}
+use Rattle.std.proofs.Common.{refl, sym, ap, eq-eqb, ne_eqb}
+use Rattle.bcast_core.proofs.Making.{at_most, more_inactive}
 use Rattle.bcast_core.proofs.Tail.{ends, inside_shown, shown_after, told_counted, unchanged, valid_shown}
 use Rattle.bcast_core.proofs.state.Inner.clone_inactive.Goals as goal
 
 pub returns-then-self-eq0 : goal.returns-then-self-eq0
 returns-then-self-eq0 g c =
     let here = inside_shown (ap (λ inside. inside.parts) c.self-inside.view_is) c.self.view_is c.self.invariant in
-    unchanged here.0 here.1 (sym here.0) tt (no_inactive (valid_shown here.1) c.if-self-eq0.true)
+    let none = eq-eqb _ 0 c.if-self-eq0.true in
+    unchanged here.0 here.1 (sym here.0) tt (rw none refl) (rw none refl)
 
 pub returns-then-self : goal.returns-then-self
 returns-then-self g c =
     let here = inside_shown (ap (λ inside. inside.parts) c.self-inside.view_is) c.self.view_is c.self.invariant in
-    unchanged here.0 here.1 (sym here.0) tt (full_inactive (valid_shown here.1) c.if-self-eq0.false c.if-self.true)
+    let some = ne_eqb _ 0 c.if-self-eq0.false in
+    let most = at_most _ c.if-self.true in
+    unchanged here.0 here.1 (sym here.0) tt (rw (some, most) refl) (rw (some, most) refl)
 
 pub returns : goal.returns
 returns g c =

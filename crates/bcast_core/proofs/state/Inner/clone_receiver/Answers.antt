@@ -1,7 +1,6 @@
-use Rattle.std.proofs.Common.{sym, ◌∙◌, ap}
-use Rattle.bcast_model.specs.Words.{cursor_of}
-use Rattle.bcast_core.proofs.Making.{not_some}
-use Rattle.bcast_core.proofs.Receivers.{added_fits, clone_added, not_cloned}
+use Rattle.bcast_core.proofs.Common.{inl, refl, sym, ◌∙◌, ap, is_some, cursor_of, sets}
+use Rattle.bcast_model.proofs.Cases.{uncloned}
+use Rattle.bcast_core.proofs.Making.{not_some, added_fits, clone_added}
 use Rattle.bcast_core.proofs.Tail.{ends, shown_after, told_none, unchanged, valid_shown}
 use Rattle.bcast_core.proofs.state.Inner.clone_receiver.Goals as goal
 
@@ -9,10 +8,7 @@ pub returns-in_default : goal.returns-in_default
 returns-in_default g c =
     let valid = valid_shown c.self.invariant in
     let none = sym (c.cursor.ensures ∙ ap (λ inside. cursor_of inside.parts.control c.args.key) c.self-inside.view_is) ∙ not_some c.cursor.result c.in_default.not-Some in
-    unchanged c.self.view_is c.self.invariant (sym c.self.view_is) valid.control.receivers_fit (not_cloned c.args.key valid none)
-
-pub add_receiver-made-requires-clause-valid : goal.add_receiver-made-requires-clause-valid
-add_receiver-made-requires-clause-valid g c = valid_shown c.self.invariant
+    unchanged c.self.view_is c.self.invariant (sym c.self.view_is) valid.control.receivers_fit (inl (ap is_some none, refl)) (ap (λ x. sets x) (uncloned c.self.inside.parts.control (cursor_of c.self.inside.parts.control c.args.key)))
 
 pub returns-then-not-is_empty : goal.returns-then-not-is_empty
 returns-then-not-is_empty g c =

@@ -1,6 +1,5 @@
-use Rattle.std.proofs.Common.{not, refl, ap}
+use Rattle.bcast_core.proofs.Common.{not, refl, ap, close}
 use Rattle.bcast_model.specs.declared.run.Reply.TheVariants as reply
-use Rattle.bcast_model.specs.Control.{close}
 use Rattle.bcast_core.proofs.Settle.{low_close}
 use Rattle.bcast_core.proofs.Tail.{does_sets, ends, shown_after, valid_shown}
 use Rattle.bcast_core.proofs.state.Inner.close.Goals as goal

@@ -1,22 +1,18 @@
-use Rattle.std.proofs.Common.{◌≡◌, sym, ap, ◌∙◌, is_some}
-use Rattle.bcast_model.specs.Words.{cursor_of}
-use Rattle.bcast_core.proofs.Making.{not_some}
-use Rattle.bcast_core.proofs.Receivers.{deactivated, full_deactivated, not_deactivated}
+use Rattle.bcast_core.proofs.Common.{◌≡◌, refl, sym, ap, ◌∙◌, is_some, cursor_of}
+use Rattle.bcast_core.proofs.Making.{at_most, not_some, deactivated}
 use Rattle.bcast_core.proofs.Tail.{ends, shown_after, unchanged, valid_shown}
 use Rattle.bcast_core.proofs.state.Inner.deactivate.Goals as goal
 
 pub returns-in_default : goal.returns-in_default
 returns-in_default g c =
     let none = sym (c.cursor.ensures ∙ ap (λ inside. cursor_of inside.parts.control c.args.key) c.self-inside.view_is) ∙ not_some c.cursor.result c.in_default.not-Some in
-    unchanged c.self.view_is c.self.invariant (sym c.self.view_is) tt (not_deactivated c.args.key (valid_shown c.self.invariant) none)
+    unchanged c.self.view_is c.self.invariant (sym c.self.view_is) tt (rw none refl) (rw none refl)
 
 pub returns-then-self : goal.returns-then-self
 returns-then-self g c =
-    let most = sym (ap (λ inside. inside.parts.control.inactive) c.self-inside.view_is) ∙ c.if-self.true in
-    unchanged c.self.view_is c.self.invariant (sym c.self.view_is) tt (full_deactivated c.args.key _ (valid_shown c.self.invariant) (sym (c.cursor.ensures ∙ ap (λ inside. cursor_of inside.parts.control c.args.key) c.self-inside.view_is) ∙ c.in-Some.is) most)
-
-pub remove_receiver-requires : goal.remove_receiver-requires
-remove_receiver-requires g c = valid_shown c.self.invariant
+    let most = at_most _ (sym (ap (λ inside. inside.parts.control.inactive) c.self-inside.view_is) ∙ c.if-self.true) in
+    let at = sym (c.cursor.ensures ∙ ap (λ inside. cursor_of inside.parts.control c.args.key) c.self-inside.view_is) ∙ c.in-Some.is in
+    unchanged c.self.view_is c.self.invariant (sym c.self.view_is) tt (rw (at, most) refl) (rw (at, most) refl)
 
 pub returns : goal.returns
 returns g c =

@@ -1,5 +1,5 @@
-use Rattle.std.proofs.Common.{sym, ap, ◌∙◌}
-use Rattle.bcast_core.proofs.Making.{fewer_senders, no_senders}
+use Rattle.std.proofs.Common.{refl, sym, ap, ◌∙◌}
+use Rattle.bcast_core.proofs.Making.{fewer_senders, is_none}
 use Rattle.bcast_core.proofs.Tail.{ends, inside_shown, shown_after, told_left, unchanged, valid_shown}
 use Rattle.bcast_core.proofs.state.Inner.drop_sender.Goals as goal
 
@@ -12,7 +12,8 @@ returns-then-self-gt0 g c =
 pub returns-else-self-gt0 : goal.returns-else-self-gt0
 returns-else-self-gt0 g c =
     let here = inside_shown (ap (λ inside. inside.parts) c.self-inside.view_is) c.self.view_is c.self.invariant in
-    unchanged here.0 here.1 (sym here.0) tt (no_senders (valid_shown here.1) c.if-self-gt0.false)
+    let none = is_none c.if-self-gt0.false in
+    unchanged here.0 here.1 (sym here.0) tt refl (rw none refl)
 
 pub invariant_of-self : goal.invariant_of-self
 invariant_of-self g c = shown_after (returns-then-self-gt0 g c)

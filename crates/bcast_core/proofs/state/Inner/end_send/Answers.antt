@@ -1,5 +1,4 @@
-use Rattle.std.proofs.Common.{refl}
-use Rattle.bcast_model.specs.Control.{place_ended}
+use Rattle.bcast_core.proofs.Common.{refl, place_ended}
 use Rattle.bcast_core.proofs.Tail.{does_sets, ends, shown_after, valid_shown}
 use Rattle.bcast_core.proofs.state.Inner.end_send.Goals as goal
 

@@ -1,5 +1,4 @@
-use Rattle.std.proofs.Common.{subst}
-use Rattle.bcast_model.specs.Answers.{IsShown}
+use Rattle.bcast_core.proofs.Common.{subst, IsShown}
 use Rattle.bcast_core.proofs.state.Inner.invariant_holds.Goals as goal
 
 pub returns : goal.returns

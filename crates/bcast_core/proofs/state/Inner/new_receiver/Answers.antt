@@ -1,10 +1,7 @@
 use Rattle.std.proofs.Common.{sym, ap, ◌∙◌}
-use Rattle.bcast_core.proofs.Receivers.{added_fits, new_added}
+use Rattle.bcast_core.proofs.Making.{added_fits, new_added}
 use Rattle.bcast_core.proofs.Tail.{ends, shown_after, told_none, valid_shown}
 use Rattle.bcast_core.proofs.state.Inner.new_receiver.Goals as goal
-
-pub add_receiver-made-requires-clause-valid : goal.add_receiver-made-requires-clause-valid
-add_receiver-made-requires-clause-valid g c = valid_shown c.self.invariant
 
 pub returns-then-not-is_empty : goal.returns-then-not-is_empty
 returns-then-not-is_empty g c =

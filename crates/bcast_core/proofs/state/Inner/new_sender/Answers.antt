@@ -1,12 +1,13 @@
-use Rattle.std.proofs.Common.{sym, ap}
-use Rattle.bcast_core.proofs.Making.{full_senders, more_senders}
+use Rattle.std.proofs.Common.{refl, sym, ap}
+use Rattle.bcast_core.proofs.Making.{at_most, more_senders}
 use Rattle.bcast_core.proofs.Tail.{ends, inside_shown, shown_after, told_counted, unchanged, valid_shown}
 use Rattle.bcast_core.proofs.state.Inner.new_sender.Goals as goal
 
 pub returns-then-self : goal.returns-then-self
 returns-then-self g c =
     let here = inside_shown (ap (λ inside. inside.parts) c.self-inside.view_is) c.self.view_is c.self.invariant in
-    unchanged here.0 here.1 (sym here.0) tt (full_senders (valid_shown here.1) c.if-self.true)
+    let most = at_most _ c.if-self.true in
+    unchanged here.0 here.1 (sym here.0) tt (rw most refl) (rw most refl)
 
 pub returns : goal.returns
 returns g c =

@@ -1,12 +1,7 @@
-use Rattle.std.proofs.Common.{not, ◌==◌, ap, ◌∙◌}
-use Rattle.bcast_model.specs.Steps.{tell_if_ready}
-use Rattle.bcast_core.specs.Telling.{tell_news}
+use Rattle.bcast_core.proofs.Common.{not, ◌==◌, ap, ◌∙◌, tell_if_ready, tell_news}
 use Rattle.bcast_model.specs.declared.run.Reply.TheVariants as reply
-use Rattle.bcast_core.proofs.Tail.{ends, shown_after, valid_shown}
+use Rattle.bcast_core.proofs.Tail.{ends, shown_after}
 use Rattle.bcast_core.proofs.state.Inner.offer_all.Goals as goal
-
-pub offer_all-sent-requires : goal.offer_all-sent-requires
-offer_all-sent-requires g c = valid_shown c.self.invariant
 
 pub returns : goal.returns
 returns g c =

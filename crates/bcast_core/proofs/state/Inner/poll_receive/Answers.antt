@@ -1,12 +1,8 @@
 -- What was found is returned in the word of the call.
-use Rattle.std.proofs.Common.{sym, subst}
-use Rattle.bcast_model.specs.Words.{IsShown}
+use Rattle.bcast_core.proofs.Common.{sym, subst, IsShown}
 use Rattle.bcast_core.proofs.Tail.{answers_as, shown_after, valid_shown}
 use Rattle.bcast_core.proofs.ReceivePolls.{receive_range, receive_steps}
 use Rattle.bcast_core.proofs.state.Inner.poll_receive.Goals as goal
-
-pub poll-requires-clause-valid : goal.poll-requires-clause-valid
-poll-requires-clause-valid g c = valid_shown c.self.invariant
 
 pub returns-clause-answers : goal.returns-clause-answers
 returns-clause-answers g c =

@@ -1,16 +1,12 @@
 -- Several messages are given, and at most one send is told.
-use Rattle.std.proofs.Common.{◌≡◌, inl, inr, ◌+◌, ◌++◌, is_some, sym, ap, ◌∙◌, subst, arith}
-use Rattle.std.specs.Prelude.{IsSomeAnd}
+use Rattle.bcast_core.proofs.Common.{◌≡◌, inl, inr, ◌+◌, ◌++◌, is_some, sym, ap, ◌∙◌, subst, arith, IsSomeAnd, IsShown, View, cursor_of, kept_at, tell_if_ready, Stored, AreHandedOut, ReceiversHaveRoom, IsHandedOut}
 use Rattle.std.proofs.lemmas.Bool.{cases_lt}
 use Rattle.std.specs.FinMap.{insert}
-use Rattle.bcast_model.specs.Words.{IsShown, View, cursor_of, kept_at, tell_if_ready}
-use Rattle.bcast_store.specs.Stored.{Stored, AreHandedOut}
-use Rattle.bcast_core.specs.Parts.{ReceiversHaveRoom, IsHandedOut}
 use Rattle.bcast_core.proofs.Moves.{after}
 use Rattle.bcast_core.proofs.Batches.{StandsAt, into_given, into_shown, unread_is, next_refused}
 use Rattle.bcast_core.proofs.Rooms.{room_inserted}
 use Rattle.bcast_core.proofs.Tail.{valid_shown}
-use Rattle.bcast_core.proofs.Views.{view-with_cursors}
+use Rattle.bcast_core.proofs.Settle.{view-with_cursors}
 use Rattle.bcast_core.proofs.state.Inner.receive_many.Goals as goal
 use Rattle.bcast_core.proofs.state.Inner.receive_many.Goals.{After-tell_a_sender}
 
@@ -25,9 +21,9 @@ new_is g c =
     c.tell_a_sender.ensures
     ∙ ap tell_if_ready (view-with_cursors _ c.read_many-given.new.self _ c.self-inside.inside.0.0.sends c.self-inside.inside.0.0.receives _ _ _ _ _ _ (λ m. insert m c.args.key (c.in-Some.cursor + c.read_many-given.result)) c.self.inside.parts c.read_many-given.ensures.passed (ap (λ inside. inside.parts) c.self-inside.view_is))
 
-pub returns-clause-received : goal.returns-clause-received
-returns-clause-received g c =
-    let here = (goal.at.returns-clause-received g c).After-tell_a_sender in
+pub returns : goal.returns
+returns g c =
+    let here = (goal.at.returns g c).After-tell_a_sender in
     let at = stands g here in
     let end = (valid_shown c.self.invariant).reach c.args.key c.in-Some.cursor at.there in
     let last = c.end.ensures ∙ ap (λ inside. inside.parts.end) c.self-inside.view_is in
@@ -38,10 +34,19 @@ returns-clause-received g c =
       counted = given.counted;
       each = λ i msg at. subst (λ (v : View g.row.T.Denot). IsHandedOut g.T.Clone.is_clone v c.args.key (c.in-Some.cursor + i) msg) (ap (λ inside. inside.parts) c.self-inside.view_is) (given.each i msg at);
     } in
-    into_given c.self.view_is c.self.invariant at (omega (arith, end, c.read_many-given.ensures.at_most, c.min-count.ensures, last)) handed (new_is g here)
+    record {
+      at_most = omega (arith, c.read_many-given.ensures.at_most, c.min-count.ensures);
+      received = into_given c.self.view_is c.self.invariant at (omega (arith, end, c.read_many-given.ensures.at_most, c.min-count.ensures, last)) handed (new_is g here);
+      sure = λ none room. elim (cases_lt c.read_many-given.result c.min-count.result) [
+        | inl fewer ↦
+            let refused = subst (λ (v : View g.row.T.Denot). IsSomeAnd (kept_at v (c.in-Some.cursor + c.read_many-given.result)) (λ msg. g.T.Clone.is_infallible msg → ⊥)) (ap (λ inside. inside.parts) c.self-inside.view_is) (c.read_many-given.ensures.refused fewer) in
+            inr (next_refused at (λ msg. g.T.Clone.is_infallible msg → ⊥) c.read_many-given.result refused (new_is g here))
+        | inr all ↦ inl (let left = unread_is at c.self.view_is in omega (arith, all, left, c.read_many-given.ensures.at_most, c.min-count.ensures, last))
+      ];
+    }
 
 pub invariant_of-self : goal.invariant_of-self
-invariant_of-self g c = into_shown (subst IsShown c.self.view_is c.self.invariant) (returns-clause-received g c)
+invariant_of-self g c = into_shown (subst IsShown c.self.view_is c.self.invariant) (returns g c).received
 
 pub invariant_of-self-inside : goal.invariant_of-self-inside
 invariant_of-self-inside g c =
@@ -52,15 +57,3 @@ invariant_of-self-inside g c =
           (room_inserted p.store.cursors c.args.key (c.in-Some.cursor + c.read_many-given.result) p.receives.room (c.self-inside.invariant.receivers c.args.key there) c.self-inside.invariant.receivers);
       sends = c.self-inside.invariant.sends;
     }
-
-pub returns-clause-sure : goal.returns-clause-sure
-returns-clause-sure g c = λ none room.
-    let here = (goal.at.returns-clause-sure g c).After-tell_a_sender in
-    let at = stands g here in
-    let last = c.end.ensures ∙ ap (λ inside. inside.parts.end) c.self-inside.view_is in
-    elim (cases_lt c.read_many-given.result c.min-count.result) [
-      | inl fewer ↦
-          let refused = subst (λ (v : View g.row.T.Denot). IsSomeAnd (kept_at v (c.in-Some.cursor + c.read_many-given.result)) (λ msg. g.T.Clone.is_infallible msg → ⊥)) (ap (λ inside. inside.parts) c.self-inside.view_is) (c.read_many-given.ensures.refused fewer) in
-          inr (next_refused at (λ msg. g.T.Clone.is_infallible msg → ⊥) c.read_many-given.result refused (new_is g here))
-      | inr all ↦ inl (let left = unread_is at c.self.view_is in omega (arith, all, left, c.read_many-given.ensures.at_most, c.min-count.ensures, last))
-    ]

@@ -1,7 +1,6 @@
 -- Each part of the snapshot is what its call ensures.
-use Rattle.std.proofs.Common.{ap, subst, ◌∙◌}
+use Rattle.bcast_core.proofs.Common.{ap, subst, ◌∙◌, entries}
 use Rattle.std.specs.List.{AllZip}
-use Rattle.std.specs.FinMap.{entries}
 use Rattle.bcast_core.proofs.state.Inner.snapshot.Goals as goal
 
 pub returns : goal.returns
@@ -19,8 +18,8 @@ returns g c =
       await_active = ap (λ v. v.control.await_active) is;
       capacity = ap (λ v. v.control.capacity) is;
       room = c.room.ensures ∙ ap (λ v. v.control.room) is;
-      places = c.rising.ensures.same ∙ (c.in_ok-items.ensures ∙ ap (λ v. v.control.places) is);
-      rising = c.rising.ensures.rising;
+      places = c.in_ok-items.ensures.same ∙ ap (λ v. v.control.places) is;
+      rising = c.in_ok-items.ensures.rising;
       waiting_sends = (λ i. record { ids = c.in_ok-ids.ensures i; told = c.told.ensures i }) ∙ ap (λ v. v.control.waiting_sends) is;
       waiting_receives = (λ i. record { ids = c.in_ok-ids-2.ensures i; told = c.told-2.ensures i }) ∙ ap (λ v. v.control.waiting_receives) is;
     }

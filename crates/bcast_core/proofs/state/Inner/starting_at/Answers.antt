@@ -1,11 +1,7 @@
 -- A new channel has its first receiver.
-use Rattle.std.proofs.Common.{◌≡◌, [], sym, ap, ◌∙◌, subst}
+use Rattle.bcast_core.proofs.Common.{◌≡◌, true, false, [], sym, ap, ◌∙◌, subst, arith, opening, Stored, end_of, ReceiversHaveRoom, control_of, seen_of}
 use Rattle.std.specs.FinMap.{empty, insert}
-use Rattle.bcast_model.specs.History.{opening}
-use Rattle.bcast_model.proofs.Opening.{opening_valid}
-use Rattle.bcast_store.specs.Stored.{Stored}
-use Rattle.bcast_core.specs.Parts.{ReceiversHaveRoom}
-use Rattle.bcast_core.proofs.Opened.{opened}
+use Rattle.bcast_model.proofs.Opening.{opening_valid, view_of-opening}
 use Rattle.bcast_core.proofs.Rooms.{room_empty, room_inserted, below_none}
 use Rattle.bcast_core.proofs.state.Inner.starting_at.Goals as goal
 use Rattle.bcast_core.proofs.state.Inner.starting_at.Goals.{In_ok-reserve_for}
@@ -23,8 +19,11 @@ invariant_of-parts g c = record {
 
 pub returns-clause-opened : goal.returns-clause-opened
 returns-clause-opened g c =
-    opened c.add.new.self _ c.new-3.result c.reserve_for.new.self c.args.first c.in_ok-key.key c.args.cap c.requires.capacity c.ranges.cap.fits c.requires.number (store_is g (goal.at.returns-clause-opened g c).In_ok-reserve_for)
-    c.new-2.ensures c.new-3.ensures (c.reserve_for.ensures.listeners ∙ c.new-receives.ensures)
+    let stored = store_is g (goal.at.returns-clause-opened g c).In_ok-reserve_for in
+    let receives_is = c.reserve_for.ensures.listeners ∙ c.new-receives.ensures in
+    let end : end_of c.add.new.self ≡ c.args.first = ap end_of stored ∙ omega arith in
+    (λ i. record (seen_of (stored i) (control_of (stored i) (c.new-2.ensures i) (record c.new-3.result { listeners = c.new-3.ensures i }) (record c.reserve_for.new.self { listeners = receives_is i }) 1 0 false false true c.args.cap)) { end = end i })
+    ∙ sym (view_of-opening c.args.cap c.args.first c.in_ok-key.key c.requires.capacity c.ranges.cap.fits c.requires.number)
 
 pub returns-clause-valid : goal.returns-clause-valid
 returns-clause-valid g c = opening_valid c.args.cap c.args.first c.in_ok-key.key c.requires.capacity c.ranges.cap.fits c.requires.number

@@ -1,8 +1,5 @@
-use Rattle.std.proofs.Common.{sym, ap, ◌∙◌}
-use Rattle.std.specs.Prelude.{is_ok}
+use Rattle.bcast_core.proofs.Common.{sym, ap, ◌∙◌, is_ok, tell_if_ready, tell_news}
 use Rattle.bcast_model.specs.declared.run.Reply.TheVariants as reply
-use Rattle.bcast_model.specs.Words.{tell_if_ready}
-use Rattle.bcast_core.specs.Telling.{tell_news}
 use Rattle.bcast_core.proofs.Tail.{ends, tail_nobody, shown_after, valid_shown}
 use Rattle.bcast_core.proofs.state.Inner.try_broadcast.Goals as goal
 

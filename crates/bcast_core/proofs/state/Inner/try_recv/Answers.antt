@@ -1,11 +1,7 @@
-use Rattle.std.proofs.Common.{sym, ap, ◌∙◌}
-use Rattle.bcast_model.specs.Words.{cursor_of}
+use Rattle.bcast_core.proofs.Common.{sym, ap, ◌∙◌, cursor_of}
 use Rattle.bcast_core.proofs.Does.{does_receive}
 use Rattle.bcast_core.proofs.Tail.{ends, told_none, shown_after, valid_shown}
 use Rattle.bcast_core.proofs.state.Inner.try_recv.Goals as goal
-
-pub receive-received-requires-clause-valid : goal.receive-received-requires-clause-valid
-receive-received-requires-clause-valid g c = valid_shown c.self.invariant
 
 pub returns-then-not-is_empty-clause-answers : goal.returns-then-not-is_empty-clause-answers
 returns-then-not-is_empty-clause-answers g c =

@@ -1,7 +1,5 @@
 -- The slot of the new place is filled.
-use Rattle.std.proofs.Common.{◌≡◌, ◌<◌, ◌^◌, sym, ap, subst, ◌∙◌, arith}
-use Rattle.std.proofs.lemmas.Grind.{common_steps}
-use Rattle.bcast_waiting.specs.Keys.{keys_in}
+use Rattle.bcast_waiting.proofs.Common.{◌≡◌, ◌<◌, ◌^◌, sym, ap, subst, ◌∙◌, arith, common_steps, keys_in}
 use Rattle.bcast_waiting.proofs.Keys.{contains-keys_in, len-keys_in, keys_in-filled}
 use Rattle.bcast_waiting.proofs.places.Places.add.Goals as goal
 use Rattle.bcast_waiting.proofs.places.Places.add.Goals.{After-insert_reserved-place}

@@ -1,10 +1,8 @@
 -- The slots that are not empty stay.
-use Rattle.std.proofs.Common.{◌≡◌, ◌<◌, map, is_some, Some, length, sym, ap, ◌∙◌, subst, rules, arith}
-use Rattle.std.proofs.lemmas.Grind.{common_steps}
+use Rattle.bcast_waiting.proofs.Common.{◌≡◌, ◌<◌, map, is_some, Some, length, sym, ap, ◌∙◌, subst, rules, arith, common_steps, listed, ids_in}
 use Rattle.std.proofs.lemmas.List.{with_items_is}
 use Rattle.std.specs.List.{AllByRecursion}
 use Rattle.std.proofs.lemmas.Fn.{filter_same}
-use Rattle.bcast_waiting.specs.Words.{listed, ids_in}
 use Rattle.bcast_waiting.proofs.InSlots.{ids-compacted, listed_full}
 use Rattle.bcast_waiting.proofs.slots.Slots.compact.Goals as goal
 use Rattle.bcast_waiting.proofs.slots.Slots.compact.Goals.{After-retain}

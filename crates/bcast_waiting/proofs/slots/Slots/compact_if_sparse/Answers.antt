@@ -1,8 +1,6 @@
 -- No slot is empty.
-use Rattle.std.proofs.Common.{◌≤◌, length, ap, ◌∙◌, arith}
-use Rattle.std.proofs.lemmas.Grind.{common_steps}
+use Rattle.bcast_waiting.proofs.Common.{◌≤◌, length, ap, ◌∙◌, arith, common_steps, listed}
 use Rattle.std.proofs.lemmas.List.{length-map}
-use Rattle.bcast_waiting.specs.Slots.{listed}
 use Rattle.bcast_waiting.proofs.InSlots.{listed_full, front_full, front_mono, front_all}
 use Rattle.bcast_waiting.proofs.slots.Slots.compact_if_sparse.Goals as goal
 use Rattle.bcast_waiting.proofs.slots.Slots.compact_if_sparse.Goals.{After-compact}

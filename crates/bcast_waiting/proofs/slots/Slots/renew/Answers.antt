@@ -1,8 +1,7 @@
 -- Another notice doesn't change the ids.
-use Rattle.std.proofs.Common.{◌<◌, Some, length, refl, sym, ap, ◌∙◌, arith}
+use Rattle.bcast_waiting.proofs.Common.{◌<◌, Some, length, refl, sym, ap, ◌∙◌, arith, slot_id}
 use Rattle.std.proofs.lemmas.List.{length-map}
 use Rattle.std.specs.Vec.{with_item}
-use Rattle.bcast_waiting.specs.Listener.{slot_id}
 use Rattle.bcast_waiting.proofs.Renewed.{IsRenewed, renewed, seen_renewed, kept_renewed}
 use Rattle.bcast_waiting.proofs.slots.Slots.renew.Goals as goal
 use Rattle.bcast_waiting.proofs.slots.Slots.renew.Goals.{After-renew}

@@ -1,6 +1,5 @@
 -- The slots don't change; and how many are told so far.
-use Rattle.std.proofs.Common.{◌≡◌, ℕ, ◌+◌}
-use Rattle.bcast_waiting.specs.Slots.{Slots, front}
+use Rattle.bcast_waiting.proofs.Common.{◌≡◌, ℕ, ◌+◌, Slots, front}
 use Rattle.bcast_waiting.proofs.slots.Slots.tell.Given as goal
 
 pub record IsTold {I : Type 0} (before now : Slots I) (position left from count : ℕ) : Type 0 where

@@ -1,7 +1,6 @@
 -- Calling a notice doesn't change the ids.
-use Rattle.std.proofs.Common.{◌<◌, Some, length, refl, sym, ap, ◌∙◌, arith}
+use Rattle.bcast_waiting.proofs.Common.{◌<◌, Some, length, refl, sym, ap, ◌∙◌, arith, slot_id}
 use Rattle.std.proofs.lemmas.List.{length-map}
-use Rattle.bcast_waiting.specs.Listener.{slot_id}
 use Rattle.bcast_waiting.proofs.Renewed.{IsRenewed, renewed, seen_renewed, kept_renewed}
 use Rattle.bcast_waiting.proofs.slots.Slots.tell_at.Goals as goal
 use Rattle.bcast_waiting.proofs.slots.Slots.tell_at.Goals.{Joined-index_mut, in-Some, in-None}

@@ -2,7 +2,7 @@
 use Rattle.std.proofs.Common.{refl, ap}
 use Rattle.bcast_model.specs.declared.run.Call.TheVariants as call
 use Rattle.bcast_model.specs.declared.run.Reply.TheVariants as reply
-use Rattle.bcast_core.proofs.Accessors.{answers_read}
+use Rattle.bcast_core.proofs.Tail.{answers_read}
 use Rattle.bcast_core.proofs.calls.reads.TestAtOnce.make.Goals as goal
 
 pub returns-in-IsEmpty-clause-answers : goal.returns-in-IsEmpty-clause-answers

@@ -1,7 +1,0 @@
-use Rattle.std.proofs.Common.{arith}
-use Rattle.std.proofs.lemmas.Grind.{common_steps}
-use Rattle.bcast_core.proofs.Tail.{tail_nobody}
-use Rattle.bcast_core.proofs.parts.Parts.tell_of_message.Goals as goal
-
-pub returns-else-not-nobody_waits : goal.returns-else-not-nobody_waits
-returns-else-not-nobody_waits g c = grind (arith, common_steps, tail_nobody)
