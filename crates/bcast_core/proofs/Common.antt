@@ -4,5 +4,5 @@ pub use Rattle.std.proofs.lemmas.Grind.{common_steps}
 pub use Rattle.std.specs.FinMap.{get, entries, len}
 pub use Rattle.bcast_model.specs.Words.{History, view_of, Legal, next, IsValid, IsRun, end_of_run, AtEachPoint, WaitsAsItsTry, ComesToRest, HasPositiveCapacity, opening, Represents, is_receive_refused, Places, is_empty_reply, has_no_receiver, is_full, offer, settle, View, with_message, pair_waits, has_place, place_waits, pair_ended, stream_of, future_of, pair_answered, tell_if_ready, place_answered, NoClone, cursor_of, sets, close, drop_receiver, place_ended, IsShown, kept_at}
 pub use Rattle.bcast_store.specs.Stored.{Stored, with_cursors, AreHandedOut, end_of}
-pub use Rattle.bcast_core.specs.Parts.{HaveRoom, control_of, seen_of, AllHaveRoom, Does, IsHandedOut}
+pub use Rattle.bcast_core.specs.Parts.{ReceiversHaveRoom, control_of, seen_of, AllHaveRoom, Does, IsHandedOut}
 pub use Rattle.bcast_core.specs.Telling.{tell_news, is_accepted}

@@ -57,10 +57,6 @@ module _ {T : Type 0} where
   pub answers_read : {is_clone : T → T → Type 0} {v : View T} {c : Call T} {r : Reply T} → IsShown v → Legal is_clone v c r → effect v c r ≡ sets v.control → HasRange c (len v.control.cursors) → Answers is_clone v c r v
   answers_read shown legal idle range = unchanged refl shown refl range legal idle
 
-  -- a call has its answer under another name, too
-  pub named : {is_clone : T → T → Type 0} {old new : View T} {c made : Call T} {r : Reply T} → c ≡ made → Answers is_clone old made r new → Answers is_clone old c r new
-  named {is_clone = is_clone} {old = old} {new = new} {r = r} is a = subst (λ x. Answers is_clone old x r new) (sym is) a
-
   -- the parts that a call reads or changes by themselves are those of a state that is shown
   pub inside_shown : {inside was old : View T} → inside ≡ was → was ≡ old → IsShown was → (inside ≡ old) × IsShown inside
   inside_shown here same shown = (here ∙ same, subst IsShown (sym here) shown)

@@ -6,7 +6,7 @@ ghost use Rattle.bcast_model.specs.Words.{cursor_of, unread, missed};
 ghost use Rattle.bcast_core.specs.Snapshot.{Shows};
 
 use crate::parts::Parts;
-use crate::snapshot::{Snapshot, Waiting, clones_of, rising};
+use crate::snapshot::{Snapshot, Waiting, clones_of};
 use bcast_model::listener::Kind;
 use bcast_store::Store;
 use bcast_waiting::notice::Notice;
@@ -261,7 +261,7 @@ impl<T: Clone, N: Notice, A: Allocator + Copy> Inner<T, N, A> {
             await_active: self.parts.await_active,
             capacity: self.parts.capacity,
             room: self.parts.store.room(),
-            places: rising(self.parts.places.items(alloc)?),
+            places: self.parts.places.items(alloc)?,
             waiting_sends: Waiting {
                 ids: self.parts.sends.ids(alloc)?,
                 told: self.parts.sends.told(),

@@ -69,8 +69,8 @@ wait_refuses (reply.AttemptSend (send.Wait msg)) waits = refl
 wait_refuses (reply.TryRecv (Ok (Err unread.Empty))) waits = refl
 wait_refuses r waits = absurd (cc waits)
 
--- what is kept after more steps of a caller that knew this: a lawful run, which leaves the cursors of
--- all receivers but the caller's own
+-- what is kept after more steps of a caller that knew this: a lawful run, which leaves the cursors
+-- of all receivers but the caller's own
 pub record Grown
     {T : Type 0} (is_clone : T → T → Type 0) (o : Opening) (known : Tracker T) (steps longer : List (Step T)) (after : View T)
     : Type 0 where

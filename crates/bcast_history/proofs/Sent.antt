@@ -13,7 +13,8 @@ use Rattle.bcast_history.proofs.Prefixes.{IsPrefix, prefix_self, prefix_trans}
 use Rattle.bcast_history.specs.Laws.{MessagesStay, SendsStandLast, ReadsOn, ReceiversReadOn}
 
 module _ {T : Type 0} where
-  -- what each step keeps is so after more steps, too. `Fits`: what is known of a state and of the steps that follow it
+  -- what each step keeps is so after more steps, too. `Fits`: what is known of a state and of the
+  -- steps that follow it
   pub kept_on : (Fits : History T → List (Step T) → Type 0) (Q : History T → Type 0)
       → ((h : History T) (step : Step T) (rest : List (Step T)) → Fits h (step ∷ rest) → Fits (next h step.call step.reply) rest × (Q h → Q (next h step.call step.reply)))
       → (o : Opening) (known later : List (Step T)) → IsPrefix known later → Fits (start_of o) later → Q (end_of o known) → Q (end_of o later)

@@ -1,6 +1,5 @@
 //! The receiving side.
-ghost use Rattle.std.specs.Prelude.{◌≡◌, ◌⊎◌, ◌-◌, ℕ, min, true, Some, Ok, Err};
-ghost use Rattle.std.specs.Prelude.{IfOk, IfErr, OnErr};
+ghost use Rattle.std.specs.Prelude.{◌≡◌, ◌⊎◌, ◌-◌, ℕ, min, true, Some, Ok, Err, IfOk, IfErr, OnErr};
 ghost use Rattle.futures.specs.Task.{IsArmed, Keeps};
 ghost use Rattle.futures.specs.Poll.{OnPending};
 ghost use Rattle.bcast_model.specs.Words.{cursor_of};
@@ -119,8 +118,8 @@ impl<T: Clone, P: HistoryPort<T, J>, J: Channel> TrackedReceiver<T, P, J> {
         }
     }
 
-    /// Receives the next message that is kept for the receiver, or leaves the task waiting for it, as
-    /// the stream of a `Receiver` does: what it missed is skipped.
+    /// Receives the next message that is kept for the receiver, or leaves the task waiting for it,
+    /// as the stream of a `Receiver` does: what it missed is skipped.
     ///
     /// `Ready(None)`: every message was read, and the channel is closed.
     ///

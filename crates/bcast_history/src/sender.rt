@@ -150,7 +150,8 @@ impl<T: Clone, P: HistoryPort<T, J>, J: Channel> TrackedSender<T, P, J> {
         self.tracker.ask(&self.port, Count::Capacity)
     }
 
-    /// Changes how many messages the channel keeps at most. If more are kept, the oldest are dropped.
+    /// Changes how many messages the channel keeps at most. If more are kept, the oldest are
+    /// dropped.
     ///
     /// # Errors
     ///

@@ -20,8 +20,8 @@ use claims::{Claim, Registry};
 use std::alloc::Allocator;
 use std::marker::{Brand, Model};
 
-/// Names a channel in the types of all that belongs to it: its journal, what it was opened with, and
-/// the registry in which its receivers' cursors are claimed.
+/// Names a channel in the types of all that belongs to it: its journal, what it was opened with,
+/// and the registry in which its receivers' cursors are claimed.
 pub trait Channel: Named {
     ghost opening: { Opening };
 
@@ -113,8 +113,8 @@ impl Cursor {
 /// Who makes calls on a channel: what is known of it, and of a receiver its key and where it reads
 /// on. A contract sees a `Tracker`.
 ///
-/// It has no bound on `T`, since the checker can't yet give `u64` to an impl of `Caller` that has one.
-/// That what is known is a run of the channel is said by the type `Tracker`.
+/// It has no bound on `T`, since the checker can't yet give `u64` to an impl of `Caller` that has
+/// one. That what is known is a run of the channel is said by the type `Tracker`.
 #[derive(Drop)]
 pub struct TrackedCaller<T, J: Channel> {
     pub(crate) seen: Seen<T, J>,

@@ -106,7 +106,7 @@ module _ {T : Type 0} where
       let floor : max h.floor 0 ≡ h.floor = omega arith in
       λ i. record { first = h.first; accepted = append-nil h.accepted i; floor = floor i; control = h.control }
 
-  refused_same : (is_clone : T → T → Type 0) (h : History T) (c : Call T) (r : Reply T) → IsValid h → Legal is_clone (view_of h) c r → is_refused r ≡ true → next h c r ≡ h
+  pub refused_same : (is_clone : T → T → Type 0) (h : History T) (c : Call T) (r : Reply T) → IsValid h → Legal is_clone (view_of h) c r → is_refused r ≡ true → next h c r ≡ h
   refused_same is_clone h c r valid legal e =
       ap (λ now. end_call (remember h now)) (same_effect is_clone (view_of h) c r (valid_view h valid) legal e) ∙ ap end_call (remember-idle h)
       ∙ ap (λ (v : View T). with_control h v.control) (view_of-end_call h ∙ told_valid (view_of h) (valid_view h valid))

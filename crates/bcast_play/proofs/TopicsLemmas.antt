@@ -1,5 +1,5 @@
 -- Lemmas of lines on topics: the names of topics and of followers.
-use Rattle.std.proofs.Common.{◌≡◌, ◌≢◌, ⊎_elim, arith, List, ℕ, Bool, Option, cond, option_map}
+use Rattle.std.proofs.Common.{◌≡◌, ◌≢◌, ⊎_elim, arith, List, ℕ, Bool, true, false, Option, Some, None, cond, refl, sym, is_some, option_map, true≢false}
 use Rattle.std.proofs.lemmas.List.Elements.{All-weaker}
 use Rattle.bcast_text.proofs.Spaced.{Lacks}
 use Rattle.topics.specs.Name.{IsName, IsNameByte}
@@ -14,6 +14,14 @@ topic_space word is =
 
 pub map_cond : {X Y : Type 0} (f : X → Y) (b : Bool) (o p : Option X) → option_map f (cond b o p) ≡ cond b (option_map f o) (option_map f p)
 map_cond f b o p = grind arith
+
+pub map_none : {X Y : Type 0} (f : X → Y) (o : Option X) → is_some o ≡ false → option_map f o ≡ None
+map_none f None absent = refl
+map_none f (Some x) absent = absurd (true≢false absent)
+
+pub map_some : {X Y : Type 0} (f : X → Y) (o : Option X) → is_some o ≡ true → option_map f o ≢ None
+map_some f None used none = true≢false (sym used)
+map_some f (Some x) used none = let is = none in absurd (cc)
 
 -- a valid name is not answered by `BadName`
 pub named_answer : {T : Type 0} (is_open : Bool) (asked : Option (Call T)) → IsAnswerTo is_open asked answer.BadName → ⊥

@@ -3,7 +3,7 @@ use Rattle.std.proofs.Common.{◌≡◌, ℕ, ◌+◌, ◌-◌, ◌<◌, ◌≤�
 use Rattle.std.proofs.lemmas.Grind.{common_steps}
 use Rattle.std.specs.List.{AllByRecursion}
 use Rattle.bcast_model.specs.Words.{Listeners, is_in, consume, untold_ids, AreInOrder, IsTest}
-use Rattle.bcast_model.proofs.Lists.{all_more, all_append, all_absent, all_fewer}
+use Rattle.bcast_model.proofs.Lists.{all_more, all_append, all_absent, all_without}
 use Rattle.bcast_model.proofs.Listeners.{in_order_join, in_order_consume, consume_listed, told_some}
 use Rattle.bcast_waiting.specs.Words.{is_told, Slots, listed, front, has, listeners_of, IsKept}
 use Rattle.bcast_waiting.proofs.Few.{at_most}
@@ -73,7 +73,7 @@ module _ {I : Type 0} {same : I → I → Bool} {number : I → ℕ} {s : Slots 
               counted = omega (arith, kept.counted, left, one);
               told_front = told_rest (ltb i told_end) refl is;
               within = omega (arith, kept.within, length-set s.ids i None);
-              in_room = subst (λ (l : Listeners I). AllByRecursion (λ id. number id < s.room) l.ids) (sym taken) (all_fewer same (λ id. number id < s.room) id (listed s.ids) kept.in_room);
+              in_room = subst (λ (l : Listeners I). AllByRecursion (λ id. number id < s.room) l.ids) (sym taken) (all_more (λ other. (number other < s.room) × (same id other ≡ false)) (λ id. number id < s.room) _ (λ _ both. both.0) (all_without same (λ id. number id < s.room) id (listed s.ids) kept.in_room));
             }
 
   -- ---- how many there are

@@ -6,7 +6,7 @@ use Rattle.std.proofs.Math.Bool.{and-true, and-false}
 use Rattle.bcast_model.specs.declared.listener.Kind.{Kind}
 use Rattle.bcast_model.specs.declared.listener.Kind.TheVariants as kind
 use Rattle.bcast_model.specs.contracts.listener.KindPartialEq.TheImpl.{ghosts}
-pub use Rattle.bcast_model.proofs.Tests.{test_place, test_pair}
+pub use Rattle.bcast_model.proofs.Waiting.{test_place, test_pair}
 use Rattle.bcast_waiting.specs.Number.{kind_number, pair_number}
 
 pub pair_number-own : (x y : ℕ × Kind)

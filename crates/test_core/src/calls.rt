@@ -8,16 +8,20 @@ use std::test::Fail;
 /// A channel of numbers.
 pub(crate) type Channel<A = Global> = Inner<u64, Silent, A>;
 
-/// Makes the call of this text.
+/// Makes the call of this text. The reply must be of its kind.
 pub(crate) fn ask<A: Allocator + Copy>(
     alloc: Global,
     inner: &mut Channel<A>,
     call: &str,
 ) -> Result<Reply<u64>, Fail> {
-    match read_call(alloc, call)? {
-        Some(call) => Ok(step(inner, call, Silent)),
-        None => Err(Fail::from("no call")),
+    let reply = match read_call(alloc, call)? {
+        Some(call) => step(inner, call, Silent),
+        None => return Err(Fail::from(call)),
+    };
+    if !is_of_kind(call, &reply) {
+        return Err(Fail::from(call));
     }
+    Ok(reply)
 }
 
 /// Whether the call of this text gets the reply of that text.
@@ -30,4 +34,51 @@ pub(crate) fn gets<A: Allocator + Copy>(
     let mut text = Vec::new(alloc);
     write_reply(&ask(alloc, inner, call)?, &mut text)?;
     Ok(text.as_slice() == reply.as_bytes())
+}
+
+/// Whether the reply has the name of the call of this text. Replies of two names can be one text.
+pub(crate) fn is_of_kind(call: &str, reply: &Reply<u64>) -> bool {
+    call.split_whitespace().next() == Some(name_of(reply))
+}
+
+fn name_of(reply: &Reply<u64>) -> &'static str {
+    match reply {
+        Reply::TryBroadcast(_) => "TryBroadcast",
+        Reply::TryBroadcastAll(_) => "TryBroadcastAll",
+        Reply::AttemptSend(_) => "AttemptSend",
+        Reply::BeginSend(_) => "BeginSend",
+        Reply::PollSend(_) => "PollSend",
+        Reply::EndSend => "EndSend",
+        Reply::TryRecv(_) => "TryRecv",
+        Reply::PollFuture(_) => "PollFuture",
+        Reply::EndFuture => "EndFuture",
+        Reply::PollRecv(_) => "PollRecv",
+        Reply::PollNext(_) => "PollNext",
+        Reply::Close(_) => "Close",
+        Reply::SetCapacity(_) => "SetCapacity",
+        Reply::SetOverflow => "SetOverflow",
+        Reply::SetAwaitActive => "SetAwaitActive",
+        Reply::NewSender(_) => "NewSender",
+        Reply::CloneInactive(_) => "CloneInactive",
+        Reply::Deactivate(_) => "Deactivate",
+        Reply::NewReceiver(_) => "NewReceiver",
+        Reply::Activate(_) => "Activate",
+        Reply::ActivateCloned(_) => "ActivateCloned",
+        Reply::CloneReceiver(_) => "CloneReceiver",
+        Reply::DropSender => "DropSender",
+        Reply::DropInactive => "DropInactive",
+        Reply::DropReceiver => "DropReceiver",
+        Reply::Overflow(_) => "Overflow",
+        Reply::AwaitActive(_) => "AwaitActive",
+        Reply::IsEmpty(_) => "IsEmpty",
+        Reply::IsFull(_) => "IsFull",
+        Reply::IsClosed(_) => "IsClosed",
+        Reply::IsTerminated(_) => "IsTerminated",
+        Reply::Capacity(_) => "Capacity",
+        Reply::Len(_) => "Len",
+        Reply::ReceiverCount(_) => "ReceiverCount",
+        Reply::InactiveReceiverCount(_) => "InactiveReceiverCount",
+        Reply::SenderCount(_) => "SenderCount",
+        Reply::EndNumber(_) => "EndNumber",
+    }
 }

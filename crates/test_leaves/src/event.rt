@@ -28,6 +28,8 @@ impl Notice for Noted<'_> {
 // A call, and what it must return or leave.
 #[derive(Clone, Copy)]
 enum Step {
+    // Makes room for a listener, and for those of smaller numbers.
+    Reserve(Id),
     // Waits, with a notice of this digit.
     Wait(Id, u64),
     // Asks to wait, and is refused a notice.
@@ -132,6 +134,7 @@ const ANY_ORDER: &[Step] = &[
 ];
 
 const TWO_RECEIVERS: &[Step] = &[
+    Step::Reserve(FUTURE_OF_FIVE),
     Step::Wait(STREAM_OF_FIVE, 1),
     Step::Waiting(&[STREAM_OF_FIVE], 0),
     Step::Wait(FUTURE_OF_FIVE, 2),
@@ -160,15 +163,15 @@ const WAITS_AGAIN: &[Step] = &[
     Step::Waiting(&[FUTURE, FAR, STREAM], 0),
 ];
 
-// Lists a listener that must wait. The room that a receiver's future needs has room for its stream.
+// Lists a listener that must wait.
 fn wait<N: Notice, A: Allocator>(
     event: &mut Event<Id, N, A>,
-    (key, kind): Id,
+    id: Id,
     notice: N,
 ) -> Result<bool, AllocError> {
-    event.reserve_for((key, Kind::Future))?;
-    let made = event.wait_again((key, kind), &mut OwnedNotice::new(notice));
-    Ok(made.is_ok() && event.is_untold((key, kind)))
+    event.reserve_for(id)?;
+    let made = event.wait_again(id, &mut OwnedNotice::new(notice));
+    Ok(made.is_ok() && event.is_untold(id))
 }
 
 // Lists a listener by a maker whose notice is taken already. Returns whether it is refused.
@@ -197,6 +200,7 @@ fn is_right<'a>(
     step: Step,
 ) -> Result<bool, AllocError> {
     match step {
+        Step::Reserve(id) => Ok(event.reserve_for(id).is_ok()),
         Step::Wait(id, digit) => wait(event, id, Noted { digit, told }),
         Step::Refuse(id) => refuse(event, id, Noted { digit: 0, told }),
         Step::Tell(count) => {
@@ -272,6 +276,8 @@ fn a_refused_reserve_changes_nothing(rt: HostRuntime) -> Result<(), Fail> {
 fn keys_too_great_are_refused(rt: HostRuntime) -> Result<(), Fail> {
     let rows = [("the greatest", usize::MAX), ("its future", usize::MAX / 2)];
     for (name, key) in rows {
+        let mut event = Event::<Id, Silent>::new(rt.alloc());
+        assert!(rt; event.reserve_for((key, Kind::Future)).is_err(), "{name}");
         assert!(rt; stays(rt.alloc(), (key, Kind::Future))?, "{name}");
     }
     Ok(())

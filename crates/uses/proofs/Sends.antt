@@ -7,7 +7,7 @@ use Rattle.bcast_model.specs.declared.error.TrySendError.{TrySendError}
 use Rattle.bcast_model.specs.Words.{settle, with_message, Listeners, View, is_full, Answers}
 use Rattle.bcast_model.proofs.Cases.{try_is}
 use Rattle.bcast_core.proofs.Offers.{offer_accepted}
-use Rattle.uses.proofs.Called.{with_sends, valid, after}
+use Rattle.uses.proofs.Called.{with_sends, valid, after, unchanged}
 
 module _ {T : Type 0} where
   -- if a message is accepted, what is handed back is `handed_back`
@@ -26,6 +26,10 @@ module _ {T : Type 0} where
 
     none_refused : {back : Option T} → Answers is_clone v (call.TryBroadcast msg) (reply.TryBroadcast (Ok back)) w → is_ok (try_broadcast_reply v msg) ≡ true
     none_refused a = ap is_ok (sym (replied a))
+
+    -- a message that is refused changes nothing
+    pub refused : {error : TrySendError T} → Answers is_clone v (call.TryBroadcast msg) (reply.TryBroadcast (Err error)) w → w ≡ v
+    refused a = unchanged a (ap (λ b. cond b (accept v msg) (sets v.control)) (ap is_ok (sym (replied a))))
 
     -- what holds after a message is accepted
     pub accepted : {back : Option T} → Answers is_clone v (call.TryBroadcast msg) (reply.TryBroadcast (Ok back)) w → (P : View T → Type 0) → ((sends : Listeners ℕ) → P (with_sends (settle v (accept v msg)) sends)) → P w

@@ -47,7 +47,6 @@ impl<T: Drop> CallOf<T> for Count {
 
 impl<T: Clone> AtOnce<T> for Count {
     #[inline(always)]
-    #[tactic(auto, using(crate::proofs::Tail::answers_read))]
     fn make<N: Notice, A: Allocator + Copy>(self, inner: &mut Inner<T, N, A>) -> Self::Answer {
         inner.invariant_holds();
         match self {
@@ -100,7 +99,6 @@ impl<T: Drop> CallOf<T> for Test {
 }
 
 impl<T: Clone> AtOnce<T> for Test {
-    #[tactic(auto, using(crate::proofs::Tail::named, crate::proofs::Tail::answers_read))]
     #[inline(always)]
     fn make<N: Notice, A: Allocator + Copy>(self, inner: &mut Inner<T, N, A>) -> Self::Answer {
         inner.invariant_holds();

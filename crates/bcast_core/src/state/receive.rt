@@ -19,8 +19,8 @@ use futures::task::Poll;
 use std::alloc::{AllocError, Allocator};
 use std::sync::ledger::Ledger;
 
-/// What a receive returns: the message (if it receives several, their number), or why there is none;
-/// or that memory was refused.
+/// What a receive returns: the message (if it receives several, their number), or why there is
+/// none; or that memory was refused.
 pub type RecvResult<T, E> = Result<Result<T, E>, AllocError>;
 
 /// What a receive found, as `try_recv` returns it, and how many messages it skipped before.

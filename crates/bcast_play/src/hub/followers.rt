@@ -48,10 +48,12 @@ pub fn request_by<A: Allocator + Copy>(
             let name = String::from_str(alloc, topic)?;
             Ok(Request::Open(name, capacity as usize))
         }
-        Line::Follow(topic, new) => match followers.get(new) {
-            Some(_) => Err(Fault::NotACall),
-            None => Ok(Request::Follow(String::from_str(alloc, topic)?)),
-        },
+        Line::Follow(topic, new) => {
+            if followers.contains_key(new) {
+                return Err(Fault::NotACall);
+            }
+            Ok(Request::Follow(String::from_str(alloc, topic)?))
+        }
         Line::Publish(topic, msg) => Ok(Request::Publish(String::from_str(alloc, topic)?, msg)),
         Line::Receive(name) => {
             let (topic, key) = known(alloc, followers, name)?;

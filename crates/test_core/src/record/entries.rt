@@ -2,6 +2,7 @@
 ghost use Rattle.std.specs.Prelude.{IfOk};
 ghost use Rattle.bcast_model.specs.Next.{HasPositiveCapacity};
 
+use crate::calls::is_of_kind;
 use bcast_core::Call;
 use bcast_record::{Entry, copy_of_reply};
 use bcast_trace::call::{read_call, write_call};
@@ -23,13 +24,11 @@ pub(crate) const SEND_ALL: Step = Step("TryBroadcastAll 1 2", "ok");
 pub(crate) const SEND_TOO_MANY: Step = Step("TryBroadcastAll 3", "full 3");
 
 impl Step {
+    /// The call. Of a text that is no call it is another one, which `is` refuses.
     pub(crate) fn call(self, alloc: Global) -> Result<Call<u64>, AllocError>
         ensures { IfOk result HasPositiveCapacity }
     {
-        match read_call(alloc, self.0)? {
-            Some(call) => Ok(call),
-            None => Err(AllocError),
-        }
+        Ok(read_call(alloc, self.0)?.unwrap_or(Call::EndNumber))
     }
 
     /// Whether this is the call.
@@ -47,6 +46,7 @@ impl Step {
         let mut text = Vec::new(alloc);
         let is_written = write_reply(&reply, &mut text).is_ok();
         let is_answered = is_written && text.as_slice() == self.1.as_bytes();
-        self.is(alloc, &entry.call) && is_answered && entry.seat == seat
+        let is_copied = reply == entry.reply && is_of_kind(self.0, &reply);
+        self.is(alloc, &entry.call) && is_answered && is_copied && entry.seat == seat
     }
 }

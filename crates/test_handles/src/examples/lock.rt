@@ -1,4 +1,4 @@
-//! Of `Lock::new` of `lock.rt`, a channel that its caller made, and of `unread.rt`.
+//! Of `lock.rt`: of `Lock::new`, a channel that its caller made, and of `unread`.
 use crate::channels::TestResult;
 use async_broadcast::{Lock, Port, PortFor, Receiver, Sender, TryRecvError, broadcast};
 use bcast_core::Inner;

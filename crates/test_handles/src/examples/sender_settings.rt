@@ -1,4 +1,4 @@
-//! Of `sender/settings.rt`.
+//! Of `settings.rt`.
 use crate::channels::{Host, Lent, Pair, TestResult};
 use async_broadcast::{Port, Receiver, SendError, Sender, TryRecvError};
 

@@ -1,5 +1,10 @@
-use Rattle.uses.proofs.Sends.{sent_last, sent_answers}
+use Rattle.std.proofs.Common.{Result, Ok, Err, OnErr, ◌∙◌}
+use Rattle.uses.proofs.Sends.{refused, sent_last, sent_answers}
 use Rattle.uses.proofs.event_hub.EventHub.publish.Goals as goal
+
+on_err : {A B P : Type 0} (r : Result A B) → P → OnErr r P
+on_err (Ok a) p = tt
+on_err (Err e) p = p
 
 pub returns-clause-accepted : goal.returns-clause-accepted
 returns-clause-accepted g c = rw (← c.self.view_is) (sent_last c.in_ok-try_broadcast.ensures c.self.invariant.overflow).0
@@ -9,3 +14,6 @@ returns-clause-counted g c = rw (← c.self.view_is) (sent_last c.in_ok-try_broa
 
 pub returns-clause-answers : goal.returns-clause-answers
 returns-clause-answers g c = rw (← c.self.view_is) (sent_answers c.in_ok-try_broadcast.ensures c.self.invariant.overflow)
+
+pub returns-in_err-try_broadcast-clause-err : goal.returns-in_err-try_broadcast-clause-err
+returns-in_err-try_broadcast-clause-err g c = on_err c.from_residual.result (refused c.in_err-try_broadcast.ensures ∙ c.self.view_is)
