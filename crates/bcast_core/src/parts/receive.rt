@@ -152,14 +152,13 @@ impl<T: Clone, N: Notice, A: Allocator + Copy> Parts<T, N, A> {
             Err(refused) => return Ok(Err(refused)),
         };
         if is_empty(&answer) {
-            let Ok(()) = self.receives.wait_again((key, kind), maker) else {
-                return Err(NoNotice);
-            };
+            self.receives.wait_again((key, kind), maker)?;
             return Ok(Ok(answer));
         }
-        if !self.nobody_waits() {
-            self.tell_of_receive(key, kind);
+        if self.nobody_waits() {
+            return Ok(Ok(answer));
         }
+        self.tell_of_receive(key, kind);
         Ok(Ok(answer))
     }
 
