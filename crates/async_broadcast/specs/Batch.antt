@@ -22,9 +22,9 @@ module _
     (as_tried : Result (Result T E) AllocError → Found T)
     (key limit : ℕ) where
   -- `try_recv_many` and its waiting forms, with the list before and after it: at least one message,
-  -- if the limit isn't 0, each by a `try_recv` that gave it, and put last into the list; or what one
-  -- `try_recv` said that gave none; or memory was refused. `as_tried`: a result of a single receive
-  -- of that form, as `try_recv` returns it
+  -- if the limit isn't 0, each by a `try_recv` that gave it, and put last into the list; or what
+  -- one `try_recv` said that gave none; or memory was refused. `as_tried`: a result of a single
+  -- receive of that form, as `try_recv` returns it
   abbrev pub ReceivesMany : List T → Result (Result ℕ E) AllocError → List T → Type 0
   ReceivesMany before (Ok (Ok count)) after =
       (count ≤ limit) × (0 < limit → 0 < count) × Receives gave key before count after

@@ -21,7 +21,8 @@ IsSame {T} {P} gave port other =
 -- the port gave this reply to this call, and that is what its caller learned
 abbrev pub Gives : {T P K : Type 0} → (P → Call T → Reply T → Type 0)
     → (K → Call T → Reply T → K → Type 0) → P → K → Call T → Reply T → K → Type 0
-Gives gave learns port before call reply after = gave port call reply × learns before call reply after
+Gives gave learns port before call reply after =
+    gave port call reply × learns before call reply after
 
 -- `snapshot`: what some valid history shows, with a clone of each message
 abbrev pub ShowsSomeState : {T A : Type 0} → (T → T → Type 0) → Snapshot T A → Type 0

@@ -16,11 +16,11 @@ use std::alloc::{AllocError, Allocator};
 use std::time::Duration;
 
 impl<T: Clone, P: Port<T>, A: Allocator + Copy> Receiver<T, P, A> {
-    /// Receives the messages that are there, at most `limit`, puts them last into `msgs`, and returns
-    /// how many they are: at least one, or 0 if `limit` is 0, on a closed channel too.
+    /// Receives the messages that are there, at most `limit`, puts them last into `msgs`, and
+    /// returns how many they are: at least one, or 0 if `limit` is 0, on a closed channel too.
     ///
-    /// It is as many `try_recv` in a row, behind one lock, so that each message takes less time. The
-    /// same `msgs` can be used again once it was read and cleared: then it takes no memory.
+    /// It is as many `try_recv` in a row, behind one lock, so that each message takes less time.
+    /// The same `msgs` can be used again once it was read and cleared: then it takes no memory.
     ///
     /// # Errors
     ///
@@ -92,15 +92,15 @@ impl<T: Clone, P: Port<T>, A: Allocator + Copy> Receiver<T, P, A> {
         }
     }
 
-    /// Receives the messages that are there, as `try_recv_many` does. If there are none, it leaves the
-    /// task waiting for one, as `poll_recv` does.
+    /// Receives the messages that are there, as `try_recv_many` does. If there are none, it leaves
+    /// the task waiting for one, as `poll_recv` does.
     ///
     /// `Ready(None)`: every message was read, and the channel is closed.
     ///
     /// # Errors
     ///
-    /// As `try_recv_many`, but for `Empty` and `Closed`; and `AllocError` also if there is no memory
-    /// for a notice.
+    /// As `try_recv_many`, but for `Empty` and `Closed`; and `AllocError` also if there is no
+    /// memory for a notice.
     ///
     /// ```rust
     /// let (sender, mut receiver) = broadcast(&rt, rt.alloc(), 2)?;
@@ -182,8 +182,8 @@ impl<T: Clone, P: TimedPort<T>, A: Allocator + Copy> Receiver<T, P, A> {
     }
 }
 
-// Receives the messages that are there, at most `limit`, and returns how many they are. `None`: there
-// are none, and `msgs` has room for one.
+// Receives the messages that are there, as `receive_many` of the port does. `None`: there are none,
+// and `msgs` has room for one.
 #[inline(always)]
 fn receive_kept<T: Clone, P: Port<T>, B: Allocator>(
     port: &P,

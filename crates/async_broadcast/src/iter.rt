@@ -54,8 +54,8 @@ impl<T: Clone, P: Port<T>, A: Allocator + Copy> Receiver<T, P, A> {
     /// Receives in a loop what is there now, and never waits for a message.
     ///
     /// An item is a message, `Overflowed(n)`, or an `AllocError`, after which the loop may go on.
-    /// `Empty` and `Closed` end it; while others send, it goes on. There are at most 2^64 - 1 items,
-    /// and a channel accepts no more messages than that.
+    /// `Empty` and `Closed` end it; while others send, it goes on. There are at most 2^64 - 1
+    /// items, and a channel accepts no more messages than that.
     ///
     /// ```rust
     /// let (sender, mut receiver) = broadcast(&rt, rt.alloc(), 2)?;

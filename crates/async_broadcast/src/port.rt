@@ -16,8 +16,8 @@ use std::time::Duration;
 
 /// Who makes calls on a channel: what it knows of them, and which receivers are its own.
 ///
-/// A call that moves a receiver, or takes it from the channel, is made by the receiver's owner. `()`
-/// may make every call, and knows nothing.
+/// A call that moves a receiver, or takes it from the channel, is made by the receiver's owner.
+/// `()` may make every call, and knows nothing.
 pub trait Caller: Drop {
     // Holds of a caller that may move the receiver of this key.
     ghost moves: { Self → ℕ → Type 0 };
@@ -30,8 +30,8 @@ impl Caller for () {
 /// The way from a handle to its channel: it makes a call, and returns its reply.
 ///
 /// The contracts of handles and futures hold over every port: what a method returns is the reply
-/// that the port gave to the method's call. `K` is who makes the calls. It is lent to each call, which
-/// adds itself to what the caller knows.
+/// that the port gave to the method's call. `K` is who makes the calls. It is lent to each call,
+/// which adds itself to what the caller knows.
 ///
 /// This is all that the structs of handles and of futures need of a port. It is small, so that
 /// proofs about several futures at once are small too.
@@ -53,9 +53,9 @@ pub trait Ask<T: Clone, K: Caller>: Sized + Drop {
         ensures gave { gave self.now (C.call call) (C.reply call result) }
         ensures learned { learns caller.old (C.call call) (C.reply call result) caller.new };
 
-    /// Makes one call that may have to wait, for a task: one of the four polls, or any call as data.
-    /// If it must wait, the task is registered, and a notice for it left there. A port that needs
-    /// the notice before it makes the poll registers the task of every poll.
+    /// Makes one call that may have to wait, for a task: one of the four polls, or any call as
+    /// data. If it must wait, the task is registered, and a notice for it left there. A port that
+    /// needs the notice before it makes the poll registers the task of every poll.
     ///
     /// # Errors
     ///
@@ -119,9 +119,9 @@ pub trait PortFor<T: Clone, K: Caller>: Ask<T, K> {
         ensures learned { Self.learns caller.old (Call.TryRecv key)
             (Reply.TryRecv (as_try_recv result)) caller.new };
 
-    /// Receives those messages that are there for the receiver `key`, at most `limit`, by a `TryRecv`
-    /// for each: puts them last into `msgs`, and returns how many they are. A port that can't make
-    /// several calls at once receives none.
+    /// Receives those messages that are there for the receiver `key`, at most `limit`, by a
+    /// `TryRecv` for each: puts them last into `msgs`, and returns how many they are. A port that
+    /// can't make several calls at once receives none.
     fn receive_many<B: Allocator>(
         &self,
         caller: &mut K,

@@ -1,5 +1,5 @@
 -- Receives in a row: what they give, and where they lead.
-use Rattle.std.proofs.Common.{◌≡◌, inl, inr, ℕ, suc, ◌+◌, ◌-◌, ◌<◌, ◌≤◌, max, List, [], ◌∷◌, length, slice_get, Some, Ok, refl, sym, ap, ◌∙◌, subst, arith, IsSomeAnd}
+use Rattle.std.proofs.Common.{◌≡◌, inl, inr, ℕ, suc, ◌+◌, ◌-◌, ◌≤◌, max, List, [], ◌∷◌, length, slice_get, Some, Ok, refl, sym, ap, ◌∙◌, subst, arith, IsSomeAnd}
 use Rattle.std.specs.Option.{option_map_or}
 use Rattle.std.proofs.lemmas.Grind.{common_steps}
 use Rattle.std.proofs.lemmas.Option.{same_Some}
@@ -34,9 +34,6 @@ module _ {T : Type 0} where
       let low = front_reached v key to reached in
       told_is (λ w. StandsAt w key to) (moved v key to) (record { there = there; reached = low }) (record { there = there; reached = low })
 
-  end_moved : (v : View T) (key to : ℕ) → (after v key to).end ≡ v.end
-  end_moved v key to = told_is (λ w. w.end ≡ v.end) (moved v key to) (omega arith) (omega arith)
-
 module _ {T : Type 0} (is_clone : T → T → Type 0) where
   -- ---- one message
   legal_given : (v : View T) (key cursor : ℕ) (given : T) → v.front ≤ cursor → IsHandedOut is_clone v key cursor given → IsReceivedBy is_clone v key (Some cursor) reply.TryRecv (reply.TryRecv (Ok (Ok given)))
@@ -44,13 +41,6 @@ module _ {T : Type 0} (is_clone : T → T → Type 0) where
   legal_given v key cursor given reached (inr owed) =
       let msg = found (kept_at v cursor) (λ msg. is_clone msg given) owed.1 in
       inr (owed.0, inl (msg.0, given, finds v cursor msg.0 reached msg.1, msg.2, refl))
-
-  answers_given : (v : View T) (key cursor : ℕ) (given : T) → IsShown v → StandsAt v key cursor → cursor < v.end → IsHandedOut is_clone v key cursor given → Answers is_clone v (call.TryRecv key) (reply.TryRecv (Ok (Ok given))) (after v key (cursor + 1))
-  answers_given v key cursor given shown at below handed =
-      ends refl shown tt (record {
-        legal = subst (λ o. IsReceivedBy is_clone v key o reply.TryRecv (reply.TryRecv (Ok (Ok given)))) (sym at.there) (legal_given v key cursor given at.reached handed);
-        effect = ap (λ c. settle v (sets c)) (sym (receive_one v key (cursor_of v.control key) cursor at.there at.reached below));
-      }) refl
 
   -- ---- the messages behind it
   handed_moved : (v : View T) (key to number : ℕ) (given : T) → v.front ≤ to → to ≤ number → IsHandedOut is_clone v key number given → IsHandedOut is_clone (moved v key to) key number given
@@ -73,11 +63,6 @@ module _ {T : Type 0} (is_clone : T → T → Type 0) where
         rw (kept_moved v key to number msg.0 reached from msg.1) msg.2,
       )
 
-  handed_after : (v : View T) (key to number : ℕ) (given : T) → v.front ≤ to → to ≤ number → IsHandedOut is_clone v key number given → IsHandedOut is_clone (after v key to) key number given
-  handed_after v key to number given reached from handed =
-      let now = handed_moved v key to number given reached from handed in
-      told_is (λ w. IsHandedOut is_clone w key number given) (moved v key to) now now
-
   -- ---- all of them
   -- what a receiver is given, one after the other, is so many receives
   each_given : (v : View T) (key cursor : ℕ) (given : List T) → IsShown v → StandsAt v key cursor → cursor + length given ≤ v.end → ((i : ℕ) (msg : T) → slice_get given i ≡ Some msg → IsHandedOut is_clone v key (cursor + i) msg)
@@ -90,13 +75,17 @@ module _ {T : Type 0} (is_clone : T → T → Type 0) where
   each_given v key cursor (msg ∷ given) shown at within each =
       let none : cursor + 0 ≡ cursor = omega arith in
       let here = subst (λ n. IsHandedOut is_clone v key n msg) none (each 0 msg refl) in
-      let first = answers_given v key cursor msg shown at (omega (arith, within)) here in
+      let first : Answers is_clone v (call.TryRecv key) (reply.TryRecv (Ok (Ok msg))) (after v key (cursor + 1)) = ends refl shown tt (record {
+        legal = subst (λ o. IsReceivedBy is_clone v key o reply.TryRecv (reply.TryRecv (Ok (Ok msg)))) (sym at.there) (legal_given v key cursor msg at.reached here);
+        effect = ap (λ c. settle v (sets c)) (sym (receive_one v key (cursor_of v.control key) cursor at.there at.reached (omega (arith, within))));
+      }) refl in
       let mid = after v key (cursor + 1) in
       let reached : v.front ≤ cursor + 1 = omega (arith, at.reached) in
-      let end = end_moved v key (cursor + 1) in
+      let end : mid.end ≡ v.end = told_is (λ w. w.end ≡ v.end) (moved v key (cursor + 1)) (omega arith) (omega arith) in
       let behind : (i : ℕ) (next : T) → slice_get given i ≡ Some next → IsHandedOut is_clone mid key (cursor + 1 + i) next = λ i next is.
       (let number : cursor + suc i ≡ cursor + 1 + i = omega arith in
-      subst (λ n. IsHandedOut is_clone mid key n next) number (handed_after v key (cursor + 1) (cursor + suc i) next reached (omega arith) (each (suc i) next is))) in
+      let now = handed_moved v key (cursor + 1) (cursor + 1 + i) next reached (omega arith) (subst (λ n. IsHandedOut is_clone v key n next) number (each (suc i) next is)) in
+      told_is (λ w. IsHandedOut is_clone w key (cursor + 1 + i) next) (moved v key (cursor + 1)) now now) in
       let rest = each_given mid key (cursor + 1) given (shown_after first) (stands_moved v key (cursor + 1) reached) (omega (arith, within, end)) behind in
       let to : cursor + 1 + length given ≡ cursor + length (msg ∷ given) = omega arith in
       let last = after_twice v key (cursor + 1) (cursor + 1 + length given) (valid_shown shown).fits (omega arith) ∙ ap (after v key) to in

@@ -6,8 +6,9 @@ use Rattle.bcast_model.specs.declared.run.Call.{Call}
 use Rattle.bcast_model.specs.declared.run.Call.TheVariants as call
 use Rattle.bcast_model.specs.declared.run.Reply.{Reply}
 use Rattle.bcast_model.specs.declared.run.Reply.TheVariants as reply
-use Rattle.bcast_model.specs.Words.{Control, with_place, has_place, least, NoClone, Legal, View, Found, IsReceivedBy, receive, cursor_of}
-use Rattle.bcast_model.specs.Words.{IsShown, IsValidView, settle, sets, effect, resize}
+use Rattle.bcast_model.specs.Words.{Control, with_place, has_place, least, NoClone, Legal, View, Found}
+use Rattle.bcast_model.specs.Words.{IsReceivedBy, receive, cursor_of, IsShown, IsValidView, settle, sets}
+use Rattle.bcast_model.specs.Words.{effect, resize}
 use Rattle.bcast_model.proofs.Views.{valid_view}
 use Rattle.bcast_core.specs.Parts.{Does}
 use Rattle.bcast_core.proofs.Settle.{settle_stays, settle_same}

@@ -1,5 +1,5 @@
 -- What the calls that make or drop a handle, or add or remove a receiver, do to the view.
-use Rattle.std.proofs.Common.{◌≡◌, inl, inr, ℕ, ◌+◌, ◌-◌, ◌^◌, ◌<◌, ◌≤◌, ◌==◌, not, true, false, Option, Some, None, Result, Ok, Err, is_some, refl, sym, ap, ◌∙◌, subst, arith, eq-eqb, ne_eqb, is_ok}
+use Rattle.std.proofs.Common.{◌≡◌, inl, inr, ℕ, ◌+◌, ◌-◌, ◌^◌, ◌<◌, ◌≤◌, ◌==◌, not, true, false, Option, Some, None, Result, Ok, Err, is_some, refl, sym, ap, ◌∙◌, subst, arith, eq-eqb, ne_eqb}
 use Rattle.std.proofs.lemmas.Grind.{common_steps}
 use Rattle.std.specs.FinMap.{len}
 use Rattle.bcast_model.specs.declared.error.HandleError.{HandleError}
@@ -28,10 +28,6 @@ not_some (Some x) never = absurd (never x refl)
 pub is_there : (o : Option ℕ) → is_some o ≡ true → (x : ℕ) × (o ≡ Some x)
 is_there None e = cc
 is_there (Some x) e = (x, refl)
-
-pub is_gone : (o : Option ℕ) → is_some o ≡ false → o ≡ None
-is_gone None e = refl
-is_gone (Some x) e = cc
 
 module _ {T : Type 0} where
   -- ---- one more
@@ -77,31 +73,29 @@ module _ {T : Type 0} where
   cloned_activated {v = v} end (Ok key) valid is at adds = record { legal = inr (ap not (ne_eqb v.control.inactive 0 is), inl (key, refl, adds.0)); effect = adds.1 ∙ ap (λ n. settle v (sets (with_cursor v.control key n))) at }
   cloned_activated {v = v} end (Err e) valid is at adds = does_nothing valid (inr (ap not (ne_eqb v.control.inactive 0 is), inr (ap (λ x. reply.ActivateCloned (Err x)) adds.0))) refl adds.1
 
-  pub not_added : {v new : View T} (end : ℕ) (r : Result ℕ HandleError) → IsValidView v → (v.control.inactive ≡ 0 → ⊥) → is_ok r ≡ false → Adds v end r new → Does NoClone v call.Activate (reply.Activate r) new
-  not_added end (Ok key) valid is fails adds = cc
-  not_added {v = v} end (Err e) valid is fails adds = does_nothing valid (inr (ap not (ne_eqb v.control.inactive 0 is), inr (ap (λ x. reply.Activate (Err x)) adds.0))) refl adds.1
+  pub not_added : {v new : View T} (end : ℕ) (r : Result ℕ HandleError) → ((key : ℕ) → r ≡ Ok key → ⊥) → Adds v end r new → new ≡ v
+  not_added end (Ok key) never adds = absurd (never key refl)
+  not_added end (Err e) never adds = adds.1
 
-  pub activated : {v : View T} (new : View T) (end : ℕ) (r : Result ℕ HandleError) → (v.control.inactive ≡ 0 → ⊥) → end ≡ v.end → is_ok r ≡ true → Adds v end r new
-      → Does NoClone v call.Activate (reply.Activate r) (record new { control = record new.control { inactive = new.control.inactive - 1 } })
-  activated {v = v} new end (Ok key) is at succeeds adds = record {
-    legal = inr (ap not (ne_eqb v.control.inactive 0 is), inl (key, refl, adds.0));
-    effect = ap (λ (x : View T). record x { control = record x.control { inactive = x.control.inactive - 1 } }) (adds.1 ∙ ap (λ n. settle v (sets (with_cursor v.control key n))) at);
+  pub activated : {v new : View T} (end key : ℕ) → (v.control.inactive ≡ 0 → ⊥) → end ≡ v.end → cursor_of v.control key ≡ None → new ≡ settle v (sets (with_cursor v.control key end))
+      → Does NoClone v call.Activate (reply.Activate (Ok key)) (record new { control = record new.control { inactive = new.control.inactive - 1 } })
+  activated {v = v} end key is at free new_is = record {
+    legal = inr (ap not (ne_eqb v.control.inactive 0 is), inl (key, refl, free));
+    effect = ap (λ (x : View T). record x { control = record x.control { inactive = x.control.inactive - 1 } }) (new_is ∙ ap (λ n. settle v (sets (with_cursor v.control key n))) at);
   }
-  activated new end (Err e) is at succeeds adds = cc
 
   -- ---- receivers that leave
-  closed_settles : (v : View T) (c : Control) → record (settle v (sets c)) { control = close_if_deserted c } ≡ settle v (sets (close_if_deserted c))
-  closed_settles v c =
-      let Settles : Control → Type 0 = λ now. record (settle v (sets c)) { control = now } ≡ settle v (sets now) in
-      deserted_is Settles c (close_is Settles c (λ _. refl) (λ _. refl)) (λ _. refl)
-
   pub receiver_left : {v new : View T} (key : ℕ) → is_some (cursor_of v.control key) ≡ true → new ≡ settle v (sets (without_receiver v.control key))
       → Does NoClone v (call.DropReceiver key) reply.DropReceiver (record new { control = close_if_deserted new.control })
   receiver_left {v = v} key found new_is =
       let at = is_there (cursor_of v.control key) found in
+      let left = without_receiver v.control key in
+      let Settles : Control → Type 0 = λ now. record (settle v (sets left)) { control = now } ≡ settle v (sets now) in
       record {
         legal = refl;
-        effect = ap (λ (x : View T). record x { control = close_if_deserted x.control }) new_is ∙ closed_settles v (without_receiver v.control key) ∙ ap (λ o. settle v (sets (drop_receiver v.control key o))) (sym at.1);
+        effect = ap (λ (x : View T). record x { control = close_if_deserted x.control }) new_is
+            ∙ deserted_is Settles left (close_is Settles left (λ _. refl) (λ _. refl)) (λ _. refl)
+            ∙ ap (λ o. settle v (sets (drop_receiver v.control key o))) (sym at.1);
       }
 
   pub deactivated : {v new : View T} (key cursor : ℕ) → IsValidView v → cursor_of v.control key ≡ Some cursor → (v.control.inactive ≡ 18446744073709551615 → ⊥) → new ≡ settle v (sets (without_receiver v.control key))

@@ -1,11 +1,12 @@
 -- What is seen once a receiver has moved on, and a send was told.
-use Rattle.std.proofs.Common.{◌≡◌, inl, inr, ℕ, ◌+◌, ◌-◌, ◌≤◌, ◌==◌, true, false, cond, [], ◌++◌, length, max, min, drop, Some, slice_get, refl, sym, ap, ◌∙◌, arith, append-nil, length-drop, drop-drop}
+use Rattle.std.proofs.Common.{◌≡◌, inl, inr, ℕ, ◌+◌, ◌-◌, ◌≤◌, true, cond, [], ◌++◌, length, max, drop, Some, slice_get, refl, sym, ap, ◌∙◌, arith, append-nil, length-drop, drop-drop, ◌==◌, false}
 use Rattle.std.proofs.lemmas.Bool.{cases_eq}
 use Rattle.std.proofs.lemmas.Grind.{common_steps}
 use Rattle.std.proofs.lemmas.Option.{same_Some}
-use Rattle.std.specs.FinMap.{get, insert, len, values}
-use Rattle.bcast_model.specs.Words.{Cursors, Listeners, View, cursor_of, kept_at, least, sends_are_ready, sets, settle, tell, tell_a_sender, tell_if_ready, with_cursor}
+use Rattle.std.specs.FinMap.{get, insert, values, len}
+use Rattle.bcast_model.specs.Words.{Cursors, View, cursor_of, kept_at, least, sends_are_ready, sets, settle, tell_a_sender, tell_if_ready, with_cursor}
 pub use Rattle.bcast_model.proofs.Cases.{told_is}
+use Rattle.bcast_model.proofs.Cases.{test_is, told_already}
 use Rattle.bcast_model.proofs.DeliveryMaps.{inserted, inserted_other}
 use Rattle.bcast_model.proofs.Least.{least-le-cursor, least-le-limit, least-greatest, len_insert, len_some}
 use Rattle.bcast_model.proofs.Views.{slice_get-drop}
@@ -25,10 +26,6 @@ least_moved end m key from to rises =
       | inr differs ↦ least-le-cursor end was q c (inserted_other m key from q differs ∙ sym (inserted_other m key to q differs) ∙ is)
     ])
 
--- a send that was told is not told again
-tell_twice : {A : Type 0} (l : Listeners A) → tell 1 (tell 1 l) ≡ tell 1 l
-tell_twice l = let told : max (max l.told (min 1 (length l.ids))) (min 1 (length l.ids)) ≡ max l.told (min 1 (length l.ids)) = omega arith in ap (λ n. record l { told = n }) told
-
 module _ {T : Type 0} where
   -- the receiver `key` has moved on to this number
   abbrev pub moved : View T → ℕ → ℕ → View T
@@ -38,15 +35,6 @@ module _ {T : Type 0} where
   abbrev pub after : View T → ℕ → ℕ → View T
   after v key to = tell_if_ready (moved v key to)
 
-  front_moved : (v : View T) (key from to : ℕ) → from ≤ to → (moved (moved v key from) key to).front ≡ (moved v key to).front
-  front_moved v key from to rises =
-      let w = moved v key from in
-      let end : w.end + 0 ≡ v.end + 0 = omega arith in
-      let low = least_moved (v.end + 0) v.control.cursors key from to rises in
-      ap (λ e. max (max w.front 0) (least e (values (insert w.control.cursors key to)))) end
-      ∙ ap (λ m. max (max w.front 0) (least (v.end + 0) (values m))) (insert_twice v.control.cursors key from to)
-      ∙ omega (arith, low)
-
   moved_twice : (v : View T) (key from to : ℕ) → from ≤ to → moved (moved v key from) key to ≡ moved v key to
   moved_twice v key from to rises =
       let w = moved v key from in
@@ -54,16 +42,21 @@ module _ {T : Type 0} where
       let low = least_moved (v.end + 0) v.control.cursors key from to rises in
       let dropped : w.front - v.front + (new.front - w.front) ≡ new.front - v.front = omega (arith, low) in
       let end : w.end + 0 ≡ new.end = omega arith in
-      settle_to w (sets (with_cursor w.control key to)) new (front_moved v key from to rises)
+      let front : (moved w key to).front ≡ new.front =
+      ap (λ e. max (max w.front 0) (least e (values (insert w.control.cursors key to)))) end
+      ∙ ap (λ m. max (max w.front 0) (least (v.end + 0) (values m))) (insert_twice v.control.cursors key from to)
+      ∙ omega (arith, low) in
+      settle_to w (sets (with_cursor w.control key to)) new front
       (ap (drop (new.front - w.front)) (append-nil w.queue) ∙ drop-drop (new.front - w.front) (w.front - v.front) (v.queue ++ []) ∙ ap (λ n. drop n (v.queue ++ [])) dropped)
       end (ap (λ m. record v.control { cursors = m }) (insert_twice v.control.cursors key from to))
 
   -- ---- readiness
+  -- a receiver that moves on adds no message
+  shorter : (v : View T) (key to : ℕ) → length (moved v key to).queue ≤ length v.queue
+  shorter v key to = omega (arith, length-drop ((moved v key to).front - v.front) (v.queue ++ []), ap length (append-nil v.queue))
+
   full_before : (v : View T) (key to : ℕ) → length v.queue ≤ v.control.capacity → (length (moved v key to).queue == v.control.capacity) ≡ true → (length v.queue == v.control.capacity) ≡ true
-  full_before v key to fits full =
-      let kept = length-drop ((moved v key to).front - v.front) (v.queue ++ []) in
-      let all = ap length (append-nil v.queue) in
-      grind (arith, common_steps, kept, all, fits, full)
+  full_before v key to fits full = let less = shorter v key to in grind (arith, common_steps, less, fits, full)
 
   -- sends that are ready stay so
   ready_moved : (v : View T) (key cursor to : ℕ) → cursor_of v.control key ≡ Some cursor → length v.queue ≤ v.control.capacity → sends_are_ready v ≡ true → sends_are_ready (moved v key to) ≡ true
@@ -76,22 +69,16 @@ module _ {T : Type 0} where
   -- ---- a send is told once
   told_moved : (w : View T) (key to : ℕ) → (sends_are_ready w ≡ true → sends_are_ready (moved w key to) ≡ true) → after (tell_if_ready w) key to ≡ after w key to
   told_moved w key to stays =
-      elim (sends_are_ready w) as (λ b. sends_are_ready w ≡ b → tell_if_ready (moved (cond b (record w { control = tell_a_sender w.control }) w) key to) ≡ tell_if_ready (moved w key to)) [
-        | true ↦ λ ready.
-            let r = stays ready in
-            let told = moved (record w { control = tell_a_sender w.control }) key to in
-            ap (λ b. cond b (record told { control = tell_a_sender told.control }) told) r
-            ∙ ap (λ l. record (moved w key to) { control = record (moved w key to).control { waiting_sends = l } }) (tell_twice w.control.waiting_sends)
-            ∙ sym (ap (λ b. cond b (record (moved w key to) { control = tell_a_sender (moved w key to).control }) (moved w key to)) r)
-        | false ↦ λ _. refl
-      ] refl
+      let told : View T = record w { control = tell_a_sender w.control } in
+      test_is (λ (x : View T). after x key to ≡ after w key to) (sends_are_ready w) told w
+      (λ ready. told_already (moved told key to) (λ _ some. omega arith)
+      ∙ sym (ap (λ b. cond b (record (moved w key to) { control = tell_a_sender (moved w key to).control }) (moved w key to)) (stays ready)))
+      (λ _. refl)
 
   pub after_twice : (v : View T) (key from to : ℕ) → length v.queue ≤ v.control.capacity → from ≤ to → after (after v key from) key to ≡ after v key to
   after_twice v key from to fits rises =
-      let w = moved v key from in
-      let kept = length-drop (w.front - v.front) (v.queue ++ []) in
-      let all = ap length (append-nil v.queue) in
-      told_moved w key to (ready_moved w key from to (inserted v.control.cursors key from) (omega (arith, kept, all, fits)))
+      let less = shorter v key from in
+      told_moved (moved v key from) key to (ready_moved (moved v key from) key from to (inserted v.control.cursors key from) (omega (arith, less, fits)))
       ∙ ap tell_if_ready (moved_twice v key from to rises)
 
   -- ---- what stays

@@ -5,8 +5,7 @@ use Rattle.std.specs.FinMap.{values}
 use Rattle.bcast_store.specs.Stored.{Stored, end_of}
 use Rattle.bcast_model.specs.Words.{Control, has_no_receiver, accepting, least, View, is_full, IsValidView}
 use Rattle.bcast_model.specs.Words.{settle, with_message, with_messages, accept, try_broadcast_reply, sets}
-use Rattle.bcast_model.specs.Words.{offer, try_broadcast_all_reply, accept_all}
-use Rattle.bcast_model.specs.Words.{offer_all}
+use Rattle.bcast_model.specs.Words.{offer, try_broadcast_all_reply, accept_all, offer_all}
 use Rattle.bcast_core.specs.Parts.{seen_of}
 use Rattle.bcast_core.proofs.Settle.{settle_to, settle_same, least_raised, cursors-accepting}
 

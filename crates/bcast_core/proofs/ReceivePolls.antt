@@ -1,5 +1,5 @@
 -- A receive poll, which is answered or waits.
-use Rattle.std.proofs.Common.{◌≡◌, ℕ, true, false, Option, Result, Ok, Err, OnOk, OnErr, refl, sym, ap, subst, ◌∙◌, arith, alloc_error}
+use Rattle.std.proofs.Common.{◌≡◌, ℕ, true, false, Option, Result, Ok, Err, OnOk, OnErr, refl, sym, ap, ◌∙◌, arith, alloc_error}
 use Rattle.std.proofs.lemmas.Grind.{common_steps}
 use Rattle.std.specs.FinMap.{len}
 use Rattle.bcast_model.specs.declared.error.TryRecvError.{TryRecvError}
@@ -9,12 +9,10 @@ use Rattle.bcast_model.specs.declared.run.Call.{Call}
 use Rattle.bcast_model.specs.declared.run.Call.TheVariants as call
 use Rattle.bcast_model.specs.declared.run.Reply.{Reply}
 use Rattle.bcast_model.specs.declared.run.Reply.TheVariants as reply
-use Rattle.bcast_model.specs.Words.{Pair, pair_waits}
-use Rattle.bcast_model.specs.Words.{pair_answered, sets, effect, HasRange, IsValidView, IsReceivedBy, Found, worded}
-use Rattle.bcast_model.specs.Words.{Legal, tell_if_ready, cursor_of}
-use Rattle.bcast_model.specs.Words.{is_empty_reply, receive, receive_poll}
-use Rattle.bcast_model.specs.Words.{try_recv_reply, Steps, settle, View, skipped_to, skipped_count}
-use Rattle.bcast_model.specs.Words.{future_reply, stream_reply, next_reply}
+use Rattle.bcast_model.specs.Words.{Pair, pair_waits, pair_answered, sets, effect, HasRange, IsValidView}
+use Rattle.bcast_model.specs.Words.{IsReceivedBy, Found, worded, Legal, tell_if_ready, cursor_of}
+use Rattle.bcast_model.specs.Words.{is_empty_reply, receive, receive_poll, try_recv_reply, Steps, settle}
+use Rattle.bcast_model.specs.Words.{View, skipped_to, skipped_count, future_reply, stream_reply, next_reply}
 use Rattle.bcast_core.specs.declared.parts.receive.ReceivePoll.{ReceivePoll}
 use Rattle.bcast_core.specs.declared.parts.receive.ReceivePoll.TheVariants as poll
 use Rattle.bcast_core.specs.Telling.{NobodyWaits}
@@ -76,10 +74,7 @@ module _ {T : Type 0} where
   pub receive_steps : {is_clone : T → T → Type 0} (poll : ReceivePoll) (v new : View T) (key skips : ℕ) (kind : Kind) (at : Option ℕ) (found : Found T) → IsValidView v
       → kind ≡ kind_of poll → at ≡ reads_at poll v key → skips ≡ skips_of poll v key → IsPolled is_clone v (key, kind) at found new
       → Steps is_clone v (call_of poll key) (reply_of poll (record { found = found; skips = skips })) new
-  receive_steps {is_clone = is_clone} poll v new key skips kind at found valid kind_is at_is skips_is polled =
-      subst (λ n. Steps is_clone v (call_of poll key) (reply_of poll (record { found = found; skips = n })) new) (sym skips_is)
-      (steps_as poll v new key found valid
-      (subst (λ k. IsPolled is_clone v (key, k) (reads_at poll v key) found new) kind_is (subst (λ o. IsPolled is_clone v (key, kind) o found new) at_is polled)))
+  receive_steps poll v new key skips kind at found valid kind_is at_is skips_is polled = rw skips_is (steps_as poll v new key found valid (rw (kind_is, at_is) at polled))
 
   -- none of their calls is limited by how many receivers there are
   pub receive_range : (poll : ReceivePoll) (key : ℕ) (v : View T) → HasRange {T = T} (call_of poll key) (len v.control.cursors)

@@ -1,7 +1,7 @@
 -- What receives do to the view.
-use Rattle.std.proofs.Common.{◌≡◌, ◌⊎◌, inl, inr, ℕ, ◌+◌, ◌-◌, ◌<◌, ◌≤◌, true, Option, Some, None, Result, Ok, Err, is_some, max, refl, sym, ap, ◌∙◌, arith}
+use Rattle.std.proofs.Common.{◌≡◌, ◌⊎◌, inl, inr, ℕ, ◌+◌, ◌-◌, ◌<◌, ◌≤◌, true, Option, Some, None, Result, Ok, Err, is_some, max, refl, ap, ◌∙◌, arith, sym}
 use Rattle.std.proofs.lemmas.Grind.{common_steps}
-use Rattle.std.proofs.lemmas.Option.{none-some, slice_get_past}
+use Rattle.std.proofs.lemmas.Option.{slice_get_past, none-some}
 use Rattle.std.specs.FinMap.{get}
 use Rattle.bcast_model.specs.declared.error.TryRecvError.{TryRecvError}
 use Rattle.bcast_model.specs.declared.error.TryRecvError.TheVariants as unread
@@ -14,16 +14,15 @@ use Rattle.bcast_model.proofs.Waiting.{test_pair}
 use Rattle.bcast_core.specs.Telling.{is_untold}
 use Rattle.bcast_core.proofs.Settle.{settle_stays, settle_same}
 
-module _ {T : Type 0} (v : View T) (key : ℕ) (at : Option ℕ) (cursor : ℕ) (is : at ≡ Some cursor) (from : v.front ≤ cursor) where
-  -- it changes nothing
-  receive_at_end : v.end ≤ cursor → receive v key at ≡ v.control
-  receive_at_end beyond = grind (arith, common_steps)
-
-  -- one that finds a message moves the cursor past it
-  pub receive_one : cursor < v.end → receive v key at ≡ with_cursor v.control key (cursor + 1)
-  receive_one below = grind (arith, common_steps)
-
 module _ {T : Type 0} where
+  -- a receive at the end changes nothing
+  receive_at_end : (v : View T) (key : ℕ) (at : Option ℕ) (cursor : ℕ) → at ≡ Some cursor → v.front ≤ cursor → v.end ≤ cursor → receive v key at ≡ v.control
+  receive_at_end v key at cursor is from beyond = grind (arith, common_steps)
+
+  -- a receive that finds a message moves the cursor past it
+  pub receive_one : (v : View T) (key : ℕ) (at : Option ℕ) (cursor : ℕ) → at ≡ Some cursor → v.front ≤ cursor → cursor < v.end → receive v key at ≡ with_cursor v.control key (cursor + 1)
+  receive_one v key at cursor is from below = grind (arith, common_steps)
+
   -- whether a receive returns `Empty` doesn't depend on clones
   pub empty_exactly : {is_clone : T → T → Type 0} (v : View T) (key : ℕ) (at : Option ℕ) (answer : Result T TryRecvError)
       → IsReceivedBy is_clone v key at (λ found. found) (Ok answer) → is_empty_reply answer ≡ is_empty_reply (try_recv_reply v at)

@@ -1,5 +1,5 @@
 -- There is room for each receiver's listeners and each pending send, while they come and go.
-use Rattle.std.proofs.Common.{◌≡◌, ℕ, ◌+◌, ◌*◌, ◌<◌, ◌≤◌, true, false, None, is_some, Result, Ok, Err, OnOk, OnErr, sym, ap, ◌∙◌, subst, arith, true≢false, cond, not, ◌&&◌, ◌||◌, Some, refl}
+use Rattle.std.proofs.Common.{◌≡◌, ℕ, ◌+◌, ◌*◌, ◌<◌, ◌≤◌, true, false, None, is_some, Result, Ok, Err, OnOk, OnErr, sym, ap, ◌∙◌, subst, arith, true≢false, cond, Some, refl, not, ◌&&◌, ◌||◌}
 use Rattle.std.proofs.lemmas.Grind.{common_steps}
 use Rattle.std.specs.Ordering.{nat_cmp, eq_by_cmp}
 use Rattle.std.specs.Cmp.{nat_cmp_total, unsigned_tied}
@@ -26,14 +26,25 @@ pub room_inserted : (cursors : Cursors) (key cursor room : ℕ) → 2 * key + 1 
 room_inserted cursors key cursor room own all other h = grind (arith, common_steps, get-insert, same_key)
 
 -- a receiver leaves
-pub room_removed : (cursors : Cursors) (key room : ℕ) → ReceiversHaveRoom cursors room → ReceiversHaveRoom (remove cursors key) room
-room_removed cursors key room all other h = grind (arith, common_steps, get-remove)
+room_without : (cursors : Cursors) (key room : ℕ) → ReceiversHaveRoom cursors room → ReceiversHaveRoom (remove cursors key) room
+room_without cursors key room all other h = grind (arith, common_steps, get-remove)
 
--- a read keeps all receivers, whether it was refused or not
-pub room_read : {T E : Type 0} (r : Result T E) (old new : Stored T) (key cursor room : ℕ) → is_some (get old.cursors key) ≡ true
-    → OnOk r (new ≡ with_cursors old (insert old.cursors key cursor)) → OnErr r (new ≡ old) → ReceiversHaveRoom old.cursors room → ReceiversHaveRoom new.cursors room
-room_read {T = T} (Ok msg) old new key cursor room some ok err all = subst (λ (s : Stored T). ReceiversHaveRoom s.cursors room) (sym ok) (room_inserted old.cursors key cursor room (all key some) all)
-room_read {T = T} (Err e) old new key cursor room some ok err all = subst (λ (s : Stored T). ReceiversHaveRoom s.cursors room) (sym err) all
+module _ {places : Places} {sends : ℕ} where
+  -- a receiver has another cursor
+  pub room_moved : (cursors now : Cursors) (key cursor room : ℕ) → is_some (get cursors key) ≡ true → now ≡ insert cursors key cursor → AllHaveRoom cursors room places sends → AllHaveRoom now room places sends
+  room_moved cursors now key cursor room some is all =
+      subst (λ m. AllHaveRoom m room places sends) (sym is) (record { receivers = room_inserted cursors key cursor room (all.receivers key some) all.receivers; sends = all.sends })
+
+  -- a read keeps all receivers, whether it was refused or not
+  pub room_read : {T E : Type 0} (r : Result T E) (old new : Stored T) (key cursor room : ℕ) → is_some (get old.cursors key) ≡ true
+      → OnOk r (new ≡ with_cursors old (insert old.cursors key cursor)) → OnErr r (new ≡ old) → AllHaveRoom old.cursors room places sends → AllHaveRoom new.cursors room places sends
+  room_read {T = T} (Ok msg) old new key cursor room some ok err all = room_moved old.cursors new.cursors key cursor room some (ap (λ (s : Stored T). s.cursors) ok) all
+  room_read {T = T} (Err e) old new key cursor room some ok err all = subst (λ (s : Stored T). AllHaveRoom s.cursors room places sends) (sym err) all
+
+  -- a receiver leaves
+  pub room_removed : (cursors now : Cursors) (key room : ℕ) → now ≡ remove cursors key → AllHaveRoom cursors room places sends → AllHaveRoom now room places sends
+  room_removed cursors now key room is all =
+      subst (λ m. AllHaveRoom m room places sends) (sym is) (record { receivers = room_without cursors key room all.receivers; sends = all.sends })
 
 -- a receiver that was added and removed at once
 pub remove-insert : (cursors : Cursors) (key cursor : ℕ) → get cursors key ≡ None → remove (insert cursors key cursor) key ≡ cursors
@@ -46,15 +57,14 @@ remove-insert cursors key cursor fresh =
       | false ↦ λ e. refl
     ] refl)
 
-module _ {T : Type 0} where
-  -- the cursors that it has already don't change a store
-  with_own_cursors : (s : Stored T) → least (end_of s) (values s.cursors) ≤ s.front → with_cursors s s.cursors ≡ s
-  with_own_cursors s low = grind (arith, common_steps)
+-- the cursors that it has already don't change a store
+with_own_cursors : {T : Type 0} (s : Stored T) → least (end_of s) (values s.cursors) ≤ s.front → with_cursors s s.cursors ≡ s
+with_own_cursors s low = grind (arith, common_steps)
 
-  -- a receiver that was added and removed at once doesn't change a store
-  pub taken_back : (s : Stored T) (key cursor : ℕ) → get s.cursors key ≡ None → least (end_of s) (values s.cursors) ≤ s.front
-      → with_cursors s (remove (insert s.cursors key cursor) key) ≡ s
-  taken_back s key cursor fresh low = ap (with_cursors s) (remove-insert s.cursors key cursor fresh) ∙ with_own_cursors s low
+-- so it doesn't change a store
+pub taken_back : {T : Type 0} (s : Stored T) (key cursor : ℕ) → get s.cursors key ≡ None → least (end_of s) (values s.cursors) ≤ s.front
+    → with_cursors s (remove (insert s.cursors key cursor) key) ≡ s
+taken_back s key cursor fresh low = ap (with_cursors s) (remove-insert s.cursors key cursor fresh) ∙ with_own_cursors s low
 
 -- ---- pending sends
 -- without places no room is needed

@@ -34,16 +34,13 @@ module _ {T : Type 0} where
     valid_more h calls replies c r run valid last = absurd run
 
     pub valid_end : (h : History T) (calls : List (Call T)) (replies : List (Reply T)) → IsRun is_clone h calls replies → AreValid h calls replies → IsValid (end_of_run h calls replies)
-    valid_end h [] replies run valid = valid
-    valid_end h (d ∷ calls) [] run valid = absurd run
     valid_end h (d ∷ calls) (s ∷ replies) run valid = valid_end (next h d s) calls replies run.1 valid.1
+    valid_end h calls replies run valid = valid
 
     pub polls_wait : (h : History T) (calls : List (Call T)) (replies : List (Reply T)) → IsRun is_clone h calls replies → AreValid h calls replies → AtEachPoint WaitsAsItsTry h calls replies
-    polls_wait h [] replies run valid = tt
-    polls_wait h (c ∷ calls) [] run valid = absurd run
     polls_wait h (c ∷ calls) (r ∷ replies) run valid = (λ poll memory. waits_as_its_try is_clone (view_of h) c r (valid_view h valid.0) run.0 poll memory, polls_wait (next h c r) calls replies run.1 valid.1)
+    polls_wait h calls replies run valid = tt
 
     pub polls_rest : (h : History T) (calls : List (Call T)) (replies : List (Reply T)) → IsRun is_clone h calls replies → AreValid h calls replies → AtEachPoint (ComesToRest is_clone) h calls replies
-    polls_rest h [] replies run valid = comes_to_rest is_clone h [] replies valid run
-    polls_rest h (c ∷ calls) [] run valid = absurd run
     polls_rest h (c ∷ calls) (r ∷ replies) run valid = (comes_to_rest is_clone h (c ∷ calls) (r ∷ replies) valid.0 run, polls_rest (next h c r) calls replies run.1 valid.1)
+    polls_rest h calls replies run valid = comes_to_rest is_clone h calls replies valid run

@@ -7,9 +7,9 @@ use Rattle.bcast_model.specs.declared.run.SendPoll.TheVariants as send
 use Rattle.bcast_model.specs.declared.run.Call.TheVariants as call
 use Rattle.bcast_model.specs.declared.run.Reply.TheVariants as reply
 use Rattle.bcast_model.specs.Words.{consume, same_place, has_place, place_answered, place_waits}
-use Rattle.bcast_model.specs.Words.{tell_a_sender, offer, attempt_send_reply}
-use Rattle.bcast_model.specs.Words.{poll_send, View, sends_are_ready, Answers, IsShown, must_wait}
-use Rattle.bcast_model.specs.Words.{IsValidView, NoClone, sets, tell_if_ready, settle}
+use Rattle.bcast_model.specs.Words.{tell_a_sender, offer, attempt_send_reply, poll_send, View}
+use Rattle.bcast_model.specs.Words.{sends_are_ready, Answers, IsShown, must_wait, IsValidView, NoClone, sets}
+use Rattle.bcast_model.specs.Words.{tell_if_ready, settle}
 use Rattle.bcast_model.proofs.Polls.{attempt_waits}
 use Rattle.bcast_model.proofs.Answers.{shown_after}
 use Rattle.bcast_core.specs.Telling.{NobodyWaits, tell_news}

@@ -2,15 +2,14 @@
 use Rattle.std.proofs.Common.{◌≡◌, ℕ, ◌+◌, ◌-◌, ◌≤◌, Bool, List, [], ◌∷◌, length, max, drop, Some, refl, sym, ap, ◌∙◌, arith, append-nil, length-drop, nat_cmp}
 use Rattle.std.proofs.lemmas.Grind.{common_steps}
 use Rattle.std.specs.FinMap.{get, insert, len, values, entries, find, len-entries, get-entries}
-use Rattle.bcast_model.specs.Words.{Control, Cursors, Places, Pair, close, close_if_deserted}
+use Rattle.bcast_model.specs.Words.{Control, Cursors, Places, Pair, close_if_deserted}
 use Rattle.bcast_model.specs.Words.{least, View}
 use Rattle.bcast_model.specs.Words.{sets, settle}
 pub use Rattle.bcast_model.proofs.Cases.{cursors-close, cursors-accepting}
 use Rattle.bcast_model.proofs.Cases.{deserted_is}
-pub use Rattle.bcast_model.proofs.Lift.{same_view, settle_to, settle_stays, settle_same}
+pub use Rattle.bcast_model.proofs.Lift.{settle_to, settle_stays, settle_same}
 pub use Rattle.bcast_model.proofs.DeliveryMaps.{inserted}
 use Rattle.bcast_model.proofs.Least.{least-le-cursor, least-le-limit, least-greatest, find_head}
-use Rattle.bcast_model.proofs.Lift.{same_view}
 use Rattle.bcast_store.specs.Stored.{Stored, end_of, with_cursors}
 use Rattle.bcast_waiting.specs.Words.{Event}
 use Rattle.bcast_core.specs.Parts.{control_of, seen_of}
@@ -39,9 +38,6 @@ module _ {T : Type 0} where
   -- closing doesn't change the front
   pub low_close_if_deserted : (v : View T) (c : Control) → least v.end (values c.cursors) ≤ v.front → least v.end (values (close_if_deserted c).cursors) ≤ v.front
   low_close_if_deserted v c low = deserted_is (λ x. least v.end (values x.cursors) ≤ v.front) c (rw (cursors-close c) low) (λ _. low)
-
-  pub low_close : (v : View T) → least v.end (values v.control.cursors) ≤ v.front → least v.end (values (close v.control).cursors) ≤ v.front
-  low_close v low = rw (cursors-close v.control) low
 
   -- ---- the state's parts
   -- the messages that no receiver has to read any more are gone

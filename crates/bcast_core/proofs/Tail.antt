@@ -1,20 +1,18 @@
--- The last step of a call, which tells listeners. The proofs of state calls take their lemmas
--- from here.
+-- The last step of a call, which tells listeners.
 use Rattle.std.proofs.Common.{◌≡◌, ℕ, ◌+◌, ◌≤◌, ◌==◌, Bool, true, false, not, refl, sym, ap, ◌∙◌, subst, arith, eq-eqb, ne_eqb}
 use Rattle.std.proofs.lemmas.Grind.{common_steps}
 use Rattle.std.specs.FinMap.{len}
 use Rattle.bcast_model.specs.declared.run.Call.{Call}
 use Rattle.bcast_model.specs.declared.run.Reply.{Reply}
 use Rattle.bcast_model.specs.Words.{no_listeners, Pair, Cursors, Control, closing, close_if_deserted}
-use Rattle.bcast_model.specs.Words.{pair_waits, effect, HasRange, IsValidView}
-use Rattle.bcast_model.specs.Words.{tell_if_ready, Steps}
-use Rattle.bcast_model.specs.Words.{sets, View, Answers, IsShown, Legal}
+use Rattle.bcast_model.specs.Words.{pair_waits, effect, HasRange, IsValidView, tell_if_ready, Steps, sets}
+use Rattle.bcast_model.specs.Words.{View, Answers, IsShown, Legal}
 pub use Rattle.bcast_model.proofs.Answers.{answers_as, shown_after}
 pub use Rattle.bcast_model.proofs.Cases.{told_valid}
 use Rattle.bcast_model.proofs.Cases.{told_is, told_already, close_is, deserted_is}
 use Rattle.bcast_core.specs.Telling.{NobodyWaits, tell_news}
 use Rattle.bcast_core.specs.Parts.{Does}
-pub use Rattle.bcast_core.proofs.Does.{valid_shown, does_begin, does_resize, does_sets, does_nothing}
+pub use Rattle.bcast_core.proofs.Does.{valid_shown, does_begin, does_resize, does_receive, does_sets, does_nothing}
 
 module _ {T : Type 0} where
   -- no send is told if none waits

@@ -178,7 +178,6 @@ impl<T: Drop, N: Notice, A: Allocator + Copy> Parts<T, N, A> {
     /// was one.
     #[inline(always)]
     pub fn remove_receiver(&mut self, key: usize) -> bool
-        requires { IsValidView self.old }
         ensures found { result ≡ is_some (cursor_of self.old.control key) }
         ensures removed { result ≡ true
             → self.new ≡ settle self.old (sets (without_receiver self.old.control key)) }

@@ -2,7 +2,7 @@
 use Rattle.std.proofs.Common.{◌≡◌, ◌≢◌, ℕ, zero, suc, ◌<◌, ◌==◌, Bool, true, false, Option, None, Some, List, [], ◌∷◌, ◌++◌, length, slice_set, refl, ap, sym, ◌∙◌, subst, arith, inl}
 use Rattle.std.specs.List.{All, cons_option}
 use Rattle.std.proofs.lemmas.List.{append-nil, length-set, get_or-set_same, get_or_append_left}
-use Rattle.std.proofs.lemmas.List.Elements.{All-append, All-cons, All-nil, All-head, All-tail}
+use Rattle.std.proofs.lemmas.List.Elements.{All-push, All-nil, All-head, All-tail}
 use Rattle.std.proofs.lemmas.Bool.Decides.{nat_tests}
 use mathlib.Core.List.{IsPrefix}
 use prog.Atomic.{either}
@@ -55,10 +55,8 @@ module _ {X : Type 0} where
   once_more : (log : List (Entry X)) (e : Entry X) → HasEachOnce log → Lacks e.key log → HasEachOnce (log ++ e ∷ [])
   once_more [] e once lacks = (All-nil (Other e.key), tt)
   once_more (x ∷ xs) e once lacks =
-      let other : e.key ≢ x.key = λ same. All-head (Other e.key) x xs lacks (sym same) in (
-        All-append (Other x.key) xs (e ∷ []) once.0 (All-cons (Other x.key) e [] other (All-nil (Other x.key))),
-        once_more xs e once.1 (All-tail (Other e.key) x xs lacks),
-      )
+      let other : e.key ≢ x.key = λ same. All-head (Other e.key) x xs lacks (sym same) in
+      (All-push (Other x.key) xs e once.0 other, once_more xs e once.1 (All-tail (Other e.key) x xs lacks))
 
   -- the step that adds an entry: the cell that the pen brings home was away, so no entry had brought it home
   pub adds_moves : (seen : List (Entry X)) (pen : Nib) (ask : Entry X) → pen.right ≡ may_write → ask.key ≡ pen.key
@@ -71,7 +69,7 @@ module _ {X : Type 0} where
       let here = away right in
       let stays : (key : ℕ) → IsHome cells key → IsHome all key = λ key home. home_stays set pen.key pen.value key (home_stays cells 0 now key home) in
       let own : IsHome all ask.key = rw same (ap (λ (c : Cell). c.1) (get_or-set_same set pen.key (pen.value, true) (0, false) (omega (arith, here.0, length-set cells 0 (now, true))))) in
-      let each = All-append (Home all) log (ask ∷ []) (λ k d less. stays _ (kept.entries k d less)) (All-cons (Home all) ask [] own (All-nil (Home all))) in
+      let each = All-push (Home all) log ask (λ k d less. stays _ (kept.entries k d less)) own in
       let lacks : Lacks ask.key log = λ k d less at. let home = subst (IsHome cells) (at ∙ same) (kept.entries k d less) in absurd (cc (home, here.1)) in
       let still : IsKept all (log ++ ask ∷ []) = record { word = stays 0 kept.word; entries = each; once = once_more log ask kept.once lacks } in
       (home_in cells 0 kept.word, kept.word, (gives, ask ∷ [], None, right, still, inl (refl, refl), (log, before, lacks, refl)))

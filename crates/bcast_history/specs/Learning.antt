@@ -1,17 +1,12 @@
 -- What is learned by who makes a call again that had to wait, and that its receiver is still its own.
 use Rattle.std.specs.Prelude.{◌≡◌, ℕ, false, Some}
-use Rattle.std.proofs.Common.{List, ◌++◌, append_assoc, sym, ap, ◌∙◌}
-use mathlib.Core.List.{IsPrefix}
+use Rattle.std.proofs.Common.{sym, ap, ◌∙◌}
+use base.Growing.{prefix_trans}
 use Rattle.bcast_model.specs.declared.run.Call.{Call}
 use Rattle.bcast_model.specs.declared.run.Reply.{Reply}
 use Rattle.async_broadcast.specs.Ports.{is_answer}
 use Rattle.bcast_history.specs.History.{Opening, end_of}
 use Rattle.bcast_history.specs.Tracker.{Tracker, IsOf, Learns, next_of, number}
-
-pub prefix_trans
-    : {X : Type 0} (xs ys zs : List X) → IsPrefix xs ys → IsPrefix ys zs → IsPrefix xs zs
-prefix_trans xs ys zs p q =
-    (p.0 ++ q.0, sym (append_assoc xs p.0 q.0) ∙ (ap (λ w. w ++ q.0) p.1 ∙ q.1))
 
 module _ {T : Type 0} where
   -- who makes a call again learns of the last one alone

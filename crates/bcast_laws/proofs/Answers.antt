@@ -1,4 +1,4 @@
--- What a receive returns, by the shared messages and the receiver's own cursor; clones receive alike.
+-- A receive returns what the messages and its own cursor say, so a clone receives the same.
 use Rattle.std.proofs.Common.{◌≡◌, inl, inr, ◌≢◌, ℕ, ◌+◌, ◌-◌, ◌≤◌, ◌==◌, true, cond, [], ◌++◌, Option, Some, None, Err, nat_lt, slice_get, refl, sym, ap, ◌∙◌, arith, append-nil, Ok, is_some}
 use Rattle.std.proofs.lemmas.Grind.{common_steps}
 use Rattle.std.proofs.lemmas.Bool.{cases_lt}

@@ -1,5 +1,5 @@
--- How many messages are kept. A closed channel stays closed, each send on it is refused, and one that
--- keeps no message gives its receivers nothing.
+-- How many messages are kept. A closed channel stays closed, each send on it is refused, and if it
+-- keeps no message, it gives its receivers nothing.
 use Rattle.std.proofs.Common.{◌≡◌, true, List, ◌∷◌, ◌&&◌, not, cond, nat_lt, length, Ok, Err, ap, ◌∙◌, inl, inr, ℕ, ◌-◌, ◌≤◌, ◌==◌, max, Option, Some, None, refl, sym, arith, [], map}
 use Rattle.std.proofs.lemmas.Grind.{common_steps}
 use Rattle.std.proofs.lemmas.Bool.{and_parts}

@@ -1,13 +1,9 @@
 -- What each call does to the view keeps a history valid.
-use Rattle.std.proofs.Common.{◌≡◌, inr, ℕ, ◌<◌, ◌≤◌, ◌^◌, ◌==◌, true, false, not, Option, is_some, refl, subst, sym}
+use Rattle.std.proofs.Common.{◌≡◌, inr, ℕ, ◌<◌, ◌≤◌, ◌^◌, ◌==◌, true, false, not, is_some, refl, subst, sym}
 use Rattle.std.specs.FinMap.{len}
-use Rattle.std.specs.Option.{option_map_or}
-use Rattle.bcast_model.specs.Words.{Call, Reply, stream_of, future_of, close, place_ended}
-use Rattle.bcast_model.specs.Words.{pair_ended, cursor_of, with_place}
-use Rattle.bcast_model.specs.Words.{clone_receiver, new_sender, clone_inactive, drop_receiver}
-use Rattle.bcast_model.specs.Words.{deactivate, drop_sender, drop_inactive, receive, skipped_to}
-use Rattle.bcast_model.specs.Words.{receive_poll, is_out_of_memory, chosen_id, View, Legal}
-use Rattle.bcast_model.specs.Words.{sets, effect, resize, HasRange, IsValidView}
+use Rattle.bcast_model.specs.Words.{Call, Reply, stream_of, future_of, cursor_of, clone_receiver}
+use Rattle.bcast_model.specs.Words.{is_out_of_memory, chosen_id, View, Legal, sets, effect, resize}
+use Rattle.bcast_model.specs.Words.{HasRange, IsValidView}
 use Rattle.bcast_model.specs.declared.run.Call.TheVariants as call
 use Rattle.bcast_model.specs.declared.run.Reply.TheVariants as reply
 use Rattle.bcast_model.proofs.Cases.{test_is, uncloned}
@@ -34,38 +30,30 @@ module _ {T : Type 0} (is_clone : T → T → Type 0) where
   keeps_valid (call.TryBroadcast msg) r v valid range legal = keeps_offer v valid msg
   keeps_valid (call.TryBroadcastAll msgs) r v valid range legal = keeps_offer_all v valid msgs
   keeps_valid (call.AttemptSend msg) r v valid range legal = keeps_offer v valid msg
-  keeps_valid call.BeginSend r v valid range legal = keeps_sets v (option_map_or (with_place v.control) (chosen_id r) v.control) (kept_begin_send v valid (chosen_id r))
+  keeps_valid call.BeginSend r v valid range legal = keeps_sets (kept_begin_send v valid (chosen_id r))
   keeps_valid (call.PollSend place msg) r v valid range legal = keeps_poll_send v valid place msg
-  keeps_valid (call.EndSend place) r v valid range legal = keeps_sets v (place_ended v.control place) (kept_end_send v valid place)
-  keeps_valid (call.TryRecv key) r v valid range legal = keeps_unless v valid r (receive v key (cursor_of v.control key)) (kept_receive v valid key (cursor_of v.control key) refl)
-  keeps_valid (call.PollFuture key) r v valid range legal =
-      keeps_unless v valid r (receive_poll v (future_of key) (cursor_of v.control key)) (kept_poll v valid (future_of key) (cursor_of v.control key) refl)
-  keeps_valid (call.EndFuture key) r v valid range legal = keeps_sets v (pair_ended v.control (future_of key)) (kept_pair_dropped v valid (future_of key))
-  keeps_valid (call.PollRecv key) r v valid range legal =
-      keeps_unless v valid r (receive_poll v (stream_of key) (cursor_of v.control key)) (kept_poll v valid (stream_of key) (cursor_of v.control key) refl)
-  keeps_valid (call.PollNext key) r v valid range legal =
-      let cursor : Option ℕ = skipped_to v.front (cursor_of v.control key) in
-      keeps_unless v valid r (receive_poll v (stream_of key) cursor) (kept_poll_next v valid (stream_of key) (cursor_of v.control key) refl)
-  keeps_valid call.Close r v valid range legal = keeps_sets v (close v.control) (let k = kept_idle v valid in kept_close v v.control k.sound k.fits)
+  keeps_valid (call.EndSend place) r v valid range legal = keeps_sets (kept_end_send v valid place)
+  keeps_valid (call.TryRecv key) r v valid range legal = keeps_unless v valid r (kept_receive v valid key (cursor_of v.control key) refl)
+  keeps_valid (call.PollFuture key) r v valid range legal = keeps_unless v valid r (kept_poll v valid (future_of key) (cursor_of v.control key) refl)
+  keeps_valid (call.EndFuture key) r v valid range legal = keeps_sets (kept_pair_dropped v valid (future_of key))
+  keeps_valid (call.PollRecv key) r v valid range legal = keeps_unless v valid r (kept_poll v valid (stream_of key) (cursor_of v.control key) refl)
+  keeps_valid (call.PollNext key) r v valid range legal = keeps_unless v valid r (kept_poll_next v valid (stream_of key) (cursor_of v.control key) refl)
+  keeps_valid call.Close r v valid range legal = keeps_sets (kept_close v v.control (kept_idle v valid).sound valid.fits)
   keeps_valid (call.SetCapacity n) r v valid range legal = test_is (KeepsValid v) (is_out_of_memory r) (sets v.control) (resize v n)
-      (λ _. keeps_sets v v.control (kept_idle v valid))
+      (λ _. keeps_sets (kept_idle v valid))
       (λ memory. keeps_resize v valid n (range memory).0 (range memory).1)
-  keeps_valid (call.SetOverflow on) r v valid range legal = keeps_sets v (record v.control { overflow = on }) (kept_settings v valid on v.control.await_active)
-  keeps_valid (call.SetAwaitActive on) r v valid range legal = keeps_sets v (record v.control { await_active = on }) (kept_settings v valid v.control.overflow on)
-  keeps_valid call.NewSender r v valid range legal = keeps_sets v (new_sender v.control) (kept_new_sender v valid)
-  keeps_valid call.CloneInactive r v valid range legal = keeps_sets v (clone_inactive v.control) (kept_clone_inactive v valid)
-  keeps_valid (call.Deactivate key) r v valid range legal = keeps_sets v (deactivate v.control key (cursor_of v.control key)) (kept_deactivate v valid key (cursor_of v.control key))
-  keeps_valid call.NewReceiver r v valid range legal = keeps_sets v (with_new v (chosen_id r))
-      (kept_made v valid (with_new v) true reply.NewReceiver r (inr (refl, legal)) (kept_new_receiver v valid) (λ _. kept_idle v valid) range)
-  keeps_valid call.Activate r v valid range legal = keeps_sets v (with_activated v (chosen_id r))
-      (kept_made v valid (with_activated v) (not (v.control.inactive == 0)) reply.Activate r legal (kept_activate v valid) (λ _. kept_idle v valid) range)
-  keeps_valid call.ActivateCloned r v valid range legal = keeps_sets v (with_new v (chosen_id r))
-      (kept_made v valid (with_new v) (not (v.control.inactive == 0)) reply.ActivateCloned r legal (kept_new_receiver v valid) (λ _. kept_idle v valid) range)
-  keeps_valid (call.CloneReceiver key) r v valid range legal = keeps_sets v (clone_receiver v.control (cursor_of v.control key) (chosen_id r))
-      (kept_made v valid (clone_receiver v.control (cursor_of v.control key)) (is_some (cursor_of v.control key)) reply.CloneReceiver r legal
+  keeps_valid (call.SetOverflow on) r v valid range legal = keeps_sets (kept_settings v valid on v.control.await_active)
+  keeps_valid (call.SetAwaitActive on) r v valid range legal = keeps_sets (kept_settings v valid v.control.overflow on)
+  keeps_valid call.NewSender r v valid range legal = keeps_sets (kept_new_sender v valid)
+  keeps_valid call.CloneInactive r v valid range legal = keeps_sets (kept_clone_inactive v valid)
+  keeps_valid (call.Deactivate key) r v valid range legal = keeps_sets (kept_deactivate v valid key (cursor_of v.control key))
+  keeps_valid call.NewReceiver r v valid range legal = keeps_sets (kept_made v valid (with_new v) true reply.NewReceiver r (inr (refl, legal)) (kept_new_receiver v valid) (λ _. kept_idle v valid) range)
+  keeps_valid call.Activate r v valid range legal = keeps_sets (kept_made v valid (with_activated v) (not (v.control.inactive == 0)) reply.Activate r legal (kept_activate v valid) (λ _. kept_idle v valid) range)
+  keeps_valid call.ActivateCloned r v valid range legal = keeps_sets (kept_made v valid (with_new v) (not (v.control.inactive == 0)) reply.ActivateCloned r legal (kept_new_receiver v valid) (λ _. kept_idle v valid) range)
+  keeps_valid (call.CloneReceiver key) r v valid range legal = keeps_sets (kept_made v valid (clone_receiver v.control (cursor_of v.control key)) (is_some (cursor_of v.control key)) reply.CloneReceiver r legal
       (λ made. kept_clone_receiver v valid key (cursor_of v.control key) made refl) (λ _. subst (IsKept v) (sym (uncloned v.control (cursor_of v.control key))) (kept_idle v valid)) range)
-  keeps_valid call.DropSender r v valid range legal = keeps_sets v (drop_sender v.control) (kept_drop_sender v valid)
-  keeps_valid call.DropInactive r v valid range legal = keeps_sets v (drop_inactive v.control) (kept_drop_inactive v valid)
-  keeps_valid (call.DropReceiver key) r v valid range legal = keeps_sets v (drop_receiver v.control key (cursor_of v.control key)) (kept_drop_receiver v valid key (cursor_of v.control key))
+  keeps_valid call.DropSender r v valid range legal = keeps_sets (kept_drop_sender v valid)
+  keeps_valid call.DropInactive r v valid range legal = keeps_sets (kept_drop_inactive v valid)
+  keeps_valid (call.DropReceiver key) r v valid range legal = keeps_sets (kept_drop_receiver v valid key (cursor_of v.control key))
   -- the calls that read
-  keeps_valid reads r v valid range legal = keeps_sets v v.control (kept_idle v valid)
+  keeps_valid reads r v valid range legal = keeps_sets (kept_idle v valid)

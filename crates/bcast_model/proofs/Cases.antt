@@ -1,5 +1,5 @@
 -- The conditional parts of a call, and its replies, each by its cases.
-use Rattle.std.proofs.Common.{◌≡◌, ℕ, ◌+◌, ◌<◌, ◌≤◌, ◌==◌, ◌&&◌, Bool, true, false, cond, length, Option, Some, None, Result, Ok, Err, not, nat_lt, inl, inr, refl, sym, subst, arith, ◌-◌, alloc_error}
+use Rattle.std.proofs.Common.{◌≡◌, ℕ, ◌+◌, ◌<◌, ◌≤◌, ◌==◌, ◌&&◌, Bool, true, false, cond, length, Option, Some, None, Result, Ok, Err, OnErr, not, nat_lt, inl, inr, refl, sym, subst, arith, ◌-◌, alloc_error}
 use Rattle.std.proofs.lemmas.Grind.{common_steps}
 use Rattle.std.specs.FinMap.{get}
 use Rattle.bcast_model.specs.Words.{IsMadeFrom, IsReceivedBy, Found, IsOwed, HandleError, Cursors}
@@ -18,6 +18,11 @@ use Rattle.bcast_model.specs.declared.error.TryRecvError.TheVariants as unread
 pub test_is : {A : Type 0} (P : A → Type 0) (b : Bool) (x y : A) → (b ≡ true → P x) → (b ≡ false → P y) → P (cond b x y)
 test_is P true x y holds fails = holds refl
 test_is P false x y holds fails = fails refl
+
+-- what holds in any case holds if a call returned an error
+pub on_err : {A E P : Type 0} (result : Result A E) → P → OnErr result P
+on_err (Ok value) holds = tt
+on_err (Err error) holds = holds
 
 pub close_is : (P : Control → Type 0) (c : Control) → (c.closed ≡ true → P c) → (c.closed ≡ false → P (closing c)) → P (close c)
 close_is P c was now = test_is P c.closed c (closing c) was now

@@ -1,4 +1,4 @@
--- Fewer clones, and what a receive hands out.
+-- If more counts as a clone, a reply stays legal; a receive hands out a kept message, or a clone.
 use Rattle.std.proofs.Common.{inl, inr, ℕ, Option, List, ◌∷◌, Result, Ok, sym, ap, ◌∙◌, ◌≡◌, ◌-◌, Bool, true, false, cond, Some, None, Err, nat_lt, slice_get, refl, subst, IsSomeAnd, alloc_error}
 use Rattle.futures.specs.declared.task.Poll.TheVariants as poll
 use Rattle.bcast_model.specs.Words.{TryRecvError, Call, Reply, History, view_of, Legal, IsGiven}

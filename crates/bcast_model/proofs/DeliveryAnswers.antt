@@ -15,7 +15,7 @@ use Rattle.bcast_model.proofs.DeliveryLists.{all_from_missed, all_from_append}
 use Rattle.bcast_model.proofs.Cases.{lagging_reply, passed_reply, lagging_receive, passed_receive}
 
 module _ {T : Type 0} where
-  -- what is handed out for the message of this number: the message, from the front on; None before it
+  -- what is handed out for the message of this number: None before the front, then the message
   abbrev pub IsGivenAt : (T → T → Type 0) → History T → ℕ → Option T → Type 0
   IsGivenAt is_clone h number None = number < front_number h
   IsGivenAt is_clone h number (Some given) = (front_number h ≤ number) × IsSomeAnd (numbered h number) (λ accepted. IsGiven is_clone accepted given)

@@ -1,4 +1,4 @@
--- Lists of deliveries, and parts of lists.
+-- An entry of two joined lists is in one of them; what holds of each entry, beside its number.
 use Rattle.std.proofs.Common.{◌≡◌, ◌⊎◌, inl, inr, ℕ, zero, suc, ◌+◌, ◌-◌, ◌<◌, ◌≤◌, List, [], ◌∷◌, ◌++◌, length, replicate, Option, Some, None, slice_get, ap, ◌∙◌, subst, arith}
 use Rattle.std.proofs.lemmas.Option.{none-some, same_Some}
 use Rattle.bcast_model.specs.Words.{AllFrom}

@@ -1,4 +1,4 @@
--- What the steps of a call that accepts no message keep.
+-- Each step of a call that accepts no message keeps the channel valid.
 use Rattle.std.proofs.Common.{◌≡◌, inl, inr, ℕ, ◌+◌, ◌^◌, ◌<◌, ◌≤◌, Bool, true, false, length, Some, refl, sym, subst, arith, length-append, length-drop}
 use Rattle.std.proofs.lemmas.Grind.{common_steps}
 use Rattle.std.specs.FinMap.{get, insert, len}
@@ -23,17 +23,6 @@ module _ {T : Type 0} (v : View T) (c : Control) where
     attended = record { sender = λ _. grind (arith, common_steps, e); receiver = λ _. grind (arith, common_steps, e); open_end = open_end };
     fits = fits;
   })
-
-  -- a call that changes only the control
-  pub keeps_sets : IsKept v c → KeepsValid v (sets c)
-  keeps_sets kept =
-      let e : v.end + 0 ≡ v.end = omega arith in
-      record {
-        floor = inl refl;
-        fits = simp (length-drop, length-append) (omega (arith, kept.fits));
-        sound = subst (λ n. IsSound v n c) (sym e) kept.sound;
-        attended = subst (IsAttended c.closed c.senders (len c.cursors) c.inactive) (sym e) kept.attended;
-      }
 
   -- ---- the lists of listeners
   pub kept_receives : (l : Listeners Pair) → AreReceives c.cursors c.closed v.end l → IsKept v c → IsKept v (record c { waiting_receives = l })
@@ -61,6 +50,18 @@ module _ {T : Type 0} (v : View T) (c : Control) where
             (record { positive = sizes.positive; within = sizes.within; room_fits = sizes.room_fits; receivers_fit = sizes.receivers_fit; senders_fit = few; inactive_fit = less; end_fits = sizes.end_fits }) kept.sound;
         attended = record { sender = sender; receiver = receiver; open_end = kept.attended.open_end };
         fits = kept.fits;
+      }
+
+module _ {T : Type 0} where
+  -- a call that changes only the control
+  pub keeps_sets : {v : View T} {c : Control} → IsKept v c → KeepsValid v (sets c)
+  keeps_sets {v = v} {c = c} kept =
+      let e : v.end + 0 ≡ v.end = omega arith in
+      record {
+        floor = inl refl;
+        fits = simp (length-drop, length-append) (omega (arith, kept.fits));
+        sound = subst (λ n. IsSound v n c) (sym e) kept.sound;
+        attended = subst (IsAttended c.closed c.senders (len c.cursors) c.inactive) (sym e) kept.attended;
       }
 
 module _ {T : Type 0} (v : View T) (valid : IsValidView v) where

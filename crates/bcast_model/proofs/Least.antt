@@ -1,4 +1,4 @@
--- The least cursor.
+-- The least of the end and the cursors is at most each of them, and no lower bound is above it.
 use Rattle.std.proofs.Common.{◌≡◌, ℕ, ◌<◌, ◌≤◌, Bool, true, false, cond, List, [], ◌∷◌, length, map, min, Some, None, refl, sym, ◌∙◌, arith, nat_cmp, T, ◌&&◌, nat_lt, ◌==◌, is_lt}
 use Rattle.std.proofs.lemmas.Grind.{common_steps}
 use Rattle.std.specs.Cmp.{unsigned_tied}

@@ -16,7 +16,7 @@ use Rattle.bcast_model.proofs.Waiting.{test_place, AreSends}
 use Rattle.bcast_model.proofs.Sound.{IsAttended, IsNoLower, IsSound}
 use Rattle.bcast_model.proofs.Views.{first_under, valid_view}
 
--- an effect that keeps a history valid, since a send is told at the end of the call if sends are ready
+-- an effect that keeps a history valid, since the end of the call tells a send if sends are ready
 pub record KeepsValid {T : Type 0} (v : View T) (e : Effect T) : Type 0 where
   pub floor : (e.floor ≡ 0) ⊎ (e.floor < v.end + length e.accepted)
   pub fits : length (settle v e).queue ≤ e.control.capacity

@@ -1,4 +1,4 @@
--- What calls keep by which handles are made or leave, or which change settings.
+-- A call that makes a handle, drops one, or changes a setting keeps the channel valid.
 use Rattle.std.proofs.Common.{◌≡◌, ◌⊎◌, inl, inr, ℕ, ◌+◌, ◌-◌, ◌^◌, ◌<◌, ◌≤◌, ◌==◌, ◌||◌, Bool, not, [], ◌++◌, length, max, drop, Option, Some, None, Result, Ok, Err, nat_lt, refl, sym, ◌∙◌, arith, length-append, length-drop}
 use Rattle.std.proofs.lemmas.Grind.{common_steps}
 use Rattle.std.proofs.lemmas.Option.{none-some}
@@ -17,7 +17,7 @@ use Rattle.bcast_model.proofs.Kept.{kept_idle, kept_cursor, kept_counts, kept_de
 use Rattle.bcast_model.proofs.Waiting.{receives_abandoned}
 
 module _ {T : Type 0} where
-  -- a new receiver under the key that a reply gives, if it gives one; and one inactive receiver fewer
+  -- a new receiver under the key that a reply gives, if any; and one inactive receiver fewer
   abbrev pub with_new : View T → Option ℕ → Control
   with_new v id = option_map_or (λ key. with_cursor v.control key v.end) id v.control
 

@@ -78,7 +78,7 @@ module _ {T : Type 0} where
         is,
       )
 
-  -- if no message is kept, the history begins at the front; else the gone ones are copies of the oldest
+  -- if no message is kept, the history begins at the front; else those gone copy the oldest one
   view_shown : (v : View T) → IsValidView v → IsShown v
   view_shown v valid = by v.queue refl
     where

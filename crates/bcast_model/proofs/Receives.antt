@@ -1,4 +1,4 @@
--- What receives keep, and the polls of receivers.
+-- A receive and a receive poll keep the channel valid; a poll that waits had read all messages.
 use Rattle.std.proofs.Common.{◌≡◌, inl, inr, ℕ, ◌+◌, ◌-◌, ◌<◌, ◌≤◌, Bool, true, false, length, max, Option, Some, None, Err, slice_get, refl, sym, ap, ◌∙◌, arith}
 use Rattle.std.proofs.lemmas.Grind.{common_steps}
 use Rattle.std.proofs.lemmas.Bool.{cases_lt}
@@ -99,5 +99,5 @@ module _ {T : Type 0} where
           | inr here ↦ omega arith
         ])
 
-    pub keeps_unless : (r : Reply T) (c : Control) → IsKept v c → KeepsValid v (set_unless_refused v r c)
-    keeps_unless r c idle = test_is (KeepsValid v) (is_out_of_memory r) (sets v.control) (sets c) (λ _. keeps_sets v v.control (kept_idle v valid)) (λ _. keeps_sets v c idle)
+    pub keeps_unless : {c : Control} (r : Reply T) → IsKept v c → KeepsValid v (set_unless_refused v r c)
+    keeps_unless {c = c} r kept = test_is (KeepsValid v) (is_out_of_memory r) (sets v.control) (sets c) (λ _. keeps_sets (kept_idle v valid)) (λ _. keeps_sets kept)

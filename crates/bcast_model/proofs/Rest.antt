@@ -48,14 +48,11 @@ module _ {A : Type 0} (same : A → A → Bool) (test : IsTest same) (id : A) (l
   pub one_gone : length (consume same id l).ids + 1 ≡ length l.ids
   one_gone = consume_listed same test id l in_order (told_listed same test id l told)
 
-  told_apart : is_in same id (untold_ids l) ≡ false
-  told_apart = distinct_apart same test id (told_ids l) (untold_ids l) (subst (IsDistinct same) (sym (take-append-drop l.told l.ids)) in_order.distinct) told
-
   pub waits_last : (length (wait_again same id l).ids ≡ length l.ids) × ((wait_again same id l).told + 1 ≡ l.told)
   waits_last =
+      let apart : is_in same id (untold_ids l) ≡ false = distinct_apart same test id (told_ids l) (untold_ids l) (subst (IsDistinct same) (sym (take-append-drop l.told l.ids)) in_order.distinct) told in
       let gone = one_gone in
       let some = told_some same test id l told in
-      let apart = told_apart in
       let size = length-append (without same id l.ids) (id ∷ []) in
       rw (apart, told) (omega (arith, gone, size), omega (arith, some))
 

@@ -1,5 +1,5 @@
--- What a send of a whole list keeps; and calls that leave the cursors and the capacity, and open no
--- channel.
+-- A send of a whole list keeps the channel valid. Sends, and calls that count senders, leave the
+-- cursors and the capacity, and open no channel.
 use Rattle.std.proofs.Common.{◌≡◌, inl, ℕ, ◌+◌, ◌-◌, ◌^◌, ◌<◌, ◌≤◌, true, false, cond, List, [], ◌∷◌, length, nat_lt, Ok, Err, refl, subst, arith, length-append, length-drop, is_ok, Result, ◌==◌, ◌||◌, not, Option, Some, None}
 use Rattle.std.proofs.lemmas.Grind.{common_steps}
 use Rattle.std.specs.Option.{option_map_or}
@@ -58,7 +58,7 @@ module _ {T : Type 0} where
         }
 
     pub keeps_offer_all : (msgs : List T) → KeepsValid v (offer_all v msgs)
-    keeps_offer_all msgs = offer_all_is (KeepsValid v) v msgs (keeps_sets v v.control (kept_idle v valid))
+    keeps_offer_all msgs = offer_all_is (KeepsValid v) v msgs (keeps_sets (kept_idle v valid))
         (λ msg rest is e. keeps_accept_all msg rest (subst (λ list. IsRoomy v (length list)) is (roomy v msgs e)))
 
 -- ---- the parts of a call

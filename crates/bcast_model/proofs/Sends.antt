@@ -1,4 +1,4 @@
--- What sends keep.
+-- A send, and each step of a pending one, keeps the channel valid.
 use Rattle.std.proofs.Common.{◌≡◌, ◌≢◌, ◌⊎◌, inl, inr, ℕ, ◌+◌, ◌-◌, ◌^◌, ◌<◌, ◌≤◌, ◌&&◌, true, false, cond, not, [], ◌∷◌, ◌++◌, length, max, drop, Option, Some, None, Ok, Err, refl, arith, length-append, length-drop, is_ok}
 use Rattle.std.proofs.lemmas.Grind.{common_steps}
 use Rattle.std.specs.FinMap.{len, values}
@@ -62,7 +62,7 @@ module _ {T : Type 0} where
         }
 
     pub keeps_offer : (msg : T) → KeepsValid v (offer v msg)
-    keeps_offer msg = test_is (KeepsValid v) (is_ok (try_broadcast_reply v msg)) (accept v msg) (sets v.control) (λ e. keeps_accept msg (open_offer v msg e)) (λ _. keeps_sets v v.control (kept_idle v valid))
+    keeps_offer msg = test_is (KeepsValid v) (is_ok (try_broadcast_reply v msg)) (accept v msg) (sets v.control) (λ e. keeps_accept msg (open_offer v msg e)) (λ _. keeps_sets (kept_idle v valid))
 
     -- ---- pending sends
     pub kept_begin_send : (place : Option ℕ) → IsKept v (option_map_or (with_place v.control) place v.control)
@@ -95,5 +95,5 @@ module _ {T : Type 0} where
     keeps_poll_send place msg =
         let waits : Effect T = sets (place_waits v.control place) in
         test_is (KeepsValid v) (has_place v.control place) (cond (sends_are_ready v) (with_place_answered (offer v msg) place) waits) (sets v.control)
-        (λ there. test_is (KeepsValid v) (sends_are_ready v) (with_place_answered (offer v msg) place) waits (λ _. keeps_answered place msg) (λ _. keeps_sets v (place_waits v.control place) (kept_waits place there)))
-        (λ _. keeps_sets v v.control (kept_idle v valid))
+        (λ there. test_is (KeepsValid v) (sends_are_ready v) (with_place_answered (offer v msg) place) waits (λ _. keeps_answered place msg) (λ _. keeps_sets (kept_waits place there)))
+        (λ _. keeps_sets (kept_idle v valid))

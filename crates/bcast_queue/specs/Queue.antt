@@ -1,6 +1,5 @@
 -- What a contract sees of a `Queue`, and what its calls do to it. An index counts from the front.
-use Rattle.std.specs.Prelude.{ℕ, ◌+◌, ◌-◌, ◌==◌, List, ◌++◌, map, take, drop, slice_index, slice_set, count_by, if◌then◌else◌, refl}
-use Rattle.std.specs.Coded.{Coded, code_by, coded×, coded_list, coded_ℕ}
+use Rattle.std.specs.Prelude.{ℕ, ◌+◌, ◌-◌, ◌==◌, List, ◌++◌, map, take, drop, slice_index, slice_set, count_by, if◌then◌else◌}
 pub use Rattle.circular_buffer.specs.Buffer.{last_item}
 
 -- `Inner`: the first message's number, the messages, how many readers owe each, and how many fit
@@ -23,16 +22,6 @@ module _ {X : Type 0} where
   abbrev pub queue_with : ℕ → List X → List ℕ → ℕ → Queued X
   queue_with front messages owed room =
       record { front = front; messages = messages; owed = owed; room = room }
-
-  -- how a queue is coded, by its parts
-  abbrev pub queue_code : Coded X → Coded (Queued X)
-  queue_code c =
-      code_by
-      (ℕ × (List X × (List ℕ × ℕ)))
-      (coded× coded_ℕ (coded× (coded_list c) (coded× (coded_list coded_ℕ) coded_ℕ)))
-      (λ q. (q.front, (q.messages, (q.owed, q.room))))
-      (λ p. queue_with p.0 p.1.0 p.1.1.0 p.1.1.1)
-      (λ _. refl)
 
   -- the queue without its first n messages
   abbrev pub without : ℕ → Queued X → Queued X

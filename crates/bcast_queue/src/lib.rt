@@ -39,11 +39,9 @@ pub struct Queue<T, A: Allocator = Global> {
 }
 
 impl<T, A: Allocator> Model for Queue<T, A> {
-    ghost use Rattle.bcast_queue.specs.Queue.{Queued, queue_code};
+    ghost use Rattle.bcast_queue.specs.Queue.{Queued};
 
     ghost Value = { Queued T };
-
-    ghost coded = { queue_code T.code };
 
     ghost use Rattle.bcast_queue.specs.Entries.{queue_of, IsSound};
 

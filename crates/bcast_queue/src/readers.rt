@@ -48,8 +48,8 @@ impl<T, A: Allocator> Queue<T, A> {
         add_readers(&mut self.ring, &mut self.total, index + count, 1, steps);
     }
 
-    /// Takes out those of the `count` messages from `index` on that one reader alone owes, puts them
-    /// last into `msgs`, which has room for them, and returns how many they are.
+    /// Takes out those of the `count` messages from `index` on that one reader alone owes, puts
+    /// them last into `msgs`, which has room for them, and returns how many they are.
     ///
     /// They are the first ones. At an `index` above 0 there are none, since who owes the message
     /// before it owes these, too.

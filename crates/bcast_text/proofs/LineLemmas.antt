@@ -26,3 +26,6 @@ last_line a b text some not stops p last = grind (arith, common_steps, no_lf)
 pub long_line : (a b : Option (List ℕ)) (text : List ℕ) (longest : ℕ) → longest < length text → get_or text (length text - 1) 0 ≢ 10
     → StopsAt text 10 → Consumes a b text → BeginsTooLong longest a
 long_line a b text longest long not stops p = grind (arith, common_steps, no_lf text not stops)
+
+-- what the check needs for the next line
+pub ruleset lines_read = (ended_line, last_line, long_line)

@@ -2,7 +2,7 @@
 use Rattle.std.proofs.Common.{rules, arith, sym, ap, ◌∙◌, IfSome, ◌≡◌, ◌≢◌, ◌<◌, ◌^◌, ℕ, length, List, get_or, suc, zero, Result, Ok, Err, decimal}
 use Rattle.std.specs.Result.{result_ok}
 use Rattle.std.specs.Str.Parse.{ParsesUnsigned, AllDigits, digits_value}
-use Rattle.std.proofs.lemmas.Fmt.{decimal-digits_value, first_decimal, decimal_digit, decimal_is_IsNumeral}
+use Rattle.std.proofs.lemmas.Fmt.{decimal-digits_value, first_decimal, decimal_digit, decimal_is_IsNumeral, decimal_nonempty}
 use Rattle.std.proofs.lemmas.Str.Parse.{IsNumeralModel, numerals_by_value, parse_plain, not_in_digits, tells_digits}
 
 -- how std's numerals are read here
@@ -24,3 +24,6 @@ no_plus bs n small e = let d = decimal_is_IsNumeral n small in rw e (not_in_digi
 pub no_leading_zero : (bs : List ℕ) (n : ℕ) → n < 2 ^ 64 → bs ≡ decimal n → get_or bs 0 0 ≡ 48 → length bs ≡ 1
 no_leading_zero bs zero small e z = rw e (search (rules, decimal_digit 0 (omega arith)))
 no_leading_zero bs (suc n) small e z = let f = first_decimal (suc n) (omega arith) small in let same = e in grind (arith, f, same)
+
+-- what the check needs for words that spell a number
+pub ruleset plain_words = (no_plus, no_leading_zero, decimal_nonempty)

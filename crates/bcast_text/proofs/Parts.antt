@@ -24,3 +24,6 @@ pub whole_both : (old new : List ℕ) → StartsWith new old → (a b c : Option
     → IsEmptyOrEndsWith (drop (length old) new) 10
     → (length (drop (length old) new) ≡ 0 → OnSome b (IsAtEnd c)) → EndsOrIsLast new a c
 whole_both old new front a b c p ends last = grind (arith, common_steps)
+
+-- what the check needs for parts that are read one after the other
+pub ruleset parts = (Consumes_both, StopsAt_both, All_both, whole_both)

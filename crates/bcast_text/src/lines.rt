@@ -68,6 +68,7 @@ impl<R: Read + Drop, A: Allocator + Clone> Lines<R, A> {
     /// # Errors
     ///
     /// - The error of a read that failed.
+    #[tactic(auto, using(crate::proofs::LineLemmas::lines_read))]
     pub fn next(&mut self) -> io::Result<Found>
         ensures line { result ≡ Ok Found.Line → ReadsLines (unread R.remaining self.old)
             (text_of self.new ∷ []) (unread R.remaining self.new) }
@@ -105,6 +106,7 @@ fn ends_with_lf(text: &[u8]) -> bool
 
 /// Moves bytes of `input` into the empty `text`: those up to the first LF and the LF, or all if
 /// there is none, but at most `most`.
+#[tactic(auto, using(crate::proofs::Parts::parts))]
 fn read_through<B: BufRead, A: Allocator>(
     input: &mut B,
     most: usize,
@@ -130,6 +132,7 @@ fn read_through<B: BufRead, A: Allocator>(
 
 /// Moves the bytes that `input` has buffered into `text`, up to the first LF, and at most `most`.
 /// Returns whether it met the LF, or the end of the input.
+#[tactic(auto, using(std::proofs::lemmas::Grind::common_steps))]
 fn take_part<B: BufRead, A: Allocator>(
     input: &mut B,
     most: usize,

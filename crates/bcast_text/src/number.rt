@@ -7,7 +7,7 @@ use bcast_model::messages::Messages;
 use std::alloc::{AllocError, Global};
 
 /// The number that `word` spells: decimal, without sign or leading zeros, and at most `u64::MAX`.
-#[tactic(auto, using(crate::proofs::Numbers::no_plus, crate::proofs::Numbers::no_leading_zero, std::proofs::lemmas::Fmt::decimal_nonempty))]
+#[tactic(auto, using(crate::proofs::Numbers::plain_words))]
 pub fn number(word: &str) -> Option<u64>
     ensures spelt { IfSome result (λ n. word.now ≡ decimal n) }
     ensures none { IsNone result → (n : ℕ) → n < 2 ^ 64 → word.now ≢ decimal n }

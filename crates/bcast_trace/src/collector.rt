@@ -38,8 +38,8 @@ impl<A: Allocator + Copy> Collector<A> {
         Ok(())
     }
 
-    /// Makes the calls as one list, and writes line 1 and each call with its reply. `NotACall`: line
-    /// 1 was not read.
+    /// Makes the calls as one list, and writes line 1 and each call with its reply. `NotACall`:
+    /// line 1 was not read.
     fn play<W: Write>(self, output: &mut W) -> Result<(), Fault> {
         let opening = self.opening.ok_or(Fault::NotACall)?;
         let Ok(made) = run(self.alloc, opening.capacity, opening.first, self.list) else {

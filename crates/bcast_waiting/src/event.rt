@@ -28,11 +28,9 @@ pub struct Event<I: Copy + Eq + Indexed, N: Notice, A: Allocator = Global> {
 }
 
 impl<I: Copy + Eq + Indexed, N: Notice, A: Allocator> Model for Event<I, N, A> {
-    ghost use Rattle.bcast_waiting.specs.Event.{Event as Listed, event_code};
+    ghost use Rattle.bcast_waiting.specs.Event.{Event as Listed};
 
     ghost Value = { Listed I };
-
-    ghost coded = { event_code I.code };
 
     ghost use Rattle.bcast_waiting.specs.EventInvariant.{listeners_of, IsKept};
 
@@ -238,7 +236,8 @@ impl<I: Copy + Eq + Indexed, N: Notice, A: Allocator> Event<I, N, A> {
     }
 
     /// Takes out a listener that gave up, and returns its notice. If it was told, the first of the
-    /// others is told in its place, unless it is told already. If it is not listed, nothing changes.
+    /// others is told in its place, unless that one is told already. If it is not listed, nothing
+    /// changes.
     #[inline(always)]
     pub fn abandon(&mut self, id: I) -> Option<N>
         ensures { self.new ≡ record self.old { listeners = abandon I.eq id self.old.listeners } }

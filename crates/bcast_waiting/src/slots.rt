@@ -39,11 +39,9 @@ impl<I, N> Listener<I, N> {
 }
 
 impl<I: Copy + Eq + Indexed, N: Notice, A: Allocator> Model for Slots<I, N, A> {
-    ghost use Rattle.bcast_waiting.specs.Slots.{Slots as Ids, slots_code};
+    ghost use Rattle.bcast_waiting.specs.Slots.{Slots as Ids};
 
     ghost Value = { Ids I };
-
-    ghost coded = { slots_code I.code };
 
     ghost use Rattle.bcast_waiting.specs.Words.{slots_of, ids_in, AreKept};
     ghost use Rattle.std.specs.Prelude.{vec_capacity};

@@ -8,9 +8,8 @@ use base.Share.{quarter, three_quarters}
 use base.FractionLaws.{not-OpDef-full_share}
 use base.Logic.{SProp, ent, sep, wand, ex, all, guard, upd, upd_i, emp, id⊢, via, apply∗, all_e, ex_e, guard_e, guard_i}
 use base.Fml.{Fml, Share}
-use base.Shift.{Keyless}
 use types.Logic.{Logic, sem}
-use types.Keyed.{entry, entries_new, entries_take, entry_glue, entry_keyless, entries_keyless}
+use types.Keyed.{entry, entries_new, entries_take, entry_glue}
 use types.Kit.{‵, raw, ◌⊛◌, given, ◌$◌, ◌∵◌, !, qed, move, split, join, learn, check, frame, each, assume, suffices, settle, done}
 use types.Kit.{use1, use2, rewrite}
 use denote.Steps.{nothing}
@@ -144,18 +143,3 @@ module _ {M : Type 1} {𝓤 : Ura M} (𝓛 : Logic 𝓤) where
         settle 𝓛 G (given (claim_of cs i ≡ Some v) (‵ (row δ i new) ⊛ ‵ (held δ i new))) $ learn ! (λ had. split ! $
         suffices ! G (upd_i 𝓤 G) $ check ! had $ move ! (2 ∷ []) $ use1 𝓛 (raw (Rest 0 cs i i new)) (all_e 𝓤 (Rest 0 cs i i) new) $
         move ! (1 ∷ 0 ∷ []) $ use2 𝓛 (‵ (rows δ 0 (put cs i new))) (apply∗ 𝓤 ⟦ row δ i new ⟧ ⟦ rows δ 0 (put cs i new) ⟧) $ done !)
-
--- what is owned means the same in every thread, so that it may be sent
-rows_keyless : (δ k : ℕ) (cs : List (Option ℕ)) → Keyless (rows δ k cs)
-rows_keyless δ k [] = entries_keyless halved δ k (λ _. (full_share, 0))
-rows_keyless δ k (None ∷ cs) = (entry_keyless halved δ k _, rows_keyless δ (suc k) cs)
-rows_keyless δ k (Some n ∷ cs) = (entry_keyless halved δ k _, rows_keyless δ (suc k) cs)
-
-pub registry_keyless : (δ : ℕ) (cs : List (Option ℕ)) → Keyless (registry_owns δ cs)
-unfolding registry_owns
-registry_keyless δ cs = rows_keyless δ 0 cs
-
-pub claim_keyless : (δ i : ℕ) (c : Option ℕ) → Keyless (claim_owns δ i c)
-unfolding claim_owns
-claim_keyless δ i None = tt
-claim_keyless δ i (Some n) = entry_keyless halved δ i _

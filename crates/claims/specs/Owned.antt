@@ -1,5 +1,5 @@
--- What a registry and a claim own. Each key has an entry: a registry owns three quarters of the entry
--- of a claimed key, and its claim one quarter; of a key that isn't claimed a registry owns all.
+-- What a registry and a claim own. Each key has an entry: a registry owns three quarters of the
+-- entry of a claimed key, and its claim one quarter; of a key that isn't claimed it owns all.
 use Rattle.std.specs.Prelude.{ℕ, suc, List, [], ◌∷◌, Option, Some, None}
 use base.Fraction.{full_share}
 use base.Share.{quarter, three_quarters}

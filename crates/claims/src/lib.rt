@@ -1,5 +1,5 @@
-//! Keys that are claimed, in proofs alone: a registry knows the number with which each key is claimed,
-//! and only who has a key's claim can change it. Neither has bytes.
+//! Keys that are claimed, in proofs alone: a registry knows the number with which each key is
+//! claimed, and only who has a key's claim can change it. Neither has bytes.
 #![tactic(auto)]
 
 ghost use Rattle.std.specs.Prelude.{◌≡◌, ℕ, List, [], Option, Some, None, IfSome};
@@ -20,8 +20,8 @@ impl Model for Registry {
     ghost also_owns = { λ r. registry_owns r.name r.claims };
 }
 
-/// The right to a key of the registry of this name, and to change its number: no other claim has the
-/// key. If its number is `None`, it is a claim of nothing.
+/// The right to a key of the registry of this name, and to change its number: no other claim has
+/// the key. If its number is `None`, it is a claim of nothing.
 pub struct Claim {
     marker: PhantomData<()>,
     pub ghost registry: { ℕ },

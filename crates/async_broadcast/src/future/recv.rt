@@ -188,8 +188,6 @@ impl<T: Clone, P: Ask<T, ()>, A: Allocator + Copy> Future for Recv<'_, T, P, A> 
     }
 }
 
-// Dropped messages are skipped. If memory for a notice or a clone is refused, the item is an `Err`,
-// and nothing changed. The stream ends when every message was read and the channel is closed.
 impl<T: Clone, P: Ask<T, ()>, A: Allocator + Copy> Stream for Receiver<T, P, A> {
     type Item = Result<T, AllocError>;
 

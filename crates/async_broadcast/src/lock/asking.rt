@@ -142,8 +142,8 @@ impl<T: Clone, R: Wait + Clone, A: Allocator + Copy, J: CallJournal<T>> Ask<T, J
 }
 
 impl<T: Clone, R: Wait + Clone, A: Allocator + Copy, J: CallJournal<T>> Lock<T, R, A, J> {
-    /// Adds a receiver, as `ask` does by this call, with its errors. Returns the receiver's key, and
-    /// who makes its calls: both are made while the lock is held, so no other call comes between.
+    /// Adds a receiver by this call, as `ask` does, with its errors. Returns its key, and who makes
+    /// its calls: both are made while the lock is held, so no other call comes between.
     pub fn add_receiver(
         &self,
         caller: &mut J::Caller,

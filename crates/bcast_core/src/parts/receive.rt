@@ -152,13 +152,14 @@ impl<T: Clone, N: Notice, A: Allocator + Copy> Parts<T, N, A> {
             Err(refused) => return Ok(Err(refused)),
         };
         if is_empty(&answer) {
-            self.receives.wait_again((key, kind), maker)?;
+            let Ok(()) = self.receives.wait_again((key, kind), maker) else {
+                return Err(NoNotice);
+            };
             return Ok(Ok(answer));
         }
-        if self.nobody_waits() {
-            return Ok(Ok(answer));
+        if !self.nobody_waits() {
+            self.tell_of_receive(key, kind);
         }
-        self.tell_of_receive(key, kind);
         Ok(Ok(answer))
     }
 

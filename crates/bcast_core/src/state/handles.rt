@@ -101,12 +101,12 @@ impl<T: Drop, N: Notice, A: Allocator + Copy> Inner<T, N, A> {
             return Err(HandleError::Gone);
         }
         let end = self.parts.store.end();
-        let activated = self.parts.add_receiver(end);
-        if activated.is_ok() {
-            self.parts.inactive -= 1;
-        }
+        let Ok(active) = self.parts.add_receiver(end) else {
+            return Err(HandleError::Memory);
+        };
+        self.parts.inactive -= 1;
         self.parts.tell_a_sender();
-        activated
+        Ok(active)
     }
 
     /// Adds a receiver that reads the messages sent from now on, and keeps the inactive one.

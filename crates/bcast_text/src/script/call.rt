@@ -27,8 +27,8 @@ fn under<A: Allocator>(names: &Keys<A>, new: &str, call: Option<Call<u64>>) -> O
     if names.contains_key(new) { None } else { call }
 }
 
-/// The call that `line` asks for. None: it makes a channel or asks for a batch, a name in it must be
-/// in use and is not, or the new name is in use already.
+/// The call that `line` asks for. None: it makes a channel or asks for a batch, a name in it must
+/// be in use and is not, or the new name is in use already.
 ///
 /// # Errors
 ///
@@ -65,8 +65,8 @@ pub fn call_by<A: Allocator>(
     })
 }
 
-/// The receiver of the batch that `line` asks for, and its limit. None: it asks for none, or the name
-/// in it is not in use.
+/// The receiver of the batch that `line` asks for, and its limit. None: it asks for none, or the
+/// name in it is not in use.
 pub fn batch_by<A: Allocator>(names: &Keys<A>, line: &Line<'_>) -> Option<(usize, usize)>
     requires { IsInForm line.now }
     ensures batch { result ≡ batch_of (get_by_text names.now) line.now }

@@ -38,6 +38,7 @@ pub fn as_name(word: &str) -> Option<&str>
 /// # Errors
 ///
 /// - `AllocError`: there is no memory for the name.
+#[tactic(auto, using(std::proofs::lemmas::Map::Text::text_keys))]
 pub fn give_name<X: Drop, A: Allocator + Copy>(
     alloc: A,
     names: &mut Names<X, A>,

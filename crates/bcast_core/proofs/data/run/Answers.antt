@@ -1,7 +1,7 @@
 use Rattle.bcast_core.proofs.Common.{◌≡◌, false, [], ◌∷◌, ◌++◌, length, append_assoc, refl, sym, ap, subst, ◌∙◌, arith, Legal, HasPositiveCapacity, opening, Represents, IsRun, end_of_run, is_receive_refused}
 use Rattle.std.specs.Vec.Iter.{into_iter_items}
 use Rattle.std.specs.List.{All, AllByRecursion}
-use Rattle.std.proofs.lemmas.List.Elements.{All-append, All-cons, All-nil}
+use Rattle.std.proofs.lemmas.List.Elements.{All-push, All-nil}
 use Rattle.bcast_model.proofs.Lists.{all_right}
 use Rattle.bcast_model.proofs.Clones.{run_exact}
 use Rattle.bcast_model.proofs.DeliveryLemmas.{deliveries_exact}
@@ -32,8 +32,7 @@ loop-call-preserved g c =
       room = (let n = ap length s.0 in omega (arith, n, i.room, c.push_reserved.ensures.len, c.push_reserved.ensures.capacity));
       run = subst (IsRun g.T.Clone.is_clone (opening c.args.cap c.args.first c.in-Ok-starting_at.first_key) (c.loop-call.yielded ++ c.in-Some.call ∷ [])) (sym c.push_reserved.ensures.items) on;
       sure = λ f. subst (All (λ r. is_receive_refused r ≡ false)) (sym c.push_reserved.ensures.items)
-          (All-append (λ r. is_receive_refused r ≡ false) c.loop-call.replies.items (c.step.result ∷ []) (i.sure f)
-          (All-cons (λ r. is_receive_refused r ≡ false) c.step.result [] (c.step.ensures.sure f) (All-nil (λ r. is_receive_refused r ≡ false))));
+          (All-push (λ r. is_receive_refused r ≡ false) c.loop-call.replies.items c.step.result (i.sure f) (c.step.ensures.sure f));
       represents = subst (Represents c.step.new.inner) (sym e) (a.represents _ valid i.represents);
       valid = subst (AreValid (opening c.args.cap c.args.first c.in-Ok-starting_at.first_key) (c.loop-call.yielded ++ c.in-Some.call ∷ [])) (sym c.push_reserved.ensures.items)
           (valid_more g.T.Clone.is_clone (opening c.args.cap c.args.first c.in-Ok-starting_at.first_key) c.loop-call.yielded c.loop-call.replies.items c.in-Some.call c.step.result i.run i.valid (a.valid _ valid i.represents));

@@ -1,7 +1,7 @@
 -- One more message is cloned.
-use Rattle.std.proofs.Common.{◌≡◌, ◌+◌, ◌≤◌, [], ◌∷◌, ◌++◌, take, Some, sym, ap, ◌∙◌, subst, arith, slice_get}
-use Rattle.std.proofs.lemmas.List.{take_all, take_more}
-use Rattle.std.proofs.lemmas.List.Elements.{AllZip-push}
+use Rattle.std.proofs.Common.{◌≡◌, ◌+◌, ◌≤◌, Some, sym, ap, ◌∙◌, subst, arith, slice_get}
+use Rattle.std.proofs.lemmas.List.{take_all}
+use Rattle.std.proofs.lemmas.List.Elements.{all_zip_more}
 use Rattle.std.proofs.lemmas.Option.{get_or_from_slice_get, slice_get_within}
 use Rattle.bcast_core.proofs.snapshot.clones_of.Goals as goal
 
@@ -11,14 +11,11 @@ loop-index-preserved g c =
     let at = c.loop-index in
     let msg = c.in-Some.msg.now in
     let read : slice_get c.args.store.now.queue c.loop-index.index ≡ Some c.in-Some.msg.now = sym {b = slice_get c.args.store.now.queue c.loop-index.index} c.in-Some.ensures in
-    let more = take_more queue at.index msg (slice_get_within queue at.index msg read)
-    ∙ ap (λ x. take at.index queue ++ x ∷ []) (get_or_from_slice_get queue at.index msg msg read) in
-    let cloned = AllZip-push g.T.Clone.is_clone (take at.index queue) at.clones.items msg c.in_ok-clone.field-0 at.invariant.clones c.in_ok-clone.ensures.cases in
     record {
       len = c.push_reserved.ensures.len ∙ ap (λ n. n + 1) at.invariant.len;
       room = subst (λ n. c.len-index-end.result ≤ n) (sym c.push_reserved.ensures.capacity) at.invariant.room;
       end = at.invariant.end;
-      clones = rw (more, c.push_reserved.ensures.items) cloned;
+      clones = rw c.push_reserved.ensures.items (all_zip_more g.T.Clone.is_clone queue at.clones.items at.index msg c.in_ok-clone.field-0 (slice_get_within queue at.index msg read) (sym (get_or_from_slice_get queue at.index msg msg read)) at.invariant.clones c.in_ok-clone.ensures.cases);
     }
 
 pub returns : goal.returns

@@ -1,4 +1,4 @@
--- A message that one reader owes is the first, and leaves; of one that several owe a clone is given.
+-- A message that one reader owes is the first, and leaves; if several owe it, a clone is given.
 use Rattle.std.proofs.Common.{Result, Ok, Err, OnErr, ◌≡◌, ◌<◌, Some, ap, ◌∙◌, sym, get_or, slice_get, map, set, sum, ◌+◌, refl, arith, rules}
 use Rattle.std.proofs.lemmas.Grind.{common_steps}
 use Rattle.std.specs.Option.{option_copied_mut}

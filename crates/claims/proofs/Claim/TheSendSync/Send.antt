@@ -1,6 +1,7 @@
+-- A claim may be sent to another thread.
 use denote.Param.Send.{IsSend}
 use Rattle.claims.specs.contracts.Claim.{the_row}
-use Rattle.claims.proofs.Owned.{claim_keyless}
+use Rattle.claims.proofs.Sent.{claim_keyless}
 
 pub send : IsSend the_row
 send = record {

@@ -1,6 +1,7 @@
+-- A registry may be sent to another thread.
 use denote.Param.Send.{IsSend}
 use Rattle.claims.specs.contracts.Registry.{the_row}
-use Rattle.claims.proofs.Owned.{registry_keyless}
+use Rattle.claims.proofs.Sent.{registry_keyless}
 
 pub send : IsSend the_row
 send = record {

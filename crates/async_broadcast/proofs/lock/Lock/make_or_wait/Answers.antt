@@ -1,8 +1,7 @@
 -- The reply to the last try, which was of the call that was given. Who makes it again learns of it.
-use Rattle.std.proofs.Common.{◌≡◌, false, refl, ◌∙◌}
+use Rattle.std.proofs.Common.{refl, ◌∙◌}
+use Rattle.std.proofs.lemmas.Option.{IfSome_then}
 use Rattle.bcast_model.proofs.Answers.{possible}
-use Rattle.async_broadcast.specs.Ports.{is_answer}
-use Rattle.async_broadcast.proofs.Trying.{own_still}
 use Rattle.async_broadcast.proofs.lock.Lock.make_or_wait.Goals as goal
 
 pub append-requires-clause-answers : goal.append-requires-clause-answers
@@ -22,9 +21,9 @@ append-requires-2-clause-answers g c =
 
 pub append-requires-2-clause-moves : goal.append-requires-2-clause-moves
 append-requires-2-clause-moves g c =
-    let waits : is_answer (g.C.CallOf.reply c.args.call c.make-answer.result) ≡ false = c.if-not-must_wait.ensures c.args.call in
-    rw c.of-made.ensures (own_still g.J.Caller.Caller.moves _ _ _
-    (λ key. g.met.J.CallJournal.moves_on _ _ _ _ key waits (rw c.of-made.ensures at c.append.ensures.learned)) c.requires.moves)
+    rw c.of-made.ensures (IfSome_then _ c.requires.moves
+    (λ key. g.met.J.CallJournal.moves_on _ _ _ _ key (c.if-not-must_wait.ensures c.args.call)
+    (rw c.of-made.ensures at c.append.ensures.learned)))
 
 pub returns-clause-reply : goal.returns-clause-reply
 returns-clause-reply g c =
@@ -33,6 +32,6 @@ returns-clause-reply g c =
 
 pub returns-clause-learned : goal.returns-clause-learned
 returns-clause-learned g c =
-    let waits : is_answer (g.C.CallOf.reply c.args.call c.make-answer.result) ≡ false = c.if-not-must_wait.ensures c.args.call in
-    g.J.CallJournal.again _ _ _ _ _ _ waits (rw c.of-made.ensures at c.append.ensures.learned)
+    g.J.CallJournal.again _ _ _ _ _ _ (c.if-not-must_wait.ensures c.args.call)
+    (rw c.of-made.ensures at c.append.ensures.learned)
     (rw c.of-made.ensures at c.append-2.ensures.learned)

@@ -1,7 +1,6 @@
 -- A list is accepted where there is room for it.
-use Rattle.bcast_core.proofs.Common.{arith, common_steps}
+use Rattle.bcast_core.proofs.Common.{arith, common_steps, some_news}
 use Rattle.bcast_core.proofs.Offers.{not_zero, offer_all_accepted}
-use Rattle.bcast_core.proofs.Tail.{some_news}
 use Rattle.bcast_core.proofs.parts.Parts.offer_all.Goals as goal
 
 pub returns-clause-effect : goal.returns-clause-effect

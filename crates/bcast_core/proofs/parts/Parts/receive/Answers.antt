@@ -1,14 +1,11 @@
-use Rattle.std.proofs.Common.{◌+◌, ◌<◌, ◌≤◌, None, Ok, inl, refl, sym, ap, ◌∙◌, is_some, subst, arith}
-use Rattle.std.proofs.lemmas.Grind.{common_steps}
-use Rattle.std.specs.FinMap.{get, insert}
+use Rattle.bcast_core.proofs.Common.{◌+◌, ◌<◌, ◌≤◌, Ok, inl, refl, sym, ap, ◌∙◌, is_some, arith, common_steps, get, View, sets, settle, cursor_of, is_empty_reply, Stored, control_of, seen_of}
+use Rattle.std.proofs.Common.{None}
+use Rattle.std.specs.FinMap.{insert}
 use Rattle.std.proofs.lemmas.Result.{on_ok_weaker}
-use Rattle.bcast_model.specs.Words.{View, sets, settle, cursor_of, with_cursor, receive, recv_reply}
-use Rattle.bcast_model.specs.Receiving.{is_empty_reply}
+use Rattle.bcast_model.specs.Words.{with_cursor, receive, recv_reply}
 use Rattle.bcast_model.proofs.Cases.{lagging_receive}
 use Rattle.bcast_core.proofs.Receives.{lagging, at_end, is_there, receive_one, settle_empty, untold_empty}
-use Rattle.bcast_store.specs.Stored.{Stored}
-use Rattle.bcast_core.specs.Parts.{ReceiversHaveRoom, control_of, seen_of}
-use Rattle.bcast_core.proofs.Rooms.{room_inserted, room_read}
+use Rattle.bcast_core.proofs.Rooms.{room_moved, room_read}
 use Rattle.bcast_core.proofs.Settle.{low_inserted, settle_stays, view-with_cursors}
 use Rattle.bcast_core.proofs.parts.Parts.receive.Goals as goal
 use Rattle.bcast_core.proofs.parts.Parts.receive.Goals.{in-Ok, in-Err, then-self, else-self}
@@ -39,20 +36,13 @@ pub invariant_of-self : goal.invariant_of-self
 invariant_of-self g c =
     let there = is_there c.args.self.now c.args.key (cursor_of c.args.self.now.control c.args.key) c.args.at c.in-Some.cursor c.in-Some.is c.requires.at in
     let some = ap (λ (v : View g.row.T.Denot). is_some (get v.control.cursors c.args.key)) c.self-2.view_is ∙ there in
-    record {
-      receivers = subst (λ (s : Stored g.row.T.Denot). ReceiversHaveRoom s.cursors c.self-2.inside.receives.room) (sym c.skip.ensures)
-          (room_inserted c.self-2.inside.store.cursors c.args.key c.self-2.inside.store.front c.self-2.inside.receives.room (c.self-2.invariant.receivers c.args.key some) c.self-2.invariant.receivers);
-      sends = c.self-2.invariant.sends;
-    }
+    room_moved c.self-2.inside.store.cursors c.skip.new.self.cursors c.args.key c.self-2.inside.store.front c.self-2.inside.receives.room some (ap (λ (s : Stored g.row.T.Denot). s.cursors) c.skip.ensures) c.self-2.invariant
 
 pub invariant_of-self-then-index-len : goal.invariant_of-self-then-index-len
 invariant_of-self-then-index-len g c =
     let there = is_there c.args.self.now c.args.key (cursor_of c.args.self.now.control c.args.key) c.args.at c.in-Some.cursor c.in-Some.is c.requires.at in
     let some = ap (λ (v : View g.row.T.Denot). is_some (get v.control.cursors c.args.key)) c.self-2.view_is ∙ there in
-    record {
-      receivers = room_read c.read.result c.self-2.inside.store c.read.new.self c.args.key (c.in-Some.cursor + 1) c.self-2.inside.receives.room some c.read.ensures.ok c.read.ensures.err c.self-2.invariant.receivers;
-      sends = c.self-2.invariant.sends;
-    }
+    room_read c.read.result c.self-2.inside.store c.read.new.self c.args.key (c.in-Some.cursor + 1) c.self-2.inside.receives.room some c.read.ensures.ok c.read.ensures.err c.self-2.invariant
 
 pub returns-then-index-len-clause-ok : goal.returns-then-index-len-clause-ok
 returns-then-index-len-clause-ok g c =

@@ -1,10 +1,6 @@
-use Rattle.bcast_core.proofs.Common.{◌≡◌, ◌-◌, ◌^◌, ◌<◌, inl, not, refl, sym, ap, ◌∙◌, subst, eq-eqb, len, NoClone, View, Does}
-use Rattle.bcast_model.specs.declared.run.Call.TheVariants as call
-use Rattle.bcast_model.specs.declared.run.Reply.TheVariants as reply
-use Rattle.bcast_core.proofs.Making.{added_fits, activated, not_added}
-use Rattle.bcast_core.proofs.Tail.{ends, shown_after, unchanged, valid_shown}
+use Rattle.bcast_core.proofs.Common.{◌≡◌, ◌^◌, ◌<◌, inl, inr, not, refl, sym, ap, ◌∙◌, subst, eq-eqb, ne_eqb, len, View, ends, shown_after, unchanged, valid_shown}
+use Rattle.bcast_core.proofs.Making.{activated, not_added}
 use Rattle.bcast_core.proofs.state.Inner.activate.Goals as goal
-use Rattle.bcast_core.proofs.state.Inner.activate.Goals.{then-is_ok, else-is_ok}
 
 pub returns-then-self-eq0 : goal.returns-then-self-eq0
 returns-then-self-eq0 g c =
@@ -12,25 +8,21 @@ returns-then-self-eq0 g c =
     let none = sym (ap (λ inside. inside.parts.control.inactive) c.self-inside.view_is) ∙ c.if-self-eq0.true in
     unchanged c.self.view_is c.self.invariant (sym c.self.view_is) valid.control.receivers_fit (inl (ap not (eq-eqb _ 0 none), refl)) refl
 
+pub returns-in_default : goal.returns-in_default
+returns-in_default g c =
+    let some : c.self.inside.parts.control.inactive ≡ 0 → ⊥ = λ e. c.if-self-eq0.false (ap (λ inside. inside.parts.control.inactive) c.self-inside.view_is ∙ e) in
+    unchanged c.self.view_is c.self.invariant (not_added _ _ c.in_default.not-Ok c.add_receiver.ensures) (valid_shown c.self.invariant).control.receivers_fit (inr (ap not (ne_eqb _ 0 some), inr refl)) refl
+
 pub returns : goal.returns
 returns g c =
-    let v = c.self.inside.parts in
-    let made = c.add_receiver-activated.result in
-    let adds = c.add_receiver-activated.ensures in
-    let valid = valid_shown c.self.invariant in
-    let some : v.control.inactive ≡ 0 → ⊥ = λ e. c.if-self-eq0.false (ap (λ inside. inside.parts.control.inactive) c.self-inside.view_is ∙ e) in
-    let Ends : View g.row.T.Denot → Type 0 = λ new. Does NoClone v call.Activate (reply.Activate made) new × (len new.control.cursors < 2 ^ 64) in
-    let does : Ends c.if-is_ok.self-inside.parts =
-    elim c.if-is_ok.branch as (λ _. Ends c.if-is_ok.self-inside.parts) [
-      | then-is_ok w ↦
-          let at = ap (λ inside. inside.parts) w.self-inside-is in
-          let was = ap (λ inside. inside.parts) c.self-inside-2.view_is in
-          subst Ends (sym at) (subst Ends (ap (λ (x : View g.row.T.Denot). record x { control = record x.control { inactive = x.control.inactive - 1 } }) (sym was)) (activated _ _ _ some (c.end-end.ensures ∙ ap (λ inside. inside.parts.end) c.self-inside.view_is) (sym c.is_ok.ensures.value ∙ w.if-is_ok.true) adds, added_fits _ _ _ valid adds))
-      | else-is_ok w ↦
-          let at = ap (λ inside. inside.parts) w.self-inside-is in
-          subst Ends (sym at) (not_added _ _ valid some (sym c.is_ok.ensures.value ∙ w.if-is_ok.false) adds, added_fits _ _ _ valid adds)
-    ] in
-    ends c.self.view_is c.self.invariant does.1 does.0 c.tell_a_sender.ensures
+    let some : c.self.inside.parts.control.inactive ≡ 0 → ⊥ = λ e. c.if-self-eq0.false (ap (λ inside. inside.parts.control.inactive) c.self-inside.view_is ∙ e) in
+    let adds = c.in-Ok.ensures in
+    let new_is = ap (λ inside. inside.parts) c.self-inside-2.view_is ∙ adds.1 in
+    ends c.self.view_is c.self.invariant (subst (λ (x : View g.row.T.Denot). len x.control.cursors < 2 ^ 64) (sym new_is) adds.2)
+    (activated _ c.in-Ok.active some (c.end-end.ensures ∙ ap (λ inside. inside.parts.end) c.self-inside.view_is) adds.0 new_is) c.tell_a_sender.ensures
 
 pub invariant_of-self : goal.invariant_of-self
-invariant_of-self g c = shown_after (returns g c)
+invariant_of-self g c = shown_after (returns-in_default g c)
+
+pub invariant_of-self-2 : goal.invariant_of-self-2
+invariant_of-self-2 g c = shown_after (returns g c)

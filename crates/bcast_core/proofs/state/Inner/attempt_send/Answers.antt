@@ -1,6 +1,5 @@
-use Rattle.bcast_core.proofs.Common.{ap, ◌∙◌, tell_if_ready, tell_news}
+use Rattle.bcast_core.proofs.Common.{ap, ◌∙◌, tell_if_ready, tell_news, ends, shown_after, valid_shown}
 use Rattle.bcast_model.specs.declared.run.Reply.TheVariants as reply
-use Rattle.bcast_core.proofs.Tail.{ends, shown_after, valid_shown}
 use Rattle.bcast_core.proofs.state.Inner.attempt_send.Goals as goal
 
 pub attempt-sent-requires : goal.attempt-sent-requires

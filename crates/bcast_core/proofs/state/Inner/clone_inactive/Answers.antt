@@ -1,6 +1,5 @@
-use Rattle.std.proofs.Common.{refl, sym, ap, eq-eqb, ne_eqb}
+use Rattle.bcast_core.proofs.Common.{refl, sym, ap, eq-eqb, ne_eqb, ends, inside_shown, shown_after, told_counted, unchanged, valid_shown}
 use Rattle.bcast_core.proofs.Making.{at_most, more_inactive}
-use Rattle.bcast_core.proofs.Tail.{ends, inside_shown, shown_after, told_counted, unchanged, valid_shown}
 use Rattle.bcast_core.proofs.state.Inner.clone_inactive.Goals as goal
 
 pub returns-then-self-eq0 : goal.returns-then-self-eq0

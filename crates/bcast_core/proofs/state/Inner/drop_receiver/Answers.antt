@@ -1,15 +1,13 @@
-use Rattle.bcast_core.proofs.Common.{true, refl, sym, ap, ◌∙◌, drop_receiver, sets, tell_if_ready}
-use Rattle.bcast_core.proofs.Making.{is_gone, receiver_left}
-use Rattle.bcast_core.proofs.Tail.{ends, shown_after, told_none, unchanged, valid_shown}
+use Rattle.bcast_core.proofs.Common.{refl, sym, ap, ◌∙◌, drop_receiver, sets, tell_if_ready}
+use Rattle.std.proofs.option.Match.{None-if_not_some}
+use Rattle.bcast_core.proofs.Making.{receiver_left}
+use Rattle.bcast_core.proofs.Tail.{ends, shown_after, told_none, unchanged}
 use Rattle.bcast_core.proofs.state.Inner.drop_receiver.Goals as goal
-
-pub remove_receiver-requires : goal.remove_receiver-requires
-remove_receiver-requires g c = valid_shown c.self.invariant
 
 pub returns-then-not-remove_receiver : goal.returns-then-not-remove_receiver
 returns-then-not-remove_receiver g c =
     let gone = sym c.remove_receiver.ensures.found ∙ c.if-not-remove_receiver.true in
-    unchanged c.self.view_is c.self.invariant (c.remove_receiver.ensures.same c.if-not-remove_receiver.true) tt refl (ap (λ o. sets (drop_receiver c.self.inside.parts.control c.args.key o)) (is_gone _ gone))
+    unchanged c.self.view_is c.self.invariant (c.remove_receiver.ensures.same c.if-not-remove_receiver.true) tt refl (ap (λ o. sets (drop_receiver c.self.inside.parts.control c.args.key o)) (None-if_not_some _ gone))
 
 pub invariant_of-self : goal.invariant_of-self
 invariant_of-self g c = shown_after (returns-then-not-remove_receiver g c)

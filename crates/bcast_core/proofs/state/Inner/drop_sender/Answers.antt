@@ -1,6 +1,5 @@
-use Rattle.std.proofs.Common.{refl, sym, ap, ◌∙◌}
+use Rattle.bcast_core.proofs.Common.{refl, sym, ap, ◌∙◌, ends, inside_shown, shown_after, told_left, unchanged, valid_shown}
 use Rattle.bcast_core.proofs.Making.{fewer_senders, is_none}
-use Rattle.bcast_core.proofs.Tail.{ends, inside_shown, shown_after, told_left, unchanged, valid_shown}
 use Rattle.bcast_core.proofs.state.Inner.drop_sender.Goals as goal
 
 pub returns-then-self-gt0 : goal.returns-then-self-gt0

@@ -1,5 +1,4 @@
-use Rattle.bcast_core.proofs.Common.{refl, place_ended}
-use Rattle.bcast_core.proofs.Tail.{does_sets, ends, shown_after, valid_shown}
+use Rattle.bcast_core.proofs.Common.{refl, place_ended, does_sets, ends, shown_after, valid_shown}
 use Rattle.bcast_core.proofs.state.Inner.end_send.Goals as goal
 
 pub returns : goal.returns

@@ -1,6 +1,5 @@
-use Rattle.std.proofs.Common.{sym, ap, ◌∙◌}
+use Rattle.bcast_core.proofs.Common.{sym, ap, ◌∙◌, ends, shown_after, told_none, valid_shown}
 use Rattle.bcast_core.proofs.Making.{added_fits, new_added}
-use Rattle.bcast_core.proofs.Tail.{ends, shown_after, told_none, valid_shown}
 use Rattle.bcast_core.proofs.state.Inner.new_receiver.Goals as goal
 
 pub returns-then-not-is_empty : goal.returns-then-not-is_empty

@@ -1,6 +1,5 @@
-use Rattle.std.proofs.Common.{refl, sym, ap}
+use Rattle.bcast_core.proofs.Common.{refl, sym, ap, ends, inside_shown, shown_after, told_counted, unchanged, valid_shown}
 use Rattle.bcast_core.proofs.Making.{at_most, more_senders}
-use Rattle.bcast_core.proofs.Tail.{ends, inside_shown, shown_after, told_counted, unchanged, valid_shown}
 use Rattle.bcast_core.proofs.state.Inner.new_sender.Goals as goal
 
 pub returns-then-self : goal.returns-then-self

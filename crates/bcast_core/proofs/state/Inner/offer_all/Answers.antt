@@ -1,6 +1,5 @@
-use Rattle.bcast_core.proofs.Common.{not, ◌==◌, ap, ◌∙◌, tell_if_ready, tell_news}
+use Rattle.bcast_core.proofs.Common.{not, ◌==◌, ap, ◌∙◌, tell_if_ready, tell_news, ends, shown_after}
 use Rattle.bcast_model.specs.declared.run.Reply.TheVariants as reply
-use Rattle.bcast_core.proofs.Tail.{ends, shown_after}
 use Rattle.bcast_core.proofs.state.Inner.offer_all.Goals as goal
 
 pub returns : goal.returns

@@ -1,6 +1,5 @@
 -- What was found is returned in the word of the call.
-use Rattle.bcast_core.proofs.Common.{sym, subst, IsShown}
-use Rattle.bcast_core.proofs.Tail.{answers_as, shown_after, valid_shown}
+use Rattle.bcast_core.proofs.Common.{sym, subst, IsShown, answers_as, shown_after, valid_shown}
 use Rattle.bcast_core.proofs.ReceivePolls.{receive_range, receive_steps}
 use Rattle.bcast_core.proofs.state.Inner.poll_receive.Goals as goal
 

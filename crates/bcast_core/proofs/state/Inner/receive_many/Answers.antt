@@ -1,10 +1,10 @@
 -- Several messages are given, and at most one send is told.
-use Rattle.bcast_core.proofs.Common.{◌≡◌, inl, inr, ◌+◌, ◌++◌, is_some, sym, ap, ◌∙◌, subst, arith, IsSomeAnd, IsShown, View, cursor_of, kept_at, tell_if_ready, Stored, AreHandedOut, ReceiversHaveRoom, IsHandedOut}
+use Rattle.bcast_core.proofs.Common.{◌≡◌, inl, inr, ◌+◌, is_some, sym, ap, ◌∙◌, subst, arith, IsSomeAnd, IsShown, View, cursor_of, kept_at, tell_if_ready, Stored, AreHandedOut, IsHandedOut}
 use Rattle.std.proofs.lemmas.Bool.{cases_lt}
 use Rattle.std.specs.FinMap.{insert}
 use Rattle.bcast_core.proofs.Moves.{after}
 use Rattle.bcast_core.proofs.Batches.{StandsAt, into_given, into_shown, unread_is, next_refused}
-use Rattle.bcast_core.proofs.Rooms.{room_inserted}
+use Rattle.bcast_core.proofs.Rooms.{room_moved}
 use Rattle.bcast_core.proofs.Tail.{valid_shown}
 use Rattle.bcast_core.proofs.Settle.{view-with_cursors}
 use Rattle.bcast_core.proofs.state.Inner.receive_many.Goals as goal
@@ -27,13 +27,8 @@ returns g c =
     let at = stands g here in
     let end = (valid_shown c.self.invariant).reach c.args.key c.in-Some.cursor at.there in
     let last = c.end.ensures ∙ ap (λ inside. inside.parts.end) c.self-inside.view_is in
-    let given = c.read_many-given.ensures.given in
-    let handed : AreHandedOut (IsHandedOut g.T.Clone.is_clone c.self.inside.parts c.args.key) c.in-Some.cursor c.args.msgs.now.items c.read_many-given.result c.read_many-given.new.msgs.items = record {
-      given = given.given;
-      put = subst (λ items. c.read_many-given.new.msgs.items ≡ items ++ given.given) c.reserve.ensures.items given.put;
-      counted = given.counted;
-      each = λ i msg at. subst (λ (v : View g.row.T.Denot). IsHandedOut g.T.Clone.is_clone v c.args.key (c.in-Some.cursor + i) msg) (ap (λ inside. inside.parts) c.self-inside.view_is) (given.each i msg at);
-    } in
+    let handed = subst (λ (v : View g.row.T.Denot). AreHandedOut (IsHandedOut g.T.Clone.is_clone v c.args.key) c.in-Some.cursor c.args.msgs.now.items c.read_many-given.result c.read_many-given.new.msgs.items)
+    (ap (λ inside. inside.parts) c.self-inside.view_is) (rw c.reserve.ensures.items at c.read_many-given.ensures.given) in
     record {
       at_most = omega (arith, c.read_many-given.ensures.at_most, c.min-count.ensures);
       received = into_given c.self.view_is c.self.invariant at (omega (arith, end, c.read_many-given.ensures.at_most, c.min-count.ensures, last)) handed (new_is g here);
@@ -52,8 +47,4 @@ pub invariant_of-self-inside : goal.invariant_of-self-inside
 invariant_of-self-inside g c =
     let p = c.self-inside.inside.0.0 in
     let there = sym (ap is_some c.cursor.ensures) ∙ ap is_some c.in-Some.is in
-    record {
-      receivers = subst (λ (s : Stored g.row.T.Denot). ReceiversHaveRoom s.cursors p.receives.room) (sym c.read_many-given.ensures.passed)
-          (room_inserted p.store.cursors c.args.key (c.in-Some.cursor + c.read_many-given.result) p.receives.room (c.self-inside.invariant.receivers c.args.key there) c.self-inside.invariant.receivers);
-      sends = c.self-inside.invariant.sends;
-    }
+    room_moved p.store.cursors c.read_many-given.new.self.cursors c.args.key (c.in-Some.cursor + c.read_many-given.result) p.receives.room there (ap (λ (s : Stored g.row.T.Denot). s.cursors) c.read_many-given.ensures.passed) c.self-inside.invariant

@@ -1,5 +1,4 @@
-use Rattle.std.proofs.Common.{refl, ap}
-use Rattle.bcast_core.proofs.Tail.{does_sets, ends, shown_after, valid_shown}
+use Rattle.bcast_core.proofs.Common.{refl, ap, does_sets, ends, shown_after, valid_shown}
 use Rattle.bcast_core.proofs.state.Inner.set_overflow.Goals as goal
 
 pub returns : goal.returns

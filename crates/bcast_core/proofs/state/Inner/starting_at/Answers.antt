@@ -1,6 +1,5 @@
 -- A new channel has its first receiver.
-use Rattle.bcast_core.proofs.Common.{◌≡◌, true, false, [], sym, ap, ◌∙◌, subst, arith, opening, Stored, end_of, ReceiversHaveRoom, control_of, seen_of}
-use Rattle.std.specs.FinMap.{empty, insert}
+use Rattle.bcast_core.proofs.Common.{◌≡◌, true, false, [], sym, ap, ◌∙◌, subst, arith, opening, Stored, end_of, ReceiversHaveRoom, control_of, seen_of, empty, insert}
 use Rattle.bcast_model.proofs.Opening.{opening_valid, view_of-opening}
 use Rattle.bcast_core.proofs.Rooms.{room_empty, room_inserted, below_none}
 use Rattle.bcast_core.proofs.state.Inner.starting_at.Goals as goal

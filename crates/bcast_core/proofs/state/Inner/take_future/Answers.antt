@@ -1,6 +1,5 @@
-use Rattle.bcast_core.proofs.Common.{refl, pair_ended}
+use Rattle.bcast_core.proofs.Common.{refl, pair_ended, does_sets, ends, shown_after, valid_shown}
 use Rattle.bcast_model.specs.declared.listener.Kind.TheVariants as kind
-use Rattle.bcast_core.proofs.Tail.{does_sets, ends, shown_after, valid_shown}
 use Rattle.bcast_core.proofs.state.Inner.take_future.Goals as goal
 
 pub returns : goal.returns

@@ -1,6 +1,5 @@
-use Rattle.bcast_core.proofs.Common.{sym, ap, ◌∙◌, is_ok, tell_if_ready, tell_news}
+use Rattle.bcast_core.proofs.Common.{sym, ap, ◌∙◌, is_ok, tell_if_ready, tell_news, ends, tail_nobody, shown_after, valid_shown}
 use Rattle.bcast_model.specs.declared.run.Reply.TheVariants as reply
-use Rattle.bcast_core.proofs.Tail.{ends, tail_nobody, shown_after, valid_shown}
 use Rattle.bcast_core.proofs.state.Inner.try_broadcast.Goals as goal
 
 pub offer-sent-requires : goal.offer-sent-requires

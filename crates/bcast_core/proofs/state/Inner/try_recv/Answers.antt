@@ -1,6 +1,4 @@
-use Rattle.bcast_core.proofs.Common.{sym, ap, ◌∙◌, cursor_of}
-use Rattle.bcast_core.proofs.Does.{does_receive}
-use Rattle.bcast_core.proofs.Tail.{ends, told_none, shown_after, valid_shown}
+use Rattle.bcast_core.proofs.Common.{sym, ap, ◌∙◌, cursor_of, does_receive, ends, told_none, shown_after, valid_shown}
 use Rattle.bcast_core.proofs.state.Inner.try_recv.Goals as goal
 
 pub returns-then-not-is_empty-clause-answers : goal.returns-then-not-is_empty-clause-answers

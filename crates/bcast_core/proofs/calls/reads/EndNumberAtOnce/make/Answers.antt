@@ -1,8 +1,7 @@
 -- It reads the end.
-use Rattle.std.proofs.Common.{refl, ap}
+use Rattle.bcast_core.proofs.Common.{refl, ap, answers_read}
 use Rattle.bcast_model.specs.declared.run.Call.TheVariants as call
 use Rattle.bcast_model.specs.declared.run.Reply.TheVariants as reply
-use Rattle.bcast_core.proofs.Tail.{answers_read}
 use Rattle.bcast_core.proofs.calls.reads.EndNumberAtOnce.make.Goals as goal
 
 pub returns-clause-answers : goal.returns-clause-answers
