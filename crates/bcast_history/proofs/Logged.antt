@@ -8,6 +8,7 @@ use Rattle.bcast_model.specs.declared.error.TryRecvError.TheVariants as unread
 use Rattle.bcast_model.specs.declared.run.Call.{Call}
 use Rattle.bcast_model.specs.declared.run.Reply.{Reply}
 use Rattle.bcast_model.specs.Words.{History, IsGiven, ClonesEqual, numbered, next}
+use Rattle.bcast_model.proofs.DeliveryLists.{all_from_append, all_from_more}
 use Rattle.bcast_core.proofs.Runs.{all_made}
 use Rattle.bcast_history.specs.History.{Opening, Step, IsHistory, end_of}
 use Rattle.bcast_history.proofs.Prefixes.{IsPrefix, prefix_shorter}
@@ -19,19 +20,10 @@ use Rattle.bcast_history.specs.Tracker.{Tracker, number}
 use Rattle.bcast_history.proofs.Sent.{kept_later, delivery_stays, accepted_grows}
 
 module _ {T : Type 0} (is_clone : T → T → Type 0) where
-  in_a_row : (h : History T) (start : ℕ) (log more : List T) → AreDeliveries is_clone h start log
-      → AreDeliveries is_clone h (start + length log) more → AreDeliveries is_clone h start (log ++ more)
-  in_a_row h start [] more all are = subst (λ n. AreDeliveries is_clone h n more) (omega arith) are
-  in_a_row h start (first ∷ log) more (here, rest) are =
-      let on : start + length (first ∷ log) ≡ start + 1 + length log = omega arith in
-      (here, in_a_row h (start + 1) log more rest (subst (λ n. AreDeliveries is_clone h n more) on are))
-
   -- it stays delivered
   still_log : (o : Opening) (known later : List (Step T)) (start : ℕ) (log : List T) → IsPrefix known later
       → AreDeliveries is_clone (end_of o known) start log → AreDeliveries is_clone (end_of o later) start log
-  still_log o known later start [] begins are = tt
-  still_log o known later start (msg ∷ log) begins (here, rest) =
-      (delivery_stays is_clone o known later start msg begins here, still_log o known later (start + 1) log begins rest)
+  still_log o known later start log begins = all_from_more _ _ start log (λ number msg _. delivery_stays is_clone o known later number msg begins)
 
   pub longer : {o : Opening} {count : ℕ} {log more : List T} {old new : Tracker T} → IsLog is_clone o log old
       → IsPrefix old.steps new.steps → TakesInto is_clone o old log count more new → IsLog is_clone o more new
@@ -41,7 +33,7 @@ module _ {T : Type 0} (is_clone : T → T → Type 0) where
       let size = ap length takes.put ∙ length-append log takes.given in
       record {
         messages = subst (AreDeliveries is_clone h o.first_number) (sym takes.put)
-            (in_a_row h o.first_number log takes.given (still_log o old.steps new.steps o.first_number log begins so_far.messages) given);
+            (all_from_append _ o.first_number log takes.given (still_log o old.steps new.steps o.first_number log begins so_far.messages) given);
         next = omega (arith, so_far.next, takes.next, takes.counted, size);
       }
 
@@ -73,10 +65,10 @@ module _ {T : Type 0} (is_clone : T → T → Type 0) where
     -- a log from some number on is the accepted messages from there on
     from_there : (h : History T) (at : ℕ) (log : List T) → AreDeliveries is_clone h (h.first + at) log → IsPrefix log (drop at h.accepted)
     from_there h at [] all = (drop at h.accepted, refl)
-    from_there h at (msg ∷ log) (here, rest) =
+    from_there h at (msg ∷ log) all =
         let on : h.first + at + 1 ≡ h.first + (at + 1) = omega arith in
-        let more = from_there h (at + 1) log (subst (λ n. AreDeliveries is_clone h n log) on rest) in
-        let there = entry_of h at msg (is_there (numbered h (h.first + at)) msg here) in
+        let more = from_there h (at + 1) log (subst (λ n. AreDeliveries is_clone h n log) on all.1) in
+        let there = entry_of h at msg (is_there (numbered h (h.first + at)) msg all.0) in
         let split = drop_more h.accepted at msg (slice_get_within h.accepted at msg there) ∙ ap (λ x. x ∷ drop (at + 1) h.accepted) (get_or_from_slice_get h.accepted at msg msg there) in
         (more.0, ap (λ xs. msg ∷ xs) more.1 ∙ sym split)
 

@@ -1,9 +1,9 @@
 -- Several messages in one call.
-use Rattle.std.specs.Prelude.{◌≡◌, ◌⊎◌, ℕ, ◌+◌, ◌<◌, ◌≤◌, List, [], ◌∷◌, ◌++◌, length, Some, Result, Ok, Err}
+use Rattle.std.specs.Prelude.{◌≡◌, ◌⊎◌, ℕ, ◌+◌, ◌<◌, ◌≤◌, List, ◌++◌, length, Some, Result, Ok, Err}
 use Rattle.std.specs.declared.alloc.AllocError.{AllocError}
 use Rattle.bcast_model.specs.declared.run.Call.TheVariants as call
 use Rattle.bcast_model.specs.declared.run.Reply.TheVariants as reply
-use Rattle.bcast_model.specs.Words.{Found, History, IsDelivery}
+use Rattle.bcast_model.specs.Words.{AllFrom, Found, History, IsDelivery}
 use Rattle.bcast_history.specs.History.{Opening, Step, end_of}
 use Rattle.bcast_history.specs.Tracker.{Tracker, number}
 
@@ -14,9 +14,7 @@ received key msg = record { call = call.TryRecv key; reply = reply.TryRecv (Ok (
 module _ {T : Type 0} (is_clone : T → T → Type 0) where
   -- these are the accepted messages from this number on, each itself or a clone
   abbrev pub AreDeliveries : History T → ℕ → List T → Type 0
-  AreDeliveries h number [] = Unit {0}
-  AreDeliveries h number (msg ∷ msgs) =
-      IsDelivery is_clone h number (Some msg) × AreDeliveries h (number + 1) msgs
+  AreDeliveries h = AllFrom (λ number msg. IsDelivery is_clone h number (Some msg))
 
   -- a receiver takes so many messages, which are put last into a list: those from where it read on,
   -- and it reads on behind them

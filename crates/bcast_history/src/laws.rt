@@ -39,6 +39,7 @@ pub fn closed_is_last<T: Clone>()
 {}
 
 /// Law: once a stream has ended, it stays so, if memory isn't refused.
+#[tactic(auto, using(crate::proofs::Closed::end_is_last))]
 pub fn end_is_last<T: Clone>()
     ensures { EndIsLast T.is_clone }
 {}
