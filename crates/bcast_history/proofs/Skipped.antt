@@ -1,26 +1,20 @@
 -- What a receiver skips.
-use Rattle.std.proofs.Common.{◌≡◌, inl, inr, ℕ, ◌≤◌, List, Option, Some, Result, Ok, Err, refl, arith, subst, IsErr, OnErr}
+use Rattle.std.proofs.Common.{◌≡◌, inl, inr, ℕ, ◌≤◌, List, Option, Some, Result, Ok, Err, refl, arith, subst, IsErr}
 use Rattle.std.proofs.lemmas.Bool.{cases_lt}
 use Rattle.std.specs.declared.alloc.AllocError.{AllocError}
 use mathlib.Core.List.{IsPrefix}
 use Rattle.futures.specs.declared.task.Poll.{Poll}
 use Rattle.futures.specs.declared.task.Poll.TheVariants as poll
-use Rattle.bcast_model.specs.declared.error.RecvError.TheVariants as unreceived
 use Rattle.bcast_model.specs.declared.error.TryRecvError.TheVariants as unread
 use Rattle.bcast_model.specs.declared.run.Call.{Call}
 use Rattle.bcast_model.specs.declared.run.Reply.{Reply}
 use Rattle.bcast_model.specs.Words.{next}
 use Rattle.bcast_history.specs.History.{Opening, Step, end_of}
 use Rattle.bcast_history.specs.Makes.{MakesReceives}
-use Rattle.bcast_history.specs.Reader.{Finds, Skips, Takes, TakesNext, as_found, as_tried}
+use Rattle.bcast_history.specs.Reader.{Finds, Skips, Takes, TakesNext, as_tried}
 use Rattle.bcast_history.specs.Tracker.{Tracker, number}
-use Rattle.bcast_history.proofs.Received.{Polled}
 use Rattle.bcast_history.proofs.Receiving.{receives_on}
 use Rattle.bcast_history.proofs.Sent.{kept_later}
-
-pub on_err : {X E P : Type 0} (p : Result X E) → P → OnErr p P
-on_err (Ok found) why = tt
-on_err (Err error) why = why
 
 -- what is gone stays so
 floor_rises : {T : Type 0} (o : Opening) (known later : List (Step T)) → IsPrefix known later → (end_of o known).floor ≤ (end_of o later).floor
@@ -51,11 +45,8 @@ module _
   stays : (to : ℕ) → to ≡ number mid.next → Skips (end_of o new.steps) (number old.next) to
   stays to same = skips_on to (omega (arith, same), λ n from below. absurd (omega (arith, same, from, below)))
 
-  pub skips : (n : ℕ) (p : Polled T) → p ≡ Ok (poll.Ready (Some (Err (unreceived.Overflowed n))))
-      → MakesReceives learns mid new → Takes is_clone o mid new (as_found p) → HasSkipped learns o old new
-  skips n p is more takes =
-      let missed : Takes is_clone o mid new (Ok (Err (unread.Overflowed n))) = subst (λ p. Takes is_clone o mid new (as_found p)) is takes in
-      record { made = receives_on skipped.made more; skips = skips_on (number new.next) missed.2 }
+  pub skips : (n : ℕ) → MakesReceives learns mid new → Takes is_clone o mid new (Ok (Err (unread.Overflowed n))) → HasSkipped learns o old new
+  skips n more takes = record { made = receives_on skipped.made more; skips = skips_on (number new.next) takes.2 }
 
   pub errs_next : (p : Result (Poll (Option T)) AllocError) → IsErr p → number new.next ≡ number mid.next → TakesNext is_clone o old new p
   errs_next (Ok found) is same = absurd (cc is)

@@ -141,18 +141,12 @@ impl<T: Clone, P: HistoryPort<T, J>, J: Channel> TrackedReceiver<T, P, J> {
         ensures kept { Keeps cx.old cx.new }
     {
         for _ in rt.forever() {
-            let Poll::Ready(next) = self.poll_recv(cx)? else {
-                return Ok(Poll::Pending);
-            };
-            let Some(received) = next else {
-                return Ok(Poll::Ready(None));
-            };
-            match received {
-                Ok(msg) => return Ok(Poll::Ready(Some(msg))),
-                Err(error) => match error {
-                    RecvError::Overflowed(_) => {}
-                    RecvError::Closed => return Ok(Poll::Ready(None)),
-                },
+            match self.poll_recv(cx)? {
+                Poll::Ready(Some(Ok(msg))) => return Ok(Poll::Ready(Some(msg))),
+                Poll::Ready(Some(Err(RecvError::Overflowed(_)))) => {}
+                Poll::Ready(Some(Err(RecvError::Closed))) => return Ok(Poll::Ready(None)),
+                Poll::Ready(None) => return Ok(Poll::Ready(None)),
+                Poll::Pending => return Ok(Poll::Pending),
             }
         }
         unreachable!()
