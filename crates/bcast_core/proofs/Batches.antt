@@ -127,5 +127,4 @@ module _ {T : Type 0} {was : View T} {key cursor : ℕ} (at : StandsAt was key c
       let kept = kept_moved was key to to msg.0 reached (omega arith) msg.1 in
       let now = told_is (λ w. kept_at w to ≡ Some msg.0) (moved was key to) kept kept in
       let stands = stands_moved was key to reached in
-      subst (λ (w : View T). IsSomeAnd (cursor_of w.control key) (λ c. IsSomeAnd (kept_at w c) P)) (sym new_is)
-      (subst (λ o. IsSomeAnd o (λ c. IsSomeAnd (kept_at (after was key to) c) P)) (sym stands.there) (subst (λ o. IsSomeAnd o P) (sym now) msg.2))
+      rw (new_is, stands.there, now) msg.2

@@ -1,5 +1,5 @@
 -- What the calls that make or drop a handle, or add or remove a receiver, do to the view.
-use Rattle.std.proofs.Common.{◌≡◌, inl, inr, ℕ, ◌+◌, ◌-◌, ◌^◌, ◌<◌, ◌≤◌, ◌==◌, not, true, false, Option, Some, None, Result, Ok, Err, is_some, refl, sym, ap, ◌∙◌, subst, arith, eq-eqb, ne_eqb}
+use Rattle.std.proofs.Common.{◌≡◌, inl, inr, ℕ, ◌+◌, ◌-◌, ◌^◌, ◌<◌, ◌==◌, not, true, false, Option, Some, None, Result, Ok, Err, is_some, refl, sym, ap, ◌∙◌, subst, arith, ne_eqb}
 use Rattle.std.proofs.lemmas.Grind.{common_steps}
 use Rattle.std.specs.FinMap.{len}
 use Rattle.bcast_model.specs.declared.error.HandleError.{HandleError}
@@ -11,9 +11,6 @@ use Rattle.bcast_model.proofs.Cases.{close_is, deserted_is}
 use Rattle.bcast_core.specs.Parts.{Adds, Does}
 use Rattle.bcast_core.proofs.Does.{does_sets, does_nothing}
 use Rattle.bcast_core.proofs.Settle.{low_close_if_deserted}
-
-pub is_none : {n : ℕ} → n ≤ 0 → (n == 0) ≡ true
-is_none {n = n} none = eq-eqb n 0 (omega (arith, none))
 
 pub at_most : (n : ℕ) → n ≡ 18446744073709551615 → has_next n ≡ false
 at_most n e = grind (arith, common_steps, e)

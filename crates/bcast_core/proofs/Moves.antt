@@ -1,9 +1,9 @@
 -- What is seen once a receiver has moved on, and a send was told.
-use Rattle.std.proofs.Common.{◌≡◌, inl, inr, ℕ, ◌+◌, ◌-◌, ◌≤◌, true, cond, [], ◌++◌, length, max, drop, Some, slice_get, refl, sym, ap, ◌∙◌, arith, append-nil, length-drop, drop-drop, ◌==◌, false}
+use Rattle.std.proofs.Common.{◌≡◌, inl, inr, ℕ, ◌+◌, ◌-◌, ◌≤◌, true, cond, [], ◌++◌, length, max, drop, Some, slice_get, refl, sym, ap, ◌∙◌, arith, append-nil, length-drop, drop-drop}
 use Rattle.std.proofs.lemmas.Bool.{cases_eq}
 use Rattle.std.proofs.lemmas.Grind.{common_steps}
 use Rattle.std.proofs.lemmas.Option.{same_Some}
-use Rattle.std.specs.FinMap.{get, insert, values, len}
+use Rattle.std.specs.FinMap.{get, insert, values}
 use Rattle.bcast_model.specs.Words.{Cursors, View, cursor_of, kept_at, least, sends_are_ready, sets, settle, tell_a_sender, tell_if_ready, with_cursor}
 pub use Rattle.bcast_model.proofs.Cases.{told_is}
 use Rattle.bcast_model.proofs.Cases.{test_is, told_already}
@@ -12,9 +12,6 @@ use Rattle.bcast_model.proofs.Least.{least-le-cursor, least-le-limit, least-grea
 use Rattle.bcast_model.proofs.Views.{slice_get-drop}
 use Rattle.bcast_store.proofs.Least.{insert_twice}
 use Rattle.bcast_core.proofs.Settle.{settle_to}
-
-positive : (n : ℕ) → 1 ≤ n → (n == 0) ≡ false
-positive n some = grind (arith, common_steps, some)
 
 -- the least cursor rises with each
 least_moved : (end : ℕ) (m : Cursors) (key from to : ℕ) → from ≤ to → least end (values (insert m key from)) ≤ least end (values (insert m key to))
@@ -55,16 +52,13 @@ module _ {T : Type 0} where
   shorter : (v : View T) (key to : ℕ) → length (moved v key to).queue ≤ length v.queue
   shorter v key to = omega (arith, length-drop ((moved v key to).front - v.front) (v.queue ++ []), ap length (append-nil v.queue))
 
-  full_before : (v : View T) (key to : ℕ) → length v.queue ≤ v.control.capacity → (length (moved v key to).queue == v.control.capacity) ≡ true → (length v.queue == v.control.capacity) ≡ true
-  full_before v key to fits full = let less = shorter v key to in grind (arith, common_steps, less, fits, full)
-
   -- sends that are ready stay so
   ready_moved : (v : View T) (key cursor to : ℕ) → cursor_of v.control key ≡ Some cursor → length v.queue ≤ v.control.capacity → sends_are_ready v ≡ true → sends_are_ready (moved v key to) ≡ true
   ready_moved v key cursor to there fits ready =
-      let now = positive (len (insert v.control.cursors key to)) (len_insert v.control.cursors key to) in
-      let was = positive (len v.control.cursors) (len_some v.control.cursors key cursor there) in
-      let before = full_before v key to fits in
-      grind (arith, common_steps, now, was, before, ready)
+      let now = len_insert v.control.cursors key to in
+      let was = len_some v.control.cursors key cursor there in
+      let less = shorter v key to in
+      grind (arith, common_steps, now, was, less, fits, ready)
 
   -- ---- a send is told once
   told_moved : (w : View T) (key to : ℕ) → (sends_are_ready w ≡ true → sends_are_ready (moved w key to) ≡ true) → after (tell_if_ready w) key to ≡ after w key to

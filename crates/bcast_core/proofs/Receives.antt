@@ -15,10 +15,6 @@ use Rattle.bcast_core.specs.Telling.{is_untold}
 use Rattle.bcast_core.proofs.Settle.{settle_stays, settle_same}
 
 module _ {T : Type 0} where
-  -- a receive at the end changes nothing
-  receive_at_end : (v : View T) (key : ℕ) (at : Option ℕ) (cursor : ℕ) → at ≡ Some cursor → v.front ≤ cursor → v.end ≤ cursor → receive v key at ≡ v.control
-  receive_at_end v key at cursor is from beyond = grind (arith, common_steps)
-
   -- a receive that finds a message moves the cursor past it
   pub receive_one : (v : View T) (key : ℕ) (at : Option ℕ) (cursor : ℕ) → at ≡ Some cursor → v.front ≤ cursor → cursor < v.end → receive v key at ≡ with_cursor v.control key (cursor + 1)
   receive_one v key at cursor is from below = grind (arith, common_steps)
@@ -53,7 +49,7 @@ module _ {T : Type 0} where
   empty_there v key at valid s e = let a = empty_at v at valid e in is_there v key (cursor_of v.control key) at a.0 a.1 s
 
   pub receive_empty : (v : View T) (key : ℕ) (at : Option ℕ) → IsValidView v → is_empty_reply (try_recv_reply v at) ≡ true → receive v key at ≡ v.control
-  receive_empty v key at valid e = let a = empty_at v at valid e in receive_at_end v key at a.0 a.1 a.2 a.3
+  receive_empty v key at valid e = let a = empty_at v at valid e in let is = a.1 in let from = a.2 in let beyond = a.3 in grind (arith, common_steps, is, from, beyond)
 
   pub settle_empty : (v mid : View T) (key : ℕ) (at : Option ℕ) → IsValidView v → is_empty_reply (try_recv_reply v at) ≡ true → mid ≡ settle v (sets (receive v key at)) → mid ≡ v
   settle_empty v mid key at valid e is = is ∙ ap (λ c. settle v (sets c)) (receive_empty v key at valid e) ∙ settle_same v valid

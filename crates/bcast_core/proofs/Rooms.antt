@@ -9,7 +9,7 @@ use Rattle.bcast_model.specs.Words.{Cursors, Places, least}
 use Rattle.bcast_model.proofs.Waiting.{test_place}
 use Rattle.bcast_store.specs.Stored.{Stored, end_of, with_cursors}
 use Rattle.bcast_store.proofs.Least.{cursors_ext}
-use Rattle.bcast_core.specs.Parts.{AllHaveRoom, ReceiversHaveRoom, SendsHaveRoom}
+use Rattle.bcast_core.specs.Parts.{AllHaveRoom, ReceiversHaveRoom}
 
 same_key : (q key : ℕ) → eq_by_cmp nat_cmp q key ≡ true → q ≡ key
 same_key q key e = test_place.no q key (sym (unsigned_tied q key) ∙ e)
@@ -24,10 +24,6 @@ room_raised cursors room more rises all key h = let own = all key h in omega (ar
 -- a receiver for which there is room is added, or has another cursor
 pub room_inserted : (cursors : Cursors) (key cursor room : ℕ) → 2 * key + 1 < room → ReceiversHaveRoom cursors room → ReceiversHaveRoom (insert cursors key cursor) room
 room_inserted cursors key cursor room own all other h = grind (arith, common_steps, get-insert, same_key)
-
--- a receiver leaves
-room_without : (cursors : Cursors) (key room : ℕ) → ReceiversHaveRoom cursors room → ReceiversHaveRoom (remove cursors key) room
-room_without cursors key room all other h = grind (arith, common_steps, get-remove)
 
 module _ {places : Places} {sends : ℕ} where
   -- a receiver has another cursor
@@ -44,7 +40,7 @@ module _ {places : Places} {sends : ℕ} where
   -- a receiver leaves
   pub room_removed : (cursors now : Cursors) (key room : ℕ) → now ≡ remove cursors key → AllHaveRoom cursors room places sends → AllHaveRoom now room places sends
   room_removed cursors now key room is all =
-      subst (λ m. AllHaveRoom m room places sends) (sym is) (record { receivers = room_without cursors key room all.receivers; sends = all.sends })
+      subst (λ m. AllHaveRoom m room places sends) (sym is) (record { receivers = λ other h. (let was = all.receivers other in grind (arith, common_steps, get-remove)); sends = all.sends })
 
 -- a receiver that was added and removed at once
 pub remove-insert : (cursors : Cursors) (key cursor : ℕ) → get cursors key ≡ None → remove (insert cursors key cursor) key ≡ cursors
@@ -57,18 +53,14 @@ remove-insert cursors key cursor fresh =
       | false ↦ λ e. refl
     ] refl)
 
--- the cursors that it has already don't change a store
-with_own_cursors : {T : Type 0} (s : Stored T) → least (end_of s) (values s.cursors) ≤ s.front → with_cursors s s.cursors ≡ s
-with_own_cursors s low = grind (arith, common_steps)
-
 -- so it doesn't change a store
 pub taken_back : {T : Type 0} (s : Stored T) (key cursor : ℕ) → get s.cursors key ≡ None → least (end_of s) (values s.cursors) ≤ s.front
     → with_cursors s (remove (insert s.cursors key cursor) key) ≡ s
-taken_back s key cursor fresh low = ap (with_cursors s) (remove-insert s.cursors key cursor fresh) ∙ with_own_cursors s low
+taken_back s key cursor fresh low = let own : with_cursors s s.cursors ≡ s = grind (arith, common_steps, low) in ap (with_cursors s) (remove-insert s.cursors key cursor fresh) ∙ own
 
 -- ---- pending sends
 -- without places no room is needed
-pub below_none : (places : Places) (room : ℕ) → places ≡ set.empty → SendsHaveRoom places room
+pub below_none : (places : Places) (room : ℕ) → places ≡ set.empty → (place : ℕ) → set.contains places place ≡ true → place < room
 below_none places room none place h = absurd (true≢false (sym h ∙ ap (λ (s : Places). set.contains s place) none ∙ set.contains-empty nat_cmp place))
 
 -- a place that was taken and given back at once doesn't change the places

@@ -4,12 +4,12 @@ use Rattle.std.proofs.lemmas.Grind.{common_steps}
 use Rattle.std.specs.FinMap.{len}
 use Rattle.bcast_model.specs.declared.run.Call.{Call}
 use Rattle.bcast_model.specs.declared.run.Reply.{Reply}
-use Rattle.bcast_model.specs.Words.{no_listeners, Pair, Cursors, Control, closing, close_if_deserted}
-use Rattle.bcast_model.specs.Words.{pair_waits, effect, HasRange, IsValidView, tell_if_ready, Steps, sets}
+use Rattle.bcast_model.specs.Words.{no_listeners, Cursors, Control, closing, close_if_deserted}
+use Rattle.bcast_model.specs.Words.{effect, HasRange, IsValidView, tell_if_ready, sets}
 use Rattle.bcast_model.specs.Words.{View, Answers, IsShown, Legal}
 pub use Rattle.bcast_model.proofs.Answers.{answers_as, shown_after}
-pub use Rattle.bcast_model.proofs.Cases.{told_valid}
-use Rattle.bcast_model.proofs.Cases.{told_is, told_already, close_is, deserted_is}
+pub use Rattle.bcast_model.proofs.Cases.{told_already, told_valid}
+use Rattle.bcast_model.proofs.Cases.{told_is, close_is, deserted_is}
 use Rattle.bcast_core.specs.Telling.{NobodyWaits, tell_news}
 use Rattle.bcast_core.specs.Parts.{Does}
 pub use Rattle.bcast_core.proofs.Does.{valid_shown, does_begin, does_resize, does_receive, does_sets, does_nothing}
@@ -19,31 +19,20 @@ module _ {T : Type 0} where
   pub told_none : (v : View T) → v.control.waiting_sends ≡ no_listeners → tell_if_ready v ≡ v
   told_none v nobody = grind (arith, common_steps)
 
-  -- no further send is told once a receiver waits in a valid state
-  pub told_waiting : (v : View T) (pair : Pair) → IsValidView v → tell_if_ready (record v { control = pair_waits v.control pair }) ≡ record v { control = pair_waits v.control pair }
-  told_waiting v pair valid = told_already (record v { control = pair_waits v.control pair }) valid.wake_ups.sends
-
-  -- nor once the senders and inactive receivers are counted anew
-  pub told_counted : (v : View T) (senders inactive : ℕ) → IsValidView v → tell_if_ready (record v { control = record v.control { senders = senders; inactive = inactive } }) ≡ record v { control = record v.control { senders = senders; inactive = inactive } }
-  told_counted v senders inactive valid = told_already (record v { control = record v.control { senders = senders; inactive = inactive } }) valid.wake_ups.sends
-
-  -- nor if the channel is closed then, since all sends are told
+  -- nor once a side has one handle fewer: if the channel is closed then, all sends are told
   pub told_left : (v : View T) (senders inactive : ℕ) → IsValidView v → tell_if_ready (record v { control = close_if_deserted (record v.control { senders = senders; inactive = inactive }) }) ≡ record v { control = close_if_deserted (record v.control { senders = senders; inactive = inactive }) }
   told_left v senders inactive valid =
       let left : Control = record v.control { senders = senders; inactive = inactive } in
       let Told : Control → Type 0 = λ c. tell_if_ready (record v { control = c }) ≡ record v { control = c } in
-      let counted = told_counted v senders inactive valid in
+      let counted : Told left = told_already (record v { control = left }) valid.wake_ups.sends in
       let closed : Told (closing left) = told_already (record v { control = closing left }) (λ _ some. some) in
       deserted_is Told left (close_is Told left (λ _. counted) (λ _. closed)) (λ _. counted)
-
-  pub told_last : {is_clone : T → T → Type 0} {old mid new : View T} {c : Call T} {r : Reply T} → Does is_clone old c r mid → new ≡ tell_if_ready mid → Steps is_clone old c r new
-  told_last does new_is = record { legal = does.legal; next = new_is ∙ ap tell_if_ready does.effect }
 
   pub ends : {is_clone : T → T → Type 0} {was old mid new : View T} {c : Call T} {r : Reply T} → was ≡ old → IsShown was → HasRange c (len mid.control.cursors) → Does is_clone was c r mid → new ≡ tell_if_ready mid → Answers is_clone old c r new
   ends {mid = mid} {c = c} same shown range does new_is =
       let told = told_is (λ (v : View T). v.control.cursors ≡ mid.control.cursors) mid refl refl in
       let fits = subst (λ (cursors : Cursors). HasRange c (len cursors)) (sym (ap (λ (v : View T). v.control.cursors) new_is ∙ told)) range in
-      answers_as same fits shown (told_last does new_is)
+      answers_as same fits shown (record { legal = does.legal; next = new_is ∙ ap tell_if_ready does.effect })
 
   -- a call that changes nothing
   pub unchanged : {is_clone : T → T → Type 0} {was old new : View T} {c : Call T} {r : Reply T} → was ≡ old → IsShown was → new ≡ was → HasRange c (len was.control.cursors) → Legal is_clone was c r → effect was c r ≡ sets was.control → Answers is_clone old c r new

@@ -44,15 +44,11 @@ seen_of store control = record {
 abbrev pub ReceiversHaveRoom : Cursors → ℕ → Type 0
 ReceiversHaveRoom cursors room = (key : ℕ) → is_some (get cursors key) ≡ true → 2 * key + 1 < room
 
--- each pending send finds room among those that wait
-abbrev pub SendsHaveRoom : Places → ℕ → Type 0
-SendsHaveRoom places room = (place : ℕ) → set.contains places place ≡ true → place < room
-
--- there is room for all that may wait
+-- and each pending send among those that wait
 pub record AllHaveRoom
     (cursors : Cursors) (receives_room : ℕ) (places : Places) (sends_room : ℕ) : Type 0 where
   pub receivers : ReceiversHaveRoom cursors receives_room
-  pub sends : SendsHaveRoom places sends_room
+  pub sends : (place : ℕ) → set.contains places place ≡ true → place < sends_room
 
 -- a call and its reply, but for telling a sender
 pub record Does

@@ -1,6 +1,5 @@
 -- A receiver stays if there is room for its listeners, and else is removed at once.
-use Rattle.bcast_core.proofs.Common.{rules, ◌≡◌, refl, sym, ◌∙◌, subst, arith, common_steps, Stored, ReceiversHaveRoom, control_of, seen_of}
-use Rattle.bcast_core.proofs.Settle.{inserted}
+use Rattle.bcast_core.proofs.Common.{rules, ◌≡◌, refl, sym, ◌∙◌, subst, arith, common_steps, Stored, ReceiversHaveRoom, control_of, seen_of, inserted}
 use Rattle.bcast_core.proofs.Rooms.{room_inserted, room_raised, taken_back}
 use Rattle.bcast_core.proofs.parts.Parts.add_receiver.Goals as goal
 use Rattle.bcast_core.proofs.parts.Parts.add_receiver.Goals.{After-remove}

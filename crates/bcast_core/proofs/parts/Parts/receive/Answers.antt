@@ -1,12 +1,8 @@
-use Rattle.bcast_core.proofs.Common.{◌+◌, ◌<◌, ◌≤◌, Ok, inl, refl, sym, ap, ◌∙◌, is_some, arith, common_steps, get, View, sets, settle, cursor_of, is_empty_reply, Stored, control_of, seen_of}
-use Rattle.std.proofs.Common.{None}
-use Rattle.std.specs.FinMap.{insert}
+use Rattle.bcast_core.proofs.Common.{◌+◌, ◌<◌, ◌≤◌, Ok, inl, refl, sym, ap, ◌∙◌, is_some, arith, common_steps, get, View, sets, settle, cursor_of, is_empty_reply, Stored, control_of, seen_of, insert, None, low_inserted, settle_stays, view-with_cursors, with_cursor, receive, recv_reply}
 use Rattle.std.proofs.lemmas.Result.{on_ok_weaker}
-use Rattle.bcast_model.specs.Words.{with_cursor, receive, recv_reply}
 use Rattle.bcast_model.proofs.Cases.{lagging_receive}
 use Rattle.bcast_core.proofs.Receives.{lagging, at_end, is_there, receive_one, settle_empty, untold_empty}
 use Rattle.bcast_core.proofs.Rooms.{room_moved, room_read}
-use Rattle.bcast_core.proofs.Settle.{low_inserted, settle_stays, view-with_cursors}
 use Rattle.bcast_core.proofs.parts.Parts.receive.Goals as goal
 use Rattle.bcast_core.proofs.parts.Parts.receive.Goals.{in-Ok, in-Err, then-self, else-self}
 

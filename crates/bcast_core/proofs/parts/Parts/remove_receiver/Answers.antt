@@ -1,7 +1,6 @@
-use Rattle.bcast_core.proofs.Common.{ap, ◌∙◌, arith, common_steps, View, pair_ended, stream_of, future_of, Stored}
+use Rattle.bcast_core.proofs.Common.{ap, ◌∙◌, arith, common_steps, View, pair_ended, stream_of, future_of, Stored, view-with_cursors}
 use Rattle.std.specs.FinMap.{remove}
 use Rattle.bcast_core.proofs.Rooms.{room_removed}
-use Rattle.bcast_core.proofs.Settle.{view-with_cursors}
 use Rattle.bcast_core.proofs.parts.Parts.remove_receiver.Goals as goal
 
 -- the front doesn't depend on who waits, so the listeners may leave after the cursor

@@ -1,5 +1,4 @@
-use Rattle.bcast_core.proofs.Common.{◌≡◌, ◌^◌, ◌<◌, inl, inr, not, refl, sym, ap, ◌∙◌, subst, eq-eqb, ne_eqb, len, View, ends, shown_after, unchanged, valid_shown}
-use Rattle.bcast_core.proofs.Making.{activated, not_added}
+use Rattle.bcast_core.proofs.Common.{◌≡◌, ◌^◌, ◌<◌, inl, inr, not, refl, sym, ap, ◌∙◌, subst, eq-eqb, ne_eqb, len, View, ends, shown_after, unchanged, valid_shown, activated, not_added}
 use Rattle.bcast_core.proofs.state.Inner.activate.Goals as goal
 
 pub returns-then-self-eq0 : goal.returns-then-self-eq0

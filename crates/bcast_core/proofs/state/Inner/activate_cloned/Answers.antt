@@ -1,5 +1,4 @@
-use Rattle.bcast_core.proofs.Common.{◌≡◌, inl, not, refl, sym, ap, ◌∙◌, eq-eqb, ends, shown_after, unchanged, valid_shown}
-use Rattle.bcast_core.proofs.Making.{added_fits, cloned_activated}
+use Rattle.bcast_core.proofs.Common.{◌≡◌, inl, not, refl, sym, ap, ◌∙◌, eq-eqb, ends, shown_after, unchanged, valid_shown, added_fits, cloned_activated}
 use Rattle.bcast_core.proofs.state.Inner.activate_cloned.Goals as goal
 
 pub returns-then-self-eq0 : goal.returns-then-self-eq0

@@ -1,6 +1,5 @@
-use Rattle.bcast_core.proofs.Common.{inl, refl, sym, ◌∙◌, ap, is_some, cursor_of, sets, ends, shown_after, told_none, unchanged, valid_shown}
+use Rattle.bcast_core.proofs.Common.{inl, refl, sym, ◌∙◌, ap, is_some, cursor_of, sets, ends, shown_after, told_none, unchanged, valid_shown, not_some, added_fits, clone_added}
 use Rattle.bcast_model.proofs.Cases.{uncloned}
-use Rattle.bcast_core.proofs.Making.{not_some, added_fits, clone_added}
 use Rattle.bcast_core.proofs.state.Inner.clone_receiver.Goals as goal
 
 pub returns-in_default : goal.returns-in_default

@@ -1,5 +1,4 @@
-use Rattle.bcast_core.proofs.Common.{◌≡◌, refl, sym, ap, ◌∙◌, is_some, cursor_of, ends, shown_after, unchanged, valid_shown}
-use Rattle.bcast_core.proofs.Making.{at_most, not_some, deactivated}
+use Rattle.bcast_core.proofs.Common.{◌≡◌, refl, sym, ap, ◌∙◌, is_some, cursor_of, ends, shown_after, unchanged, valid_shown, at_most, not_some, deactivated}
 use Rattle.bcast_core.proofs.state.Inner.deactivate.Goals as goal
 
 pub returns-in_default : goal.returns-in_default

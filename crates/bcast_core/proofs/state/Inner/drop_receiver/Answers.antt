@@ -1,7 +1,5 @@
-use Rattle.bcast_core.proofs.Common.{refl, sym, ap, ◌∙◌, drop_receiver, sets, tell_if_ready}
+use Rattle.bcast_core.proofs.Common.{refl, sym, ap, ◌∙◌, drop_receiver, sets, tell_if_ready, receiver_left, ends, shown_after, told_none, unchanged}
 use Rattle.std.proofs.option.Match.{None-if_not_some}
-use Rattle.bcast_core.proofs.Making.{receiver_left}
-use Rattle.bcast_core.proofs.Tail.{ends, shown_after, told_none, unchanged}
 use Rattle.bcast_core.proofs.state.Inner.drop_receiver.Goals as goal
 
 pub returns-then-not-remove_receiver : goal.returns-then-not-remove_receiver

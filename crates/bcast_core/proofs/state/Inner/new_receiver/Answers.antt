@@ -1,5 +1,4 @@
-use Rattle.bcast_core.proofs.Common.{sym, ap, ◌∙◌, ends, shown_after, told_none, valid_shown}
-use Rattle.bcast_core.proofs.Making.{added_fits, new_added}
+use Rattle.bcast_core.proofs.Common.{sym, ap, ◌∙◌, ends, shown_after, told_none, valid_shown, added_fits, new_added}
 use Rattle.bcast_core.proofs.state.Inner.new_receiver.Goals as goal
 
 pub returns-then-not-is_empty : goal.returns-then-not-is_empty

@@ -1,12 +1,9 @@
 -- Several messages are given, and at most one send is told.
-use Rattle.bcast_core.proofs.Common.{◌≡◌, inl, inr, ◌+◌, is_some, sym, ap, ◌∙◌, subst, arith, IsSomeAnd, IsShown, View, cursor_of, kept_at, tell_if_ready, Stored, AreHandedOut, IsHandedOut}
+use Rattle.bcast_core.proofs.Common.{◌≡◌, inl, inr, ◌+◌, is_some, sym, ap, ◌∙◌, subst, arith, IsSomeAnd, IsShown, View, cursor_of, kept_at, tell_if_ready, Stored, AreHandedOut, IsHandedOut, insert, view-with_cursors, valid_shown}
 use Rattle.std.proofs.lemmas.Bool.{cases_lt}
-use Rattle.std.specs.FinMap.{insert}
 use Rattle.bcast_core.proofs.Moves.{after}
 use Rattle.bcast_core.proofs.Batches.{StandsAt, into_given, into_shown, unread_is, next_refused}
 use Rattle.bcast_core.proofs.Rooms.{room_moved}
-use Rattle.bcast_core.proofs.Tail.{valid_shown}
-use Rattle.bcast_core.proofs.Settle.{view-with_cursors}
 use Rattle.bcast_core.proofs.state.Inner.receive_many.Goals as goal
 use Rattle.bcast_core.proofs.state.Inner.receive_many.Goals.{After-tell_a_sender}
 

@@ -1,4 +1,4 @@
-use Rattle.bcast_core.proofs.Tail.{does_resize, ends, shown_after, valid_shown}
+use Rattle.bcast_core.proofs.Common.{does_resize, ends, shown_after, valid_shown}
 use Rattle.bcast_core.proofs.state.Inner.set_capacity.Goals as goal
 
 pub set_capacity-set-requires-clause-valid : goal.set_capacity-set-requires-clause-valid
