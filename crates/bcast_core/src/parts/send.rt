@@ -1,20 +1,19 @@
 //! Sending, and the capacity, which may make room.
-ghost use Rattle.std.specs.Prelude.{◌≡◌, ◌==◌, ◌<◌, ◌≤◌, false, true, if◌then◌else◌, not};
-ghost use Rattle.std.specs.Prelude.{Ok, Err, IfOk, IfErr, OnOk, OnErr, is_ok};
+ghost use Rattle.std.specs.Prelude.{◌≡◌, ◌==◌, ◌<◌, ◌≤◌, false, not, IfOk, OnOk, OnErr, is_ok};
 ghost use Rattle.bcast_core.specs.Telling.{is_accepted};
 
 use super::Parts;
 use bcast_model::error::{SendError, TrySendError};
 use bcast_model::messages::Messages;
-use bcast_model::run::{Reply, SendPoll};
-use bcast_waiting::notice::{MakesNotice, Notice};
+use bcast_model::run::SendPoll;
+use bcast_waiting::notice::Notice;
 use std::alloc::{AllocError, Allocator};
 
 impl<T: Drop, N: Notice, A: Allocator + Copy> Parts<T, N, A> {
     ghost use Rattle.bcast_model.specs.Words.{has_place, with_place, place_answered, place_ended};
-    ghost use Rattle.bcast_model.specs.Words.{tell_if_ready, must_wait, IsValidView, settle, resize};
-    ghost use Rattle.bcast_model.specs.Words.{try_broadcast_reply, attempt_send_reply, offer};
-    ghost use Rattle.bcast_model.specs.Words.{try_broadcast_all_reply, offer_all, poll_send};
+    ghost use Rattle.bcast_model.specs.Words.{tell_if_ready, IsValidView, settle, resize, offer};
+    ghost use Rattle.bcast_model.specs.Words.{try_broadcast_reply, attempt_send_reply};
+    ghost use Rattle.bcast_model.specs.Words.{try_broadcast_all_reply, offer_all};
     ghost use Rattle.bcast_core.specs.Telling.{tell_news};
 
     /// Accepts a whole list, or hands it back with the reason. No one is told: the caller has to do
@@ -133,60 +132,28 @@ impl<T: Drop, N: Notice, A: Allocator + Copy> Parts<T, N, A> {
         self.places.remove(place);
     }
 
-    /// A poll of a pending send, whose notice is made if it must wait.
+    /// The last step of a poll that answers the send of this place: if its message was accepted, all
+    /// that wait to receive are told first.
     #[inline(always)]
-    pub fn poll_send<M: MakesNotice<N>>(
-        &mut self,
-        place: usize,
-        msg: T,
-        maker: &mut M,
-    ) -> Result<SendPoll<T>, T>
-        requires { IsValidView self.old }
-        ensures reply { IfOk result (λ sent. sent ≡ (if has_place self.old.control place
-            then attempt_send_reply self.old msg
-            else SendPoll.Wait msg)) }
-        ensures effect { OnOk result (self.new
-            ≡ tell_if_ready (settle self.old (poll_send self.old place msg))) }
-
-        ensures made { IfOk result (λ sent. must_wait (Reply.PollSend sent) ≡ true
-            → M.made maker.old maker.new) }
-        ensures idle { IfOk result (λ sent. must_wait (Reply.PollSend sent) ≡ false
-            → maker.new ≡ maker.old) }
-        ensures back { IfErr result (λ back. back ≡ msg) }
-        ensures same { OnErr result (self.new ≡ self.old) }
-        ensures refused { OnErr result (M.refused maker.old maker.new) }
+    #[tactic(auto, using(crate::proofs::Tail::tails))]
+    pub fn send_answered(&mut self, place: usize, is_accepted: bool)
+        ensures { let told = tell_news is_accepted self.old in self.new
+            ≡ tell_if_ready (record told { control = place_answered told.control place }) }
     {
-        if !self.places.contains(place) {
-            let Ok(_) = maker.make() else {
-                return Err(msg);
-            };
-            return Ok(SendPoll::Wait(msg));
-        }
-        match self.attempt(msg) {
-            SendPoll::Ready(answer) => {
-                if self.nobody_waits() {
-                    self.place_answered(place);
-                    return Ok(SendPoll::Ready(answer));
-                }
-                self.tell_of_send(place, answer.is_ok());
-                Ok(SendPoll::Ready(answer))
-            }
-            SendPoll::Wait(msg) => {
-                let Ok(()) = self.sends.wait_again(place, maker) else {
-                    return Err(msg);
-                };
-                Ok(SendPoll::Wait(msg))
-            }
+        if self.nobody_waits() {
+            self.place_answered(place);
+        } else {
+            self.tell_of_send(place, is_accepted);
         }
     }
 
-    // The rest of a poll of a pending send that was answered, while a send or a receiver waits.
+    // In a function of its own, so that an answer while nobody waits costs two tests.
     #[inline(never)]
-    fn tell_of_send(&mut self, place: usize, news: bool)
-        ensures { let told = tell_news news self.old in self.new
+    fn tell_of_send(&mut self, place: usize, is_accepted: bool)
+        ensures { let told = tell_news is_accepted self.old in self.new
             ≡ tell_if_ready (record told { control = place_answered told.control place }) }
     {
-        self.tell_news(news);
+        self.tell_news(is_accepted);
         self.place_answered(place);
         self.tell_a_sender();
     }

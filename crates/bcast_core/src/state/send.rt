@@ -133,7 +133,24 @@ impl<T: Drop, N: Notice, A: Allocator + Copy> Inner<T, N, A> {
         ensures same { OnErr result (self.new ≡ self.old) }
         ensures refused { OnErr result (M.refused maker.old maker.new) }
     {
-        self.parts.poll_send(place, msg, maker)
+        if !self.parts.places.contains(place) {
+            let Ok(_) = maker.make() else {
+                return Err(msg);
+            };
+            return Ok(SendPoll::Wait(msg));
+        }
+        match self.parts.attempt(msg) {
+            SendPoll::Ready(answer) => {
+                self.parts.send_answered(place, answer.is_ok());
+                Ok(SendPoll::Ready(answer))
+            }
+            SendPoll::Wait(msg) => {
+                let Ok(()) = self.parts.sends.wait_again(place, maker) else {
+                    return Err(msg);
+                };
+                Ok(SendPoll::Wait(msg))
+            }
+        }
     }
 
     /// Gives up the pending send of this place. If it was told, the next one that waits is told,
