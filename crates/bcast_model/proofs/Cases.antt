@@ -1,10 +1,10 @@
 -- The conditional parts of a call, and its replies, each by its cases.
-use Rattle.std.proofs.Common.{◌≡◌, ℕ, ◌+◌, ◌<◌, ◌≤◌, ◌==◌, ◌&&◌, Bool, true, false, cond, length, Option, Some, None, Result, Ok, Err, OnErr, not, nat_lt, inl, inr, refl, sym, subst, arith, ◌-◌, alloc_error}
+use Rattle.std.proofs.Common.{◌≡◌, ℕ, ◌+◌, ◌<◌, ◌≤◌, ◌==◌, ◌&&◌, ◌||◌, Bool, true, false, cond, length, Option, Some, None, Result, Ok, Err, OnErr, not, nat_lt, inl, inr, refl, sym, subst, arith, ◌-◌, alloc_error}
 use Rattle.std.proofs.lemmas.Grind.{common_steps}
 use Rattle.std.specs.FinMap.{get}
 use Rattle.bcast_model.specs.Words.{IsMadeFrom, IsReceivedBy, Found, IsOwed, HandleError, Cursors}
 use Rattle.bcast_model.specs.Words.{Reply, Control, last_end, tell_a_sender, tell_receivers}
-use Rattle.bcast_model.specs.Words.{closing, close, is_deserted, close_if_deserted, accepting}
+use Rattle.bcast_model.specs.Words.{closing, close, close_if_deserted, accepting}
 use Rattle.bcast_model.specs.Words.{with_cursor, History, with_control, view_of, View}
 use Rattle.bcast_model.specs.Words.{sends_are_ready, TrySendError, clone_receiver, end_call}
 use Rattle.bcast_model.specs.Words.{Call, remember, effect, next, tell_if_ready, IsValidView}
@@ -27,8 +27,8 @@ on_err (Err error) holds = holds
 pub close_is : (P : Control → Type 0) (c : Control) → (c.closed ≡ true → P c) → (c.closed ≡ false → P (closing c)) → P (close c)
 close_is P c was now = test_is P c.closed c (closing c) was now
 
-pub deserted_is : (P : Control → Type 0) (c : Control) → P (close c) → (is_deserted c ≡ false → P c) → P (close_if_deserted c)
-deserted_is P c gone stays = test_is P (is_deserted c) (close c) c (λ _. gone) stays
+pub deserted_is : (P : Control → Type 0) (c : Control) → P (close c) → (((c.senders == 0) || (has_no_receiver c && (c.inactive == 0))) ≡ false → P c) → P (close_if_deserted c)
+deserted_is P c gone stays = test_is P _ (close c) c (λ _. gone) stays
 
 pub accepting_is : (P : Control → Type 0) (c : Control) (end : ℕ) → P (close (tell_receivers c)) → ((end == last_end) ≡ false → P (tell_receivers c)) → P (accepting c end)
 accepting_is P c end last more = test_is P (end == last_end) (close (tell_receivers c)) (tell_receivers c) (λ _. last) more

@@ -1,5 +1,6 @@
 -- Each call on a list of listeners keeps it in order, keeps positions, and counts as it should.
 use Rattle.std.proofs.Common.{◌≡◌, ℕ, ◌+◌, ◌-◌, Bool, true, false, cond, [], ◌∷◌, ◌++◌, length, refl, ap, ◌∙◌, arith}
+use Rattle.std.proofs.lemmas.Grind.{common_steps}
 use Rattle.std.proofs.lemmas.List.{take_at, take-append-le, drop-append-le}
 use Rattle.bcast_model.specs.Words.{Listeners, told_ids, untold_ids, is_in, without, join, consume}
 use Rattle.bcast_model.specs.Words.{AreInOrder, IsTest, StaysInOrder, KeepsPositions, KeepsCounts}
@@ -34,10 +35,7 @@ module _ {A : Type 0} (same : A → A → Bool) (test : IsTest same) where
       }
 
   absent_told : (id : A) (l : Listeners A) → is_in same id l.ids ≡ false → is_in same id (told_ids l) ≡ false
-  absent_told id l h = elim (is_in same id (told_ids l)) as (λ b. is_in same id (told_ids l) ≡ b → b ≡ false) [
-    | true ↦ λ e. let t = told_listed same test id l e in cc
-    | false ↦ λ e. refl
-  ] refl
+  absent_told id l h = grind (arith, common_steps, told_listed same test id l)
 
   pub keeps_counts : (id : A) (l : Listeners A) → AreInOrder same l → KeepsCounts same id l
   keeps_counts id l o = record {

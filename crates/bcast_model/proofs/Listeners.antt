@@ -1,11 +1,12 @@
 -- Lists of listeners: they stay in order, and what holds of each stays so.
 use Rattle.std.proofs.Common.{◌≡◌, ℕ, ◌+◌, ◌-◌, ◌≤◌, Bool, true, false, cond, ◌||◌, List, [], ◌∷◌, ◌++◌, length, min, max, take, drop, refl, sym, ap, ◌∙◌, subst, arith, length-append}
+use Rattle.std.proofs.lemmas.Grind.{common_steps}
 use Rattle.std.proofs.lemmas.List.{length-take, take-append-drop, drop_at, drop-append-le, drop_all}
 use Rattle.std.specs.List.{AllByRecursion}
 use Rattle.bcast_model.specs.Words.{Listeners, told_ids, untold_ids, is_in, without, tell, tell_all}
 use Rattle.bcast_model.specs.Words.{join, consume, abandon, wait_again, IsDistinct, AreInOrder}
 use Rattle.bcast_model.specs.Words.{IsTest}
-use Rattle.bcast_model.proofs.Lists.{all_more, all_append, all_later, all_without, all_absent, absent, some, without-append, in-append, distinct_left, distinct_without, length-without}
+use Rattle.bcast_model.proofs.Lists.{all_more, all_append, all_later, all_without, all_absent, absent, absent_without, some, without-append, in-append, distinct_left, distinct_without, length-without}
 use Rattle.bcast_model.proofs.Cases.{test_is}
 
 -- a list in order, and what holds of each listener, and of each that is not told
@@ -42,10 +43,7 @@ module _ {A : Type 0} (same : A → A → Bool) (test : IsTest same) where
   }
 
   pub flips : (id other : A) → same id other ≡ false → same other id ≡ false
-  flips id other h = elim (same other id) as (λ b. same other id ≡ b → b ≡ false) [
-    | true ↦ λ e. let s : other ≡ id = test.no other id e in let t : same id other ≡ true = subst (λ z. same id z ≡ true) (sym s) (test.yes id) in cc
-    | false ↦ λ e. refl
-  ] refl
+  flips id other h = grind (arith, common_steps, test.no other id, test.yes id)
 
   distinct_join : (id : A) (ids : List A) → IsDistinct same ids → is_in same id ids ≡ false → IsDistinct same (ids ++ id ∷ [])
   distinct_join id [] d h = (tt, tt)
@@ -53,26 +51,12 @@ module _ {A : Type 0} (same : A → A → Bool) (test : IsTest same) where
       let a = all_absent same id (other ∷ ids) h in
       (all_append (λ z. same other z ≡ false) ids (id ∷ []) d.0 (flips id other a.0, tt), distinct_join id ids d.1 (absent same id ids a.1))
 
-  pub absent_without : (id : A) (ids : List A) → is_in same id (without same id ids) ≡ false
-  absent_without id [] = refl
-  absent_without id (other ∷ ids) = elim (same id other) as (λ b. same id other ≡ b → is_in same id (cond b (without same id ids) (other ∷ without same id ids)) ≡ false) [
-    | true ↦ λ e. absent_without id ids
-    | false ↦ λ e. rw e (absent_without id ids)
-  ] refl
-
   pub consume_listed : (id : A) (l : Listeners A) → AreInOrder same l → is_in same id l.ids ≡ true → length (consume same id l).ids + 1 ≡ length l.ids
-  consume_listed id l o i =
-      let s = some same id l.ids i in
-      let e : length (without same id l.ids) ≡ cond (is_in same id l.ids) (length l.ids - 1) (length l.ids) = length-without same test id l.ids o.distinct in
-      let f : length (without same id l.ids) ≡ length l.ids - 1 = rw i at e in
-      omega arith
+  consume_listed id l o i = grind (arith, common_steps, some same id l.ids, length-without same test id l.ids o.distinct)
 
   -- an id that is told is listed, and is not among the untold
   pub told_listed : (id : A) (l : Listeners A) → is_in same id (told_ids l) ≡ true → is_in same id l.ids ≡ true
-  told_listed id l h =
-      let e = in-append same id (take l.told l.ids) (drop l.told l.ids) in
-      let f : is_in same id (take l.told l.ids ++ drop l.told l.ids) ≡ true = e ∙ ap (λ b. b || is_in same id (drop l.told l.ids)) h in
-      subst (λ ids. is_in same id ids ≡ true) (take-append-drop l.told l.ids) f
+  told_listed id l h = grind (arith, common_steps, in-append same id (take l.told l.ids) (drop l.told l.ids), take-append-drop l.told l.ids)
 
   pub told_some : (id : A) (l : Listeners A) → is_in same id (told_ids l) ≡ true → 1 ≤ l.told
   told_some id l h = let s = some same id (take l.told l.ids) h in omega (arith, length-take l.told l.ids)
@@ -98,7 +82,7 @@ module _ {A : Type 0} (same : A → A → Bool) (test : IsTest same) where
   in_order_abandon id l o = abandon_is (AreInOrder same) id l (in_order_tell 1 (consume same id l) (in_order_consume id l o)) (in_order_consume id l o)
 
   pub in_order_waits : (id : A) (l : Listeners A) → AreInOrder same l → AreInOrder same (wait_again same id l)
-  in_order_waits id l o = waits_is (AreInOrder same) id l o (in_order_join id (consume same id l) (absent_without id l.ids) (in_order_consume id l o))
+  in_order_waits id l o = waits_is (AreInOrder same) id l o (in_order_join id (consume same id l) (absent_without same id l.ids) (in_order_consume id l o))
 
   -- ---- what holds of each listener, and of each that is not told
   pub fit_weaker : {P Q R S : A → Type 0} (l : Listeners A) → AreFit same P Q l → ((id : A) → P id → R id) → ((id : A) → Q id → S id) → AreFit same R S l
@@ -130,7 +114,7 @@ module _ {A : Type 0} (same : A → A → Bool) (test : IsTest same) where
       let left : Listeners A = consume same id l in
       let gone : AreFit same P Q left = fit_others id left (fit_consumed id l f) in
       waits_is (AreFit same P Q) id l f (record {
-        in_order = in_order_join id left (absent_without id l.ids) gone.in_order;
+        in_order = in_order_join id left (absent_without same id l.ids) gone.in_order;
         listed = all_append P left.ids (id ∷ []) gone.listed (p, tt);
         untold = subst (AllByRecursion Q) (sym (drop-append-le left.told left.ids (id ∷ []) gone.in_order.told)) (all_append Q (untold_ids left) (id ∷ []) gone.untold (q, tt));
       })

@@ -1,5 +1,6 @@
 -- Lists of ids: what holds of each, and a list without an id.
 use Rattle.std.proofs.Common.{◌≡◌, ℕ, zero, suc, ◌+◌, ◌-◌, ◌<◌, ◌≤◌, Bool, true, false, cond, ◌||◌, List, [], ◌∷◌, ◌++◌, length, drop, refl, sym, ap, ◌∙◌, subst, arith}
+use Rattle.std.proofs.lemmas.Grind.{common_steps}
 use Rattle.std.proofs.lemmas.List.{drop-drop}
 use Rattle.std.specs.List.{AllByRecursion}
 use Rattle.bcast_model.specs.Words.{is_in, without, IsDistinct, IsTest}
@@ -35,24 +36,15 @@ module _ {A : Type 0} where
   module _ (same : A → A → Bool) where
     pub without-append : (id : A) (ids others : List A) → without same id (ids ++ others) ≡ without same id ids ++ without same id others
     without-append id [] others = refl
-    without-append id (other ∷ ids) others = elim (same id other) as (λ b. cond b (without same id (ids ++ others)) (other ∷ without same id (ids ++ others)) ≡ cond b (without same id ids) (other ∷ without same id ids) ++ without same id others) [
-      | true ↦ without-append id ids others
-      | false ↦ ap (λ rest. other ∷ rest) (without-append id ids others)
-    ]
+    without-append id (other ∷ ids) others = grind (arith, common_steps, without-append id ids others)
 
     pub in-append : (id : A) (ids others : List A) → is_in same id (ids ++ others) ≡ (is_in same id ids || is_in same id others)
     in-append id [] others = refl
-    in-append id (other ∷ ids) others = elim (same id other) as (λ b. (b || is_in same id (ids ++ others)) ≡ ((b || is_in same id ids) || is_in same id others)) [
-      | true ↦ refl
-      | false ↦ in-append id ids others
-    ]
+    in-append id (other ∷ ids) others = grind (arith, common_steps, in-append id ids others)
 
     pub without_absent : (id : A) (ids : List A) → is_in same id ids ≡ false → without same id ids ≡ ids
     without_absent id [] h = refl
-    without_absent id (other ∷ ids) h = elim (same id other) as (λ b. (b || is_in same id ids) ≡ false → cond b (without same id ids) (other ∷ without same id ids) ≡ other ∷ ids) [
-      | true ↦ λ h. cc
-      | false ↦ λ h. ap (λ rest. other ∷ rest) (without_absent id ids h)
-    ] h
+    without_absent id (other ∷ ids) h = grind (arith, common_steps, without_absent id ids)
 
     pub all_without : (P : A → Type 0) (id : A) (ids : List A) → AllByRecursion P ids → AllByRecursion (λ other. P other × (same id other ≡ false)) (without same id ids)
     all_without P id [] a = a
@@ -68,10 +60,11 @@ module _ {A : Type 0} where
 
     pub all_absent : (id : A) (ids : List A) → is_in same id ids ≡ false → AllByRecursion (λ other. same id other ≡ false) ids
     all_absent id [] h = tt
-    all_absent id (other ∷ ids) h = elim (same id other) as (λ b. same id other ≡ b → (b || is_in same id ids) ≡ false → AllByRecursion (λ other. same id other ≡ false) (other ∷ ids)) [
-      | true ↦ λ e h. cc
-      | false ↦ λ e h. (e, all_absent id ids h)
-    ] refl h
+    all_absent id (other ∷ ids) h = (grind (arith, common_steps, h), all_absent id ids (grind (arith, common_steps, h)))
+
+    pub absent_without : (id : A) (ids : List A) → is_in same id (without same id ids) ≡ false
+    absent_without id [] = refl
+    absent_without id (other ∷ ids) = grind (arith, common_steps, absent_without id ids)
 
     pub some : (id : A) (ids : List A) → is_in same id ids ≡ true → 0 < length ids
     some id [] h = cc
@@ -92,10 +85,9 @@ module _ {A : Type 0} where
       -- an id in one part of a list without doubles isn't in the other
       pub distinct_apart : (id : A) (ids others : List A) → IsDistinct same (ids ++ others) → is_in same id ids ≡ true → is_in same id others ≡ false
       distinct_apart id [] others d h = cc
-      distinct_apart id (other ∷ ids) others d h = elim (same id other) as (λ b. same id other ≡ b → (b || is_in same id ids) ≡ true → is_in same id others ≡ false) [
-        | true ↦ λ e h. subst (λ z. is_in same z others ≡ false) (sym (test.no id other e)) (absent other others (all_right (λ z. same other z ≡ false) ids others d.0))
-        | false ↦ λ e h. distinct_apart id ids others d.1 h
-      ] refl h
+      distinct_apart id (other ∷ ids) others d h =
+          let out = absent other others (all_right (λ z. same other z ≡ false) ids others d.0) in
+          grind (arith, common_steps, out, distinct_apart id ids others d.1, test.no id other)
 
       -- what holds of each of a list holds of an id in it
       pub all_in : (P : A → Type 0) (id : A) (ids : List A) → AllByRecursion P ids → is_in same id ids ≡ true → P id
@@ -108,13 +100,7 @@ module _ {A : Type 0} where
       -- a list without doubles loses one element at most
       pub length-without : (id : A) (ids : List A) → IsDistinct same ids → length (without same id ids) ≡ cond (is_in same id ids) (length ids - 1) (length ids)
       length-without id [] d = refl
-      length-without id (other ∷ ids) d = elim (same id other) as (λ b. same id other ≡ b → length (cond b (without same id ids) (other ∷ without same id ids)) ≡ cond (b || is_in same id ids) (length (other ∷ ids) - 1) (length (other ∷ ids))) [
-        | true ↦ λ e.
-            let s : other ≡ id = sym (test.no id other e) in
-            let out : is_in same id ids ≡ false = subst (λ z. is_in same z ids ≡ false) s (absent other ids d.0) in
-            ap length (without_absent id ids out) ∙ omega arith
-        | false ↦ λ e. elim (is_in same id ids) as (λ b. is_in same id ids ≡ b → length (without same id ids) ≡ cond b (length ids - 1) (length ids) → suc (length (without same id ids)) ≡ cond b (length (other ∷ ids) - 1) (length (other ∷ ids))) [
-          | true ↦ λ i r. let more = some id ids i in omega arith
-          | false ↦ λ i r. ap suc r
-        ] refl (length-without id ids d.1)
-      ] refl
+      length-without id (other ∷ ids) d =
+          let out = absent other ids d.0 in
+          let rest = length-without id ids d.1 in
+          grind (arith, common_steps, out, rest, test.no id other, without_absent id ids, some id ids)

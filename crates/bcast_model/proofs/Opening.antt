@@ -7,7 +7,7 @@ use Rattle.std.specs.Cmp.{nat_cmp_total}
 use Rattle.std.specs.FinMap.{get, insert, empty, values, get-empty, len-insert, len-empty}
 use Rattle.bcast_model.specs.Words.{History, opening, front_number, view_of, IsValid}
 use Rattle.bcast_model.specs.Words.{IsValidControl, NoLostWakeUp, View, IsShown, Represents}
-use Rattle.bcast_model.specs.Words.{IsValidView, end_number, is_full, queue_of}
+use Rattle.bcast_model.specs.Words.{IsValidView, end_number, queue_of}
 use Rattle.bcast_model.proofs.Least.{least-le-limit}
 use Rattle.bcast_model.proofs.Lift.{same_view}
 use Rattle.bcast_model.proofs.Views.{valid_view}
@@ -73,7 +73,7 @@ module _ {T : Type 0} where
           cursors = λ key cursor e. let reach = valid.reach key cursor e in (above key cursor e, omega (arith, n, reach));
           fits = rw d valid.fits;
           control = subst (IsValidControl v.control) (sym n) valid.control;
-          wake_ups = subst (λ (v : View T). NoLostWakeUp v.control (is_full v) v.end) is valid.wake_ups;
+          wake_ups = subst NoLostWakeUp is valid.wake_ups;
         },
         is,
       )

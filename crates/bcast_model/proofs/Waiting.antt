@@ -26,9 +26,8 @@ same_kind-yes kind.Future = refl
 
 same_kind-no : (k other : Kind) → same_kind k other ≡ true → k ≡ other
 same_kind-no kind.Stream kind.Stream e = refl
-same_kind-no kind.Stream kind.Future e = cc
-same_kind-no kind.Future kind.Stream e = cc
 same_kind-no kind.Future kind.Future e = refl
+same_kind-no kind other e = cc
 
 pub test_pair : IsTest same_pair
 test_pair = record {
@@ -54,15 +53,13 @@ AreSends places l = AreFit same_place (HasPlace places) (HasPlace places) l
 
 module _ (places : Places) (place : ℕ) (l : Listeners ℕ) where
   has_more : (other : ℕ) → HasPlace places other → HasPlace (set.insert places place) other
-  has_more other h = set.contains-insert nat_cmp_total places place other ∙ elim (eq_by_cmp nat_cmp other place) as (λ b. (b || set.contains places other) ≡ true) [ true ↦ refl | false ↦ h ]
+  has_more other h = grind (arith, common_steps, set.contains-insert nat_cmp_total places place other)
 
   -- the places of the others stay
   others_have : (other : ℕ) → Others same_place place (HasPlace places) other → HasPlace (set.remove places place) other
   others_have other h =
-      let t = unsigned_tied other place in
-      let f : same_place place other ≡ false = h.1 in
-      let e : eq_by_cmp nat_cmp other place ≡ false = grind (arith, common_steps, t, f) in
-      set.contains-remove nat_cmp_total places place other ∙ ap (λ b. not b && set.contains places other) e ∙ h.0
+      let removed = set.contains-remove nat_cmp_total places place other in
+      grind (arith, common_steps, unsigned_tied other place, removed, h.0, h.1)
 
   pub sends_inserted : AreSends places l → AreSends (set.insert places place) l
   sends_inserted s = fit_weaker same_place test_place l s has_more has_more
@@ -105,15 +102,9 @@ module _ (cursors : Cursors) (closed : Bool) (end : ℕ) (l : Listeners Pair) wh
 
   -- a pair that is neither of a receiver's is another receiver's
   other_stays : (key : ℕ) (pair : Pair) → same_pair (stream_of key) pair ≡ false → same_pair (future_of key) pair ≡ false → get (remove cursors key) pair.0 ≡ get cursors pair.0
-  other_stays key pair f g = get-remove nat_cmp_total cursors key pair.0 ∙ elim (eq_by_cmp nat_cmp pair.0 key) as (λ b. eq_by_cmp nat_cmp pair.0 key ≡ b → cond b None (get cursors pair.0) ≡ get cursors pair.0) [
-    | true ↦ λ e.
-        let t = unsigned_tied pair.0 key in
-        let same : (key == pair.0) ≡ true = grind (arith, common_steps, t, e) in
-        let f : (true && same_kind (stream_of key).1 pair.1) ≡ false = rw same at f in
-        let g : (true && same_kind (future_of key).1 pair.1) ≡ false = rw same at g in
-        absurd (stream_or_future pair.1 f g)
-    | false ↦ λ e. refl
-  ] refl
+  other_stays key pair f g =
+      let removed = get-remove nat_cmp_total cursors key pair.0 in
+      grind (arith, common_steps, unsigned_tied pair.0 key, removed, stream_or_future pair.1)
 
   -- a receiver that leaves has no listener left
   pub receives_without : (key : ℕ) → AreReceives cursors closed end l → AreReceives (remove cursors key) closed end (abandon same_pair (future_of key) (abandon same_pair (stream_of key) l))

@@ -1,7 +1,7 @@
 -- What holds of the view of a valid history, by the view alone. Of public clauses only laws use it.
 use Rattle.std.specs.Prelude.{◌≡◌, ℕ, ◌+◌, ◌≤◌, [], length, Some}
 use Rattle.std.specs.FinMap.{get}
-use Rattle.bcast_model.specs.View.{View, is_full}
+use Rattle.bcast_model.specs.View.{View}
 use Rattle.bcast_model.specs.History.{least_cursor}
 use Rattle.bcast_model.specs.Valid.{IsValidControl, NoLostWakeUp}
 
@@ -15,4 +15,4 @@ pub record IsValidView {T : Type 0} (v : View T) : Type 0 where
       → v.end ≤ cursor
   pub fits : length v.queue ≤ v.control.capacity
   pub control : IsValidControl v.control v.end
-  pub wake_ups : NoLostWakeUp v.control (is_full v) v.end
+  pub wake_ups : NoLostWakeUp v

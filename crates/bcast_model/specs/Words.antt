@@ -4,7 +4,7 @@ pub use Rattle.bcast_model.specs.Listeners.{Listeners, no_listeners, told_ids, u
 pub use Rattle.bcast_model.specs.ListenerId.{Pair, stream_of, future_of, same_place, same_pair}
 pub use Rattle.bcast_model.specs.ControlFields.{Cursors, Places, Control}
 pub use Rattle.bcast_model.specs.Waiting.{has_place, with_place, place_answered, place_ended, place_waits, pair_waits, pair_answered, pair_ended}
-pub use Rattle.bcast_model.specs.Control.{has_no_receiver, is_ready, tell_a_sender, tell_receivers, closing, close, is_deserted, close_if_deserted, last_end, accepting, cursor_of, with_cursor}
+pub use Rattle.bcast_model.specs.Control.{has_no_receiver, tell_a_sender, tell_receivers, closing, close, close_if_deserted, last_end, accepting, cursor_of, with_cursor}
 pub use Rattle.bcast_model.specs.View.{View, is_full, sends_are_ready, kept_at, Effect, sets}
 pub use Rattle.bcast_model.specs.Sending.{reply_to_attempt, handed_back, try_broadcast_reply, attempt_send_reply, accept, offer, with_place_answered, poll_send}
 pub use Rattle.bcast_model.specs.SendAll.{free_room, try_broadcast_all_reply, accept_all, offer_all}
