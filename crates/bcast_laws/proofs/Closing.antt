@@ -1,6 +1,6 @@
 -- How many messages are kept. A closed channel stays closed, each send on it is refused, and if it
 -- keeps no message, it gives its receivers nothing.
-use Rattle.std.proofs.Common.{◌≡◌, true, List, ◌∷◌, ◌&&◌, not, cond, nat_lt, length, Ok, Err, ap, ◌∙◌, inl, inr, ℕ, ◌-◌, ◌≤◌, ◌==◌, max, Option, Some, None, refl, sym, arith, [], map}
+use Rattle.std.proofs.Common.{◌≡◌, true, List, ◌∷◌, ◌&&◌, cond, length, Ok, Err, ap, ◌∙◌, inl, inr, ℕ, ◌-◌, ◌≤◌, ◌==◌, max, Option, Some, None, refl, sym, arith, [], map}
 use Rattle.std.proofs.lemmas.Grind.{common_steps}
 use Rattle.std.proofs.lemmas.Bool.{and_parts}
 use Rattle.std.proofs.lemmas.Option.{slice_get_past}
@@ -9,14 +9,11 @@ use Rattle.std.specs.FinMap.{len, values, entries, len-entries}
 use Rattle.bcast_laws.specs.Closing.{StaysClosed, AnswersClosed}
 use Rattle.bcast_model.specs.declared.run.Call.{Call}
 use Rattle.bcast_model.specs.declared.run.Reply.{Reply}
-use Rattle.bcast_model.specs.Words.{Control, History, next, end_of_run, has_no_receiver, View}
-use Rattle.bcast_model.specs.Words.{is_full, try_broadcast_reply, reply_to_attempt, handed_back}
-use Rattle.bcast_model.specs.Words.{attempt_send_reply, free_room, cursor_of, IsValidView}
+use Rattle.bcast_model.specs.Words.{Control, History, next, end_of_run, View}
+use Rattle.bcast_model.specs.Words.{cursor_of, IsValidView}
 use Rattle.bcast_model.specs.Words.{recv_reply, skipped_count, skipped_to, future_reply}
 use Rattle.bcast_model.specs.Words.{stream_reply, next_reply, try_recv_reply, Legal, IsReceivedBy}
 use Rattle.bcast_model.specs.Words.{Found, worded, least}
-use Rattle.bcast_model.specs.declared.error.TrySendError.TheVariants as unsent
-use Rattle.bcast_model.specs.declared.run.SendPoll.TheVariants as send
 use Rattle.bcast_model.specs.declared.run.Reply.TheVariants as reply
 use Rattle.bcast_model.proofs.DeliveryCursors.{closed-next}
 use Rattle.bcast_model.specs.declared.error.TryRecvError.TheVariants as unread
@@ -31,19 +28,13 @@ run_stays h (c ∷ calls) (r ∷ replies) is = run_stays (next h c r) calls repl
 run_stays h calls replies is = is
 
 module _ {T : Type 0} where
-  refuses : (v : View T) (msg : T) → IsClosed v.control → try_broadcast_reply v msg ≡ Err (unsent.Closed msg)
-  refuses v msg is = ap (λ b. cond b (Err (unsent.Closed msg)) (cond (has_no_receiver v.control) (Err (unsent.Inactive msg)) (cond (is_full v && not v.control.overflow) (Err (unsent.Full msg)) (Ok (handed_back v))))) is
-
-  attempt_closed : (v : View T) (msg : T) → IsClosed v.control → attempt_send_reply v msg ≡ send.Ready (Err (record { 0 = msg }))
-  attempt_closed v msg is = ap (reply_to_attempt v.control.await_active) (refuses v msg is)
-
   pub stays_closed : (is_clone : T → T → Type 0) → StaysClosed is_clone
   stays_closed is_clone = record {
     stays = run_stays;
-    try_broadcast = λ v msg r is legal. legal ∙ ap reply.TryBroadcast (refuses v msg is);
-    try_broadcast_all = λ v msgs r is legal. legal ∙ ap (λ closed. reply.TryBroadcastAll (cond closed (Err (unsent.Closed msgs)) (cond (has_no_receiver v.control) (Err (unsent.Inactive msgs)) (cond (nat_lt (free_room v) (length msgs)) (Err (unsent.Full msgs)) (Ok tt))))) is;
-    attempt_send = λ v msg r is legal. legal ∙ ap reply.AttemptSend (attempt_closed v msg is);
-    poll_send = λ v place msg r is known legal. legal ∙ ap (λ b. reply.PollSend (cond b (attempt_send_reply v msg) (send.Wait msg))) known ∙ ap reply.PollSend (attempt_closed v msg is);
+    try_broadcast = λ v msg r is legal. legal ∙ rw is refl;
+    try_broadcast_all = λ v msgs r is legal. legal ∙ rw is refl;
+    attempt_send = λ v msg r is legal. legal ∙ rw is refl;
+    poll_send = λ v place msg r is known legal. legal ∙ rw (known, is) refl;
   }
 
   closed_at : (v : View T) (cursor : ℕ) → IsValidView v → v.control.closed ≡ true → v.end ≤ cursor → try_recv_reply v (Some cursor) ≡ Err unread.Closed

@@ -14,6 +14,7 @@ use Rattle.bcast_model.specs.Words.{IsReceivedBy, set_unless_refused, effect, Hi
 use Rattle.bcast_model.specs.Words.{remember, with_control, is_out_of_memory}
 use Rattle.bcast_model.specs.Words.{end_call, next, IsValid, IsValidView, has_next}
 use Rattle.bcast_model.specs.Words.{count_reply, deactivate, without_receiver}
+use Rattle.bcast_model.specs.declared.error.HandleError.{HandleError}
 use Rattle.bcast_model.specs.declared.error.HandleError.TheVariants as handle
 use Rattle.bcast_laws.specs.Sends.{is_refused, RefusedChangesNothing}
 use Rattle.bcast_model.proofs.Views.{valid_view}
@@ -31,17 +32,14 @@ same_cloned T true has c more e = refl
 same_cloned T false true c more e = apart e
 same_cloned T false false c more e = refl
 
+-- a count that is full stays
+same_counted : {T : Type 0} (spelt : Result (Unit {0}) HandleError → Reply T) (c more : Control) (has : Bool) → is_refused (spelt (Ok tt)) ≡ false → is_refused (spelt (cond has (Ok tt) (Err handle.TooMany))) ≡ true → cond has more c ≡ c
+same_counted spelt c more true gives e = apart (sym gives ∙ e)
+same_counted spelt c more false gives e = refl
+
 same_deactivated : (T : Type 0) (c : Control) (key : ℕ) (cursor : Option ℕ) → is_refused {T = T} (reply.Deactivate (count_reply (is_some cursor) c.inactive)) ≡ true → deactivate c key cursor ≡ c
 same_deactivated T c key None e = refl
-same_deactivated T c key (Some cursor) e =
-    elim (has_next c.inactive) as (λ b. is_refused {T = T} (reply.Deactivate (cond b (Ok tt) (Err handle.TooMany))) ≡ true → cond b (record (without_receiver c key) { inactive = c.inactive + 1 }) c ≡ c) [
-      | true ↦ λ e. apart e
-      | false ↦ λ e. refl
-    ] e
-
-same_sender : (T : Type 0) (c more : Control) (has : Bool) → is_refused {T = T} (reply.NewSender (cond has (Ok tt) (Err handle.TooMany))) ≡ true → cond has more c ≡ c
-same_sender T c more true e = apart e
-same_sender T c more false e = refl
+same_deactivated T c key (Some cursor) e = same_counted {T = T} reply.Deactivate c (record (without_receiver c key) { inactive = c.inactive + 1 }) (has_next c.inactive) refl e
 
 module _ {T : Type 0} where
   -- ---- sends
@@ -88,7 +86,7 @@ module _ {T : Type 0} where
   same_effect is_clone v call.Close r valid legal e = ap (λ b. sets (cond b v.control (closing v.control))) (not_not v.control.closed (sym (ap is_refused legal) ∙ e))
   same_effect is_clone v (call.SetCapacity n) r valid (inl is) e = apart (sym (ap is_refused is) ∙ e)
   same_effect is_clone v (call.SetCapacity n) r valid (inr (is, more)) e = rw is refl
-  same_effect is_clone v call.NewSender r valid legal e = ap sets (same_sender T v.control (record v.control { senders = v.control.senders + 1 }) (has_next v.control.senders) (sym (ap is_refused legal) ∙ e))
+  same_effect is_clone v call.NewSender r valid legal e = ap sets (same_counted {T = T} reply.NewSender v.control (record v.control { senders = v.control.senders + 1 }) (has_next v.control.senders) refl (sym (ap is_refused legal) ∙ e))
   same_effect is_clone v call.CloneInactive r valid legal e =
       ap sets (same_cloned T (v.control.inactive == 0) (has_next v.control.inactive) v.control (record v.control { inactive = v.control.inactive + 1 }) (sym (ap is_refused legal) ∙ e))
   same_effect is_clone v (call.Deactivate key) r valid legal e = ap sets (same_deactivated T v.control key (cursor_of v.control key) (sym (ap is_refused legal) ∙ e))

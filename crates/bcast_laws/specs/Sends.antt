@@ -6,7 +6,7 @@ use Rattle.bcast_model.specs.declared.run.Call.{Call}
 use Rattle.bcast_model.specs.declared.run.Call.TheVariants as call
 use Rattle.bcast_model.specs.declared.run.Reply.{Reply}
 use Rattle.bcast_model.specs.declared.run.Reply.TheVariants as reply
-use Rattle.bcast_model.specs.Words.{unsent_message, View, History, view_of, Legal, next, IsValid}
+use Rattle.bcast_model.specs.Words.{unsent_message, View, History, view_of, Legal, next, IsValid, is_out_of_memory}
 
 module _ {T : Type 0} where
   -- `try_broadcast`, `Send`: the message that a call sends
@@ -58,11 +58,6 @@ module _ {T : Type 0} where
   is_refused (reply.TryRecv (Ok (Err unread.Closed))) = true
   is_refused (reply.Close was_open) = not was_open
   is_refused (reply.BeginSend (Err error)) = true
-  is_refused (reply.TryRecv (Err error)) = true
-  is_refused (reply.PollFuture (Err error)) = true
-  is_refused (reply.PollRecv (Err error)) = true
-  is_refused (reply.PollNext (Err error)) = true
-  is_refused (reply.SetCapacity (Err error)) = true
   is_refused (reply.NewSender (Err error)) = true
   is_refused (reply.CloneInactive (Err error)) = true
   is_refused (reply.Deactivate (Err error)) = true
@@ -70,7 +65,7 @@ module _ {T : Type 0} where
   is_refused (reply.Activate (Err error)) = true
   is_refused (reply.ActivateCloned (Err error)) = true
   is_refused (reply.CloneReceiver (Err error)) = true
-  is_refused r = false
+  is_refused r = is_out_of_memory r
 
 -- a refused call leaves the channel as it was, and a send that isn't accepted returns its message
 -- or its list
