@@ -1,5 +1,6 @@
 -- If more counts as a clone, a reply stays legal; a receive hands out a kept message, or a clone.
-use Rattle.std.proofs.Common.{inl, inr, ℕ, Option, List, ◌∷◌, Result, Ok, sym, ap, ◌∙◌, ◌≡◌, ◌-◌, Bool, true, false, cond, Some, None, Err, nat_lt, slice_get, refl, subst, IsSomeAnd, alloc_error}
+use Rattle.std.proofs.Common.{inl, inr, ℕ, Option, List, ◌∷◌, Result, Ok, sym, ap, ◌∙◌, ◌≡◌, ◌-◌, Bool, Some, None, Err, slice_get, refl, subst, IsSomeAnd, alloc_error, arith}
+use Rattle.std.proofs.lemmas.Grind.{common_steps}
 use Rattle.futures.specs.declared.task.Poll.TheVariants as poll
 use Rattle.bcast_model.specs.Words.{TryRecvError, Call, Reply, History, view_of, Legal, IsGiven}
 use Rattle.bcast_model.specs.Words.{NoClone, ClonesEqual, IsReceivedBy, next, View, Answers, IsRun}
@@ -60,10 +61,7 @@ module _ {T : Type 0} where
 
   kept_message : (v : View T) (cursor : Option ℕ) (msg : T) → try_recv_reply v cursor ≡ Ok msg → (index : ℕ) × (slice_get v.queue index ≡ Some msg)
   kept_message v None msg e = cc
-  kept_message v (Some cursor) msg e = elim (nat_lt cursor v.front) as (λ b. cond b (Err (unread.Overflowed (v.front - cursor))) (recv_reply v.control.closed (slice_get v.queue (cursor - v.front))) ≡ Ok msg → (index : ℕ) × (slice_get v.queue index ≡ Some msg)) [
-    | true ↦ λ e. cc
-    | false ↦ λ e. (cursor - v.front, found_message v.control.closed (slice_get v.queue (cursor - v.front)) msg e)
-  ] e
+  kept_message v (Some cursor) msg e = (cursor - v.front, grind (arith, common_steps, found_message v.control.closed (slice_get v.queue (cursor - v.front)) msg, e))
 
   given_kept : (is_clone : T → T → Type 0) (v : View T) (cursor : Option ℕ) (msg given : T) → try_recv_reply v cursor ≡ Ok msg → IsGiven is_clone msg given → IsGivenFrom is_clone v.queue given
   given_kept is_clone v cursor msg given e is = let k = kept_message v cursor msg e in record { index = k.0; message = subst (λ o. IsSomeAnd o (λ msg. IsGiven is_clone msg given)) (sym k.1) is }

@@ -1,5 +1,6 @@
 -- Maps of cursors, and how one may differ after a call.
 use Rattle.std.proofs.Common.{◌≡◌, ◌≢◌, ◌⊎◌, inl, inr, ℕ, ◌≤◌, Bool, true, false, cond, Some, None, refl, sym, ap, ◌∙◌, subst, arith}
+use Rattle.std.proofs.lemmas.Bool.{false≢true}
 use Rattle.std.proofs.lemmas.Grind.{common_steps}
 use Rattle.std.proofs.lemmas.Option.{none-some, same_Some}
 use Rattle.std.specs.Cmp.{nat_cmp_total, unsigned_tied}
@@ -47,14 +48,11 @@ pub data CursorsChange (front end : ℕ) (receives : ℕ → Bool) (Leaves : ℕ
   leave : (key : ℕ) → Leaves key → new ≡ remove old key → CursorsChange front end receives Leaves Legal old new
 
 -- ---- what follows at one receiver
-true_or_false : {A : Type 0} (b : Bool) → b ≡ true → b ≡ false → A
-true_or_false b e f = cc
-
 -- a receiver that the call doesn't receive for keeps its cursor, or leaves
 pub stands_or_left : (front end : ℕ) (receives : ℕ → Bool) {Leaves : ℕ → Type 0} {Legal : Type 0} (old new : Cursors) (key cursor : ℕ) → CursorsChange front end receives Leaves Legal old new → Legal → receives key ≡ false → get old key ≡ Some cursor → (get new key ≡ Some cursor) ⊎ (get new key ≡ None)
 stands_or_left front end receives old new key cursor (stay same) legal reads is = inl (ap (λ m. get m key) same ∙ is)
 stands_or_left front end receives old new key cursor (rise other from to read found le high same) legal reads is =
-    inl (ap (λ m. get m key) same ∙ inserted_other old other to key (λ e. true_or_false (receives key) (ap receives e ∙ read) reads) ∙ is)
+    inl (ap (λ m. get m key) same ∙ inserted_other old other to key (λ e. false≢true (sym reads ∙ ap receives e ∙ read)) ∙ is)
 stands_or_left front end receives old new key cursor (make made at free source same) legal reads is =
     inl (ap (λ m. get m key) same ∙ inserted_other old made at key (λ e. none-some cursor (sym (free legal) ∙ ap (get old) (sym e) ∙ is)) ∙ is)
 stands_or_left front end receives old new key cursor (leave other leaves same) legal reads is =

@@ -1,5 +1,5 @@
 -- What each call gives a receiver, and which messages it keeps.
-use Rattle.std.proofs.Common.{◌≡◌, ◌⊎◌, inl, inr, ℕ, ◌+◌, ◌-◌, ◌≤◌, Bool, true, false, cond, [], Option, Some, None, Ok, Err, Result, refl, sym, ap, ◌∙◌, subst, arith, alloc_error, ◌==◌}
+use Rattle.std.proofs.Common.{◌≡◌, ◌⊎◌, inl, inr, ℕ, ◌+◌, ◌-◌, ◌≤◌, Bool, true, false, [], Option, Some, None, Ok, Err, Result, refl, sym, ap, ◌∙◌, subst, arith, alloc_error, ◌==◌}
 use Rattle.std.proofs.lemmas.Bool.{cases_lt, false≢true}
 use Rattle.std.proofs.lemmas.Grind.{common_steps}
 use Rattle.bcast_model.specs.Words.{TryRecvError, Call, Reply, stream_of, future_of, Cursors}
@@ -15,7 +15,7 @@ use Rattle.bcast_model.proofs.Answers.{cursors-next}
 use Rattle.bcast_model.proofs.DeliveryMaps.{cursors-listens, stands_or_left}
 use Rattle.bcast_model.proofs.DeliveryCursors.{changes}
 use Rattle.bcast_model.proofs.DeliveryAnswers.{Gives, entries_of, IsAnswer, gives_nothing, gives_answer, ok_err}
-use Rattle.bcast_model.proofs.Cases.{received_is, passed_reply}
+use Rattle.bcast_model.proofs.Cases.{test_is, received_is, passed_reply}
 
 pub same_reader : (reader key : ℕ) → (reader == key) ≡ true → reader ≡ key
 same_reader reader key reads = grind (arith, common_steps, reads)
@@ -100,8 +100,7 @@ module _ {T : Type 0} where
       → Gives is_clone h key cursor (next h c r).control.cursors (given_to key c r)
   gives_call is_clone h key cursor c r low is legal =
       rw (cursors-next h c r)
-      (elim (receives_for key c) as (λ b. receives_for key c ≡ b → Gives is_clone h key cursor (effect (view_of h) c r).control.cursors (cond b (given_by r) [])) [
-        | true ↦ λ reads. gives_received is_clone h key cursor c r low is reads legal
-        | false ↦ λ reads. gives_nothing h key cursor (effect (view_of h) c r).control.cursors
-            (stands_or_left (front_number h) (end_number h) (λ key. receives_for key c) h.control.cursors (effect (view_of h) c r).control.cursors key cursor (changes is_clone (view_of h) c r).cursors legal reads is)
-      ] refl)
+      (test_is (Gives is_clone h key cursor (effect (view_of h) c r).control.cursors) (receives_for key c) (given_by r) []
+      (λ reads. gives_received is_clone h key cursor c r low is reads legal)
+      (λ reads. gives_nothing h key cursor (effect (view_of h) c r).control.cursors
+      (stands_or_left (front_number h) (end_number h) (λ key. receives_for key c) h.control.cursors (effect (view_of h) c r).control.cursors key cursor (changes is_clone (view_of h) c r).cursors legal reads is)))

@@ -98,15 +98,10 @@ module _ {T : Type 0} where
   floor-resize : (h : History T) (n : ℕ) → IsBounded h → FloorChange h (resize (view_of h) n) (range_with_len (front_number h) (length (queue_of h) - n))
   floor-resize h n bounded =
       let size = length-queue h bounded in
-      elim (nat_lt n (length (queue_of h))) as (λ b. nat_lt n (length (queue_of h)) ≡ b → FloorChange h
-      (record { control = record h.control { capacity = n; room = max h.control.room n }; accepted = []; floor = cond b (end_number h - n) 0 }) (range_with_len (front_number h) (length (queue_of h) - n))) [
-        | true ↦ λ t.
-            let fewer : n < length (queue_of h) = grind (arith, common_steps, t) in
-            passes (length (queue_of h) - n) refl (omega (arith, size, fewer)) (omega (arith, size)) refl
-        | false ↦ λ t.
-            let none : length (queue_of h) - n ≡ 0 = grind (arith, common_steps, t) in
-            stays refl (ap (range_with_len (front_number h)) none)
-      ] refl
+      test_is (λ floor. FloorChange h (record { control = record h.control { capacity = n; room = max h.control.room n }; accepted = []; floor = floor }) (range_with_len (front_number h) (length (queue_of h) - n)))
+      (nat_lt n (length (queue_of h))) (end_number h - n) 0
+      (λ t. let fewer : n < length (queue_of h) = grind (arith, common_steps, t) in passes (length (queue_of h) - n) refl (omega (arith, size, fewer)) (omega (arith, size)) refl)
+      (λ t. let none : length (queue_of h) - n ≡ 0 = grind (arith, common_steps, t) in stays refl (ap (range_with_len (front_number h)) none))
 
   -- ---- a receive drops nothing
   unless_none : (h : History T) (r : Reply T) (e : Effect T) → e.floor ≡ 0 → (cond (is_out_of_memory r) (sets h.control) e).floor ≡ 0

@@ -1,12 +1,11 @@
 -- The least of the end and the cursors is at most each of them, and no lower bound is above it.
-use Rattle.std.proofs.Common.{◌≡◌, ℕ, ◌<◌, ◌≤◌, Bool, true, false, cond, List, [], ◌∷◌, length, map, min, Some, None, refl, sym, ◌∙◌, arith, nat_cmp, T, ◌&&◌, nat_lt, ◌==◌, is_lt}
+use Rattle.std.proofs.Common.{◌≡◌, ℕ, ◌<◌, ◌≤◌, Bool, true, false, cond, List, [], ◌∷◌, length, map, Some, None, refl, sym, ◌∙◌, arith, nat_cmp, T, ◌&&◌, nat_lt, ◌==◌, is_lt}
 use Rattle.std.proofs.lemmas.Grind.{common_steps}
 use Rattle.std.specs.Cmp.{unsigned_tied}
 use Rattle.std.specs.FinMap.{get, insert, len, values, entries, entries_sorted, find, is_sorted, get-entries, len-entries}
 use Rattle.std.specs.FinMap.Entries.{below_all}
-use Rattle.std.specs.Ordering.{eq_by_cmp}
 use Rattle.std.specs.declared.cmp.Ordering.TheVariants.{Less, Equal, Greater}
-use Rattle.std.proofs.lemmas.Option.{none-some, same_Some}
+use Rattle.std.proofs.lemmas.Option.{none-some}
 use Rattle.bcast_model.specs.Words.{Cursors, least}
 use Rattle.bcast_model.proofs.DeliveryMaps.{inserted}
 
@@ -14,10 +13,7 @@ use Rattle.bcast_model.proofs.DeliveryMaps.{inserted}
 least_found : (limit q c : ℕ) (es : List (ℕ × ℕ)) → find nat_cmp q es ≡ Some c → least limit (map (λ e. e.1) es) ≤ c
 least_found limit q c [] h = absurd (none-some c h)
 least_found limit q c (e ∷ es) h =
-    elim (eq_by_cmp nat_cmp q e.0) as (λ b. cond b (Some e.1) (find nat_cmp q es) ≡ Some c → min e.1 (least limit (map (λ e. e.1) es)) ≤ c) [
-      | true ↦ λ h. let s : e.1 ≡ c = same_Some _ _ h in omega arith
-      | false ↦ λ h. let r = least_found limit q c es h in omega arith
-    ] h
+    grind (arith, common_steps, least_found limit q c es, h)
 
 pub least-le-cursor : (limit : ℕ) (m : Cursors) (q c : ℕ) → get m q ≡ Some c → least limit (values m) ≤ c
 least-le-cursor limit m q c h = least_found limit q c (entries m) (sym (get-entries m q) ∙ h)
@@ -51,10 +47,8 @@ absent x y (e ∷ es) s h =
 
 pub later : (q : ℕ) (e : ℕ × ℕ) (es : List (ℕ × ℕ)) (c : ℕ) → T (below_all nat_cmp e.0 es) → find nat_cmp q es ≡ Some c → find nat_cmp q (e ∷ es) ≡ Some c
 later q e es c b f =
-    elim (eq_by_cmp nat_cmp q e.0) as (λ t. eq_by_cmp nat_cmp q e.0 ≡ t → cond t (Some e.1) (find nat_cmp q es) ≡ Some c) [
-      | true ↦ λ t. let same : q ≡ e.0 = grind (arith, common_steps, t, unsigned_tied q e.0) in absurd (none-some c (sym (absent e.0 q es same b) ∙ f))
-      | false ↦ λ t. f
-    ] refl
+    let apart : q ≡ e.0 → find nat_cmp q es ≡ None = λ same. absent e.0 q es same b in
+    grind (arith, common_steps, apart, f, unsigned_tied q e.0)
 
 greatest : (low limit : ℕ) (es : List (ℕ × ℕ)) → T (is_sorted nat_cmp es) → low ≤ limit → ((q c : ℕ) → find nat_cmp q es ≡ Some c → low ≤ c) → low ≤ least limit (map (λ e. e.1) es)
 greatest low limit [] s l h = l

@@ -1,5 +1,5 @@
 -- Lists of listeners: they stay in order, and what holds of each stays so.
-use Rattle.std.proofs.Common.{◌≡◌, ℕ, ◌+◌, ◌-◌, ◌≤◌, Bool, true, false, cond, ◌||◌, List, [], ◌∷◌, ◌++◌, length, min, max, take, drop, refl, sym, ap, ◌∙◌, subst, arith, length-append}
+use Rattle.std.proofs.Common.{◌≡◌, ℕ, ◌+◌, ◌-◌, ◌≤◌, Bool, true, false, cond, List, [], ◌∷◌, ◌++◌, length, min, max, take, drop, refl, sym, ap, ◌∙◌, subst, arith, length-append}
 use Rattle.std.proofs.lemmas.Grind.{common_steps}
 use Rattle.std.proofs.lemmas.List.{length-take, take-append-drop, drop_at, drop-append-le, drop_all}
 use Rattle.std.specs.List.{AllByRecursion}
@@ -30,7 +30,7 @@ module _ {A : Type 0} (same : A → A → Bool) (test : IsTest same) where
       let d : IsDistinct same (take l.told l.ids) = distinct_left same (take l.told l.ids) (drop l.told l.ids) (subst (IsDistinct same) (sym split) o.distinct) in
       let n : length (take l.told l.ids) ≡ l.told = omega (arith, length-take l.told l.ids, o.told) in
       let shorter = length-without same test id (take l.told l.ids) d in
-      let t : length (without same id (take l.told l.ids)) ≡ cond (is_in same id (take l.told l.ids)) (l.told - 1) l.told = subst (λ k. length (without same id (take l.told l.ids)) ≡ cond (is_in same id (take l.told l.ids)) (k - 1) k) n shorter in
+      let t : length (without same id (take l.told l.ids)) ≡ cond (is_in same id (take l.told l.ids)) (l.told - 1) l.told = grind (arith, common_steps, n, shorter) in
       λ i. record { ids = ids i; told = sym t i }
 
   pub untold-consume : (id : A) (l : Listeners A) → AreInOrder same l → untold_ids (consume same id l) ≡ without same id (untold_ids l)

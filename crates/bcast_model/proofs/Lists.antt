@@ -1,9 +1,10 @@
 -- Lists of ids: what holds of each, and a list without an id.
-use Rattle.std.proofs.Common.{◌≡◌, ℕ, zero, suc, ◌+◌, ◌-◌, ◌<◌, ◌≤◌, Bool, true, false, cond, ◌||◌, List, [], ◌∷◌, ◌++◌, length, drop, refl, sym, ap, ◌∙◌, subst, arith}
+use Rattle.std.proofs.Common.{◌≡◌, ℕ, zero, suc, ◌+◌, ◌-◌, ◌<◌, ◌≤◌, Bool, true, false, cond, ◌||◌, List, [], ◌∷◌, ◌++◌, length, drop, refl, sym, subst, arith}
 use Rattle.std.proofs.lemmas.Grind.{common_steps}
 use Rattle.std.proofs.lemmas.List.{drop-drop}
 use Rattle.std.specs.List.{AllByRecursion}
 use Rattle.bcast_model.specs.Words.{is_in, without, IsDistinct, IsTest}
+use Rattle.bcast_model.proofs.Cases.{test_is}
 
 module _ {A : Type 0} where
   pub all_more : (P Q : A → Type 0) (ids : List A) → ((id : A) → P id → Q id) → AllByRecursion P ids → AllByRecursion Q ids
@@ -48,10 +49,9 @@ module _ {A : Type 0} where
 
     pub all_without : (P : A → Type 0) (id : A) (ids : List A) → AllByRecursion P ids → AllByRecursion (λ other. P other × (same id other ≡ false)) (without same id ids)
     all_without P id [] a = a
-    all_without P id (other ∷ ids) a = elim (same id other) as (λ b. same id other ≡ b → AllByRecursion (λ other. P other × (same id other ≡ false)) (cond b (without same id ids) (other ∷ without same id ids))) [
-      | true ↦ λ e. all_without P id ids a.1
-      | false ↦ λ e. ((a.0, e), all_without P id ids a.1)
-    ] refl
+    all_without P id (other ∷ ids) a =
+        let rest = all_without P id ids a.1 in
+        test_is (AllByRecursion (λ other. P other × (same id other ≡ false))) (same id other) (without same id ids) (other ∷ without same id ids) (λ _. rest) (λ e. ((a.0, e), rest))
 
     -- an id that differs from each of a list is not in it
     pub absent : (id : A) (ids : List A) → AllByRecursion (λ other. same id other ≡ false) ids → is_in same id ids ≡ false
@@ -76,10 +76,10 @@ module _ {A : Type 0} where
 
     pub distinct_without : (id : A) (ids : List A) → IsDistinct same ids → IsDistinct same (without same id ids)
     distinct_without id [] d = d
-    distinct_without id (other ∷ ids) d = elim (same id other) as (λ b. IsDistinct same (cond b (without same id ids) (other ∷ without same id ids))) [
-      | true ↦ distinct_without id ids d.1
-      | false ↦ (all_more (λ z. (same other z ≡ false) × (same id z ≡ false)) (λ z. same other z ≡ false) (without same id ids) (λ z p. p.0) (all_without (λ z. same other z ≡ false) id ids d.0), distinct_without id ids d.1)
-    ]
+    distinct_without id (other ∷ ids) d =
+        let rest = distinct_without id ids d.1 in
+        let apart = all_more (λ z. (same other z ≡ false) × (same id z ≡ false)) (λ z. same other z ≡ false) (without same id ids) (λ z p. p.0) (all_without (λ z. same other z ≡ false) id ids d.0) in
+        test_is (IsDistinct same) (same id other) (without same id ids) (other ∷ without same id ids) (λ _. rest) (λ _. (apart, rest))
 
     module _ (test : IsTest same) where
       -- an id in one part of a list without doubles isn't in the other

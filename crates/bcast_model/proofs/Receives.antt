@@ -7,7 +7,7 @@ use Rattle.std.specs.Cmp.{nat_cmp_total}
 use Rattle.std.specs.FinMap.{get, insert, len, len-insert}
 use Rattle.bcast_model.specs.declared.error.TryRecvError.TheVariants as unread
 use Rattle.bcast_model.specs.Words.{Reply, consume, wait_again, Pair, same_pair, Control}
-use Rattle.bcast_model.specs.Words.{with_cursor, receive, listens, skipped_to, recv_reply}
+use Rattle.bcast_model.specs.Words.{with_cursor, pair_waits, pair_answered, receive, listens, skipped_to, recv_reply}
 use Rattle.bcast_model.specs.Words.{is_empty_reply, receive_poll, try_recv_reply, is_out_of_memory}
 use Rattle.bcast_model.specs.Words.{View, sets, set_unless_refused, IsValidView}
 use Rattle.bcast_model.proofs.Cases.{test_is, receive_is, lagging_reply, passed_reply}
@@ -63,21 +63,21 @@ module _ {T : Type 0} where
     -- a receiver that found nothing stays, and waits; any other waits no more
     poll_from : (pair : Pair) (cursor start : ℕ) → get v.control.cursors pair.0 ≡ Some cursor → cursor ≤ start → (v.end ≤ start → cursor ≡ v.end)
         → IsKept v (receive_poll v pair (Some start))
-    poll_from pair cursor start e after all_read = elim (is_empty_reply (try_recv_reply v (Some start))) as (λ b. is_empty_reply (try_recv_reply v (Some start)) ≡ b → IsKept v (listens (receive v pair.0 (Some start)) pair b)) [
-      | true ↦ λ none.
-          let at = empty_at v start none in
-          let idle = kept_idle v valid in
-          let past : v.end ≤ start = omega (arith, valid.end, at.kept, at.read) in
-          receive_is v (λ c. IsKept v (listens c pair true)) pair.0 start
-          (λ lags. absurd (omega (arith, at.kept)))
-          (λ _ below. absurd (omega arith))
-          (λ _ _. kept_receives v v.control (wait_again same_pair pair v.control.waiting_receives)
-          (receives_waiting v.control.cursors v.control.closed v.end v.control.waiting_receives pair (e ∙ ap (λ n. Some n) (all_read past), at.is_open) idle.sound.receives) idle)
-      | false ↦ λ some.
-          let c : Control = receive v pair.0 (Some start) in
-          let moved : IsKept v c = kept_from pair.0 cursor start e after in
-          kept_receives v c (consume same_pair pair c.waiting_receives) (receives_consumed c.cursors c.closed v.end c.waiting_receives pair moved.sound.receives) moved
-    ] refl
+    poll_from pair cursor start e after all_read =
+        let c : Control = receive v pair.0 (Some start) in
+        test_is (IsKept v) (is_empty_reply (try_recv_reply v (Some start))) (pair_waits c pair) (pair_answered c pair)
+        (λ none.
+        let at = empty_at v start none in
+        let idle = kept_idle v valid in
+        let past : v.end ≤ start = omega (arith, valid.end, at.kept, at.read) in
+        receive_is v (λ c. IsKept v (pair_waits c pair)) pair.0 start
+        (λ lags. absurd (omega (arith, at.kept)))
+        (λ _ below. absurd (omega arith))
+        (λ _ _. kept_receives v v.control (wait_again same_pair pair v.control.waiting_receives)
+        (receives_waiting v.control.cursors v.control.closed v.end v.control.waiting_receives pair (e ∙ ap (λ n. Some n) (all_read past), at.is_open) idle.sound.receives) idle))
+        (λ some.
+        let moved : IsKept v c = kept_from pair.0 cursor start e after in
+        kept_receives v c (consume same_pair pair c.waiting_receives) (receives_consumed c.cursors c.closed v.end c.waiting_receives pair moved.sound.receives) moved)
 
     poll_gone : (pair : Pair) → IsKept v (listens v.control pair false)
     poll_gone pair =

@@ -1,20 +1,17 @@
 -- Numbers that rise from one bound to another: joined lists, the numbers of a range.
-use Rattle.std.proofs.Common.{◌≡◌, ◌⊎◌, inl, inr, ℕ, zero, suc, ◌+◌, ◌<◌, ◌≤◌, true, List, [], ◌∷◌, ◌++◌, nat_lt, refl, sym, arith, nat_cmp}
-use Rattle.std.proofs.lemmas.Bool.{cases_lt}
+use Rattle.std.proofs.Common.{◌≡◌, ◌⊎◌, inl, inr, ℕ, zero, suc, ◌+◌, ◌-◌, ◌<◌, ◌≤◌, true, List, [], ◌∷◌, ◌++◌, nat_lt, refl, sym, ◌∙◌, arith, nat_cmp}
 use Rattle.std.proofs.lemmas.Grind.{common_steps}
-use Rattle.std.proofs.lemmas.List.Elements.{Contains-append_right}
+use Rattle.std.proofs.lemmas.List.FromFn.{length-range_with_len, get_or-range_with_len}
 use Rattle.std.proofs.lemmas.Map.Keys.{IsStrictlyIncreasing-from_sorted}
 use Rattle.std.specs.List.{AllByRecursion, Contains, range_with_len}
 use Rattle.std.specs.List.Sorted.{IsStrictlyIncreasing, IsStrictlySortedBy}
 use Rattle.std.specs.declared.cmp.Ordering.TheVariants.{Less}
 
 pub contains_range : (from count n : ℕ) → from ≤ n → n < from + count → Contains (range_with_len from count) n
-contains_range from zero n low high = absurd (omega arith)
-contains_range from (suc count) n low high =
-    elim (cases_lt from n) [
-      | inl above ↦ Contains-append_right (from ∷ []) (range_with_len (from + 1) count) n (contains_range (from + 1) count n (omega (arith, above)) (omega (arith, high)))
-      | inr at ↦ (0, omega arith, let same : from ≡ n = omega (arith, at, low) in same)
-    ]
+contains_range from count n low high =
+    let within : n - from < count = omega (arith, low, high) in
+    let at : from + (n - from) ≡ n = omega (arith, low) in
+    (n - from, omega (arith, length-range_with_len from count, within), get_or-range_with_len from count (n - from) n within ∙ at)
 
 -- numbers that rise from one on, and stay below another
 abbrev pub IsRising : ℕ → ℕ → List ℕ → Type 0

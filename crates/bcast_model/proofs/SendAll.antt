@@ -1,12 +1,11 @@
 -- A send of a whole list keeps the channel valid. Sends, and calls that count senders, leave the
 -- cursors and the capacity, and open no channel.
-use Rattle.std.proofs.Common.{◌≡◌, inl, ℕ, ◌+◌, ◌-◌, ◌^◌, ◌<◌, ◌≤◌, true, false, cond, List, [], ◌∷◌, length, nat_lt, Ok, Err, refl, subst, arith, length-append, length-drop, is_ok, Result, ◌==◌, ◌||◌, not, Option, Some, None}
+use Rattle.std.proofs.Common.{◌≡◌, inl, ℕ, ◌+◌, ◌-◌, ◌^◌, ◌<◌, ◌≤◌, true, false, cond, List, [], ◌∷◌, length, refl, subst, arith, length-append, length-drop, is_ok, ◌==◌, ◌||◌, not, Option, Some, None}
 use Rattle.std.proofs.lemmas.Grind.{common_steps}
 use Rattle.std.specs.Option.{option_map_or}
-use Rattle.bcast_model.specs.declared.error.TrySendError.TheVariants as unsent
 use Rattle.bcast_model.specs.Words.{has_no_receiver, Effect, sets, IsValidView, free_room}
 use Rattle.bcast_model.specs.Words.{try_broadcast_all_reply, accept_all, offer_all, View}
-use Rattle.bcast_model.specs.Words.{TrySendError, Control, close_if_deserted, has_place}
+use Rattle.bcast_model.specs.Words.{Control, close_if_deserted, has_place}
 use Rattle.bcast_model.specs.Words.{place_waits, sends_are_ready, try_broadcast_reply, accept}
 use Rattle.bcast_model.specs.Words.{offer, with_place_answered, poll_send, has_next, new_sender}
 use Rattle.bcast_model.specs.Words.{clone_inactive, drop_sender, drop_inactive, with_place}
@@ -34,14 +33,10 @@ module _ {T : Type 0} where
     pub room : count ≤ v.control.capacity - length v.queue
     pub numbers : count ≤ 18446744073709551615 - v.end
 
-  abbrev TellsRoom : View T → List T → Result (Unit {0}) (TrySendError (List T)) → Type 0
-  TellsRoom v msgs answer = is_ok answer ≡ true → IsRoomy v (length msgs)
-
   pub roomy : (v : View T) (msgs : List T) → is_ok (try_broadcast_all_reply v msgs) ≡ true → IsRoomy v (length msgs)
-  roomy v msgs = test_is (TellsRoom v msgs) v.control.closed (Err (unsent.Closed msgs)) (cond (has_no_receiver v.control) (Err (unsent.Inactive msgs)) (cond (nat_lt (free_room v) (length msgs)) (Err (unsent.Full msgs)) (Ok tt))) (λ _ e. cc)
-      (λ opened. test_is (TellsRoom v msgs) (has_no_receiver v.control) (Err (unsent.Inactive msgs)) (cond (nat_lt (free_room v) (length msgs)) (Err (unsent.Full msgs)) (Ok tt)) (λ _ e. cc)
-      (λ someone. test_is (TellsRoom v msgs) (nat_lt (free_room v) (length msgs)) (Err (unsent.Full msgs)) (Ok tt) (λ _ e. cc)
-      (λ t _. let fits : length msgs ≤ free_room v = grind (arith, common_steps, t) in record { opened = opened; someone = someone; room = omega (arith, fits); numbers = omega (arith, fits) })))
+  roomy v msgs accepted =
+      let fits : length msgs ≤ free_room v = grind (arith, common_steps, accepted) in
+      record { opened = grind (arith, common_steps, accepted); someone = grind (arith, common_steps, accepted); room = omega (arith, fits); numbers = omega (arith, fits) }
 
   module _ (v : View T) (valid : IsValidView v) where
     keeps_accept_all : (msg : T) (rest : List T) → IsRoomy v (length (msg ∷ rest)) → KeepsValid v (accept_all v (msg ∷ rest))

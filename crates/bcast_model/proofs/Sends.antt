@@ -1,14 +1,13 @@
 -- A send, and each step of a pending one, keeps the channel valid.
-use Rattle.std.proofs.Common.{◌≡◌, ◌≢◌, ◌⊎◌, inl, inr, ℕ, ◌+◌, ◌-◌, ◌^◌, ◌<◌, ◌≤◌, ◌&&◌, true, false, cond, not, [], ◌∷◌, ◌++◌, length, max, drop, Option, Some, None, Ok, Err, refl, arith, length-append, length-drop, is_ok}
+use Rattle.std.proofs.Common.{◌≡◌, ◌≢◌, ◌⊎◌, inl, inr, ℕ, ◌+◌, ◌-◌, ◌^◌, ◌<◌, ◌≤◌, true, false, cond, [], ◌∷◌, ◌++◌, length, max, drop, Option, Some, None, refl, arith, length-append, length-drop, is_ok}
 use Rattle.std.proofs.lemmas.Grind.{common_steps}
 use Rattle.std.specs.FinMap.{len, values}
 use Rattle.std.specs.FinSet as set
 use Rattle.std.specs.Option.{option_map_or}
-use Rattle.bcast_model.specs.declared.error.TrySendError.TheVariants as unsent
 use Rattle.bcast_model.specs.Words.{consume, abandon, wait_again, same_place, same_pair, Control}
-use Rattle.bcast_model.specs.Words.{has_no_receiver, tell_receivers, accepting, has_place}
+use Rattle.bcast_model.specs.Words.{tell_receivers, accepting, has_place}
 use Rattle.bcast_model.specs.Words.{place_ended, place_waits, with_place, accept}
-use Rattle.bcast_model.specs.Words.{try_broadcast_reply, handed_back, offer, with_place_answered}
+use Rattle.bcast_model.specs.Words.{try_broadcast_reply, offer, with_place_answered}
 use Rattle.bcast_model.specs.Words.{poll_send, least, View, is_full, sends_are_ready, sets, Effect}
 use Rattle.bcast_model.specs.Words.{IsValidView}
 use Rattle.bcast_model.proofs.Cases.{test_is, close_is, accepting_is, stays-accepting}
@@ -41,8 +40,7 @@ module _ {T : Type 0} where
 
   -- a send that is not refused finds an open channel
   open_offer : (v : View T) (msg : T) → is_ok (try_broadcast_reply v msg) ≡ true → v.control.closed ≡ false
-  open_offer v msg = test_is (λ answer. is_ok answer ≡ true → v.control.closed ≡ false) v.control.closed (Err (unsent.Closed msg))
-      (cond (has_no_receiver v.control) (Err (unsent.Inactive msg)) (cond (is_full v && not v.control.overflow) (Err (unsent.Full msg)) (Ok (handed_back v)))) (λ _ e. cc) (λ opened _. opened)
+  open_offer v msg accepted = grind (arith, common_steps, accepted)
 
   module _ (v : View T) (valid : IsValidView v) where
     keeps_accept : (msg : T) → v.control.closed ≡ false → KeepsValid v (accept v msg)

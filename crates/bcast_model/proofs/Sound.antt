@@ -1,13 +1,13 @@
 -- What holds of the control, in parts that the steps of a call keep one by one.
-use Rattle.std.proofs.Common.{◌≡◌, ◌⊎◌, ℕ, ◌+◌, ◌^◌, ◌<◌, ◌≤◌, Bool, true, false, cond, length, Some, None, sym, ◌∙◌, subst, arith}
+use Rattle.std.proofs.Common.{◌≡◌, ◌⊎◌, inl, inr, ℕ, ◌+◌, ◌^◌, ◌<◌, ◌≤◌, Bool, true, false, length, Some, sym, ◌∙◌, subst, arith}
 use Rattle.std.proofs.lemmas.Grind.{common_steps}
-use Rattle.std.proofs.lemmas.Option.{none-some, same_Some}
-use Rattle.std.specs.Ordering.{nat_cmp, eq_by_cmp}
+use Rattle.std.proofs.lemmas.Option.{none-some}
 use Rattle.std.specs.Cmp.{nat_cmp_total}
-use Rattle.std.specs.FinMap.{get, insert, remove, len, get-insert, get-remove, len-remove}
+use Rattle.std.specs.FinMap.{get, insert, remove, len, len-remove}
 use Rattle.bcast_model.specs.Words.{Listeners, Pair, Control, Places, closing, close, with_cursor}
 use Rattle.bcast_model.specs.Words.{without_receiver, View, same_place, same_pair}
 use Rattle.bcast_model.proofs.Cases.{close_is}
+use Rattle.bcast_model.proofs.DeliveryMaps.{got_insert, got_remove}
 use Rattle.bcast_model.proofs.Listeners.{fit_all_told}
 use Rattle.bcast_model.proofs.Waiting.{test_place, test_pair, AreSends, AreReceives, receives_moved, receives_without}
 
@@ -64,10 +64,7 @@ module _ {T : Type 0} (v : View T) (end : ℕ) (c : Control) where
   -- ---- cursors
   pub sound_cursor : (key cursor : ℕ) → cursor ≤ end → IsNoLower v cursor → (get c.cursors key ≡ Some end → ⊥) → len (insert c.cursors key cursor) < 2 ^ 64 → IsSound v end c → IsSound v end (with_cursor c key cursor)
   sound_cursor key cursor high low apart few s = record {
-    cursors = λ other at e. elim (eq_by_cmp nat_cmp other key) as (λ b. cond b (Some cursor) (get c.cursors other) ≡ Some at → (at ≤ end) × IsNoLower v at) [
-      | true ↦ λ f. subst (λ n. (n ≤ end) × IsNoLower v n) (same_Some cursor at f) (high, low)
-      | false ↦ λ f. s.cursors other at f
-    ] (sym (get-insert nat_cmp_total c.cursors key cursor other) ∙ e);
+    cursors = λ other at e. elim (got_insert c.cursors key cursor other at e) [ inl f ↦ subst (λ n. (n ≤ end) × IsNoLower v n) (sym f.1) (high, low) | inr f ↦ s.cursors other at f ];
     sizes = record { positive = s.sizes.positive; within = s.sizes.within; room_fits = s.sizes.room_fits; receivers_fit = few; senders_fit = s.sizes.senders_fit; inactive_fit = s.sizes.inactive_fit; end_fits = s.sizes.end_fits };
     sends = s.sends;
     receives = receives_moved c.cursors c.closed end c.waiting_receives key cursor apart s.receives;
@@ -78,10 +75,7 @@ module _ {T : Type 0} (v : View T) (end : ℕ) (c : Control) where
       let n = len-remove nat_cmp_total c.cursors key in
       let fewer : len (remove c.cursors key) ≤ len c.cursors = grind (arith, common_steps, n) in
       record {
-        cursors = λ other at e. elim (eq_by_cmp nat_cmp other key) as (λ b. cond b None (get c.cursors other) ≡ Some at → (at ≤ end) × IsNoLower v at) [
-          | true ↦ λ f. absurd (none-some at f)
-          | false ↦ λ f. s.cursors other at f
-        ] (sym (get-remove nat_cmp_total c.cursors key other) ∙ e);
+        cursors = λ other at e. elim (got_remove c.cursors key other) [ inl f ↦ s.cursors other at (sym f ∙ e) | inr f ↦ absurd (none-some at (sym f ∙ e)) ];
         sizes = record { positive = s.sizes.positive; within = s.sizes.within; room_fits = s.sizes.room_fits; receivers_fit = omega (arith, s.sizes.receivers_fit); senders_fit = s.sizes.senders_fit; inactive_fit = s.sizes.inactive_fit; end_fits = s.sizes.end_fits };
         sends = s.sends;
         receives = receives_without c.cursors c.closed end c.waiting_receives key s.receives;

@@ -1,5 +1,6 @@
 -- Polls of told listeners come to rest.
-use Rattle.std.proofs.Common.{◌≡◌, ℕ, ◌+◌, ◌*◌, ◌≤◌, true, false, cond, not, ◌&&◌, List, ◌∷◌, drop, max, Option, Some, Ok, Err, refl, sym, ap, ◌∙◌, subst, arith}
+use Rattle.std.proofs.Common.{◌≡◌, ℕ, ◌+◌, ◌*◌, ◌≤◌, true, false, not, ◌&&◌, List, ◌∷◌, drop, max, Option, Some, Ok, Err, refl, sym, ap, ◌∙◌, subst, arith}
+use Rattle.std.proofs.lemmas.Bool.{and_parts, not-true}
 use Rattle.std.proofs.lemmas.Option.{same_Some}
 use Rattle.std.specs.List.{AllByRecursion}
 use Rattle.std.specs.FinMap.{len}
@@ -21,7 +22,7 @@ use Rattle.bcast_model.proofs.Receives.{empty_at_end}
 use Rattle.bcast_model.proofs.Views.{valid_view}
 use Rattle.bcast_model.proofs.Answers.{next_valid, view_of-next}
 use Rattle.bcast_model.proofs.Rest.{unrest, triangle, lowers}
-use Rattle.bcast_model.proofs.Cases.{received_is}
+use Rattle.bcast_model.proofs.Cases.{test_is, received_is}
 
 module _ {T : Type 0} (is_clone : T → T → Type 0) where
   -- a poll names no capacity and makes no receiver
@@ -45,16 +46,14 @@ module _ {T : Type 0} (is_clone : T → T → Type 0) where
   -- the measure bounds them
   told_polls_within : (h : History T) (calls : List (Call T)) (replies : List (Reply T)) → IsValid h → IsRun is_clone h calls replies → told_polls h calls replies ≤ unrest h.control
   told_polls_within h (c ∷ calls) (r ∷ replies) valid run =
-      elim (polls_told h.control c) as (λ b. polls_told h.control c ≡ b → cond (b && not (is_out_of_memory r)) (1 + told_polls (next h c r) calls replies) 0 ≤ unrest h.control) [
-        | true ↦ λ told. elim (is_out_of_memory r) as (λ b. is_out_of_memory r ≡ b → cond (true && not b) (1 + told_polls (next h c r) calls replies) 0 ≤ unrest h.control) [
-          | true ↦ λ _. omega arith
-          | false ↦ λ memory.
-              let one = lowers_next h c r valid run.0 told memory in
-              let more = told_polls_within (next h c r) calls replies (valid_poll h c r valid run.0 told) run.1 in
-              omega (arith, one, more)
-        ] refl
-        | false ↦ λ _. omega arith
-      ] refl
+      test_is (λ n. n ≤ unrest h.control) (polls_told h.control c && not (is_out_of_memory r)) (1 + told_polls (next h c r) calls replies) 0
+      (λ both.
+      let is = and_parts (polls_told h.control c) (not (is_out_of_memory r)) both in
+      let memory = not-true (is_out_of_memory r) is.1 in
+      let one = lowers_next h c r valid run.0 is.0 memory in
+      let more = told_polls_within (next h c r) calls replies (valid_poll h c r valid run.0 is.0) run.1 in
+      omega (arith, one, more))
+      (λ _. omega arith)
   told_polls_within h calls replies valid run = omega arith
 
   -- ---- if no listener is told

@@ -1,8 +1,7 @@
 -- The tests of listeners' ids, and the lists of sends and of receivers that wait, apart from the
 -- rest of a channel.
-use Rattle.std.proofs.Common.{◌≡◌, ℕ, ◌==◌, Bool, true, false, cond, not, ◌&&◌, ◌||◌, Some, None, is_some, refl, sym, ap, ◌∙◌, arith}
+use Rattle.std.proofs.Common.{◌≡◌, ℕ, ◌==◌, Bool, true, false, ◌&&◌, Some, is_some, refl, sym, ap, ◌∙◌, arith}
 use Rattle.std.proofs.lemmas.Grind.{common_steps}
-use Rattle.std.specs.Ordering.{nat_cmp, eq_by_cmp}
 use Rattle.std.specs.Cmp.{nat_cmp_total, unsigned_tied}
 use Rattle.std.specs.FinMap.{get, insert, remove, get-insert, get-remove}
 use Rattle.std.specs.FinSet as set
@@ -97,7 +96,7 @@ module _ (cursors : Cursors) (closed : Bool) (end : ℕ) (l : Listeners Pair) wh
   -- a receiver that moves had not read all
   pub receives_moved : (key cursor : ℕ) → (get cursors key ≡ Some end → ⊥) → AreReceives cursors closed end l → AreReceives (insert cursors key cursor) closed end l
   receives_moved key cursor apart r = fit_weaker same_pair test_pair l r
-      (λ pair h. ap is_some (get-insert nat_cmp_total cursors key cursor pair.0) ∙ elim (eq_by_cmp nat_cmp pair.0 key) as (λ b. is_some (cond b (Some cursor) (get cursors pair.0)) ≡ true) [ true ↦ refl | false ↦ h ])
+      (λ pair h. grind (arith, common_steps, get-insert nat_cmp_total cursors key cursor pair.0))
       (λ pair s. (inserted_other cursors key cursor pair.0 (λ same. apart (ap (get cursors) (sym same) ∙ s.0)) ∙ s.0, s.1))
 
   -- a pair that is neither of a receiver's is another receiver's

@@ -3,7 +3,7 @@ pub use Rattle.bcast_model.specs.Calls.{TrySendError, TryRecvError, RecvError, H
 pub use Rattle.bcast_model.specs.Listeners.{Listeners, no_listeners, told_ids, untold_ids, tell, tell_all, join, is_in, without, consume, abandon, wait_again, IsDistinct, AreInOrder}
 pub use Rattle.bcast_model.specs.ListenerId.{Pair, stream_of, future_of, same_place, same_pair}
 pub use Rattle.bcast_model.specs.ControlFields.{Cursors, Places, Control}
-pub use Rattle.bcast_model.specs.Waiting.{has_place, with_place, place_answered, place_ended, place_waits, pair_waits, pair_answered, pair_ended}
+pub use Rattle.bcast_model.specs.Waiting.{has_place, with_place, without_place, place_answered, place_ended, place_waits, pair_waits, pair_answered, pair_ended}
 pub use Rattle.bcast_model.specs.Control.{has_no_receiver, tell_a_sender, tell_receivers, closing, close, close_if_deserted, last_end, accepting, cursor_of, with_cursor}
 pub use Rattle.bcast_model.specs.View.{View, is_full, sends_are_ready, kept_at, Effect, sets}
 pub use Rattle.bcast_model.specs.Sending.{reply_to_attempt, handed_back, try_broadcast_reply, attempt_send_reply, accept, offer, with_place_answered, poll_send}
@@ -25,10 +25,10 @@ pub use Rattle.bcast_model.specs.Missed.{hands_back, dropped_by, dropped_in}
 pub use Rattle.bcast_model.specs.Missed.{MissesWhatIsGone, MissesWhatWasDropped}
 pub use Rattle.bcast_model.specs.DeliveryLaws.{DeliveriesAreExact, WasDropped, DroppedNumbersRise, MissedWereDropped, DeliveriesTile}
 pub use Rattle.bcast_model.specs.PollLaws.{must_wait, is_wait_reply, PollsWaitWhereTriesFindNothing, receiver_polled, is_poll, try_finds_nothing, WaitsAsItsTry}
-pub use Rattle.bcast_model.specs.ToldPolls.{listener_count, told_count, polls_listed, polls_told, told_polls, ComesToRest, ToldPollsComeToRest}
+pub use Rattle.bcast_model.specs.ToldPolls.{listener_count, told_count, polls_one_of, polls_listed, polls_told, told_polls, ComesToRest, ToldPollsComeToRest}
 pub use Rattle.bcast_model.specs.ValidView.{IsValidView}
 pub use Rattle.bcast_model.specs.Laws.{HasRange, OpeningIsValid, NextIsValid, ViewsAreShown, RepliesAreExact, IsGivenFrom, ReceivedIsGiven}
 pub use Rattle.bcast_model.specs.ListLaws.{IsTest, StaysInOrder, KeepsPositions, KeepsCounts, ListsStayInOrder}
 pub use Rattle.bcast_model.specs.Errors.{unsent_message, try_send_error_text, try_send_error_debug, IsOverflowed, try_recv_error_text, recv_error_text, handle_error_text}
-pub use Rattle.bcast_model.specs.Encodings.{listeners_code, view_code, in_lists}
+pub use Rattle.bcast_model.specs.Encodings.{listeners_code, is_stream, kind_of, kind_code, control_code, view_code, in_lists}
 pub use Rattle.bcast_model.specs.Steps.{with_message, with_messages, settle, tell_if_ready, with_control, next_view, Steps}
