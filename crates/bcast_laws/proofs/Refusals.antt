@@ -1,5 +1,6 @@
 -- A refused call changes nothing.
 use Rattle.std.proofs.Common.{◌≡◌, inl, inr, ℕ, ◌+◌, ◌-◌, ◌==◌, not, Bool, true, false, cond, max, Option, Some, None, Result, Ok, Err, refl, sym, ap, ◌∙◌, arith, append-nil, alloc_error, is_ok, ◌||◌, is_some}
+use Rattle.std.proofs.Math.Bool.{not-not}
 use Rattle.std.proofs.lemmas.Option.{slice_get_cases}
 use Rattle.bcast_model.specs.declared.run.Call.{Call}
 use Rattle.bcast_model.specs.declared.run.Call.TheVariants as call
@@ -21,10 +22,6 @@ use Rattle.bcast_model.proofs.Views.{valid_view}
 use Rattle.bcast_model.proofs.Cases.{told_valid, uncloned, made_is, received_is, receive_is, lagging_reply, passed_reply}
 use Rattle.bcast_laws.proofs.Sends.{apart, returned_back, all_returned}
 use Rattle.bcast_model.proofs.Lift.{view_of-end_call}
-
-not_not : (b : Bool) → not (not b) ≡ true → b ≡ true
-not_not true e = refl
-not_not false e = apart e
 
 -- ---- calls that make handles
 same_cloned : (T : Type 0) (none has : Bool) (c more : Control) → is_refused {T = T} (reply.CloneInactive (cond (not none) (cond has (Ok tt) (Err handle.TooMany)) (Err handle.Gone))) ≡ true → cond (none || not has) c more ≡ c
@@ -83,7 +80,7 @@ module _ {T : Type 0} where
   same_effect is_clone v (call.PollNext key) r valid legal e =
       let cursor : Option ℕ = cursor_of v.control key in
       same_received is_clone v key (skipped_to v.front cursor) (worded reply.PollNext (next_reply (skipped_count v.front cursor))) _ r (λ refuses. apart refuses) (λ msg. refl) refl legal e
-  same_effect is_clone v call.Close r valid legal e = ap (λ b. sets (cond b v.control (closing v.control))) (not_not v.control.closed (sym (ap is_refused legal) ∙ e))
+  same_effect is_clone v call.Close r valid legal e = ap (λ b. sets (cond b v.control (closing v.control))) (sym (not-not v.control.closed) ∙ sym (ap is_refused legal) ∙ e)
   same_effect is_clone v (call.SetCapacity n) r valid (inl is) e = apart (sym (ap is_refused is) ∙ e)
   same_effect is_clone v (call.SetCapacity n) r valid (inr (is, more)) e = rw is refl
   same_effect is_clone v call.NewSender r valid legal e = ap sets (same_counted {T = T} reply.NewSender v.control (record v.control { senders = v.control.senders + 1 }) (has_next v.control.senders) refl (sym (ap is_refused legal) ∙ e))

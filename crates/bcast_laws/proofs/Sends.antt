@@ -1,5 +1,6 @@
 -- What a send adds, and what it hands back.
-use Rattle.std.proofs.Common.{◌≡◌, ℕ, ◌&&◌, not, Bool, true, false, cond, nat_lt, List, [], ◌∷◌, ◌++◌, length, Option, Some, Result, Ok, Err, refl, sym, ap, ◌∙◌, append-nil, is_ok}
+use Rattle.std.proofs.Common.{◌≡◌, ℕ, not, Bool, true, false, cond, List, [], ◌∷◌, ◌++◌, Option, Some, Result, Ok, Err, refl, sym, ap, ◌∙◌, append-nil, is_ok, arith}
+use Rattle.std.proofs.lemmas.Grind.{common_steps}
 use Rattle.std.proofs.lemmas.Option.{none-some}
 use Rattle.bcast_model.specs.declared.error.TrySendError.{TrySendError}
 use Rattle.bcast_model.specs.declared.error.TrySendError.TheVariants as unsent
@@ -9,14 +10,14 @@ use Rattle.bcast_model.specs.declared.run.Call.{Call}
 use Rattle.bcast_model.specs.declared.run.Call.TheVariants as call
 use Rattle.bcast_model.specs.declared.run.Reply.{Reply}
 use Rattle.bcast_model.specs.declared.run.Reply.TheVariants as reply
-use Rattle.bcast_model.specs.Words.{has_no_receiver, has_place, place_waits, View, is_full}
+use Rattle.bcast_model.specs.Words.{has_place, place_waits, View}
 use Rattle.bcast_model.specs.Words.{sends_are_ready, Effect, sets, try_broadcast_reply}
-use Rattle.bcast_model.specs.Words.{reply_to_attempt, handed_back, attempt_send_reply, accept}
-use Rattle.bcast_model.specs.Words.{offer, with_place_answered, poll_send, free_room}
+use Rattle.bcast_model.specs.Words.{reply_to_attempt, attempt_send_reply, accept}
+use Rattle.bcast_model.specs.Words.{offer, with_place_answered, poll_send}
 use Rattle.bcast_model.specs.Words.{try_broadcast_all_reply, accept_all, effect, is_out_of_memory}
 use Rattle.bcast_model.specs.Words.{History, view_of, next, Legal, must_wait}
 use Rattle.bcast_laws.specs.Sends.{sent_by, messages_of, returned_by, returned_all_by, is_accepted}
-use Rattle.bcast_model.proofs.Cases.{test_is, sent_is}
+use Rattle.bcast_model.proofs.Cases.{test_is}
 use Rattle.bcast_model.proofs.Polls.{send_waits_unready}
 
 pub apart : {A : Type 0} → false ≡ true → A
@@ -97,14 +98,10 @@ module _ {T : Type 0} where
 
   -- ---- what is handed back
   returned_try : (v : View T) (msg : T) → is_accepted (reply.TryBroadcast (try_broadcast_reply v msg)) ≡ false → returned_by (reply.TryBroadcast (try_broadcast_reply v msg)) ≡ Some msg
-  returned_try v msg = sent_is (λ answer. is_accepted (reply.TryBroadcast answer) ≡ false → returned_by (reply.TryBroadcast answer) ≡ Some msg) v.control.closed (has_no_receiver v.control) (is_full v && not v.control.overflow)
-      (unsent.Closed msg) (unsent.Inactive msg) (unsent.Full msg) (handed_back v) (λ _. refl) (λ _. refl) (λ _. refl) (λ e. apart (sym e))
+  returned_try v msg refused = grind (arith, common_steps, refused)
 
   returned_attempt : (v : View T) (msg : T) → is_accepted (reply.AttemptSend (attempt_send_reply v msg)) ≡ false → returned_by (reply.AttemptSend (attempt_send_reply v msg)) ≡ Some msg
-  returned_attempt v msg = sent_is (λ answer. is_accepted (reply.AttemptSend (reply_to_attempt v.control.await_active answer)) ≡ false → returned_by (reply.AttemptSend (reply_to_attempt v.control.await_active answer)) ≡ Some msg)
-      v.control.closed (has_no_receiver v.control) (is_full v && not v.control.overflow) (unsent.Closed msg) (unsent.Inactive msg) (unsent.Full msg) (handed_back v) (λ _. refl)
-      (elim v.control.await_active as (λ await. is_accepted (reply.AttemptSend (reply_to_attempt await (Err (unsent.Inactive msg)))) ≡ false → returned_by (reply.AttemptSend (reply_to_attempt await (Err (unsent.Inactive msg)))) ≡ Some msg) [ true ↦ λ _. refl | false ↦ λ _. refl ])
-      (λ _. refl) (λ e. apart (sym e))
+  returned_attempt v msg refused = grind (arith, common_steps, refused)
 
   returns_as_attempt : (answer : SendPoll T) → returned_by (reply.PollSend answer) ≡ returned_by (reply.AttemptSend answer)
   returns_as_attempt (send.Ready (Ok back)) = refl
@@ -121,6 +118,4 @@ module _ {T : Type 0} where
   returned_back is_clone v c r msg legal is refused = absurd (none-some msg is)
 
   pub all_returned : (is_clone : T → T → Type 0) (v : View T) (msgs : List T) (r : Reply T) → Legal is_clone v (call.TryBroadcastAll msgs) r → is_accepted r ≡ false → returned_all_by r ≡ Some msgs
-  all_returned is_clone v msgs r legal refused = ap returned_all_by legal
-      ∙ sent_is (λ answer. is_accepted {T = T} (reply.TryBroadcastAll answer) ≡ false → returned_all_by {T = T} (reply.TryBroadcastAll answer) ≡ Some msgs) v.control.closed (has_no_receiver v.control) (nat_lt (free_room v) (length msgs))
-      (unsent.Closed msgs) (unsent.Inactive msgs) (unsent.Full msgs) tt (λ _. refl) (λ _. refl) (λ _. refl) (λ e. apart (sym e)) (sym (ap is_accepted legal) ∙ refused)
+  all_returned is_clone v msgs r legal refused = let e = sym (ap is_accepted legal) ∙ refused in ap returned_all_by legal ∙ grind (arith, common_steps, e)
