@@ -128,6 +128,7 @@ impl<T: Clone> CallJournal<T> for NoJournal {
     ) {}
 
     #[inline(always)]
+    #[tactic(auto, using(crate::proofs::Batches::each_unlearned))]
     fn append_receives<A: Allocator + Copy>(
         &mut self,
         _caller: &mut (),

@@ -24,6 +24,12 @@ inserted m key cursor = let tied = unsigned_tied key key in let e = get-insert n
 pub inserted_other : (m : Cursors) (key cursor other : ℕ) → other ≢ key → get (insert m key cursor) other ≡ get m other
 inserted_other m key cursor other differs = let tied = unsigned_tied other key in let e = get-insert nat_cmp_total m key cursor other in grind (arith, common_steps, tied, e, differs)
 
+pub removed_same : (m : Cursors) (key other : ℕ) → other ≡ key → get (remove m key) other ≡ None
+removed_same m key other same = let tied = unsigned_tied other key in let e = get-remove nat_cmp_total m key other in grind (arith, common_steps, tied, e, same)
+
+pub removed_other : (m : Cursors) (key other : ℕ) → other ≢ key → get (remove m key) other ≡ get m other
+removed_other m key other differs = let tied = unsigned_tied other key in let e = get-remove nat_cmp_total m key other in grind (arith, common_steps, tied, e, differs)
+
 pub got_remove : (m : Cursors) (key other : ℕ) → (get (remove m key) other ≡ get m other) ⊎ (get (remove m key) other ≡ None)
 got_remove m key other =
     let there = get-remove nat_cmp_total m key other in

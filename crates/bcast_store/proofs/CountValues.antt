@@ -8,7 +8,8 @@ use Rattle.std.specs.FinMap.{entries, find, entries-insert, get-entries}
 use Rattle.std.specs.FinMap.Entries.{put, by_order, below_all}
 use Rattle.std.proofs.lemmas.List.Sums.{sum_by-cons}
 use Rattle.bcast_model.specs.Control.{Cursors}
-use Rattle.bcast_store.proofs.Least.{both_true, below-lt, removed_same, remove-absent, insert-remove}
+use Rattle.bcast_model.proofs.DeliveryMaps.{removed_same}
+use Rattle.bcast_store.proofs.Least.{both_true, below-lt, remove-absent, insert-remove}
 
 -- one if it passes
 abbrev pub one_if : (ℕ → Bool) → Option ℕ → ℕ

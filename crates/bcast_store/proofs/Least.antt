@@ -1,21 +1,14 @@
 -- Maps of cursors, and the least cursor.
-use Rattle.std.proofs.Common.{◌≡◌, ◌≢◌, inl, inr, ℕ, Some, None, refl, sym, ap, ◌∙◌, arith}
-use Rattle.std.proofs.lemmas.Grind.{common_steps}
+use Rattle.std.proofs.Common.{◌≡◌, ◌≢◌, inl, inr, ℕ, Some, None, refl, sym, ap, ◌∙◌}
 use Rattle.std.proofs.lemmas.Bool.{cases_eq}
-use Rattle.std.specs.Cmp.{nat_cmp_total, unsigned_tied}
-use Rattle.std.specs.FinMap.{get, insert, remove, get-remove, same_map, nat_cmp-IsAntisymmetric}
+use Rattle.std.specs.Cmp.{nat_cmp_total}
+use Rattle.std.specs.FinMap.{get, insert, remove, same_map, nat_cmp-IsAntisymmetric}
 use Rattle.bcast_model.specs.Control.{Cursors}
-use Rattle.bcast_model.proofs.DeliveryMaps.{inserted, inserted_other}
+use Rattle.bcast_model.proofs.DeliveryMaps.{inserted, inserted_other, removed_same, removed_other}
 pub use Rattle.bcast_model.proofs.Least.{least-le-cursor, least-le-limit, find_head, both_true, below-lt, later, least-greatest}
 
 pub cursors_ext : (m n : Cursors) → ((q : ℕ) → get m q ≡ get n q) → m ≡ n
 cursors_ext m n h = same_map nat_cmp_total nat_cmp-IsAntisymmetric m n h
-
-pub removed_other : (m : Cursors) (k q : ℕ) → q ≢ k → get (remove m k) q ≡ get m q
-removed_other m k q ne = let a = get-remove nat_cmp_total m k q in let t = unsigned_tied q k in grind (arith, common_steps, a, t, ne)
-
-pub removed_same : (m : Cursors) (k q : ℕ) → q ≡ k → get (remove m k) q ≡ None
-removed_same m k q same = let a = get-remove nat_cmp_total m k q in let t = unsigned_tied q k in grind (arith, common_steps, a, t, same)
 
 -- two maps are the same if they are at a key, and at each other one
 same_but : (m n : Cursors) (key : ℕ) → get m key ≡ get n key → ((q : ℕ) → q ≢ key → get m q ≡ get n q) → m ≡ n

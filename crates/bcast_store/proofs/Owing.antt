@@ -11,7 +11,8 @@ use Rattle.bcast_store.proofs.CountValues.{passing, one_if, count_cons, count_va
 use Rattle.std.specs.FinMap.Entries.{below_all}
 use Rattle.bcast_model.specs.Control.{Cursors}
 use Rattle.bcast_store.specs.Sound.{owes, owing_at}
-use Rattle.bcast_store.proofs.Least.{find_head, both_true, later, removed_same, removed_other}
+use Rattle.bcast_model.proofs.DeliveryMaps.{removed_same, removed_other}
+use Rattle.bcast_store.proofs.Least.{find_head, both_true, later}
 
 found_owing : (n : ℕ) (es : List (ℕ × ℕ)) → T (is_sorted nat_cmp es) → 1 ≤ count_by (passing (owes n)) es → (k : ℕ) × (c : ℕ) × (find nat_cmp k es ≡ Some c) × (c ≤ n)
 found_owing n [] s h = absurd (omega arith)

@@ -1,8 +1,8 @@
 -- An id in the parts of a list, and the changes of the listeners.
-use Rattle.std.proofs.Common.{◌≡◌, ℕ, Bool, true, false, List, [], ◌∷◌, take, drop, Option, None, not, unwrap_or, option_map, refl, sym, subst, arith, take-append-drop}
+use Rattle.std.proofs.Common.{◌≡◌, ℕ, Bool, true, false, List, take, drop, Option, None, not, unwrap_or, option_map, sym, subst, arith, take-append-drop}
 use Rattle.std.proofs.lemmas.Grind.{common_steps}
 use Rattle.bcast_model.specs.Words.{Listeners, untold_ids, is_in, without, consume, IsDistinct, AreInOrder, IsTest}
-use Rattle.bcast_model.proofs.Lists.{all_left, all_dropped, all_absent, absent, without_absent, distinct_apart}
+use Rattle.bcast_model.proofs.Lists.{all_left, all_dropped, all_absent, absent, absent_without, without_absent, distinct_apart}
 use Rattle.bcast_waiting.specs.Event.{is_told}
 use Rattle.bcast_waiting.proofs.InSlots.{listed_push}
 
@@ -13,10 +13,6 @@ module _ {I : Type 0} (same : I → I → Bool) where
 
   pub absent_drop : (id : I) (n : ℕ) (ids : List I) → is_in same id ids ≡ false → is_in same id (drop n ids) ≡ false
   absent_drop id n ids h = absent same id (drop n ids) (all_dropped (λ other. same id other ≡ false) n ids (all_absent same id ids h))
-
-  pub absent_without : (id : I) (ids : List I) → is_in same id (without same id ids) ≡ false
-  absent_without id [] = refl
-  absent_without id (x ∷ ids) = grind (arith, common_steps, absent_without id ids)
 
   pub is_told_absent : (id : I) (l : Listeners I) → is_in same id l.ids ≡ false → None ≡ is_told same id l
   is_told_absent id l h = grind (arith, common_steps, absent_drop, absent_take)
