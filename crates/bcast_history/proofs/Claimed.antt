@@ -1,11 +1,9 @@
 -- A call leaves the cursors of all receivers but the one that it moves, or takes from the channel. So
 -- what is claimed is where the receivers read on, and stays so.
-use Rattle.std.proofs.Common.{◌≡◌, ◌≢◌, ℕ, Bool, true, List, [], Option, Some, None, inl, inr, refl, sym, ap, ◌∙◌, subst, arith, IfSome}
+use Rattle.std.proofs.Common.{◌≡◌, ◌≢◌, ℕ, Bool, true, List, [], Option, Some, None, inl, inr, refl, sym, ap, ◌∙◌, subst, IfSome}
 use Rattle.std.proofs.lemmas.Bool.{cases_eq, false≢true}
-use Rattle.std.proofs.lemmas.Grind.{common_steps}
 use Rattle.std.proofs.lemmas.Option.{none-some}
-use Rattle.std.specs.Cmp.{nat_cmp_total, unsigned_tied}
-use Rattle.std.specs.FinMap.{get, remove, get-remove}
+use Rattle.std.specs.FinMap.{get}
 use Rattle.claims.specs.Claims.{claim_of, put, put_changed}
 use Rattle.claims.proofs.Claims.{put_same, put_other}
 use Rattle.bcast_model.specs.declared.run.Call.{Call}
@@ -14,16 +12,12 @@ use Rattle.bcast_model.specs.declared.run.Reply.{Reply}
 use Rattle.bcast_model.specs.Words.{History, View, Represents, Control, Cursors, Legal, next, view_of, effect, cursor_of, front_number, end_number, receives_for}
 use Rattle.bcast_model.proofs.Answers.{cursors-next}
 use Rattle.bcast_model.proofs.DeliveryCursors.{TakesOut, changes}
-use Rattle.bcast_model.proofs.DeliveryMaps.{CursorsChange, stay, rise, make, leave, inserted_other}
+use Rattle.bcast_model.proofs.DeliveryMaps.{CursorsChange, stay, rise, make, leave, inserted_other, removed_other}
 use Rattle.bcast_model.proofs.DeliverySteps.{same_reader}
 use Rattle.async_broadcast.specs.Ports.{moved_by}
 use Rattle.bcast_history.specs.History.{Opening, Step, end_of}
 use Rattle.bcast_history.specs.Cursors.{AreCursors, Cursor}
 use Rattle.bcast_history.specs.Tracker.{next_of}
-
-removed_other : (m : Cursors) (key other : ℕ) → other ≢ key → get (remove m key) other ≡ get m other
-removed_other m key other differs =
-    let tied = unsigned_tied other key in let e = get-remove nat_cmp_total m key other in grind (arith, common_steps, tied, e, differs)
 
 -- a receive moves its receiver
 receiver_moved : {T : Type 0} (key : ℕ) (c : Call T) → receives_for key c ≡ true → moved_by c ≡ Some key
