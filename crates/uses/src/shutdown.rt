@@ -34,6 +34,7 @@ impl Shutdown {
     /// # Errors
     ///
     /// `AllocError`: there is no memory for the channel.
+    #[tactic(auto, using(bcast_core::proofs::Settle::inserted))]
     pub fn new(alloc: Global) -> Result<(Self, usize), AllocError>
         ensures holders { IfOk result (λ made. made.0.holders ≡ 1) }
         ensures worker { IfOk result (λ made. IsWorker made.0 made.1) }

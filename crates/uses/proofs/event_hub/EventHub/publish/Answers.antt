@@ -1,10 +1,7 @@
-use Rattle.std.proofs.Common.{Result, Ok, Err, OnErr, ◌∙◌}
+use Rattle.std.proofs.Common.{◌∙◌}
+use Rattle.bcast_model.proofs.Cases.{on_err}
 use Rattle.uses.proofs.Sends.{refused, sent_last, sent_answers}
 use Rattle.uses.proofs.event_hub.EventHub.publish.Goals as goal
-
-on_err : {A B P : Type 0} (r : Result A B) → P → OnErr r P
-on_err (Ok a) p = tt
-on_err (Err e) p = p
 
 pub returns-clause-accepted : goal.returns-clause-accepted
 returns-clause-accepted g c = rw (← c.self.view_is) (sent_last c.in_ok-try_broadcast.ensures c.self.invariant.overflow).0
