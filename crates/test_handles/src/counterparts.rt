@@ -1,31 +1,10 @@
-//! Counterparts of those two tests of async-broadcast that aren't scripts of calls.
+//! The counterpart of that test of async-broadcast whose stream is a type of its own.
 use crate::channels::{Host, Pair, Play, TestResult, on_a_channel};
-use async_broadcast::{Port, Receiver, RecvError, Sender, broadcast};
+use async_broadcast::{Port, Receiver, RecvError};
 use futures::executor::block_on;
 use futures::task::{Context, Poll};
 use futures::{Stream, StreamExt};
 use std::alloc::AllocError;
-use std::process::Abort;
-
-// The channel closes with the last of its receivers, which are inactive.
-#[test]
-fn inactive_drop(rt: HostRuntime) -> TestResult {
-    let (sender, receiver) = broadcast::<(), _, _>(&rt, rt.alloc(), 1)?;
-    closes_by_its_inactive_receivers(&rt, &sender, receiver)
-}
-
-fn closes_by_its_inactive_receivers<P: Port<()>>(
-    rt: &impl Abort,
-    sender: &Sender<(), P>,
-    receiver: Receiver<(), P>,
-) -> TestResult {
-    let one = receiver.deactivate().ok().ok_or("no handle")?;
-    let two = one.clone()?;
-    drop(one);
-    drop(two);
-    assert!(rt; sender.is_closed());
-    Ok(())
-}
 
 /// What a receiver gives, and how much it missed.
 #[derive(Drop)]

@@ -1,8 +1,8 @@
-//! Tests of `async_broadcast`: the examples of its documentation, two of the original's own tests,
+//! Tests of `async_broadcast`: the examples of its documentation, one of the original's own tests,
 //! tasks that wait, batches, handles short of memory, and what handles see of their channel.
 //!
-//! `examples` has those of the documentation: the first line of each file names its source. Tests
-//! of `counterparts` have the names of the original's.
+//! `examples` has those of the documentation: the first line of each file names its source. The
+//! test of `counterparts` has the name of the original's.
 #![tactic(auto)]
 
 #[cfg(test)]

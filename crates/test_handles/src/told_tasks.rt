@@ -4,7 +4,6 @@ use crate::snapshots::Sees;
 use async_broadcast::{Port, Receiver, Send, Sender, Snapshot, broadcast};
 use futures::executor::{LocalPool, LocalSpawner};
 use futures::task::{Context, Poll, Source, Waker};
-use futures::test::MockTask;
 use futures::{Future, Stream};
 use std::alloc::Global;
 use std::sync::atomic::{AtomicU64, Ordering};
@@ -209,22 +208,6 @@ where
     })
 }
 
-/// Whether a task is woken by the drop of receives, each of which it polls once.
-fn is_woken_by_drops<P: Port<u64>>(
-    rt: &impl Host,
-    receiver: &mut Receiver<u64, P>,
-    receives: u64,
-) -> TestResult<bool> {
-    let task = MockTask::new(rt)?;
-    for _ in 0..receives {
-        let mut receive = receiver.recv_direct();
-        let Poll::Pending = task.enter(|cx| receive.poll(cx)) else {
-            return Err(Fail::from("a receive is answered"));
-        };
-    }
-    Ok(task.is_woken())
-}
-
 // No call is made except the polls of tasks that were woken, and each of them polls once whenever
 // it is woken. So the polls of a row follow one another, and are compared with the bound of the law
 // that told polls end: at most n (n + 1) / 2, if n listeners wait. The test doesn't look at whether
@@ -240,17 +223,6 @@ fn told_tasks_come_to_rest(rt: HostRuntime) -> TestResult {
             2 * seen.polls <= seen.listeners * (seen.listeners + 1),
             "{name}"
         );
-    }
-    Ok(())
-}
-
-// Dropped receives wake no task.
-#[test]
-fn dropped_receives_wake_no_task(rt: HostRuntime) -> TestResult {
-    for receives in [1, 2, 3] {
-        let (_sender, mut receiver) = broadcast(&rt, rt.alloc(), 1)?;
-        let is_woken = is_woken_by_drops(&rt, &mut receiver, receives)?;
-        assert!(rt; !is_woken, "{receives} receives");
     }
     Ok(())
 }
