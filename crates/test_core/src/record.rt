@@ -2,5 +2,4 @@
 mod entries;
 mod logs;
 mod recorders;
-mod refused;
 mod replays;

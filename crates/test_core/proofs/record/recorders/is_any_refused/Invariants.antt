@@ -1,4 +1,4 @@
-use Rattle.test_core.proofs.record.refused.a_refused_call_is_made_again.Given as goal
+use Rattle.test_core.proofs.record.recorders.is_any_refused.Given as goal
 
 abbrev pub ghosts-records-R-Ledger : goal.ghosts-records-R-Ledger
 ghosts-records-R-Ledger g a = record { name = a.calls.name; parts = a.calls.parts }
