@@ -1,6 +1,5 @@
 //! Batches of messages, each beside as many single receives on another channel.
-use crate::calls::{Channel, gets};
-use crate::channel::channel;
+use crate::calls::{Channel, channel, gets};
 use rows::{ROWS, Row};
 use std::alloc::{AllocError, Global};
 use std::process::Abort;

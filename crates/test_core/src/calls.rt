@@ -1,12 +1,28 @@
-//! Calls on a channel of numbers, and their replies, as traces spell them.
+//! The channel that tests begin with, its calls, and their replies, as traces spell them.
+ghost use Rattle.std.specs.Prelude.{◌<◌};
+
 use bcast_core::{Inner, Reply, Silent, step};
 use bcast_trace::call::read_call;
 use bcast_trace::reply::write_reply;
-use std::alloc::{Allocator, Global};
+use std::alloc::{AllocError, Allocator, Global};
+use std::process::Abort;
 use std::test::Fail;
 
 /// A channel of numbers.
 pub(crate) type Channel<A = Global> = Inner<u64, Silent, A>;
+
+/// A new channel of this capacity, whose receiver has the key 0.
+pub(crate) fn channel<T: Drop>(
+    rt: &impl Abort,
+    alloc: Global,
+    capacity: usize,
+) -> Result<Inner<T, Silent>, AllocError>
+    requires { 0 < capacity }
+{
+    let (inner, key) = Inner::new(alloc, capacity)?;
+    assert!(rt; key == 0);
+    Ok(inner)
+}
 
 /// Makes the call of this text. The reply must be of its kind.
 pub(crate) fn ask<A: Allocator + Copy>(

@@ -1,31 +1,13 @@
 //! Receives whose message can't be cloned.
 ghost use Rattle.bcast_model.specs.Next.{HasPositiveCapacity};
 
-use crate::channel::channel;
+use crate::calls::channel;
+use crate::heavy::Heavy;
 use bcast_core::{Call, Reply, Silent, TryRecvError, step};
 use futures::task::Poll;
+use linked_list_allocator::LocalHeap;
 use std::alloc::{AllocError, Global};
-use std::cell::Cell;
 use std::process::Abort;
-
-/// A message whose clone is refused while `refuses` is true.
-#[derive(Drop)]
-struct Fragile<'a> {
-    number: u64,
-    refuses: &'a Cell<bool>,
-}
-
-impl<'a> Clone for Fragile<'a> {
-    fn clone(&self) -> Result<Fragile<'a>, AllocError> {
-        if self.refuses.get() {
-            return Err(AllocError);
-        }
-        Ok(Fragile {
-            number: self.number,
-            refuses: self.refuses,
-        })
-    }
-}
 
 /// A call, with the number of the message or the receiver's key.
 #[derive(Clone, Copy)]
@@ -50,20 +32,20 @@ enum Answer {
     Other,
 }
 
-fn call_of(step: Step, refuses: &Cell<bool>) -> Call<Fragile<'_>>
+fn call_of(step: Step, heap: &LocalHeap) -> Call<Heavy<'_>>
     ensures { HasPositiveCapacity result }
 {
     match step {
         Step::SetOverflow => Call::SetOverflow(true),
         Step::CloneReceiver => Call::CloneReceiver(0),
-        Step::Send(number) => Call::TryBroadcast(Fragile { number, refuses }),
+        Step::Send(number) => Call::TryBroadcast(Heavy::new(number, heap)),
         Step::Receive(key) => Call::TryRecv(key),
         Step::PollRecv(key) => Call::PollRecv(key),
         Step::PollNext(key) => Call::PollNext(key),
     }
 }
 
-fn answer_of(reply: &Reply<Fragile<'_>>) -> Answer {
+fn answer_of(reply: &Reply<Heavy<'_>>) -> Answer {
     match reply {
         Reply::SetOverflow => Answer::Done,
         Reply::CloneReceiver(Ok(key)) => Answer::Receiver(*key),
@@ -112,11 +94,12 @@ fn play(
     name: &str,
     calls: &[(bool, Step, Answer)],
 ) -> Result<(), AllocError> {
-    let refuses = Cell::new(true);
+    let heap = LocalHeap::new(alloc, 256)?;
     let mut inner = channel(rt, alloc, 1)?;
     for (index, (is_refused, call, answer)) in calls.iter().enumerate() {
-        refuses.set(*is_refused);
-        let reply = step(&mut inner, call_of(*call, &refuses), Silent);
+        let rest = if *is_refused { heap.free() } else { 0 };
+        let _rest = Vec::<u8, &LocalHeap>::with_capacity(&heap, rest)?;
+        let reply = step(&mut inner, call_of(*call, &heap), Silent);
         assert!(rt; answer_of(&reply) == *answer, "{name}, call {index}");
     }
     Ok(())

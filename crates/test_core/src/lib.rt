@@ -6,13 +6,13 @@ mod batches;
 #[cfg(test)]
 mod calls;
 #[cfg(test)]
-mod channel;
-#[cfg(test)]
 mod clones;
 #[cfg(test)]
 mod errors;
 #[cfg(test)]
 mod full_heap;
+#[cfg(test)]
+mod heavy;
 #[cfg(test)]
 mod memory;
 #[cfg(test)]

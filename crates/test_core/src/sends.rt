@@ -1,6 +1,5 @@
 //! Three pending sends, from when they get places until only one of them waits.
-use crate::calls::{Channel, ask};
-use crate::channel::channel;
+use crate::calls::{Channel, ask, channel};
 use std::alloc::{AllocError, Global};
 use std::process::Abort;
 use std::test::Fail;

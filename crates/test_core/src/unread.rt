@@ -1,7 +1,6 @@
 //! Where receivers read on, what they have still to read, and what they missed, after each of
 //! several calls.
-use crate::calls::{Channel, ask};
-use crate::channel::channel;
+use crate::calls::{Channel, ask, channel};
 use std::test::Fail;
 
 /// `cursor`, `unread` and `missed` of a receiver.

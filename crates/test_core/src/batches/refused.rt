@@ -1,46 +1,13 @@
 //! Batches for which there is too little memory.
+use crate::heavy::Heavy;
 use bcast_core::{Inner, Silent};
 use linked_list_allocator::LocalHeap;
-use std::alloc::{AllocError, Allocator, Global};
+use std::alloc::{Allocator, Global};
 use std::process::Abort;
 use std::test::Fail;
 
 /// How many messages are sent.
 const MESSAGES: usize = 3;
-
-/// How many bytes of the heap a clone takes.
-const BLOCK: usize = 64;
-
-/// A message whose clones each take memory of the heap.
-#[derive(Drop)]
-struct Heavy<'a> {
-    number: u64,
-    heap: &'a LocalHeap,
-    block: Vec<u8, &'a LocalHeap>,
-}
-
-impl<'a> Heavy<'a> {
-    /// A message that takes none itself.
-    fn new(number: u64, heap: &'a LocalHeap) -> Self {
-        let block = Vec::new(heap);
-        Heavy {
-            number,
-            heap,
-            block,
-        }
-    }
-}
-
-impl<'a> Clone for Heavy<'a> {
-    fn clone(&self) -> Result<Heavy<'a>, AllocError> {
-        let block = Vec::with_capacity(self.heap, BLOCK)?;
-        Ok(Heavy {
-            number: self.number,
-            heap: self.heap,
-            block,
-        })
-    }
-}
 
 /// Sends the messages 0, 1 and 2 on a channel that has a second receiver, which reads none.
 fn send_all(alloc: Global, heap: &LocalHeap) -> Result<Inner<Heavy<'_>, Silent>, Fail> {
