@@ -26,12 +26,9 @@ pub fn run<R: Wait + RandomSource + AllocGlobal, W: Write>(
     writeln!(output, "# {head}")?;
     let bytes = body.as_bytes();
     match kind {
-        "script" => script_case(&Text::new(alloc, Player::Script, bytes), output),
-        "topics" => script_case(&Text::new(alloc, Player::Topics, bytes), output),
-        "trace" => {
-            trace_case(rt, alloc, body, tally, output)?;
-            Ok(())
-        }
+        "script" => write_played(&Text::new(alloc, Player::Script, bytes), output).map(drop),
+        "topics" => write_played(&Text::new(alloc, Player::Topics, bytes), output).map(drop),
+        "trace" => trace_case(rt, alloc, body, tally, output).map(drop),
         "told" => {
             let listed = trace_case(rt, alloc, body, tally, output)?;
             write_notices(alloc, body, listed.as_slice(), output)
@@ -42,12 +39,6 @@ pub fn run<R: Wait + RandomSource + AllocGlobal, W: Write>(
         "replay" => arguments::replay(alloc, body, output),
         _ => output.write_all(b"no such kind of case\n"),
     }
-}
-
-/// Writes what a script or lines on topics write, and how that ends.
-fn script_case<W: Write>(text: &Text<'_>, output: &mut W) -> io::Result<()> {
-    write_played(text, output)?;
-    Ok(())
 }
 
 /// Writes what is written for `text` and how that ends. Then plays it in small pieces, and without

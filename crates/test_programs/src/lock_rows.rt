@@ -30,14 +30,9 @@ enum Part {
     Snapshot,
 }
 
-/// The result of a trace that was played in one way.
-#[derive(Clone, Copy)]
-enum Outcome {
-    /// This many calls were made, and each did the same.
-    Same(u64),
-    /// The call of this line did something else.
-    Differs(usize, Part),
-}
+/// How many calls of a trace were made in one way, and did the same. Or the line whose call did
+/// something else.
+type Outcome = Result<u64, (usize, Part)>;
 
 /// How many traces did the same in all ways, and how many calls they have.
 #[derive(Clone, Copy, Default)]
@@ -121,14 +116,14 @@ fn play_calls<P: Port<u64> + Shows>(
         };
         let number = index.saturating_add(2);
         if !row.is_same_reply(way, made % 2 == 1, calls) {
-            return Ok(Outcome::Differs(number, Part::Reply));
+            return Ok(Err((number, Part::Reply)));
         }
         if let Some(part) = row.differs(alloc)? {
-            return Ok(Outcome::Differs(number, part));
+            return Ok(Err((number, part)));
         }
         made = made.wrapping_add(1);
     }
-    Ok(Outcome::Same(made))
+    Ok(Ok(made))
 }
 
 /// Plays the calls of a trace in one way, on a lock with one channel, and on another channel.
@@ -172,8 +167,8 @@ impl Tally {
         let mut count = 0u64;
         for way in WAYS {
             match play(rt, alloc, way, opening, calls)? {
-                Outcome::Same(made) => count = made.max(count),
-                Outcome::Differs(line, part) => {
+                Ok(made) => count = made.max(count),
+                Err((line, part)) => {
                     return writeln!(output, "-- lock_rows: {way:?}, line {line}: other {part:?}");
                 }
             }

@@ -17,15 +17,9 @@ const HEAP: usize = 1 << 14;
 /// The sizes of blocks that fill a heap.
 const BLOCKS: [usize; 8] = [4096, 1024, 512, 256, 128, 64, 32, 16];
 
-/// The result of the calls of a trace that were short of memory.
-#[derive(Drop)]
-enum Outcome {
-    /// The calls of these lines were refused, changed nothing, and had the right reply when they
-    /// were made again.
-    Refused(Vec<usize>),
-    /// The call of this line had another reply, or changed something.
-    Wrong(usize),
-}
+/// The lines whose calls were refused, changed nothing, and had the right reply when they were made
+/// again. Or the line whose call had another reply, or changed something.
+type Outcome = Result<Vec<usize>, usize>;
 
 /// Whether a call was refused memory.
 fn is_refused(reply: &Reply<Heavy<'_>>) -> bool {
@@ -72,19 +66,6 @@ struct Pair<'a> {
 }
 
 impl Pair<'_> {
-    /// Makes the call of a line, if it has one.
-    fn play_line(
-        &mut self,
-        alloc: Global,
-        line: &str,
-        left: usize,
-    ) -> Result<Option<bool>, AllocError> {
-        match read_line(alloc, line)? {
-            Some(Line::Call(_, call)) => self.make(alloc, left, call),
-            _ => Ok(Some(false)),
-        }
-    }
-
     /// Makes a call with `left` bytes of memory, and again with more of it if it was refused.
     ///
     /// Returns whether it was refused. None: it was refused and changed something, or its reply was
@@ -126,7 +107,7 @@ impl Pair<'_> {
 fn play(alloc: Global, text: &str, left: usize) -> Result<Outcome, AllocError> {
     let (first, calls) = text.split_once('\n').unwrap_or((text, ""));
     let Some(opening) = read_opening(first) else {
-        return Ok(Outcome::Wrong(0));
+        return Ok(Err(0));
     };
     let heap = LocalHeap::new(alloc, HEAP)?;
     let ample = LocalHeap::new(alloc, HEAP)?;
@@ -150,14 +131,17 @@ fn play_calls(
 ) -> Result<Outcome, AllocError> {
     let mut refused = Vec::new(alloc);
     for (index, line) in calls.lines().enumerate() {
+        let Some(Line::Call(_, call)) = read_line(alloc, line)? else {
+            continue;
+        };
         let number = index.saturating_add(2);
-        match pair.play_line(alloc, line, left)? {
-            None => return Ok(Outcome::Wrong(number)),
+        match pair.make(alloc, left, call)? {
+            None => return Ok(Err(number)),
             Some(true) => refused.push(number)?,
             Some(false) => {}
         }
     }
-    Ok(Outcome::Refused(refused))
+    Ok(Ok(refused))
 }
 
 /// Plays the calls of a trace with more and more memory until none is refused. Writes the lines
@@ -165,8 +149,8 @@ fn play_calls(
 pub fn write_refused<W: Write>(alloc: Global, text: &str, output: &mut W) -> io::Result<()> {
     for count in 0..HEAP / 32 {
         let lines = match play(alloc, text, count * 16)? {
-            Outcome::Refused(lines) => lines,
-            Outcome::Wrong(line) => {
+            Ok(lines) => lines,
+            Err(line) => {
                 return writeln!(output, "-- short of memory, line {line} is wrong");
             }
         };

@@ -1,11 +1,12 @@
 //! The ways to make a call through a port.
 ghost use Rattle.bcast_model.specs.Next.{HasPositiveCapacity};
 
+use super::seen::accessors_of;
 use async_broadcast::{Port, RecvError, TaskWaker};
 use bcast_core::{
-    AddHandle, AddReceiver, AtOnce, AttemptSend, BeginSend, Call, Change, Close, Count, EndNumber,
-    PollFuture, PollNext, PollRecv, PollSend, Polls, Reply, SendPoll, SetCapacity, Test,
-    TryBroadcast, TryBroadcastAll, TryRecv, TryRecvError,
+    AddHandle, AddReceiver, AtOnce, AttemptSend, BeginSend, Call, Change, Close, PollFuture,
+    PollNext, PollRecv, PollSend, Polls, Reply, SendPoll, SetCapacity, TryBroadcast,
+    TryBroadcastAll, TryRecv, TryRecvError,
 };
 use futures::test::MockTask;
 use std::alloc::AllocError;
@@ -34,14 +35,20 @@ pub(super) fn ask<P: Port<u64>>(
     requires { HasPositiveCapacity call }
 {
     match way {
-        Way::Typed | Way::LateLock => typed(task, port, call),
+        Way::Typed | Way::LateLock => typed(task, port, call, wanted),
         Way::Data => polled(task, port, call),
         Way::Waiting => waiting(task, port, call, wanted),
     }
 }
 
-/// Makes the call as the type that it is.
-fn typed<P: Port<u64>>(task: &MockTask, port: &P, call: Call<u64>) -> Option<Reply<u64>>
+/// Makes the call as the type that it is. An accessor is made with all others, and is looked for
+/// among their replies.
+fn typed<P: Port<u64>>(
+    task: &MockTask,
+    port: &P,
+    call: Call<u64>,
+    wanted: &Reply<u64>,
+) -> Option<Reply<u64>>
     requires { HasPositiveCapacity call }
 {
     let reply = match call {
@@ -67,7 +74,7 @@ fn typed<P: Port<u64>>(task: &MockTask, port: &P, call: Call<u64>) -> Option<Rep
         Call::Activate => Reply::Activate(made(port, AddReceiver::Activate)),
         Call::ActivateCloned => Reply::ActivateCloned(made(port, AddReceiver::ActivateCloned)),
         Call::CloneReceiver(key) => Reply::CloneReceiver(made(port, AddReceiver::Clone(key))),
-        call => return changed(port, call).or_else(|call| seen(port, call)).ok(),
+        call => return changed(port, call).or_else(|| seen(port, wanted)),
     };
     Some(reply)
 }
@@ -88,8 +95,8 @@ fn polled<P: Port<u64>, C: Polls<u64>>(task: &MockTask, port: &P, call: C) -> Op
         .ok()
 }
 
-/// Makes a call that returns nothing, or hands it back if it isn't one.
-fn changed<P: Port<u64>>(port: &P, call: Call<u64>) -> Result<Reply<u64>, Call<u64>> {
+/// Makes a call that returns nothing. None: it isn't one.
+fn changed<P: Port<u64>>(port: &P, call: Call<u64>) -> Option<Reply<u64>> {
     let (change, reply) = match call {
         Call::EndSend(place) => (Change::EndSend(place), Reply::EndSend),
         Call::SetOverflow(on) => (Change::SetOverflow(on), Reply::SetOverflow),
@@ -97,31 +104,15 @@ fn changed<P: Port<u64>>(port: &P, call: Call<u64>) -> Result<Reply<u64>, Call<u
         Call::DropSender => (Change::DropSender, Reply::DropSender),
         Call::DropInactive => (Change::DropInactive, Reply::DropInactive),
         Call::DropReceiver(key) => (Change::DropReceiver(key), Reply::DropReceiver),
-        call => return Err(call),
+        _ => return None,
     };
     made(port, change);
-    Ok(reply)
+    Some(reply)
 }
 
-/// Makes a call that only reads, or hands it back if it isn't one.
-fn seen<P: Port<u64>>(port: &P, call: Call<u64>) -> Result<Reply<u64>, Call<u64>> {
-    Ok(match call {
-        Call::Overflow => Reply::Overflow(made(port, Test::Overflow)),
-        Call::AwaitActive => Reply::AwaitActive(made(port, Test::AwaitActive)),
-        Call::IsEmpty => Reply::IsEmpty(made(port, Test::IsEmpty)),
-        Call::IsFull => Reply::IsFull(made(port, Test::IsFull)),
-        Call::IsClosed => Reply::IsClosed(made(port, Test::IsClosed)),
-        Call::IsTerminated => Reply::IsTerminated(made(port, Test::IsTerminated)),
-        Call::Capacity => Reply::Capacity(made(port, Count::Capacity)),
-        Call::Len => Reply::Len(made(port, Count::Len)),
-        Call::ReceiverCount => Reply::ReceiverCount(made(port, Count::ReceiverCount)),
-        Call::InactiveReceiverCount => {
-            Reply::InactiveReceiverCount(made(port, Count::InactiveReceiverCount))
-        }
-        Call::SenderCount => Reply::SenderCount(made(port, Count::SenderCount)),
-        Call::EndNumber => Reply::EndNumber(made(port, EndNumber)),
-        call => return Err(call),
-    })
+/// The reply of the accessors that should be this one. None: it is another one.
+fn seen<P: Port<u64>>(port: &P, wanted: &Reply<u64>) -> Option<Reply<u64>> {
+    accessors_of(port).into_iter().find(|reply| reply == wanted)
 }
 
 /// Makes the call by one that waits, unless that would wait.
@@ -140,7 +131,7 @@ fn waiting<P: Port<u64>>(
         (Call::TryRecv(key), Reply::TryRecv(got)) if *got != Ok(Err(TryRecvError::Empty)) => {
             Some(Reply::TryRecv(tried(port.receive_waiting(&mut (), key))))
         }
-        (call, _) => typed(task, port, call),
+        (call, _) => typed(task, port, call, wanted),
     }
 }
 

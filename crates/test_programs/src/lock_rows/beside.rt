@@ -3,7 +3,7 @@ ghost use Rattle.bcast_model.specs.Next.{HasPositiveCapacity};
 
 use super::asking::{Way, made, tried};
 use super::seen::Shows;
-use super::{Outcome, Part, Row, calls_of, open_both, play_calls};
+use super::{Part, Row, calls_of, open_both, play_calls};
 use async_broadcast::{Lock, Port, PortFor, Wake};
 use bcast_core::{Call, Close, Reply, SendPoll, Silent, step};
 use bcast_trace::opening::read_opening;
@@ -112,8 +112,8 @@ fn play_beside<R: Threads, P: Port<u64> + Shows + Send + 'static>(
         thread::yield_now();
     }
     let found = match play_calls(alloc, row, Way::Typed, 0, case.calls)? {
-        Outcome::Differs(_, part) => Some(part),
-        Outcome::Same(_) => row.ends_wait(alloc, case.last)?,
+        Err((_, part)) => Some(part),
+        Ok(_) => row.ends_wait(alloc, case.last)?,
     };
     if found.is_some() {
         // This lets the thread end.

@@ -32,7 +32,7 @@ pub(super) fn differs<P: Port<u64> + Shows>(
 }
 
 /// What a port replies to all accessors.
-fn accessors_of<P: Port<u64>>(port: &P) -> [Reply<u64>; 12] {
+pub(super) fn accessors_of<P: Port<u64>>(port: &P) -> [Reply<u64>; 12] {
     [
         Reply::Overflow(made(port, Test::Overflow)),
         Reply::AwaitActive(made(port, Test::AwaitActive)),
