@@ -44,8 +44,8 @@ pub enum Answer {
     Is(bool),
     /// What all handles see.
     All(Seen),
-    /// The handles of the channel don't all see the same, or a batch counts not as many messages as
-    /// it gave.
+    /// The handles of the channel don't all see the same, or a list of messages has something else
+    /// behind a batch than what was there and what the batch counts.
     Differs,
     Done,
 }
@@ -133,20 +133,24 @@ impl Answer {
         }
     }
 
-    /// What the receive of a batch returned, with what it put into an empty list.
-    pub fn of_recv_many<E: Into<Answer>>(
+    /// What the receive of a batch returned, with what it put behind `before` into a list.
+    pub fn of_batch<E: Into<Answer>>(
         answer: Result<Result<usize, E>, AllocError>,
-        msgs: &[u64],
+        before: u64,
+        list: &[u64],
     ) -> Self {
-        let mut first = [0; 4];
-        for (slot, msg) in first.iter_mut().zip(msgs) {
+        let mut msgs = [0; 4];
+        for (slot, msg) in msgs.iter_mut().zip(list.iter().skip(1)) {
             *slot = *msg;
         }
-        match answer {
-            Ok(Ok(count)) if count != msgs.len() => Answer::Differs,
-            Ok(Ok(count)) => Answer::Messages(count, first),
-            Ok(Err(error)) => error.into(),
-            Err(_) => Answer::NoMemory,
+        let (count, answer) = match answer {
+            Ok(Ok(count)) => (count, Answer::Messages(count, msgs)),
+            Ok(Err(error)) => (0, error.into()),
+            Err(_) => (0, Answer::NoMemory),
+        };
+        match list.split_first() {
+            Some((first, given)) if *first == before && given.len() == count => answer,
+            _ => Answer::Differs,
         }
     }
 

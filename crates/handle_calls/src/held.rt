@@ -45,8 +45,8 @@ type SendPoll = Poll<Result<Result<Option<u64>, async_broadcast::SendError<u64>>
 /// What the poll of a receive returned.
 type RecvPoll = Poll<Result<Result<u64, async_broadcast::RecvError>, AllocError>>;
 
-// What a poll of a send returned, as an answer.
-fn of_send_poll(polled: SendPoll) -> Answer {
+/// What a poll of a send returned, as an answer.
+pub fn of_send_poll(polled: SendPoll) -> Answer {
     match polled {
         Poll::Ready(Ok(answer)) => Answer::of_send(answer),
         Poll::Ready(Err(NoMemory(back))) => Answer::Unsent(back),

@@ -12,12 +12,14 @@
 //! Every other line is `SUBJECT INDEX METHOD`, or has an argument as well. The subjects `sender`,
 //! `receiver` and `inactive` are numbered in the order of making; `send` and `recv` are the held
 //! futures; `task` is one of four that poll; `handles` writes what all handles see, and `port` sets
-//! how recording ports reply. The argument of `try_recv_many`, `recv_many_blocking` and
-//! `recv_many_timeout`, whose time is over at once, is the limit of the batch. A line that begins
-//! with `#` is written back.
+//! how recording ports reply. The argument of `try_recv_many`, `recv_many_blocking`,
+//! `poll_recv_many`, in task 0, and `recv_many_timeout`, whose time is over at once, is the limit of
+//! the batch. `sender N poll_broadcast MESSAGE` makes a send in a box, polls it in task 0 and drops
+//! it. A line that begins with `#` is written back.
 #![tactic(auto)]
 
 mod answer;
+mod batch;
 mod handles;
 mod held;
 mod inactive;

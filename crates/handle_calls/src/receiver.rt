@@ -14,7 +14,6 @@ use std::time::Duration;
 impl<P: TimedPort<u64>, A: Allocator + Copy> Handles<P, A> {
     /// Makes a call on a receiver: one of its own, or one that every handle has.
     pub fn by_receiver(&mut self, request: Request<'_>) -> Result<Answer, Fault> {
-        let mut msgs = Vec::new(*self.receivers.allocator());
         let Some(Some(receiver)) = self.receivers.get_mut(request.index) else {
             return Err(Fault::NotACall);
         };
@@ -29,18 +28,6 @@ impl<P: TimedPort<u64>, A: Allocator + Copy> Handles<P, A> {
             ("recv_timeout", Some(nanoseconds)) => {
                 let received = receiver.recv_timeout(Duration::from_nanos(nanoseconds));
                 Ok(Answer::of_recv(received))
-            }
-            ("try_recv_many", Some(limit)) => {
-                let given = receiver.try_recv_many(limit as usize, &mut msgs);
-                Ok(Answer::of_recv_many(given, msgs.as_slice()))
-            }
-            ("recv_many_blocking", Some(limit)) => {
-                let given = receiver.recv_many_blocking(limit as usize, &mut msgs);
-                Ok(Answer::of_recv_many(given, msgs.as_slice()))
-            }
-            ("recv_many_timeout", Some(limit)) => {
-                let given = receiver.recv_many_timeout(limit as usize, &mut msgs, Duration::ZERO);
-                Ok(Answer::of_recv_many(given, msgs.as_slice()))
             }
             ("is_terminated", None) => Ok(Answer::Is(receiver.is_terminated())),
             _ => by_handle(receiver, request).ok_or(Fault::NotACall),

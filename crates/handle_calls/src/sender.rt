@@ -1,11 +1,13 @@
 //! Calls on senders.
 use crate::answer::Answer;
 use crate::handles::{Handles, add, drop_at};
+use crate::held::of_send_poll;
 use crate::line::Request;
 use crate::settings::by_handle;
-use async_broadcast::TimedPort;
+use async_broadcast::{NoMemory, Sender, TimedPort};
 use bcast_text::input::Fault;
 use bcast_text::number::numbers;
+use futures::test::MockTask;
 use std::alloc::Allocator;
 use std::time::Duration;
 
@@ -35,7 +37,23 @@ impl<P: TimedPort<u64>, A: Allocator + Copy> Handles<P, A> {
                 let sent = sender.broadcast_timeout(msg, Duration::ZERO);
                 Ok(Answer::of_timed_send(sent))
             }
+            ("poll_broadcast", Some(msg)) => {
+                let task = self.tasks.first().ok_or(Fault::NotACall)?;
+                Ok(poll_broadcast(sender, msg, task))
+            }
             _ => by_handle(sender, request).ok_or(Fault::NotACall),
         }
+    }
+}
+
+/// Makes a send in a box, polls it once and drops it.
+fn poll_broadcast<P: TimedPort<u64>, A: Allocator + Copy>(
+    sender: &Sender<u64, P, A>,
+    msg: u64,
+    task: &MockTask,
+) -> Answer {
+    match sender.broadcast(msg) {
+        Ok(mut send) => of_send_poll(task.poll(&mut *send)),
+        Err(NoMemory(back)) => Answer::Unsent(back),
     }
 }

@@ -21,6 +21,9 @@ impl<P: TimedPort<u64>, A: Allocator + Copy> Handles<P, A> {
         match (request.subject, recorder) {
             ("sender", _) => self.by_sender(request),
             ("inactive", _) => self.by_inactive(request),
+            ("receiver", _) if request.method.contains("recv_many") => {
+                self.by_batch(request).ok_or(Fault::NotACall)
+            }
             ("receiver", _) if request.method.starts_with("poll_") => {
                 self.poll_receiver(request).ok_or(Fault::NotACall)
             }

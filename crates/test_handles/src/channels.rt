@@ -1,4 +1,4 @@
-//! The function that makes the channels of most tests. What is done on them is over any port, so
+//! The function that makes the channels of the examples. What is done on them is over any port, so
 //! that its proof names no lock.
 ghost use Rattle.std.specs.Prelude.{◌<◌};
 
@@ -6,7 +6,6 @@ use crate::examples::{
     Owns, batch, broadcast_and_errors, in_tasks, play_owning, receiver, sender, sender_settings,
     timed,
 };
-use crate::{batches, counterparts};
 use async_broadcast::{Port, Receiver, Sender, TimedPort, broadcast};
 use std::alloc::AllocGlobal;
 use std::process::Abort;
@@ -34,13 +33,12 @@ pub type Lent<'a, P> = (&'a mut Sender<u64, P>, &'a mut Receiver<u64, P>);
 pub enum Play {
     Borrows(Borrows),
     Owns(Owns),
-    PollRecv,
     SendInTime,
     ReceiveInTime,
     ReceiveManyInTime,
 }
 
-/// What drops neither handle: examples by their calls, and then other tests.
+/// Examples that drop neither handle.
 #[derive(Clone, Copy)]
 pub enum Borrows {
     Errors,
@@ -58,8 +56,6 @@ pub enum Borrows {
     SetOverflow,
     TryRecvMany,
     PollRecvMany,
-    Batches,
-    PolledBatches,
 }
 
 /// Does this on a new channel that keeps at most `capacity` messages.
@@ -73,7 +69,6 @@ fn play_on<R: Host, P: TimedPort<u64>>(rt: &R, play: Play, mut pair: Pair<P>) ->
     match play {
         Play::Borrows(play) => play_borrowing(rt, play, (&mut pair.0, &mut pair.1)),
         Play::Owns(example) => play_owning(rt, example, pair),
-        Play::PollRecv => counterparts::plays(rt, pair),
         Play::SendInTime => timed::sends(rt, pair),
         Play::ReceiveInTime => timed::receives(rt, pair),
         Play::ReceiveManyInTime => timed::receives_many(rt, pair),
@@ -97,7 +92,5 @@ fn play_borrowing<R: Host, P: Port<u64>>(rt: &R, play: Borrows, lent: Lent<'_, P
         Borrows::SetOverflow => sender_settings::overflows(rt, lent),
         Borrows::TryRecvMany => batch::tries(rt, lent),
         Borrows::PollRecvMany => batch::polls(rt, lent),
-        Borrows::Batches => batches::plays(rt, lent),
-        Borrows::PolledBatches => batches::polls_to_the_end(rt, lent),
     }
 }

@@ -1,16 +1,13 @@
-//! Tests of `async_broadcast`: the examples of its documentation, one of the original's own tests,
-//! tasks that wait, batches, handles short of memory, and what handles see of their channel.
+//! Tests of `async_broadcast`: the examples of its documentation, tasks that wait, batches of a port
+//! without them, handles short of memory, and what handles see of their channel.
 //!
-//! `examples` has those of the documentation: the first line of each file names its source. The
-//! test of `counterparts` has the name of the original's.
+//! `examples` has those of the documentation: the first line of each file names its source.
 #![tactic(auto)]
 
 #[cfg(test)]
 mod batches;
 #[cfg(test)]
 mod channels;
-#[cfg(test)]
-mod counterparts;
 #[cfg(test)]
 mod dropped_receives;
 #[cfg(test)]
