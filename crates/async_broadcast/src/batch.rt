@@ -20,7 +20,7 @@ impl<T: Clone, P: Port<T>, A: Allocator + Copy> Receiver<T, P, A> {
     /// returns how many they are: at least one, or 0 if `limit` is 0, on a closed channel too.
     ///
     /// It is as many `try_recv` in a row, behind one lock, so that each message takes less time.
-    /// The same `msgs` can be used again once it was read and cleared: then it takes no memory.
+    /// If `msgs` is read and cleared, it can be used again, and then takes no memory.
     ///
     /// # Errors
     ///

@@ -19,7 +19,7 @@ module _ {T : Type 0} where
   pub told_none : (v : View T) → v.control.waiting_sends ≡ no_listeners → tell_if_ready v ≡ v
   told_none v nobody = grind (arith, common_steps)
 
-  -- nor once a side has one handle fewer: if the channel is closed then, all sends are told
+  -- once a side has one handle fewer, no more sends are told: if the channel is closed then, all are told already
   pub told_left : (v : View T) (senders inactive : ℕ) → IsValidView v → tell_if_ready (record v { control = close_if_deserted (record v.control { senders = senders; inactive = inactive }) }) ≡ record v { control = close_if_deserted (record v.control { senders = senders; inactive = inactive }) }
   told_left v senders inactive valid =
       let left : Control = record v.control { senders = senders; inactive = inactive } in
