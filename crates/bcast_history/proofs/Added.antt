@@ -1,6 +1,7 @@
 -- Receivers that are added: where each starts, the first too.
-use Rattle.std.proofs.Common.{◌≡◌, ℕ, ◌+◌, Bool, true, List, [], ◌∷◌, ◌++◌, Option, Some, None, Result, Ok, inl, inr, refl, sym, ap, ◌∙◌, subst, arith, IfSome, is_some}
+use Rattle.std.proofs.Common.{◌≡◌, ℕ, Bool, true, List, [], Option, Some, None, Result, Ok, inl, inr, refl, sym, ap, ◌∙◌, subst, IfSome, is_some}
 use Rattle.std.proofs.lemmas.Option.{none-some}
+use Rattle.std.specs.Coded.{Coded}
 use Rattle.std.specs.FinMap.{get, insert}
 use Rattle.bcast_core.specs.declared.calls.handles.AddReceiver.{AddReceiver}
 use Rattle.bcast_core.specs.declared.calls.handles.AddReceiver.TheVariants as receiver
@@ -9,11 +10,11 @@ use Rattle.bcast_model.specs.declared.error.HandleError.{HandleError}
 use Rattle.bcast_model.specs.declared.run.Call.TheVariants as call
 use Rattle.bcast_model.specs.declared.run.Reply.{Reply}
 use Rattle.bcast_model.specs.declared.run.Reply.TheVariants as reply
-use Rattle.bcast_model.specs.Words.{Answers, History, View, Cursors, IsMadeFrom, Legal, effect, next, view_of, cursor_of, clone_receiver, end_number}
+use Rattle.bcast_model.specs.Words.{Answers, History, View, Cursors, IsMadeFrom, Legal, Represents, effect, next, view_of, cursor_of, clone_receiver, end_number}
 use Rattle.bcast_model.proofs.Answers.{cursors-next}
 use Rattle.bcast_model.proofs.DeliveryMaps.{inserted}
-use Rattle.bcast_history.specs.History.{Opening, Step, Replays, end_of}
-use Rattle.bcast_history.proofs.Keeping.{end_of-more}
+use Rattle.bcast_history.specs.History.{Opening, Step, IsLawful, end_of}
+use Rattle.bcast_history.proofs.Keeping.{replays}
 use Rattle.claims.specs.Claims.{claim_of, put_changed}
 use Rattle.claims.proofs.Claims.{put_other}
 
@@ -59,16 +60,15 @@ module _ {T : Type 0} (is_clone : T → T → Type 0) (h : History T) (key : ℕ
       ] refl made.1
 
 -- where the channel's steps are kept, and such a call was made
-pub kept_added : {T : Type 0} {is_clone : T → T → Type 0} (o : Opening) {steps longer : List (Step T)} {before after : View T} (c : AddReceiver) (key : ℕ)
-    → longer ≡ steps ++ record { call = receiver_call c; reply = receiver_reply c (Ok key) } ∷ [] → Replays is_clone o steps before
-    → Replays is_clone o longer after → Answers is_clone before (receiver_call c) (receiver_reply c (Ok key)) after
+pub kept_added : {T : Type 0} {is_clone : T → T → Type 0} (o : Opening) {steps now : List (Step T)} {before after : View T} (c : AddReceiver) (key : ℕ)
+    → Coded T → steps ≡ now → ∥ Represents before (end_of o now) ∥₁ → IsLawful is_clone o steps
+    → Answers is_clone before (receiver_call c) (receiver_reply c (Ok key)) after
     → (cursor_of (end_of o steps).control key ≡ None) × ((number : ℕ) × (cursor_of after.control key ≡ Some number))
-kept_added {T} {is_clone = is_clone} o {steps = steps} c key pushed run new answers =
-    let step : Step T = record { call = receiver_call c; reply = receiver_reply c (Ok key) } in
-    let made = added is_clone (end_of o steps) key c (subst (λ v. Legal is_clone v (receiver_call c) (receiver_reply c (Ok key))) run.end answers.legal) in
-    let there = ap (λ (v : View T). cursor_of v.control key) new.end ∙ ap (λ ss. cursor_of (end_of o ss).control key) pushed
-    ∙ ap (λ (h : History T). cursor_of h.control key) (end_of-more is_clone o steps step run.run) ∙ made.there in
-    (made.free, (made.number, there))
+kept_added {T} {is_clone = is_clone} o {steps = steps} {now = now} c key code is_now shown lawful answers =
+    let h = end_of o steps in
+    let old = replays steps now code is_now shown lawful in
+    let made = added is_clone h key c (subst (λ v. Legal is_clone v (receiver_call c) (receiver_reply c (Ok key))) old.end answers.legal) in
+    (made.free, (made.number, ap (λ (v : View T). cursor_of v.control key) (answers.represents h old.valid old.end) ∙ made.there))
 
 -- the key that a call gave isn't claimed after it
 pub still_free : (claims : List (Option ℕ)) (key own : ℕ) (next at : Option ℕ) → claim_of claims key ≡ None
@@ -80,8 +80,7 @@ still_free claims key own (Some next) at free claimed =
 -- the first receiver starts with the first message, where the channel is that was opened, and no
 -- step was made
 pub first_tracked : {T : Type 0} {opened named : Opening} {steps : List (Step T)} → opened ≡ named → steps ≡ []
-    → (opened.first_number ≡ end_number (end_of named steps)) × (cursor_of (end_of named steps).control opened.first_key ≡ Some opened.first_number)
+    → cursor_of (end_of named steps).control opened.first_key ≡ Some opened.first_number
 first_tracked {T} {opened = o} {named = named} is none =
-    let Is : Opening → List (Step T) → Type 0 = λ named steps.
-    (o.first_number ≡ end_number (end_of named steps)) × (cursor_of (end_of named steps).control o.first_key ≡ Some o.first_number) in
-    subst (Is named) (sym none) (subst (λ named. Is named []) is (omega arith, inserted _ o.first_key o.first_number))
+    let Is : Opening → List (Step T) → Type 0 = λ named steps. cursor_of (end_of named steps).control o.first_key ≡ Some o.first_number in
+    subst (Is named) (sym none) (subst (λ named. Is named []) is (inserted _ o.first_key o.first_number))

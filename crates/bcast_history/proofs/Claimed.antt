@@ -9,15 +9,13 @@ use Rattle.claims.proofs.Claims.{put_same, put_other}
 use Rattle.bcast_model.specs.declared.run.Call.{Call}
 use Rattle.bcast_model.specs.declared.run.Call.TheVariants as call
 use Rattle.bcast_model.specs.declared.run.Reply.{Reply}
-use Rattle.bcast_model.specs.Words.{History, View, Represents, Control, Cursors, Legal, next, view_of, effect, cursor_of, front_number, end_number, receives_for}
+use Rattle.bcast_model.specs.Words.{History, Control, Cursors, Legal, next, view_of, effect, cursor_of, front_number, end_number, receives_for}
 use Rattle.bcast_model.proofs.Answers.{cursors-next}
 use Rattle.bcast_model.proofs.DeliveryCursors.{TakesOut, changes}
 use Rattle.bcast_model.proofs.DeliveryMaps.{CursorsChange, stay, rise, make, leave, inserted_other, removed_other}
 use Rattle.bcast_model.proofs.DeliverySteps.{same_reader}
 use Rattle.async_broadcast.specs.Ports.{moved_by}
-use Rattle.bcast_history.specs.History.{Opening, Step, end_of}
-use Rattle.bcast_history.specs.Cursors.{AreCursors, Cursor}
-use Rattle.bcast_history.specs.Tracker.{next_of}
+use Rattle.bcast_history.specs.Tracker.{AreCursors, next_of}
 
 -- a receive moves its receiver
 receiver_moved : {T : Type 0} (key : ℕ) (c : Call T) → receives_for key c ≡ true → moved_by c ≡ Some key
@@ -62,13 +60,6 @@ pub claimed_there : (c : Control) (claims : List (Option ℕ)) (key : ℕ) (next
 claimed_there c claims key None cursors claimed = refl
 claimed_there c claims key (Some next) cursors claimed = sym (cursors key next claimed)
 
--- where there is no receiver, nothing is claimed
-pub unclaimed : (c : Control) (claims : List (Option ℕ)) (key : ℕ) → AreCursors c claims → cursor_of c key ≡ None → claim_of claims key ≡ None
-unclaimed c claims key cursors none = elim (claim_of claims key) as (λ o. claim_of claims key ≡ o → o ≡ None) [
-  | None ↦ λ _. refl
-  | Some next ↦ λ is. absurd (cc (sym none ∙ cursors key next is))
-] refl
-
 -- after a call each claim is where its receiver reads on, if the receivers stay whose cursors others
 -- have claimed
 pub claims_read_on
@@ -84,33 +75,6 @@ claims_read_on before after claims key (Some was) cursors others other at is = e
 -- as where a receiver's cursor is claimed
 pub claims_cursor : (c : Control) (claims : List (Option ℕ)) (key : ℕ) → AreCursors c claims → AreCursors c (put claims key (cursor_of c key))
 claims_cursor c claims key cursors = claims_read_on c c claims key (Some 0) cursors (λ other at differs is. is)
-
--- who knows all steps, by a cursor that read on, knows what the channel shows
-pub record Tracks {T : Type 0} (o : Opening) (shown : View T) (known : List (Step T)) (last : ℕ) (old new : Cursor) : Type 0 where
-  pub control : shown.control ≡ (end_of o known).control
-  pub end : last ≡ end_number (end_of o known)
-  pub next : new.next ≡ next_of (end_of o known).control old.key old.next
-  pub there : new.next ≡ next_of (end_of o known).control new.key new.next
-
-pub tracks : {T : Type 0} (o : Opening) {longer known : List (Step T)} {shown : View T} {end : ℕ} {old new : Cursor}
-    → known ≡ longer → Represents shown (end_of o longer) → end ≡ shown.end
-    → new ≡ record old { next = next_of shown.control old.key old.next } → Tracks o shown known end old new
-tracks {T} o {known = known} {shown = shown} {old = old} {new = new} same shows end reads =
-    let c = (end_of o known).control in
-    let shows_it : shown ≡ view_of (end_of o known) = shows ∙ sym (ap (λ ss. view_of (end_of o ss)) same) in
-    let next = ap (λ (cursor : Cursor). cursor.next) reads ∙ ap (λ (v : View T). next_of v.control old.key old.next) shows_it in
-    record {
-      control = ap (λ (v : View T). v.control) shows_it;
-      end = end ∙ ap (λ (v : View T). v.end) shows_it;
-      next = next;
-      there = next ∙ next_settles c old.key old.next ∙ ap (next_of c old.key) (sym next) ∙ ap (λ (cursor : Cursor). next_of c cursor.key new.next) (sym reads);
-    }
-
--- a cursor that was made is where the channel says
-pub placed : {new : Cursor} (c : Control) {registry key number name : ℕ} → new ≡ record { registry = registry; key = key; next = Some number }
-    → cursor_of c key ≡ Some number → registry ≡ name → (new.next ≡ next_of c new.key new.next) × (new.registry ≡ name)
-placed c {name = name} is there same =
-    subst (λ (now : Cursor). (now.next ≡ next_of c now.key now.next) × (now.registry ≡ name)) (sym is) (sym there, same)
 
 -- at first the first receiver's cursor alone is claimed
 pub first_claimed : (c : Control) (key : ℕ) {none claims : List (Option ℕ)} {number : ℕ} → none ≡ [] → claims ≡ put none key (Some number) → cursor_of c key ≡ Some number

@@ -6,7 +6,7 @@ pub mod Claimed
 -- runs that go on
 pub mod Added
 pub mod Keeping
-pub mod KeepingEach
+pub mod Grown
 -- what a receiver finds
 pub mod Found
 pub mod Received

@@ -5,7 +5,6 @@ pub mod Book
 pub mod History
 -- who calls
 pub mod Tracker
-pub mod Cursors
 pub mod Learning
 -- what a receiver is given
 pub mod Reader

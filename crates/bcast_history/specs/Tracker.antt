@@ -1,6 +1,7 @@
 -- Who makes calls on a channel with a history: what is known of it.
 use Rattle.std.specs.Prelude.{◌≡◌, ◌⊎◌, ◌-◌, ℕ, false, List, [], ◌∷◌, ◌++◌, Option, Some, None, Ok}
 use Rattle.std.specs.Option.{option_map_or}
+use Rattle.claims.specs.Claims.{claim_of}
 use Rattle.bcast_model.specs.declared.run.Call.{Call}
 use Rattle.bcast_model.specs.declared.run.Call.TheVariants as call
 use Rattle.bcast_model.specs.declared.run.Reply.{Reply}
@@ -26,6 +27,11 @@ HasNewSender {T} steps =
 abbrev pub next_of : Control → ℕ → Option ℕ → Option ℕ
 next_of c key None = None
 next_of c key (Some before) = cursor_of c key
+
+-- each claim is to where its receiver reads on
+abbrev pub AreCursors : Control → List (Option ℕ) → Type 0
+AreCursors c claims =
+    (key next : ℕ) → claim_of claims key ≡ Some next → cursor_of c key ≡ Some next
 
 -- the number, or 0 if there is none
 abbrev pub number : Option ℕ → ℕ

@@ -22,7 +22,7 @@ impl<T: Clone, P: HistoryPort<T, J>, J: Channel> TrackedInactiveReceiver<T, P, J
     pub fn seen(&self) -> Seen<T, J>
         ensures { result ≡ self.now.tracker.steps }
     {
-        self.tracker.caller.seen.same()
+        self.tracker.caller.seen()
     }
 
     /// Turns the inactive receiver into an active one, whose first message is the next one that is

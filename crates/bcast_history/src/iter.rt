@@ -12,8 +12,8 @@ use crate::tracker::Channel;
 use async_broadcast::{RecvError, RecvResult, TryRecvError};
 use std::sync::{Forever, Wait};
 
-/// What a tracked receiver receives, for a loop that blocks the thread while there is no message: as
-/// `Iter` of `async_broadcast`. Each item is what `recv_blocking` returns; at `Closed` it ends.
+/// What a tracked receiver receives, for a loop that blocks the thread while there is no message:
+/// as `Iter` of `async_broadcast`. Each item is what `recv_blocking` returns; at `Closed` it ends.
 #[derive(Drop)]
 pub struct TrackedIter<'a, T: Clone, P: HistoryPort<T, J>, J: Channel, R: Wait> {
     receiver: &'a mut TrackedReceiver<T, P, J>,

@@ -1,11 +1,11 @@
 //! A journal: a list of notes that only grows, so that what is known of a beginning stays true.
 //!
-//! The notes stand in the log of a book of `logbook`, and exist in proofs alone. Only 0 is written to
-//! the book's word, by exchanges of 0 for 0 whose results are not used: each is a step in which the
-//! log may grow. A note is added with a cell that only the writer can bring home, and names the cell
-//! of the next note, so the notes are a chain that only the writer makes longer. So a note comes right
-//! after those that the writer knows, whatever else came to the log, and `append` can neither fail nor
-//! wait.
+//! The notes stand in the log of a book of `logbook`, and exist in proofs alone. Only 0 is written
+//! to the book's word, by exchanges of 0 for 0 whose results are not used: each is a step in which
+//! the log may grow. A note is added with a cell that only the writer can bring home, and names the
+//! cell of the next note, so the notes are a chain that only the writer makes longer. So a note
+//! comes right after those that the writer knows, whatever else came to the log, and `append` can
+//! neither fail nor wait.
 ghost use Rattle.std.specs.Prelude.{◌≡◌, ◌++◌, ◌∷◌, List, []};
 ghost use mathlib.Core.List.{IsPrefix};
 ghost use Rattle.logbook.specs.Pages.{may_write};

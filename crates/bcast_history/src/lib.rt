@@ -13,9 +13,9 @@
 //! (`Follows`). All that any handle of the channel knows are beginnings of one list, which is a run
 //! of the channel. So the laws of `bcast_laws` speak of it.
 //!
-//! A receive promises that the receiver is given the accepted messages one after the other, from its
-//! start on, or told how many it missed (`Takes`). A clone starts where its original reads on, a new
-//! receiver at the end.
+//! A receive promises that the receiver is given the accepted messages one after the other, from
+//! its start on, or told how many it missed (`Takes`). A clone starts where its original reads on,
+//! a new receiver at the end.
 //!
 //! No step is stored: the journal is a word, which stays 0, and what contracts know of its notes.
 //! One `Writer` knows them all, and is guarded by the lock; a `Prefix` has no bytes, and knows a
@@ -60,4 +60,4 @@ pub use receiver::TrackedReceiver;
 pub use sender::TrackedSender;
 pub use step::{Opening, Step};
 pub use steps::StepJournal;
-pub use tracker::{Channel, Cursor, ReceiverTracker, Seen, TrackedCaller, Tracker};
+pub use tracker::{Channel, ReceiverTracker, Seen, TrackedCaller, Tracker};

@@ -1,5 +1,5 @@
-//! A receiver's log: a whole one, of all messages that a channel had accepted when it was closed, and
-//! one that is cut short.
+//! A receiver's log: a whole one, of all messages that a channel had accepted when it was closed,
+//! and one that is cut short.
 ghost use Rattle.std.specs.Prelude.{◌≡◌, Some, IfOk, IfErr, OnOk, codes};
 ghost use Rattle.bcast_model.specs.Words.{ClonesEqual};
 ghost use Rattle.bcast_history.specs.Laws.{HasReadAll};
@@ -18,8 +18,8 @@ use std::marker::Model;
 use std::sync::Wait;
 
 /// All messages that a channel had accepted when it was closed, in order, as a receiver was given
-/// them: each itself, or a clone. A contract sees the `list` of them, and the `steps` on the channel
-/// that its receiver knew then.
+/// them: each itself, or a clone. A contract sees the `list` of them, and the `steps` on the
+/// channel that its receiver knew then.
 #[derive(Drop)]
 pub struct WholeLog<T: Clone, J: Channel, A: Allocator = Global> {
     list: Vec<T, A>,
@@ -84,8 +84,8 @@ impl<T: Clone, J: Channel, A: Allocator> WholeLog<T, J, A> {
 pub struct CutLog<T, A: Allocator = Global> {
     /// The messages that were received, in order.
     pub list: Vec<T, A>,
-    /// How many messages the receiver missed after them; or that memory was refused, and then it has
-    /// missed none.
+    /// How many messages the receiver missed after them; or that memory was refused, and then it
+    /// has missed none.
     pub missed: Result<u64, AllocError>,
 }
 
@@ -111,17 +111,17 @@ impl<T, A: Allocator> fmt::Debug for CutLog<T, A> {
 impl<T: Drop, A: Allocator> Error for CutLog<T, A> {}
 
 impl<T: Clone, P: HistoryPort<T, J>, J: Channel> TrackedReceiver<T, P, J> {
-    /// Receives until the channel is closed, and returns all messages that it had accepted, of which
-    /// this receiver has read none before. Memory for `count` of them is taken before the first one
-    /// is received.
+    /// Receives until the channel is closed, and returns all messages that it had accepted, of
+    /// which this receiver has read none before. Memory for `count` of them is taken before the
+    /// first one is received.
     ///
     /// # Errors
     ///
     /// Each hands back the messages that were received till then, in `list`.
     ///
     /// - `missed: Ok(n)`: the next `n` messages were dropped. The receiver continues after them.
-    /// - `missed: Err(AllocError)`: no memory for a message, or for the list. The receiver continues
-    ///   after those in the list.
+    /// - `missed: Err(AllocError)`: no memory for a message, or for the list. The receiver
+    ///   continues after those in the list.
     pub fn recv_all_blocking<A: Allocator>(
         &mut self,
         rt: &impl Wait,

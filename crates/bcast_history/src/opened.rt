@@ -7,7 +7,7 @@ use crate::receiver::TrackedReceiver;
 use crate::sender::TrackedSender;
 use crate::step::{Opening, Step};
 use crate::steps::StepJournal;
-use crate::tracker::{Channel, Cursor, TrackedCaller, Tracker};
+use crate::tracker::{Channel, TrackedCaller, Tracker};
 use async_broadcast::{Lock, PortFor, Wake};
 use bcast_core::Inner;
 use claims::Registry;
@@ -15,8 +15,8 @@ use std::alloc::{AllocError, Allocator, Global};
 use std::marker::Model;
 use std::sync::Wait;
 
-/// A channel on which no call was made, its journal, and the registry in which its receivers' cursors
-/// are claimed. They have no name yet. A contract sees what a name has to say of them.
+/// A channel on which no call was made, its journal, and the registry in which its receivers'
+/// cursors are claimed. They have no name yet. A contract sees what a name has to say of them.
 #[derive(Drop)]
 pub struct Opened<T: Clone, A: Allocator = Global> {
     inner: Inner<T, Wake, A>,
@@ -98,15 +98,12 @@ pub fn broadcast<T: Clone, R: Wait + Clone, J: Channel, A: Allocator + Copy>(
         journal,
         mut registry,
     } = opened;
-    let cursor = Cursor::new(&mut registry, opening.first_key, opening.first_number);
-    let steps = StepJournal::new(journal, registry);
-    let caller = TrackedCaller {
-        seen: steps.writer.prefix(),
-        end: opening.first_number,
-        cursor,
-    };
+    let writer = journal.into_writer();
+    let (key, first) = (opening.first_key, opening.first_number);
+    let caller = TrackedCaller::new(&mut registry, writer.prefix(), first, key, first);
     let receives = Tracker { caller };
     let tracker = receives.of_sender();
+    let steps = StepJournal::new(writer, registry);
     let port = Lock::with_journal(rt, alloc, inner, steps)?;
     let other = port.try_clone().ok_or(AllocError)?;
     Ok((

@@ -12,8 +12,8 @@ use bcast_core::{AddReceiver, HandleError};
 use std::alloc::{Allocator, Global};
 use std::sync::Wait;
 
-/// A port to the channel that `J` names, for its handles. Functions over tracked handles are written
-/// over it: `P: HistoryPort<u64, J>`. `History` is one.
+/// A port to the channel that `J` names, for its handles. Functions over tracked handles are
+/// written over it: `P: HistoryPort<u64, J>`. `History` is one.
 pub trait HistoryPort<T: Clone, J: Channel>: PortFor<T, TrackedCaller<T, J>> {
     /// Adds a receiver by this call, with its errors. Returns the receiver's key, and who makes its
     /// calls, which knows as much as `caller` then.

@@ -26,9 +26,9 @@ use std::time::Duration;
 
 mod batch;
 
-/// Receives each message that a channel with a history accepts, from the receiver's start on, or the
-/// number of messages that it missed, as `Receiver` of `async_broadcast` does. It promises that none
-/// is left out and none comes twice.
+/// Receives each message that a channel with a history accepts, from the receiver's start on, or
+/// the number of messages that it missed, as `Receiver` of `async_broadcast` does. It promises that
+/// none is left out and none comes twice.
 ///
 /// Contracts name its `tracker`: the receiver's key, the number of the message that it reads next,
 /// and the steps that it knows, a beginning of those on the channel. Each receive says what the
@@ -57,7 +57,7 @@ impl<T: Clone, P: HistoryPort<T, J>, J: Channel> TrackedReceiver<T, P, J> {
     pub fn seen(&self) -> Seen<T, J>
         ensures { result ≡ self.now.tracker.steps }
     {
-        self.tracker.inner.caller.seen.same()
+        self.tracker.inner.caller.seen()
     }
 
     /// Proves that what the receiver knows is a run of the channel, of which all laws speak, and
@@ -83,8 +83,8 @@ impl<T: Clone, P: HistoryPort<T, J>, J: Channel> TrackedReceiver<T, P, J> {
         inner.ask(&self.port, TryRecv(key))
     }
 
-    /// Receives the next message, and blocks the thread while there is none and the channel is open:
-    /// as `Receiver::recv_blocking`, with its errors. Each try is a step.
+    /// Receives the next message, and blocks the thread while there is none and the channel is
+    /// open: as `Receiver::recv_blocking`, with its errors. Each try is a step.
     pub fn recv_blocking(&mut self) -> RecvResult<T, RecvError>
         ensures { ReceivesOnce P.learns T.is_clone J.opening
             self.old.tracker self.new.tracker (as_try_recv result) }
@@ -265,8 +265,8 @@ impl<T: Clone, P: HistoryPort<T, J>, J: Channel> TrackedReceiver<T, P, J> {
 }
 
 impl<T: Clone, P: TimedHistoryPort<T, J>, J: Channel> TrackedReceiver<T, P, J> {
-    /// Receives the next message, and gives up once `limit` has passed: as `Receiver::recv_timeout`,
-    /// with its errors. Each try is a step.
+    /// Receives the next message, and gives up once `limit` has passed: as
+    /// `Receiver::recv_timeout`, with its errors. Each try is a step.
     pub fn recv_timeout(&mut self, limit: Duration) -> RecvResult<T, RecvTimeoutError>
         ensures { ReceivesOnce P.learns T.is_clone J.opening
             self.old.tracker self.new.tracker (as_timed_try result) }

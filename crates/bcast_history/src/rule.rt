@@ -1,9 +1,9 @@
 //! The rule of the book that keeps a journal, and the two steps on it.
 //!
-//! A book has a log and cells. A cell is away at first, and one `Pen` has the right to bring it home,
-//! where it stays. Each entry of the log is added in the step that brings its cell home, and by the
-//! rule the cells of all entries are at home. So while a cell is away there is no entry with it, and
-//! only its pen can add one: each cell was brought home by one entry.
+//! A book has a log and cells. A cell is away at first, and one `Pen` has the right to bring it
+//! home, where it stays. Each entry of the log is added in the step that brings its cell home, and
+//! by the rule the cells of all entries are at home. So while a cell is away there is no entry with
+//! it, and only its pen can add one: each cell was brought home by one entry.
 ghost use Rattle.std.specs.Prelude.{[], Some, None};
 ghost use base.Fml.{ftrue};
 ghost use Rattle.bcast_history.specs.Book.{Adds, IsKept, Makes};

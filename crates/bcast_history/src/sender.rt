@@ -23,8 +23,8 @@ use std::time::Duration;
 /// `async_broadcast` does, and knows where they stand in it.
 ///
 /// Contracts name its `tracker.steps`, a beginning of the steps on the channel. Each call is made
-/// once, and adds the steps that others made meanwhile, and last its own (`MakesCall`). The drop is a
-/// step, too.
+/// once, and adds the steps that others made meanwhile, and last its own (`MakesCall`). The drop is
+/// a step, too.
 pub struct TrackedSender<T: Clone, P: HistoryPort<T, J>, J: Channel> {
     pub(crate) port: P,
     pub(crate) tracker: Tracker<T, J>,
@@ -35,7 +35,7 @@ impl<T: Clone, P: HistoryPort<T, J>, J: Channel> TrackedSender<T, P, J> {
     pub fn seen(&self) -> Seen<T, J>
         ensures { result ≡ self.now.tracker.steps }
     {
-        self.tracker.caller.seen.same()
+        self.tracker.caller.seen()
     }
 
     /// Proves that what the sender knows is a run of the channel, of which all laws speak. Does

@@ -4,13 +4,12 @@ ghost use mathlib.Core.List.{IsPrefix};
 ghost use Rattle.bcast_model.specs.Words.{IsValid, Represents};
 ghost use Rattle.bcast_core.specs.Calls.{receiver_call, receiver_reply};
 ghost use Rattle.bcast_history.specs.Batch.{received};
-ghost use Rattle.bcast_history.specs.Cursors.{AreCursors};
 ghost use Rattle.bcast_history.specs.History.{IsLawful, Step, end_of, start_of};
-ghost use Rattle.bcast_history.specs.Tracker.{Begins, Learns};
+ghost use Rattle.bcast_history.specs.Tracker.{AreCursors, Begins, Learns};
 
-use crate::journal::{Journal, Notes, Writer};
+use crate::journal::{Notes, Writer};
 use crate::step::Step;
-use crate::tracker::{Channel, Cursor, Seen, TrackedCaller};
+use crate::tracker::{Channel, Seen, TrackedCaller};
 use async_broadcast::{CallJournal, Wake};
 use bcast_core::{AddReceiver, CallOf, Inner};
 use claims::Registry;
@@ -21,7 +20,7 @@ use std::snapshot::Snapshot;
 /// The steps on a channel, for contracts. They are a run of it.
 #[derive(Drop)]
 pub struct StepJournal<T: Clone, J: Channel> {
-    pub(crate) writer: Writer<Step<T>, J>,
+    writer: Writer<Step<T>, J>,
     // The receivers' cursors that are claimed: where each reads on.
     registry: Registry,
 }
@@ -38,17 +37,14 @@ impl<T: Clone, J: Channel> Model for StepJournal<T, J> {
 
 impl<T: Clone, J: Channel> StepJournal<T, J> {
     // No step was made.
-    pub(crate) fn new(journal: Journal<Step<T>>, registry: Registry) -> StepJournal<T, J>
-        requires book { journal ≡ J.book }
+    pub(crate) fn new(writer: Writer<Step<T>, J>, registry: Registry) -> StepJournal<T, J>
+        requires empty { writer ≡ [] }
         requires valid { IsValid (start_of {T = T} J.opening) }
         requires cursors { AreCursors (start_of {T = T} J.opening).control registry.claims }
         requires registry { registry.name ≡ J.registry }
         ensures { result ≡ [] }
     {
-        StepJournal {
-            writer: journal.into_writer(),
-            registry,
-        }
+        StepJournal { writer, registry }
     }
 }
 
@@ -128,9 +124,9 @@ impl<T: Clone, J: Channel> CallJournal<T> for StepJournal<T, J> {
             answer,
             messages: PhantomData,
         };
-        self.writer.append(&mut caller.seen, &step);
-        caller.end = after.end_number();
-        caller.cursor.read_on(&mut self.registry, after);
+        let mut seen = caller.seen();
+        self.writer.append(&mut seen, &step);
+        caller.read_on(&mut self.registry, seen, after);
     }
 
     fn append_receiver<A: Allocator + Copy>(
@@ -141,17 +137,14 @@ impl<T: Clone, J: Channel> CallJournal<T> for StepJournal<T, J> {
         _before: &Snapshot<Inner<T, Wake, A>>,
         after: &Inner<T, Wake, A>,
     ) -> TrackedCaller<T, J> {
-        self.writer.append(&mut caller.seen, &(call, key));
-        caller.end = after.end_number();
-        caller.cursor.read_on(&mut self.registry, after);
+        let mut seen = caller.seen();
+        self.writer.append(&mut seen, &(call, key));
+        caller.read_on(&mut self.registry, seen, after);
         let Some(next) = after.cursor(key) else {
             unreachable!()
         };
-        TrackedCaller {
-            seen: caller.seen.same(),
-            end: caller.end,
-            cursor: Cursor::new(&mut self.registry, key, next),
-        }
+        let known = caller.seen();
+        TrackedCaller::new(&mut self.registry, known, caller.end(), key, next)
     }
 
     fn append_receives<A: Allocator + Copy>(
@@ -165,8 +158,8 @@ impl<T: Clone, J: Channel> CallJournal<T> for StepJournal<T, J> {
         if msgs.is_empty() {
             return;
         }
-        append_each(&mut self.writer, &mut caller.seen, key, msgs);
-        caller.end = after.end_number();
-        caller.cursor.read_on(&mut self.registry, after);
+        let mut seen = caller.seen();
+        append_each(&mut self.writer, &mut seen, key, msgs);
+        caller.read_on(&mut self.registry, seen, after);
     }
 }

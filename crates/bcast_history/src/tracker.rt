@@ -2,10 +2,9 @@
 //! has one.
 ghost use Rattle.std.specs.Prelude.{◌≡◌, ℕ, Some, None, Ok, Err, IfSome, IfOk, IfErr};
 ghost use Rattle.claims.specs.Claims.{claim_of, put, put_changed};
-ghost use Rattle.bcast_model.specs.Words.{HasPositiveCapacity, end_number};
+ghost use Rattle.bcast_model.specs.Words.{HasPositiveCapacity, Represents, cursor_of, end_number};
 ghost use Rattle.bcast_core.specs.Calls.{receiver_call, receiver_reply};
 ghost use Rattle.async_broadcast.specs.Ports.{moved_by};
-ghost use Rattle.bcast_history.specs.Cursors.{Cursor as Place};
 ghost use Rattle.bcast_history.specs.History.{IsLawful, Opening, end_of};
 ghost use Rattle.bcast_history.specs.Makes.{MakesCall};
 ghost use Rattle.bcast_history.specs.Tracker.{Tracker as Known, Begins, HasNewSender, IsOf};
@@ -39,105 +38,101 @@ impl Channel for Brand {
 /// All that is known of one channel are beginnings of one list. It has no bytes.
 pub type Seen<T, J> = Prefix<Step<T>, J>;
 
-/// A receiver's key, and the number of the message that it reads next, which only its owner can
-/// change: it has the claim to both. Or no receiver's.
-#[derive(Drop)]
-pub struct Cursor {
-    key: usize,
-    next: Option<u64>,
-    claim: Claim,
-}
-
-impl Model for Cursor {
-    ghost Value = { Place };
-
-    ghost view = { λ c. record { registry = c.claim.registry; key = c.key; next = c.next } };
-
-    ghost invariant = { λ c. (c.claim.key ≡ c.key) × (c.claim.number ≡ c.next) };
-}
-
-impl Cursor {
-    /// Of a receiver that reads on there, and whose key nobody has claimed.
-    pub(crate) fn new(registry: &mut Registry, key: usize, next: u64) -> Self
-        requires unclaimed { claim_of registry.old.claims key ≡ None }
-        ensures registry { (registry.new.name ≡ registry.old.name)
-            × (registry.new.claims ≡ put registry.old.claims key (Some next)) }
-        ensures made { result ≡ record {
-          registry = registry.old.name;
-          key = key;
-          next = Some next;
-        } }
-    {
-        Cursor {
-            key,
-            next: Some(next),
-            claim: registry.claim(key, next),
-        }
-    }
-
-    /// Of no receiver.
-    pub(crate) fn none(&self) -> Self
-        ensures { result ≡ record self.now { next = None } }
-    {
-        Cursor {
-            key: self.key,
-            next: None,
-            claim: self.claim.none(),
-        }
-    }
-
-    /// After a call of its receiver, or of who has none: it is where the channel says.
-    #[inline(always)]
-    pub(crate) fn read_on<T: Clone, A: Allocator + Copy>(
-        &mut self,
-        registry: &mut Registry,
-        inner: &Inner<T, Wake, A>,
-    )
-        requires { self.old.registry ≡ registry.old.name }
-        ensures claimed { IfSome self.old.next
-            (λ next. claim_of registry.old.claims self.old.key ≡ Some next) }
-        ensures registry { (registry.new.name ≡ registry.old.name)
-            × (registry.new.claims ≡ put_changed registry.old.claims self.old.key self.old.next
-            self.new.next) }
-        ensures reads { self.new ≡ record self.old {
-          next = next_of inner.now.control self.old.key self.old.next;
-        } }
-    {
-        if self.next.is_some() {
-            self.next = inner.cursor(self.key);
-        }
-        registry.set(&mut self.claim, self.next);
-    }
-}
-
-/// Who makes calls on a channel: what is known of it, and of a receiver its key and where it reads
-/// on. A contract sees a `Tracker`.
+/// Who makes calls on a channel: what is known of it, and of a receiver its key and the number of
+/// the message that it reads next. Only who makes a receiver's calls can change that number: it has
+/// the claim to both. A contract sees a `Tracker`.
 ///
 /// It has no bound on `T`, since the checker can't yet give `u64` to an impl of `Caller` that has
 /// one. That what is known is a run of the channel is said by the type `Tracker`.
 #[derive(Drop)]
 pub struct TrackedCaller<T, J: Channel> {
-    pub(crate) seen: Seen<T, J>,
+    seen: Seen<T, J>,
     // The number of the message that comes next after these steps.
-    pub(crate) end: u64,
-    pub(crate) cursor: Cursor,
+    end: u64,
+    key: usize,
+    next: Option<u64>,
+    claim: Claim,
 }
 
 impl<T, J: Channel> Model for TrackedCaller<T, J> {
     ghost Value = { Known T };
 
-    ghost view = { λ c. record { steps = c.seen; key = c.cursor.key; next = c.cursor.next } };
+    ghost view = { λ c. record { steps = c.seen; key = c.key; next = c.next } };
 
     ghost invariant = { λ c. (c.end ≡ end_number (end_of J.opening c.seen))
-        × (c.cursor.next ≡ next_of (end_of J.opening c.seen).control c.cursor.key c.cursor.next)
-        × (c.cursor.registry ≡ J.registry) };
+        × (c.next ≡ next_of (end_of J.opening c.seen).control c.key c.next)
+        × (c.claim.registry ≡ J.registry) × (c.claim.key ≡ c.key) × (c.claim.number ≡ c.next) };
 }
 
 impl<T, J: Channel> Caller for TrackedCaller<T, J> {
     ghost moves = { λ caller key. IsOf key caller };
 }
 
-impl<T, J: Channel> TrackedCaller<T, J> {
+impl<T: Clone, J: Channel> TrackedCaller<T, J> {
+    /// Who makes the calls of a receiver whose key nobody has claimed. It knows these steps, after
+    /// which the receiver reads `next`, and the message `end` comes next.
+    pub(crate) fn new(
+        registry: &mut Registry,
+        seen: Seen<T, J>,
+        end: u64,
+        key: usize,
+        next: u64,
+    ) -> Self
+        requires unclaimed { claim_of registry.old.claims key ≡ None }
+        requires named { registry.old.name ≡ J.registry }
+        requires end { end ≡ end_number (end_of J.opening seen) }
+        requires there { cursor_of (end_of J.opening seen).control key ≡ Some next }
+        ensures registry { (registry.new.name ≡ J.registry)
+            × (registry.new.claims ≡ put registry.old.claims key (Some next)) }
+        ensures made { result ≡ record { steps = seen; key = key; next = Some next } }
+    {
+        TrackedCaller {
+            seen,
+            end,
+            key,
+            next: Some(next),
+            claim: registry.claim(key, next),
+        }
+    }
+
+    /// Knows these steps after a call, which led to this channel: its receiver reads on where the
+    /// channel says.
+    #[inline(always)]
+    pub(crate) fn read_on<A: Allocator + Copy>(
+        &mut self,
+        registry: &mut Registry,
+        seen: Seen<T, J>,
+        inner: &Inner<T, Wake, A>,
+    )
+        requires named { registry.old.name ≡ J.registry }
+        requires shown { Represents inner.now (end_of J.opening seen) }
+        ensures claimed { IfSome self.old.next
+            (λ next. claim_of registry.old.claims self.old.key ≡ Some next) }
+        ensures registry { (registry.new.name ≡ J.registry)
+            × (registry.new.claims ≡ put_changed registry.old.claims self.old.key self.old.next
+            self.new.next) }
+        ensures reads { self.new ≡ record {
+          steps = seen;
+          key = self.old.key;
+          next = next_of (end_of J.opening seen).control self.old.key self.old.next;
+        } }
+    {
+        self.seen = seen;
+        self.end = inner.end_number();
+        if self.next.is_some() {
+            self.next = inner.cursor(self.key);
+        }
+        registry.set(&mut self.claim, self.next);
+    }
+
+    /// What is known, for other callers.
+    #[inline(always)]
+    pub(crate) fn seen(&self) -> Seen<T, J>
+        ensures { result ≡ self.now.steps }
+    {
+        self.seen.same()
+    }
+
     #[inline(always)]
     pub(crate) fn end(&self) -> u64
         ensures { result ≡ end_number (end_of J.opening self.now.steps) }
@@ -150,7 +145,7 @@ impl<T, J: Channel> TrackedCaller<T, J> {
     pub(crate) fn key(&self) -> usize
         ensures { result ≡ self.now.key }
     {
-        self.cursor.key
+        self.key
     }
 
     /// The number of the message that the receiver reads next. `None`: there is no receiver.
@@ -158,7 +153,7 @@ impl<T, J: Channel> TrackedCaller<T, J> {
     pub(crate) fn next(&self) -> Option<u64>
         ensures { result ≡ self.now.next }
     {
-        self.cursor.next
+        self.next
     }
 }
 
@@ -183,9 +178,13 @@ impl<T: Clone, J: Channel> Tracker<T, J> {
         requires { HasNewSender self.now.steps }
         ensures { result.steps ≡ self.now.steps }
     {
-        let TrackedCaller { seen, end, cursor } = &self.caller;
-        let (seen, end, cursor) = (seen.same(), *end, cursor.none());
-        let caller = TrackedCaller { seen, end, cursor };
+        let caller = TrackedCaller {
+            seen: self.caller.seen(),
+            end: self.caller.end,
+            key: self.caller.key,
+            next: None,
+            claim: self.caller.claim.none(),
+        };
         Tracker { caller }
     }
 
@@ -224,8 +223,8 @@ impl<T: Clone, J: Channel> Tracker<T, J> {
         self.caller.key()
     }
 
-    /// Proves that what is known is a run of the channel, and that the receiver, if there is one, is
-    /// there. Does nothing.
+    /// Proves that what is known is a run of the channel, and that the receiver, if there is one,
+    /// is there. Does nothing.
     pub(crate) fn invariant_holds(&self)
         ensures lawful { IsLawful T.is_clone J.opening self.now.steps }
         ensures there { self.now.next ≡ next_of (end_of J.opening self.now.steps).control
@@ -235,8 +234,8 @@ impl<T: Clone, J: Channel> Tracker<T, J> {
     }
 }
 
-/// What a receiver knows of its channel, by which it makes its calls: it always has a number that is
-/// read next.
+/// What a receiver knows of its channel, by which it makes its calls: it always has a number that
+/// is read next.
 #[derive(Drop)]
 pub struct ReceiverTracker<T: Clone, J: Channel> {
     pub(crate) inner: Tracker<T, J>,

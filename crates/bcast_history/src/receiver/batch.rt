@@ -19,8 +19,8 @@ use std::alloc::{AllocError, Allocator};
 use std::time::Duration;
 
 impl<T: Clone, P: HistoryPort<T, J>, J: Channel> TrackedReceiver<T, P, J> {
-    /// Receives the messages that are there, at most `limit`, puts them last into `msgs`, and returns
-    /// how many they are: as `Receiver::try_recv_many`, with its errors. Each is a step.
+    /// Receives the messages that are there, at most `limit`, puts them last into `msgs`, and
+    /// returns how many they are: as `Receiver::try_recv_many`, with its errors. Each is a step.
     pub fn try_recv_many<B: Allocator>(
         &mut self,
         limit: usize,
@@ -38,8 +38,8 @@ impl<T: Clone, P: HistoryPort<T, J>, J: Channel> TrackedReceiver<T, P, J> {
     }
 
     /// Receives the messages that are there. If there are none, it blocks the thread until there is
-    /// one, or the channel is closed: as `Receiver::recv_many_blocking`, with its errors. Each try is
-    /// a step.
+    /// one, or the channel is closed: as `Receiver::recv_many_blocking`, with its errors. Each try
+    /// is a step.
     pub fn recv_many_blocking<B: Allocator>(
         &mut self,
         limit: usize,

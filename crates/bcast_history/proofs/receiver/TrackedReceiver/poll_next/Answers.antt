@@ -1,5 +1,5 @@
 -- The receiver skips, and then it finds a message, or that it has read all.
-use Rattle.std.proofs.Common.{inl, inr, Some, None, Ok, Err, refl, sym, ap, ◌∙◌, subst}
+use Rattle.std.proofs.Common.{inl, inr, Some, None, refl, sym, ap, subst}
 use Rattle.std.proofs.lemmas.Result.{MatchResult-from_err}
 use Rattle.futures.specs.declared.task.Poll.TheVariants as poll
 use Rattle.bcast_history.specs.History.{end_of}
