@@ -5,10 +5,10 @@ use Rattle.bcast_model.specs.declared.error.TrySendError.TheVariants as unsent
 use Rattle.bcast_model.specs.declared.run.Call.TheVariants as call
 use Rattle.bcast_model.specs.declared.run.Reply.TheVariants as reply
 use Rattle.bcast_model.specs.declared.run.Call.{Call}
-use Rattle.bcast_model.specs.Words.{has_no_receiver, View, free_room, Legal, worded}
 use Rattle.bcast_model.specs.declared.run.Reply.{Reply}
-use Rattle.bcast_model.specs.Words.{cursor_of, skipped_to, skipped_count, future_reply}
-use Rattle.bcast_model.specs.Words.{stream_reply, next_reply}
+use Rattle.bcast_model.specs.Words.{has_no_receiver, View, free_room, Legal, worded, cursor_of}
+use Rattle.bcast_model.specs.Words.{skipped_to, skipped_count, future_reply, stream_reply}
+use Rattle.bcast_model.specs.Words.{next_reply}
 use Rattle.bcast_record.specs.declared.entry.Entry.{Entry}
 use Rattle.bcast_model.proofs.Cases.{made_is, received_is}
 use Rattle.bcast_record.specs.Copies.{list_of, IsListOf}

@@ -1,6 +1,5 @@
 -- what a contract sees of a seat and of a recorder
 pub mod Seats
-pub mod Opened
 -- what a recorder stores
 pub mod Recording
 -- the recorded history replays

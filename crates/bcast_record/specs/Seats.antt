@@ -1,7 +1,13 @@
--- The seats of a recorder.
+-- The seats of a recorder, and what is known of it beside its lock.
 use Rattle.std.specs.Prelude.{ℕ, zero, suc, ◌+◌, List, [], ◌∷◌, ◌++◌}
+use Rattle.bcast_history.specs.declared.step.Opening.{Opening}
 
--- its number, and how many of its calls were answered
+-- of a recorder: what its channel was opened with, and how many seats were made
+pub record Opened : Type 0 where
+  pub opening : Opening
+  pub seats : ℕ
+
+-- of a seat: its number, and how many of its calls were answered
 pub record Seated : Type 0 where
   pub number : ℕ
   pub count : ℕ

@@ -5,8 +5,7 @@ ghost use Rattle.bcast_model.specs.Next.{HasPositiveCapacity};
 ghost use Rattle.bcast_record.specs.Replay.{calls_of};
 
 use crate::copy::copy_of_call;
-use crate::entry::{Entry, Note};
-use crate::receipt::Receipt;
+use crate::entry::{Entry, Note, Receipt};
 use bcast_core::Call;
 use bcast_history::{Named, Opening, Whole};
 use std::alloc::{AllocError, Allocator, Global};

@@ -21,10 +21,8 @@ mod copy;
 mod entry;
 mod finished;
 mod log;
-mod receipt;
 mod recorder;
 mod seat;
-mod spares;
 
 pub use bcast_core::{
     Call, HandleError, Kind, Messages, NoMemory, RecvError, Reply, SendError, SendPoll,
@@ -32,9 +30,8 @@ pub use bcast_core::{
 };
 pub use bcast_history::{Journal, Named, Opening};
 pub use copy::{copy_of_call, copy_of_reply};
-pub use entry::{Entry, Note};
+pub use entry::{Entry, Note, Receipt};
 pub use finished::Finished;
 pub use log::Log;
-pub use receipt::Receipt;
 pub use recorder::Recorder;
 pub use seat::Seat;

@@ -6,11 +6,10 @@ ghost use Rattle.bcast_record.specs.Recording.{new_recording, notes_of, with_ent
 ghost use Rattle.bcast_record.specs.Replay.{IsRecordedRun, Replays};
 ghost use Rattle.bcast_record.specs.Seats.{new_seats, answered};
 
-use crate::entry::{Entry, Note};
+use crate::copy::Spares;
+use crate::entry::{Entry, Note, Receipt};
 use crate::finished::Finished;
-use crate::receipt::Receipt;
 use crate::seat::{Seat, gather, make_seats};
-use crate::spares::Spares;
 use bcast_core::{Call, Inner, NoMemory, Silent, step};
 use bcast_history::{Journal, Named, Opening, Prefix, Writer};
 use std::alloc::{AllocError, Allocator, Global};

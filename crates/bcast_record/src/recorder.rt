@@ -1,14 +1,12 @@
 //! A log behind a lock.
 ghost use Rattle.std.specs.Prelude.{◌≡◌, ◌+◌, ◌<◌, ◌↔◌, IfOk, IfErr, IsErr, OnOk, vec_len, length, sum_by};
 ghost use Rattle.bcast_model.specs.Words.{ClonesEqual, NoClone, HasPositiveCapacity};
-ghost use Rattle.bcast_record.specs.Opened.{Opened};
 ghost use Rattle.bcast_record.specs.Replay.{IsRecordedRun};
-ghost use Rattle.bcast_record.specs.Seats.{new_seats, answered};
+ghost use Rattle.bcast_record.specs.Seats.{Opened, new_seats, answered};
 
-use crate::entry::Note;
+use crate::entry::{Note, Receipt};
 use crate::finished::Finished;
 use crate::log::Log;
-use crate::receipt::Receipt;
 use crate::seat::Seat;
 use bcast_core::{Call, NoMemory};
 use bcast_history::{Journal, Named, Opening, Prefix};
@@ -33,7 +31,7 @@ pub struct Recorder<T: Copy + Clone, R: Ledger + Named, A: Allocator = Global> {
 impl<T: Copy + Clone, R: Ledger + Named, A: Allocator> Model for Recorder<T, R, A> {
     ghost use Rattle.std.specs.Prelude.{◌≡◌, ◌+◌, Some, slice_get};
     ghost use Rattle.bcast_record.specs.declared.entry.Note.TheVariants as note;
-    ghost use Rattle.bcast_record.specs.Opened.{Opened};
+    ghost use Rattle.bcast_record.specs.Seats.{Opened};
 
     ghost Value = { Opened };
 
@@ -44,12 +42,7 @@ impl<T: Copy + Clone, R: Ledger + Named, A: Allocator> Model for Recorder<T, R, 
 }
 
 impl<T: Copy + Clone, R: Ledger + Named, A: Allocator + Copy> Recorder<T, R, A> {
-    /// A new channel of this capacity, the key of its first receiver, and this many seats.
-    ///
-    /// The channel is as `Inner::new` makes it. The seats are numbered from 0.
-    ///
-    /// `calls` is a new ledger, with a part for each seat and one more, and `journal` a new
-    /// journal: those that the parameter `R` names.
+    /// A new channel, the key of its first receiver, and the seats, as `Log::new` makes them.
     ///
     /// # Errors
     ///
@@ -86,14 +79,12 @@ impl<T: Copy + Clone, R: Ledger + Named, A: Allocator + Copy> Recorder<T, R, A> 
         Ok((recorder, first_key, made))
     }
 
-    /// Makes one call on the channel, for a seat of this recorder, and stores it with its reply.
-    ///
-    /// Waits for the lock. The seat then counts one more call. A new capacity must be positive.
+    /// Waits for the lock, and makes one call on the channel for a seat of this recorder, as
+    /// `Log::step` does.
     ///
     /// # Errors
     ///
-    /// - `NoMemory(call)`: no memory for the entry, or for copies of the call's list for the entry,
-    ///   the receipt and the reply. The call was not made.
+    /// - `NoMemory(call)`: no memory for the entry or the copies. The call was not made.
     pub fn call(
         &self,
         rt: &impl Wait,

@@ -1,7 +1,4 @@
--- maps of topics, and new topics
+-- a topic under its name, and its part of the calls
 pub mod Topics
--- one more exchange, at the end of a list
-pub mod Exchanges
--- what one more exchange does to each topic's part of the calls
-pub mod PartRuns
+-- what one more exchange does
 pub mod Parts

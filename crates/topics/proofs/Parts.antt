@@ -1,24 +1,52 @@
--- What one more exchange does to each topic's part of the calls.
-use Rattle.std.proofs.Common.{◌≡◌, ℕ, List, [], ◌∷◌, ◌++◌, Bool, true, false, cond, slice_get, Option, None, Some, refl, sym, ap, ◌∙◌, subst, append-nil, length}
-use Rattle.std.specs.Prelude.{is_some}
+-- What one more exchange adds at the end of a list, and what it does to each topic's part of the calls.
+use Rattle.std.proofs.Common.{◌≡◌, ℕ, List, [], ◌∷◌, ◌++◌, cond, filter_map, slice_get, Option, None, Some, refl, sym, ap, ◌∙◌, subst, append_assoc, append-nil, length, arith, is_some, bytes_eq, zip, Bool, true, false, true≢false}
+use Rattle.std.proofs.lemmas.List.Elements.{filter-append, filter_map-append}
 use Rattle.std.specs.Option.{option_or}
-use Rattle.std.specs.Str.{bytes_eq}
+use Rattle.std.specs.List.{cons_option}
 use Rattle.std.specs.Cmp.Lexicographic.{bytes_decides}
-use Rattle.std.proofs.lemmas.Bool.{true≢false}
-use Rattle.std.specs.List.{cons_option, zip}
 use Rattle.bcast_model.specs.declared.run.Call.{Call}
 use Rattle.bcast_model.specs.declared.run.Reply.{Reply}
 use Rattle.bcast_model.specs.Words.{View}
 use Rattle.topics.specs.declared.request.Request.{Request}
-use Rattle.topics.specs.declared.request.Request.TheVariants as request
 use Rattle.topics.specs.declared.request.Answer.{Answer}
+use Rattle.topics.specs.Request.{name_of, call_of, IsAnswer, IsAnswerTo}
+use Rattle.topics.specs.Part.{Exchange, on_name, opens, opened_by, AreAnswers, call_done, done_by, Called, IsTopic, AreTopics}
+use Rattle.topics.specs.declared.request.Request.TheVariants as request
 use Rattle.topics.specs.declared.request.Answer.TheVariants as answer
 use Rattle.topics.specs.declared.hub.Hub.{Hub}
-use Rattle.topics.specs.Request.{name_of, call_of, IsAnswer, IsAnswerTo}
 use Rattle.topics.specs.Hub.{topic_of, IsNew, IsCall, Changes, Asks}
-use Rattle.topics.specs.Part.{Exchange, Called, on_name, opens, opened_by, AreAnswers, call_done, done_by, IsTopic, AreTopics}
-use Rattle.topics.proofs.Exchanges.{option_or-None, on_name-last, opened_by-last, done_by-last, answers_more, zip_last}
-use Rattle.topics.proofs.PartRuns.{run_of_more, new_run}
+use Rattle.topics.proofs.Topics.{run_of_more, new_run}
+
+pub option_or-None : {A : Type 0} (o : Option A) → option_or o None ≡ o
+option_or-None None = refl
+option_or-None (Some x) = refl
+
+-- the first element of two lists in a row
+first_of : {X : Type 0} (xs ys : List X) → slice_get (xs ++ ys) 0 ≡ option_or (slice_get xs 0) (slice_get ys 0)
+first_of [] ys = refl
+first_of (x ∷ xs) ys = refl
+
+module _ {T A : Type 0} where
+  pub on_name-last : (name : List ℕ) (es : List (Exchange T A)) (r : Request T A) (a : Answer T) → on_name name (es ++ (r, a) ∷ []) ≡ on_name name es ++ cond (bytes_eq (name_of r) name) ((r, a) ∷ []) []
+  on_name-last name es r a = filter-append (λ (e : Exchange T A). bytes_eq (name_of e.0) name) es ((r, a) ∷ [])
+
+  pub opened_by-last : (es : List (Exchange T A)) (r : Request T A) (a : Answer T) → opened_by (es ++ (r, a) ∷ []) ≡ option_or (opened_by es) (slice_get (cons_option (opens r a) []) 0)
+  opened_by-last es r a =
+      ap (λ (found : List ℕ). slice_get found 0) (filter_map-append (λ (e : Exchange T A). opens e.0 e.1) es ((r, a) ∷ []))
+      ∙ first_of (filter_map (λ (e : Exchange T A). opens e.0 e.1) es) (cons_option (opens r a) [])
+
+  pub done_by-last : (es : List (Exchange T A)) (r : Request T A) (a : Answer T) → done_by (es ++ (r, a) ∷ []) ≡ done_by es ++ cons_option (call_done (call_of r) a) []
+  done_by-last es r a = filter_map-append (λ (e : Exchange T A). call_done (call_of e.0) e.1) es ((r, a) ∷ [])
+
+  pub answers_more : (before es : List (Exchange T A)) (r : Request T A) (a : Answer T) → AreAnswers before es → IsAnswer (is_some (opened_by (on_name (name_of r) (before ++ es)))) r a → AreAnswers before (es ++ (r, a) ∷ [])
+  answers_more before [] r a fit last = (subst (λ es. IsAnswer (is_some (opened_by (on_name (name_of r) es))) r a) (append-nil before) last, tt)
+  answers_more before ((q, b) ∷ es) r a fit last = (fit.0, answers_more (before ++ (q, b) ∷ []) es r a fit.1 (subst (λ all. IsAnswer (is_some (opened_by (on_name (name_of r) all))) r a) (sym (append_assoc before ((q, b) ∷ []) es)) last))
+
+pub zip_last : {X Y : Type 0} (xs : List X) (ys : List Y) (x : X) (y : Y) → length ys ≡ length xs → zip (xs ++ x ∷ []) (ys ++ y ∷ []) ≡ zip xs ys ++ (x, y) ∷ []
+zip_last [] [] x y n = refl
+zip_last [] (z ∷ ys) x y n = absurd (omega (arith, n))
+zip_last (z ∷ xs) [] x y n = absurd (omega (arith, n))
+zip_last (z ∷ xs) (w ∷ ys) x y n = ap (λ zs. (z, w) ∷ zs) (zip_last xs ys x y (omega (arith, n)))
 
 module _ {T : Type 0} (is_clone : T → T → Type 0) where
   kept : (capacity : Option ℕ) (done : List (Called T)) (old new : Option (View T)) → IsTopic is_clone capacity done old → new ≡ old → IsTopic is_clone (option_or capacity None) (done ++ []) new

@@ -2,10 +2,10 @@
 use Rattle.std.specs.Prelude.{◌≡◌, ℕ, List, [], ◌∷◌, ◌++◌, map, filter, filter_map, slice_get, Option, None, Some, is_some, Ok}
 use Rattle.std.specs.Str.{bytes_eq}
 use Rattle.bcast_model.specs.declared.run.Call.{Call}
-use Rattle.bcast_model.specs.declared.run.Call.TheVariants as call
 use Rattle.bcast_model.specs.declared.run.Reply.{Reply}
-use Rattle.bcast_model.specs.declared.run.Reply.TheVariants as reply
 use Rattle.bcast_model.specs.Words.{View, History, opening, view_of, IsRun, end_of_run, IsValid}
+use Rattle.bcast_model.specs.declared.run.Call.TheVariants as call
+use Rattle.bcast_model.specs.declared.run.Reply.TheVariants as reply
 use Rattle.topics.specs.declared.request.Request.{Request}
 use Rattle.topics.specs.declared.request.Request.TheVariants as request
 use Rattle.topics.specs.declared.request.Answer.{Answer}

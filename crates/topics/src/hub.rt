@@ -1,11 +1,12 @@
-//! Channels by name, and one request to them.
-ghost use Rattle.std.specs.Prelude.{◌≡◌, ◌<◌, ℕ, List, None, Some, is_some, IfOk, string_bytes};
+//! Channels by name, and requests to them: one, or a list.
+ghost use Rattle.std.specs.Prelude.{◌≡◌, ◌<◌, ℕ, List, [], None, Some, is_some, IfOk, IfErr, length, string_bytes};
+ghost use Rattle.std.specs.List.{AllByRecursion, zip};
 ghost use Rattle.bcast_model.specs.Next.{HasPositiveCapacity};
 ghost use Rattle.topics.specs.Request.{OpensPositive, IsAnswerTo};
 ghost use Rattle.topics.specs.Hub.{topic_of, Asks, IsNew, IsOpened, IsCall, KeepsOthers};
+ghost use Rattle.topics.specs.Part.{AreAnswers, AreTopics};
 
-use crate::name::is_name;
-use crate::request::{Answer, Request};
+use crate::request::{Answer, Request, is_name};
 use bcast_core::{Call, Inner, Silent, step};
 use std::alloc::{AllocError, Allocator, Global};
 use std::collections::HashMap;
@@ -117,4 +118,35 @@ fn new_topic<T: Clone, A: Allocator + Copy>(
         Ok(()) => Ok(topic),
         Err(_) => Err(AllocError),
     }
+}
+
+/// Answers all requests in order, on a hub of its own.
+///
+/// The capacities of new topics must be positive.
+///
+/// # Errors
+///
+/// The requests are returned, and none was made: memory for the answers was refused.
+pub fn run_hub<T: Clone, A: Allocator + Copy>(
+    alloc: A,
+    requests: Vec<Request<T, A>, A>,
+) -> Result<(Hub<T, A>, Vec<Answer<T>, A>), Vec<Request<T, A>, A>>
+    requires { AllByRecursion OpensPositive requests.items }
+    ensures count { IfOk result (λ made. length made.1.items ≡ length requests.items) }
+    // Each answer fits its request, and whether the topic was opened before it.
+    ensures answers { IfOk result (λ made. AreAnswers [] (zip requests.items made.1.items)) }
+    // The calls on each topic are a run of a channel of its own.
+    ensures topics { IfOk result (λ made.
+        AreTopics T.is_clone (zip requests.items made.1.items) made.0) }
+
+    ensures refused { IfErr result (λ back. back.items ≡ requests.items) }
+{
+    let Ok(mut answers) = Vec::with_capacity(alloc, requests.len()) else {
+        return Err(requests);
+    };
+    let mut hub = Hub::new(alloc);
+    for request in requests {
+        answers.push_reserved(hub.ask(request));
+    }
+    Ok((hub, answers))
 }

@@ -2,11 +2,7 @@
 #![tactic(auto)]
 
 mod hub;
-mod name;
 mod request;
-mod runs;
 
-pub use hub::Hub;
-pub use name::is_name;
-pub use request::{Answer, Request};
-pub use runs::run_hub;
+pub use hub::{Hub, run_hub};
+pub use request::{Answer, Request, is_name};

@@ -7,19 +7,18 @@ use Rattle.std.specs.FinMap.{get, values}
 use Rattle.futures.specs.declared.task.Poll.{Poll}
 use Rattle.bcast_model.specs.declared.run.Call.TheVariants as call
 use Rattle.bcast_model.specs.declared.run.Reply.TheVariants as reply
-use Rattle.bcast_model.specs.Words.{least, sets, listens, accept, settle, View, is_full, Answers}
-use Rattle.bcast_model.specs.Words.{stream_of, Control, cursor_of, accepting, receive, skipped_to}
 use Rattle.bcast_model.specs.declared.error.HandleError.{HandleError}
 use Rattle.bcast_model.specs.declared.error.TrySendError.{TrySendError}
-use Rattle.bcast_model.specs.Words.{with_cursor, pair_waits, IsValidView}
-use Rattle.bcast_model.specs.Words.{pair_answered, is_empty_reply, try_recv_reply}
+use Rattle.bcast_model.specs.Words.{least, sets, listens, accept, settle, View, is_full, Answers}
+use Rattle.bcast_model.specs.Words.{stream_of, Control, cursor_of, accepting, receive, skipped_to}
+use Rattle.bcast_model.specs.Words.{with_cursor, pair_waits, IsValidView, pair_answered}
+use Rattle.bcast_model.specs.Words.{is_empty_reply, try_recv_reply}
 use Rattle.bcast_model.proofs.Cases.{receive_is, test_is}
 use Rattle.bcast_model.proofs.Least.{least-le-cursor, len_insert}
 use Rattle.bcast_model.proofs.DeliveryMaps.{inserted_other}
 use Rattle.bcast_core.proofs.Settle.{inserted, somebody, cursors-accepting}
 use Rattle.uses.specs.Config.{IsConfig, IsUpToDate, KeepsOthers, set_answer}
-use Rattle.uses.proofs.Called.{with_sends, valid, after, unchanged}
-use Rattle.uses.proofs.Sends.{accepted}
+use Rattle.uses.proofs.Called.{with_sends, valid, after, unchanged, accepted}
 
 module _ {S : Type 0} where
   -- nothing is set, and this watcher, if it is there, has looked at the latest settings
@@ -71,20 +70,15 @@ module _ {S : Type 0} where
         | false ↦ heard v (settle v (sets c)) key (record (pair_answered c (stream_of key)) { waiting_sends = sends }) refl refl refl refl here
       ])
 
-  -- ---- `new_receiver`
-  -- what holds after it, whether a watcher was added, which has seen the latest settings, or not
-  pub record Watches (v w : View S) (result : Result ℕ HandleError) : Type 0 where
-    pub config : IsConfig w
-    pub watcher : IfOk result (λ made. get w.control.cursors made ≡ Some v.end)
-    pub others : IfOk result (λ made. KeepsOthers v w made)
-
-  pub watches : {is_clone : S → S → Type 0} {v w : View S} {result : Result ℕ HandleError} → Answers is_clone v call.NewReceiver (reply.NewReceiver result) w → IsConfig v → Watches v w result
+  -- ---- `new_receiver`: a watcher is added, which has seen the latest settings, or nothing changes
+  pub watches : {is_clone : S → S → Type 0} {v w : View S} {result : Result ℕ HandleError} → Answers is_clone v call.NewReceiver (reply.NewReceiver result) w → IsConfig v
+      → IsConfig w × IfOk result (λ made. (get w.control.cursors made ≡ Some v.end) × KeepsOthers v w made)
   watches {v = v} {result = Ok key} a config =
       let c : Control = with_cursor v.control key v.end in
       let s = after a (λ u. Looked v u key × (get u.control.cursors key ≡ Some v.end))
       (λ sends. (heard v (settle v (sets c)) key (record c { waiting_sends = sends }) refl refl refl refl (seen_at v key config v.end refl), inserted v.control.cursors key v.end)) in
-      record { config = s.0.config; watcher = s.1; others = s.0.others }
-  watches {v = v} {result = Err error} a config = subst (λ u. Watches v u (Err error)) (sym (unchanged a refl)) (record { config = config; watcher = tt; others = tt })
+      (s.0.config, (s.1, s.0.others))
+  watches {v = v} {result = Err error} a config = subst (λ u. IsConfig u × Unit {0}) (sym (unchanged a refl)) (config, tt)
 
   -- ---- `try_broadcast`
   -- only the last of the kept messages is left

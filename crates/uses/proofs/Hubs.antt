@@ -5,10 +5,11 @@ use Rattle.std.proofs.lemmas.List.{nil_from_length}
 use Rattle.std.specs.Cmp.{nat_cmp_total}
 use Rattle.std.specs.FinMap.{FinMap, insert, remove, len, empty, len-empty, len-insert, len-remove}
 use Rattle.bcast_model.specs.declared.error.TryRecvError.{TryRecvError}
+use Rattle.bcast_model.specs.Words.{Control, Listeners, with_cursor, cursor_of, sets, deactivate}
+use Rattle.bcast_model.specs.Words.{opening, view_of, NoClone, receive, settle, View, Represents}
+use Rattle.bcast_model.specs.Words.{Answers}
 use Rattle.bcast_model.specs.declared.run.Call.TheVariants as call
 use Rattle.bcast_model.specs.declared.run.Reply.TheVariants as reply
-use Rattle.bcast_model.specs.Words.{Control, Listeners, with_cursor, cursor_of, sets, deactivate, opening}
-use Rattle.bcast_model.specs.Words.{view_of, NoClone, receive, settle, View, Represents, Answers}
 use Rattle.bcast_model.proofs.Cases.{receive_is}
 use Rattle.bcast_core.proofs.Settle.{inserted}
 use Rattle.uses.specs.Hub.{IsHub, IsOpened}

@@ -1,6 +1,5 @@
 -- what every call leaves
 pub mod Called
-pub mod Sends
 -- a text for two receivers
 pub mod OneMessage
 -- a signal to stop
@@ -12,6 +11,5 @@ pub mod Looks
 pub mod Hubs
 -- what readers are still to read
 pub mod Logs
-pub mod Added
 pub mod LogCalls
 pub mod Rooms

@@ -5,20 +5,20 @@ use Rattle.std.proofs.lemmas.Option.{slice_get_cases, slice_get_past}
 use Rattle.std.specs.FinMap.{get}
 use Rattle.bcast_model.specs.declared.run.Call.TheVariants as call
 use Rattle.bcast_model.specs.declared.run.Reply.{Reply}
-use Rattle.bcast_model.specs.declared.run.Reply.TheVariants as reply
 use Rattle.bcast_model.specs.declared.error.HandleError.{HandleError}
-use Rattle.bcast_model.specs.Words.{Found, Control, Listeners, cursor_of, with_cursor, sets}
-use Rattle.bcast_model.specs.Words.{recv_reply, receive, try_recv_reply, NoClone, ClonesEqual, settle, View}
 use Rattle.bcast_model.specs.declared.error.TryRecvError.{TryRecvError}
-use Rattle.bcast_model.specs.Words.{kept_at, Answers, IsValidView}
+use Rattle.bcast_model.specs.Words.{Found, Control, Listeners, cursor_of, with_cursor, sets}
+use Rattle.bcast_model.specs.Words.{recv_reply, receive, try_recv_reply, NoClone, ClonesEqual}
+use Rattle.bcast_model.specs.Words.{settle, View, kept_at, Answers, IsValidView}
+use Rattle.bcast_model.specs.declared.run.Reply.TheVariants as reply
 use Rattle.bcast_model.proofs.Cases.{receive_is, received_is, uncloned, passed_reply}
 use Rattle.bcast_model.proofs.Clones.{answers_exact}
 use Rattle.bcast_core.proofs.Settle.{settle_same}
-use Rattle.uses.specs.Log.{kept_from, unread, record_of, IsReader, IsFresh, IsLog, IsRead, KeepsReaders, KeepsUnread}
-use Rattle.uses.specs.Reading.{IsTaken}
+use Rattle.uses.specs.Log.{kept_from, unread, record_of, IsLog, IsRead, KeepsReaders}
+use Rattle.uses.specs.Reading.{IsTaken, IsAdded}
 use Rattle.uses.proofs.Called.{with_sends, valid, after, unchanged}
 use Rattle.uses.proofs.Logs.{reads_from}
-use Rattle.uses.proofs.Added.{cloned}
+use Rattle.uses.proofs.Rooms.{cloned}
 
 module _ {T : Type 0} where
   -- ---- `try_recv`
@@ -84,20 +84,10 @@ module _ {T : Type 0} where
       )
   reads equal (Err error) sure a log = absurd (let e : false ≡ true = sure in cc)
 
-  -- ---- `clone`
-  -- what holds after it, whether a reader was added or not
-  pub record Adds (v w : View T) (key : ℕ) (result : Result ℕ HandleError) : Type 0 where
-    pub log : IsLog w
-    pub added : IfOk result (λ made. unread w made ≡ unread v key)
-    pub others : IfOk result (λ made. KeepsUnread v w made)
-    pub reader : IfOk result (IsReader w)
-    pub fresh : IfOk result (IsFresh v)
-    pub readers : KeepsReaders v w
-
-  pub adds : {is_clone : T → T → Type 0} {v w : View T} {key : ℕ} {result : Result ℕ HandleError} → Answers is_clone v (call.CloneReceiver key) (reply.CloneReceiver result) w → IsLog v → Adds v w key result
-  adds {key = key} {result = Ok made} a log =
-      let s = cloned key made a log in
-      record { log = s.log; added = s.starts; others = s.others; reader = s.reader; fresh = s.fresh; readers = s.readers }
+  -- ---- `clone`: a reader is added, or nothing changes
+  pub adds : {is_clone : T → T → Type 0} {v w : View T} {key : ℕ} {result : Result ℕ HandleError} → Answers is_clone v (call.CloneReceiver key) (reply.CloneReceiver result) w → IsLog v
+      → IsLog w × KeepsReaders v w × IfOk result (λ made. IsAdded v w made (unread v key))
+  adds {key = key} {result = Ok made} a log = let s = cloned key made a log in (s.log, s.readers, s)
   adds {v = v} {w = w} {key = key} {result = Err error} a log =
       let same : w ≡ v = unchanged a (ap (λ c. sets c) (uncloned v.control (cursor_of v.control key))) in
-      subst (λ u. Adds v u key (Err error)) (sym same) (record { log = log; added = tt; others = tt; reader = tt; fresh = tt; readers = λ other is. is })
+      subst (λ u. IsLog u × KeepsReaders v u × Unit {0}) (sym same) (log, (λ other is. is), tt)

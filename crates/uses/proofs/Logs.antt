@@ -14,8 +14,7 @@ use Rattle.bcast_model.proofs.Views.{valid_view}
 use Rattle.bcast_model.proofs.DeliveryMaps.{inserted_other}
 use Rattle.bcast_core.proofs.Settle.{inserted, cursors-accepting}
 use Rattle.uses.specs.Log.{kept_from, unread, IsReader, IsLog, KeepsReaders, AddsUnread, KeepsUnread}
-use Rattle.uses.proofs.Called.{some_of, valid, some_insert, high_insert}
-use Rattle.uses.proofs.Sends.{put_last}
+use Rattle.uses.proofs.Called.{some_of, valid, some_insert, high_insert, put_last}
 
 module _ {T : Type 0} where
   -- ---- `broadcast`

@@ -4,10 +4,10 @@ use Rattle.std.proofs.lemmas.Option.{none-some, same_Some}
 use Rattle.futures.specs.declared.task.Poll.{Poll}
 use Rattle.bcast_model.specs.declared.run.Call.TheVariants as call
 use Rattle.bcast_model.specs.declared.run.Reply.{Reply}
-use Rattle.bcast_model.specs.declared.run.Reply.TheVariants as reply
-use Rattle.bcast_model.specs.Words.{cursor_of, recv_reply, skipped_count, skipped_to, next_reply, try_recv_reply}
-use Rattle.bcast_model.specs.Words.{worded, IsGiven, IsReceivedBy, View, kept_at}
+use Rattle.bcast_model.specs.Words.{cursor_of, recv_reply, skipped_count, skipped_to, next_reply}
+use Rattle.bcast_model.specs.Words.{try_recv_reply, worded, IsGiven, IsReceivedBy, View, kept_at}
 use Rattle.bcast_model.specs.Words.{Answers, IsValidView}
+use Rattle.bcast_model.specs.declared.run.Reply.TheVariants as reply
 use Rattle.bcast_model.proofs.Cases.{passed_reply, received_is}
 use Rattle.bcast_model.proofs.Clones.{found_message}
 use Rattle.bcast_model.proofs.DeliveryLists.{past_end}

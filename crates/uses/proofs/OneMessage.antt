@@ -4,10 +4,10 @@ use Rattle.std.proofs.lemmas.List.Elements.{All-nil, All-push, All-append, All-d
 use Rattle.std.proofs.lemmas.Option.{slice_get_within, get_or_from_slice_get}
 use Rattle.bcast_model.specs.declared.run.Call.TheVariants as call
 use Rattle.bcast_model.specs.declared.run.Reply.TheVariants as reply
-use Rattle.bcast_model.specs.Words.{effect, opening, View, try_broadcast_reply, accept, settle, IsGiven}
 use Rattle.bcast_model.specs.declared.run.Call.{Call}
 use Rattle.bcast_model.specs.declared.run.Reply.{Reply}
-use Rattle.bcast_model.specs.Words.{Represents, Answers, ReceivedIsGiven, Effect, sets}
+use Rattle.bcast_model.specs.Words.{effect, opening, View, try_broadcast_reply, accept, settle}
+use Rattle.bcast_model.specs.Words.{IsGiven, Represents, Answers, ReceivedIsGiven, Effect, sets}
 use Rattle.bcast_model.proofs.Cases.{test_is}
 use Rattle.uses.proofs.Called.{after}
 

@@ -6,13 +6,12 @@ use Rattle.std.specs.declared.alloc.AllocError.{AllocError}
 use Rattle.std.specs.FinMap.{get}
 use Rattle.bcast_model.specs.declared.run.Call.TheVariants as call
 use Rattle.bcast_model.specs.declared.run.Reply.TheVariants as reply
-use Rattle.bcast_model.specs.Words.{cursor_of, sets, effect, recv_reply, receive, try_recv_reply}
 use Rattle.bcast_model.specs.declared.error.HandleError.{HandleError}
 use Rattle.bcast_model.specs.declared.error.TryRecvError.{TryRecvError}
+use Rattle.bcast_model.specs.Words.{cursor_of, sets, effect, recv_reply, receive, try_recv_reply}
 use Rattle.bcast_model.specs.Words.{View, Answers, IsValidView}
 use Rattle.bcast_model.proofs.Cases.{passed_reply}
-use Rattle.bcast_model.proofs.DeliveryMaps.{inserted_other}
-use Rattle.bcast_core.proofs.Settle.{inserted}
+use Rattle.bcast_model.proofs.DeliveryMaps.{inserted, inserted_other}
 use Rattle.uses.specs.Signal.{signal_of, IsSignal, AddsWorker, is_closed_reply}
 use Rattle.uses.proofs.Called.{valid, after, unchanged, some_of, some_insert}
 

@@ -8,7 +8,5 @@ pub mod Config
 pub mod Hub
 -- what readers are still to read
 pub mod Log
--- sends with room, and reads in order
+-- sends with room, reads in order, and one more receiver
 pub mod Reading
--- one more receiver, with as much room as before
-pub mod Added

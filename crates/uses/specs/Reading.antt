@@ -1,12 +1,12 @@
--- Sends for which there is room, and reads in order: what callers without overflow rely on.
-use Rattle.std.specs.Prelude.{◌≡◌, ℕ, ◌+◌, ◌^◌, ◌<◌, ◌≤◌, false, [], ◌∷◌, length, Option, IfSome, IfNone, IsOk, Result, Ok}
+-- Sends for which there is room, reads in order, and new receivers: what callers rely on.
+use Rattle.std.specs.Prelude.{◌≡◌, ℕ, ◌+◌, ◌^◌, ◌<◌, ◌≤◌, false, [], ◌∷◌, length, Option, IfSome, IfNone, IsOk, Result, Ok, List}
 use Rattle.bcast_model.specs.declared.run.Call.TheVariants as call
 use Rattle.bcast_model.specs.declared.run.Reply.TheVariants as reply
-use Rattle.bcast_model.specs.Words.{has_no_receiver, opening, NoClone, ClonesEqual, IsValid, View}
 use Rattle.bcast_model.specs.declared.error.TryRecvError.{TryRecvError}
 use Rattle.bcast_model.specs.declared.error.TrySendError.{TrySendError}
+use Rattle.bcast_model.specs.Words.{has_no_receiver, opening, NoClone, ClonesEqual, IsValid, View}
 use Rattle.bcast_model.specs.Words.{Answers, Represents}
-use Rattle.uses.specs.Log.{unread, record_of, IsReader, IsLog, KeepsReaders, AddsUnread, KeepsUnread}
+use Rattle.uses.specs.Log.{unread, record_of, IsReader, IsLog, KeepsReaders, AddsUnread, KeepsUnread, IsFresh}
 
 module _ {T : Type 0} where
   -- an open channel in which nothing overflows, with a receiver, and with room and numbers for this
@@ -57,3 +57,29 @@ ReadsInOrder {T} is_clone =
     ClonesEqual is_clone → (v w : View T) (reader : ℕ) (r : Result T TryRecvError)
     → Answers is_clone v (call.TryRecv reader) (reply.TryRecv (Ok r)) w → IsLog v
     → IsTaken v w reader (record_of (Ok r))
+
+module _ {T : Type 0} where
+  -- a reader under a key that no other has, which is still to read `start`: nothing changes for the
+  -- others, and there is room for as many messages as before
+  pub record IsAdded (v w : View T) (key : ℕ) (start : List T) : Type 0 where
+    pub log : IsLog w
+    pub fresh : IsFresh v key
+    pub reader : IsReader w key
+    pub starts : unread w key ≡ start
+    pub others : KeepsUnread v w key
+    pub readers : KeepsReaders v w
+    pub room : (count : ℕ) → HasRoom v count → HasRoom w count
+
+-- `clone_receiver`: the clone is still to read what its original is
+abbrev pub ClonesWithRoom : Type 0 → Type 0
+ClonesWithRoom T =
+    (v w : View T) (original key : ℕ)
+    → Answers NoClone v (call.CloneReceiver original) (reply.CloneReceiver (Ok key)) w → IsLog v
+    → IsAdded v w key (unread v original)
+
+-- `new_receiver`: the new one has nothing to read yet
+abbrev pub AddsWithRoom : Type 0 → Type 0
+AddsWithRoom T =
+    (v w : View T) (key : ℕ)
+    → Answers NoClone v call.NewReceiver (reply.NewReceiver (Ok key)) w → IsLog v
+    → IsAdded v w key []

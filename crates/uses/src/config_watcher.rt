@@ -6,11 +6,10 @@ ghost use Rattle.bcast_model.specs.declared.run.Call.TheVariants as call;
 ghost use Rattle.bcast_model.specs.declared.run.Reply.TheVariants as reply;
 ghost use Rattle.uses.specs.Config.{IsUnset, IsSet, IsLatest, IsUpToDate, KeepsOthers, IsLook, set_answer, change_of};
 
-use bcast_core::{HandleError, Inner, Silent, Steps, TrySendError};
+use bcast_core::{HandleError, Inner, OwnedNotice, PollNext, Polls, Silent, TrySendError};
 use futures::task::Poll;
 use std::alloc::{AllocError, Global};
-use std::marker::{Brand, Model};
-use std::sync::ledger::{Blank, Ledger};
+use std::marker::Model;
 
 /// The latest settings, as a channel of capacity 1 in overflow mode: new settings replace those
 /// that some watcher hasn't looked at yet.
@@ -116,25 +115,23 @@ impl<S: Clone> Config<S> {
         // If no clone fails, it succeeds.
         ensures sure { ((settings : S) → S.is_infallible settings) → IsOk result }
     {
-        let inner = &mut self.inner;
-        Ok(into_change(poll_next::<S, Brand>(inner, watcher, Blank::new(1))?))
+        Ok(into_change(poll_next(&mut self.inner, watcher)?))
     }
 }
 
-// The poll of a watcher, whose steps are not counted.
-fn poll_next<S: Clone, L: Ledger>(
+// The poll of a watcher. Nobody is to be told.
+fn poll_next<S: Clone>(
     inner: &mut Inner<S, Silent>,
     watcher: usize,
-    blank: Blank,
 ) -> Result<Poll<Option<(S, u64)>>, AllocError>
-    requires name { blank.name ≡ L.name }
-    requires parts { blank.parts ≡ L.parts }
-    requires some { 0 < blank.parts }
     ensures answers { Answers S.is_clone inner.old (call.PollNext watcher) (reply.PollNext result)
         inner.new }
     ensures sure { ((settings : S) → S.is_infallible settings) → IsOk result }
 {
-    inner.poll_next(watcher, Silent, &mut Steps::<L>::new(blank))
+    match PollNext(watcher).make_for(inner, &mut OwnedNotice::new(Silent)) {
+        Ok(polled) => polled,
+        Err(_) => unreachable!(),
+    }
 }
 
 // The settings that were refused.

@@ -1,7 +1,6 @@
 //! Events for subscribers that come and go.
 ghost use Rattle.std.specs.Prelude.{◌≡◌, ◌+◌, ◌<◌, ◌∷◌, [], ◌++◌, IfOk, IfErr, IfSome, IsOk, OnOk, OnErr};
-ghost use Rattle.bcast_model.specs.Words.{unsent_message, opening, NoClone, IsGivenFrom, Answers};
-ghost use Rattle.bcast_model.specs.Words.{Represents};
+ghost use Rattle.bcast_model.specs.Words.{unsent_message, opening, NoClone, IsGivenFrom, Answers, Represents};
 ghost use Rattle.bcast_model.specs.declared.run.Call.TheVariants as call;
 ghost use Rattle.bcast_model.specs.declared.run.Reply.TheVariants as reply;
 ghost use Rattle.uses.specs.Hub.{IsOpened, IsNextEvent};

@@ -1,7 +1,6 @@
 //! Laws of what is seen of a channel without overflow, on which callers rely from one call to the
 //! next.
-ghost use Rattle.uses.specs.Reading.{OpensWithRoom, SendsWithRoom, ReadsInOrder};
-ghost use Rattle.uses.specs.Added.{ClonesWithRoom, AddsWithRoom};
+ghost use Rattle.uses.specs.Reading.{OpensWithRoom, SendsWithRoom, ReadsInOrder, ClonesWithRoom, AddsWithRoom};
 
 /// Law: a new channel has room for as many messages as its capacity, if that is not the greatest
 /// `usize`, and its receiver has none to read.

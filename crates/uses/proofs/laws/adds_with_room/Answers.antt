@@ -1,4 +1,4 @@
-use Rattle.uses.proofs.Added.{made}
+use Rattle.uses.proofs.Rooms.{made}
 use Rattle.uses.proofs.laws.adds_with_room.Goals as goal
 
 pub returns : goal.returns

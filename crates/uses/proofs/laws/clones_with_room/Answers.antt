@@ -1,4 +1,4 @@
-use Rattle.uses.proofs.Added.{cloned}
+use Rattle.uses.proofs.Rooms.{cloned}
 use Rattle.uses.proofs.laws.clones_with_room.Goals as goal
 
 pub returns : goal.returns

@@ -1,8 +1,8 @@
 use Rattle.std.proofs.Common.{map, sym, ap, subst, ◌∙◌}
 use Rattle.std.specs.List.{AllByRecursion}
-use Rattle.bcast_model.specs.Next.{HasPositiveCapacity}
+use Rattle.bcast_model.specs.Words.{HasPositiveCapacity}
 use Rattle.bcast_record.specs.Replay.{calls_of}
-use Rattle.bcast_record.proofs.Appends.{calls_of-entries}
+use Rattle.bcast_record.proofs.Entries.{calls_of-entries}
 use Rattle.bcast_record.proofs.finished.Finished.calls.Goals as goal
 
 pub returns : goal.returns

@@ -2,7 +2,7 @@ use Rattle.std.proofs.Common.{◌≡◌, suc, Some, slice_get, sym, ◌∙◌, a
 use Rattle.std.proofs.lemmas.Option.{get_or_from_slice_get}
 use Rattle.bcast_record.specs.declared.entry.Note.TheVariants as note
 use Rattle.bcast_record.specs.Recording.{notes_of}
-use Rattle.bcast_record.proofs.Notes.{entry_of_note, found_there}
+use Rattle.bcast_record.proofs.Entries.{entry_of_note, found_there}
 use Rattle.bcast_record.proofs.finished.Finished.entry_of.Goals as goal
 
 pub returns-clause-entry : goal.returns-clause-entry

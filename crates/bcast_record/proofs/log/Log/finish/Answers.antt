@@ -1,7 +1,7 @@
 use Rattle.std.proofs.Common.{◌≡◌, Some, slice_get, sym, ap, ◌∙◌, arith}
 use Rattle.bcast_record.specs.declared.entry.Note.TheVariants as note
 use Rattle.bcast_record.specs.Recording.{notes_of}
-use Rattle.bcast_record.proofs.Notes.{found_there}
+use Rattle.bcast_record.proofs.Entries.{found_there}
 use Rattle.bcast_record.proofs.log.Log.finish.Goals as goal
 
 pub returns-clause-opening : goal.returns-clause-opening

@@ -3,8 +3,7 @@ use Rattle.bcast_record.specs.declared.entry.Entry.{Entry}
 use Rattle.bcast_record.specs.declared.entry.Note.TheVariants as note
 use Rattle.bcast_record.specs.Recording.{notes_of}
 use Rattle.bcast_record.proofs.Copies.{legal_list, same_entry}
-use Rattle.bcast_record.proofs.Appends.{replays_push, may_run_again_push}
-use Rattle.bcast_record.proofs.Notes.{notes_of-push, last_note}
+use Rattle.bcast_record.proofs.Entries.{replays_push, may_run_again_push, notes_of-push, last_note}
 use Rattle.bcast_record.proofs.log.Log.step.Goals as goal
 
 -- what callers rely on, before what the code itself needs

@@ -1,6 +1,5 @@
-use Rattle.std.proofs.Common.{◌≡◌, inr, refl, sym, ap, ◌∙◌, subst, false, None, is_some}
+use Rattle.std.proofs.Common.{◌≡◌, inr, refl, sym, ap, ◌∙◌, subst, false, None, is_some, string_bytes}
 use Rattle.std.specs.HashMap.{get_by_text}
-use Rattle.std.specs.String.{string_bytes}
 use Rattle.topics.specs.declared.request.Answer.TheVariants as answer
 use Rattle.topics.specs.Request.{IsAnswerTo}
 use Rattle.topics.proofs.Topics.{put_others}

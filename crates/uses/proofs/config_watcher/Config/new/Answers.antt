@@ -1,6 +1,6 @@
 use Rattle.std.proofs.Common.{◌≡◌, Some, sym, subst}
 use Rattle.std.specs.FinMap.{get, empty}
-use Rattle.bcast_model.specs.View.{View}
+use Rattle.bcast_model.specs.Words.{View}
 use Rattle.bcast_core.proofs.Settle.{inserted}
 use Rattle.uses.proofs.Called.{after}
 use Rattle.uses.proofs.config_watcher.Config.new.Goals as goal

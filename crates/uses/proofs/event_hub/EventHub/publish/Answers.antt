@@ -1,6 +1,6 @@
 use Rattle.std.proofs.Common.{◌∙◌}
 use Rattle.bcast_model.proofs.Cases.{on_err}
-use Rattle.uses.proofs.Sends.{refused, sent_last, sent_answers}
+use Rattle.uses.proofs.Called.{refused, sent_last, sent_answers}
 use Rattle.uses.proofs.event_hub.EventHub.publish.Goals as goal
 
 pub returns-clause-accepted : goal.returns-clause-accepted

@@ -1,5 +1,5 @@
 use Rattle.uses.proofs.Logs.{writes}
-use Rattle.uses.proofs.Sends.{sent_answers}
+use Rattle.uses.proofs.Called.{sent_answers}
 use Rattle.uses.proofs.log_fan_out.Log.write.Goals as goal
 
 pub invariant_of-self-2 : goal.invariant_of-self-2

@@ -1,7 +1,7 @@
 use Rattle.std.proofs.Common.{◌≡◌, ◌++◌, ◌∷◌, ◌+◌, ◌<◌, [], length, sym, ap, ◌∙◌, arith}
 use Rattle.std.proofs.lemmas.List.{append_assoc}
 use Rattle.uses.specs.Log.{unread}
-use Rattle.own_channel.proofs.relay.receive_all.Goals as goal
+use Rattle.own_channel.proofs.promises.receive_all.Goals as goal
 
 pub unreachable-requires : goal.unreachable-requires
 unreachable-requires c =

@@ -1,6 +1,6 @@
 use Rattle.std.proofs.Common.{◌≡◌, ◌++◌, ◌+◌, length}
 use Rattle.uses.specs.Log.{unread, IsLog}
-use Rattle.own_channel.proofs.relay.receive_all.Given as goal
+use Rattle.own_channel.proofs.promises.receive_all.Given as goal
 
 abbrev pub invariant-loop : goal.invariant-loop
 invariant-loop l =

@@ -1,5 +1,5 @@
 use Rattle.std.proofs.Common.{◌++◌, length, ap, ◌∙◌}
-use Rattle.own_channel.proofs.relay.relay.Goals as goal
+use Rattle.own_channel.proofs.promises.relay.Goals as goal
 
 pub send_all-requires-clause-room : goal.send_all-requires-clause-room
 send_all-requires-clause-room c = (c.opens_with_room.ensures _ _ _ c.in_ok-channel.ensures.opened c.in_ok-channel.ensures.valid c.requires.few).0

@@ -1,8 +1,7 @@
-use Rattle.std.proofs.Common.{◌≡◌, [], ◌++◌, length, ◌+◌, ◌≤◌, vec_len, vec_capacity}
+use Rattle.std.proofs.Common.{◌≡◌, [], ◌++◌, length, ◌+◌, ◌≤◌, vec_len, vec_capacity, zip}
 use Rattle.std.specs.Vec.Iter.{into_iter_items}
-use Rattle.std.specs.List.{zip}
 use Rattle.topics.specs.Part.{AreAnswers, AreTopics}
-use Rattle.topics.proofs.runs.run_hub.Given as goal
+use Rattle.topics.proofs.hub.run_hub.Given as goal
 
 abbrev pub invariant-loop-request : goal.invariant-loop-request
 invariant-loop-request g l = record {

@@ -1,12 +1,12 @@
-use Rattle.std.proofs.Common.{◌≡◌, [], ◌∷◌, ◌++◌, length, length-append, append_assoc, refl, sym, ap, subst, ◌∙◌, arith}
+use Rattle.std.proofs.Common.{◌≡◌, [], ◌∷◌, ◌++◌, length, length-append, append_assoc, refl, sym, ap, subst, ◌∙◌, arith, zip}
 use Rattle.std.specs.Vec.Iter.{into_iter_items}
-use Rattle.std.specs.List.{AllByRecursion, zip}
+use Rattle.std.specs.List.{AllByRecursion}
 use Rattle.bcast_model.proofs.Lists.{all_right}
 use Rattle.bcast_core.proofs.Runs.{all_made}
 use Rattle.topics.specs.Request.{OpensPositive}
 use Rattle.topics.specs.Part.{AreAnswers, AreTopics}
 use Rattle.topics.proofs.Parts.{exchanged}
-use Rattle.topics.proofs.runs.run_hub.Goals as goal
+use Rattle.topics.proofs.hub.run_hub.Goals as goal
 
 pub ask-requires : goal.ask-requires
 ask-requires g c =

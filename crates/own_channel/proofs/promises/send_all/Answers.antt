@@ -2,7 +2,7 @@ use Rattle.std.proofs.Common.{◌≡◌, suc, ◌+◌, ◌-◌, ◌<◌, ◌++�
 use Rattle.std.proofs.Math.Seq.{take-suc}
 use Rattle.std.proofs.lemmas.List.{append_assoc}
 use Rattle.uses.specs.Reading.{HasRoom}
-use Rattle.own_channel.proofs.relay.send_all.Goals as goal
+use Rattle.own_channel.proofs.promises.send_all.Goals as goal
 
 pub loop-number-init : goal.loop-number-init
 loop-number-init c =

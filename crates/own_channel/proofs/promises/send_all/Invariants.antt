@@ -1,7 +1,7 @@
 use Rattle.std.proofs.Common.{◌≡◌, ◌-◌, ◌++◌, length, take}
 use Rattle.uses.specs.Log.{unread, IsReader}
 use Rattle.uses.specs.Reading.{HasRoom}
-use Rattle.own_channel.proofs.relay.send_all.Given as goal
+use Rattle.own_channel.proofs.promises.send_all.Given as goal
 
 abbrev pub invariant-loop-number : goal.invariant-loop-number
 invariant-loop-number l =

@@ -1,5 +1,5 @@
 use Rattle.std.proofs.Common.{◌++◌, ◌∷◌, [], ap, ◌∙◌}
-use Rattle.own_channel.proofs.both.send_to_both.Goals as goal
+use Rattle.own_channel.proofs.promises.send_to_both.Goals as goal
 
 pub unreachable-requires : goal.unreachable-requires
 unreachable-requires c =
