@@ -170,12 +170,8 @@ fn len_through(bytes: &[u8], most: usize) -> usize
     ensures before { All (λ byte. byte ≢ 10) (take (result - 1) bytes.now) }
 {
     let end = bytes.len().min(most);
-    let mut len = 0;
-    while len < end {
-        if bytes[len] == b'\n' {
-            return len + 1;
-        }
-        len += 1;
+    match bytes[..end].iter().position(|byte| *byte == b'\n') {
+        Some(at) => at + 1,
+        None => end,
     }
-    len
 }

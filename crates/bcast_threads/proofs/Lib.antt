@@ -1,2 +1,1 @@
-pub mod Closed
-pub mod Sent
+mod Sent

@@ -16,11 +16,13 @@ use Rattle.bcast_model.specs.declared.run.Reply.{Reply}
 use Rattle.bcast_laws.specs.Sends.{is_accepted}
 use Rattle.bcast_history.specs.declared.step.Opening.{Opening}
 use Rattle.bcast_history.specs.declared.step.Step.{Step}
-use Rattle.bcast_history.specs.History.{Follows, accepted_by}
+use Rattle.bcast_history.specs.History.{IsHistory, Follows, accepted_by}
 use Rattle.bcast_history.specs.Laws.{SendsStandLast}
-use Rattle.bcast_history.proofs.Prefixes.{prefix_trans}
+use Rattle.bcast_history.specs.Log.{IsWholeLog}
+use Rattle.bcast_history.proofs.Closed.{closed_keeps, log_is_accepted}
+use Rattle.bcast_history.proofs.Prefixes.{meet, prefix_trans}
 use Rattle.bcast_history.proofs.Sent.{accepted_grows}
-use Rattle.bcast_threads.specs.Lists.{HasAll}
+use Rattle.bcast_threads.specs.Lists.{HasAll, AreBeforeClosing, WereSent}
 
 abbrev Has : List ℕ → ℕ → Type 0
 Has list number = list_any (nat_eq number) list ≡ true
@@ -40,7 +42,7 @@ contained list number there =
     let same : found ≡ number = grind (arith, common_steps, is) in
     (place, within, subst (λ n. slice_index_or list place n ≡ n) same at)
 
-pub all_stay : (o : Opening) (first end : ℕ) (known later : List (Step ℕ)) → IsPrefix known later
+all_stay : (o : Opening) (first end : ℕ) (known later : List (Step ℕ)) → IsPrefix known later
     → HasAll first end (accepted_by o known) → HasAll first end (accepted_by o later)
 all_stay o first end known later begins all number from before =
     still_there (accepted_by o known) (accepted_by o later) number (accepted_grows o known later begins) (all number from before)
@@ -74,3 +76,18 @@ joined first middle next end msgs meet low high number from before = elim (cases
 pub not_refused : (sent : Result (Option ℕ) (SendError ℕ)) → is_err sent ≡ false → is_accepted (reply.AttemptSend (send.Ready sent)) ≡ true
 not_refused (Ok back) is = refl
 not_refused (Err error) is = absurd cc
+
+-- what was accepted by a run was so before it closed the channel
+pub before_closing : (is_clone : ℕ → ℕ → Type 0) (o : Opening) (first end : ℕ) (steps : List (Step ℕ))
+    → IsHistory is_clone o steps → HasAll first end (accepted_by o steps) → AreBeforeClosing o first end steps
+before_closing is_clone o first end steps run sent closed begins is =
+    subst (HasAll first end) (sym (closed_keeps is_clone o closed steps is begins run)) sent
+
+-- what was sent is in each whole log of the channel
+pub all_in : {o : Opening} (first end : ℕ) {list : List ℕ} {known steps : List (Step ℕ)} (both : List (Step ℕ)) → IsPrefix known both → IsPrefix steps both
+    → IsWholeLog (λ (msg copy : ℕ). copy ≡ msg) o list known → WereSent o first end steps → HasAll first end list
+all_in {o = o} first end {known = known} {steps = steps} both begins too log were =
+    subst (HasAll first end) (sym (log_is_accepted (λ msg copy same. same) log)) (elim (meet known steps both begins too) [
+      | inl sooner ↦ were.before known sooner log.closed
+      | inr after ↦ all_stay o first end steps known after were.sent
+    ])

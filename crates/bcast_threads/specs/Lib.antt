@@ -1,4 +1,2 @@
--- what the receivers received
+-- what the threads sent and received
 pub mod Lists
--- what was sent and received before the channel closed
-pub mod Closed

@@ -2,10 +2,9 @@
 #![tactic(auto)]
 
 pub mod fault;
-mod group;
 pub mod lists;
 pub mod plan;
-mod started;
+mod running;
 pub mod work;
 
 pub use plan::threads;

@@ -1,16 +1,12 @@
 //! The lists of a run: what each receiver received.
-ghost use Rattle.std.specs.Prelude.{◌≡◌, ◌<◌, ◌*◌, IfOk, All, length};
+ghost use Rattle.std.specs.Prelude.{◌≡◌, ◌<◌, IfOk, All, length, vec_len};
 ghost use Rattle.std.specs.Bool.{OnTrue};
-ghost use mathlib.Core.List.{IsPrefix};
-ghost use Rattle.bcast_threads.specs.Lists.{AreLists};
-ghost use Rattle.bcast_threads.specs.Closed.{WereSent, IsWhole};
+ghost use Rattle.bcast_threads.specs.Lists.{AreLists, HasAll};
 
 use crate::fault::Fault;
-use crate::group::Group;
 use crate::plan::Plan;
-use crate::started::send_to_all;
-use crate::work::Sent;
-use bcast_history::{Channel, Opened, Seen, WholeLog, broadcast};
+use crate::running::Running;
+use bcast_history::{Channel, Opened, WholeLog, broadcast};
 use std::alloc::Global;
 use std::marker::Brand;
 use std::sync::Wait;
@@ -26,7 +22,7 @@ use std::thread::Threads;
 /// - `NoMemory`: there was no memory, in this thread or another. The channel, if any, was closed.
 /// - `NoThread`: a thread could not be started. The channel was closed.
 /// - `Missed`: a receiver did not receive all that the channel accepted, or the numbers that it
-///   accepted are not those that were to be sent.
+///   accepted are not those that were to be sent, or the plan has no receiver.
 pub fn lists_of<R: Threads + Wait + Clone + Send + 'static>(
     rt: &R,
     alloc: Global,
@@ -39,8 +35,8 @@ pub fn lists_of<R: Threads + Wait + Clone + Send + 'static>(
     lists_over::<Brand, R>(rt, alloc, plan, opened)
 }
 
-// Runs the threads over this channel. Once `send_to_all` returns no sender is left, so the channel is
-// closed, and all threads end.
+// Runs the threads over this channel. Once its two handles are dropped here, no sender is left but
+// those of threads, so the channel is closed in the end, and all threads end.
 fn lists_over<J: Channel + Send + Sync + 'static, R: Threads + Wait + Clone + Send + 'static>(
     rt: &R,
     alloc: Global,
@@ -52,82 +48,86 @@ fn lists_over<J: Channel + Send + Sync + 'static, R: Threads + Wait + Clone + Se
     ensures { IfOk result (λ lists. AreLists plan (λ list. list.items) lists.items) }
 {
     let its_rt = rt.clone()?;
-    let (sender, receiver) = broadcast::<u64, R, J, _>(its_rt, alloc, opened)?;
-    let seen = receiver.seen();
-    let mut receivers = Group::with_room(alloc, plan.receivers)?;
-    let sent = send_to_all(rt, alloc, plan, sender, receiver, &mut receivers);
-    let logs = receivers.join(rt);
-    lists_received(alloc, plan, sent?, logs, seen)
+    let (mut sender, receiver) = broadcast::<u64, R, J, _>(its_rt, alloc, opened)?;
+    let mut threads = Running::new(alloc);
+    let started = threads.start(rt, alloc, plan, &mut sender, receiver);
+    if started.is_err() {
+        sender.close();
+    }
+    drop(sender);
+    let lists = match started {
+        Ok(()) => lists_received(rt, alloc, plan, &mut threads),
+        Err(fault) => Err(fault),
+    };
+    threads.join(rt);
+    lists
 }
 
-/// The lists of receivers, if each number that was to be sent was sent, and they received nothing
-/// else. All are the same, since in each is all that the channel had accepted when it was closed.
-fn lists_received<J: Channel>(
+/// What the receivers received, if each number that was to be sent was sent, and nothing else.
+fn lists_received<J: Channel, R: Threads>(
+    rt: &R,
     alloc: Global,
     plan: Plan,
-    senders: Vec<Sent<J>>,
-    receivers: Vec<Result<WholeLog<u64, J>, Fault>>,
-    mut seen: Seen<u64, J>,
+    threads: &mut Running<J>,
 ) -> Result<Vec<Vec<u64>>, Fault>
-    requires { length receivers.items ≡ plan.receivers }
+    requires { vec_len threads.old.receivers ≡ plan.receivers }
     ensures { IfOk result (λ lists. AreLists plan (λ list. list.items) lists.items) }
 {
-    let sent = numbers_sent(senders, &mut seen);
-    let lists = all_of(alloc, receivers, &mut seen)?;
-    if !are_of_all(plan, sent, lists.as_slice()) {
+    let thread = threads.receivers.pop().ok_or(Fault::Missed)?;
+    let log = thread.join(rt)?;
+    let total = plan
+        .senders
+        .checked_mul(plan.messages)
+        .ok_or(Fault::Missed)?;
+    let are_sent = are_all_sent(rt, threads, &log, total);
+    let mut lists = other_lists(rt, alloc, threads, &log)?;
+    let list = log.into_list();
+    if !are_sent || list.len() as u64 != total {
         return Err(Fault::Missed);
     }
+    lists.push(list)?;
     Ok(lists)
 }
 
-// How many numbers from 0 on were sent, without a gap. In `senders` the one that was started last is
-// the first.
-fn numbers_sent<J: Channel>(mut senders: Vec<Sent<J>>, seen: &mut Seen<u64, J>) -> u64
-    ensures { WereSent J.opening 0 result seen.new }
-{
-    let mut end = 0;
-    while let Some(sent) = senders.pop() {
-        seen.learn(&sent.seen);
-        if sent.first == end {
-            end = sent.end;
-        }
-    }
-    end
-}
-
-/// Whether `sent` numbers were to be sent, and so many are in each list.
-fn are_of_all(plan: Plan, sent: u64, lists: &[Vec<u64>]) -> bool
-    ensures sent { OnTrue result (sent ≡ plan.senders * plan.messages) }
-    ensures each { OnTrue result (All (λ list. length list.items ≡ sent) lists.now) }
-{
-    plan.senders.checked_mul(plan.messages) == Some(sent)
-        && lists.iter().all(|list| list.len() as u64 == sent)
-}
-
-/// What each receiver received: all that the channel had accepted when it was closed.
-fn all_of<J: Channel>(
-    alloc: Global,
-    logs: Vec<Result<WholeLog<u64, J>, Fault>>,
-    seen: &mut Seen<u64, J>,
-) -> Result<Vec<Vec<u64>>, Fault>
-    ensures count { IfOk result (λ all. length all.items ≡ length logs.items) }
-    ensures longer { IsPrefix seen.old seen.new }
-    ensures whole { IfOk result (λ all.
-        All (λ list. IsWhole J.opening seen.new list.items) all.items) }
-{
-    let mut all = Vec::new(alloc);
-    for log in logs {
-        all.push(list_of(log?, seen))?;
-    }
-    Ok(all)
-}
-
-fn list_of<J: Channel>(log: WholeLog<u64, J>, seen: &mut Seen<u64, J>) -> Vec<u64>
-    ensures longer { IsPrefix seen.old seen.new }
-    ensures whole { IsWhole J.opening seen.new result.items }
+/// Whether the senders sent each number below `total`: if so, they are in this log. Joins them.
+fn are_all_sent<J: Channel, R: Threads>(
+    rt: &R,
+    threads: &mut Running<J>,
+    log: &WholeLog<u64, J>,
+    total: u64,
+) -> bool
+    ensures sent { OnTrue result (HasAll 0 total log.now.list) }
+    ensures receivers { threads.new.receivers ≡ threads.old.receivers }
 {
     log.invariant_holds();
-    let its = log.seen();
-    seen.learn(&its);
-    log.into_list()
+    // The numbers from here on were sent. The sender that was started last sent the last ones.
+    let mut first = total;
+    while let Some(thread) = threads.senders.pop() {
+        let sent = thread.join(rt);
+        let mut both = log.seen();
+        both.learn(&sent.seen);
+        if sent.end == first {
+            first = sent.first;
+        }
+    }
+    first == 0
+}
+
+/// What the other receivers received: the same as this one's log has.
+fn other_lists<J: Channel, R: Threads>(
+    rt: &R,
+    alloc: Global,
+    threads: &mut Running<J>,
+    log: &WholeLog<u64, J>,
+) -> Result<Vec<Vec<u64>>, Fault>
+    ensures count { IfOk result (λ lists. length lists.items ≡ vec_len threads.old.receivers) }
+    ensures same { IfOk result (λ lists. All (λ list. list.items ≡ log.now.list) lists.items) }
+{
+    let mut lists = Vec::new(alloc);
+    while let Some(thread) = threads.receivers.pop() {
+        let other = thread.join(rt)?;
+        log.agrees_with(&other);
+        lists.push(other.into_list())?;
+    }
+    Ok(lists)
 }

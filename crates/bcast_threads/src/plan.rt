@@ -6,7 +6,7 @@ ghost use Rattle.bcast_text.specs.Outcome.{IsEnding, printed_text};
 use crate::fault::Fault;
 use crate::lists::lists_of;
 use bcast_text::ending::Ending;
-use bcast_text::threads::outcome::print_seen;
+use bcast_text::threads::print_seen;
 use std::alloc::Global;
 use std::io::Write;
 use std::sync::Wait;

@@ -2,7 +2,7 @@
 ghost use Rattle.std.specs.Prelude.{◌≡◌, true, IfErr};
 ghost use Rattle.bcast_history.specs.History.{end_of};
 ghost use Rattle.bcast_history.specs.Reader.{StartsAtTheFirst};
-ghost use Rattle.bcast_threads.specs.Closed.{WereSent};
+ghost use Rattle.bcast_threads.specs.Lists.{WereSent};
 
 use crate::fault::Fault;
 use bcast_history::{

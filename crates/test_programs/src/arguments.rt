@@ -7,27 +7,25 @@ use std::env::{Env, FillError};
 use std::io;
 use std::io::Write;
 
-/// Writes what each line asks `bcast` for. In a line, each word has a slash before it.
-pub fn bcast<W: Write>(alloc: Global, lines: &str, output: &mut W) -> io::Result<()> {
+/// Writes what each line asks the program for.
+pub fn commands(alloc: Global, program: &str, lines: &str, output: &mut Vec<u8>) -> io::Result<()> {
     for line in lines.lines() {
         let words = words_of(alloc, line)?;
-        let command = script::command::Command::from_words(words.as_slice());
-        writeln!(output, "{line}: {command:?}")?;
+        command(program, line, words.as_slice(), output)?;
     }
     Ok(())
 }
 
-/// Writes what each line asks `replay` for.
-pub fn replay<W: Write>(alloc: Global, lines: &str, output: &mut W) -> io::Result<()> {
-    for line in lines.lines() {
-        let words = words_of(alloc, line)?;
-        let command = Command::from_words(words.as_slice());
-        writeln!(output, "{line}: {command:?}")?;
+fn command(program: &str, line: &str, words: &[String], output: &mut Vec<u8>) -> io::Result<()> {
+    if program == "bcast" {
+        let command = script::command::Command::from_words(words);
+        return writeln!(output, "{line}: {command:?}");
     }
-    Ok(())
+    writeln!(output, "{line}: {:?}", Command::from_words(words))
 }
 
-fn words_of(alloc: Global, line: &str) -> Result<Vec<String>, AllocError> {
+/// The words of a line, each of which has a slash before it.
+pub fn words_of(alloc: Global, line: &str) -> Result<Vec<String>, AllocError> {
     let mut words = Vec::new(alloc);
     for word in line.split('/').skip(1) {
         words.push(String::from_str(alloc, word)?)?;
@@ -62,8 +60,7 @@ impl<'a> Env for OneArgument<'a> {
 }
 
 /// Writes how arguments are read that are UTF-8 text and that are not.
-pub fn run<W: Write>(alloc: Global, output: &mut W) -> io::Result<()> {
-    output.write_all(b"# an argument that is text, and two that are none\n")?;
+pub fn run(alloc: Global, output: &mut Vec<u8>) -> io::Result<()> {
     for word in [b"list".as_slice(), b"\xff", b"list\xff"] {
         match arguments(&(OneArgument(word), alloc))? {
             Some(words) => writeln!(output, "{} {:?}", words.len(), words.first())?,

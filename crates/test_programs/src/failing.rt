@@ -1,91 +1,96 @@
 //! Reads, writes and requests for memory that fail, each in turn.
-use crate::play::{Played, Player, Text, in_pieces};
+ghost use Rattle.std.specs.Prelude.{◌<◌};
+
+use crate::play::{Played, Player, Text};
 use bcast_text::ending::Ending;
 use linked_list_allocator::LocalHeap;
+use std::alloc::AllocError;
 use std::io;
 use std::io::Write;
 
-/// Plays `text` with more and more reads before one fails, and so with writes, until none fails.
-pub fn each_read_and_write_fails<W: Write>(text: &Text<'_>, output: &mut W) -> io::Result<()> {
-    each_call_fails(text, 7, Ending::InputFailed, output)?;
-    each_call_fails(text, 7, Ending::OutputFailed, output)?;
-    each_call_fails(text, 8192, Ending::OutputFailed, output)
+/// How a text fails that has too little of something, how many bytes a read gives it, and with how
+/// much it seldom failed before it had enough.
+const FAILURES: [(Ending, usize, u64); 4] = [
+    (Ending::InputFailed, 7, 9),
+    (Ending::OutputFailed, 7, 9),
+    (Ending::OutputFailed, 8192, 9),
+    (Ending::NoMemory, 7, 999),
+];
+
+/// Plays `text` with more and more reads before one fails, and so with writes, and with memory,
+/// until none fails.
+pub fn each_fails(text: &Text<'_>, output: &mut Vec<u8>) -> io::Result<()> {
+    for (failure, given, seldom) in FAILURES {
+        let whole = text.play(given);
+        match enough(text, failure, given, &whole, output)? {
+            Some(count) => {
+                let how = if count > seldom { "often" } else { "seldom" };
+                writeln!(
+                    output,
+                    "{:?}: {failure:?} {how}, and then none",
+                    text.player
+                )?;
+            }
+            None => output.write_all(b"it never ends\n")?,
+        }
+    }
+    Ok(())
 }
 
-/// Plays `text` with more and more calls before one fails, which must end it as `failure`.
-fn each_call_fails<W: Write>(
+/// How much `text` needs to be played as `whole` was. With less it must end as `failure`, after
+/// part of the same output; else how it ended is written.
+fn enough(
     text: &Text<'_>,
+    failure: Ending,
     given: usize,
-    failure: Ending,
-    output: &mut W,
-) -> io::Result<()> {
-    let whole = text.play(in_pieces(given));
-    for calls in 0..1000 {
-        let mut way = in_pieces(given);
-        if failure == Ending::InputFailed {
-            way.reads = calls;
-        } else {
-            way.writes = calls;
-        }
-        if is_same(&text.play(way), &whole, failure, output)? {
-            return write_count(text.player, failure, calls > 9, output);
-        }
-    }
-    output.write_all(b"it never ends\n")
-}
-
-/// Plays `text` over larger and larger heaps until there is memory for it.
-pub fn too_little_memory<W: Write>(text: &Text<'_>, output: &mut W) -> io::Result<()> {
-    // The memory for a line of the greatest length.
-    let least = match text.player {
-        Player::Script | Player::Topics => 0,
-        Player::Trace | Player::List => 1 << 20,
-    };
-    let whole = text.play(in_pieces(7));
-    for amount in 1..4096 {
-        let heap = LocalHeap::new(text.alloc, least + 16 * amount)?;
-        let played = text.play_over(&heap, in_pieces(7));
-        if is_same(&played, &whole, Ending::NoMemory, output)? {
-            return write_count(text.player, Ending::NoMemory, amount > 1000, output);
-        }
-    }
-    output.write_all(b"it never ends\n")
-}
-
-/// Whether `played` is the same as `whole`. If it is neither that nor a failure after part of the
-/// same output, it is written.
-fn is_same<W: Write>(
-    played: &Played,
     whole: &Played,
-    failure: Ending,
-    output: &mut W,
-) -> io::Result<bool> {
-    if played.is(whole.ending, whole.wrote.as_slice()) {
-        return Ok(true);
+    output: &mut Vec<u8>,
+) -> io::Result<Option<u64>> {
+    for count in 0..4096 {
+        let played = play_with(text, failure, given, count)?;
+        if played == *whole {
+            return Ok(Some(count));
+        }
+        if played.ending != failure
+            || !whole.wrote.as_slice().starts_with(played.wrote.as_slice())
+        {
+            played.describe("it fails as", output)?;
+        }
     }
-    if played.ending != failure || !whole.wrote.as_slice().starts_with(played.wrote.as_slice()) {
-        played.describe("it fails as", output)?;
-    }
-    Ok(false)
+    Ok(None)
 }
 
-fn write_count<W: Write>(
-    player: Player,
+/// Plays `text` with `count` reads, or writes, or with a small heap that grows with `count`.
+fn play_with(
+    text: &Text<'_>,
     failure: Ending,
-    is_often: bool,
-    output: &mut W,
-) -> io::Result<()> {
-    let count = if is_often { "often" } else { "seldom" };
-    writeln!(output, "{player:?}: {failure:?} {count}, and then none")
+    given: usize,
+    count: u64,
+) -> Result<Played, AllocError>
+    requires { count < 4096 }
+{
+    match failure {
+        Ending::InputFailed => Ok(text.play_over(text.alloc, given, count, u64::MAX)),
+        Ending::OutputFailed => Ok(text.play_over(text.alloc, given, u64::MAX, count)),
+        _ => {
+            // The memory for a line of the greatest length.
+            let least = match text.player {
+                Player::Script | Player::Topics => 16,
+                Player::Trace | Player::List => (1 << 20) + 16,
+            };
+            let heap = LocalHeap::new(text.alloc, least + 16 * count as usize)?;
+            Ok(text.play_over(&heap, given, u64::MAX, u64::MAX))
+        }
+    }
 }
 
 /// Plays the beginnings of a script, or of lines on topics. Each is done, or ends at the line that
 /// is cut.
-pub fn cut_after_each_byte<W: Write>(text: &Text<'_>, output: &mut W) -> io::Result<()> {
+pub fn cut_after_each_byte(text: &Text<'_>, output: &mut Vec<u8>) -> io::Result<()> {
     let bytes = text.bytes;
     for cut in 0..bytes.len() {
         let beginning = &bytes[..cut];
-        let played = Text::new(text.alloc, text.player, beginning).play(in_pieces(7));
+        let played = Text::new(text.alloc, text.player, beginning).play(7);
         let lines = beginning.iter().filter(|byte| **byte == b'\n').count() as u64;
         if played.ending != Ending::Done && played.ending != Ending::NotACall(lines + 1) {
             played.describe("a beginning", output)?;

@@ -8,10 +8,8 @@ mod arguments;
 mod cases;
 mod endings;
 mod failing;
-mod heavy;
 mod lock_rows;
 mod play;
-mod refused;
 mod short;
 mod streams;
 mod threads;
@@ -25,16 +23,11 @@ use std::io::{Read, Write};
 fn main(rt: HostRuntime) -> io::Result<()> {
     let mut text = String::new(rt.alloc());
     rt.stdin().read_to_string(&mut text)?;
-    let mut output = rt.stdout();
     let mut tally = Tally::default();
     for case in text.as_str().split("# ").skip(1) {
-        cases::run(&rt, rt.alloc(), case, &mut tally, &mut output)?;
+        let mut output = Vec::new(rt.alloc());
+        cases::run(&rt, case, &mut tally, &mut output)?;
+        rt.stdout().write_all(output.as_slice())?;
     }
-    tally.write(&mut output)?;
-    lock_rows::beside::run(&rt, rt.alloc(), &mut output)?;
-    unusual::run(rt.alloc(), &mut output)?;
-    endings::run(rt.alloc(), &mut output)?;
-    arguments::run(rt.alloc(), &mut output)?;
-    threads::run(&rt, rt.alloc(), &mut output)?;
-    output.flush()
+    rt.stdout().flush()
 }

@@ -1,10 +1,10 @@
 //! A text played in one way.
-use crate::streams::{Bytes, Pieces, Taker};
+use crate::streams::{Bytes, Limited};
 use bcast_play::{script, seeded_hub_script};
 use bcast_text::ending::Ending;
 use bcast_trace::{list, trace};
 use std::alloc::{Allocator, Global};
-use std::io::{BufWriter, Write};
+use std::io::{BufWriter, Read, Write};
 use std::{io, str};
 
 /// What plays a text.
@@ -20,45 +20,20 @@ pub enum Player {
     List,
 }
 
-/// What plays the texts of a program. A trace is played in both ways.
-pub fn players(program: &str) -> &'static [Player] {
+/// What plays the texts of a program, each with its name. A trace is played in both ways.
+pub fn players(program: &str) -> &'static [(&'static str, Player)] {
     match program {
-        "script" => &[Player::Script],
-        "topics" => &[Player::Topics],
-        _ => &[Player::Trace, Player::List],
-    }
-}
-
-/// How a text is read, and how what is written is taken.
-#[derive(Clone, Copy)]
-pub struct Way {
-    /// How many bytes a read gives at most.
-    pub given: usize,
-    /// How many bytes a write takes at most.
-    pub taken: usize,
-    /// How many reads are made before one fails.
-    pub reads: u64,
-    /// How many writes are made before one fails.
-    pub writes: u64,
-}
-
-/// In pieces of `given` bytes, and nothing fails.
-pub fn in_pieces(given: usize) -> Way {
-    Way {
-        given,
-        taken: 3,
-        reads: u64::MAX,
-        writes: u64::MAX,
+        "script" => &[("script", Player::Script)],
+        "topics" => &[("topics", Player::Topics)],
+        _ => &[("trace", Player::Trace), ("list", Player::List)],
     }
 }
 
 /// How a text ended, and what was written.
-#[derive(Drop)]
+#[derive(PartialEq, Drop)]
 pub struct Played {
     pub ending: Ending,
     pub wrote: Vec<u8>,
-    /// How many writes were left before one fails.
-    pub writes: u64,
 }
 
 /// A text, and what plays it.
@@ -80,48 +55,48 @@ impl<'a> Text<'a> {
         }
     }
 
-    /// Plays it in this way.
-    pub fn play(&self, way: Way) -> Played {
-        self.play_over(self.alloc, way)
+    /// Plays it in pieces of `given` bytes, and nothing fails.
+    pub fn play(&self, given: usize) -> Played {
+        self.play_over(self.alloc, given, u64::MAX, u64::MAX)
     }
 
-    /// Plays it in this way, with memory of this `alloc`, as the programs do, through a buffer.
-    pub fn play_over<A: Allocator + Copy>(&self, alloc: A, way: Way) -> Played {
-        let reader = Pieces {
-            bytes: self.bytes,
-            piece: way.given,
-            calls: way.reads,
-        };
-        let mut writer = Taker {
-            taken: Vec::new(self.alloc),
-            piece: way.taken,
-            calls: way.writes,
-        };
-        let ending = match BufWriter::new(alloc, &mut writer) {
-            Ok(mut output) => match self.player {
-                Player::Script => script(alloc, self.alloc, reader, &mut output),
-                Player::Topics => seeded_hub_script(&Bytes(7), alloc, reader, &mut output),
-                Player::Trace => trace(alloc, self.alloc, reader, &mut output),
-                Player::List => list(alloc, self.alloc, reader, &mut output),
-            },
-            Err(_) => Ending::NoMemory,
-        };
+    /// Plays it in pieces of `given` bytes, with memory of this `alloc`. `reads` and `writes` say
+    /// how many are made before one fails.
+    pub fn play_over<A>(&self, alloc: A, given: usize, reads: u64, writes: u64) -> Played
+    where
+        A: Allocator + Copy,
+    {
+        let reader = Limited::new(self.bytes, given, reads);
+        let mut writer = Limited::new(Vec::new(self.alloc), 3, writes);
+        let ending = self.play_into(alloc, reader, &mut writer);
         Played {
             ending,
-            wrote: writer.taken,
-            writes: writer.calls,
+            wrote: writer.stream,
+        }
+    }
+
+    /// Plays what `reader` gives, as the programs do, through a buffer.
+    pub fn play_into<A, R, W>(&self, alloc: A, reader: R, writer: &mut W) -> Ending
+    where
+        A: Allocator + Copy,
+        R: Read + Drop,
+        W: Write,
+    {
+        let Ok(mut output) = BufWriter::new(alloc, writer) else {
+            return Ending::NoMemory;
+        };
+        match self.player {
+            Player::Script => script(alloc, self.alloc, reader, &mut output),
+            Player::Topics => seeded_hub_script(&Bytes(Some(7)), alloc, reader, &mut output),
+            Player::Trace => trace(alloc, self.alloc, reader, &mut output),
+            Player::List => list(alloc, self.alloc, reader, &mut output),
         }
     }
 }
 
 impl Played {
-    /// Whether it ended so, and wrote this.
-    pub fn is(&self, ending: Ending, wrote: &[u8]) -> bool {
-        self.ending == ending && self.wrote.as_slice() == wrote
-    }
-
     /// Writes in one line what it wrote, and how it ended.
-    pub fn describe<W: Write>(&self, name: &str, output: &mut W) -> io::Result<()> {
+    pub fn describe(&self, name: &str, output: &mut Vec<u8>) -> io::Result<()> {
         let wrote = text_of(self.wrote.as_slice());
         writeln!(output, "-- {name}: {:?} after {wrote:?}", self.ending)
     }

@@ -1,9 +1,9 @@
 //! Traces played on a channel that is short of memory, and on one that isn't.
+ghost use Rattle.std.specs.Prelude.{IfOk, IfSome};
 ghost use Rattle.bcast_model.specs.Next.{HasPositiveCapacity};
 
-use crate::heavy::{Heavy, with_memory};
 use crate::lock_rows::seen::accessors_of_inner;
-use bcast_core::{Call, HandleError, Inner, Reply, Silent, step};
+use bcast_core::{Call, HandleError, Inner, Messages, Reply, Silent, step};
 use bcast_trace::line::{Line, read_line};
 use bcast_trace::opening::read_opening;
 use linked_list_allocator::LocalHeap;
@@ -17,9 +17,59 @@ const HEAP: usize = 1 << 14;
 /// The sizes of blocks that fill a heap.
 const BLOCKS: [usize; 8] = [4096, 1024, 512, 256, 128, 64, 32, 16];
 
-/// The lines whose calls were refused, changed nothing, and had the right reply when they were made
-/// again. Or the line whose call had another reply, or changed something.
-type Outcome = Result<Vec<usize>, usize>;
+/// A message whose clone takes memory: a number, three times.
+type Heavy<'a> = Vec<u64, &'a LocalHeap>;
+
+fn heavy(heap: &LocalHeap, number: u64) -> Result<Heavy<'_>, AllocError> {
+    Vec::from_slice(heap, &[number, number, number])
+}
+
+/// The call with messages whose memory is of the heap. None: it is an accessor.
+///
+/// A list itself takes its memory from `alloc`.
+fn with_memory<'a>(
+    alloc: Global,
+    heap: &'a LocalHeap,
+    call: &Call<u64>,
+) -> Result<Option<Call<Heavy<'a>>>, AllocError>
+    requires { HasPositiveCapacity call.now }
+    ensures { IfOk result (λ made. IfSome made HasPositiveCapacity) }
+{
+    match call {
+        Call::TryBroadcast(number) => Ok(Some(Call::TryBroadcast(heavy(heap, *number)?))),
+        Call::TryBroadcastAll(numbers) => {
+            let mut msgs = Vec::new(alloc);
+            for number in numbers.as_slice() {
+                msgs.push(heavy(heap, *number)?)?;
+            }
+            Ok(Some(Call::TryBroadcastAll(Messages::new(msgs))))
+        }
+        Call::AttemptSend(number) => Ok(Some(Call::AttemptSend(heavy(heap, *number)?))),
+        Call::PollSend(place, number) => Ok(Some(Call::PollSend(*place, heavy(heap, *number)?))),
+        Call::BeginSend => Ok(Some(Call::BeginSend)),
+        Call::EndSend(place) => Ok(Some(Call::EndSend(*place))),
+        Call::TryRecv(key) => Ok(Some(Call::TryRecv(*key))),
+        Call::PollFuture(key) => Ok(Some(Call::PollFuture(*key))),
+        Call::EndFuture(key) => Ok(Some(Call::EndFuture(*key))),
+        Call::PollRecv(key) => Ok(Some(Call::PollRecv(*key))),
+        Call::PollNext(key) => Ok(Some(Call::PollNext(*key))),
+        Call::Close => Ok(Some(Call::Close)),
+        Call::SetCapacity(capacity) => Ok(Some(Call::SetCapacity(*capacity))),
+        Call::SetOverflow(on) => Ok(Some(Call::SetOverflow(*on))),
+        Call::SetAwaitActive(on) => Ok(Some(Call::SetAwaitActive(*on))),
+        Call::NewSender => Ok(Some(Call::NewSender)),
+        Call::CloneInactive => Ok(Some(Call::CloneInactive)),
+        Call::Deactivate(key) => Ok(Some(Call::Deactivate(*key))),
+        Call::NewReceiver => Ok(Some(Call::NewReceiver)),
+        Call::Activate => Ok(Some(Call::Activate)),
+        Call::ActivateCloned => Ok(Some(Call::ActivateCloned)),
+        Call::CloneReceiver(key) => Ok(Some(Call::CloneReceiver(*key))),
+        Call::DropSender => Ok(Some(Call::DropSender)),
+        Call::DropInactive => Ok(Some(Call::DropInactive)),
+        Call::DropReceiver(key) => Ok(Some(Call::DropReceiver(*key))),
+        _ => Ok(None),
+    }
+}
 
 /// Whether a call was refused memory.
 fn is_refused(reply: &Reply<Heavy<'_>>) -> bool {
@@ -101,13 +151,48 @@ impl Pair<'_> {
         let is_right = step(&mut self.short, again, Silent) == wanted;
         Ok(is_right.then_some(true))
     }
+
+    /// Makes the calls of lines. The first of them is line 2 of its trace.
+    fn play(
+        &mut self,
+        alloc: Global,
+        calls: &str,
+        left: usize,
+        output: &mut Vec<u8>,
+    ) -> io::Result<Option<Vec<usize>>> {
+        let mut refused = Vec::new(alloc);
+        for (index, line) in calls.lines().enumerate() {
+            let Some(Line::Call(_, call)) = read_line(alloc, line)? else {
+                continue;
+            };
+            let number = index.saturating_add(2);
+            match self.make(alloc, left, call)? {
+                Some(true) => refused.push(number)?,
+                Some(false) => {}
+                None => {
+                    writeln!(output, "-- short of memory, line {number} is wrong")?;
+                    return Ok(None);
+                }
+            }
+        }
+        Ok(Some(refused))
+    }
 }
 
 /// Plays the calls of a trace, each with `left` bytes of memory at first.
-fn play(alloc: Global, text: &str, left: usize) -> Result<Outcome, AllocError> {
+///
+/// Returns the lines whose calls were refused, changed nothing, and had the right reply when they
+/// were made again. None: a call had another reply, or changed something, and its line was written.
+fn play(
+    alloc: Global,
+    text: &str,
+    left: usize,
+    output: &mut Vec<u8>,
+) -> io::Result<Option<Vec<usize>>> {
     let (first, calls) = text.split_once('\n').unwrap_or((text, ""));
     let Some(opening) = read_opening(first) else {
-        return Ok(Err(0));
+        output.write_all(b"-- short of memory, no channel\n")?;
+        return Ok(None);
     };
     let heap = LocalHeap::new(alloc, HEAP)?;
     let ample = LocalHeap::new(alloc, HEAP)?;
@@ -119,40 +204,15 @@ fn play(alloc: Global, text: &str, left: usize) -> Result<Outcome, AllocError> {
         short,
         other,
     };
-    play_calls(alloc, &mut pair, calls, left)
-}
-
-/// Makes the calls of lines. The first of them is line 2 of its trace.
-fn play_calls(
-    alloc: Global,
-    pair: &mut Pair<'_>,
-    calls: &str,
-    left: usize,
-) -> Result<Outcome, AllocError> {
-    let mut refused = Vec::new(alloc);
-    for (index, line) in calls.lines().enumerate() {
-        let Some(Line::Call(_, call)) = read_line(alloc, line)? else {
-            continue;
-        };
-        let number = index.saturating_add(2);
-        match pair.make(alloc, left, call)? {
-            None => return Ok(Err(number)),
-            Some(true) => refused.push(number)?,
-            Some(false) => {}
-        }
-    }
-    Ok(Ok(refused))
+    pair.play(alloc, calls, left, output)
 }
 
 /// Plays the calls of a trace with more and more memory until none is refused. Writes the lines
 /// whose calls are refused if there is none, and what is wrong.
-pub fn write_refused<W: Write>(alloc: Global, text: &str, output: &mut W) -> io::Result<()> {
+pub fn write_refused(alloc: Global, text: &str, output: &mut Vec<u8>) -> io::Result<()> {
     for count in 0..HEAP / 32 {
-        let lines = match play(alloc, text, count * 16)? {
-            Ok(lines) => lines,
-            Err(line) => {
-                return writeln!(output, "-- short of memory, line {line} is wrong");
-            }
+        let Some(lines) = play(alloc, text, count * 16, output)? else {
+            return Ok(());
         };
         if count == 0 {
             write_lines(lines.as_slice(), output)?;
@@ -165,7 +225,7 @@ pub fn write_refused<W: Write>(alloc: Global, text: &str, output: &mut W) -> io:
 }
 
 /// Writes which lines' calls were refused, and made again.
-fn write_lines<W: Write>(lines: &[usize], output: &mut W) -> io::Result<()> {
+fn write_lines(lines: &[usize], output: &mut Vec<u8>) -> io::Result<()> {
     if lines.is_empty() {
         return output.write_all(b"-- memory: none is taken\n");
     }

@@ -1,43 +1,50 @@
-//! Readers and writers in memory, which fail after some calls, and sources of random bytes.
+//! Streams in memory, which fail after some calls, and sources of random bytes.
+ghost use Rattle.std.specs.Prelude.{◌≤◌, IfOk};
+
 use std::io;
 use std::io::{ErrorKind, Read, Write};
 use std::random::RandomSource;
 
-/// Gives at most `piece` bytes at a call, and fails after `calls` calls.
+/// A stream that gives or takes at most `piece` bytes at a call, and fails after `calls` calls.
 #[derive(Drop)]
-pub struct Pieces<'a> {
-    pub bytes: &'a [u8],
+pub struct Limited<S> {
+    pub stream: S,
     pub piece: usize,
     pub calls: u64,
 }
 
-impl<'a> Read for Pieces<'a> {
-    fn read(&mut self, buf: &mut [u8]) -> io::Result<usize> {
+impl<S> Limited<S> {
+    pub fn new(stream: S, piece: usize, calls: u64) -> Self {
+        Limited {
+            stream,
+            piece,
+            calls,
+        }
+    }
+
+    /// How many of `len` bytes this call gives or takes at most.
+    fn most(&mut self, len: usize) -> io::Result<usize>
+        ensures { IfOk result (λ most. most ≤ len) }
+    {
         if self.calls == 0 {
             return Err(io::Error::from(ErrorKind::Other));
         }
         self.calls -= 1;
-        let most = self.piece.min(buf.len());
-        self.bytes.read(&mut buf[..most])
+        Ok(self.piece.min(len))
     }
 }
 
-/// Takes at most `piece` bytes at a call, and fails after `calls` calls.
-#[derive(Drop)]
-pub struct Taker {
-    pub taken: Vec<u8>,
-    pub piece: usize,
-    pub calls: u64,
+impl Read for Limited<&[u8]> {
+    fn read(&mut self, buf: &mut [u8]) -> io::Result<usize> {
+        let most = self.most(buf.len())?;
+        self.stream.read(&mut buf[..most])
+    }
 }
 
-impl Write for Taker {
+impl Write for Limited<Vec<u8>> {
     fn write(&mut self, buf: &[u8]) -> io::Result<usize> {
-        if self.calls == 0 {
-            return Err(io::Error::from(ErrorKind::Other));
-        }
-        self.calls -= 1;
-        let most = self.piece.min(buf.len());
-        self.taken.write(&buf[..most])
+        let most = self.most(buf.len())?;
+        self.stream.write(&buf[..most])
     }
 
     fn flush(&mut self) -> io::Result<()> {
@@ -45,21 +52,17 @@ impl Write for Taker {
     }
 }
 
-/// A source whose random bytes are all this one.
-pub struct Bytes(pub u8);
+/// A source whose random bytes are all this one. None: it fails.
+pub struct Bytes(pub Option<u8>);
 
 impl RandomSource for Bytes {
     fn fill_bytes(&self, buf: &mut [u8]) -> io::Result<()> {
-        buf.fill(self.0);
-        Ok(())
-    }
-}
-
-/// A source of random bytes that fails.
-pub struct NoBytes;
-
-impl RandomSource for NoBytes {
-    fn fill_bytes(&self, _buf: &mut [u8]) -> io::Result<()> {
-        Err(io::Error::from(ErrorKind::Other))
+        match self.0 {
+            Some(byte) => {
+                buf.fill(byte);
+                Ok(())
+            }
+            None => Err(io::Error::from(ErrorKind::Other)),
+        }
     }
 }

@@ -1,10 +1,13 @@
 //! Runs of threads.
-ghost use Rattle.std.specs.Prelude.{◌≡◌, ◌<◌, ◌≤◌};
+ghost use Rattle.std.specs.Prelude.{◌≡◌};
 ghost use Rattle.bcast_history.specs.Reader.{StartsAtTheFirst};
 
-use crate::streams::Taker;
+use crate::arguments::words_of;
+use crate::cases::Runtime;
+use crate::streams::Limited;
 use bcast_history::{Channel, HistoryPort, Opened, TrackedReceiver, TrackedSender, broadcast};
-use bcast_text::threads::outcome::print_seen;
+use bcast_text::script::command::Command;
+use bcast_text::threads::print_seen;
 use bcast_threads::plan::{Plan, run as run_plan, threads};
 use bcast_threads::work::{receive_all, send_all};
 use linked_list_allocator::LocalHeap;
@@ -13,52 +16,36 @@ use std::io;
 use std::io::{BufWriter, Write};
 use std::marker::Brand;
 use std::sync::Wait;
-use std::thread::Threads;
 
-/// Runs threads, and writes what is printed and how it ends.
-pub fn run<R: Threads + Wait + Clone + Send + 'static, W: Write>(
-    rt: &R,
-    alloc: Global,
-    output: &mut W,
-) -> io::Result<()> {
-    output.write_all(b"# threads\n")?;
-    one_order(rt, alloc, 2, 3, 100, output)?;
-    one_order(rt, alloc, 1, 1, 1, output)?;
-    one_order(rt, alloc, 64, 64, 100, output)?;
-    no_thread(rt, alloc, output)?;
-    write_fails(rt, alloc, output)?;
-    compared(alloc, output)?;
+/// Runs threads as each line asks `bcast` for, and others, and writes what is printed and how it
+/// ends.
+pub fn run<R: Runtime>(rt: &R, lines: &str, output: &mut Vec<u8>) -> io::Result<()> {
+    for line in lines.lines() {
+        one_order(rt, line, output)?;
+    }
+    no_thread(rt, output)?;
+    write_fails(rt, output)?;
+    compared(rt.alloc(), output)?;
     for its in [Row::Order, Row::Refused(100), Row::Refused(0), Row::Closed] {
-        run_row(rt, alloc, its, output)?;
+        run_row(rt, its, output)?;
     }
     Ok(())
 }
 
-/// Runs this many senders, receivers and messages of each sender.
-fn one_order<R: Threads + Wait + Clone + Send + 'static, W: Write>(
-    rt: &R,
-    alloc: Global,
-    s: u64,
-    r: u64,
-    m: u64,
-    output: &mut W,
-) -> io::Result<()>
-    requires senders { (0 < s) × (s ≤ 64) }
-    requires receivers { (0 < r) × (r ≤ 64) }
-    requires messages { (0 < m) × (m ≤ 100000) }
-{
-    let mut printed = Vec::new(alloc);
-    let ending = threads(rt, alloc, s, r, m, &mut printed);
-    output.write_all(printed.as_slice())?;
-    writeln!(output, "-- {ending:?}")
+/// Runs the threads that a line asks for.
+fn one_order<R: Runtime>(rt: &R, line: &str, output: &mut Vec<u8>) -> io::Result<()> {
+    let words = words_of(rt.alloc(), line)?;
+    match Command::from_words(words.as_slice()) {
+        Some(Command::Threads(s, r, m)) => {
+            let ending = threads(rt, rt.alloc(), s, r, m, output);
+            writeln!(output, "-- {ending:?}")
+        }
+        _ => output.write_all(b"no threads\n"),
+    }
 }
 
 /// Stacks for which there is no memory: for no receiver, and for no sender while receivers wait.
-fn no_thread<R: Threads + Wait + Clone + Send + 'static, W: Write>(
-    rt: &R,
-    alloc: Global,
-    output: &mut W,
-) -> io::Result<()> {
+fn no_thread<R: Runtime>(rt: &R, output: &mut Vec<u8>) -> io::Result<()> {
     for (sender_stack, receiver_stack) in [(1 << 18, 1 << 50), (1 << 50, 1 << 18)] {
         let plan = Plan {
             senders: 2,
@@ -68,37 +55,29 @@ fn no_thread<R: Threads + Wait + Clone + Send + 'static, W: Write>(
             sender_stack,
             receiver_stack,
         };
-        let mut printed = Vec::new(alloc);
-        let ending = run_plan(rt, alloc, plan, &mut printed);
+        let mut printed = Vec::new(rt.alloc());
+        let ending = run_plan(rt, rt.alloc(), plan, &mut printed);
         writeln!(output, "-- {ending:?} after {} bytes", printed.len())?;
     }
     Ok(())
 }
 
 /// Writes that take 20 bytes at most, directly and through a buffer, and fail after some calls.
-fn write_fails<R: Threads + Wait + Clone + Send + 'static, W: Write>(
-    rt: &R,
-    alloc: Global,
-    output: &mut W,
-) -> io::Result<()> {
+fn write_fails<R: Runtime>(rt: &R, output: &mut Vec<u8>) -> io::Result<()> {
     for calls in [0, 1, 2, 100] {
-        let mut taker = Taker {
-            taken: Vec::new(alloc),
-            piece: 20,
-            calls,
-        };
-        let ending = threads(rt, alloc, 1, 2, 3, &mut taker);
+        let mut taker = Limited::new(Vec::new(rt.alloc()), 20, calls);
+        let ending = threads(rt, rt.alloc(), 1, 2, 3, &mut taker);
         writeln!(output, "-- {ending:?} after {calls} writes")?;
         taker.calls = calls;
-        let mut buffer = BufWriter::new(alloc, &mut taker)?;
-        let ending = threads(rt, alloc, 1, 2, 3, &mut buffer);
+        let mut buffer = BufWriter::new(rt.alloc(), &mut taker)?;
+        let ending = threads(rt, rt.alloc(), 1, 2, 3, &mut buffer);
         writeln!(output, "-- {ending:?} after {calls} writes of a buffer")?;
     }
     Ok(())
 }
 
 /// What receivers saw, and what is printed for it.
-fn compared<W: Write>(alloc: Global, output: &mut W) -> io::Result<()> {
+fn compared(alloc: Global, output: &mut Vec<u8>) -> io::Result<()> {
     for (first, second) in [
         ([0, 1, 2], [0, 1, 2]),
         ([1, 0, 2], [1, 0, 2]),
@@ -128,80 +107,74 @@ enum Row {
     Closed,
 }
 
-fn run_row<R: Wait + Clone, W: Write>(
-    rt: &R,
-    alloc: Global,
-    row: Row,
-    output: &mut W,
-) -> io::Result<()> {
-    let opened = Opened::new(alloc, 100)?;
-    run_row_over::<Brand, R, W>(rt, alloc, opened, row, output)
+fn run_row<R: Runtime>(rt: &R, row: Row, output: &mut Vec<u8>) -> io::Result<()> {
+    let opened = Opened::new(rt.alloc(), 100)?;
+    run_row_over::<Brand, R>(rt, opened, row, output)
 }
 
-fn run_row_over<J: Channel, R: Wait + Clone, W: Write>(
+fn run_row_over<J: Channel, R: Runtime>(
     rt: &R,
-    alloc: Global,
     opened: Opened<u64>,
     row: Row,
-    output: &mut W,
+    output: &mut Vec<u8>,
 ) -> io::Result<()>
     requires { (opened.book ≡ J.book) × (opened.opening ≡ J.opening)
         × (opened.registry ≡ J.registry) }
 {
-    let (sender, receiver) = broadcast::<u64, R, J, _>(rt.clone()?, alloc, opened)?;
+    let (mut sender, mut receiver) = broadcast::<u64, R, J, _>(rt.clone()?, rt.alloc(), opened)?;
     match row {
-        Row::Order => order(rt, alloc, sender, receiver, output),
-        Row::Refused(awaited) => no_memory(rt, alloc, sender, receiver, awaited, output),
-        Row::Closed => closed(sender, receiver, output),
+        Row::Order => order(rt, rt.alloc(), &mut sender, &mut receiver, output),
+        Row::Refused(count) => no_memory(rt, rt.alloc(), &mut sender, &mut receiver, count, output),
+        Row::Closed => closed(&mut sender, &mut receiver, output),
     }
 }
 
-fn order<J: Channel, P: HistoryPort<u64, J>, W: Write>(
+fn order<J: Channel, P: HistoryPort<u64, J>>(
     rt: &impl Wait,
     alloc: Global,
-    mut sender: TrackedSender<u64, P, J>,
-    mut receiver: TrackedReceiver<u64, P, J>,
-    output: &mut W,
+    sender: &mut TrackedSender<u64, P, J>,
+    receiver: &mut TrackedReceiver<u64, P, J>,
+    output: &mut Vec<u8>,
 ) -> io::Result<()>
-    requires start { StartsAtTheFirst J.opening receiver.tracker }
+    requires start { StartsAtTheFirst J.opening receiver.old.tracker }
 {
     for msg in [2u64, 0, 1] {
-        try_send(&mut sender, msg, output)?;
+        try_send(sender, msg, output)?;
     }
     sender.close();
-    match receive_all(rt, alloc, &mut receiver, 3) {
+    match receive_all(rt, alloc, receiver, 3) {
         Ok(log) => writeln!(output, "received {:?}", log.into_list().as_slice()),
         Err(fault) => writeln!(output, "{fault:?}"),
     }
 }
 
-fn no_memory<J: Channel, P: HistoryPort<u64, J>, W: Write>(
+fn no_memory<J: Channel, P: HistoryPort<u64, J>>(
     rt: &impl Wait,
     alloc: Global,
-    mut sender: TrackedSender<u64, P, J>,
-    mut receiver: TrackedReceiver<u64, P, J>,
+    sender: &mut TrackedSender<u64, P, J>,
+    receiver: &mut TrackedReceiver<u64, P, J>,
     awaited: usize,
-    output: &mut W,
+    output: &mut Vec<u8>,
 ) -> io::Result<()>
-    requires start { StartsAtTheFirst J.opening receiver.tracker }
+    requires start { StartsAtTheFirst J.opening receiver.old.tracker }
 {
     for msg in 0..100u64 {
-        try_send(&mut sender, msg, output)?;
+        try_send(sender, msg, output)?;
     }
     let Ok(mut other) = receiver.clone() else {
         return output.write_all(b"no clone\n");
     };
     let heap = LocalHeap::new(alloc, 64)?;
-    let is_err = receive_all(rt, &heap, &mut receiver, awaited).is_err();
+    let is_err = receive_all(rt, &heap, receiver, awaited).is_err();
     let is_closed = !other.close();
     let len = other.len();
     writeln!(output, "no memory {is_err}, closed {is_closed}, kept {len}")
 }
 
-fn try_send<J: Channel, P: HistoryPort<u64, J>, W: Write>(
+fn try_send<J: Channel, P: HistoryPort<u64, J>>(
     sender: &mut TrackedSender<u64, P, J>,
     msg: u64,
-    output: &mut W,
+    output: &mut Vec<u8>,
 ) -> io::Result<()> {
     if sender.try_broadcast(msg).is_err() {
         output.write_all(b"not sent\n")?;
@@ -209,13 +182,16 @@ fn try_send<J: Channel, P: HistoryPort<u64, J>, W: Write>(
     Ok(())
 }
 
-fn closed<J: Channel, P: HistoryPort<u64, J>, W: Write>(
-    sender: TrackedSender<u64, P, J>,
-    mut receiver: TrackedReceiver<u64, P, J>,
-    output: &mut W,
+fn closed<J: Channel, P: HistoryPort<u64, J>>(
+    sender: &mut TrackedSender<u64, P, J>,
+    receiver: &mut TrackedReceiver<u64, P, J>,
+    output: &mut Vec<u8>,
 ) -> io::Result<()> {
+    let Ok(other) = sender.clone() else {
+        return output.write_all(b"no clone\n");
+    };
     receiver.close();
-    let sent = send_all(sender, 0, 100);
+    let sent = send_all(other, 0, 100);
     let kept = receiver.len();
     writeln!(output, "closed, and {} sent, {kept} kept", sent.end)
 }

@@ -20,7 +20,7 @@ impl Notice for Counted {
 }
 
 /// Writes which lines' notices the call of this line called, each as often as it was called.
-fn write_told<W: Write>(line: usize, counts: &[Rc<Cell<u64>>], output: &mut W) -> io::Result<()> {
+fn write_told(line: usize, counts: &[Rc<Cell<u64>>], output: &mut Vec<u8>) -> io::Result<()> {
     if counts.iter().all(|count| count.get() == 0) {
         return Ok(());
     }
@@ -37,11 +37,11 @@ fn write_told<W: Write>(line: usize, counts: &[Rc<Cell<u64>>], output: &mut W) -
 /// which lines were called. The lines of a trace are counted from 1.
 ///
 /// `listed` is the trace without its views, as it is written when it is played without notices.
-pub fn write_notices<W: Write>(
+pub fn write_notices(
     alloc: Global,
     text: &str,
     listed: &[u8],
-    output: &mut W,
+    output: &mut Vec<u8>,
 ) -> io::Result<()> {
     let (first, calls) = text.split_once('\n').unwrap_or((text, ""));
     let Some(opening) = read_opening(first) else {

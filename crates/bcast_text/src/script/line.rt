@@ -66,23 +66,12 @@ pub fn read_line(alloc: Global, text: &str) -> Result<Option<Line<'_>>, AllocErr
         → text.now ≢ text_of line) }
 {
     match text.split_once(' ') {
-        Some((first, rest)) if first == "sendall" => send_all(alloc, rest),
+        Some(("sendall", rest)) => match numbers(alloc, rest)? {
+            Some(msgs) => Ok(Some(Line::SendAll(msgs))),
+            None => Ok(None),
+        },
         Some((first, rest)) => Ok(with_arguments(first, rest)),
         None => Ok(alone(text)),
-    }
-}
-
-/// The numbers of `sendall`.
-fn send_all<'a>(alloc: Global, rest: &str) -> Result<Option<Line<'a>>, AllocError>
-    ensures text { IfOk result (λ read. IfSome read (λ line.
-        codes "sendall " ++ rest.now ≡ text_of line)) }
-    ensures form { IfOk result (λ read. IfSome read IsInForm) }
-    ensures none { IfOk result (λ read. IsNone read → (msgs : List ℕ)
-        → AllByRecursion IsU64 msgs → numbers_text msgs ≢ Some rest.now) }
-{
-    match numbers(alloc, rest)? {
-        Some(msgs) => Ok(Some(Line::SendAll(msgs))),
-        None => Ok(None),
     }
 }
 

@@ -1,21 +1,28 @@
--- All lists are what the channel had accepted when it was closed, which was counted.
-use Rattle.std.proofs.Common.{◌∙◌, Vec, ℕ, Global}
+-- All lists are this one, which has each number that was to be sent, and no more.
+use Rattle.std.proofs.Common.{rules, ◌≡◌, ◌*◌, [], ◌∷◌, List, ◌++◌, All, Vec, ℕ, Global, refl, sym, ◌∙◌, subst, arith, length}
 use Rattle.std.proofs.lemmas.Bool.{OnTrue_at}
-use Rattle.bcast_threads.proofs.Closed.{one_list, each_once}
+use Rattle.std.proofs.lemmas.List.Elements.{All-push, All-weaker}
+use Rattle.bcast_text.specs.Order.{HoldsEachOnce}
+use Rattle.bcast_threads.proofs.Sent.{contained}
 use Rattle.bcast_threads.proofs.lists.lists_received.Goals as goal
 
 pub returns : goal.returns
 returns g c =
-    let o = g.J.Channel.opening in
-    let lists = c.in_ok-lists.lists.items in
-    let known = c.numbers_sent-sent.new.seen in
-    let steps = c.all_of.new.seen in
-    let whole = c.in_ok-lists.ensures.whole in
-    let are = c.if-not-are_of_all.false in
-    let counted = rw c.as_slice.ensures.value at c.are_of_all.ensures.each in
-    record {
-      count = c.in_ok-lists.ensures.count ∙ c.requires;
-      same = one_list (λ (list : Vec ℕ Global). list.items) o steps lists whole;
-      each = each_once (λ (list : Vec ℕ Global). list.items) o known steps c.numbers_sent-sent.result _ lists c.in_ok-lists.ensures.longer
-          c.numbers_sent-sent.ensures (OnTrue_at are c.are_of_all.ensures.sent) (OnTrue_at are counted) whole;
-    }
+    let list = c.into_list-list.result in
+    let others = c.in_ok-lists.lists.items in
+    let total = c.in_ok-total.total in
+    let is = c.into_list-list.ensures in
+    let counted : total ≡ c.args.plan.senders * c.args.plan.messages = search rules in
+    let long : length list.items ≡ total = omega (arith, c.if-len-total.false) in
+    let IsThis : Vec ℕ Global → Type 0 = λ its. its.items ≡ list.items in
+    let HasEach : Vec ℕ Global → Type 0 = λ its. HoldsEachOnce its.items (c.args.plan.senders * c.args.plan.messages) in
+    let all : All IsThis (others ++ list ∷ []) =
+    All-push IsThis others list (All-weaker _ IsThis (λ its same. same ∙ sym is) others c.in_ok-lists.ensures.same) refl in
+    let once : HoldsEachOnce list.items total = (
+      long,
+      λ number below. contained _ number (rw is (OnTrue_at c.if-not-are_sent.false c.are_all_sent-are_sent.ensures.sent number (omega arith) below)),
+    ) in
+    let each : (its : Vec ℕ Global) → IsThis its → HasEach its =
+    λ its same. subst (λ (items : List ℕ). HoldsEachOnce items (c.args.plan.senders * c.args.plan.messages)) (sym same) (rw (← counted) once) in
+    rw c.in_ok-push.ensures.items
+    (record { count = search rules; same = (list.items, all); each = All-weaker IsThis HasEach each (others ++ list ∷ []) all })

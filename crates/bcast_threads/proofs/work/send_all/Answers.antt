@@ -1,7 +1,6 @@
 -- One more number was sent, or none since the channel was closed.
 use Rattle.std.proofs.Common.{refl, sym, ◌∙◌}
-use Rattle.bcast_threads.proofs.Sent.{all_after, one_more, not_refused}
-use Rattle.bcast_threads.proofs.Closed.{before_closing}
+use Rattle.bcast_threads.proofs.Sent.{all_after, before_closing, one_more, not_refused}
 use Rattle.bcast_history.specs.History.{accepted_by}
 use Rattle.bcast_threads.specs.Lists.{HasAll}
 use Rattle.bcast_threads.proofs.work.send_all.Goals as goal

@@ -1,7 +1,7 @@
 -- If the other lists are the same, the result is that of the first one.
 use Rattle.std.proofs.Common.{ℕ, Vec, Global}
 use Rattle.bcast_text.proofs.Marks.{one_order, no_order}
-use Rattle.bcast_text.proofs.threads.order.is_one_order.Goals as goal
+use Rattle.bcast_text.proofs.threads.is_one_order.Goals as goal
 
 pub returns-then-not-are_equal_to : goal.returns-then-not-are_equal_to
 returns-then-not-are_equal_to c =

@@ -1,7 +1,7 @@
 -- The marks of the whole list.
 use Rattle.std.proofs.lemmas.List.{take_all}
 use Rattle.bcast_text.proofs.Marks.{marked}
-use Rattle.bcast_text.proofs.threads.order.mark_all.Goals as goal
+use Rattle.bcast_text.proofs.threads.mark_all.Goals as goal
 
 pub returns-clause-marked : goal.returns-clause-marked
 returns-clause-marked c n within =

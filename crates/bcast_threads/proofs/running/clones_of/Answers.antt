@@ -3,7 +3,7 @@ use Rattle.std.proofs.Common.{ℕ, ◌+◌, ap, ◌∙◌}
 use Rattle.bcast_history.specs.Reader.{StartsAtTheFirst}
 use Rattle.std.proofs.lemmas.List.Elements.{All-push}
 use Rattle.bcast_history.specs.declared.receiver.TrackedReceiver.{TrackedReceiver}
-use Rattle.bcast_threads.proofs.started.clones_of.Goals as goal
+use Rattle.bcast_threads.proofs.running.clones_of.Goals as goal
 
 pub loop-preserved : goal.loop-preserved
 loop-preserved g c =

@@ -1,13 +1,12 @@
 -- Each receiver has its thread, or is still to have one.
-use Rattle.std.proofs.Common.{◌≡◌, ◌+◌, vec_len, vec_capacity, All}
+use Rattle.std.proofs.Common.{◌≡◌, ◌+◌, vec_len, All}
 use Rattle.bcast_history.specs.Reader.{StartsAtTheFirst}
-use Rattle.bcast_threads.proofs.started.start_receivers.Given as goal
+use Rattle.bcast_threads.proofs.running.start_receivers.Given as goal
 
 abbrev pub invariant-loop-receiver : goal.invariant-loop-receiver
 invariant-loop-receiver g l = record {
-  count : vec_len l.threads.running + vec_len l.receivers
-      ≡ vec_len l.initial.threads.running + vec_len l.initial.receivers;
-  room : vec_capacity l.threads.running ≡ vec_capacity l.initial.threads.running;
+  count : vec_len l.running + vec_len l.receivers
+      ≡ vec_len l.initial.running + vec_len l.initial.receivers;
   start : All (λ receiver. StartsAtTheFirst g.J.Channel.opening receiver.tracker) l.receivers.items;
 }
 

@@ -1,7 +1,7 @@
 -- How many clones there are so far, and that each reads on at the first message.
 use Rattle.std.proofs.Common.{◌≡◌, vec_len, All}
 use Rattle.bcast_history.specs.Reader.{StartsAtTheFirst}
-use Rattle.bcast_threads.proofs.started.clones_of.Given as goal
+use Rattle.bcast_threads.proofs.running.clones_of.Given as goal
 
 abbrev pub invariant-loop : goal.invariant-loop
 invariant-loop g l = record {
