@@ -1,3 +1,2 @@
-mod Answered
 mod Batches
-mod TopicsLemmas
+mod Lines

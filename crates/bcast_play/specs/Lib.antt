@@ -1,7 +1,7 @@
 -- what is written of a script, and of lines on topics
 pub mod ScriptRun
 pub mod TopicsLine
+pub mod TopicsRequest
 pub mod TopicsRun
 -- what is seen of the programs' parts
-pub mod Channels
-pub mod TopicsShown
+pub mod Shown

@@ -1,5 +1,5 @@
 -- What a script does: its channel, and the answer to each line.
-use Rattle.std.specs.Prelude.{◌≡◌, ◌≢◌, ◌<◌, ◌⊎◌, ℕ, min, List, [], ◌∷◌, ◌++◌, length, Option, Some, None, Ok, Err, codes, decimal, bytes_eq}
+use Rattle.std.specs.Prelude.{◌≡◌, ◌≢◌, ◌<◌, ◌⊎◌, ⊤, ℕ, min, List, [], ◌∷◌, ◌++◌, length, Option, Some, None, Ok, Err, codes, decimal, bytes_eq}
 use Rattle.std.specs.Map.{update}
 use Rattle.bcast_model.specs.declared.run.Call.TheVariants as call
 use Rattle.bcast_model.specs.declared.run.Reply.TheVariants as reply
@@ -75,21 +75,16 @@ pub record IsOpened (line answer : List ℕ) (new : Named) : Type 0 where
 
 -- the answer to a line, before and after line 1
 abbrev pub IsScriptLine : Option Named → List ℕ → List ℕ → Option Named → Type 0
-IsScriptLine None line answer None = ⊥
 IsScriptLine None line answer (Some new) = IsOpened line answer new
-IsScriptLine (Some old) line answer None = ⊥
 IsScriptLine (Some old) line answer (Some new) =
     (asked : Line) × (line ≡ text_of asked) × IsInForm asked × IsMade old asked answer new
-
--- the capacity of the channel that a line makes
-abbrev pub opened_by : Line → Option ℕ
-opened_by (Cap capacity) = Some capacity
-opened_by line = None
+IsScriptLine old line answer None = ⊥
 
 -- a line in form that makes no channel, before line 1, or that asks for no call and no batch, after
 -- it
 abbrev pub AsksForNone : Option Named → Line → Type 0
-AsksForNone None asked = opened_by asked ≡ None
+AsksForNone None (Cap capacity) = ⊥
+AsksForNone None asked = ⊤
 AsksForNone (Some old) asked =
     (call_of old.key_of asked ≡ None) × (batch_of old.key_of asked ≡ None)
 

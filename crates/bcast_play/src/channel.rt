@@ -3,7 +3,7 @@ ghost use Rattle.std.specs.Prelude.{◌≡◌, ◌≢◌, ◌<◌, ◌⊎◌, �
 ghost use Rattle.std.specs.Io.KnownBytes.{Appends};
 ghost use Rattle.bcast_text.specs.ScriptLine.{IsInForm};
 ghost use Rattle.bcast_play.specs.ScriptRun.{AreGiven, AsksForNone, IsGivenNone, IsMade, IsNew};
-ghost use Rattle.bcast_play.specs.Channels.{named_of};
+ghost use Rattle.bcast_play.specs.Shown.{named_of};
 
 use bcast_core::{Inner, Reply, Silent, step};
 use bcast_text::input::Fault;

@@ -1,11 +1,9 @@
 //! The run of lines on topics.
-ghost use Rattle.std.specs.Prelude.{◌≡◌, ◌≢◌, ◌↔◌, ◌⊎◌, ℕ, List, [], ◌∷◌, ◌++◌, Err, OnOk, IsNone, IsSome, IfSome, true};
+ghost use Rattle.std.specs.Prelude.{◌≡◌, ◌≢◌, ◌↔◌, ◌⊎◌, [], ◌∷◌, ◌++◌, Err, OnOk, IsNone, IsSome, IfSome, true};
 ghost use Rattle.std.specs.Io.KnownBytes.{Appends};
 ghost use Rattle.bcast_text.specs.Run.{IsRun};
 ghost use Rattle.topics.specs.Hub.{topic_of};
-ghost use Rattle.bcast_play.specs.TopicsLine.{IsInForm};
-ghost use Rattle.bcast_play.specs.TopicsRun.{Followed, answer_of, IsMade, IsTopicsLine, IsNoTopicsLine, AsksForNone, IsWithoutTopics, IsWithoutFollowers};
-ghost use Rattle.bcast_play.specs.TopicsShown.{followed_of};
+ghost use Rattle.bcast_play.specs.TopicsRun.{Followed, answer_of, IsTopicsLine, IsNoTopicsLine, IsWithoutTopics, IsWithoutFollowers};
 
 mod followers;
 mod line;
@@ -15,7 +13,7 @@ use bcast_text::ending::Ending;
 use bcast_text::input::{Fault, RunLine, run_lines};
 use bcast_text::script;
 use followers::{Followers, record, request_by};
-use line::{Line, read_line};
+use line::read_line;
 use std::alloc::Allocator;
 use std::hash::{BuildHasher, RandomState};
 use std::io::{Read, Write};
@@ -30,29 +28,10 @@ struct HubSession<A: Allocator, S: BuildHasher> {
     followers: Followers<A>,
 }
 
-impl<A: Allocator + Copy, S: BuildHasher> HubSession<A, S> {
-    /// Makes the request that `line` asks for, and writes its answer.
-    fn run<W: Write>(&mut self, line: Line<'_>, output: &mut W) -> Result<(), Fault>
-        requires { IsInForm line }
-        ensures ok { OnOk result ((text : List ℕ)
-            × IsMade A (followed_of self.old) line.entry text (followed_of self.new)
-            × Appends (W.contents output.old) (W.contents output.new) text) }
-        ensures unwritten { (result ≡ Err Fault.NotACall) ⊎ (result ≡ Err Fault.NoMemory)
-            → output.new ≡ output.old }
-        ensures refused { result ≡ Err Fault.NotACall
-            → AsksForNone A (followed_of self.old).follower_of line.entry }
-    {
-        let request = request_by(self.alloc, &self.followers, line)?;
-        let answered = self.hub.ask(request);
-        record(self.alloc, &mut self.followers, line, &answered)?;
-        answer(&answered, output)
-    }
-}
-
 impl<A: Allocator + Copy, S: BuildHasher> RunLine for HubSession<A, S> {
     ghost use Rattle.bcast_play.specs.TopicsRun.{Followed, IsTopicsLine, IsNoTopicsLine};
     ghost use Rattle.std.specs.Prelude.{true};
-    ghost use Rattle.bcast_play.specs.TopicsShown.{followed_of};
+    ghost use Rattle.bcast_play.specs.Shown.{followed_of};
 
     ghost State = { Followed };
 
@@ -68,7 +47,10 @@ impl<A: Allocator + Copy, S: BuildHasher> RunLine for HubSession<A, S> {
 
     fn run_line<W: Write>(&mut self, line: &str, output: &mut W) -> Result<(), Fault> {
         let line = read_line(line).ok_or(Fault::NotACall)?;
-        self.run(line, output)
+        let request = request_by(self.alloc, &self.followers, line)?;
+        let answered = self.hub.ask(request);
+        record(self.alloc, &mut self.followers, line, &answered)?;
+        answer(&answered, output)
     }
 }
 
@@ -93,12 +75,10 @@ fn answer<W: Write>(answered: &Answer<u64>, output: &mut W) -> Result<(), Fault>
     Ok(())
 }
 
-/// Runs the lines on topics that `input` holds, one by one, on `hub`, and writes an answer to each
-/// line.
+/// Runs the lines on topics that `input` holds on `hub`, as `script` runs those of a script.
 ///
-/// `output` is flushed before each read that may wait for more input, and at the end. The first
-/// line that is not a call ends the run. An input without lines is done. No follower has a name at
-/// the start. The hub hashes the names of topics by a `RandomState`, since lines choose them.
+/// An input without lines is done. No follower has a name at the start. The hub hashes the names of
+/// topics by a `RandomState`, since lines choose them.
 pub fn hub_script<A: Allocator + Copy, R: Read + Drop, W: Write>(
     alloc: A,
     hub: Hub<u64, A, RandomState>,

@@ -1,10 +1,7 @@
 //! The run of a script.
-ghost use Rattle.std.specs.Prelude.{◌≡◌, ◌≢◌, ◌⊎◌, ℕ, List, None, Err, Option, OnOk, false};
-ghost use Rattle.std.specs.Io.KnownBytes.{Appends};
-ghost use Rattle.bcast_text.specs.ScriptLine.{text_of, IsInForm};
+ghost use Rattle.std.specs.Prelude.{◌≢◌, None, Option, false};
 ghost use Rattle.bcast_text.specs.Run.{IsRun};
-ghost use Rattle.bcast_play.specs.Channels.{session_of};
-ghost use Rattle.bcast_play.specs.ScriptRun.{Named, IsScriptLine, IsNoScriptLine, opened_by};
+ghost use Rattle.bcast_play.specs.ScriptRun.{Named, IsScriptLine, IsNoScriptLine};
 
 use crate::channel::Channel;
 use bcast_text::ending::Ending;
@@ -16,7 +13,7 @@ use std::io::{Read, Write};
 /// The most bytes that a line may have, its LF aside.
 pub const LONGEST: u32 = 200;
 
-/// A script that is being run. Line 1 makes the channel.
+/// A script that is being run. Line 1 makes the channel, and is answered by `ok`.
 #[derive(Drop)]
 struct Session<A: Allocator> {
     alloc: A,
@@ -25,29 +22,9 @@ struct Session<A: Allocator> {
     channel: Option<Channel<A>>,
 }
 
-impl<A: Allocator + Copy> Session<A> {
-    /// Makes the channel that `line` asks for, and writes the answer.
-    fn start<W: Write>(&mut self, line: &Line<'_>, output: &mut W) -> Result<(), Fault>
-        requires { IsInForm line.now }
-        ensures ok { OnOk result ((answer : List ℕ)
-            × IsScriptLine None (text_of line.now) answer (session_of self.new)
-            × Appends (W.contents output.old) (W.contents output.new) answer) }
-        ensures unwritten { (result ≡ Err Fault.NotACall) ⊎ (result ≡ Err Fault.NoMemory)
-            → output.new ≡ output.old }
-        ensures refused { result ≡ Err Fault.NotACall → opened_by line.now ≡ None }
-    {
-        let Line::Cap(capacity) = line else {
-            return Err(Fault::NotACall);
-        };
-        self.channel = Some(Channel::open(self.alloc, *capacity as usize)?);
-        output.write_all(b"ok\n")?;
-        Ok(())
-    }
-}
-
 impl<A: Allocator + Copy> RunLine for Session<A> {
     ghost use Rattle.bcast_play.specs.ScriptRun.{Named, IsScriptLine, IsNoScriptLine};
-    ghost use Rattle.bcast_play.specs.Channels.{session_of};
+    ghost use Rattle.bcast_play.specs.Shown.{session_of};
     ghost use Rattle.std.specs.Prelude.{Option, false};
 
     ghost State = { Option Named };
@@ -66,7 +43,14 @@ impl<A: Allocator + Copy> RunLine for Session<A> {
         let line = read_line(self.heap, line)?.ok_or(Fault::NotACall)?;
         match &mut self.channel {
             Some(channel) => channel.run(self.alloc, &line, output),
-            None => self.start(&line, output),
+            None => {
+                let Line::Cap(capacity) = line else {
+                    return Err(Fault::NotACall);
+                };
+                self.channel = Some(Channel::open(self.alloc, capacity as usize)?);
+                output.write_all(b"ok\n")?;
+                Ok(())
+            }
         }
     }
 }

@@ -3,8 +3,8 @@ ghost use Rattle.std.specs.Prelude.{◌≡◌, ◌≢◌, ℕ, List, Some, None,
 ghost use Rattle.std.specs.Map.{update};
 ghost use Rattle.topics.specs.Request.{OpensPositive};
 ghost use Rattle.bcast_play.specs.TopicsLine.{IsInForm};
-ghost use Rattle.bcast_play.specs.TopicsRun.{IsRequest, IsAboutNobody, names_after};
-ghost use Rattle.bcast_play.specs.TopicsShown.{follower_of};
+ghost use Rattle.bcast_play.specs.TopicsRequest.{IsRequest, IsAboutNobody, names_after};
+ghost use Rattle.bcast_play.specs.Shown.{follower_of};
 
 use super::line::Line;
 use bcast_core::Reply;
@@ -108,6 +108,7 @@ pub fn record<A: Allocator + Copy>(
 }
 
 /// Gives a new name to the follower of this topic with this key.
+#[tactic(auto, using(crate::proofs::Lines::map_cond))]
 fn name_follower<A: Allocator + Copy>(
     alloc: A,
     followers: &mut Followers<A>,

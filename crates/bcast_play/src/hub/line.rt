@@ -82,9 +82,5 @@ fn topic(word: &str) -> Option<&str>
     ensures form { IfSome result (λ name. topic_name.IsName name.now) }
     ensures none { IsNone result → topic_name.IsName word.now → ⊥ }
 {
-    if topics::is_name(word) {
-        Some(word)
-    } else {
-        None
-    }
+    topics::is_name(word).then_some(word)
 }

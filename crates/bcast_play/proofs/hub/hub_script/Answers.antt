@@ -1,7 +1,7 @@
 -- The run begins with the topics of the hub, and without names.
 use Rattle.std.proofs.Common.{refl}
 use Rattle.topics.specs.Hub.{topic_of}
-use Rattle.bcast_play.specs.TopicsShown.{follower_of, followed_of}
+use Rattle.bcast_play.specs.Shown.{follower_of, followed_of}
 use Rattle.bcast_play.proofs.hub.hub_script.Goals as goal
 
 pub returns : goal.returns

@@ -6,7 +6,7 @@ use Rattle.bcast_model.specs.declared.run.Call.TheVariants as call
 use Rattle.bcast_model.specs.declared.run.Reply.TheVariants as reply
 use Rattle.bcast_model.proofs.Clones.{answers_exact}
 use Rattle.bcast_text.specs.ScriptAnswer.{answer_of, batch_text}
-use Rattle.bcast_play.proofs.Answered.{answered}
+use Rattle.bcast_play.proofs.Lines.{answered}
 use Rattle.bcast_play.proofs.Batches.{batch_there, each_exact, never_refused, given_none, none_given}
 use Rattle.bcast_play.proofs.channel.Channel.receive_many.Goals as goal
 use Rattle.bcast_play.proofs.channel.Channel.receive_many.Goals.{After-receive_many}

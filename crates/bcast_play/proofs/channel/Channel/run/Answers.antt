@@ -2,7 +2,7 @@
 use Rattle.std.proofs.Common.{rules, ◌++◌, ◌∷◌, [], refl, inl}
 use Rattle.bcast_model.proofs.Clones.{answers_exact}
 use Rattle.bcast_text.specs.ScriptAnswer.{answer_of}
-use Rattle.bcast_play.proofs.Answered.{answered}
+use Rattle.bcast_play.proofs.Lines.{answered}
 use Rattle.bcast_play.proofs.channel.Channel.run.Goals as goal
 
 pub returns-clause-ok : goal.returns-clause-ok

@@ -3,9 +3,9 @@ use Rattle.std.proofs.Common.{rules, ◌≡◌, false, true, is_some, subst, sym
 use Rattle.std.specs.BTreeMap.{get_by_text}
 use Rattle.topics.specs.declared.request.Request.TheVariants as request
 use Rattle.bcast_play.specs.declared.hub.line.Line.TheVariants as line
-use Rattle.bcast_play.specs.TopicsRun.{IsRequest, IsAboutNobody}
-use Rattle.bcast_play.specs.TopicsShown.{following, follower_of}
-use Rattle.bcast_play.proofs.TopicsLemmas.{map_none, map_some}
+use Rattle.bcast_play.specs.TopicsRequest.{IsRequest, IsAboutNobody}
+use Rattle.bcast_play.specs.Shown.{following, follower_of}
+use Rattle.bcast_play.proofs.Lines.{map_none, map_some}
 use Rattle.bcast_play.proofs.hub.followers.request_by.Goals as goal
 
 pub returns-in_ok-from_str-in-Follow-clause-request : goal.returns-in_ok-from_str-in-Follow-clause-request

@@ -2,7 +2,7 @@
 use Rattle.std.proofs.Common.{None, Some, refl, sym, subst, ◌∙◌}
 use Rattle.topics.specs.Name.{IsName}
 use Rattle.bcast_text.proofs.Spaced.{at_space}
-use Rattle.bcast_play.proofs.TopicsLemmas.{topic_space}
+use Rattle.bcast_play.proofs.Lines.{topic_space}
 use Rattle.bcast_play.proofs.hub.line.topic_and.Goals as goal
 
 pub returns-in_err-name-clause-none : goal.returns-in_err-name-clause-none

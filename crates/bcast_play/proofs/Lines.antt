@@ -1,5 +1,5 @@
--- Lemmas of lines on topics: the names of topics and of followers.
-use Rattle.std.proofs.Common.{◌≡◌, ◌≢◌, ⊎_elim, arith, List, ℕ, Bool, true, false, Option, Some, None, cond, refl, sym, is_some, option_map, true≢false}
+-- Lemmas of lines: the names in them, and the reply that is written.
+use Rattle.std.proofs.Common.{◌≡◌, ◌≢◌, ⊎_elim, arith, List, ℕ, Bool, true, false, Option, Some, None, Result, Ok, Err, OnOk, IfSome, IsSome, cond, refl, sym, is_some, option_map, true≢false}
 use Rattle.std.proofs.lemmas.List.Elements.{All-weaker}
 use Rattle.bcast_text.proofs.Spaced.{Lacks}
 use Rattle.topics.specs.Name.{IsName, IsNameByte}
@@ -26,3 +26,10 @@ map_some f (Some x) used none = let is = none in absurd (cc)
 -- a valid name is not answered by `BadName`
 pub named_answer : {T : Type 0} (is_open : Bool) (asked : Option (Call T)) → IsAnswerTo is_open asked answer.BadName → ⊥
 named_answer is_open asked is = grind arith
+
+-- a reply that has an answer is written
+pub answered : {X F : Type 0} (r : Result X F) (o : Option (List ℕ)) (P : List ℕ → Type 0) (Q : Type 0)
+    → OnOk r (IfSome o P) → OnOk r (IsSome o) → ((text : List ℕ) → o ≡ Some text → P text → Q) → OnOk r Q
+answered (Err x) o P Q text some to = tt
+answered (Ok x) None P Q text some to = absurd (true≢false (sym some))
+answered (Ok x) (Some t) P Q text some to = to t refl text

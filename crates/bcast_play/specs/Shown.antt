@@ -1,13 +1,25 @@
--- What is seen of topics whose followers have names.
-use Rattle.std.specs.Prelude.{option_map, String, string_bytes}
+-- What is seen of the parts of a program that plays lines.
+use Rattle.std.specs.Prelude.{Option, option_map, String, string_bytes}
 use Rattle.std.specs.BTreeMap.{BTreeMap, get_by_text}
 use Rattle.topics.specs.Hub.{topic_of}
-use Rattle.bcast_play.specs.TopicsRun.{Following, Names, Followed}
+use Rattle.bcast_play.specs.ScriptRun.{Named}
+use Rattle.bcast_play.specs.TopicsRequest.{Following, Names}
+use Rattle.bcast_play.specs.TopicsRun.{Followed}
+use Rattle.bcast_play.specs.declared.channel.Channel.{Channel}
+use Rattle.bcast_play.specs.declared.session.Session.{Session}
 use Rattle.bcast_play.specs.declared.hub.HubSession.{HubSession}
 use Rattle.bcast_play.specs.declared.hub.followers.Follower.{Follower}
 
 module _ {A : Type 0} where
-  -- a follower
+  -- what is seen of a script's channel, and the key of each name
+  abbrev pub named_of : Channel A → Named
+  named_of channel = record { view = channel.inner; key_of = get_by_text channel.names }
+
+  -- a script's channel, if line 1 made it
+  abbrev pub session_of : Session A → Option Named
+  session_of session = option_map named_of session.channel
+
+  -- a follower of a topic
   abbrev pub following : Follower A → Following
   following f = record { topic = string_bytes f.topic; key = f.key }
 
