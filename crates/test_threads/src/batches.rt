@@ -1,7 +1,9 @@
-//! Threads that take batches of what another one sends.
-use crate::steps::{Ends, Group, Host, Receiving, Sending};
+//! Threads that take batches of what another one sends, and loops over a receiver, which block while
+//! there is no message.
+use crate::steps::{Ends, Group, Host, Receiving, Sending, ThreadPort};
 use async_broadcast::{Port, RecvError, broadcast};
 use std::test::Fail;
+use std::thread;
 
 /// How many messages are sent.
 const MESSAGES: u64 = 1000;
@@ -65,8 +67,8 @@ fn take_all<P: Port<u64>>(rt: &impl Host, mut receiver: Receiving<P>, row: Row) 
 }
 
 /// Has two threads take what this one sends.
-fn play<R: Host + 'static, P: Port<u64> + Send + 'static>(
-    rt: R,
+fn play<P: ThreadPort>(
+    rt: impl Host + 'static,
     (mut sender, receiver): Ends<P>,
     row: Row,
 ) -> Result<(), Fail> {
@@ -92,8 +94,8 @@ fn batches_of_threads_have_all_messages_in_order(rt: HostRuntime) -> Result<(), 
 }
 
 /// Fills a channel of capacity 2, so that a thread sleeps in its send, and takes one batch.
-fn wakes_by_a_batch<R: Host + 'static, P: Port<u64> + Send + 'static>(
-    rt: R,
+fn wakes_by_a_batch<P: ThreadPort>(
+    rt: impl Host + 'static,
     (sender, mut receiver): Ends<P>,
 ) -> Result<(), Fail> {
     send(&rt, &sender, 0, 2);
@@ -109,4 +111,48 @@ fn wakes_by_a_batch<R: Host + 'static, P: Port<u64> + Send + 'static>(
 #[test]
 fn a_batch_wakes_a_sender_that_sleeps(rt: HostRuntime) -> Result<(), Fail> {
     wakes_by_a_batch(rt, broadcast(rt, rt.alloc(), 2)?)
+}
+
+// Each message that another thread sends, in order, until it drops its sender.
+#[test]
+fn a_loop_gets_each_message(rt: HostRuntime) -> Result<(), Fail> {
+    gets_each_message(rt, broadcast(rt, rt.alloc(), 1)?)
+}
+
+fn gets_each_message<P: ThreadPort>(
+    rt: impl Host + 'static,
+    (sender, mut receiver): Ends<P>,
+) -> Result<(), Fail> {
+    let thread = thread::spawn(&rt, move || send(&rt, &sender, 0, MESSAGES))?;
+    receive_all(&rt, &mut receiver);
+    thread.join(&rt);
+    Ok(())
+}
+
+fn receive_all<P: Port<u64>>(rt: &impl Host, receiver: &mut Receiving<P>) {
+    let mut next = 0u64;
+    for received in receiver.iter(rt) {
+        assert!(rt; matches!(received, Ok(Ok(msg)) if msg == next));
+        next = next.wrapping_add(1);
+    }
+    assert!(rt; next == MESSAGES);
+}
+
+// What was missed is an item, as a message is. After its end the loop has no more items.
+#[test]
+fn a_loop_says_what_was_missed(rt: HostRuntime) -> Result<(), Fail> {
+    says_what_was_missed(&rt, broadcast(rt, rt.alloc(), 2)?);
+    Ok(())
+}
+
+fn says_what_was_missed<P: Port<u64>>(rt: &impl Host, (mut sender, mut receiver): Ends<P>) {
+    sender.set_overflow(true);
+    send(rt, &sender, 0, 5);
+    let mut received = receiver.iter(rt);
+    assert!(rt; matches!(received.next(), Some(Ok(Err(RecvError::Overflowed(3))))));
+    assert!(rt; matches!(received.next(), Some(Ok(Ok(3)))));
+    drop(sender);
+    assert!(rt; matches!(received.next(), Some(Ok(Ok(4)))));
+    assert!(rt; matches!(received.next(), None));
+    assert!(rt; matches!(received.next(), None));
 }

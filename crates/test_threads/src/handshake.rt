@@ -1,7 +1,6 @@
 //! Two threads that reply to each other over two channels.
-use crate::answers::Answer;
-use crate::steps::{Ends, Group, Host};
-use crate::timed::patience::Patience;
+use crate::steps::{Ends, Group, Host, ThreadPort};
+use crate::timed::runs::Patience;
 use async_broadcast::{TimedPort, broadcast};
 use std::test::Fail;
 
@@ -11,7 +10,7 @@ const ROUNDS: u64 = 500;
 // No thread can finish alone: each waits for what the other sends.
 #[test]
 fn handshake(rt: HostRuntime) -> Result<(), Fail> {
-    both_finish(rt, (Patience::Endless, Patience::Endless))
+    both_finish(rt, (Patience::endless(), Patience::endless()))
 }
 
 // As in `handshake`, with random limits of time.
@@ -20,13 +19,13 @@ fn handshake_with_limits(rt: HostRuntime) -> Result<(), Fail> {
     both_finish(rt, (Patience::random(0, 1), Patience::random(0, 2)))
 }
 
-fn both_finish<R: Host + 'static>(rt: R, patience: (Patience, Patience)) -> Result<(), Fail> {
+fn both_finish(rt: impl Host + 'static, patience: (Patience, Patience)) -> Result<(), Fail> {
     let (there, back) = (broadcast(rt, rt.alloc(), 1)?, broadcast(rt, rt.alloc(), 1)?);
     play_both(rt, there, back, patience)
 }
 
-fn play_both<R: Host + 'static, P: TimedPort<u64> + Send + 'static>(
-    rt: R,
+fn play_both<P: ThreadPort>(
+    rt: impl Host + 'static,
     there: Ends<P>,
     back: Ends<P>,
     patience: (Patience, Patience),
@@ -49,11 +48,11 @@ fn play<P: TimedPort<u64>>(
 ) {
     for number in 1..=ROUNDS {
         if asks {
-            assert!(rt; patience.send(rt, &mut sender, number) == Answer::Done);
+            assert!(rt; patience.send(rt, &mut sender, number) == Ok(None));
         }
-        assert!(rt; patience.receive(rt, &mut receiver) == Answer::Message(number));
+        assert!(rt; patience.receive(rt, &mut receiver) == Ok(Ok(number)));
         if !asks {
-            assert!(rt; patience.send(rt, &mut sender, number) == Answer::Done);
+            assert!(rt; patience.send(rt, &mut sender, number) == Ok(None));
         }
     }
 }

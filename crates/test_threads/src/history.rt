@@ -2,7 +2,7 @@
 ghost use Rattle.std.specs.Prelude.{◌≡◌, ◌<◌};
 ghost use Rattle.bcast_history.specs.Reader.{StartsAtTheFirst};
 
-use crate::readings::{Reading, read};
+use crate::readings::{Reading, Tracked};
 use crate::steps::Host;
 use crate::timed::runs::{RUNS, run};
 use bcast_history::{
@@ -12,16 +12,12 @@ use std::alloc::AllocError;
 use std::marker::Brand;
 use std::process::Abort;
 use std::test::Fail;
-use std::thread;
-use std::thread::JoinHandle;
+use std::thread::join;
 
 /// How many messages each sender sends.
 const SHARE: u64 = 2000;
 
 type List = Result<Vec<u64>, AllocError>;
-
-/// Two threads that return a list.
-type Pair = (JoinHandle<List>, JoinHandle<List>);
 
 /// What is done on a channel of its own.
 #[derive(Clone, Copy)]
@@ -49,26 +45,7 @@ where
         × (opened.registry ≡ J.registry) }
 {
     let (sender, receiver) = broadcast::<u64, R, J, _>(rt, rt.alloc(), opened)?;
-    do_row(rt, row, sender, receiver)
-}
-
-fn do_row<J, R, P>(
-    rt: R,
-    row: Row,
-    mut sender: TrackedSender<u64, P, J>,
-    mut receiver: TrackedReceiver<u64, P, J>,
-) -> Result<(), Fail>
-where
-    J: Channel + Send + Sync + 'static,
-    R: Host + 'static,
-    P: TimedHistoryPort<u64, J> + Send + 'static,
-    requires { StartsAtTheFirst J.opening receiver.tracker }
-{
-    match row {
-        Row::Run(number) => run_handles(rt, number, sender, receiver),
-        Row::Share => run_both(rt, sender, receiver),
-        Row::Read(reading) => read(&rt, reading, &mut sender, &mut receiver),
-    }
+    Tracked { sender, receiver }.do_row(rt, row)
 }
 
 // The handles make the same calls as those of a channel that keeps no history.
@@ -80,22 +57,6 @@ fn a_thousand_runs_over_a_history_end(rt: HostRuntime) -> Result<(), Fail> {
     Ok(())
 }
 
-fn run_handles<J, R, P>(
-    rt: R,
-    number: u64,
-    mut sender: TrackedSender<u64, P, J>,
-    mut receiver: TrackedReceiver<u64, P, J>,
-) -> Result<(), Fail>
-where
-    J: Channel + Send + Sync + 'static,
-    R: Host + 'static,
-    P: TimedHistoryPort<u64, J> + Send + 'static,
-{
-    sender.set_overflow(number % 2 == 1);
-    let (other, copy) = (sender.clone()?, receiver.clone()?);
-    run(rt, number, (other, sender), (copy, receiver))
-}
-
 // Each sender is told at which number of the history each of its messages stands, and there both
 // receivers find it.
 #[test]
@@ -103,50 +64,58 @@ fn messages_stand_where_their_senders_were_told(rt: HostRuntime) -> Result<(), F
     run_row(rt, 4, Row::Share)
 }
 
-fn run_both<J, R, P>(
-    rt: R,
-    sender: TrackedSender<u64, P, J>,
-    receiver: TrackedReceiver<u64, P, J>,
-) -> Result<(), Fail>
+impl<J, P> Tracked<J, P>
 where
     J: Channel + Send + Sync + 'static,
-    R: Host + 'static,
-    P: HistoryPort<u64, J> + Send + 'static,
+    P: TimedHistoryPort<u64, J> + Send + 'static,
 {
-    let logs = start_receivers(rt, receiver)?;
-    let places = start_senders(rt, sender)?;
-    let (first, second) = (places.0.join(&rt)?, places.1.join(&rt)?);
-    let (log, same) = (logs.0.join(&rt)?, logs.1.join(&rt)?);
-    assert!(&rt; log == same && log.len() as u64 == 2 * SHARE);
-    expect_there(&rt, log.as_slice(), 0, first.as_slice());
-    expect_there(&rt, log.as_slice(), SHARE, second.as_slice());
-    Ok(())
-}
+    fn do_row(mut self, rt: impl Host + 'static, row: Row) -> Result<(), Fail>
+        requires { StartsAtTheFirst J.opening self.receiver.tracker }
+    {
+        match row {
+            Row::Run(number) => self.run_all(rt, number),
+            Row::Share => self.share(rt),
+            Row::Read(reading) => self.read(&rt, reading),
+        }
+    }
 
-/// Starts two threads that receive all messages.
-fn start_receivers<J, R, P>(rt: R, mut receiver: TrackedReceiver<u64, P, J>) -> Result<Pair, Fail>
-where
-    J: Channel + Send + Sync + 'static,
-    R: Host + 'static,
-    P: HistoryPort<u64, J> + Send + 'static,
-{
-    let other = receiver.clone()?;
-    let first = thread::spawn(&rt, move || receive_all(&rt, receiver))?;
-    let second = thread::spawn(&rt, move || receive_all(&rt, other))?;
-    Ok((first, second))
-}
+    /// Has two threads send and two receive, of which one each has random limits.
+    fn run_all(self, rt: impl Host + 'static, number: u64) -> Result<(), Fail> {
+        let Tracked {
+            mut sender,
+            mut receiver,
+        } = self;
+        sender.set_overflow(number % 2 == 1);
+        let (other, copy) = (sender.clone()?, receiver.clone()?);
+        run(rt, number, (other, sender), (copy, receiver))
+    }
 
-/// Starts two threads that send, the second one the messages from `SHARE` on.
-fn start_senders<J, R, P>(rt: R, mut sender: TrackedSender<u64, P, J>) -> Result<Pair, Fail>
-where
-    J: Channel + Send + Sync + 'static,
-    R: Host + 'static,
-    P: HistoryPort<u64, J> + Send + 'static,
-{
-    let other = sender.clone()?;
-    let first = thread::spawn(&rt, move || send_all(&rt, sender, 0))?;
-    let second = thread::spawn(&rt, move || send_all(&rt, other, SHARE))?;
-    Ok((first, second))
+    /// Has two threads send and two receive, and compares what these got.
+    fn share(self, rt: impl Host) -> Result<(), Fail> {
+        let Tracked {
+            mut sender,
+            mut receiver,
+        } = self;
+        let (other, copy) = (sender.clone()?, receiver.clone()?);
+        let ((first, second), (log, same)) = join(
+            &rt,
+            move || join(
+                &rt,
+                move || send_all(&rt, sender, 0),
+                move || send_all(&rt, other, SHARE),
+            ),
+            move || join(
+                &rt,
+                move || receive_all(&rt, receiver),
+                move || receive_all(&rt, copy),
+            ),
+        );
+        let log = log?;
+        assert!(&rt; log == same? && log.len() as u64 == 2 * SHARE);
+        expect_there(&rt, log.as_slice(), 0, first?.as_slice());
+        expect_there(&rt, log.as_slice(), SHARE, second?.as_slice());
+        Ok(())
+    }
 }
 
 /// Sends the messages from `first` on, and returns the number at which each stands.
@@ -182,12 +151,11 @@ fn receive_all<J: Channel, P: HistoryPort<u64, J>>(
 // The messages from `first` on stand at these places of the log.
 fn expect_there(rt: &impl Abort, log: &[u64], first: u64, places: &[u64]) {
     assert!(rt; places.len() as u64 == SHARE, "all were sent");
-    let mut msg = first;
-    for place in places {
+    for (index, place) in places.iter().enumerate() {
+        let msg = first.wrapping_add(index as u64);
         assert!(rt;
             log.get(*place as usize) == Some(&msg),
             "{msg} stands at {place}"
         );
-        msg = msg.wrapping_add(1);
     }
 }

@@ -3,8 +3,6 @@
 #![tactic(auto)]
 
 #[cfg(test)]
-mod answers;
-#[cfg(test)]
 mod batches;
 #[cfg(test)]
 mod counterparts;
@@ -20,8 +18,6 @@ mod passing_on;
 mod readings;
 #[cfg(test)]
 mod scripts;
-#[cfg(test)]
-mod sleepers;
 #[cfg(test)]
 mod steps;
 #[cfg(test)]

@@ -1,6 +1,6 @@
 //! Threads that are woken and wake the next one: by finding nothing to receive, or by a send.
-use crate::steps::{Group, Host, wait_for};
-use async_broadcast::{Lock, Port, PortFor, TimedPort};
+use crate::steps::{Group, Host, ThreadPort, wait_for};
+use async_broadcast::{Lock, Port, TimedPort};
 use bcast_core::{AddReceiver, Close, Inner, TryBroadcast, TryRecv, TryRecvError};
 use std::alloc::AllocError;
 use std::sync::Arc;
@@ -21,8 +21,8 @@ fn receive<P: TimedPort<u64>>(port: P, key: usize, limit: Option<Duration>, rece
 
 /// Starts threads that wait for the messages of these receivers, each when those before it sleep.
 /// `received` counts those that get one.
-pub fn start<R: Host + 'static, P: TimedPort<u64> + Send + 'static>(
-    rt: R,
+pub fn start<P: ThreadPort>(
+    rt: impl Host + 'static,
     port: &P,
     keys: &[usize],
     limit: Option<Duration>,
@@ -40,11 +40,7 @@ pub fn start<R: Host + 'static, P: TimedPort<u64> + Send + 'static>(
 
 /// Sends to three threads of two receivers, and closes the channel when two of them got the
 /// message.
-fn all_go_on<R, P>(rt: R, port: P, key: usize) -> Result<(), Fail>
-where
-    R: Host + 'static,
-    P: TimedPort<u64> + Send + 'static,
-{
+fn all_go_on<P: ThreadPort>(rt: impl Host + 'static, port: P, key: usize) -> Result<(), Fail> {
     let other = port.ask(&mut (), AddReceiver::New)?;
     let received = Arc::new(rt.alloc(), AtomicU64::new(0))?;
     let group = start(rt, &port, &[key, key, other], None, &received)?;
@@ -72,11 +68,11 @@ fn send<P: Port<u64>>(port: P) {
 
 /// Has a receiver wait that has read everything, and a sender for which the other receiver has to
 /// make room.
-fn goes_on_by_a_send<R, P>(rt: R, port: P, key: usize) -> Result<(), Fail>
-where
-    R: Host + 'static,
-    P: TimedPort<u64> + Send + 'static,
-{
+fn goes_on_by_a_send<P: ThreadPort>(
+    rt: impl Host + 'static,
+    port: P,
+    key: usize,
+) -> Result<(), Fail> {
     let late = port.ask(&mut (), AddReceiver::New)?;
     assert!(&rt; matches!(port.ask(&mut (), TryBroadcast(1)), Ok(None)));
     let first: Result<Result<u64, TryRecvError>, AllocError> = port.ask(&mut (), TryRecv(key));

@@ -1,5 +1,5 @@
 //! The threads of a test, and their steps, which it waits for.
-use async_broadcast::{Receiver, Sender};
+use async_broadcast::{Receiver, Sender, TimedPort};
 use std::alloc::{AllocGlobal, Global};
 use std::process::Abort;
 use std::random::RandomSource;
@@ -15,6 +15,11 @@ pub trait Host: Threads + Wait + Clock + Abort + RandomSource + AllocGlobal + Co
 
 impl<R: Threads + Wait + Clock + Abort + RandomSource + AllocGlobal + Copy + Send + Drop> Host
     for R {}
+
+/// A port that threads can be given.
+pub trait ThreadPort: TimedPort<u64> + Send + 'static {}
+
+impl<P: TimedPort<u64> + Send + 'static> ThreadPort for P {}
 
 /// The sender of a thread.
 pub type Sending<P> = Sender<u64, P, Global>;

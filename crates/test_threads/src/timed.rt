@@ -1,8 +1,4 @@
-//! Calls with a limit of time, and loops that block.
-mod clock;
+//! Calls with a limit of time.
 mod late;
 mod limits;
-mod loops;
-pub mod patience;
 pub mod runs;
-mod wakes;

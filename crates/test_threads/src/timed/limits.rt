@@ -1,16 +1,23 @@
 //! What the calls return when nobody else makes one: each answer, at once or when the time is over.
-use crate::answers::Answer;
-use crate::hands::{Change, Hands, Script, Step};
+use crate::hands::Hands;
+use crate::scripts::{Change, Script, Step};
 use crate::steps::{Ends, Host};
-use async_broadcast::{RecvTimeoutError, SendTimeoutError, TimedPort, broadcast};
-use std::alloc::Global;
+use async_broadcast::{RecvTimeoutError, SendTimeoutError, TimedPort, TryRecvError, broadcast};
 use std::error::Error;
-use std::process::Abort;
 use std::test::Fail;
 use std::time::{Duration, Instant};
 
 /// Limits, in milliseconds.
 const LIMITS: [u64; 2] = [0, 2];
+
+/// Whether the time of a call must be over.
+fn is_late(step: Step) -> bool {
+    matches!(
+        step,
+        Step::SendInTime(_, Err(SendTimeoutError::Timeout(_)))
+            | Step::ReceiveInTime(Err(RecvTimeoutError::Timeout))
+    )
+}
 
 /// Each call must return its answer, and only if the time is over may it take as long as the limit.
 fn play<P: TimedPort<u64>>(
@@ -21,12 +28,11 @@ fn play<P: TimedPort<u64>>(
 ) -> Result<(), Fail> {
     let mut hands = Hands::both(rt.alloc(), ends)?;
     hands.limit = limit;
-    for (index, (step, answer)) in script.iter().enumerate() {
+    for (index, step) in script.iter().enumerate() {
         let start = Instant::now(rt)?;
-        assert!(rt; hands.make(*step) == Some(*answer), "step {index}");
+        assert!(rt; hands.make(rt, *step) == Some(true), "step {index}");
         let waited = start.elapsed(rt)? >= limit;
-        let is_over = matches!(answer, Answer::TimedOut(_) | Answer::Empty);
-        assert!(rt; waited || !is_over, "it waits for the whole time");
+        assert!(rt; waited || !is_late(*step), "it waits for the whole time");
     }
     Ok(())
 }
@@ -41,20 +47,20 @@ fn play_all<R: Host>(rt: R, script: Script) -> Result<(), Fail> {
 }
 
 const SENDS: Script = &[
-    (Step::SendInTime(1), Answer::Done),
-    (Step::SendInTime(2), Answer::TimedOut(2)),
-    (Step::Keeps(1), Answer::Is(true)),
-    (Step::Change(Change::Overflow), Answer::Done),
-    (Step::SendInTime(3), Answer::Dropped(1)),
-    (Step::TryRecv(0), Answer::Missed(1)),
-    (Step::TryRecv(0), Answer::Message(3)),
-    (Step::Change(Change::Deactivate), Answer::Done),
-    (Step::SendInTime(4), Answer::TimedOut(4)),
-    (Step::Change(Change::NoAwaiting), Answer::Done),
-    (Step::SendInTime(5), Answer::Refused(5)),
-    (Step::Change(Change::DropInactive), Answer::Done),
-    (Step::SendInTime(6), Answer::Refused(6)),
-    (Step::Keeps(0), Answer::Is(true)),
+    Step::SendInTime(1, Ok(None)),
+    Step::SendInTime(2, Err(SendTimeoutError::Timeout(2))),
+    Step::Keeps(1),
+    Step::Change(Change::Overflow),
+    Step::SendInTime(3, Ok(Some(1))),
+    Step::TryRecv(0, Err(TryRecvError::Overflowed(1))),
+    Step::TryRecv(0, Ok(3)),
+    Step::Change(Change::Deactivate),
+    Step::SendInTime(4, Err(SendTimeoutError::Timeout(4))),
+    Step::Change(Change::NoAwaiting),
+    Step::SendInTime(5, Err(SendTimeoutError::Refused(5))),
+    Step::Change(Change::DropInactive),
+    Step::SendInTime(6, Err(SendTimeoutError::Refused(6))),
+    Step::Keeps(0),
 ];
 
 // What a send returns: accepted, with or without a message that it drops; no room; no receiver that
@@ -65,16 +71,16 @@ fn sends_return(rt: HostRuntime) -> Result<(), Fail> {
 }
 
 const RECEIVES: Script = &[
-    (Step::ReceiveInTime, Answer::Empty),
-    (Step::Change(Change::Overflow), Answer::Done),
-    (Step::TrySend(0, 1), Answer::Done),
-    (Step::TrySend(0, 2), Answer::Dropped(1)),
-    (Step::TrySend(0, 3), Answer::Dropped(2)),
-    (Step::ReceiveInTime, Answer::Missed(2)),
-    (Step::ReceiveInTime, Answer::Message(3)),
-    (Step::ReceiveInTime, Answer::Empty),
-    (Step::Change(Change::DropSenders), Answer::Done),
-    (Step::ReceiveInTime, Answer::Ended),
+    Step::ReceiveInTime(Err(RecvTimeoutError::Timeout)),
+    Step::Change(Change::Overflow),
+    Step::TrySend(0, 1, Ok(None)),
+    Step::TrySend(0, 2, Ok(Some(1))),
+    Step::TrySend(0, 3, Ok(Some(2))),
+    Step::ReceiveInTime(Err(RecvTimeoutError::Overflowed(2))),
+    Step::ReceiveInTime(Ok(3)),
+    Step::ReceiveInTime(Err(RecvTimeoutError::Timeout)),
+    Step::Change(Change::DropSenders),
+    Step::ReceiveInTime(Err(RecvTimeoutError::Closed)),
 ];
 
 // What a receive returns: nothing, a message, how many it missed, the end.
@@ -88,34 +94,39 @@ fn receives_return(rt: HostRuntime) -> Result<(), Fail> {
 struct Opaque;
 
 /// Fails the test unless `{}` and `{:?}` print the error so.
-fn expect_both<E: Error>(rt: &impl Abort, alloc: Global, error: &E, text: &str, debug: &str) {
-    let printed = format!(in alloc; "{error}|{error:?}");
-    let expected = format!(in alloc; "{text}|{debug}");
+fn expect_both<E: Error>(rt: &impl Host, error: &E, text: &str, debug: &str) {
+    let printed = format!(in rt.alloc(); "{error}|{error:?}");
+    let expected = format!(in rt.alloc(); "{text}|{debug}");
     assert!(rt; printed.is_ok() && printed.ok() == expected.ok(), "{text}");
 }
 
 // The errors print their texts, and hand the message back.
 #[test]
 fn errors_print(rt: HostRuntime) {
-    let closed = "receiving from an empty and closed channel";
-    for (error, text, debug) in [
-        (RecvTimeoutError::Timeout, "receiving timed out", "Timeout"),
-        (RecvTimeoutError::Closed, closed, "Closed"),
-        (
-            RecvTimeoutError::Overflowed(2),
-            "receiving skipped 2 messages",
-            "Overflowed(2)",
-        ),
-    ] {
-        expect_both(&rt, rt.alloc(), &error, text, debug);
-    }
-    let (late, refused) = (
-        SendTimeoutError::Timeout(Opaque),
-        SendTimeoutError::Refused(Opaque),
+    expect_both(
+        &rt,
+        &RecvTimeoutError::Timeout,
+        "receiving timed out",
+        "Timeout",
     );
-    expect_both(&rt, rt.alloc(), &late, "sending timed out", "Timeout(..)");
-    let text = "sending into a closed channel";
-    expect_both(&rt, rt.alloc(), &refused, text, "Refused(..)");
+    let closed = "receiving from an empty and closed channel";
+    expect_both(&rt, &RecvTimeoutError::Closed, closed, "Closed");
+    let skipped = "receiving skipped 2 messages";
+    expect_both(
+        &rt,
+        &RecvTimeoutError::Overflowed(2),
+        skipped,
+        "Overflowed(2)",
+    );
+    let late = SendTimeoutError::Timeout(Opaque);
+    expect_both(&rt, &late, "sending timed out", "Timeout(..)");
+    let refused = SendTimeoutError::Refused(Opaque);
+    expect_both(
+        &rt,
+        &refused,
+        "sending into a closed channel",
+        "Refused(..)",
+    );
     assert!(&rt; late.is_timeout() && !refused.is_timeout());
     assert!(&rt; RecvTimeoutError::Overflowed(1) != RecvTimeoutError::Overflowed(2));
     assert!(&rt; SendTimeoutError::Timeout(1) != SendTimeoutError::Timeout(2));
