@@ -11,7 +11,7 @@ use std::thread::Threads;
 const RECORDS: u64 = 200;
 
 /// What a consumer saw.
-#[derive(Clone, Copy)]
+#[derive(Clone, Copy, Default)]
 struct Seen {
     records: u64,
     missed: u64,
@@ -35,10 +35,7 @@ fn consume<T: Clone, P: Port<T>>(
     rt: &impl Wait,
     mut log: Receiver<T, P>,
 ) -> Result<Seen, AllocError> {
-    let mut seen = Seen {
-        records: 0,
-        missed: 0,
-    };
+    let mut seen = Seen::default();
     for received in log.iter(rt) {
         match received? {
             Ok(_) => seen.records = seen.records.saturating_add(1),
@@ -54,10 +51,7 @@ fn consume_batches<T: Clone, P: Port<T>>(
     rt: &(impl Wait + AllocGlobal),
     mut log: Receiver<T, P>,
 ) -> Result<Seen, AllocError> {
-    let mut seen = Seen {
-        records: 0,
-        missed: 0,
-    };
+    let mut seen = Seen::default();
     let mut records = Vec::new(rt.alloc());
     for _ in rt.forever() {
         match log.recv_many_blocking(usize::MAX, &mut records)? {
@@ -84,25 +78,28 @@ where
     R: Threads + Wait + AllocGlobal + Print + Copy + Send + Drop + 'static,
     P: Port<u64> + Send + 'static,
 {
+    write_header(&rt, &log)?;
     let two = one.clone()?;
     let other = log.clone()?;
-    let header = vec![in rt.alloc(); 1_000, 1_001, 1_002]?;
-    println!(rt; "header written whole: {}", begin(&log, header))?;
 
     let first = thread::spawn(&rt, move || produce(log, 0))?;
     let second = thread::spawn(&rt, move || produce(other, RECORDS))?;
     let reading = thread::spawn(&rt, move || consume_batches(&rt, one))?;
     let seen = consume(&rt, two)?;
-    println!(rt;
-        "one consumer: {} records, {} missed",
-        seen.records, seen.missed
-    )?;
-    let seen = reading.join(&rt)?;
-    println!(rt;
-        "the other: {} records, {} missed",
-        seen.records, seen.missed
-    )?;
     first.join(&rt);
     second.join(&rt);
+    let other_seen = reading.join(&rt)?;
+    report(&rt, "one consumer", seen)?;
+    report(&rt, "the other", other_seen)
+}
+
+fn write_header<P: Port<u64>>(rt: &(impl AllocGlobal + Print), log: &Sender<u64, P>) -> Result<()> {
+    let header = vec![in rt.alloc(); 1_000, 1_001, 1_002]?;
+    println!(rt; "header written whole: {}", begin(log, header))?;
+    Ok(())
+}
+
+fn report(rt: &impl Print, who: &str, seen: Seen) -> Result<()> {
+    println!(rt; "{who}: {} records, {} missed", seen.records, seen.missed)?;
     Ok(())
 }

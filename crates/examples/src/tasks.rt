@@ -14,11 +14,8 @@ use std::{io, thread};
 
 /// The numbers from 1 on, and then the end: the last sender is dropped.
 fn send_all<P: Port<u64>>(numbers: Sender<u64, P>, count: u64) {
-    for number in 0..count {
-        if numbers
-            .broadcast_blocking(number.saturating_add(1))
-            .is_err()
-        {
+    for number in 1..count.saturating_add(1) {
+        if numbers.broadcast_blocking(number).is_err() {
             break;
         }
     }
@@ -79,15 +76,13 @@ where
 {
     let numbers = one.clone()?;
     let sending = thread::spawn(&rt, move || send_all(sender, 5))?;
-    println!(&rt; "sum {}", sum(&rt, one)?)?;
-    let largest = block_on(
-        &rt,
-        Largest {
-            numbers,
-            largest: 0,
-        },
-    )?;
-    println!(&rt; "largest {largest}")?;
+    let sum = sum(&rt, one)?;
+    let task = Largest {
+        numbers,
+        largest: 0,
+    };
+    let largest = block_on(&rt, task)?;
     sending.join(&rt);
+    println!(&rt; "sum {sum}\nlargest {largest}")?;
     Ok(())
 }

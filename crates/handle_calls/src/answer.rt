@@ -133,27 +133,6 @@ impl Answer {
         }
     }
 
-    /// What the receive of a batch returned, with what it put behind `before` into a list.
-    pub fn of_batch<E: Into<Answer>>(
-        answer: Result<Result<usize, E>, AllocError>,
-        before: u64,
-        list: &[u64],
-    ) -> Self {
-        let mut msgs = [0; 4];
-        for (slot, msg) in msgs.iter_mut().zip(list.iter().skip(1)) {
-            *slot = *msg;
-        }
-        let (count, answer) = match answer {
-            Ok(Ok(count)) => (count, Answer::Messages(count, msgs)),
-            Ok(Err(error)) => (0, error.into()),
-            Err(_) => (0, Answer::NoMemory),
-        };
-        match list.split_first() {
-            Some((first, given)) if *first == before && given.len() == count => answer,
-            _ => Answer::Differs,
-        }
-    }
-
     /// Why a handle was not made.
     pub fn of_error(error: HandleError) -> Self {
         match error {

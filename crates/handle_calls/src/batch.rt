@@ -5,7 +5,7 @@ use crate::line::Request;
 use async_broadcast::{Receiver, TimedPort};
 use futures::task::Poll;
 use futures::test::MockTask;
-use std::alloc::Allocator;
+use std::alloc::{AllocError, Allocator};
 use std::time::Duration;
 
 /// The message that a list has before a batch is put into it.
@@ -23,7 +23,7 @@ impl<P: TimedPort<u64>, A: Allocator + Copy> Handles<P, A> {
     }
 }
 
-// Takes a batch by this method, and puts it last into the list.
+/// Takes a batch by this method, and puts it last into the list.
 fn batch_of<P: TimedPort<u64>, A: Allocator + Copy>(
     receiver: &mut Receiver<u64, P, A>,
     task: &MockTask,
@@ -31,27 +31,38 @@ fn batch_of<P: TimedPort<u64>, A: Allocator + Copy>(
     limit: usize,
     list: &mut Vec<u64>,
 ) -> Option<Answer> {
-    match method {
-        "try_recv_many" => {
-            let given = receiver.try_recv_many(limit, list);
-            Some(Answer::of_batch(given, BEFORE, list.as_slice()))
-        }
-        "recv_many_blocking" => {
-            let given = receiver.recv_many_blocking(limit, list);
-            Some(Answer::of_batch(given, BEFORE, list.as_slice()))
-        }
+    Some(match method {
+        "try_recv_many" => answer_of(receiver.try_recv_many(limit, list), list),
+        "recv_many_blocking" => answer_of(receiver.recv_many_blocking(limit, list), list),
         "recv_many_timeout" => {
-            let given = receiver.recv_many_timeout(limit, list, Duration::ZERO);
-            Some(Answer::of_batch(given, BEFORE, list.as_slice()))
+            answer_of(
+                receiver.recv_many_timeout(limit, list, Duration::ZERO),
+                list,
+            )
         }
         "poll_recv_many" => match task.enter(|cx| receiver.poll_recv_many(cx, limit, list)) {
-            Ok(Poll::Ready(Some(given))) => {
-                Some(Answer::of_batch(Ok(given), BEFORE, list.as_slice()))
-            }
-            Ok(Poll::Ready(None)) => Some(Answer::Ended),
-            Ok(Poll::Pending) => Some(Answer::Pending),
-            Err(_) => Some(Answer::NoMemory),
+            Ok(Poll::Ready(Some(given))) => answer_of(Ok(given), list),
+            Ok(Poll::Ready(None)) => Answer::Ended,
+            Ok(Poll::Pending) => Answer::Pending,
+            Err(_) => Answer::NoMemory,
         },
-        _ => None,
+        _ => return None,
+    })
+}
+
+/// What the receive of a batch returned, with what it put behind `BEFORE` into the list.
+fn answer_of<E: Into<Answer>>(given: Result<Result<usize, E>, AllocError>, list: &[u64]) -> Answer {
+    let mut msgs = [0; 4];
+    for (slot, msg) in msgs.iter_mut().zip(list.iter().skip(1)) {
+        *slot = *msg;
+    }
+    let (count, answer) = match given {
+        Ok(Ok(count)) => (count, Answer::Messages(count, msgs)),
+        Ok(Err(error)) => (0, error.into()),
+        Err(_) => (0, Answer::NoMemory),
+    };
+    match list.split_first() {
+        Some((&BEFORE, rest)) if rest.len() == count => answer,
+        _ => Answer::Differs,
     }
 }

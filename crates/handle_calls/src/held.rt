@@ -1,4 +1,4 @@
-//! Futures that are held between lines: sends, and one receive.
+//! Futures that are held between lines: sends, and receives.
 use crate::answer::Answer;
 use crate::handles::{add, drop_at};
 use crate::line::Request;
@@ -8,11 +8,12 @@ use futures::task::Poll;
 use futures::test::MockTask;
 use std::alloc::{AllocError, Allocator, Global};
 
-/// The handles that only make futures.
+/// The handles that only make futures: sends, or one receive each.
 #[derive(Drop)]
 pub struct Makers<P: TimedPort<u64>, A: Allocator> {
     pub sender: Option<Sender<u64, P, A>>,
     pub receiver: Option<Receiver<u64, P, A>>,
+    pub second: Option<Receiver<u64, P, A>>,
 }
 
 #[derive(Drop)]
@@ -27,16 +28,16 @@ enum HeldRecv<'a, P: TimedPort<u64>, A: Allocator> {
     Boxed(Box<Recv<'a, u64, P, A>, A>),
 }
 
-/// The futures of one channel. Sends are numbered in the order of making. The number of a future
-/// that was dropped is not given again.
+/// The futures of one channel. Sends, and receives, are numbered in the order of making. The number
+/// of a future that was dropped is not given again.
 #[derive(Drop)]
 pub struct Held<'a, P: TimedPort<u64>, A: Allocator> {
     sender: Option<&'a Sender<u64, P, A>>,
-    // Borrowed by the receive, once.
+    // Each is borrowed by its receive, once.
     receiver: Option<&'a mut Receiver<u64, P, A>>,
+    second: Option<&'a mut Receiver<u64, P, A>>,
     sends: Vec<Option<HeldSend<'a, P, A>>>,
-    // At most one.
-    recvs: Vec<HeldRecv<'a, P, A>>,
+    recvs: Vec<Option<HeldRecv<'a, P, A>>>,
 }
 
 /// What the poll of a send returned.
@@ -68,84 +69,73 @@ impl<'a, P: TimedPort<u64>, A: Allocator + Copy> Held<'a, P, A> {
         Held {
             sender: makers.sender.as_ref(),
             receiver: makers.receiver.as_mut(),
+            second: makers.second.as_mut(),
             sends: Vec::new(alloc),
             recvs: Vec::new(alloc),
         }
     }
 
-    /// Begins, polls or drops a send or the receive.
+    /// Begins, polls or drops a send or a receive.
     pub fn ask(&mut self, tasks: &[MockTask], request: Request<'_>) -> Result<Answer, Fault> {
         match (request.subject, request.method, request.argument) {
             ("send", "begin", Some(msg)) => self.begin_send(msg),
             ("send", "begin_boxed", Some(msg)) => self.begin_boxed_send(msg),
             ("send", "drop", None) => drop_at(&mut self.sends, request.index),
-            ("send", "poll", Some(number)) => {
+            ("recv", "begin", None) => self.begin_recv(),
+            ("recv", "begin_boxed", None) => self.begin_boxed_recv(),
+            ("recv", "drop", None) => drop_at(&mut self.recvs, request.index),
+            (subject, "poll", Some(number)) => {
                 let task = tasks.get(number as usize).ok_or(Fault::NotACall)?;
-                self.poll_send(request.index, task).ok_or(Fault::NotACall)
-            }
-            ("recv", "begin", None) => self.begin_recv().ok_or(Fault::NotACall),
-            ("recv", "begin_boxed", None) => self.begin_boxed_recv().ok_or(Fault::NotACall),
-            ("recv", "drop", None) => self.drop_recv().ok_or(Fault::NotACall),
-            ("recv", "poll", Some(number)) => {
-                let task = tasks.get(number as usize).ok_or(Fault::NotACall)?;
-                self.poll_recv(task).ok_or(Fault::NotACall)
+                self.poll(subject, request.index, task)
+                    .ok_or(Fault::NotACall)
             }
             _ => Err(Fault::NotACall),
         }
     }
 
     fn begin_send(&mut self, msg: u64) -> Result<Answer, Fault> {
-        let sender = self.sender.ok_or(Fault::NotACall)?;
-        match sender.broadcast_direct(msg) {
+        match self.sender.ok_or(Fault::NotACall)?.broadcast_direct(msg) {
             Ok(send) => add(Ok(HeldSend::Plain(send)), &mut self.sends),
             Err(NoMemory(back)) => Ok(Answer::Unsent(back)),
         }
     }
 
     fn begin_boxed_send(&mut self, msg: u64) -> Result<Answer, Fault> {
-        let sender = self.sender.ok_or(Fault::NotACall)?;
-        match sender.broadcast(msg) {
+        match self.sender.ok_or(Fault::NotACall)?.broadcast(msg) {
             Ok(send) => add(Ok(HeldSend::Boxed(send)), &mut self.sends),
             Err(NoMemory(back)) => Ok(Answer::Unsent(back)),
         }
     }
 
-    /// Polls the send of this number.
-    fn poll_send(&mut self, index: usize, task: &MockTask) -> Option<Answer> {
-        match self.sends.get_mut(index) {
-            Some(Some(HeldSend::Plain(send))) => Some(of_send_poll(task.poll(send))),
-            Some(Some(HeldSend::Boxed(send))) => Some(of_send_poll(task.poll(&mut **send))),
-            _ => None,
+    /// The next receiver that has made no receive.
+    fn maker(&mut self) -> Result<&'a mut Receiver<u64, P, A>, Fault> {
+        let first = self.receiver.take();
+        first.or_else(|| self.second.take()).ok_or(Fault::NotACall)
+    }
+
+    fn begin_recv(&mut self) -> Result<Answer, Fault> {
+        let recv = self.maker()?.recv_direct();
+        add(Ok(HeldRecv::Plain(recv)), &mut self.recvs)
+    }
+
+    fn begin_boxed_recv(&mut self) -> Result<Answer, Fault> {
+        match self.maker()?.recv() {
+            Ok(recv) => add(Ok(HeldRecv::Boxed(recv)), &mut self.recvs),
+            Err(_) => Ok(Answer::NoMemory),
         }
     }
 
-    fn begin_recv(&mut self) -> Option<Answer> {
-        let receiver = self.receiver.take()?;
-        let recv = HeldRecv::Plain(receiver.recv_direct());
-        self.recvs.push(recv).ok()?;
-        Some(Answer::Made(0))
-    }
-
-    fn begin_boxed_recv(&mut self) -> Option<Answer> {
-        let receiver = self.receiver.take()?;
-        match receiver.recv() {
-            Ok(recv) => {
-                self.recvs.push(HeldRecv::Boxed(recv)).ok()?;
-                Some(Answer::Made(0))
-            }
-            Err(_) => Some(Answer::NoMemory),
+    /// Polls the send or the receive of this number.
+    fn poll(&mut self, subject: &str, index: usize, task: &MockTask) -> Option<Answer> {
+        if subject == "send" {
+            return Some(of_send_poll(match self.sends.get_mut(index)?.as_mut()? {
+                HeldSend::Plain(send) => task.poll(send),
+                HeldSend::Boxed(send) => task.poll(&mut **send),
+            }));
         }
-    }
-
-    fn drop_recv(&mut self) -> Option<Answer> {
-        self.recvs.pop()?;
-        Some(Answer::Done)
-    }
-
-    fn poll_recv(&mut self, task: &MockTask) -> Option<Answer> {
-        match self.recvs.last_mut()? {
-            HeldRecv::Plain(recv) => Some(of_recv_poll(task.poll(recv))),
-            HeldRecv::Boxed(recv) => Some(of_recv_poll(task.poll(&mut **recv))),
-        }
+        Some(of_recv_poll(match self.recvs.get_mut(index)?.as_mut()? {
+            HeldRecv::Plain(recv) => task.poll(recv),
+            HeldRecv::Boxed(recv) => task.poll(&mut **recv),
+        }))
     }
 }

@@ -1,6 +1,4 @@
 //! What a line of a script says.
-ghost use Rattle.std.specs.Prelude.{◌<◌};
-
 use bcast_text::number::{number, positive};
 
 /// The call that a line asks for.
@@ -21,20 +19,14 @@ pub enum Futures {
     Nothing,
     Sends,
     Receive,
-}
-
-/// How many messages a channel keeps at most.
-#[derive(Clone, Copy)]
-pub struct Capacity {
-    pub count: usize,
-    ghost positive: { 0 < count },
+    TwoReceives,
 }
 
 /// The handles that the next lines of a script use.
 #[derive(Clone, Copy)]
 pub enum Opening {
-    /// Those of a channel.
-    Channel(Capacity, Futures),
+    /// Those of a channel that keeps at most so many messages.
+    Channel(usize, Futures),
     /// Handles over recording ports.
     Recorded,
     /// Handles over recording ports, whose memory is refused.
@@ -43,20 +35,17 @@ pub enum Opening {
 
 /// The opening that `text` is.
 pub fn read_opening(text: &str) -> Option<Opening> {
-    match text {
+    let (word, capacity) = text.split_once(' ').unwrap_or((text, ""));
+    let futures = match word {
         "records" => return Some(Opening::Recorded),
         "no_memory" => return Some(Opening::WithoutMemory),
-        _ => {}
-    }
-    let (word, capacity) = text.split_once(' ')?;
-    let futures = match word {
         "open" => Futures::Nothing,
         "sends" => Futures::Sends,
         "receives" => Futures::Receive,
+        "two_receives" => Futures::TwoReceives,
         _ => return None,
     };
-    let count = positive(capacity)? as usize;
-    Some(Opening::Channel(Capacity { count }, futures))
+    Some(Opening::Channel(positive(capacity)? as usize, futures))
 }
 
 /// The request that `text` is: `SUBJECT INDEX METHOD [ARGUMENT]`, or `sender INDEX

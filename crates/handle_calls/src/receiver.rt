@@ -3,15 +3,15 @@ use crate::answer::Answer;
 use crate::handles::{Handles, add, drop_at};
 use crate::held::of_recv_poll;
 use crate::line::Request;
+use crate::seen::Shows;
 use crate::settings::by_handle;
-use async_broadcast::TimedPort;
 use bcast_text::input::Fault;
 use futures::StreamExt;
 use futures::task::Poll;
 use std::alloc::Allocator;
 use std::time::Duration;
 
-impl<P: TimedPort<u64>, A: Allocator + Copy> Handles<P, A> {
+impl<P: Shows<A>, A: Allocator + Copy> Handles<P, A> {
     /// Makes a call on a receiver: one of its own, or one that every handle has.
     pub fn by_receiver(&mut self, request: Request<'_>) -> Result<Answer, Fault> {
         let Some(Some(receiver)) = self.receivers.get_mut(request.index) else {
@@ -29,6 +29,9 @@ impl<P: TimedPort<u64>, A: Allocator + Copy> Handles<P, A> {
                 let received = receiver.recv_timeout(Duration::from_nanos(nanoseconds));
                 Ok(Answer::of_recv(received))
             }
+            ("unread", None) => P::unread(receiver)
+                .map(Answer::Count)
+                .ok_or(Fault::NotACall),
             ("is_terminated", None) => Ok(Answer::Is(receiver.is_terminated())),
             _ => by_handle(receiver, request).ok_or(Fault::NotACall),
         }

@@ -2,13 +2,13 @@
 ghost use Rattle.bcast_core.specs.Kinds.{IsOfKind};
 
 use async_broadcast::{
-    Ask, Call, PortFor, RecvError, RecvTimeoutError, Reply, SendError, SendTimeoutError, TaskWaker,
-    TimedPortFor, Wake,
+    Ask, Call, PortFor, RecvError, RecvTimeoutError, Reply, SendError, SendPoll, SendTimeoutError,
+    TaskWaker, TimedPortFor, TryRecvError, Wake,
 };
 use bcast_core::{AtOnce, Notice, Polls, RepliesTo};
 use futures::task::Context;
-use replies::{Outcome, answered, reply_to, waited};
-use std::alloc::{AllocError, Allocator, Global};
+use replies::{Outcome, answered, polled, received, reply_to, waited};
+use std::alloc::{AllocError, Global};
 use std::cell::Cell;
 use std::io;
 use std::io::Write;
@@ -27,47 +27,43 @@ enum Record {
     Times(u64, Call<u64>),
 }
 
+/// What recording ports share.
 #[derive(Drop)]
 struct State {
     record: Cell<Record>,
     outcome: Cell<Outcome>,
+    // Whether there is memory for another port, and for a poll.
     has_others: Cell<bool>,
+    has_memory: Cell<bool>,
 }
 
-/// What recording ports share.
+/// A port that records each call, and replies to it by itself.
 #[derive(Drop)]
-pub struct Recorder {
+pub struct RecordingPort {
     state: Rc<State>,
 }
 
-/// A port that records each call, and replies to it by itself. It takes memory from `alloc` for
-/// each poll.
-#[derive(Drop)]
-pub struct RecordingPort<A: Allocator> {
-    state: Rc<State>,
-    alloc: A,
-}
-
-impl Recorder {
-    /// Nothing is recorded yet. Ports grant what they are asked.
-    pub fn new(alloc: Global) -> Result<Self, AllocError> {
+impl RecordingPort {
+    /// Nothing is recorded yet. The port and those made of it grant what they are asked.
+    pub fn new(alloc: Global, has_memory: bool) -> Result<Self, AllocError> {
         let state = State {
             record: Cell::new(Record::Nothing),
             outcome: Cell::new(Outcome::Grant),
             has_others: Cell::new(true),
+            has_memory: Cell::new(has_memory),
         };
         let state = Rc::new(alloc, state)?;
-        Ok(Recorder { state })
+        Ok(RecordingPort { state })
     }
 
-    /// A port whose calls are recorded here.
-    pub fn port<A: Allocator>(&self, alloc: A) -> Result<RecordingPort<A>, AllocError> {
+    /// A port whose calls are recorded together with those of this one.
+    pub fn other(&self) -> Result<Self, AllocError> {
         let state = self.state.clone()?;
-        Ok(RecordingPort { state, alloc })
+        Ok(RecordingPort { state })
     }
 
-    /// Sets how the ports reply from now on, or that there is no memory for another port. False:
-    /// this is not such a word.
+    /// Sets how the ports reply from now on, or what there is memory for. False: this is not such a
+    /// word.
     pub fn set(&self, word: &str) -> bool {
         match word {
             "grants" => self.state.outcome.set(Outcome::Grant),
@@ -77,6 +73,7 @@ impl Recorder {
             "closes" => self.state.outcome.set(Outcome::Close),
             "is_inactive" => self.state.outcome.set(Outcome::Inactive),
             "has_no_other" => self.state.has_others.set(false),
+            "has_memory" => self.state.has_memory.set(true),
             _ => return false,
         }
         true
@@ -105,7 +102,7 @@ impl State {
     }
 }
 
-impl<A: Allocator> RepliesTo<u64> for RecordingPort<A> {
+impl RepliesTo<u64> for RecordingPort {
     ghost gave = { λ _ call reply. IsOfKind call reply };
 
     fn reply_to(&self, call: Call<u64>) -> Reply<u64>
@@ -117,7 +114,7 @@ impl<A: Allocator> RepliesTo<u64> for RecordingPort<A> {
     }
 }
 
-impl<A: Allocator + Copy> Ask<u64, ()> for RecordingPort<A> {
+impl Ask<u64, ()> for RecordingPort {
     ghost use Rattle.std.specs.Prelude.{⊤};
     ghost use Rattle.bcast_core.specs.Kinds.{IsOfKind};
 
@@ -139,10 +136,10 @@ impl<A: Allocator + Copy> Ask<u64, ()> for RecordingPort<A> {
         task: &mut TaskWaker,
         cx: &mut Context<'_>,
     ) -> Result<C::Answer, C> {
-        let Ok(_slot) = Box::new(self.alloc, 0u64) else {
+        if !self.state.has_memory.get() {
             task.refuse(cx);
             return Err(call);
-        };
+        }
         let mut wake = Wake::none();
         if !task.register(&mut wake, cx) {
             return Err(call);
@@ -155,7 +152,7 @@ impl<A: Allocator + Copy> Ask<u64, ()> for RecordingPort<A> {
     }
 }
 
-impl<A: Allocator + Copy> PortFor<u64, ()> for RecordingPort<A> {
+impl PortFor<u64, ()> for RecordingPort {
     ghost use Rattle.std.specs.Prelude.{⊤};
 
     fn send_waiting(&self, _caller: &mut (), msg: u64) -> Result<Option<u64>, SendError<u64>> {
@@ -175,47 +172,41 @@ impl<A: Allocator + Copy> PortFor<u64, ()> for RecordingPort<A> {
     ghost lacks_memory = { λ _. ⊤ };
 
     fn try_clone(&self) -> Option<Self> {
-        if !self.state.has_others.get() {
-            return None;
+        match self.state.has_others.get() {
+            true => self.other().ok(),
+            false => None,
         }
-        let state = self.state.clone().ok()?;
-        let alloc = self.alloc;
-        Some(RecordingPort { state, alloc })
     }
 }
 
 // A wait that the port replies is one whose time is over.
-impl<A: Allocator + Copy> TimedPortFor<u64, ()> for RecordingPort<A> {
+impl TimedPortFor<u64, ()> for RecordingPort {
     fn send_within(
         &self,
-        caller: &mut (),
+        _caller: &mut (),
         msg: u64,
         _limit: Duration,
     ) -> Result<Option<u64>, SendTimeoutError<u64>> {
-        if self.state.outcome.get() == Outcome::Wait {
-            self.state.record(&Call::AttemptSend(msg));
-            return Err(SendTimeoutError::Timeout(msg));
-        }
-        match self.send_waiting(caller, msg) {
-            Ok(oldest) => Ok(oldest),
-            Err(SendError(back)) => Err(SendTimeoutError::Refused(back)),
+        self.state.record(&Call::AttemptSend(msg));
+        match polled(self.state.outcome.get(), msg) {
+            SendPoll::Ready(Ok(oldest)) => Ok(oldest),
+            SendPoll::Ready(Err(SendError(back))) => Err(SendTimeoutError::Refused(back)),
+            SendPoll::Wait(back) => Err(SendTimeoutError::Timeout(back)),
         }
     }
 
     fn receive_within(
         &self,
-        caller: &mut (),
+        _caller: &mut (),
         key: usize,
         _limit: Duration,
     ) -> Result<Result<u64, RecvTimeoutError>, AllocError> {
-        if self.state.outcome.get() == Outcome::Wait {
-            self.state.record(&Call::TryRecv(key));
-            return Ok(Err(RecvTimeoutError::Timeout));
-        }
-        match self.receive_waiting(caller, key)? {
+        self.state.record(&Call::TryRecv(key));
+        match received(self.state.outcome.get())? {
             Ok(msg) => Ok(Ok(msg)),
-            Err(RecvError::Overflowed(n)) => Ok(Err(RecvTimeoutError::Overflowed(n))),
-            Err(RecvError::Closed) => Ok(Err(RecvTimeoutError::Closed)),
+            Err(TryRecvError::Overflowed(n)) => Ok(Err(RecvTimeoutError::Overflowed(n))),
+            Err(TryRecvError::Closed) => Ok(Err(RecvTimeoutError::Closed)),
+            Err(TryRecvError::Empty) => Ok(Err(RecvTimeoutError::Timeout)),
         }
     }
 }

@@ -2,9 +2,10 @@
 use crate::handles::{Handles, add};
 use crate::held::{Held, Makers};
 use crate::line::{Futures, Opening, read_opening, read_request};
-use crate::recording::Recorder;
+use crate::recording::RecordingPort;
+use crate::seen::Shows;
 use crate::session::tasks_of;
-use async_broadcast::{InactiveReceiver, Receiver, Sender, TimedPort, broadcast};
+use async_broadcast::{InactiveReceiver, Receiver, Sender, broadcast};
 use bcast_text::ending::Ending;
 use bcast_text::input::Fault;
 use futures::test::MockTask;
@@ -33,8 +34,8 @@ impl<'a> Script<'a> {
 }
 
 /// Plays lines up to the next opening. None: up to the end.
-fn play_lines<P: TimedPort<u64>, A: Allocator + Copy, W: Write>(
-    recorder: Option<&Recorder>,
+fn play_lines<P: Shows<A>, A: Allocator + Copy, W: Write>(
+    recorder: Option<&RecordingPort>,
     handles: &mut Handles<P, A>,
     held: &mut Held<'_, P, A>,
     script: &mut Script<'_>,
@@ -51,8 +52,12 @@ fn play_lines<P: TimedPort<u64>, A: Allocator + Copy, W: Write>(
         }
         if !text.starts_with('#') {
             let request = read_request(text).ok_or(Fault::NotACall)?;
-            let answer = handles.answer(recorder, held, request)?;
-            write!(output, " -> {answer:?}")?;
+            if request.method == "snapshot" {
+                handles.show(request, output)?;
+            } else {
+                let answer = handles.answer(recorder, held, request)?;
+                write!(output, " -> {answer:?}")?;
+            }
             if let Some(recorder) = recorder {
                 recorder.write_record(output)?;
             }
@@ -63,7 +68,7 @@ fn play_lines<P: TimedPort<u64>, A: Allocator + Copy, W: Write>(
 }
 
 /// Plays the lines of the sender and the receiver of a channel.
-fn play_handles<P: TimedPort<u64>, W: Write>(
+fn play_handles<P: Shows<Global>, W: Write>(
     alloc: Global,
     tasks: Vec<MockTask>,
     futures: Futures,
@@ -75,11 +80,16 @@ fn play_handles<P: TimedPort<u64>, W: Write>(
     let mut makers = Makers {
         sender: None,
         receiver: None,
+        second: None,
     };
     match futures {
         Futures::Nothing => {}
         Futures::Sends => makers.sender = sender.clone().ok(),
         Futures::Receive => makers.receiver = receiver.clone().ok(),
+        Futures::TwoReceives => {
+            makers.receiver = receiver.clone().ok();
+            makers.second = receiver.clone().ok();
+        }
     }
     let mut handles = Handles::new(alloc, tasks);
     add(Ok(sender), &mut handles.senders)?;
@@ -90,26 +100,27 @@ fn play_handles<P: TimedPort<u64>, W: Write>(
 
 /// Plays the lines of handles over recording ports. The handles take their memory from `memory`.
 fn play_recorded<A: Allocator + Copy, W: Write>(
+    recorder: &RecordingPort,
     alloc: Global,
     memory: A,
     tasks: Vec<MockTask>,
     script: &mut Script<'_>,
     output: &mut W,
 ) -> Result<Option<Opening>, Fault> {
-    let recorder = Recorder::new(alloc)?;
     let mut makers = Makers {
-        sender: Some(Sender::from_port(recorder.port(memory)?, memory)),
-        receiver: Some(Receiver::from_port(recorder.port(memory)?, 4, memory)),
+        sender: Some(Sender::from_port(recorder.other()?, memory)),
+        receiver: Some(Receiver::from_port(recorder.other()?, 4, memory)),
+        second: None,
     };
     let mut handles = Handles::new(alloc, tasks);
-    let sender = Sender::from_port(recorder.port(memory)?, memory);
+    let sender = Sender::from_port(recorder.other()?, memory);
     add(Ok(sender), &mut handles.senders)?;
-    let receiver = Receiver::from_port(recorder.port(memory)?, 3, memory);
+    let receiver = Receiver::from_port(recorder.other()?, 3, memory);
     add(Ok(receiver), &mut handles.receivers)?;
-    let inactive = InactiveReceiver::from_port(recorder.port(memory)?, memory);
+    let inactive = InactiveReceiver::from_port(recorder.other()?, memory);
     add(Ok(inactive), &mut handles.inactive)?;
     let mut held = Held::new(alloc, &mut makers);
-    play_lines(Some(&recorder), &mut handles, &mut held, script, output)
+    play_lines(Some(recorder), &mut handles, &mut held, script, output)
 }
 
 /// Plays the lines up to the next opening.
@@ -123,51 +134,35 @@ fn play_opening<S: Wait + Clock + RandomSource + AllocGlobal, W: Write>(
     let tasks = tasks_of(rt, alloc)?;
     match opening {
         Opening::Channel(capacity, futures) => {
-            let (sender, receiver) = broadcast(rt, alloc, capacity.count)?;
+            let (sender, receiver) = broadcast(rt, alloc, capacity.max(1))?;
             play_handles(alloc, tasks, futures, sender, receiver, script, output)
         }
-        Opening::Recorded => play_recorded(alloc, alloc, tasks, script, output),
+        Opening::Recorded => {
+            let recorder = RecordingPort::new(alloc, true)?;
+            play_recorded(&recorder, alloc, alloc, tasks, script, output)
+        }
         Opening::WithoutMemory => {
+            let recorder = RecordingPort::new(alloc, false)?;
             let heap = LocalHeap::new(alloc, 16)?;
             let _all = Vec::<u8, &LocalHeap>::with_capacity(&heap, heap.free())?;
-            play_recorded(alloc, &heap, tasks, script, output)
+            play_recorded(&recorder, alloc, &heap, tasks, script, output)
         }
     }
 }
 
-/// The first opening, after comments. None: there is none.
-fn first_opening<W: Write>(
-    script: &mut Script<'_>,
-    output: &mut W,
-) -> Result<Option<Opening>, Fault> {
-    for _ in 0..u64::MAX {
-        let Some(text) = script.next() else {
-            return Ok(None);
-        };
-        writeln!(output, "{text}")?;
-        if let Some(opening) = read_opening(text) {
-            return Ok(Some(opening));
-        }
-        if !text.starts_with('#') {
-            return Err(Fault::NotACall);
-        }
-    }
-    Ok(None)
-}
-
-/// Plays all lines.
+/// Plays all lines, as after `records` at first.
 fn play_script<S: Wait + Clock + RandomSource + AllocGlobal, W: Write>(
     rt: &S,
     alloc: Global,
     script: &mut Script<'_>,
     output: &mut W,
 ) -> Result<(), Fault> {
-    let mut next = first_opening(script, output)?;
+    let mut next = Some(Opening::Recorded);
     for _ in 0..u64::MAX {
-        let Some(opening) = next else {
-            return Ok(());
-        };
-        next = play_opening(rt, alloc, opening, script, output)?;
+        match next {
+            Some(opening) => next = play_opening(rt, alloc, opening, script, output)?,
+            None => break,
+        }
     }
     Ok(())
 }

@@ -3,18 +3,18 @@ use crate::answer::Answer;
 use crate::handles::Handles;
 use crate::held::Held;
 use crate::line::Request;
-use crate::recording::Recorder;
-use async_broadcast::TimedPort;
+use crate::recording::RecordingPort;
+use crate::seen::Shows;
 use bcast_text::input::Fault;
 use futures::test::MockTask;
 use std::alloc::{AllocGlobal, Allocator, Global};
 use std::random::RandomSource;
 
-impl<P: TimedPort<u64>, A: Allocator + Copy> Handles<P, A> {
+impl<P: Shows<A>, A: Allocator + Copy> Handles<P, A> {
     /// Makes the call that a line asks for. Recording ports have a recorder.
     pub fn answer(
         &mut self,
-        recorder: Option<&Recorder>,
+        recorder: Option<&RecordingPort>,
         held: &mut Held<'_, P, A>,
         request: Request<'_>,
     ) -> Result<Answer, Fault> {

@@ -1,15 +1,11 @@
 //! Handles of a channel whose heap is full: what is refused is handed back, and nothing is lost.
 use crate::channels::{Host, TestResult};
-use async_broadcast::{Lock, NoMemory, Port, PortFor, Receiver, Send, Sender, Snapshot, broadcast};
-use bcast_core::Inner;
+use async_broadcast::{NoMemory, Port, Receiver, Sender, Snapshot, broadcast};
 use futures::StreamExt;
 use futures::task::Poll;
 use futures::test::MockTask;
 use linked_list_allocator::LocalHeap;
-use slots::SlotPort;
 use std::alloc::{AllocError, Allocator, Global};
-
-pub mod slots;
 
 /// The size of a channel's heap in bytes.
 const HEAP: usize = 4096;
@@ -129,50 +125,4 @@ fn hands_back_without_a_box<A: Allocator + Copy, P: Port<u64>>(
 fn expect_places(rt: &impl Host, seen: &Snapshot<u64, &LocalHeap>, places: &[usize]) {
     assert!(rt; seen.places.as_slice() == places);
     assert!(rt; seen.waiting_sends.ids.is_empty());
-}
-
-// A send for whose notice there is no memory hands its message back and is pending from then on,
-// and its drop frees its place.
-#[test]
-fn a_send_without_a_notice_keeps_its_place(rt: HostRuntime) -> TestResult {
-    let heap = LocalHeap::new(rt.alloc(), HEAP)?;
-    let (inner, key) = Inner::new(&heap, 1)?;
-    let lock = Lock::new(&rt, &heap, inner)?;
-    let port = lock.try_clone().ok_or("no memory")?;
-    let alloc = &heap;
-    let sender = Sender::from_port(SlotPort { port, alloc }, alloc);
-    let mut receiver = Receiver::from_port(lock, key, &heap);
-    assert!(rt; sender.try_broadcast(1).is_ok());
-    let mut send = sender.broadcast_direct(7)?;
-    hands_back_without_a_notice(&rt, &heap, &mut send)?;
-    assert!(rt; matches!(receiver.try_recv(), Ok(Ok(1))));
-    assert!(rt; is_pending(&rt, &mut send)?, "with memory and room");
-    expect_places(&rt, &receiver.snapshot()?, &[0]);
-    drop(send);
-    expect_places(&rt, &receiver.snapshot()?, &[]);
-    assert!(rt; receiver.is_empty());
-    Ok(())
-}
-
-fn hands_back_without_a_notice<A: Allocator + Copy, P: Port<u64>>(
-    rt: &impl Host,
-    heap: &LocalHeap,
-    send: &mut Send<'_, u64, P, A>,
-) -> TestResult {
-    let task = MockTask::new(rt)?;
-    let _taken = fill(rt.alloc(), heap)?;
-    assert!(rt;
-        matches!(task.poll(send), Poll::Ready(Err(NoMemory(7)))),
-        "no notice"
-    );
-    assert!(rt; matches!(task.poll(send), Poll::Pending), "no more notice");
-    Ok(())
-}
-
-fn is_pending<A: Allocator + Copy, P: Port<u64>>(
-    rt: &impl Host,
-    send: &mut Send<'_, u64, P, A>,
-) -> TestResult<bool> {
-    let task = MockTask::new(rt)?;
-    Ok(matches!(task.poll(send), Poll::Pending))
 }

@@ -1,13 +1,9 @@
 //! Tasks that all wait for one channel: how many polls follow after a call tells some of them.
 use crate::channels::{Host, TestResult};
-use crate::snapshots::Sees;
-use async_broadcast::{Port, Receiver, Send, Sender, Snapshot, broadcast};
-use futures::executor::{LocalPool, LocalSpawner};
-use futures::task::{Context, Poll, Source, Waker};
-use futures::{Future, Stream};
-use std::alloc::Global;
-use std::sync::atomic::{AtomicU64, Ordering};
-use std::test::Fail;
+use async_broadcast::{LockSender, Port, Receiver, Send, Sender, broadcast};
+use futures::StreamExt;
+use futures::test::MockTask;
+use std::sync::Wait;
 
 /// A call on the channel.
 #[derive(Clone, Copy)]
@@ -48,7 +44,7 @@ const ROWS: &[Row] = &[
     ("nothing is asked", 64, 64, &[], 0),
 ];
 
-/// More polls than any row may make.
+/// More rounds than any row may take.
 const MANY: usize = 100_000;
 
 /// What a task waits for.
@@ -58,51 +54,71 @@ enum Awaited<'a, P: Port<u64>> {
     Room(Send<'a, u64, P>),
 }
 
-/// A task that polls until it needn't wait, and then keeps its handle. Its polls are counted.
+/// A task that polls until it needn't wait, and then keeps what it has waited for.
 #[derive(Drop)]
 struct Listener<'a, P: Port<u64>> {
+    task: MockTask,
     awaited: Awaited<'a, P>,
     is_answered: bool,
-    polls: &'a AtomicU64,
-    // What the task waits for after it was answered, and its waker there: it is never woken again.
-    rest: Source,
-    waker: Option<Waker>,
 }
 
 impl<'a, P: Port<u64>> Listener<'a, P> {
-    fn new(awaited: Awaited<'a, P>, polls: &'a AtomicU64) -> Self {
-        Listener {
+    fn new(rt: &impl Host, awaited: Awaited<'a, P>) -> TestResult<Self> {
+        let task = MockTask::new(rt)?;
+        Ok(Listener {
+            task,
             awaited,
             is_answered: false,
-            polls,
-            rest: Source::new(),
-            waker: None,
+        })
+    }
+
+    /// Polls, if the task is woken and still waits. Returns whether it polled.
+    fn polls(&mut self) -> bool {
+        let polls = !self.is_answered && self.task.is_woken();
+        if polls {
+            self.is_answered = match &mut self.awaited {
+                Awaited::Message(receiver) => self.task.poll(&mut receiver.next()).is_ready(),
+                Awaited::Room(send) => self.task.poll(send).is_ready(),
+            };
         }
+        polls
     }
 }
 
-impl<P: Port<u64>> Future for Listener<'_, P> {
-    type Output = ();
-
-    fn poll(&mut self, cx: &mut Context<'_>) -> Poll<()> {
-        if !self.is_answered {
-            self.polls.fetch_add(1, Ordering::SeqCst);
-            match &mut self.awaited {
-                Awaited::Message(receiver) => {
-                    let Poll::Ready(_) = receiver.poll_next(cx) else {
-                        return Poll::Pending;
-                    };
-                }
-                Awaited::Room(send) => {
-                    let Poll::Ready(_) = send.poll(cx) else {
-                        return Poll::Pending;
-                    };
-                }
-            }
-            self.is_answered = true;
-        }
-        cx.register(&self.rest, &mut self.waker)
+/// The tasks of a row: streams, and then sends.
+fn tasks_of<'a, P: Port<u64>>(
+    rt: &impl Host,
+    (streams, sends): (u64, u64),
+    sender: &'a Sender<u64, P>,
+    reader: &Receiver<u64, P>,
+) -> TestResult<Vec<Listener<'a, P>>> {
+    let mut tasks = Vec::new(rt.alloc());
+    for _ in 0..streams {
+        let awaited = Awaited::Message(reader.new_receiver()?);
+        tasks.push(Listener::new(rt, awaited)?)?;
     }
+    for _ in 0..sends {
+        let awaited = Awaited::Room(sender.broadcast_direct(1)?);
+        tasks.push(Listener::new(rt, awaited)?)?;
+    }
+    Ok(tasks)
+}
+
+/// Polls the tasks that are woken, in rounds, until none is. Returns how many polls this took.
+fn polls_to_rest<P: Port<u64>>(tasks: &mut [Listener<'_, P>]) -> u64 {
+    let mut polls = 0u64;
+    for _ in 0..MANY {
+        let before = polls;
+        for task in tasks.iter_mut() {
+            if task.polls() {
+                polls = polls.wrapping_add(1);
+            }
+        }
+        if polls == before {
+            break;
+        }
+    }
+    polls
 }
 
 /// Makes a call, and returns whether it returns what the row needs.
@@ -119,93 +135,52 @@ fn is_made<P: Port<u64>>(ask: Ask, sender: &Sender<u64, P>, reader: &mut Receive
     }
 }
 
-/// What is seen of a row.
-#[derive(Clone, Copy, Debug, PartialEq, Eq)]
-struct Seen {
-    /// How many listeners wait before the calls.
-    listeners: u64,
-    /// How many polls follow the calls.
-    polls: u64,
-    /// How many listeners are told when no task is woken any more.
-    told: u64,
+/// A sender whose channel says who waits there. Functions with this bound name no lock.
+trait Waiting {
+    /// How many listeners wait, and how many of them are told.
+    fn waiting(&self) -> TestResult<(u64, u64)>;
 }
 
-/// Adds the tasks of a row: streams, and then sends.
-fn add_tasks<'a, P: Port<u64>>(
-    spawner: &LocalSpawner<Listener<'a, P>>,
-    (streams, sends): (u64, u64),
-    sender: &'a Sender<u64, P>,
-    reader: &Receiver<u64, P>,
-    polls: &'a AtomicU64,
-) -> TestResult {
-    for _ in 0..streams {
-        let receiver = reader.new_receiver().ok().ok_or("no receiver")?;
-        let task = Listener::new(Awaited::Message(receiver), polls);
-        spawner.spawn(task).ok().ok_or("no task")?;
+impl<R: Wait + Clone> Waiting for LockSender<u64, R> {
+    fn waiting(&self) -> TestResult<(u64, u64)> {
+        let seen = self.snapshot()?;
+        let (sends, receives) = (&seen.waiting_sends, &seen.waiting_receives);
+        let listeners = sends.ids.len().saturating_add(receives.ids.len());
+        let told = sends.told.saturating_add(receives.told);
+        Ok((listeners as u64, told as u64))
     }
-    for _ in 0..sends {
-        let send = sender.broadcast_direct(1).ok().ok_or("no send")?;
-        let task = Listener::new(Awaited::Room(send), polls);
-        spawner.spawn(task).ok().ok_or("no task")?;
-    }
-    Ok(())
-}
-
-/// Makes the calls, each of which must return what the row needs.
-fn make_all<P: Port<u64>>(
-    asks: &[Ask],
-    sender: &Sender<u64, P>,
-    reader: &mut Receiver<u64, P>,
-) -> TestResult {
-    for ask in asks {
-        if !is_made(*ask, sender, reader) {
-            return Err(Fail::from("a call is refused"));
-        }
-    }
-    Ok(())
-}
-
-/// How many listeners wait, and how many of them are told.
-fn waiting(seen: &Snapshot<u64>) -> (u64, u64) {
-    let (sends, receives) = (&seen.waiting_sends, &seen.waiting_receives);
-    let listeners = sends.ids.len().saturating_add(receives.ids.len());
-    let told = sends.told.saturating_add(receives.told);
-    (listeners as u64, told as u64)
-}
-
-/// Plays a row on a channel of its own.
-fn play(rt: &impl Host, row: &Row) -> TestResult<Seen> {
-    let (sender, mut reader) = broadcast(rt, rt.alloc(), 1)?;
-    play_on(rt, &sender, &mut reader, row)
 }
 
 /// Plays a row over any port. The channel is new, and its capacity is 1.
-fn play_on<P: Port<u64>>(
+fn plays<P: Port<u64>>(
     rt: &impl Host,
     sender: &Sender<u64, P>,
     reader: &mut Receiver<u64, P>,
-    (_, streams, sends, asks, _): &Row,
-) -> TestResult<Seen>
+    (name, streams, sends, asks, polls): Row,
+) -> TestResult
 where
-    Sender<u64, P>: Sees<Global>,
+    Sender<u64, P>: Waiting,
 {
-    if *sends > 0 {
-        sender.try_broadcast(0).ok().ok_or("no message")?;
+    assert!(rt; sends == 0 || sender.try_broadcast(0).is_ok());
+    let mut tasks = tasks_of(rt, (streams, sends), sender, reader)?;
+    polls_to_rest(tasks.as_mut_slice());
+    let (listeners, _) = sender.waiting()?;
+    assert!(rt;
+        listeners == streams.saturating_add(sends),
+        "{name}: all wait"
+    );
+    for ask in asks {
+        assert!(rt; is_made(*ask, sender, reader), "{name}: a call is refused");
     }
-    let polls = AtomicU64::new(0);
-    let mut pool = LocalPool::new(rt)?;
-    add_tasks(&pool.spawner()?, (*streams, *sends), sender, reader, &polls)?;
-    pool.run_until_stalled(MANY);
-    let (listeners, _) = waiting(&sender.see()?);
-    polls.store(0, Ordering::SeqCst);
-    make_all(asks, sender, reader)?;
-    pool.run_until_stalled(MANY);
-    let (_, told) = waiting(&sender.see()?);
-    Ok(Seen {
-        listeners,
-        polls: polls.load(Ordering::SeqCst),
-        told,
-    })
+    let made = polls_to_rest(tasks.as_mut_slice());
+    let (_, told) = sender.waiting()?;
+    assert!(rt;
+        made == polls && told == 0,
+        "{name}: {made} polls, {told} are told"
+    );
+    let most = listeners.saturating_mul(listeners.saturating_add(1)) / 2;
+    assert!(rt; made <= most, "{name}");
+    Ok(())
 }
 
 // No call is made except the polls of tasks that were woken, and each of them polls once whenever
@@ -215,14 +190,8 @@ where
 #[test]
 fn told_tasks_come_to_rest(rt: HostRuntime) -> TestResult {
     for row in ROWS {
-        let (name, streams, sends, _, polls) = *row;
-        let seen = play(&rt, row)?;
-        assert!(rt; seen.listeners == streams + sends, "{name}: all wait");
-        assert!(rt; seen.polls == polls && seen.told == 0, "{name}: {seen:?}");
-        assert!(rt;
-            2 * seen.polls <= seen.listeners * (seen.listeners + 1),
-            "{name}"
-        );
+        let (sender, mut reader) = broadcast(&rt, rt.alloc(), 1)?;
+        plays(&rt, &sender, &mut reader, *row)?;
     }
     Ok(())
 }

@@ -105,7 +105,8 @@ pub(super) fn answered(outcome: Outcome, msg: u64) -> Result<Option<u64>, SendEr
     }
 }
 
-fn polled(outcome: Outcome, msg: u64) -> SendPoll<u64>
+/// What the poll of a send is given.
+pub(super) fn polled(outcome: Outcome, msg: u64) -> SendPoll<u64>
     ensures { HandsBack msg result }
 {
     match outcome {
@@ -115,10 +116,7 @@ fn polled(outcome: Outcome, msg: u64) -> SendPoll<u64>
 }
 
 fn begun(outcome: Outcome) -> Result<usize, AllocError> {
-    match outcome {
-        Outcome::Grant | Outcome::Wait => Ok(GIVEN),
-        _ => Err(AllocError),
-    }
+    made(outcome, GIVEN).ok().ok_or(AllocError)
 }
 
 fn grown(outcome: Outcome) -> Result<(), AllocError> {
@@ -126,7 +124,8 @@ fn grown(outcome: Outcome) -> Result<(), AllocError> {
     Ok(())
 }
 
-fn received(outcome: Outcome) -> Result<Result<u64, TryRecvError>, AllocError> {
+/// What `try_recv` is given.
+pub(super) fn received(outcome: Outcome) -> Result<Result<u64, TryRecvError>, AllocError> {
     match outcome {
         Outcome::Grant => Ok(Ok(MESSAGE)),
         Outcome::Wait => Ok(Err(TryRecvError::Empty)),

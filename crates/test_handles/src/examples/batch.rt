@@ -1,11 +1,12 @@
 //! Of `batch.rt`, without a clock.
-use crate::channels::{Host, Lent, Pair, TestResult};
-use async_broadcast::{Port, RecvError, TryRecvError};
+use crate::channels::{Opens, TestResult, broadcast};
+use async_broadcast::{RecvError, TryRecvError};
 use futures::task::Poll;
 use futures::test::MockTask;
 
 // Of `try_recv_many`.
-pub fn tries<P: Port<u64>>(rt: &impl Host, (sender, receiver): Lent<'_, P>) -> TestResult {
+pub fn tries(rt: impl Opens) -> TestResult {
+    let (sender, mut receiver) = broadcast(&rt, rt.alloc(), 3)?;
     for msg in 1..4 {
         assert!(rt; sender.try_broadcast(msg).is_ok());
     }
@@ -19,7 +20,8 @@ pub fn tries<P: Port<u64>>(rt: &impl Host, (sender, receiver): Lent<'_, P>) -> T
 }
 
 // Of `recv_many_blocking`.
-pub fn blocks<P: Port<u64>>(rt: &impl Host, (sender, mut receiver): Pair<P>) -> TestResult {
+pub fn blocks(rt: impl Opens) -> TestResult {
+    let (sender, mut receiver) = broadcast(&rt, rt.alloc(), 2)?;
     assert!(rt; sender.try_broadcast(1).is_ok());
     assert!(rt; sender.try_broadcast(2).is_ok());
     drop(sender);
@@ -30,7 +32,8 @@ pub fn blocks<P: Port<u64>>(rt: &impl Host, (sender, mut receiver): Pair<P>) -> 
 }
 
 // Of `poll_recv_many`.
-pub fn polls<P: Port<u64>>(rt: &impl Host, (sender, receiver): Lent<'_, P>) -> TestResult {
+pub fn polls(rt: impl Opens) -> TestResult {
+    let (sender, mut receiver) = broadcast(&rt, rt.alloc(), 2)?;
     let task = MockTask::new(&rt)?;
     let mut msgs = Vec::new(rt.alloc());
     let polled = task.enter(|cx| receiver.poll_recv_many(cx, 16, &mut msgs));

@@ -1,11 +1,12 @@
 //! Of `lock.rt` and `lib.rt`.
-use crate::channels::{Host, Lent, Pair, TestResult};
-use async_broadcast::{NoMemory, Port, TryRecvError, TrySendError};
+use crate::channels::{Opens, TestResult, broadcast};
+use async_broadcast::{NoMemory, TryRecvError, TrySendError};
 use futures::StreamExt;
 use futures::executor::block_on;
 
 // Of `broadcast`.
-pub fn plays_two<P: Port<u64>>(rt: &impl Host, (sender, mut one): Pair<P>) -> TestResult {
+pub fn plays_two(rt: impl Opens) -> TestResult {
+    let (sender, mut one) = broadcast(&rt, rt.alloc(), 2)?;
     let mut two = one.clone()?;
     assert!(rt; sender.try_broadcast(7).is_ok());
     assert!(rt; sender.try_broadcast(8).is_ok());
@@ -23,7 +24,8 @@ pub fn plays_two<P: Port<u64>>(rt: &impl Host, (sender, mut one): Pair<P>) -> Te
 }
 
 // Of the crate, on its errors.
-pub fn refuses<P: Port<u64>>(rt: &impl Host, (sender, receiver): Lent<'_, P>) -> TestResult {
+pub fn refuses(rt: impl Opens) -> TestResult {
+    let (sender, mut receiver) = broadcast(&rt, rt.alloc(), 1)?;
     let error = receiver.try_recv()?.err().ok_or("received")?;
     assert!(rt; error.is_empty() && !error.is_closed() && !error.is_overflowed());
     assert!(rt; sender.try_broadcast(1).is_ok());

@@ -1,12 +1,13 @@
 //! Of `future/send.rt` and `future/recv.rt`.
-use crate::channels::{Host, Lent, Pair, TestResult};
-use async_broadcast::{Port, RecvError, SendError, TryRecvError};
+use crate::channels::{Opens, TestResult, broadcast};
+use async_broadcast::{RecvError, SendError, TryRecvError};
 use futures::executor::block_on;
 use futures::task::Poll;
 use futures::test::MockTask;
 
 // Of `broadcast`.
-pub fn sends_in_a_box<P: Port<u64>>(rt: &impl Host, (sender, receiver): Lent<'_, P>) -> TestResult {
+pub fn sends_in_a_box(rt: impl Opens) -> TestResult {
+    let (sender, mut receiver) = broadcast(&rt, rt.alloc(), 1)?;
     let mut send = sender.broadcast(1)?;
     assert!(rt; matches!(receiver.try_recv(), Ok(Err(TryRecvError::Empty))));
     assert!(rt; matches!(block_on(&rt, &mut *send)?, Ok(Ok(None))));
@@ -15,7 +16,8 @@ pub fn sends_in_a_box<P: Port<u64>>(rt: &impl Host, (sender, receiver): Lent<'_,
 }
 
 // Of `broadcast_direct`.
-pub fn sends_directly<P: Port<u64>>(rt: &impl Host, (sender, receiver): Pair<P>) -> TestResult {
+pub fn sends_directly(rt: impl Opens) -> TestResult {
+    let (sender, receiver) = broadcast(&rt, rt.alloc(), 1)?;
     assert!(rt; matches!(block_on(&rt, sender.broadcast_direct(1)?)?, Ok(Ok(None))));
     drop(receiver);
     let refused = block_on(&rt, sender.broadcast_direct(2)?)?;
@@ -24,20 +26,16 @@ pub fn sends_directly<P: Port<u64>>(rt: &impl Host, (sender, receiver): Pair<P>)
 }
 
 // Of `recv`.
-pub fn receives_in_a_box<P: Port<u64>>(
-    rt: &impl Host,
-    (sender, receiver): Lent<'_, P>,
-) -> TestResult {
+pub fn receives_in_a_box(rt: impl Opens) -> TestResult {
+    let (sender, mut receiver) = broadcast(&rt, rt.alloc(), 1)?;
     assert!(rt; sender.try_broadcast(1).is_ok());
     assert!(rt; matches!(block_on(&rt, &mut *receiver.recv()?)?, Ok(Ok(1))));
     Ok(())
 }
 
 // Of `recv_direct`.
-pub fn receives_directly<P: Port<u64>>(
-    rt: &impl Host,
-    (sender, mut receiver): Pair<P>,
-) -> TestResult {
+pub fn receives_directly(rt: impl Opens) -> TestResult {
+    let (sender, mut receiver) = broadcast(&rt, rt.alloc(), 1)?;
     assert!(rt; sender.try_broadcast(1).is_ok());
     drop(sender);
     assert!(rt; matches!(block_on(&rt, receiver.recv_direct())?, Ok(Ok(1))));
@@ -47,7 +45,8 @@ pub fn receives_directly<P: Port<u64>>(
 }
 
 // Of `poll_recv`.
-pub fn polls<P: Port<u64>>(rt: &impl Host, (sender, receiver): Lent<'_, P>) -> TestResult {
+pub fn polls(rt: impl Opens) -> TestResult {
+    let (sender, mut receiver) = broadcast(&rt, rt.alloc(), 1)?;
     let task = MockTask::new(&rt)?;
     assert!(rt; matches!(task.enter(|cx| receiver.poll_recv(cx)), Ok(Poll::Pending)));
     assert!(rt; sender.try_broadcast(1).is_ok());

@@ -1,9 +1,9 @@
 //! Of `inactive.rt`.
-use crate::channels::{Host, Pair, TestResult};
-use async_broadcast::Port;
+use crate::channels::{Opens, TestResult, broadcast};
 
 // Of `activate`.
-pub fn activates<P: Port<u64>>(rt: &impl Host, (sender, receiver): Pair<P>) -> TestResult {
+pub fn activates(rt: impl Opens) -> TestResult {
+    let (sender, receiver) = broadcast(&rt, rt.alloc(), 1)?;
     let inactive = receiver.deactivate().ok().ok_or("no handle")?;
     let mut receiver = inactive.activate().ok().ok_or("no handle")?;
     assert!(rt; sender.try_broadcast(1).is_ok());
@@ -12,7 +12,8 @@ pub fn activates<P: Port<u64>>(rt: &impl Host, (sender, receiver): Pair<P>) -> T
 }
 
 // Of `activate_cloned`.
-pub fn activates_clones<P: Port<u64>>(rt: &impl Host, (sender, receiver): Pair<P>) -> TestResult {
+pub fn activates_clones(rt: impl Opens) -> TestResult {
+    let (sender, receiver) = broadcast(&rt, rt.alloc(), 1)?;
     let inactive = receiver.deactivate().ok().ok_or("no handle")?;
     let mut one = inactive.activate_cloned()?;
     let mut two = inactive.activate_cloned()?;
@@ -23,7 +24,8 @@ pub fn activates_clones<P: Port<u64>>(rt: &impl Host, (sender, receiver): Pair<P
 }
 
 // Of `clone`.
-pub fn keeps_it_open<P: Port<u64>>(rt: &impl Host, (sender, receiver): Pair<P>) -> TestResult {
+pub fn keeps_it_open(rt: impl Opens) -> TestResult {
+    let (sender, receiver) = broadcast(&rt, rt.alloc(), 1)?;
     let one = receiver.deactivate().ok().ok_or("no handle")?;
     let two = one.clone()?;
     drop(one);

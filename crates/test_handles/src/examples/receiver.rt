@@ -1,11 +1,12 @@
 //! Of `receiver.rt` and `iter.rt`, and one of a setting of the channel that a receiver makes.
-use crate::channels::{Host, Lent, Pair, TestResult};
-use async_broadcast::{Port, RecvError, SendError, TryRecvError, TrySendError};
+use crate::channels::{Opens, TestResult, broadcast};
+use async_broadcast::{RecvError, SendError, TryRecvError, TrySendError};
 use futures::StreamExt;
 use futures::executor::block_on;
 
 // Of `Receiver`, as a stream.
-pub fn streams<P: Port<u64>>(rt: &impl Host, (sender, mut receiver): Pair<P>) -> TestResult {
+pub fn streams(rt: impl Opens) -> TestResult {
+    let (sender, mut receiver) = broadcast(&rt, rt.alloc(), 1)?;
     assert!(rt; sender.try_broadcast(1).is_ok());
     drop(sender);
     assert!(rt; matches!(block_on(&rt, receiver.next())?, Some(Ok(1))));
@@ -14,7 +15,8 @@ pub fn streams<P: Port<u64>>(rt: &impl Host, (sender, mut receiver): Pair<P>) ->
 }
 
 // Of `try_recv`.
-pub fn tries<P: Port<u64>>(rt: &impl Host, (sender, mut receiver): Pair<P>) -> TestResult {
+pub fn tries(rt: impl Opens) -> TestResult {
+    let (sender, mut receiver) = broadcast(&rt, rt.alloc(), 1)?;
     assert!(rt; matches!(receiver.try_recv(), Ok(Err(TryRecvError::Empty))));
     assert!(rt; sender.try_broadcast(1).is_ok());
     drop(sender);
@@ -24,7 +26,8 @@ pub fn tries<P: Port<u64>>(rt: &impl Host, (sender, mut receiver): Pair<P>) -> T
 }
 
 // Of `recv_blocking`.
-pub fn blocks<P: Port<u64>>(rt: &impl Host, (sender, mut receiver): Pair<P>) -> TestResult {
+pub fn blocks(rt: impl Opens) -> TestResult {
+    let (sender, mut receiver) = broadcast(&rt, rt.alloc(), 1)?;
     assert!(rt; sender.try_broadcast(1).is_ok());
     drop(sender);
     assert!(rt; matches!(receiver.recv_blocking(), Ok(Ok(1))));
@@ -33,12 +36,13 @@ pub fn blocks<P: Port<u64>>(rt: &impl Host, (sender, mut receiver): Pair<P>) -> 
 }
 
 // Of `iter`.
-pub fn loops<P: Port<u64>>(rt: &impl Host, (sender, mut receiver): Pair<P>) -> TestResult {
+pub fn loops(rt: impl Opens) -> TestResult {
+    let (sender, mut receiver) = broadcast(&rt, rt.alloc(), 2)?;
     assert!(rt; sender.try_broadcast(1).is_ok());
     assert!(rt; sender.try_broadcast(2).is_ok());
     drop(sender);
     let mut count = 0u64;
-    for received in receiver.iter(rt) {
+    for received in receiver.iter(&rt) {
         count = count.wrapping_add(1);
         assert!(rt; received? == Ok(count));
     }
@@ -47,10 +51,8 @@ pub fn loops<P: Port<u64>>(rt: &impl Host, (sender, mut receiver): Pair<P>) -> T
 }
 
 // Of `try_iter`.
-pub fn loops_over_what_is_there<P: Port<u64>>(
-    rt: &impl Host,
-    (sender, receiver): Lent<'_, P>,
-) -> TestResult {
+pub fn loops_over_what_is_there(rt: impl Opens) -> TestResult {
+    let (sender, mut receiver) = broadcast(&rt, rt.alloc(), 2)?;
     assert!(rt; sender.try_broadcast(1).is_ok());
     assert!(rt; sender.try_broadcast(2).is_ok());
     let mut count = 0u64;
@@ -64,7 +66,8 @@ pub fn loops_over_what_is_there<P: Port<u64>>(
 }
 
 // Of `is_terminated`.
-pub fn sees_the_end<P: Port<u64>>(rt: &impl Host, (sender, mut receiver): Pair<P>) -> TestResult {
+pub fn sees_the_end(rt: impl Opens) -> TestResult {
+    let (sender, mut receiver) = broadcast(&rt, rt.alloc(), 1)?;
     assert!(rt; sender.try_broadcast(1).is_ok());
     drop(sender);
     assert!(rt; !receiver.is_terminated());
@@ -74,7 +77,8 @@ pub fn sees_the_end<P: Port<u64>>(rt: &impl Host, (sender, mut receiver): Pair<P
 }
 
 // Of `clone`.
-pub fn clones<P: Port<u64>>(rt: &impl Host, (sender, one): Lent<'_, P>) -> TestResult {
+pub fn clones(rt: impl Opens) -> TestResult {
+    let (sender, mut one) = broadcast(&rt, rt.alloc(), 1)?;
     assert!(rt; sender.try_broadcast(1).is_ok());
     let mut two = one.clone()?;
     assert!(rt; matches!(one.try_recv(), Ok(Ok(1))));
@@ -83,7 +87,8 @@ pub fn clones<P: Port<u64>>(rt: &impl Host, (sender, one): Lent<'_, P>) -> TestR
 }
 
 // Of `new_receiver`.
-pub fn adds_a_receiver<P: Port<u64>>(rt: &impl Host, (sender, one): Lent<'_, P>) -> TestResult {
+pub fn adds_a_receiver(rt: impl Opens) -> TestResult {
+    let (sender, one) = broadcast(&rt, rt.alloc(), 2)?;
     assert!(rt; sender.try_broadcast(1).is_ok());
     let mut two = one.new_receiver()?;
     assert!(rt; sender.try_broadcast(2).is_ok());
@@ -92,7 +97,8 @@ pub fn adds_a_receiver<P: Port<u64>>(rt: &impl Host, (sender, one): Lent<'_, P>)
 }
 
 // Of `new_sender`.
-pub fn adds_a_sender<P: Port<u64>>(rt: &impl Host, (sender, mut receiver): Pair<P>) -> TestResult {
+pub fn adds_a_sender(rt: impl Opens) -> TestResult {
+    let (sender, mut receiver) = broadcast(&rt, rt.alloc(), 1)?;
     let other = receiver.new_sender()?;
     drop(sender);
     assert!(rt; other.try_broadcast(1).is_ok());
@@ -101,7 +107,8 @@ pub fn adds_a_sender<P: Port<u64>>(rt: &impl Host, (sender, mut receiver): Pair<
 }
 
 // Of `deactivate`.
-pub fn pauses<P: Port<u64>>(rt: &impl Host, (sender, receiver): Pair<P>) -> TestResult {
+pub fn pauses(rt: impl Opens) -> TestResult {
+    let (sender, receiver) = broadcast(&rt, rt.alloc(), 1)?;
     let inactive = receiver.deactivate().ok().ok_or("no handle")?;
     assert!(rt; matches!(sender.try_broadcast(1), Err(TrySendError::Inactive(1))));
     let mut receiver = inactive.activate().ok().ok_or("no handle")?;
@@ -111,7 +118,8 @@ pub fn pauses<P: Port<u64>>(rt: &impl Host, (sender, receiver): Pair<P>) -> Test
 }
 
 // Of `set_await_active`, by a receiver.
-pub fn awaits_nobody<P: Port<u64>>(rt: &impl Host, (sender, mut receiver): Pair<P>) -> TestResult {
+pub fn awaits_nobody(rt: impl Opens) -> TestResult {
+    let (sender, mut receiver) = broadcast(&rt, rt.alloc(), 2)?;
     assert!(rt; matches!(block_on(&rt, &mut *sender.broadcast(1)?)?, Ok(Ok(None))));
     receiver.set_await_active(false);
     assert!(rt; !sender.await_active());

@@ -1,9 +1,10 @@
 //! Of `sender.rt`.
-use crate::channels::{Host, Lent, Pair, TestResult};
-use async_broadcast::{Port, SendError, TryRecvError, TrySendError};
+use crate::channels::{Opens, TestResult, broadcast};
+use async_broadcast::{SendError, TryRecvError, TrySendError};
 
 // Of `try_broadcast`.
-pub fn tries<P: Port<u64>>(rt: &impl Host, (sender, receiver): Pair<P>) -> TestResult {
+pub fn tries(rt: impl Opens) -> TestResult {
+    let (sender, receiver) = broadcast(&rt, rt.alloc(), 1)?;
     assert!(rt; matches!(sender.try_broadcast(1), Ok(None)));
     assert!(rt; matches!(sender.try_broadcast(2), Err(TrySendError::Full(2))));
     let inactive = receiver.deactivate().ok().ok_or("no handle")?;
@@ -14,7 +15,8 @@ pub fn tries<P: Port<u64>>(rt: &impl Host, (sender, receiver): Pair<P>) -> TestR
 }
 
 // Of `try_broadcast_all`.
-pub fn sends_a_list<P: Port<u64>>(rt: &impl Host, (sender, receiver): Lent<'_, P>) -> TestResult {
+pub fn sends_a_list(rt: impl Opens) -> TestResult {
+    let (sender, mut receiver) = broadcast(&rt, rt.alloc(), 3)?;
     assert!(rt; sender.try_broadcast_all(vec![in rt.alloc(); 1, 2]?).is_ok());
     let four = vec![in rt.alloc(); 3, 4]?;
     assert!(rt; matches!(sender.try_broadcast_all(four), Err(TrySendError::Full(_))));
@@ -26,7 +28,8 @@ pub fn sends_a_list<P: Port<u64>>(rt: &impl Host, (sender, receiver): Lent<'_, P
 }
 
 // Of `broadcast_blocking`.
-pub fn blocks<P: Port<u64>>(rt: &impl Host, (sender, mut receiver): Pair<P>) -> TestResult {
+pub fn blocks(rt: impl Opens) -> TestResult {
+    let (sender, mut receiver) = broadcast(&rt, rt.alloc(), 1)?;
     assert!(rt; sender.broadcast_blocking(7).is_ok());
     assert!(rt; matches!(receiver.try_recv(), Ok(Ok(7))));
     assert!(rt; sender.broadcast_blocking(8).is_ok());
@@ -37,7 +40,8 @@ pub fn blocks<P: Port<u64>>(rt: &impl Host, (sender, mut receiver): Pair<P>) -> 
 }
 
 // Of `clone`.
-pub fn clones<P: Port<u64>>(rt: &impl Host, (sender, mut receiver): Pair<P>) -> TestResult {
+pub fn clones(rt: impl Opens) -> TestResult {
+    let (sender, mut receiver) = broadcast(&rt, rt.alloc(), 1)?;
     let other = sender.clone()?;
     drop(sender);
     assert!(rt; other.try_broadcast(1).is_ok());
@@ -48,7 +52,8 @@ pub fn clones<P: Port<u64>>(rt: &impl Host, (sender, mut receiver): Pair<P>) -> 
 }
 
 // Of `new_receiver`.
-pub fn adds_a_receiver<P: Port<u64>>(rt: &impl Host, (sender, one): Lent<'_, P>) -> TestResult {
+pub fn adds_a_receiver(rt: impl Opens) -> TestResult {
+    let (sender, mut one) = broadcast(&rt, rt.alloc(), 2)?;
     assert!(rt; sender.try_broadcast(1).is_ok());
     let mut two = sender.new_receiver()?;
     assert!(rt; sender.try_broadcast(2).is_ok());

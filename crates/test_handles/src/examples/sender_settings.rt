@@ -1,11 +1,12 @@
 //! Of `settings.rt`.
-use crate::channels::{Host, Lent, Pair, TestResult};
+use crate::channels::{Host, Opens, TestResult, broadcast};
 use async_broadcast::{Port, Receiver, SendError, Sender, TryRecvError};
 
 // Of the calls that return the channel's settings and counts.
-pub fn says<P: Port<u64>>(rt: &impl Host, (sender, receiver): Pair<P>) -> TestResult {
-    says_what_is_kept(rt, &sender);
-    counts_handles(rt, &sender, receiver)
+pub fn says(rt: impl Opens) -> TestResult {
+    let (sender, receiver) = broadcast(&rt, rt.alloc(), 1)?;
+    says_what_is_kept(&rt, &sender);
+    counts_handles(&rt, &sender, receiver)
 }
 
 fn says_what_is_kept<P: Port<u64>>(rt: &impl Host, sender: &Sender<u64, P>) {
@@ -34,7 +35,8 @@ fn counts_handles<P: Port<u64>>(
 }
 
 // Of `overflow`, `await_active` and `close`.
-pub fn changes_modes<P: Port<u64>>(rt: &impl Host, sender: &mut Sender<u64, P>) -> TestResult {
+pub fn changes_modes(rt: impl Opens) -> TestResult {
+    let (mut sender, _receiver) = broadcast(&rt, rt.alloc(), 1)?;
     assert!(rt; !sender.overflow());
     sender.set_overflow(true);
     assert!(rt; sender.overflow());
@@ -47,7 +49,8 @@ pub fn changes_modes<P: Port<u64>>(rt: &impl Host, sender: &mut Sender<u64, P>) 
 }
 
 // Of `is_closed`.
-pub fn sees_the_end<P: Port<u64>>(rt: &impl Host, (sender, receiver): Lent<'_, P>) -> TestResult {
+pub fn sees_the_end(rt: impl Opens) -> TestResult {
+    let (sender, receiver) = broadcast(&rt, rt.alloc(), 1)?;
     assert!(rt; !sender.is_closed());
     receiver.close();
     assert!(rt; sender.is_closed());
@@ -55,7 +58,8 @@ pub fn sees_the_end<P: Port<u64>>(rt: &impl Host, (sender, receiver): Lent<'_, P
 }
 
 // Of `set_capacity`.
-pub fn shrinks<P: Port<u64>>(rt: &impl Host, (sender, receiver): Lent<'_, P>) -> TestResult {
+pub fn shrinks(rt: impl Opens) -> TestResult {
+    let (mut sender, mut receiver) = broadcast(&rt, rt.alloc(), 2)?;
     assert!(rt; sender.try_broadcast(1).is_ok());
     assert!(rt; sender.try_broadcast(2).is_ok());
     sender.set_capacity(1)?;
@@ -65,7 +69,8 @@ pub fn shrinks<P: Port<u64>>(rt: &impl Host, (sender, receiver): Lent<'_, P>) ->
 }
 
 // Of `set_overflow`.
-pub fn overflows<P: Port<u64>>(rt: &impl Host, (sender, receiver): Lent<'_, P>) -> TestResult {
+pub fn overflows(rt: impl Opens) -> TestResult {
+    let (mut sender, mut receiver) = broadcast(&rt, rt.alloc(), 1)?;
     sender.set_overflow(true);
     assert!(rt; matches!(sender.try_broadcast(1), Ok(None)));
     assert!(rt; matches!(sender.try_broadcast(2), Ok(Some(1))));
@@ -75,7 +80,8 @@ pub fn overflows<P: Port<u64>>(rt: &impl Host, (sender, receiver): Lent<'_, P>) 
 }
 
 // Of `set_await_active`.
-pub fn awaits_nobody<P: Port<u64>>(rt: &impl Host, (mut sender, receiver): Pair<P>) -> TestResult {
+pub fn awaits_nobody(rt: impl Opens) -> TestResult {
+    let (mut sender, receiver) = broadcast(&rt, rt.alloc(), 1)?;
     let _inactive = receiver.deactivate().ok().ok_or("no handle")?;
     sender.set_await_active(false);
     assert!(rt; matches!(sender.broadcast_blocking(7), Err(SendError(7))));

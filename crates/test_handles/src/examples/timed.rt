@@ -1,15 +1,16 @@
 //! Of `timed.rt`, and one of `batch.rt`, whose calls ask a clock.
-use crate::channels::{Host, Pair, Play, TestResult, on_a_channel};
-use async_broadcast::{RecvTimeoutError, SendTimeoutError, TimedPort};
+use crate::channels::{Opens, TestResult, broadcast};
+use async_broadcast::{RecvTimeoutError, SendTimeoutError};
 use std::time::Duration;
 
 // Of `broadcast_timeout`.
 #[test]
 fn sends_in_time(rt: HostRuntime) -> TestResult {
-    on_a_channel(&rt, 1, Play::SendInTime)
+    sends(&rt)
 }
 
-pub fn sends<P: TimedPort<u64>>(rt: &impl Host, (sender, receiver): Pair<P>) -> TestResult {
+fn sends(rt: impl Opens) -> TestResult {
+    let (sender, receiver) = broadcast(&rt, rt.alloc(), 1)?;
     let limit = Duration::from_millis(1);
     assert!(&rt; sender.broadcast_timeout(7, limit).is_ok());
     let error = sender.broadcast_timeout(8, limit).err().ok_or("sent")?;
@@ -23,10 +24,11 @@ pub fn sends<P: TimedPort<u64>>(rt: &impl Host, (sender, receiver): Pair<P>) -> 
 // Of `recv_timeout`.
 #[test]
 fn receives_in_time(rt: HostRuntime) -> TestResult {
-    on_a_channel(&rt, 1, Play::ReceiveInTime)
+    receives(&rt)
 }
 
-pub fn receives<P: TimedPort<u64>>(rt: &impl Host, (sender, mut receiver): Pair<P>) -> TestResult {
+fn receives(rt: impl Opens) -> TestResult {
+    let (sender, mut receiver) = broadcast(&rt, rt.alloc(), 1)?;
     let limit = Duration::from_millis(1);
     let received = receiver.recv_timeout(limit);
     assert!(&rt; matches!(received, Ok(Err(RecvTimeoutError::Timeout))));
@@ -41,13 +43,11 @@ pub fn receives<P: TimedPort<u64>>(rt: &impl Host, (sender, mut receiver): Pair<
 // Of `recv_many_timeout`.
 #[test]
 fn receives_many_in_time(rt: HostRuntime) -> TestResult {
-    on_a_channel(&rt, 2, Play::ReceiveManyInTime)
+    receives_many(&rt)
 }
 
-pub fn receives_many<P: TimedPort<u64>>(
-    rt: &impl Host,
-    (sender, mut receiver): Pair<P>,
-) -> TestResult {
+fn receives_many(rt: impl Opens) -> TestResult {
+    let (sender, mut receiver) = broadcast(&rt, rt.alloc(), 2)?;
     let time = Duration::from_millis(1);
     let mut msgs = Vec::new(rt.alloc());
     let received = receiver.recv_many_timeout(16, &mut msgs, time)?;
