@@ -1,8 +1,8 @@
 //! Which notices are called, how often and in which order, who waits then, and what holds after
 //! refused memory.
-use bcast_model::listener::Kind;
+use bcast_model::listener::Kind::{self, Future, Stream};
 use bcast_waiting::event::Event;
-use bcast_waiting::notice::{MakesNotice, Notice, OwnedNotice, Silent};
+use bcast_waiting::notice::{Notice, OwnedNotice, Silent};
 use linked_list_allocator::LocalHeap;
 use std::alloc::{AllocError, Allocator, Global};
 use std::cell::Cell;
@@ -37,130 +37,112 @@ enum Step {
     Tell(usize),
     TellAll,
     Consume(Id, Option<bool>),
-    // Gives up, and gets a notice of this digit back.
+    // Gives up, gets a notice of this digit back, and isn't listed then.
     Abandon(Id, Option<u64>),
     IsTold(Id, Option<bool>),
     // The digits of the notices that were called, in the order of the calls.
     Called(u64),
-    Told(usize),
-    Len(usize),
     // Those that wait, from the front, and how many of them are told.
     Waiting(&'static [Id], usize),
 }
 
-const STREAM: Id = (0, Kind::Stream);
-
-const FUTURE: Id = (0, Kind::Future);
-
-const FAR: Id = (9, Kind::Stream);
-
-const OTHER: Id = (1, Kind::Stream);
-
-const STREAM_OF_FIVE: Id = (5, Kind::Stream);
-
-const FUTURE_OF_FIVE: Id = (5, Kind::Future);
-
-const FUTURE_OF_SIX: Id = (6, Kind::Future);
-
 const FRONT_FIRST: &[Step] = &[
-    Step::Wait(STREAM, 1),
-    Step::Wait(FUTURE, 2),
-    Step::Wait(FAR, 3),
+    Step::Wait((0, Stream), 1),
+    Step::Wait((0, Future), 2),
+    Step::Wait((9, Stream), 3),
     Step::Tell(2),
     Step::Tell(2),
     Step::Called(12),
-    Step::IsTold(FUTURE, Some(true)),
-    Step::IsTold(FAR, Some(false)),
-    Step::IsTold(OTHER, None),
+    Step::IsTold((0, Future), Some(true)),
+    Step::IsTold((9, Stream), Some(false)),
+    Step::IsTold((1, Stream), None),
     Step::TellAll,
     Step::TellAll,
     Step::Called(123),
 ];
 
 const GIVES_UP: &[Step] = &[
-    Step::Wait(STREAM, 1),
-    Step::Wait(FUTURE, 2),
-    Step::Wait(FAR, 3),
+    Step::Wait((0, Stream), 1),
+    Step::Wait((0, Future), 2),
+    Step::Wait((9, Stream), 3),
     Step::Tell(1),
-    Step::Abandon(FAR, Some(3)),
+    Step::Abandon((9, Stream), Some(3)),
     Step::Called(1),
-    Step::Abandon(STREAM, Some(1)),
+    Step::Abandon((0, Stream), Some(1)),
     Step::Called(12),
-    Step::Consume(FUTURE, Some(true)),
-    Step::Consume(FUTURE, None),
-    Step::Len(0),
+    Step::Consume((0, Future), Some(true)),
+    Step::Consume((0, Future), None),
+    Step::Waiting(&[], 0),
 ];
 
 const OTHER_NOTICES: &[Step] = &[
-    Step::Wait(STREAM, 1),
-    Step::Wait(FUTURE, 2),
-    Step::Wait(STREAM, 3),
-    Step::Abandon(FAR, None),
-    Step::Wait(FUTURE, 4),
+    Step::Wait((0, Stream), 1),
+    Step::Wait((0, Future), 2),
+    Step::Wait((0, Stream), 3),
+    Step::Abandon((9, Stream), None),
+    Step::Wait((0, Future), 4),
     Step::Tell(1),
     Step::Called(3),
-    Step::Refuse(STREAM),
-    Step::Refuse(FUTURE),
-    Step::Refuse(FAR),
-    Step::Len(2),
-    Step::Told(1),
-    Step::Wait(STREAM, 5),
+    Step::Refuse((0, Stream)),
+    Step::Refuse((0, Future)),
+    Step::Refuse((9, Stream)),
+    Step::Waiting(&[(0, Stream), (0, Future)], 1),
+    Step::Wait((0, Stream), 5),
     Step::TellAll,
     Step::Called(345),
-    Step::Told(2),
-    Step::Abandon(STREAM, Some(5)),
-    Step::Abandon(FUTURE, Some(4)),
+    Step::Waiting(&[(0, Future), (0, Stream)], 2),
+    Step::Abandon((0, Stream), Some(5)),
+    Step::Abandon((0, Future), Some(4)),
 ];
 
 const ANY_ORDER: &[Step] = &[
-    Step::Wait(STREAM, 1),
-    Step::Wait(FUTURE, 2),
-    Step::Wait(FAR, 3),
-    Step::Wait(OTHER, 4),
+    Step::Wait((0, Stream), 1),
+    Step::Wait((0, Future), 2),
+    Step::Wait((9, Stream), 3),
+    Step::Wait((1, Stream), 4),
     Step::Tell(2),
-    Step::Abandon(OTHER, Some(4)),
-    Step::Abandon(FUTURE, Some(2)),
-    Step::Consume(STREAM, Some(true)),
-    Step::IsTold(FAR, Some(false)),
-    Step::Wait(FUTURE, 5),
-    Step::Wait(STREAM, 6),
+    Step::Abandon((1, Stream), Some(4)),
+    Step::Abandon((0, Future), Some(2)),
+    Step::Consume((0, Stream), Some(true)),
+    Step::IsTold((9, Stream), Some(false)),
+    Step::Wait((0, Future), 5),
+    Step::Wait((0, Stream), 6),
     Step::TellAll,
     Step::Called(12356),
-    Step::IsTold(FAR, Some(true)),
-    Step::Consume(FAR, Some(true)),
-    Step::Consume(OTHER, None),
-    Step::Told(2),
-    Step::Len(2),
+    Step::IsTold((9, Stream), Some(true)),
+    Step::Consume((9, Stream), Some(true)),
+    Step::Consume((1, Stream), None),
+    Step::Waiting(&[(0, Future), (0, Stream)], 2),
 ];
 
 const TWO_RECEIVERS: &[Step] = &[
-    Step::Reserve(FUTURE_OF_FIVE),
-    Step::Wait(STREAM_OF_FIVE, 1),
-    Step::Waiting(&[STREAM_OF_FIVE], 0),
-    Step::Wait(FUTURE_OF_FIVE, 2),
-    Step::Waiting(&[STREAM_OF_FIVE, FUTURE_OF_FIVE], 0),
+    Step::Reserve((5, Future)),
+    Step::Wait((5, Stream), 1),
+    Step::Waiting(&[(5, Stream)], 0),
+    Step::Wait((5, Future), 2),
+    Step::Waiting(&[(5, Stream), (5, Future)], 0),
     Step::TellAll,
-    Step::Waiting(&[STREAM_OF_FIVE, FUTURE_OF_FIVE], 2),
+    Step::Waiting(&[(5, Stream), (5, Future)], 2),
     // The new one isn't told.
-    Step::Wait(FUTURE_OF_SIX, 3),
-    Step::Waiting(&[STREAM_OF_FIVE, FUTURE_OF_FIVE, FUTURE_OF_SIX], 2),
-    Step::Consume(STREAM_OF_FIVE, Some(true)),
-    Step::Waiting(&[FUTURE_OF_FIVE, FUTURE_OF_SIX], 1),
+    Step::Wait((6, Future), 3),
+    Step::Waiting(&[(5, Stream), (5, Future), (6, Future)], 2),
+    Step::Consume((5, Stream), Some(true)),
+    Step::Waiting(&[(5, Future), (6, Future)], 1),
     // It isn't listed.
-    Step::Abandon(STREAM_OF_FIVE, None),
-    Step::Waiting(&[FUTURE_OF_FIVE, FUTURE_OF_SIX], 1),
+    Step::Abandon((5, Stream), None),
+    Step::Waiting(&[(5, Future), (6, Future)], 1),
     // The next is told.
-    Step::Abandon(FUTURE_OF_FIVE, Some(2)),
-    Step::Waiting(&[FUTURE_OF_SIX], 1),
+    Step::Abandon((5, Future), Some(2)),
+    Step::Waiting(&[(6, Future)], 1),
 ];
 
 const WAITS_AGAIN: &[Step] = &[
-    Step::Wait(STREAM, 1),
-    Step::Wait(FUTURE, 2),
-    Step::Wait(FAR, 3),
+    Step::Wait((0, Stream), 1),
+    Step::Wait((0, Future), 2),
+    Step::Wait((9, Stream), 3),
     Step::Tell(1),
-    Step::Wait(STREAM, 4),
-    Step::Waiting(&[FUTURE, FAR, STREAM], 0),
+    Step::Wait((0, Stream), 4),
+    Step::Waiting(&[(0, Future), (9, Stream), (0, Stream)], 0),
 ];
 
 // Lists a listener that must wait.
@@ -174,24 +156,6 @@ fn wait<N: Notice, A: Allocator>(
     Ok(made.is_ok() && event.is_untold(id))
 }
 
-// Lists a listener by a maker whose notice is taken already. Returns whether it is refused.
-fn refuse<N: Notice, A: Allocator>(
-    event: &mut Event<Id, N, A>,
-    id: Id,
-    notice: N,
-) -> Result<bool, AllocError> {
-    event.reserve_for(id)?;
-    let mut maker = OwnedNotice::new(notice);
-    let _ = maker.make();
-    Ok(event.wait_again(id, &mut maker).is_err())
-}
-
-// Takes out a listener that gave up. Returns whether its notice is returned, and it is gone.
-fn abandon(event: &mut Event<Id, Noted<'_>>, id: Id, digit: Option<u64>) -> bool {
-    let notice = event.abandon(id);
-    notice.map(|noted| noted.digit) == digit && event.is_told(id).is_none()
-}
-
 // Makes the call, and returns whether it returns what it must.
 fn is_right<'a>(
     alloc: Global,
@@ -199,28 +163,34 @@ fn is_right<'a>(
     told: &'a Cell<u64>,
     step: Step,
 ) -> Result<bool, AllocError> {
-    match step {
-        Step::Reserve(id) => Ok(event.reserve_for(id).is_ok()),
-        Step::Wait(id, digit) => wait(event, id, Noted { digit, told }),
-        Step::Refuse(id) => refuse(event, id, Noted { digit: 0, told }),
+    Ok(match step {
+        Step::Reserve(id) => event.reserve_for(id).is_ok(),
+        Step::Wait(id, digit) => wait(event, id, Noted { digit, told })?,
+        Step::Refuse(id) => {
+            event.reserve_for(id)?;
+            let mut maker = OwnedNotice { notice: None };
+            event.wait_again(id, &mut maker).is_err()
+        }
         Step::Tell(count) => {
             event.tell(count);
-            Ok(event.told() >= count)
+            event.told() >= count
         }
         Step::TellAll => {
             event.tell_all();
-            Ok(event.told() == event.len())
+            event.told() == event.len()
         }
-        Step::Consume(id, was_told) => Ok(event.consume(id) == was_told),
-        Step::Abandon(id, digit) => Ok(abandon(event, id, digit)),
-        Step::IsTold(id, is_told) => Ok(event.is_told(id) == is_told),
-        Step::Called(digits) => Ok(told.get() == digits),
-        Step::Told(count) => Ok(event.told() == count),
-        Step::Len(len) => Ok(event.len() == len),
+        Step::Consume(id, was_told) => event.consume(id) == was_told,
+        Step::Abandon(id, digit) => {
+            let notice = event.abandon(id);
+            notice.map(|noted| noted.digit) == digit && event.is_told(id).is_none()
+        }
+        Step::IsTold(id, is_told) => event.is_told(id) == is_told,
+        Step::Called(digits) => told.get() == digits,
         Step::Waiting(ids, count) => {
-            Ok(event.ids(alloc)?.as_slice() == ids && event.told() == count)
+            let listed = event.ids(alloc)?;
+            listed.as_slice() == ids && event.len() == ids.len() && event.told() == count
         }
-    }
+    })
 }
 
 // The index of the first step that returns something else.
@@ -254,20 +224,22 @@ fn notices_are_called_in_their_order(rt: HostRuntime) -> Result<(), Fail> {
 // Whether a list is unchanged if memory for a greater id is refused, and then has it for one more.
 fn stays<A: Allocator + Copy>(alloc: A, refused: Id) -> Result<bool, AllocError> {
     let mut event = Event::new(alloc);
-    wait(&mut event, STREAM, Silent)?;
+    wait(&mut event, (0, Stream), Silent)?;
     event.tell(1);
-    wait(&mut event, FUTURE, Silent)?;
+    wait(&mut event, (0, Future), Silent)?;
     let is_refused = event.reserve_for(refused).is_err();
-    let stays = event.is_told(STREAM) == Some(true) && event.is_untold(FUTURE) && event.len() == 2;
-    Ok(is_refused && stays && wait(&mut event, OTHER, Silent)?)
+    let stays = event.is_told((0, Stream)) == Some(true)
+        && event.is_untold((0, Future))
+        && event.len() == 2;
+    Ok(is_refused && stays && wait(&mut event, (1, Stream), Silent)?)
 }
 
 #[test]
 fn a_refused_reserve_changes_nothing(rt: HostRuntime) -> Result<(), Fail> {
     let heap = LocalHeap::new(rt.alloc(), 1 << 12)?;
-    let is_unchanged = stays(&heap, (1 << 12, Kind::Stream))?;
+    let is_unchanged = stays(&heap, (1 << 12, Stream))?;
     assert!(rt; is_unchanged, "more than the heap has");
-    let is_unchanged = stays(&heap, (usize::MAX, Kind::Future))?;
+    let is_unchanged = stays(&heap, (usize::MAX, Future))?;
     assert!(rt; is_unchanged, "a number that doesn't fit");
     Ok(())
 }
@@ -277,8 +249,8 @@ fn keys_too_great_are_refused(rt: HostRuntime) -> Result<(), Fail> {
     let rows = [("the greatest", usize::MAX), ("its future", usize::MAX / 2)];
     for (name, key) in rows {
         let mut event = Event::<Id, Silent>::new(rt.alloc());
-        assert!(rt; event.reserve_for((key, Kind::Future)).is_err(), "{name}");
-        assert!(rt; stays(rt.alloc(), (key, Kind::Future))?, "{name}");
+        assert!(rt; event.reserve_for((key, Future)).is_err(), "{name}");
+        assert!(rt; stays(rt.alloc(), (key, Future))?, "{name}");
     }
     Ok(())
 }

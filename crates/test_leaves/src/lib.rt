@@ -2,11 +2,9 @@
 #![tactic(auto)]
 
 #[cfg(test)]
-mod cursors;
-#[cfg(test)]
 mod event;
 #[cfg(test)]
-mod places;
+mod keys;
 #[cfg(test)]
 mod queue;
 #[cfg(test)]

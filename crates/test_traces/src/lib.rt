@@ -5,8 +5,6 @@
 #[cfg(test)]
 mod calls;
 #[cfg(test)]
-mod played;
-#[cfg(test)]
 mod random;
 #[cfg(test)]
 mod refused;

@@ -4,7 +4,7 @@ ghost use Rattle.std.specs.Prelude.{◌<◌, ◌+◌, ◌^◌, IfOk};
 ghost use Rattle.bcast_model.specs.Next.{HasPositiveCapacity};
 
 use crate::calls::{asks, messages, text_of};
-use crate::played::play;
+use crate::refused::play;
 use bcast_core::{Call, Inner, Silent, step};
 use bcast_text::ending::Ending;
 use bcast_trace::command::Command;

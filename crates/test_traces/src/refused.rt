@@ -1,8 +1,8 @@
 //! Lines that are refused, with the message and the status that they are refused by.
-use crate::played::play;
 use bcast_text::ending::{Ending, Program};
 use bcast_trace::command::Command;
 use bcast_trace::line::LONGEST;
+use bcast_trace::{list, trace};
 use std::alloc::{AllocError, Global};
 use std::io;
 use std::process::Abort;
@@ -121,6 +121,14 @@ const NO_CALL: &[&str] = &[
     "SenderCount 0",
     "EndNumber 0",
 ];
+
+/// Plays `text` as `replay` does by this command, writes to `wrote`, and returns how that ended.
+pub fn play(alloc: Global, command: Command, text: &[u8], wrote: &mut Vec<u8>) -> Ending {
+    match command {
+        Command::Trace => trace(alloc, alloc, text, wrote),
+        Command::List => list(alloc, alloc, text, wrote),
+    }
+}
 
 /// Whether `ending` has this text and this status.
 fn says(alloc: Global, ending: Ending, text: &str, status: u8) -> Result<bool, AllocError> {

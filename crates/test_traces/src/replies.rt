@@ -1,172 +1,14 @@
 //! The text of each reply, as it is written.
 use crate::calls::messages;
-use bcast_core::{HandleError, RecvError, Reply, SendError, TryRecvError};
+use bcast_core::{Reply, SendError, TryRecvError};
 use bcast_trace::reply::{write_answer, write_reply};
-use std::alloc::{AllocError, Global};
+use std::alloc::{AllocError, AllocGlobal};
 use std::io;
 use std::process::Abort;
 
-/// A text, and a reply that is written so.
-type Row = (&'static str, Reply<u64>);
-
-/// The replies of sends. None: there is no row of this index.
-fn sending_row(alloc: Global, index: usize) -> Result<Option<Row>, AllocError> {
-    use bcast_core::Reply::{AttemptSend, PollSend};
-    use bcast_core::SendPoll::{Ready, Wait};
-    use bcast_core::TrySendError::{Closed, Full, Inactive};
-    Ok(Some(match index {
-        0 => ("ok", Reply::TryBroadcast(Ok(None))),
-        1 => ("ok dropped 1", Reply::TryBroadcast(Ok(Some(1)))),
-        2 => ("full 2", Reply::TryBroadcast(Err(Full(2)))),
-        3 => ("closed 3", Reply::TryBroadcast(Err(Closed(3)))),
-        4 => ("inactive 4", Reply::TryBroadcast(Err(Inactive(4)))),
-        5 => ("ok", Reply::TryBroadcastAll(Ok(()))),
-        6 => (
-            "full 5 6",
-            Reply::TryBroadcastAll(Err(Full(messages(alloc, &[5, 6])?))),
-        ),
-        7 => (
-            "closed 7 8 9",
-            Reply::TryBroadcastAll(Err(Closed(messages(alloc, &[7, 8, 9])?))),
-        ),
-        8 => (
-            "inactive 10",
-            Reply::TryBroadcastAll(Err(Inactive(messages(alloc, &[10])?))),
-        ),
-        9 => ("ready ok", AttemptSend(Ready(Ok(None)))),
-        10 => ("ready ok dropped 11", AttemptSend(Ready(Ok(Some(11))))),
-        11 => ("ready senderror 12", AttemptSend(Ready(Err(SendError(12))))),
-        12 => ("wait 13", AttemptSend(Wait(13))),
-        13 => ("ok 14", Reply::BeginSend(Ok(14))),
-        14 => ("no memory", Reply::BeginSend(Err(AllocError))),
-        15 => ("ready ok", PollSend(Ready(Ok(None)))),
-        16 => ("ready ok dropped 15", PollSend(Ready(Ok(Some(15))))),
-        17 => ("ready senderror 16", PollSend(Ready(Err(SendError(16))))),
-        18 => ("wait 17", PollSend(Wait(17))),
-        19 => ("-", Reply::EndSend),
-        _ => return Ok(None),
-    }))
-}
-
-/// The replies of receives. None: there is no row of this index.
-fn receiving_row(index: usize) -> Option<Row> {
-    use bcast_core::RecvError::Closed;
-    use bcast_core::Reply::{PollFuture, PollNext, PollRecv};
-    use futures::task::Poll::{Pending, Ready};
-    Some(match index {
-        0 => ("-", Reply::EndFuture),
-        1 => ("got 18446744073709551615", Reply::TryRecv(Ok(Ok(u64::MAX)))),
-        2 => (
-            "overflowed 18",
-            Reply::TryRecv(Ok(Err(TryRecvError::Overflowed(18)))),
-        ),
-        3 => ("empty", Reply::TryRecv(Ok(Err(TryRecvError::Empty)))),
-        4 => ("closed", Reply::TryRecv(Ok(Err(TryRecvError::Closed)))),
-        5 => ("no memory", Reply::TryRecv(Err(AllocError))),
-        6 => ("ready got 19", PollFuture(Ok(Ready(Ok(19))))),
-        7 => (
-            "ready overflowed 20",
-            PollFuture(Ok(Ready(Err(RecvError::Overflowed(20))))),
-        ),
-        8 => ("ready closed", PollFuture(Ok(Ready(Err(Closed))))),
-        9 => ("pending", PollFuture(Ok(Pending))),
-        10 => ("no memory", PollFuture(Err(AllocError))),
-        11 => ("ready some got 21", PollRecv(Ok(Ready(Some(Ok(21)))))),
-        12 => (
-            "ready some overflowed 22",
-            PollRecv(Ok(Ready(Some(Err(RecvError::Overflowed(22)))))),
-        ),
-        13 => ("ready none", PollRecv(Ok(Ready(None)))),
-        14 => ("pending", PollRecv(Ok(Pending))),
-        15 => ("no memory", PollRecv(Err(AllocError))),
-        16 => (
-            "ready some got 23 skipped 24",
-            PollNext(Ok(Ready(Some((23, 24))))),
-        ),
-        17 => ("ready none", PollNext(Ok(Ready(None)))),
-        18 => ("pending", PollNext(Ok(Pending))),
-        19 => ("no memory", PollNext(Err(AllocError))),
-        _ => return None,
-    })
-}
-
-/// The replies of calls that make or drop a handle. None: there is no row of this index.
-fn handle_row(index: usize) -> Option<Row> {
-    Some(match index {
-        0 => ("-", Reply::DropSender),
-        1 => ("-", Reply::DropInactive),
-        2 => ("-", Reply::DropReceiver),
-        3 => ("ok", Reply::NewSender(Ok(()))),
-        4 => ("no memory", Reply::NewSender(Err(HandleError::Memory))),
-        5 => ("too many", Reply::NewSender(Err(HandleError::TooMany))),
-        6 => ("gone", Reply::NewSender(Err(HandleError::Gone))),
-        7 => ("ok", Reply::CloneInactive(Ok(()))),
-        8 => ("no memory", Reply::CloneInactive(Err(HandleError::Memory))),
-        9 => ("too many", Reply::CloneInactive(Err(HandleError::TooMany))),
-        10 => ("gone", Reply::CloneInactive(Err(HandleError::Gone))),
-        11 => ("ok", Reply::Deactivate(Ok(()))),
-        12 => ("no memory", Reply::Deactivate(Err(HandleError::Memory))),
-        13 => ("too many", Reply::Deactivate(Err(HandleError::TooMany))),
-        14 => ("gone", Reply::Deactivate(Err(HandleError::Gone))),
-        15 => ("ok 25", Reply::NewReceiver(Ok(25))),
-        16 => ("no memory", Reply::NewReceiver(Err(HandleError::Memory))),
-        17 => ("too many", Reply::NewReceiver(Err(HandleError::TooMany))),
-        18 => ("gone", Reply::NewReceiver(Err(HandleError::Gone))),
-        19 => ("ok 26", Reply::Activate(Ok(26))),
-        20 => ("no memory", Reply::Activate(Err(HandleError::Memory))),
-        21 => ("too many", Reply::Activate(Err(HandleError::TooMany))),
-        22 => ("gone", Reply::Activate(Err(HandleError::Gone))),
-        23 => ("ok 27", Reply::ActivateCloned(Ok(27))),
-        24 => ("no memory", Reply::ActivateCloned(Err(HandleError::Memory))),
-        25 => ("too many", Reply::ActivateCloned(Err(HandleError::TooMany))),
-        26 => ("gone", Reply::ActivateCloned(Err(HandleError::Gone))),
-        27 => ("ok 28", Reply::CloneReceiver(Ok(28))),
-        28 => ("no memory", Reply::CloneReceiver(Err(HandleError::Memory))),
-        29 => ("too many", Reply::CloneReceiver(Err(HandleError::TooMany))),
-        30 => ("gone", Reply::CloneReceiver(Err(HandleError::Gone))),
-        _ => return None,
-    })
-}
-
-/// The replies of settings and of what a channel answers of itself. None: there is no row of this
-/// index.
-fn setting_row(index: usize) -> Option<Row> {
-    Some(match index {
-        0 => ("ok", Reply::SetCapacity(Ok(()))),
-        1 => ("no memory", Reply::SetCapacity(Err(AllocError))),
-        2 => ("-", Reply::SetOverflow),
-        3 => ("-", Reply::SetAwaitActive),
-        4 => ("true", Reply::Close(true)),
-        5 => ("false", Reply::Close(false)),
-        6 => ("true", Reply::Overflow(true)),
-        7 => ("false", Reply::Overflow(false)),
-        8 => ("true", Reply::AwaitActive(true)),
-        9 => ("false", Reply::AwaitActive(false)),
-        10 => ("true", Reply::IsEmpty(true)),
-        11 => ("false", Reply::IsEmpty(false)),
-        12 => ("true", Reply::IsFull(true)),
-        13 => ("false", Reply::IsFull(false)),
-        14 => ("true", Reply::IsClosed(true)),
-        15 => ("false", Reply::IsClosed(false)),
-        16 => ("true", Reply::IsTerminated(true)),
-        17 => ("false", Reply::IsTerminated(false)),
-        18 => ("30", Reply::Capacity(30)),
-        19 => ("31", Reply::Len(31)),
-        20 => ("32", Reply::ReceiverCount(32)),
-        21 => ("33", Reply::InactiveReceiverCount(33)),
-        22 => ("34", Reply::SenderCount(34)),
-        23 => ("35", Reply::EndNumber(35)),
-        _ => return None,
-    })
-}
-
-/// Fails the test unless there is a row of this index, and its reply is written so, alone and after
-/// its call.
-fn expect(rt: &impl Abort, alloc: Global, index: usize, row: &Option<Row>) -> io::Result<()> {
-    assert!(rt; row.is_some(), "row {index}");
-    let Some((text, reply)) = row else {
-        return Ok(());
-    };
+/// Fails the test unless this reply is written so, alone and after its call.
+fn expect<R: Abort + AllocGlobal>(rt: &R, text: &str, reply: &Reply<u64>) -> io::Result<()> {
+    let alloc = rt.alloc();
     let mut wrote = Vec::new(alloc);
     write_reply(reply, &mut wrote)?;
     assert!(rt; wrote.as_slice() == text.as_bytes(), "{text}");
@@ -180,32 +22,151 @@ fn expect(rt: &impl Abort, alloc: Global, index: usize, row: &Option<Row>) -> io
 
 #[test]
 fn sending_replies(rt: HostRuntime) -> io::Result<()> {
-    for index in 0..20 {
-        expect(&rt, rt.alloc(), index, &sending_row(rt.alloc(), index)?)?;
-    }
+    use bcast_core::Reply::{
+        AttemptSend, BeginSend, EndSend, PollSend, TryBroadcast, TryBroadcastAll,
+    };
+    use bcast_core::SendPoll::{Ready, Wait};
+    use bcast_core::TrySendError::{Closed, Full, Inactive};
+    expect(&rt, "ok", &TryBroadcast(Ok(None)))?;
+    expect(&rt, "ok dropped 1", &TryBroadcast(Ok(Some(1))))?;
+    expect(&rt, "full 2", &TryBroadcast(Err(Full(2))))?;
+    expect(&rt, "closed 3", &TryBroadcast(Err(Closed(3))))?;
+    expect(&rt, "inactive 4", &TryBroadcast(Err(Inactive(4))))?;
+    expect(&rt, "ok", &TryBroadcastAll(Ok(())))?;
+    expect(
+        &rt,
+        "full 5 6",
+        &TryBroadcastAll(Err(Full(messages(rt.alloc(), &[5, 6])?))),
+    )?;
+    expect(
+        &rt,
+        "closed 7 8 9",
+        &TryBroadcastAll(Err(Closed(messages(rt.alloc(), &[7, 8, 9])?))),
+    )?;
+    expect(
+        &rt,
+        "inactive 10",
+        &TryBroadcastAll(Err(Inactive(messages(rt.alloc(), &[10])?))),
+    )?;
+    expect(&rt, "ready ok", &AttemptSend(Ready(Ok(None))))?;
+    expect(
+        &rt,
+        "ready ok dropped 11",
+        &AttemptSend(Ready(Ok(Some(11)))),
+    )?;
+    expect(
+        &rt,
+        "ready senderror 12",
+        &AttemptSend(Ready(Err(SendError(12)))),
+    )?;
+    expect(&rt, "wait 13", &AttemptSend(Wait(13)))?;
+    expect(&rt, "ok 14", &BeginSend(Ok(14)))?;
+    expect(&rt, "no memory", &BeginSend(Err(AllocError)))?;
+    expect(&rt, "ready ok", &PollSend(Ready(Ok(None))))?;
+    expect(&rt, "ready ok dropped 15", &PollSend(Ready(Ok(Some(15)))))?;
+    expect(
+        &rt,
+        "ready senderror 16",
+        &PollSend(Ready(Err(SendError(16)))),
+    )?;
+    expect(&rt, "wait 17", &PollSend(Wait(17)))?;
+    expect(&rt, "-", &EndSend)?;
     Ok(())
 }
 
 #[test]
 fn receiving_replies(rt: HostRuntime) -> io::Result<()> {
-    for index in 0..20 {
-        expect(&rt, rt.alloc(), index, &receiving_row(index))?;
-    }
+    use bcast_core::RecvError::{Closed, Overflowed};
+    use bcast_core::Reply::{EndFuture, PollFuture, PollNext, PollRecv, TryRecv};
+    use futures::task::Poll::{Pending, Ready};
+    expect(&rt, "-", &EndFuture)?;
+    expect(&rt, "got 18446744073709551615", &TryRecv(Ok(Ok(u64::MAX))))?;
+    expect(
+        &rt,
+        "overflowed 18",
+        &TryRecv(Ok(Err(TryRecvError::Overflowed(18)))),
+    )?;
+    expect(&rt, "empty", &TryRecv(Ok(Err(TryRecvError::Empty))))?;
+    expect(&rt, "closed", &TryRecv(Ok(Err(TryRecvError::Closed))))?;
+    expect(&rt, "no memory", &TryRecv(Err(AllocError)))?;
+    expect(&rt, "ready got 19", &PollFuture(Ok(Ready(Ok(19)))))?;
+    expect(
+        &rt,
+        "ready overflowed 20",
+        &PollFuture(Ok(Ready(Err(Overflowed(20))))),
+    )?;
+    expect(&rt, "ready closed", &PollFuture(Ok(Ready(Err(Closed)))))?;
+    expect(&rt, "pending", &PollFuture(Ok(Pending)))?;
+    expect(&rt, "no memory", &PollFuture(Err(AllocError)))?;
+    expect(&rt, "ready some got 21", &PollRecv(Ok(Ready(Some(Ok(21))))))?;
+    expect(
+        &rt,
+        "ready some overflowed 22",
+        &PollRecv(Ok(Ready(Some(Err(Overflowed(22)))))),
+    )?;
+    expect(&rt, "ready none", &PollRecv(Ok(Ready(None))))?;
+    expect(&rt, "pending", &PollRecv(Ok(Pending)))?;
+    expect(&rt, "no memory", &PollRecv(Err(AllocError)))?;
+    expect(
+        &rt,
+        "ready some got 23 skipped 24",
+        &PollNext(Ok(Ready(Some((23, 24))))),
+    )?;
+    expect(&rt, "ready none", &PollNext(Ok(Ready(None))))?;
+    expect(&rt, "pending", &PollNext(Ok(Pending)))?;
+    expect(&rt, "no memory", &PollNext(Err(AllocError)))?;
     Ok(())
 }
 
 #[test]
 fn handle_replies(rt: HostRuntime) -> io::Result<()> {
-    for index in 0..31 {
-        expect(&rt, rt.alloc(), index, &handle_row(index))?;
+    use bcast_core::HandleError::{Gone, Memory, TooMany};
+    use bcast_core::Reply::{Activate, ActivateCloned, CloneInactive, CloneReceiver, Deactivate};
+    use bcast_core::Reply::{DropInactive, DropReceiver, DropSender, NewReceiver, NewSender};
+    expect(&rt, "-", &DropSender)?;
+    expect(&rt, "-", &DropInactive)?;
+    expect(&rt, "-", &DropReceiver)?;
+    expect(&rt, "ok", &NewSender(Ok(())))?;
+    expect(&rt, "ok", &CloneInactive(Ok(())))?;
+    expect(&rt, "ok", &Deactivate(Ok(())))?;
+    expect(&rt, "ok 25", &NewReceiver(Ok(25)))?;
+    expect(&rt, "ok 26", &Activate(Ok(26)))?;
+    expect(&rt, "ok 27", &ActivateCloned(Ok(27)))?;
+    expect(&rt, "ok 28", &CloneReceiver(Ok(28)))?;
+    let errors = [("no memory", Memory), ("too many", TooMany), ("gone", Gone)];
+    for (text, error) in errors {
+        expect(&rt, text, &NewSender(Err(error)))?;
+        expect(&rt, text, &CloneInactive(Err(error)))?;
+        expect(&rt, text, &Deactivate(Err(error)))?;
+        expect(&rt, text, &NewReceiver(Err(error)))?;
+        expect(&rt, text, &Activate(Err(error)))?;
+        expect(&rt, text, &ActivateCloned(Err(error)))?;
+        expect(&rt, text, &CloneReceiver(Err(error)))?;
     }
     Ok(())
 }
 
 #[test]
 fn setting_replies(rt: HostRuntime) -> io::Result<()> {
-    for index in 0..24 {
-        expect(&rt, rt.alloc(), index, &setting_row(index))?;
+    use bcast_core::Reply::*;
+    expect(&rt, "ok", &SetCapacity(Ok(())))?;
+    expect(&rt, "no memory", &SetCapacity(Err(AllocError)))?;
+    expect(&rt, "-", &SetOverflow)?;
+    expect(&rt, "-", &SetAwaitActive)?;
+    expect(&rt, "30", &Capacity(30))?;
+    expect(&rt, "31", &Len(31))?;
+    expect(&rt, "32", &ReceiverCount(32))?;
+    expect(&rt, "33", &InactiveReceiverCount(33))?;
+    expect(&rt, "34", &SenderCount(34))?;
+    expect(&rt, "35", &EndNumber(35))?;
+    for (text, answer) in [("true", true), ("false", false)] {
+        expect(&rt, text, &Close(answer))?;
+        expect(&rt, text, &Overflow(answer))?;
+        expect(&rt, text, &AwaitActive(answer))?;
+        expect(&rt, text, &IsEmpty(answer))?;
+        expect(&rt, text, &IsFull(answer))?;
+        expect(&rt, text, &IsClosed(answer))?;
+        expect(&rt, text, &IsTerminated(answer))?;
     }
     Ok(())
 }

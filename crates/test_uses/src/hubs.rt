@@ -2,6 +2,5 @@
 mod asked;
 mod collisions;
 mod memory;
-mod page;
 mod rows;
 mod tables;

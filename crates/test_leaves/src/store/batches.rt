@@ -1,5 +1,5 @@
 //! Rows of two receivers that are given several messages at once, themselves or as clones.
-use super::fast::push;
+use super::push;
 use bcast_store::Store;
 use std::alloc::{AllocError, Global};
 use std::test::Fail;
@@ -23,8 +23,8 @@ impl Clone for Letter {
     }
 }
 
-// The name of a row, the receiver, how many messages it asks for; then the letters that it is given,
-// themselves and as clones, the cursors of both receivers, and the front.
+// The name of a row, the receiver, how many messages it asks for; then the letters that it is
+// given, themselves and as clones, the cursors of both receivers, and the front.
 type Row = (
     &'static str,
     usize,
@@ -60,39 +60,23 @@ fn given(
     count: usize,
 ) -> Result<Vec<Letter>, AllocError> {
     let mut msgs = Vec::with_capacity(alloc, count)?;
-    let Some(number) = store.cursor(key) else {
-        return Ok(msgs);
-    };
-    if number < store.front() || number > store.end() || count as u64 > store.end() - number {
-        return Ok(msgs);
+    if let Some(number) = store.cursor(key)
+        && number >= store.front()
+        && number <= store.end()
+        && count as u64 <= store.end() - number
+    {
+        store.read_many(key, number, count, &mut msgs);
     }
-    store.read_many(key, number, count, &mut msgs);
     Ok(msgs)
 }
 
-// Whether these are the messages of the first letters, and then clones of the others.
-fn are(msgs: &[Letter], own: &[u8], cloned: &[u8]) -> bool {
-    let mut are = msgs.len() == own.len() + cloned.len();
-    for (index, (msg, letter)) in msgs.iter().zip(own.iter().chain(cloned.iter())).enumerate() {
-        are &= msg.letter == *letter && msg.is_clone == (index >= own.len());
-    }
-    are
+// Whether a message is the letter's own, or a clone.
+fn is(msg: Option<&Letter>, letter: u8, is_clone: bool) -> bool {
+    msg.is_some_and(|msg| msg.letter == letter && msg.is_clone == is_clone)
 }
 
-// Whether a store has the messages themselves from this number on, of those whose first has the
-// number 7.
-fn has(store: &Store<Letter>, letters: &[u8], front: u64) -> bool {
-    let gone = front.saturating_sub(7) as usize;
-    let mut has = store.front() == front && store.len() == letters.len().saturating_sub(gone);
-    for (index, letter) in letters.iter().skip(gone).enumerate() {
-        has &= store
-            .get(index)
-            .is_some_and(|msg| msg.letter == *letter && !msg.is_clone);
-    }
-    has
-}
-
-// Whether a row's call gives what it says, and leaves that.
+// Whether a row's call gives what it says, and leaves that: of the letters from the number 7 on
+// those from its front on, which are no clones.
 fn is_right(
     store: &mut Store<Letter>,
     alloc: Global,
@@ -102,8 +86,17 @@ fn is_right(
 ) -> Result<bool, AllocError> {
     let (_name, receiver, count, own, cloned, cursors, front) = row;
     let given = given(store, alloc, keys[*receiver % 2], *count)?;
-    let stand = keys.map(|key| store.cursor(key)) == [Some(cursors[0]), Some(cursors[1])];
-    Ok(stand && are(&given, own, cloned) && has(store, letters, *front))
+    let is_whole = given.len().checked_sub(own.len()) == Some(cloned.len());
+    let mut is_right = is_whole && store.front() == *front;
+    for (index, letter) in own.iter().chain(cloned.iter()).enumerate() {
+        is_right &= is(given.get(index), *letter, index >= own.len());
+    }
+    let gone = front.saturating_sub(7) as usize;
+    is_right &= store.len() == letters.len().saturating_sub(gone);
+    for (index, letter) in letters.iter().skip(gone).enumerate() {
+        is_right &= is(store.get(index), *letter, false);
+    }
+    Ok(is_right && keys.map(|key| store.cursor(key)) == [Some(cursors[0]), Some(cursors[1])])
 }
 
 // Makes the calls of a table on a store with two receivers and these messages, and returns the name

@@ -1,48 +1,32 @@
-//! The calls that take memory, made while it is refused.
-use super::fast::{push, read};
+//! The calls that take memory, made while it is refused. Messages take memory too.
+use super::{push, read};
 use bcast_store::Store;
 use linked_list_allocator::LocalHeap;
 use std::alloc::{AllocError, Allocator};
 use std::process::Abort;
 use std::test::Fail;
 
-// A message that takes memory.
-trait Text: Clone + Drop {
-    fn is_whole(&self) -> bool;
-}
+type Texts<A> = Store<String<A>, A>;
 
-#[derive(Drop)]
-struct Message<'a> {
-    bytes: Vec<u8, &'a LocalHeap>,
-}
+const TEXT: &str = "a message of some length";
 
-impl<'a> Clone for Message<'a> {
-    fn clone(&self) -> Result<Message<'a>, AllocError> {
-        let bytes = self.bytes.clone()?;
-        Ok(Message { bytes })
-    }
-}
-
-const TEXT: [u8; 24] = *b"a message of some length";
-
-impl Text for Message<'_> {
-    fn is_whole(&self) -> bool {
-        self.bytes.as_slice() == TEXT.as_slice()
-    }
-}
-
+// Adds a receiver with this cursor, which is not past the end.
 fn add<T: Drop, A: Allocator + Copy>(
     store: &mut Store<T, A>,
     cursor: u64,
 ) -> Result<usize, AllocError> {
-    if cursor > store.end() {
-        return Err(AllocError);
-    }
-    store.add(cursor)
+    store.add(cursor.min(store.end()))
+}
+
+// A store with room for one message, and the key of its receiver.
+fn with_receiver<A: Allocator + Copy>(alloc: A) -> Result<(Texts<A>, usize), AllocError> {
+    let mut store = Store::new(alloc, 7, 1)?;
+    let key = add(&mut store, 7)?;
+    Ok((store, key))
 }
 
 // Whether more room was refused, if the room is as great as it must be then.
-fn grow<T: Drop, A: Allocator + Copy>(store: &mut Store<T, A>) -> Option<bool> {
+fn grow<A: Allocator + Copy>(store: &mut Texts<A>) -> Option<bool> {
     if store.room() > 9 {
         return None;
     }
@@ -52,28 +36,19 @@ fn grow<T: Drop, A: Allocator + Copy>(store: &mut Store<T, A>) -> Option<bool> {
 }
 
 // Whether a receiver is given a message, and it is whole. None: it is given none.
-fn reads<T: Text, A: Allocator + Copy>(store: &mut Store<T, A>, key: usize) -> Option<bool> {
+fn reads<A: Allocator + Copy>(store: &mut Texts<A>, key: usize) -> Option<bool> {
     let msg = read(store, key).ok()??;
-    Some(msg.is_whole())
-}
-
-// A store with room for one message, and the key of its receiver.
-fn with_receiver<T: Text, A: Allocator + Copy>(
-    alloc: A,
-) -> Result<(Store<T, A>, usize), AllocError> {
-    let mut store = Store::new(alloc, 7, 1)?;
-    let key = add(&mut store, 7)?;
-    Ok((store, key))
+    Some(msg.as_str() == TEXT)
 }
 
 // Two receivers read a message, with what memory there is; a failure prints `size`. Returns whether
 // there was some for more room, and for the first one's clone. None: there was none for the store.
-fn two_read<T: Text, A: Allocator + Copy>(
+fn two_read<A: Allocator + Copy>(
     rt: &impl Abort,
     alloc: A,
-    msg: T,
     size: usize,
 ) -> Result<Option<(bool, bool)>, AllocError> {
+    let msg = String::from_str(alloc, TEXT)?;
     let Ok((mut store, first)) = with_receiver(alloc) else {
         return Ok(None);
     };
@@ -92,18 +67,12 @@ fn two_read<T: Text, A: Allocator + Copy>(
     Ok(Some((grow == Some(false), read.is_some())))
 }
 
-// As above, on a heap; an error if the heap has no memory even for the message.
-fn run(rt: &impl Abort, heap: &LocalHeap, size: usize) -> Result<Option<(bool, bool)>, AllocError> {
-    let bytes = Vec::from_slice(heap, TEXT.as_slice())?;
-    two_read(rt, heap, Message { bytes }, size)
-}
-
 #[test]
 fn refused_memory_changes_nothing(rt: HostRuntime) -> Result<(), Fail> {
     let (mut new, mut both, mut last) = (false, false, None);
     for size in 4..64 {
         let heap = LocalHeap::new(rt.alloc(), size * 16)?;
-        if let Ok(made) = run(&rt, &heap, size) {
+        if let Ok(made) = two_read(&rt, &heap, size) {
             new |= made.is_none();
             both |= made == Some((false, false));
             last = made;
@@ -115,51 +84,49 @@ fn refused_memory_changes_nothing(rt: HostRuntime) -> Result<(), Fail> {
     Ok(())
 }
 
-// How many receivers a store has when one more is refused, if nothing else changed.
-fn refused_receiver<A: Allocator + Copy>(alloc: A) -> Result<Option<usize>, AllocError> {
-    let mut store = Store::<u8, A>::new(alloc, 7, 1)?;
+// Adds receivers until one is refused, and returns how many were added.
+fn fill<A: Allocator + Copy>(store: &mut Store<u8, A>) -> Option<usize> {
     for added in 0..64 {
-        if add(&mut store, 7).is_err() {
-            let is_same = store.receivers() == added && store.end() == 7;
-            return Ok(is_same.then_some(added));
+        if add(store, 7).is_err() {
+            return Some(added);
         }
     }
-    Ok(None)
+    None
 }
 
 #[test]
 fn a_refused_receiver_is_not_added(rt: HostRuntime) -> Result<(), Fail> {
     let heap = LocalHeap::new(rt.alloc(), 512)?;
-    assert!(rt; refused_receiver(&heap)?.is_some());
+    let mut store = Store::new(&heap, 7, 1)?;
+    assert!(rt; fill(&mut store) == Some(store.receivers()));
+    assert!(rt; store.end() == 7);
     Ok(())
 }
 
-// Whether a message is dropped when all receivers are removed, after one more was refused.
-fn message_leaves<A: Allocator + Copy>(alloc: A) -> Result<bool, AllocError> {
-    let mut store = Store::<u8, A>::new(alloc, 7, 1)?;
-    add(&mut store, 7)?;
-    push(&mut store, b'a');
-    for _more in 0..64 {
-        if add(&mut store, 7).is_err() {
-            for key in 0..64 {
-                store.remove(key);
-            }
-            return Ok(store.has_no_receiver() && store.is_empty() && store.front() == 8);
-        }
+// Whether the only message is dropped once all receivers are removed.
+fn is_dropped<A: Allocator + Copy>(store: &mut Store<u8, A>) -> bool {
+    let is_kept = store.len() == 1;
+    for key in 0..64 {
+        store.remove(key);
     }
-    Ok(false)
+    is_kept && store.has_no_receiver() && store.is_empty() && store.front() == 8
 }
 
 #[test]
 fn a_refused_receiver_owes_nothing(rt: HostRuntime) -> Result<(), Fail> {
     let heap = LocalHeap::new(rt.alloc(), 512)?;
-    assert!(rt; message_leaves(&heap)?);
+    let mut store = Store::new(&heap, 7, 1)?;
+    add(&mut store, 7)?;
+    push(&mut store, b'a');
+    assert!(rt; fill(&mut store).is_some());
+    assert!(rt; is_dropped(&mut store));
     Ok(())
 }
 
 // Whether a receiver that is behind has the same cursor after its read was refused. None: it was
 // not refused.
-fn lags_still<T: Text, A: Allocator + Copy>(alloc: A, msg: T) -> Result<Option<bool>, AllocError> {
+fn lags_still<A: Allocator + Copy>(alloc: A) -> Result<Option<bool>, AllocError> {
+    let msg = String::from_str(alloc, TEXT)?;
     let (mut store, first) = with_receiver(alloc)?;
     push(&mut store, msg);
     let Some(msg) = store.pop() else {
@@ -173,18 +140,12 @@ fn lags_still<T: Text, A: Allocator + Copy>(alloc: A, msg: T) -> Result<Option<b
     Ok(Some(store.cursor(first) == Some(7)))
 }
 
-// As above, on a heap; an error if the heap has no memory even for the message.
-fn run_behind(heap: &LocalHeap) -> Result<Option<bool>, AllocError> {
-    let bytes = Vec::from_slice(heap, TEXT.as_slice())?;
-    lags_still(heap, Message { bytes })
-}
-
 #[test]
 fn a_refused_read_skips_nothing(rt: HostRuntime) -> Result<(), Fail> {
     let mut refused = false;
     for size in 4..64 {
         let heap = LocalHeap::new(rt.alloc(), size * 16)?;
-        let Ok(Some(lags)) = run_behind(&heap) else {
+        let Ok(Some(lags)) = lags_still(&heap) else {
             continue
         };
         assert!(rt; lags, "{size}");

@@ -1,9 +1,7 @@
 //! Calls in their order with what they leave, on both stores.
-use super::slow::Plain;
-use super::{Call, Played, Seen, Tried};
-use bcast_store::Store;
+use super::plain::Plain;
+use super::{Both, Call, new_both};
 use std::alloc::{AllocError, Global};
-use std::process::Abort;
 use std::test::Fail;
 
 // The name of a row, the call, the message that it returns, and then the front, the messages, and
@@ -72,68 +70,35 @@ const BEHIND: &[Row] = &[
     ("moved", Call::Read(0), Some(b'c'), 8, b"", &[8]),
 ];
 
-// Whether a store has this front, these messages and these cursors.
-fn has<S: Tried>(
-    played: &Played<S>,
-    alloc: Global,
-    front: u64,
-    messages: &[u8],
-    cursors: &[u64],
-) -> Result<bool, AllocError> {
-    let store = &played.store;
-    let seen = Seen {
-        front,
-        end: front.saturating_add(messages.len() as u64),
-        len: messages.len(),
-        is_empty: messages.is_empty(),
-        room: store.seen().room,
-        receivers: cursors.len(),
-        has_no_receiver: cursors.is_empty(),
-    };
-    let mut is = store.seen() == seen && store.entries(alloc)?.len() == cursors.len();
-    for (index, message) in messages.iter().enumerate() {
-        is &= store.message(index) == Some(*message);
-    }
-    for (index, cursor) in cursors.iter().enumerate() {
-        is &= played.cursor(index) == Some(*cursor);
-    }
-    Ok(is)
+// Whether the plain store has this front, these messages and these cursors.
+fn has(plain: &Plain, front: u64, messages: &[u8], cursors: &[u64]) -> bool {
+    plain.front == front
+        && plain.messages.as_slice() == messages
+        && plain.cursors.as_slice() == cursors
 }
 
-// Makes the calls of a table, and returns the name of the first row that leaves something else.
-fn first_wrong<S: Tried>(
-    mut played: Played<S>,
+// Makes the calls of a table on both stores, and returns the name of the first row that leaves
+// something else.
+fn first_wrong(
+    both: &mut Both,
     alloc: Global,
     rows: &[Row],
 ) -> Result<Option<&'static str>, AllocError> {
     for (name, call, given, front, messages, cursors) in rows {
-        let is_given = played.take(*call)? == *given;
-        let is_right = played.change(*call)?;
-        if !is_given || !is_right || !has(&played, alloc, *front, messages, cursors)? {
+        let (message, are_same) = both.make(alloc, *call)?;
+        let is_left = has(&both.plain, *front, messages, cursors);
+        if !are_same || message != *given || !is_left {
             return Ok(Some(*name));
         }
     }
     Ok(None)
 }
 
-// Makes the calls of a table on both stores, with this front and room for two messages.
-fn run(rt: &impl Abort, alloc: Global, front: u64, rows: &[Row]) -> Result<(), AllocError> {
-    assert!(rt; front < 9);
-    let fast = Store::new(alloc, front, 2)?;
-    assert_eq!(rt; fast.room(), 2);
-    let fast = Played::new(alloc, fast)?;
-    assert_eq!(rt; first_wrong(fast, alloc, rows)?, None);
-    let slow = Plain::new(alloc, front, 2);
-    assert_eq!(rt; slow.seen().room, 2);
-    let slow = Played::new(alloc, slow)?;
-    assert_eq!(rt; first_wrong(slow, alloc, rows)?, None);
-    Ok(())
-}
-
 #[test]
 fn messages_leave_once_all_have_read(rt: HostRuntime) -> Result<(), Fail> {
     for (front, rows) in [(7, ALL_READ), (0, LEAVE), (0, LAG), (5, BEHIND)] {
-        run(&rt, rt.alloc(), front, rows)?;
+        let mut both = new_both(rt.alloc(), front, 2)?;
+        assert_eq!(rt; first_wrong(&mut both, rt.alloc(), rows)?, None);
     }
     Ok(())
 }

@@ -12,31 +12,21 @@ const NAMES: &[&str] = &["a", "b", "c", "d", "e", "f"];
 
 /// Opens the topics in turn, until there is no memory for one, and returns how many there are.
 ///
-/// That one must not be open then, and those before it must still be.
+/// That one must not be open then, and those before it must still be: each is closed.
 fn open_topics<A: Allocator + Copy>(rt: &impl Abort, alloc: A) -> Result<usize, AllocError> {
     let mut hub: Hub<u64, A> = Hub::new(alloc);
-    for (count, name) in NAMES.iter().enumerate() {
+    let mut count = NAMES.len();
+    for (index, name) in NAMES.iter().enumerate() {
         // Taken first, so that the memory that is refused is the hub's.
         let again = String::from_str(alloc, name)?;
-        match hub.ask(Request::Open(String::from_str(alloc, name)?, 1)) {
-            Answer::Opened => {}
-            answer => {
-                assert!(rt; answer == Answer::Memory);
-                assert!(rt; hub.ask(Request::Close(again)) == Answer::NoTopic);
-                return all_close(rt, alloc, &mut hub, count);
-            }
+        let answer = hub.ask(Request::Open(String::from_str(alloc, name)?, 1));
+        if answer != Answer::Opened {
+            assert!(rt; answer == Answer::Memory);
+            assert!(rt; hub.ask(Request::Close(again)) == Answer::NoTopic);
+            count = index;
+            break;
         }
     }
-    Ok(NAMES.len())
-}
-
-/// Closes this many topics, which must be open. Returns how many.
-fn all_close<A: Allocator + Copy>(
-    rt: &impl Abort,
-    alloc: A,
-    hub: &mut Hub<u64, A>,
-    count: usize,
-) -> Result<usize, AllocError> {
     for name in NAMES.iter().take(count) {
         let closed = hub.ask(Request::Close(String::from_str(alloc, name)?));
         assert!(rt; closed == Answer::Done(Reply::Close(true)));
