@@ -1,28 +1,13 @@
 //! Batches of messages, each beside as many single receives on another channel.
-use crate::calls::{Channel, channel, gets};
-use rows::{ROWS, Row};
+use crate::calls::{Channel, channel};
+use crate::rows::Row;
+use rows::ROWS;
 use std::alloc::{AllocError, Global};
 use std::process::Abort;
 use std::test::Fail;
 
 mod refused;
 mod rows;
-
-/// Whether a batch gives these messages, behind one that is there before.
-fn gives(
-    alloc: Global,
-    inner: &mut Channel,
-    key: usize,
-    limit: usize,
-    msgs: &[u64],
-) -> Result<bool, AllocError> {
-    let mut given = Vec::from_slice(alloc, &[99])?;
-    let count = inner.receive_many(key, limit, &mut given);
-    let Some((first, given)) = given.as_slice().split_first() else {
-        return Ok(false);
-    };
-    Ok(*first == 99 && given == msgs && count == msgs.len())
-}
 
 /// Whether these messages are given one by one.
 fn gives_each(inner: &mut Channel, key: usize, msgs: &[u64]) -> Result<bool, AllocError> {
@@ -41,15 +26,11 @@ fn holds(
     singles: &mut Channel,
     row: Row,
 ) -> Result<bool, Fail> {
-    match row {
-        Row::Call(call, reply) => {
-            Ok(gets(alloc, batches, call, reply)? && gets(alloc, singles, call, reply)?)
-        }
-        Row::Batch(key, limit, msgs) => {
-            Ok(gives(alloc, batches, key, limit, msgs)? && gives_each(singles, key, msgs)?)
-        }
-        Row::ToldSends(told) => Ok(batches.snapshot(alloc)?.waiting_sends.told == told),
-    }
+    let is_same = match row {
+        Row::Batch(key, _, msgs) => gives_each(singles, key, msgs)?,
+        row => row.holds(alloc, singles)?,
+    };
+    Ok(row.holds(alloc, batches)? && is_same)
 }
 
 /// What the accessors say of a channel, and of the receivers 0 and 1.

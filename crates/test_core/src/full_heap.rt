@@ -1,21 +1,20 @@
 //! The calls that take no memory, made on a heap that is full.
-use crate::calls::{Channel, gets};
-use bcast_core::{Inner, TrySendError};
+use crate::calls::Channel;
+use crate::rows::Row;
+use bcast_core::Inner;
 use linked_list_allocator::LocalHeap;
-use std::alloc::{AllocError, Allocator, Global};
+use std::alloc::{Allocator, Global};
 use std::process::Abort;
 use std::test::Fail;
 
-#[derive(Clone, Copy)]
-enum Row {
-    /// A call and its reply, as traces spell them.
-    Call(&'static str, &'static str),
-    /// A send of a list by `Inner::try_broadcast_all`, and what it returns.
-    Vector(&'static [u64], Result<(), TrySendError<&'static [u64]>>),
-}
+/// What the rows need on a channel of capacity 2 beside its receiver 0: a receiver 1, and a pending
+/// send at place 0.
+const FIRST: &[Row] = &[
+    Row::Call("CloneReceiver 0", "ok 1"),
+    Row::Call("BeginSend", "ok 0"),
+];
 
-/// Calls on a channel of capacity 2 with the receivers 0 and 1 and a pending send at place 0. None
-/// takes memory.
+/// Calls on that channel. None takes memory.
 const ROWS: &[Row] = &[
     Row::Call("PollFuture 0", "pending"),
     Row::Call("PollRecv 0", "pending"),
@@ -60,61 +59,37 @@ const ROWS: &[Row] = &[
     Row::Call("InactiveReceiverCount", "1"),
     Row::Call("SenderCount", "1"),
     Row::Call("EndNumber", "6"),
-    Row::Vector(&[23, 24], Ok(())),
-    Row::Vector(&[25], Err(TrySendError::Full(&[25]))),
+    Row::List(&[23, 24], "Ok(())"),
+    Row::List(&[25], "Err(Full(..))"),
     Row::Call("TryRecv 0", "got 23"),
     Row::Call("TryRecv 0", "got 24"),
     Row::Call("DropReceiver 0", "-"),
     Row::Call("TryBroadcast 14", "inactive 14"),
     Row::Call("TryBroadcastAll", "inactive"),
-    Row::Vector(&[], Err(TrySendError::Inactive(&[]))),
+    Row::List(&[], "Err(Inactive(..))"),
     Row::Call("AttemptSend 14", "ready senderror 14"),
     Row::Call("EndSend 0", "-"),
     Row::Call("Close", "true"),
-    Row::Vector(&[26], Err(TrySendError::Closed(&[26]))),
+    Row::List(&[26], "Err(Closed(..))"),
     Row::Call("TryRecv 0", "closed"),
     Row::Call("PollRecv 0", "ready none"),
 ];
 
-/// Makes the second receiver and the pending send, and returns whether they and the first receiver
-/// have the keys and the place that the rows need.
-fn is_planned<A: Allocator + Copy>(
-    inner: &mut Channel<A>,
-    first: usize,
-) -> Result<bool, AllocError> {
-    let second = inner.clone_receiver(first).ok().ok_or(AllocError)?;
-    let place = inner.begin_send()?;
-    Ok(first == 0 && second == 1 && place == 0)
-}
-
-/// What a send of a list returned, as rows have it.
-fn as_row(sent: &Result<(), TrySendError<Vec<u64>>>) -> Result<(), TrySendError<&[u64]>> {
-    match sent {
-        Ok(()) => Ok(()),
-        Err(TrySendError::Full(list)) => Err(TrySendError::Full(list.as_slice())),
-        Err(TrySendError::Closed(list)) => Err(TrySendError::Closed(list.as_slice())),
-        Err(TrySendError::Inactive(list)) => Err(TrySendError::Inactive(list.as_slice())),
-    }
-}
-
-/// Whether a row's call returns what it must. Lists, and texts of replies, take their memory from
-/// `alloc`.
-fn holds<A: Allocator + Copy>(
+/// Fails unless each row holds on the channel.
+fn play<A: Allocator + Copy>(
+    rt: &impl Abort,
     alloc: Global,
     inner: &mut Channel<A>,
-    row: Row,
-) -> Result<bool, Fail> {
-    match row {
-        Row::Call(call, reply) => gets(alloc, inner, call, reply),
-        Row::Vector(msgs, wanted) => {
-            let sent = inner.try_broadcast_all(Vec::from_slice(alloc, msgs)?);
-            Ok(as_row(&sent) == wanted)
-        }
+    rows: &[Row],
+) -> Result<(), Fail> {
+    for (index, row) in rows.iter().enumerate() {
+        assert!(rt; row.holds(alloc, inner)?, "row {index}");
     }
+    Ok(())
 }
 
 /// Makes the rows' calls on a channel of this heap, while there is no free memory in the heap.
-fn ask_on_full_heap(
+fn play_on_full_heap(
     rt: &impl Abort,
     alloc: Global,
     heap: &LocalHeap,
@@ -123,9 +98,7 @@ fn ask_on_full_heap(
     let _rest = Vec::<u8, &LocalHeap>::with_capacity(heap, heap.free())?;
     let full = heap.free();
     assert!(rt; Vec::<u8, &LocalHeap>::with_capacity(heap, 1).is_err());
-    for (index, row) in ROWS.iter().enumerate() {
-        assert!(rt; holds(alloc, inner, *row)?, "row {index}");
-    }
+    play(rt, alloc, inner, ROWS)?;
     assert!(rt; heap.free() == full);
     Ok(())
 }
@@ -134,6 +107,7 @@ fn ask_on_full_heap(
 fn calls_that_take_no_memory_go_through(rt: HostRuntime) -> Result<(), Fail> {
     let heap = LocalHeap::new(rt.alloc(), 4096)?;
     let (mut inner, first) = Inner::new(&heap, 2)?;
-    assert!(rt; is_planned(&mut inner, first)?);
-    ask_on_full_heap(&rt, rt.alloc(), &heap, &mut inner)
+    assert!(rt; first == 0);
+    play(&rt, rt.alloc(), &mut inner, FIRST)?;
+    play_on_full_heap(&rt, rt.alloc(), &heap, &mut inner)
 }

@@ -6,11 +6,11 @@ mod batches;
 #[cfg(test)]
 mod calls;
 #[cfg(test)]
-mod clones;
-#[cfg(test)]
 mod errors;
 #[cfg(test)]
 mod full_heap;
+#[cfg(test)]
+mod heaps;
 #[cfg(test)]
 mod heavy;
 #[cfg(test)]
@@ -18,8 +18,6 @@ mod memory;
 #[cfg(test)]
 mod record;
 #[cfg(test)]
-mod sends;
-#[cfg(test)]
-mod told_polls;
+mod rows;
 #[cfg(test)]
 mod unread;

@@ -1,95 +1,65 @@
-//! Channels and runs over heaps of every small size.
-use bcast_core::{Call, HandleError, Inner, Silent, Snapshot, run, step};
-use linked_list_allocator::LocalHeap;
-use std::alloc::{AllocError, Allocator, Global};
-use std::process::Abort;
+//! Channels, runs and snapshots over heaps of every small size.
+use crate::calls::{Channel, ask, channel};
+use crate::heaps::{Outcome, refused_in_turn};
+use bcast_core::{Call, HandleError, Inner, Snapshot, run};
+use std::alloc::{AllocError, Allocator};
 use std::test::Fail;
 
 /// The most receivers that are made.
 const MOST: usize = 9;
 
-/// Makes receivers until there is no memory for one more, and returns how many there are.
-fn add_receivers<A: Allocator + Copy>(
-    rt: &impl Abort,
-    inner: &mut Inner<u64, Silent, A>,
-    first: usize,
-) -> usize {
+/// Makes receivers until there is no memory for one more.
+fn add_receivers<A: Allocator + Copy>(inner: &mut Channel<A>, first: usize) -> Outcome {
     for count in 1..MOST {
         if let Err(error) = inner.clone_receiver(first) {
-            assert!(rt; error == HandleError::Memory);
-            assert!(rt; inner.receiver_count() == count);
-            return count;
+            let is_right = error == HandleError::Memory && inner.receiver_count() == count;
+            return Outcome::Refused.if_right(is_right);
         }
     }
-    MOST
+    Outcome::Done
 }
 
-/// How many receivers there is memory for. None: there is none for a channel.
-fn receivers<A: Allocator + Copy>(rt: &impl Abort, alloc: A) -> Option<usize> {
-    let (mut inner, first) = Inner::new(alloc, 4).ok()?;
-    Some(add_receivers(rt, &mut inner, first))
+/// Makes a channel and its receivers.
+fn receivers<A: Allocator + Copy>(alloc: A) -> Result<Outcome, AllocError> {
+    let (mut inner, first) = Inner::new(alloc, 4)?;
+    Ok(add_receivers(&mut inner, first))
 }
 
 #[test]
-fn a_channel_and_its_receivers_are_refused_in_turn(rt: HostRuntime) -> Result<(), Fail> {
-    let mut last = None;
-    let mut is_partly_refused = false;
-    for size in 0..256 {
-        let heap = LocalHeap::new(rt.alloc(), size * 16)?;
-        last = receivers(&rt, &heap);
-        is_partly_refused |= last.is_some_and(|count| count < MOST);
-    }
-    assert!(rt; is_partly_refused, "a receiver was refused");
-    assert!(rt; last == Some(MOST));
-    Ok(())
+fn a_channel_and_its_receivers_are_refused_in_turn(rt: HostRuntime) -> Result<(), AllocError> {
+    refused_in_turn(&rt, rt.alloc(), |heap| receivers(heap))
 }
 
-/// Whether there was memory for a run of two calls. If not, they were returned. None: there is no
-/// memory for the calls.
-fn runs<A: Allocator + Copy>(rt: &impl Abort, alloc: A) -> Option<bool> {
-    let calls = vec![in alloc; Call::TryBroadcast(7), Call::Close].ok()?;
+/// Runs two calls, which are returned if that is refused memory.
+fn run_two<A: Allocator + Copy>(alloc: A) -> Result<Outcome, AllocError> {
+    let calls = vec![in alloc; Call::TryBroadcast(7), Call::Close]?;
     let made = run(alloc, 1, 0, calls);
-    let is_right = match &made {
-        Ok(made) => made.channel.is_closed() && made.replies.len() == 2,
-        Err(calls) => matches!(calls.as_slice(), [Call::TryBroadcast(7), Call::Close]),
-    };
-    assert!(rt; is_right);
-    Some(made.is_ok())
+    Ok(match &made {
+        Ok(made) => { Outcome::Done.if_right(made.channel.is_closed() && made.replies.len() == 2) }
+        Err(calls) => Outcome::Refused.if_right(matches!(
+            calls.as_slice(),
+            [Call::TryBroadcast(7), Call::Close]
+        )),
+    })
 }
 
 #[test]
-fn a_refused_run_hands_its_calls_back(rt: HostRuntime) -> Result<(), Fail> {
-    let mut last = None;
-    let mut is_refused = false;
-    for size in 0..256 {
-        let heap = LocalHeap::new(rt.alloc(), size * 16)?;
-        last = runs(&rt, &heap);
-        is_refused |= last == Some(false);
-    }
-    assert!(rt; is_refused, "a run was refused");
-    assert!(rt; last == Some(true));
-    Ok(())
+fn a_refused_run_hands_its_calls_back(rt: HostRuntime) -> Result<(), AllocError> {
+    refused_in_turn(&rt, rt.alloc(), |heap| run_two(heap))
 }
 
-/// Sends 8 and 9, which the second receiver reads. It waits then, and so does a send.
-fn wait(inner: &mut Inner<u64, Silent>, second: usize) -> Result<(), AllocError> {
-    for msg in [8, 9] {
-        drop(step(inner, Call::TryBroadcast(msg), Silent));
-        drop(step(inner, Call::TryRecv(second), Silent));
-    }
-    drop(step(inner, Call::PollRecv(second), Silent));
-    let place = inner.begin_send()?;
-    drop(step(inner, Call::PollSend(place, 7), Silent));
-    Ok(())
-}
-
-/// A channel that keeps 8 and 9, with two receivers, one of which waits, and a send that waits.
-fn waited_for(alloc: Global) -> Result<Inner<u64, Silent>, AllocError> {
-    let (mut inner, first) = Inner::new(alloc, 2)?;
-    let second = inner.clone_receiver(first).ok().ok_or(AllocError)?;
-    wait(&mut inner, second)?;
-    Ok(inner)
-}
+/// Calls on a channel of capacity 2, which keeps 8 and 9 then. It has two receivers, one of which
+/// waits, and a send that waits.
+const CALLS: &[&str] = &[
+    "CloneReceiver 0",
+    "TryBroadcast 8",
+    "TryRecv 1",
+    "TryBroadcast 9",
+    "TryRecv 1",
+    "PollRecv 1",
+    "BeginSend",
+    "PollSend 0 7",
+];
 
 /// Whether this shows all of that channel.
 fn is_whole<A: Allocator>(seen: &Snapshot<u64, A>) -> bool {
@@ -100,22 +70,20 @@ fn is_whole<A: Allocator>(seen: &Snapshot<u64, A>) -> bool {
         && seen.waiting_receives.ids.len() == 1
 }
 
-/// Whether a snapshot shows all of this channel. None: there is no memory for it.
-fn shows<A: Allocator + Copy>(alloc: A, inner: &Inner<u64, Silent>) -> Option<bool> {
-    Some(is_whole(&inner.snapshot(alloc).ok()?))
+/// Makes a snapshot of that channel.
+fn show<A: Allocator + Copy>(alloc: A, inner: &Channel) -> Outcome {
+    match inner.snapshot(alloc) {
+        Ok(seen) => Outcome::Done.if_right(is_whole(&seen)),
+        Err(AllocError) => Outcome::Refused,
+    }
 }
 
 #[test]
 fn a_snapshot_is_refused_or_whole(rt: HostRuntime) -> Result<(), Fail> {
-    let inner = waited_for(rt.alloc())?;
-    let (mut last, mut is_refused) = (None, false);
-    for size in 0..256 {
-        let heap = LocalHeap::new(rt.alloc(), size * 16)?;
-        last = shows(&heap, &inner);
-        assert!(rt; last != Some(false));
-        is_refused |= last.is_none();
+    let mut inner = channel(&rt, rt.alloc(), 2)?;
+    for call in CALLS {
+        drop(ask(rt.alloc(), &mut inner, call)?);
     }
-    assert!(rt; is_refused, "a snapshot was refused");
-    assert!(rt; last == Some(true));
+    refused_in_turn(&rt, rt.alloc(), |heap| Ok(show(heap, &inner)))?;
     Ok(())
 }

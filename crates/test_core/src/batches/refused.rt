@@ -1,8 +1,9 @@
 //! Batches for which there is too little memory.
+use crate::heaps::{Outcome, refused_in_turn};
 use crate::heavy::Heavy;
 use bcast_core::{Inner, Silent};
 use linked_list_allocator::LocalHeap;
-use std::alloc::{Allocator, Global};
+use std::alloc::{AllocError, Allocator, Global};
 use std::process::Abort;
 use std::test::Fail;
 
@@ -66,34 +67,26 @@ fn a_batch_ends_before_a_refused_clone(rt: HostRuntime) -> Result<(), Fail> {
     Ok(())
 }
 
-/// Whether a batch of three numbers was given into a list in this memory. If not, nothing changed.
-fn is_given<A: Allocator>(rt: &impl Abort, alloc: Global, memory: A) -> Result<bool, Fail> {
+/// Takes a batch of three numbers into a list in this memory. If there is too little for the list,
+/// nothing changes.
+fn take_into<A: Allocator>(alloc: Global, memory: A) -> Result<Outcome, AllocError> {
     let (mut inner, key) = Inner::<u64, Silent>::new(alloc, MESSAGES)?;
     for number in 0..MESSAGES as u64 {
-        inner.try_broadcast(number).ok().ok_or("not sent")?;
+        inner.try_broadcast(number).ok().ok_or(AllocError)?;
     }
     let before = format!(in alloc; "{:?}", inner.snapshot(alloc)?)?;
     let mut msgs = Vec::new(memory);
     let count = inner.receive_many(key, MESSAGES, &mut msgs);
     if count == 0 {
         let after = format!(in alloc; "{:?}", inner.snapshot(alloc)?)?;
-        assert!(rt; after == before && msgs.is_empty());
-        return Ok(false);
+        return Ok(Outcome::Refused.if_right(after == before && msgs.is_empty()));
     }
-    assert!(rt; count == MESSAGES && msgs.as_slice() == [0, 1, 2].as_slice());
-    Ok(true)
+    let is_right = count == MESSAGES && msgs.as_slice() == [0, 1, 2].as_slice();
+    Ok(Outcome::Done.if_right(is_right))
 }
 
 #[test]
-fn a_batch_without_room_in_the_list_changes_nothing(rt: HostRuntime) -> Result<(), Fail> {
-    let mut last = false;
-    let mut is_refused = false;
-    for size in 0..64 {
-        let heap = LocalHeap::new(rt.alloc(), size * 16)?;
-        last = is_given(&rt, rt.alloc(), &heap)?;
-        is_refused |= !last;
-    }
-    assert!(rt; is_refused, "a list was refused");
-    assert!(rt; last);
-    Ok(())
+fn a_batch_without_room_in_the_list_changes_nothing(rt: HostRuntime) -> Result<(), AllocError> {
+    let alloc = rt.alloc();
+    refused_in_turn(&rt, alloc, |heap| take_into(alloc, heap))
 }

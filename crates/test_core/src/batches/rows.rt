@@ -1,14 +1,5 @@
 //! Calls and batches on a channel of capacity 3, with what each gives.
-
-#[derive(Clone, Copy)]
-pub(super) enum Row {
-    /// A call and its reply, as traces spell them.
-    Call(&'static str, &'static str),
-    /// The receiver, the limit, and the messages that it is given.
-    Batch(usize, usize, &'static [u64]),
-    /// How many of the sends that wait are told.
-    ToldSends(usize),
-}
+use crate::rows::Row;
 
 /// A name, and the rows on a new channel whose receiver has the key 0.
 pub(super) const ROWS: &[(&str, &[Row])] = &[

@@ -4,11 +4,11 @@ use std::alloc::AllocError;
 use std::process::Abort;
 use std::string::String;
 
-/// Errors, and whether each is full, closed, inactive.
-const SENDING: &[(TrySendError<u64>, [bool; 3])] = &[
-    (TrySendError::Full(1), [true, false, false]),
-    (TrySendError::Closed(2), [false, true, false]),
-    (TrySendError::Inactive(3), [false, false, true]),
+/// Errors, the message that each gives back, and whether it is full, closed, inactive.
+const SENDING: &[(TrySendError<u64>, u64, [bool; 3])] = &[
+    (TrySendError::Full(1), 1, [true, false, false]),
+    (TrySendError::Closed(2), 2, [false, true, false]),
+    (TrySendError::Inactive(3), 3, [false, false, true]),
 ];
 
 /// Errors, and whether each is empty, closed, overflowed.
@@ -21,7 +21,7 @@ const RECEIVING: &[(TryRecvError, [bool; 3])] = &[
 
 #[test]
 fn one_test_of_an_error_is_true(rt: HostRuntime) {
-    for (index, (error, answers)) in SENDING.iter().enumerate() {
+    for (index, (error, _, answers)) in SENDING.iter().enumerate() {
         let given = [error.is_full(), error.is_closed(), error.is_disconnected()];
         assert!(rt; given == *answers, "{index}");
     }
@@ -33,12 +33,8 @@ fn one_test_of_an_error_is_true(rt: HostRuntime) {
 
 #[test]
 fn messages_come_back(rt: HostRuntime) {
-    for (error, msg) in [
-        (TrySendError::Full(1), 1),
-        (TrySendError::Closed(2), 2),
-        (TrySendError::Inactive(3), 3),
-    ] {
-        assert!(rt; error.into_inner() == msg);
+    for (error, msg, _) in SENDING {
+        assert!(rt; error.into_inner() == *msg);
     }
     assert!(rt; SendError(4).into_inner() == 4);
     assert!(rt; NoMemory(5).into_inner() == 5);

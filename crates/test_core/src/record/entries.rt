@@ -4,10 +4,11 @@ ghost use Rattle.bcast_model.specs.Next.{HasPositiveCapacity};
 
 use crate::calls::is_of_kind;
 use bcast_core::Call;
-use bcast_record::{Entry, copy_of_reply};
+use bcast_record::{Entry, Finished, Named, Receipt, copy_of_reply};
 use bcast_trace::call::{read_call, write_call};
 use bcast_trace::reply::write_reply;
-use std::alloc::{AllocError, Global};
+use std::alloc::{AllocError, Allocator, Global};
+use std::sync::ledger::Ledger;
 
 /// A call on a channel whose first receiver has the key 0, and its reply, as traces spell them.
 #[derive(Clone, Copy)]
@@ -49,4 +50,25 @@ impl Step {
         let is_copied = reply == entry.reply && is_of_kind(self.0, &reply);
         self.is(alloc, &entry.call) && is_answered && is_copied && entry.seat == seat
     }
+}
+
+/// Whether there is a receipt for each call of this seat, their places rise, and each names an
+/// entry of the seat.
+pub(crate) fn are_entries<R: Ledger + Named, A: Allocator>(
+    finished: &Finished<u64, R, A>,
+    seat: usize,
+    calls: usize,
+    receipts: &[Receipt<u64, R>],
+) -> bool {
+    let mut least = 0;
+    for receipt in receipts {
+        let entry = finished.entry_of(receipt);
+        let named = receipt.entry();
+        let is_same = entry.call == named.call && entry.reply == named.reply;
+        if !is_same || entry.seat != seat || receipt.place() < least {
+            return false;
+        }
+        least = receipt.place().saturating_add(1);
+    }
+    receipts.len() == calls
 }

@@ -1,9 +1,10 @@
 //! Recorders, from `new` to `finish`, and their calls while memory is refused.
 ghost use Rattle.std.specs.Prelude.{◌≡◌};
 
-use super::entries::{RECEIVE, SEND, SEND_ALL, Step};
+use super::entries::{RECEIVE, SEND, SEND_ALL, Step, are_entries};
+use crate::heaps::{Outcome, refused_in_turn};
 use bcast_core::NoMemory;
-use bcast_record::{Finished, Journal, Named, Note, Receipt, Recorder, Seat};
+use bcast_record::{Journal, Named, Note, Receipt, Recorder, Seat};
 use linked_list_allocator::LocalHeap;
 use std::alloc::{AllocError, Global};
 use std::marker::Brand;
@@ -24,48 +25,26 @@ const HEAP: usize = 4096;
 /// So many bytes are enough for each call.
 const ENOUGH: usize = 2048;
 
-/// Whether a new recorder is refused memory on the heap. None: it is refused and keeps some, or it
-/// has another receiver or other seats than it must.
-fn is_refused<R: Ledger + Named>(
-    heap: &LocalHeap,
-    calls: Blank,
-    journal: Journal<Note<u64>>,
-) -> Option<bool>
-    requires calls { (calls.name ≡ R.name) × (calls.parts ≡ R.parts) × (calls.parts ≡ 3) }
-    requires journal { journal ≡ R.book }
-{
-    match Recorder::<u64, R, &LocalHeap>::new(heap, 2, 2, calls, journal) {
-        Ok((_, key, seats)) => (key == 0 && seats.len() == 2).then_some(false),
-        Err(AllocError) => (heap.used() == 0).then_some(true),
-    }
-}
-
-#[test]
-fn a_refused_recorder_is_not_made(rt: HostRuntime) -> Result<(), AllocError> {
-    let (mut was_refused, mut last) = (false, None);
-    for size in 0..256 {
-        let heap = LocalHeap::new(rt.alloc(), size * 16)?;
-        last = is_refused::<Brand>(&heap, Blank::new(3), Journal::new());
-        assert!(rt; last.is_some(), "{size}");
-        was_refused |= last == Some(true);
-    }
-    assert!(rt; was_refused, "a recorder was refused");
-    assert!(rt; last == Some(false));
-    Ok(())
-}
-
-/// The memory of a recorder, of which this many bytes are free when a call is first made.
-#[derive(Clone, Copy)]
-struct Memory<'a> {
-    heap: &'a LocalHeap,
+/// Makes calls on a recorder by a seat, and keeps their receipts.
+#[derive(Drop)]
+struct Caller<'a, 'h, R: Ledger + Named> {
+    alloc: Global,
+    heap: &'h LocalHeap,
+    /// How many bytes of the heap are free when a call is first made.
     left: usize,
+    recorder: &'a Recorder<u64, R, &'h LocalHeap>,
+    seat: &'a mut Seat<R>,
+    receipts: Vec<Receipt<u64, R>>,
 }
 
-impl<'a> Memory<'a> {
-    /// Takes all memory but these bytes.
-    fn take(self, alloc: Global) -> Result<Vec<Vec<u8, &'a LocalHeap>>, AllocError> {
+/// What takes the memory of a heap, so that others can't.
+type Blocks<'h> = Vec<Vec<u8, &'h LocalHeap>>;
+
+impl<'h, R: Ledger + Named> Caller<'_, 'h, R> {
+    /// Takes all memory but the bytes that are left.
+    fn fill(&self) -> Result<Blocks<'h>, AllocError> {
         let _kept = Vec::<u8, &LocalHeap>::with_capacity(self.heap, self.left)?;
-        let mut taken = Vec::new(alloc);
+        let mut taken = Vec::new(self.alloc);
         for _ in 0..HEAP / 16 {
             match Vec::with_capacity(self.heap, 16) {
                 Ok(block) => taken.push(block)?,
@@ -74,79 +53,54 @@ impl<'a> Memory<'a> {
         }
         Ok(taken)
     }
-}
 
-/// Makes a call with little memory, and again with all of it if it is handed back.
-///
-/// Returns its receipt, and whether it was handed back. None: it was handed back changed or
-/// counted, or the reply was not as it must be.
-fn ask<'a, R: Ledger + Named>(
-    rt: &impl Wait,
-    alloc: Global,
-    memory: Memory<'a>,
-    recorder: &Recorder<u64, R, &'a LocalHeap>,
-    seat: &mut Seat<R>,
-    call: Step,
-) -> Result<Option<(Receipt<u64, R>, bool)>, AllocError> {
-    let (count, taken) = (seat.count(), memory.take(alloc)?);
-    let made = recorder.call(rt, seat, call.call(alloc)?);
-    drop(taken);
-    let is_refused = made.is_err();
-    let receipt = match made {
-        Ok(receipt) => receipt,
-        Err(NoMemory(back)) => {
-            if seat.count() != count || !call.is(alloc, &back) {
-                return Ok(None);
+    /// Makes a call of the first seat with little memory, and again with all of it if it is handed
+    /// back.
+    fn ask(&mut self, rt: &impl Wait, step: Step) -> Result<Outcome, AllocError> {
+        let (count, taken) = (self.seat.count(), self.fill()?);
+        let made = self.recorder.call(rt, self.seat, step.call(self.alloc)?);
+        drop(taken);
+        let (outcome, receipt) = match made {
+            Ok(receipt) => (Outcome::Done, receipt),
+            Err(NoMemory(back)) => {
+                let is_back = self.seat.count() == count && step.is(self.alloc, &back);
+                let made = self.recorder.call(rt, self.seat, back);
+                (
+                    Outcome::Refused.if_right(is_back),
+                    made.ok().ok_or(AllocError)?,
+                )
             }
-            recorder.call(rt, seat, back).ok().ok_or(AllocError)?
-        }
-    };
-    let is_counted = receipt.place() == count && seat.count() == count.wrapping_add(1);
-    let is_right = is_counted && call.is_stored(alloc, 0, receipt.entry());
-    Ok(is_right.then_some((receipt, is_refused)))
-}
-
-/// Makes the calls in order and keeps their receipts. Returns whether one of them was handed back.
-/// None: one was wrong.
-fn ask_all<'a, R: Ledger + Named>(
-    rt: &impl Wait,
-    alloc: Global,
-    memory: Memory<'a>,
-    recorder: &Recorder<u64, R, &'a LocalHeap>,
-    seat: &mut Seat<R>,
-    calls: &[Step],
-    receipts: &mut Vec<Receipt<u64, R>>,
-) -> Result<Option<bool>, AllocError> {
-    let mut was_refused = false;
-    for call in calls {
-        let Some((receipt, is_refused)) = ask(rt, alloc, memory, recorder, seat, *call)? else {
-            return Ok(None);
         };
-        receipts.push(receipt)?;
-        was_refused |= is_refused;
+        let is_counted = receipt.place() == count && self.seat.count() == count.wrapping_add(1);
+        let is_right = is_counted && step.is_stored(self.alloc, 0, receipt.entry());
+        self.receipts.push(receipt)?;
+        Ok(outcome.if_right(is_right))
     }
-    Ok(Some(was_refused))
+
+    /// Makes calls in order.
+    fn ask_all(&mut self, rt: &impl Wait, steps: &[Step]) -> Result<Outcome, AllocError> {
+        let mut was_refused = false;
+        for step in steps {
+            match self.ask(rt, *step)? {
+                Outcome::Done => {}
+                Outcome::Refused => was_refused = true,
+                Outcome::Wrong => return Ok(Outcome::Wrong),
+            }
+        }
+        Ok(if was_refused {
+            Outcome::Refused
+        } else {
+            Outcome::Done
+        })
+    }
 }
 
-/// Whether the entries are those of the calls, and no others.
-fn has_all<R: Ledger + Named>(
-    alloc: Global,
-    finished: &Finished<u64, R, &LocalHeap>,
-    calls: &[Step],
-    receipts: &[Receipt<u64, R>],
-) -> bool {
-    let mut pairs = calls.iter().zip(receipts);
-    finished.entries().len() == calls.len()
-        && receipts.len() == calls.len()
-        && pairs.all(|(call, receipt)| call.is_stored(alloc, 0, finished.entry_of(receipt)))
-}
-
-/// Whether the recorder and one of its two seats are returned, and the entries when both are given.
+/// Whether the recorder and one of its two seats are returned, and this many entries when both are
+/// given, those of the receipts.
 fn finishes<'a, R: Ledger + Named>(
-    alloc: Global,
     recorder: Recorder<u64, R, &'a LocalHeap>,
     mut seats: Vec<Seat<R>, &'a LocalHeap>,
-    calls: &[Step],
+    calls: usize,
     receipts: &[Receipt<u64, R>],
 ) -> Result<bool, AllocError> {
     let second = seats.pop().ok_or(AllocError)?;
@@ -154,59 +108,87 @@ fn finishes<'a, R: Ledger + Named>(
     let is_first = seats.len() == 1 && seats.iter().all(|seat| seat.number() == 0);
     seats.push(second)?;
     let finished = recorder.finish(seats).ok().ok_or(AllocError)?;
-    Ok(is_first && has_all(alloc, &finished, calls, receipts))
+    let are_all = finished.entries().len() == calls;
+    Ok(is_first && are_all && are_entries(&finished, 0, calls, receipts))
 }
 
-/// Makes the calls on a new recorder, which must have an entry for each at its end.
-fn records<R: Ledger + Named>(
+/// Makes calls on a new recorder on this heap, each with this many bytes of memory at first. The
+/// recorder must have an entry for each at its end.
+///
+/// # Errors
+///
+/// - `AllocError`: there is no memory for the recorder.
+fn record<R: Ledger + Named>(
     rt: &impl Wait,
     alloc: Global,
-    memory: Memory<'_>,
+    heap: &LocalHeap,
+    left: usize,
     steps: &[Step],
     calls: Blank,
     journal: Journal<Note<u64>>,
-) -> Result<Option<bool>, AllocError>
+) -> Result<Outcome, AllocError>
     requires calls { (calls.name ≡ R.name) × (calls.parts ≡ R.parts) × (calls.parts ≡ 3) }
     requires journal { journal ≡ R.book }
 {
-    let heap = memory.heap;
-    let (recorder, _, mut seats) = Recorder::<u64, R, &LocalHeap>::new(heap, 2, 2, calls, journal)?;
-    let first = seats.first_mut().ok_or(AllocError)?;
-    let mut receipts = Vec::new(alloc);
-    let was_refused = ask_all(rt, alloc, memory, &recorder, first, steps, &mut receipts)?;
-    let has_all = finishes(alloc, recorder, seats, steps, receipts.as_slice())?;
-    Ok(if has_all { was_refused } else { None })
+    let (recorder, key, mut seats) = Recorder::<u64, R, &LocalHeap>::new(
+        heap, 2, 2, calls, journal,
+    )?;
+    let is_new = key == 0 && seats.len() == 2;
+    let mut caller = Caller {
+        alloc,
+        heap,
+        left,
+        recorder: &recorder,
+        seat: seats.first_mut().ok_or(AllocError)?,
+        receipts: Vec::new(alloc),
+    };
+    let outcome = caller.ask_all(rt, steps)?;
+    let receipts = caller.receipts;
+    let is_whole = finishes(recorder, seats, steps.len(), receipts.as_slice())?;
+    Ok(outcome.if_right(is_new && is_whole))
 }
 
-/// Makes the calls, each with this many bytes of memory at first. Returns whether one was refused
-/// and made again. None: one was wrong, or something else is stored.
-fn is_any_refused(
+fn record_on(
     rt: &impl Wait,
     alloc: Global,
+    heap: &LocalHeap,
     left: usize,
     steps: &[Step],
-) -> Result<Option<bool>, AllocError> {
-    let heap = LocalHeap::new(alloc, HEAP)?;
-    let memory = Memory { heap: &heap, left };
-    records::<Brand>(rt, alloc, memory, steps, Blank::new(3), Journal::new())
+) -> Result<Outcome, AllocError> {
+    record::<Brand>(rt, alloc, heap, left, steps, Blank::new(3), Journal::new())
+}
+
+#[test]
+fn a_refused_recorder_is_not_made(rt: HostRuntime) -> Result<(), AllocError> {
+    let alloc = rt.alloc();
+    refused_in_turn(
+        &rt,
+        alloc,
+        |heap| match record_on(&rt, alloc, heap, 0, &[]) {
+            Err(AllocError) => Ok(Outcome::Refused.if_right(heap.used() == 0)),
+            outcome => outcome,
+        },
+    )
 }
 
 #[test]
 fn a_recorder_gives_its_entries_once_all_seats_are_back(rt: HostRuntime) -> Result<(), AllocError> {
-    for calls in CALLS {
-        assert!(rt; is_any_refused(&rt, rt.alloc(), ENOUGH, calls)? == Some(false));
+    for steps in CALLS {
+        let heap = LocalHeap::new(rt.alloc(), HEAP)?;
+        assert!(rt; record_on(&rt, rt.alloc(), &heap, ENOUGH, steps)? == Outcome::Done);
     }
     Ok(())
 }
 
 #[test]
 fn a_refused_call_is_made_again(rt: HostRuntime) -> Result<(), AllocError> {
-    for calls in CALLS {
+    for steps in CALLS {
         let mut was_refused = false;
         for left in 0..ENOUGH / 64 {
-            let is_refused = is_any_refused(&rt, rt.alloc(), left * 64, calls)?;
-            assert!(rt; is_refused.is_some(), "{left}");
-            was_refused |= is_refused == Some(true);
+            let heap = LocalHeap::new(rt.alloc(), HEAP)?;
+            let outcome = record_on(&rt, rt.alloc(), &heap, left * 64, steps)?;
+            assert!(rt; outcome != Outcome::Wrong, "{left}");
+            was_refused |= outcome == Outcome::Refused;
         }
         assert!(rt; was_refused, "a call was refused");
     }

@@ -1,7 +1,8 @@
 //! Threads over one recorder, whose calls are made again in one thread.
-ghost use Rattle.std.specs.Prelude.{◌≡◌, ◌+◌, ◌<◌};
+ghost use Rattle.std.specs.Prelude.{◌≡◌, ◌+◌, ◌<◌, ◌^◌};
 ghost use Rattle.bcast_model.specs.Next.{HasPositiveCapacity};
 
+use super::entries::are_entries;
 use bcast_core::{Call, Inner, Reply, Silent, step};
 use bcast_record::{Finished, Journal, Named, Note, Receipt, Recorder, Seat};
 use std::alloc::{AllocError, Global};
@@ -83,27 +84,6 @@ fn ask<R: Ledger + Named>(
         }
     }
     Asked { seat, receipts }
-}
-
-/// Whether there is a receipt for each call of this seat, their places rise, and each names an
-/// entry of the seat.
-fn are_entries<R: Ledger + Named>(
-    finished: &Finished<u64, R>,
-    seat: usize,
-    calls: usize,
-    receipts: &[Receipt<u64, R>],
-) -> bool {
-    let mut least = 0;
-    for receipt in receipts {
-        let entry = finished.entry_of(receipt);
-        let named = receipt.entry();
-        let is_same = entry.call == named.call && entry.reply == named.reply;
-        if !is_same || entry.seat != seat || receipt.place() < least {
-            return false;
-        }
-        least = receipt.place().saturating_add(1);
-    }
-    receipts.len() == calls
 }
 
 /// Whether a call, made again, gets the reply that was stored.
@@ -191,6 +171,24 @@ fn record<R: Ledger + Named + Send + Sync>(
     }
 }
 
+/// Whether threads record this, and one thread gets the same replies.
+fn is_replayed(
+    rt: &(impl Threads + Wait + Sync),
+    alloc: Global,
+    plan: Plan,
+) -> Result<bool, AllocError>
+    requires capacity { 0 < plan.capacity }
+    requires seats { plan.seats + 1 < 2 ^ 64 }
+{
+    record::<Brand>(
+        rt,
+        alloc,
+        plan,
+        Blank::new(plan.seats as u64 + 1),
+        Journal::new(),
+    )
+}
+
 #[test]
 fn busy(rt: HostRuntime) -> Result<(), AllocError> {
     let plan = Plan {
@@ -199,7 +197,7 @@ fn busy(rt: HostRuntime) -> Result<(), AllocError> {
         calls: 500,
         work: Work::Busy,
     };
-    assert!(rt; record::<Brand>(&rt, rt.alloc(), plan, Blank::new(9), Journal::new())?);
+    assert!(rt; is_replayed(&rt, rt.alloc(), plan)?);
     Ok(())
 }
 
@@ -211,6 +209,6 @@ fn seats(rt: HostRuntime) -> Result<(), AllocError> {
         calls: 1000,
         work: Work::Halves,
     };
-    assert!(rt; record::<Brand>(&rt, rt.alloc(), plan, Blank::new(5), Journal::new())?);
+    assert!(rt; is_replayed(&rt, rt.alloc(), plan)?);
     Ok(())
 }

@@ -1,4 +1,4 @@
-use Rattle.test_core.proofs.record.replays.busy.Given as goal
+use Rattle.test_core.proofs.record.replays.is_replayed.Given as goal
 
 abbrev pub ghosts-record-R-Ledger : goal.ghosts-record-R-Ledger
 ghosts-record-R-Ledger g a = record { name = a.calls.name; parts = a.calls.parts }
